@@ -1,21 +1,26 @@
--- what is read: its tokens, and its form
-pub mod Lexed
-pub mod Placed
-pub mod ReadExpressions
-pub mod ReadForms
-pub mod FormedTerms
-pub mod FormedExpressions
-pub mod FormedDeclarations
-pub mod FormedStatements
-pub mod FormedPrograms
--- typing keeps the form
-pub mod KeptExpressions
-pub mod KeptStatements
-pub mod KeptAnnotations
-pub mod KeptPrograms
+-- the tree of a text: its tokens, forms, names and places
+pub mod TokenForms
+pub mod PlacedReadings
+pub mod ExpressionForms
+pub mod TermForms
+pub mod DeclarationForms
+pub mod StatementForms
+pub mod ParameterForms
+pub mod Covers
+pub mod ItemOrder
+pub mod StructForms
+pub mod FileForms
+pub mod EachForms
+pub mod PlacedDeclarations
+pub mod KindsInOrder
+pub mod MembersLast
+pub mod FileOrder
+pub mod StringBytes
+pub mod TextTokens
+pub mod ReadTrees
 -- texts
+pub mod AcceptedTexts
 pub mod Phases
-pub mod Programs
 pub mod Texts
 -- examples, by computation
 mod WorkedTexts

@@ -1,5 +1,5 @@
 -- From what a phase gave to what the text is.
-use Rattle.std.proofs.Common.{◌≡◌, ℕ, List, None, Result, Ok, Err, sym, subst}
+use Rattle.std.proofs.Common.{◌≡◌, ℕ, ◌<◌, List, length, None, Result, Ok, Err, sym, subst}
 use Rattle.std.specs.Prelude.{MatchResult}
 use Rattle.c_syntax.specs.declared.refusal.FrontFault.{FrontFault}
 use Rattle.c_syntax.specs.declared.refusal.FrontFault.TheVariants as front
@@ -8,18 +8,21 @@ use Rattle.c_syntax.specs.declared.program.Program.{Program}
 use Rattle.c_syntax.specs.Programs.{TranslationUnit, plain_program}
 use Rattle.c_model.specs.CTokens.{tokens_of}
 use Rattle.c_model.specs.Checked.{Fault, Good}
-use Rattle.c_model.specs.ProgramTyping.{typed_unit, main_fault, noted_unit}
-use Rattle.c_model.specs.Phases.{IsRead, checked_refusal, AcceptedText, ByGrammar, ByNamesAndTypes, ForMain, ByAnnotations}
+use Rattle.c_model.specs.UnitTyping.{typed_unit, room_fault, main_fault}
+use Rattle.c_model.specs.AnnotationTyping.{noted_unit}
+use Rattle.c_model.specs.ReadTree.{AreBytes}
+use Rattle.c_model.specs.TokenWords.{refused_at_place}
+use Rattle.c_model.specs.Phases.{IsRead, AcceptedText, ByGrammar, ByNamesAndTypes, ForRoom, ForMain, ByAnnotations}
 use Rattle.c_lexer.specs.Reading as lexer
 use Rattle.token_reader.specs.Answers.{RefusesWith}
 use Rattle.c_parser.specs.Answers as parser
-use Rattle.c_type_rules.specs.declared.fault.TypeFault.{TypeFault}
-use Rattle.c_type_rules.specs.declared.fault.TypeFault.TheVariants as fault
+use Rattle.c_expression_rules.specs.declared.fault.TypeFault.{TypeFault}
+use Rattle.c_expression_rules.specs.declared.fault.TypeFault.TheVariants as fault
 use Rattle.c_typing.specs.declared.checked.ProgramFault.{ProgramFault}
 use Rattle.c_typing.specs.declared.checked.ProgramFault.TheVariants as cause
-use Rattle.c_type_rules.specs.Answers.{plain_fault, Answers}
+use Rattle.c_expression_rules.specs.Answers.{plain_fault, Answers}
 use Rattle.c_typing.specs.Answers.{AnswersProgram}
-use Rattle.c_reader.specs.Answers.{Refuses, HasTree, OfTokens, IsTypedAs, OfTypes, OfMain, OfAnnotations, HasFault, RefusesFault, RefusesProgram}
+use Rattle.c_reader.specs.Answers.{Refuses, HasTree, OfTokens, IsTypedAs, OfTypes, OfRoom, OfMain, OfAnnotations, HasFault, RefusesFault, RefusesProgram}
 
 -- ---- names and types
 
@@ -27,26 +30,28 @@ module _ (ts : PlainTokens) (tree : TranslationUnit) where
   pub program_fails : (f : ProgramFault) (e : FrontFault) → AnswersProgram tree (Err f) → RefusesProgram ts f e → HasFault e ts tree
   program_fails (cause.Refused f) front.Memory h g = tt
   program_fails (cause.Refused f) (front.Refused x) h g = OfTypes (plain_fault f) h g
+  program_fails (cause.NoRoom f) front.Memory h g = tt
+  program_fails (cause.NoRoom f) (front.Refused x) h g = OfRoom h.typed (plain_fault f) h.is h.room g
   program_fails (cause.NoMain f) front.Memory h g = tt
-  program_fails (cause.NoMain f) (front.Refused x) h g = OfMain h.typed (plain_fault f) h.is h.main g
+  program_fails (cause.NoMain f) (front.Refused x) h g = OfMain h.typed (plain_fault f) h.is h.room h.main g
   program_fails cause.Memory e h g = subst (λ x. HasFault x ts tree) (sym g) tt
 
-  module _ (typed : TranslationUnit) (is : typed_unit tree ≡ Good typed) (main : main_fault typed.names typed.funcs ≡ None) where
+  module _ (typed : TranslationUnit) (is : typed_unit tree ≡ Good typed) (room : room_fault typed ≡ None) (main : main_fault typed.names typed.funcs ≡ None) where
     pub annotations_fail : (f : TypeFault) (e : FrontFault) → Answers plain_program (noted_unit typed) (Err f) → RefusesFault ts f e → HasFault e ts tree
     annotations_fail (fault.Refused f) front.Memory h g = tt
-    annotations_fail (fault.Refused f) (front.Refused x) h g = OfAnnotations typed (plain_fault f) is main h g
+    annotations_fail (fault.Refused f) (front.Refused x) h g = OfAnnotations typed (plain_fault f) is room main h g
     annotations_fail fault.Memory e h g = subst (λ x. HasFault x ts tree) (sym g) tt
 
     pub typed_as : (p : TranslationUnit) → noted_unit typed ≡ Good p → IsTypedAs tree p
-    typed_as p h = record { typed = typed; is = is; main = main; noted = h }
+    typed_as p h = record { typed = typed; is = is; room = room; main = main; noted = h }
 
 -- ---- the tokens, which are read again for a word
 
 module _ (text : List ℕ) (f : Fault) where
-  pub word_again : (us : PlainTokens) (e : FrontFault) → tokens_of text ≡ Ok us → RefusesWith (checked_refusal us f) e → OfTokens text (λ ts. RefusesWith (checked_refusal ts f) e)
-  word_again us e k g ts has = let same : us ≡ ts = cc in subst (λ (t : PlainTokens). RefusesWith (checked_refusal t f) e) same g
+  pub word_again : (us : PlainTokens) (e : FrontFault) → tokens_of text ≡ Ok us → RefusesWith (refused_at_place us f.code f.place) e → OfTokens text (λ ts. RefusesWith (refused_at_place ts f.code f.place) e)
+  word_again us e k g ts has = let same : us ≡ ts = cc in subst (λ (t : PlainTokens). RefusesWith (refused_at_place t f.code f.place) e) same g
 
-  pub never_again : (e : FrontFault) → lexer.Refuses e (tokens_of text) → OfTokens text (λ ts. RefusesWith (checked_refusal ts f) e)
+  pub never_again : (e : FrontFault) → lexer.Refuses e (tokens_of text) → OfTokens text (λ ts. RefusesWith (refused_at_place ts f.code f.place) e)
   never_again front.Memory k ts has = tt
   never_again (front.Refused x) k ts has = absurd cc
 
@@ -65,8 +70,19 @@ module _ (text : List ℕ) (ts : PlainTokens) (has : tokens_of text ≡ Ok ts) w
     pub refused_by_check : (e : FrontFault) → HasFault e ts tree → Refuses e text
     refused_by_check front.Memory g = tt
     refused_by_check (front.Refused x) (OfTypes f h k) = ByNamesAndTypes ts tree f has read h k
-    refused_by_check (front.Refused x) (OfMain typed f h m k) = ForMain ts tree typed f (record { tokens = has; read = read; is = h }) m k
-    refused_by_check (front.Refused x) (OfAnnotations typed f h m n k) = ByAnnotations ts tree typed f (record { tokens = has; read = read; is = h }) m n k
+    refused_by_check (front.Refused x) (OfRoom typed f h l k) = ForRoom ts tree typed f (record { tokens = has; read = read; is = h }) l k
+    refused_by_check (front.Refused x) (OfMain typed f h l m k) = ForMain ts tree typed f (record { tokens = has; read = read; is = h }) l m k
+    refused_by_check (front.Refused x) (OfAnnotations typed f h l m n k) = ByAnnotations ts tree typed f (record { tokens = has; read = read; is = h }) l m n k
 
-    pub accepted_as : (p : TranslationUnit) → IsTypedAs tree p → AcceptedText text p
-    accepted_as p t = record { tokens = ts; tree = tree; typed = t.typed; is_typed = record { tokens = has; read = read; is = t.is }; main = t.main; noted = t.noted }
+    pub accepted_as : AreBytes text → length text < 4294967295 → (p : TranslationUnit) → IsTypedAs tree p → AcceptedText text p
+    accepted_as bytes few p t = record {
+      bytes = bytes;
+      few = few;
+      tokens = ts;
+      tree = tree;
+      typed = t.typed;
+      is_typed = record { tokens = has; read = read; is = t.is };
+      room = t.room;
+      main = t.main;
+      noted = t.noted;
+    }

@@ -6,9 +6,10 @@ use Rattle.c_syntax.specs.Tokens.{PlainTokens}
 use Rattle.c_syntax.specs.Programs.{TranslationUnit, PlainRefusal}
 use Rattle.c_model.specs.CTokens.{tokens_of}
 use Rattle.c_model.specs.Checked.{Fault, Checked, Good, Bad, least, refusing}
-use Rattle.c_model.specs.ProgramTyping.{typed_unit, main_fault, noted_unit}
+use Rattle.c_model.specs.UnitTyping.{typed_unit, room_fault, main_fault}
+use Rattle.c_model.specs.AnnotationTyping.{noted_unit}
 use Rattle.c_model.specs.ProgramGrammar.{texts_of, unit}
-use Rattle.c_model.specs.Phases.{vocabulary, IsRead, IsSyntaxFault, checked_refusal, main_refusal, AcceptedText, RefusedText, ByTokens, ByGrammar, ByNamesAndTypes, ForMain, ByAnnotations}
+use Rattle.c_model.specs.Phases.{vocabulary, IsRead, IsSyntaxFault, checked_refusal, main_refusal, AcceptedText, RefusedText, ByTokens, ByGrammar, ByNamesAndTypes, ForRoom, ForMain, ByAnnotations}
 use Rattle.c_model.specs.TokenWords.{syntax_refusal}
 use Rattle.c_parser.proofs.Answers.{fronts, limits}
 use Rattle.c_parser.proofs.ExactPrograms.{one_unit}
@@ -16,7 +17,7 @@ use Rattle.c_parser.proofs.ExactPrograms.{one_unit}
 abbrev pub Answer : Type 0
 Answer = Result TranslationUnit PlainRefusal
 
--- ---- what names, types and `main` say of a tree
+-- ---- what names, types, room and `main` say of a tree
 
 abbrev noted : PlainTokens → Checked TranslationUnit → Answer
 noted ts (Good p) = Ok p
@@ -26,8 +27,12 @@ abbrev entered : PlainTokens → TranslationUnit → Option Fault → Answer
 entered ts p None = noted ts (noted_unit p)
 entered ts p (Some f) = Err (main_refusal f)
 
+abbrev housed : PlainTokens → TranslationUnit → Option Fault → Answer
+housed ts p None = entered ts p (main_fault p.names p.funcs)
+housed ts p (Some f) = Err (checked_refusal ts f)
+
 abbrev settled : PlainTokens → Checked TranslationUnit → Answer
-settled ts (Good p) = entered ts p (main_fault p.names p.funcs)
+settled ts (Good p) = housed ts p (room_fault p)
 settled ts (Bad f fs) = Err (checked_refusal ts (least f fs))
 
 abbrev pub of_tree : PlainTokens → TranslationUnit → Answer
@@ -113,16 +118,19 @@ accepted text p a = Tree (record {
   has = a.is_typed.tokens;
   tree = a.tree;
   read = a.is_typed.read;
-  is = ap (settled a.tokens) a.is_typed.is ∙ ap (entered a.tokens a.typed) a.main ∙ ap (noted a.tokens) a.noted;
+  is = ap (settled a.tokens) a.is_typed.is ∙ ap (housed a.tokens a.typed) a.room ∙ ap (entered a.tokens a.typed) a.main ∙ ap (noted a.tokens) a.noted;
 })
 
 refused : (text : List ℕ) (r : PlainRefusal) → RefusedText text r → Answers text (Err r)
 refused text r (ByTokens e) = NoTokens r e refl
 refused text r (ByGrammar ts f e g is) = NoTree (record { tokens = ts; has = e; fault = f; found = g; is = ap Err is })
 refused text r (ByNamesAndTypes ts p f e g k is) = Tree (record { tokens = ts; has = e; tree = p; read = g; is = settled_fault ts (typed_unit p) f k ∙ ap Err (sym is) })
-refused text r (ForMain ts p t f h k is) = Tree (record { tokens = ts; has = h.tokens; tree = p; read = h.read; is = ap (settled ts) h.is ∙ ap (entered ts t) k ∙ ap Err (sym is) })
-refused text r (ByAnnotations ts p t f h m k is) =
-    Tree (record { tokens = ts; has = h.tokens; tree = p; read = h.read; is = ap (settled ts) h.is ∙ ap (entered ts t) m ∙ noted_fault ts (noted_unit t) f k ∙ ap Err (sym is) })
+refused text r (ForRoom ts p t f h k is) =
+    Tree (record { tokens = ts; has = h.tokens; tree = p; read = h.read; is = ap (settled ts) h.is ∙ ap (housed ts t) k ∙ ap Err (sym is) })
+refused text r (ForMain ts p t f h l k is) =
+    Tree (record { tokens = ts; has = h.tokens; tree = p; read = h.read; is = ap (settled ts) h.is ∙ ap (housed ts t) l ∙ ap (entered ts t) k ∙ ap Err (sym is) })
+refused text r (ByAnnotations ts p t f h l m k is) =
+    Tree (record { tokens = ts; has = h.tokens; tree = p; read = h.read; is = ap (settled ts) h.is ∙ ap (housed ts t) l ∙ ap (entered ts t) m ∙ noted_fault ts (noted_unit t) f k ∙ ap Err (sym is) })
 
 -- ---- the laws
 

@@ -213,8 +213,8 @@ unfolding tokens_of build cut piece_at add marks digits_at suffix_of body_of lit
     more_external unit word_of library_constant is_library_name
 refused_calls = refl
 
--- texts that are refused for what they declare
-refused_declarations :
+-- texts with declarations of all forms
+declarations :
     outcome (codes "int *p;") ∷
     outcome (codes "int a[4];") ∷
     outcome (codes "struct s { int n; };") ∷
@@ -234,16 +234,16 @@ refused_declarations :
     outcome (codes "enum e { A, B }; enum e { };") ∷
     outcome (codes "struct T { struct T *T; } T; int main(void) { typedef int x; }") ∷ []
     ≡
-    refusal 6 (place 1 6 5) (codes "p") ∷
-    refusal 6 (place 1 5 4) (codes "a") ∷
-    refusal 6 (place 1 8 7) (codes "s") ∷
-    refusal 6 (place 1 1 0) (codes "struct") ∷
-    refusal 6 (place 1 6 5) (codes "e") ∷
-    refusal 6 (place 1 13 12) (codes "T") ∷
-    refusal 6 (place 1 7 6) (codes "s") ∷
-    refusal 6 (place 1 6 5) (codes "f") ∷
-    refusal 6 (place 1 12 11) (codes "p") ∷
-    refusal 6 (place 1 23 22) (codes "x") ∷
+    refusal 13 (place 1 1 0) (codes "main") ∷
+    refusal 13 (place 1 1 0) (codes "main") ∷
+    refusal 13 (place 1 1 0) (codes "main") ∷
+    refusal 13 (place 1 1 0) (codes "main") ∷
+    refusal 13 (place 1 1 0) (codes "main") ∷
+    refusal 13 (place 1 1 0) (codes "main") ∷
+    refusal 13 (place 1 1 0) (codes "main") ∷
+    refusal 13 (place 1 1 0) (codes "main") ∷
+    refusal 13 (place 1 1 0) (codes "main") ∷
+    Ok (Exits (pos 0), []) ∷
     refusal 4 (place 1 12 11) (codes ";") ∷
     refusal 4 (place 1 13 12) (codes "(") ∷
     refusal 4 (place 1 12 11) (codes "}") ∷
@@ -262,4 +262,4 @@ unfolding tokens_of build cut piece_at add marks digits_at suffix_of body_of lit
     constant enum_braces braces_of braces_in storage_word more_storage file_spec atom sum_once sum_of sum assert_clause annotation condition else_branch else_part selection while_loop do_loop for_first maybe_ended for_behind for_loop jump
     returned return_statement item items_once items block empty_statement effect_statement statement_of statement_in function_rest function globals behind_declarator declared_at_file next_typedef more_typedefs typedefs external
     more_external unit word_of library_constant is_library_name
-refused_declarations = refl
+declarations = refl

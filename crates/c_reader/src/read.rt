@@ -2,8 +2,9 @@
 
 ghost use Rattle.std.specs.Prelude.{ℕ, List, ◌≡◌, ◌<◌, length, IfOk, IfErr, MatchResult};
 ghost use Rattle.c_syntax.specs.Programs.{TranslationUnit, PlainRefusal, plain_program};
-ghost use Rattle.c_model.specs.Formed.{IsProgram};
+ghost use Rattle.c_model.specs.AcceptedPrograms.{IsProgram};
 ghost use Rattle.c_model.specs.Laws.{NeverFaults};
+ghost use Rattle.c_model.specs.ReadTree.{AreBytes};
 ghost use Rattle.c_model.specs.Phases.{AcceptedText, RefusedText};
 ghost use Rattle.c_reader.specs.Answers.{Refuses, HasTree, IsTypedAs, OfTokens, HasFault};
 
@@ -17,7 +18,8 @@ use std::alloc::Global;
 /// The tree of a text, or its refusal.
 fn tree_of(alloc: Global, text: &[u8]) -> Result<Program, FrontFault>
     requires { length text.now < 4294967295 }
-    ensures { MatchResult result (λ p. HasTree text.now (plain_program p)) (λ e. Refuses e text.now) }
+    ensures read { MatchResult result (λ p. HasTree text.now (plain_program p)) (λ e. Refuses e text.now) }
+    ensures bytes { AreBytes text.now }
 {
     let mut tokens = match tokens(alloc, text) {
         Ok(tokens) => tokens,
@@ -26,9 +28,11 @@ fn tree_of(alloc: Global, text: &[u8]) -> Result<Program, FrontFault>
     read_program(alloc, &mut tokens)
 }
 
-/// The typed program of a tree of the text, if its names and types have no fault and it has `main`.
+/// The typed program of the tree of a text, if its names and types have no fault, its globals and literals have room, and it has `main`.
 fn typed(alloc: Global, text: &[u8], tree: Program) -> Result<Program, FrontFault>
-    requires { length text.now < 4294967295 }
+    requires few { length text.now < 4294967295 }
+    requires bytes { AreBytes text.now }
+    requires read { HasTree text.now (plain_program tree) }
     ensures { MatchResult result (λ p. IsTypedAs (plain_program tree) (plain_program p)) (λ e. OfTokens text.now (λ ts. HasFault e ts (plain_program tree))) }
 {
     let typed = match type_program(alloc, tree) {
@@ -42,7 +46,7 @@ fn typed(alloc: Global, text: &[u8], tree: Program) -> Result<Program, FrontFaul
 }
 
 /// Reads a C text with annotations: its typed program, or its refusal, with code 1, 2, 3 or 11 for its tokens, 4 or 11 for its
-/// grammar, 5 for a name, 6 for a type, and 13 for want of `int main(void)`.
+/// grammar, 5 for a name, 6 or 11 for a type, 12 for want of room for globals and literals, and 13 for want of `int main(void)`.
 pub fn read_text(alloc: Global, text: &[u8]) -> Result<Program, FrontFault>
     requires { length text.now < 4294967295 }
     ensures accepted { IfOk result (λ p. AcceptedText text.now (plain_program p)) }

@@ -9,7 +9,8 @@ use Rattle.c_model.specs.State.{Input, Final, Exits, Broken, Undefined, Fault, S
 use Rattle.c_model.specs.Meaning.{Ran, run}
 use Rattle.c_model.specs.Laws.{NeverFaults}
 use Rattle.c_model.specs.Reports.{Report, report, agrees_at}
-use Rattle.c_reader.proofs.Programs.{accepted_never_faults}
+use Rattle.c_model.proofs.NoFaults.{programs_never_fault}
+use Rattle.c_reader.proofs.AcceptedTexts.{accepted_program}
 use Rattle.c_reader.proofs.Texts.{one_program, apart, one_refusal}
 use Rattle.mon_syntax.specs.Trees.{MonitoredProgram}
 use Rattle.mon_syntax.specs.FlatMemory.{flat_run}
@@ -103,7 +104,7 @@ run_answer : {source : Taking} {text : List ℕ} {steps : ℕ} {a : Answer} {out
 run_answer {text = text} p x (RunRefused r h u e) g = absurd (apart text p r x h)
 run_answer {text = text} {steps} {a} p x (Runs q m y t d) g =
     let same : q ≡ p = one_program text q p y x in
-    record { input = d.input; was = d.was; answer = a; answers = subst (λ u. AnswersSource u d.input steps a) same (source_answer q m t d.input steps a d.answers (accepted_never_faults text q y)); given = g }
+    record { input = d.input; was = d.was; answer = a; answers = subst (λ u. AnswersSource u d.input steps a) same (source_answer q m t d.input steps a d.answers (programs_never_fault q (accepted_program text q y))); given = g }
 
 run_refusal : {source : Taking} {text : List ℕ} {steps : ℕ} {a : Answer} (r : PlainRefusal) → RefusedText text r → RunDue source text steps a → a ≡ refused_answer r
 run_refusal {text = text} r h (RunRefused s k u e) = e ∙ ap refused_answer (one_refusal text s r k h)

@@ -1,4 +1,5 @@
-use Rattle.c_reader.proofs.Programs.{accepted_is_program, accepted_never_faults}
+use Rattle.c_model.proofs.NoFaults.{programs_never_fault}
+use Rattle.c_reader.proofs.AcceptedTexts.{accepted_program}
 use Rattle.c_reader.proofs.Texts.{one_program, apart, one_refusal}
 use Rattle.c_reader.proofs.read.about_texts.Goals as goal
 
@@ -12,7 +13,7 @@ pub returns-clause-single : goal.returns-clause-single
 returns-clause-single c = one_refusal
 
 pub returns-clause-program : goal.returns-clause-program
-returns-clause-program c = accepted_is_program
+returns-clause-program c = accepted_program
 
 pub returns-clause-faultless : goal.returns-clause-faultless
-returns-clause-faultless c = accepted_never_faults
+returns-clause-faultless c = λ text p a. programs_never_fault p (accepted_program text p a)

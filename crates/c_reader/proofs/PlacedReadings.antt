@@ -1,9 +1,14 @@
 -- What holds of each reading of a production over tokens whose places ascend, by the offsets where it begins and ends.
-use Rattle.std.proofs.Common.{◌≡◌, ℕ, zero, suc, ◌≤◌, Bool, true, false, cond, List, [], ◌∷◌, ◌++◌, length, Option, Some, refl, subst, arith, inl, inr}
+use Rattle.std.proofs.Common.{◌≡◌, ℕ, zero, suc, ◌<◌, ◌≤◌, Bool, true, false, cond, eqb, List, [], ◌∷◌, ◌++◌, length, Option, Some, None, refl, subst, arith, inl, inr}
 use Rattle.std.specs.List.{AllByRecursion}
 use Rattle.grammar.specs.Syntax.{Syntax, none, gives, one, ◌then◌, choice, loop, many, deep, at_most}
-use Rattle.c_syntax.specs.Tokens.{PlainToken}
-use Rattle.c_reader.proofs.FormedExpressions.{IsLexed, Each}
+use Rattle.c_syntax.specs.declared.place.Place.{Place}
+use Rattle.c_syntax.specs.Tokens.{PlainTokenKind, PlainToken}
+use Rattle.c_model.specs.Vocabulary.{Vocabulary}
+use Rattle.c_model.specs.Terminals.{placed}
+use Rattle.c_model.specs.ExpressionGrammar.{kind, fixed}
+use Rattle.c_model.specs.ReadTree.{Between}
+use Rattle.c_reader.proofs.TokenForms.{IsLexed, Each, placed_at}
 
 -- tokens from the offset l on, each after the one before, up to the offset n
 abbrev pub Reach : ℕ → List PlainToken → ℕ → Type 0
@@ -95,11 +100,6 @@ module _ {size : ℕ} {A : Type 0} (K : PlainToken → ℕ) (ks : A → List ℕ
 
 -- ---- numbers
 
--- numbers that ascend from the least one up to below the end
-abbrev pub Between : ℕ → List ℕ → ℕ → Type 0
-Between l [] n = l ≤ n
-Between l (i ∷ is) n = (l ≤ i) × Between (suc i) is n
-
 pub between_lower : (k l : ℕ) (is : List ℕ) (n : ℕ) → k ≤ l → Between l is n → Between k is n
 between_lower k l [] n le h = omega (arith, le, h)
 between_lower k l (i ∷ is) n le h = (omega (arith, le, h.0), h.1)
@@ -107,3 +107,24 @@ between_lower k l (i ∷ is) n le h = (omega (arith, le, h.0), h.1)
 pub between_joined : (l m n : ℕ) (is js : List ℕ) → Between l is m → Between m js n → Between l (is ++ js) n
 between_joined l m n [] js h g = between_lower l m js n h g
 between_joined l m n (i ∷ is) js h g = (h.0, between_joined (suc i) m n is js h.1 g)
+
+pub between_higher : (l m n : ℕ) (is : List ℕ) → m ≤ n → Between l is m → Between l is n
+between_higher l m n [] le h = omega (arith, le, h)
+between_higher l m n (i ∷ is) le h = (h.0, between_higher (suc i) m n is le h.1)
+
+-- ---- places of tokens
+
+-- a place from the offset l on and before the offset n
+pub record IsPlaceWithin (l n : ℕ) (at : Place) : Type 0 where
+  pub from : l ≤ at.offset
+  pub to : at.offset < n
+
+pub fixed_from : {size : ℕ} (ws : Vocabulary) (k l : ℕ) → From size l (fixed ws k) (IsPlaceWithin l)
+fixed_from ws k l = from_one _ (λ t at h le e. by (eqb (kind ws t) k) t at le e)
+  where
+    by : (b : Bool) (t : PlainToken) (at : Place) → l ≤ t.place.offset → cond b (Some t.place) None ≡ Some at → IsPlaceWithin l (suc t.place.offset) at
+    by true t at le e = let same : t.place ≡ at = cc in subst (IsPlaceWithin l (suc t.place.offset)) same (record { from = le; to = omega arith })
+    by false t at le e = absurd cc
+
+pub placed_from : {size : ℕ} {A : Type 0} (f : PlainTokenKind → Option A) (l : ℕ) → From size l (one (placed f)) (λ n x. IsPlaceWithin l n x.1)
+placed_from f l = from_one _ (λ t x h le e. subst (IsPlaceWithin l (suc t.place.offset)) (placed_at f t x e) (record { from = le; to = omega arith }))

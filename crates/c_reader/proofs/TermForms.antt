@@ -1,10 +1,9 @@
 -- Annotations that are read are asserts of one relation between two sums, which have no more literals and names than tokens.
-use Rattle.std.proofs.Common.{◌≡◌, ℕ, ◌+◌, ◌≤◌, ℤ, pos, ◌≤ℤ◌, Bool, true, false, cond, [], ◌∷◌, Option, Some, None, refl, ap, subst, ◌∙◌, arith}
+use Rattle.std.proofs.Common.{◌≡◌, ℕ, ◌+◌, ◌≤◌, ℤ, pos, ◌≤ℤ◌, Bool, true, false, cond, [], ◌∷◌, Some, None, refl, subst, arith}
 use Rattle.std.proofs.lemmas.Int.{ints}
 use Rattle.std.specs.Prelude.{int_le}
 use Rattle.grammar.specs.Syntax.{Syntax, one}
 use Rattle.grammar.proofs.Readings.{each_gives, each_one, each_then, each_choice, each_many, each_knot}
-use Rattle.c_syntax.specs.declared.place.Place.{Place}
 use Rattle.c_syntax.specs.declared.expression.BinOp.{BinOp}
 use Rattle.c_syntax.specs.declared.expression.BinOp.TheVariants as operator
 use Rattle.c_syntax.specs.Annotations.{LogicTerm}
@@ -16,25 +15,12 @@ use Rattle.c_model.specs.ExpressionGrammar.{name_kind, number_kind, letter_kind,
 use Rattle.c_model.specs.Terminals.{placed, mark_entry}
 use Rattle.c_model.specs.ProgramGrammar.{term_number, sum_operators, atom, sum_once, sum_of, sum, assert_clause}
 use Rattle.c_model.specs.Formed.{IsSum, IsLogicNumber, IsSumTerm, leaves_of_term, IsAssert}
-use Rattle.c_reader.proofs.FormedExpressions.{IsLexedKind, Each, each_token, each_fixed, closed_each}
+use Rattle.c_reader.proofs.TokenForms.{IsLexedKind, Each, each_token, placed_is}
+use Rattle.c_reader.proofs.ExpressionForms.{each_fixed, closed_each}
 
 record IsTermPart (k : ℕ) (t : LogicTerm) : Type 0 where
   is : IsSumTerm t
   few : leaves_of_term t ≤ k
-
-pub placed_is : {A : Type 0} (f : PlainTokenKind → Option A) (t : PlainToken) (y : A × Place) → placed f t ≡ Some y → f t.kind ≡ Some y.0
-placed_is {A} f t y e = by (f t.kind) refl e
-  where
-    by : (o : Option A) → f t.kind ≡ o → elim o [ Some x ↦ Some (x, t.place) | None ↦ None ] ≡ Some y → f t.kind ≡ Some y.0
-    by (Some x) is e = let same : (x, t.place) ≡ y = cc in is ∙ ap (λ (w : A × Place). Some w.0) same
-    by None is e = absurd cc
-
-pub placed_at : {A : Type 0} (f : PlainTokenKind → Option A) (t : PlainToken) (y : A × Place) → placed f t ≡ Some y → t.place ≡ y.1
-placed_at {A} f t y e = by (f t.kind) e
-  where
-    by : (o : Option A) → elim o [ Some x ↦ Some (x, t.place) | None ↦ None ] ≡ Some y → t.place ≡ y.1
-    by (Some x) e = let same : (x, t.place) ≡ y = cc in ap (λ (w : A × Place). w.1) same
-    by None e = absurd cc
 
 int_le_true : (a b : ℤ) → int_le a b ≡ true → a ≤ℤ b
 int_le_true a b e = grind (arith, ints, e)

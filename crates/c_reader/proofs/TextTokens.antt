@@ -1,5 +1,6 @@
--- The tokens of a C text: its names are words, a word token has the number of a name, and literals are never negative.
-use Rattle.std.proofs.Common.{◌≡◌, ℕ, zero, suc, ◌<◌, ◌≤◌, pos, ◌≤ℤ◌, Bool, true, false, cond, ◌&&◌, ◌||◌, nat_eq, ltb, List, [], ◌∷◌, ◌++◌, length, length-append, map, Some, Result, Ok, Err, ◌⊎◌, inl, inr, bytes_eq, refl, sym, ap, subst, ◌∙◌, arith}
+-- The tokens of a C text: its names are words, a word token has the number of a name, literals are never negative, and strings are of bytes.
+use Rattle.std.proofs.Common.{◌≡◌, ℕ, zero, suc, ◌<◌, ◌≤◌, pos, ◌≤ℤ◌, Bool, true, false, cond, ◌&&◌, ◌||◌, nat_eq, ltb, List, [], ◌∷◌, ◌++◌, length, length-append, drop, map}
+use Rattle.std.proofs.Common.{Some, Result, Ok, Err, ◌⊎◌, inl, inr, bytes_eq, refl, sym, ap, subst, ◌∙◌, arith}
 use Rattle.std.proofs.lemmas.Bool.{eqb-true}
 use Rattle.std.proofs.lemmas.Int.{ints}
 use Rattle.std.specs.Prelude.{slice_get}
@@ -23,15 +24,17 @@ use Rattle.c_model.specs.CTokenLaws.{bytes_of, IsName, Spells, AreSpelled, word_
 use Rattle.c_model.specs.Vocabulary.{word_of, word_at}
 use Rattle.c_model.specs.ExpressionGrammar.{name_kind, word_kind}
 use Rattle.c_model.specs.Formed as program
-use Rattle.c_model.specs.Typing.{name_at}
+use Rattle.c_model.specs.ExpressionTyping.{name_at}
 use Rattle.c_model.proofs.Spelling.{chosen}
 use Rattle.c_model.proofs.NameLaws.{number_points}
 use Rattle.c_model.proofs.CNameLaws.{names_in_order}
-use Rattle.c_model.proofs.CPieceLaws.{pieces_spelled}
-use Rattle.c_model.proofs.CListLaws.{tokens_ascend}
-use Rattle.c_reader.proofs.FormedExpressions.{IsLexed, IsLexedKind}
-use Rattle.c_reader.proofs.Placed.{Reach}
-use Rattle.c_reader.proofs.FormedDeclarations.{IsNewName}
+use Rattle.c_model.proofs.CPieceLaws.{pieces_joined, pieces_spelled}
+use Rattle.c_model.proofs.CListLaws.{AllBelow, tokens_ascend, tokens_below}
+use Rattle.c_model.specs.ReadTree.{AreBytes}
+use Rattle.c_reader.proofs.TokenForms.{IsLexed, IsLexedKind}
+use Rattle.c_reader.proofs.PlacedReadings.{Reach}
+use Rattle.c_reader.proofs.DeclarationForms.{IsNewName}
+use Rattle.c_reader.proofs.StringBytes.{bytes_joined, bytes_before, bytes_behind, bytes_dropped, string_is_bytes}
 
 -- ---- words
 
@@ -120,7 +123,7 @@ kind_more : (n m : ℕ) (k : PlainTokenKind) → n ≤ m → IsLexedKind n k →
 kind_more n m (token.Word i) le h = omega (arith, h)
 kind_more n m (token.Number z t) le h = h
 kind_more n m (token.Letter z) le h = tt
-kind_more n m (token.Chars bytes) le h = tt
+kind_more n m (token.Chars bytes) le h = h
 kind_more n m (token.Mark i) le h = tt
 kind_more n m token.AnnotOpen le h = tt
 kind_more n m token.AnnotClose le h = tt
@@ -137,23 +140,23 @@ behind : (n : ℕ) (ts : List PlainToken) (t : PlainToken) → AreLexed n ts →
 behind n [] t h p = (p, tt)
 behind n (u ∷ ts) t h p = (h.0, behind n ts t h.1 p)
 
-joined_lexed : (n : ℕ) (t : PlainToken) (at : Place) (bs : List ℕ) → IsLexed n t → AreLexed n (joined t at bs)
-joined_lexed n t at bs h = by t.kind t.place h
+joined_lexed : (n : ℕ) (t : PlainToken) (at : Place) (bs : List ℕ) → IsLexed n t → AreBytes bs → AreLexed n (joined t at bs)
+joined_lexed n t at bs h are = by t.kind t.place h
   where
     by : (k : PlainTokenKind) (p : Place) → IsLexedKind n k → AreLexed n (joined (record { place = p; kind = k }) at bs)
-    by (token.Chars cs) p h = (tt, tt)
-    by (token.Word i) p h = (h, (tt, tt))
-    by (token.Number v c) p h = (h, (tt, tt))
-    by (token.Letter v) p h = (tt, (tt, tt))
-    by (token.Mark i) p h = (tt, (tt, tt))
-    by token.AnnotOpen p h = (tt, (tt, tt))
-    by token.AnnotClose p h = (tt, (tt, tt))
-    by (token.Head k i) p h = (tt, (tt, tt))
+    by (token.Chars cs) p h = (bytes_joined cs bs h are, tt)
+    by (token.Word i) p h = (h, (are, tt))
+    by (token.Number v c) p h = (h, (are, tt))
+    by (token.Letter v) p h = (tt, (are, tt))
+    by (token.Mark i) p h = (tt, (are, tt))
+    by token.AnnotOpen p h = (tt, (are, tt))
+    by token.AnnotClose p h = (tt, (are, tt))
+    by (token.Head k i) p h = (tt, (are, tt))
 
-string_lexed : (n : ℕ) (ts : List PlainToken) (at : Place) (bs : List ℕ) → AreLexed n ts → AreLexed n (with_string ts at bs)
-string_lexed n [] at bs h = (tt, tt)
-string_lexed n (t ∷ []) at bs h = joined_lexed n t at bs h.0
-string_lexed n (t ∷ u ∷ ts) at bs h = (h.0, string_lexed n (u ∷ ts) at bs h.1)
+string_lexed : (n : ℕ) (ts : List PlainToken) (at : Place) (bs : List ℕ) → AreLexed n ts → AreBytes bs → AreLexed n (with_string ts at bs)
+string_lexed n [] at bs h are = (are, tt)
+string_lexed n (t ∷ []) at bs h are = joined_lexed n t at bs h.0 are
+string_lexed n (t ∷ u ∷ ts) at bs h are = (h.0, string_lexed n (u ∷ ts) at bs h.1 are)
 
 grows : (names : List (List ℕ)) (w : List ℕ) → length names ≤ length (with_name names w)
 grows names w = by (list_any (bytes_eq w) names)
@@ -165,16 +168,16 @@ grows names w = by (list_any (bytes_eq w) names)
 abbrev IsRead : Read → Type 0
 IsRead r = AreLexed (length r.names) r.list
 
-add_lexed : (r : Read) (at : Place) (p : Piece) (bs : List ℕ) → IsRead r → IsRead (add r at p bs)
+add_lexed : (r : Read) (at : Place) (p : Piece) (bs : List ℕ) → AreBytes bs → IsRead r → IsRead (add r at p bs)
 unfolding add
-add_lexed r at piece.Blank bs h = h
-add_lexed r at (piece.Open m) bs h = behind (length r.names) r.list _ h tt
-add_lexed r at piece.Close bs h = behind (length r.names) r.list _ h tt
-add_lexed r at piece.Word bs h = behind (length (with_name r.names bs)) r.list _ (all_more (length r.names) (length (with_name r.names bs)) r.list (grows r.names bs) h) (number_within r.names bs)
-add_lexed r at (piece.Number v t) bs h = behind (length r.names) r.list _ h (let zero_below : pos 0 ≤ℤ pos v = omega (arith, ints) in zero_below)
-add_lexed r at (piece.Letter c) bs h = behind (length r.names) r.list _ h tt
-add_lexed r at piece.Chars bs h = string_lexed (length r.names) r.list at _ h
-add_lexed r at (piece.Mark k) bs h = behind (length r.names) r.list _ h tt
+add_lexed r at piece.Blank bs are h = h
+add_lexed r at (piece.Open m) bs are h = behind (length r.names) r.list _ h tt
+add_lexed r at piece.Close bs are h = behind (length r.names) r.list _ h tt
+add_lexed r at piece.Word bs are h = behind (length (with_name r.names bs)) r.list _ (all_more (length r.names) (length (with_name r.names bs)) r.list (grows r.names bs) h) (number_within r.names bs)
+add_lexed r at (piece.Number v t) bs are h = behind (length r.names) r.list _ h (let zero_below : pos 0 ≤ℤ pos v = omega (arith, ints) in zero_below)
+add_lexed r at (piece.Letter c) bs are h = behind (length r.names) r.list _ h tt
+add_lexed r at piece.Chars bs are h = string_lexed (length r.names) r.list at _ h (string_is_bytes (drop 1 bs) 0 (bytes_dropped 1 bs are))
+add_lexed r at (piece.Mark k) bs are h = behind (length r.names) r.list _ h tt
 
 closed_lexed : (r : Read) (at : Place) (m : Mode) → IsRead r → IsRead (closed r at m)
 closed_lexed r at Code h = h
@@ -184,21 +187,21 @@ closed_lexed r at Line h = behind (length r.names) r.list _ h tt
 same_tokens : (x y : PlainTokens) → (let r : Result PlainTokens PlainRefusal = Ok x in r) ≡ Ok y → x ≡ y
 same_tokens x y e = cc
 
-build_lexed : (r : Read) (ps : Pieces) (tokens : PlainTokens) → IsRead r → build r ps ≡ Ok tokens → AreLexed (length tokens.names) tokens.list
+build_lexed : (r : Read) (ps : Pieces) (tokens : PlainTokens) → AreBytes (bytes_of ps) → IsRead r → build r ps ≡ Ok tokens → AreLexed (length tokens.names) tokens.list
 unfolding build
-build_lexed r (Ended at m) tokens h e = elim (chosen (ltb most_tokens (length (closed r at m).list)) (Err (refused at fault.Limit [])) (Ok (whole (closed r at m) at)) (Ok tokens) e) [
+build_lexed r (Ended at m) tokens are h e = elim (chosen (ltb most_tokens (length (closed r at m).list)) (Err (refused at fault.Limit [])) (Ok (whole (closed r at m) at)) (Ok tokens) e) [
   | inl f ↦ absurd (let g = f.1 in cc)
   | inr f ↦ subst (λ (x : PlainTokens). AreLexed (length x.names) x.list) (same_tokens (whole (closed r at m) at) tokens f.1) (closed_lexed r at m h)
 ]
-build_lexed r (Broken at f rest) tokens h e = absurd cc
-build_lexed r (Cut at p bytes more) tokens h e = elim (chosen (ltb most_tokens (length (add r at p bytes).list)) (Err (refused at fault.Limit [])) (build (add r at p bytes) more) (Ok tokens) e) [
+build_lexed r (Broken at f rest) tokens are h e = absurd cc
+build_lexed r (Cut at p bytes more) tokens are h e = elim (chosen (ltb most_tokens (length (add r at p bytes).list)) (Err (refused at fault.Limit [])) (build (add r at p bytes) more) (Ok tokens) e) [
   | inl f ↦ absurd (let g = f.1 in cc)
-  | inr f ↦ build_lexed (add r at p bytes) more tokens (add_lexed r at p bytes h) f.1
+  | inr f ↦ build_lexed (add r at p bytes) more tokens (bytes_behind bytes (bytes_of more) are) (add_lexed r at p bytes (bytes_before bytes (bytes_of more) are) h) f.1
 ]
 
-tokens_lexed : (text : List ℕ) (tokens : PlainTokens) → tokens_of text ≡ Ok tokens → AreLexed (length tokens.names) tokens.list
+tokens_lexed : (text : List ℕ) (tokens : PlainTokens) → AreBytes text → tokens_of text ≡ Ok tokens → AreLexed (length tokens.names) tokens.list
 unfolding tokens_of
-tokens_lexed text tokens e = build_lexed nothing_read (pieces_of text) tokens tt e
+tokens_lexed text tokens are e = build_lexed nothing_read (pieces_of text) tokens (subst AreBytes (sym (pieces_joined text)) are) tt e
 
 -- ---- places
 
@@ -215,14 +218,26 @@ reached : (ts : List PlainToken) → Ascend ts → Reach 0 ts (last_end 0 ts)
 reached [] h = refl
 reached (t ∷ ts) h = ascending 0 t ts (omega arith) h
 
-pub record Lexed (tokens : PlainTokens) : Type 0 where
+-- what is below a number ends there
+end_below : (l n : ℕ) (ts : List PlainToken) → l ≤ n → AllBelow n ts → last_end l ts ≤ n
+end_below l n [] le h = le
+end_below l n (t ∷ ts) le h = end_below (suc t.place.offset) n ts (omega (arith, h.0)) h.1
+
+pub record Lexed (length_of_text : ℕ) (tokens : PlainTokens) : Type 0 where
   pub names : AreWords tokens.names
   pub list : AreLexed (length tokens.names) tokens.list
   pub end : ℕ
   pub reach : Reach 0 tokens.list end
+  pub below : end ≤ suc length_of_text
 
-pub lexed : (text : List ℕ) (tokens : PlainTokens) → tokens_of text ≡ Ok tokens → Lexed tokens
-lexed text tokens e = record { names = names_are_words text tokens e; list = tokens_lexed text tokens e; end = last_end 0 tokens.list; reach = reached tokens.list (tokens_ascend text tokens e) }
+pub lexed : (text : List ℕ) (tokens : PlainTokens) → AreBytes text → tokens_of text ≡ Ok tokens → Lexed (length text) tokens
+lexed text tokens are e = record {
+  names = names_are_words text tokens e;
+  list = tokens_lexed text tokens are e;
+  end = last_end 0 tokens.list;
+  reach = reached tokens.list (tokens_ascend text tokens e);
+  below = end_below 0 (suc (length text)) tokens.list (omega arith) (tokens_below text tokens e);
+}
 
 -- ---- names that are declared
 

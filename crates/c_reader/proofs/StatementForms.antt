@@ -1,5 +1,5 @@
 -- Statements that are read have effects, calls and declarations only where they may stand, and are no deeper than the limit.
-use Rattle.std.proofs.Common.{◌≡◌, ℕ, zero, suc, ◌≤◌, List, [], ◌∷◌, ◌++◌, Some, None, refl, sym, ap, subst, ◌∙◌, append_assoc, append-nil, arith}
+use Rattle.std.proofs.Common.{◌≡◌, ℕ, zero, suc, ◌≤◌, List, [], ◌∷◌, ◌++◌, Some, None, refl, sym, ap, subst, ◌∙◌, Option, append_assoc, append-nil, arith}
 use Rattle.std.specs.List.{AllByRecursion}
 use Rattle.c_syntax.specs.declared.place.Place.{Place}
 use Rattle.c_syntax.specs.Expressions.{Expression}
@@ -11,29 +11,36 @@ use Rattle.c_model.specs.Punctuators.{semicolon, left_paren, right_paren, left_b
 use Rattle.c_model.specs.ExpressionGrammar.{annot_open_kind, annot_close_kind, keyword_kind, mark_kind, kind, first_type, first_expression, first_effect, fixed, mark, reserved, closed}
 use Rattle.c_model.specs.ProgramGrammar.{Numbered, first_item, is_open, block_items, annotation, condition, else_branch, else_part, selection, while_loop, do_loop, for_first, maybe_ended, returned, for_behind, for_loop, jump}
 use Rattle.c_model.specs.ProgramGrammar.{return_statement, item, items_once, items, block, empty_statement, effect_statement, statement_of, statement_in}
-use Rattle.c_model.specs.WellTypedPrograms.{WhereAny}
+use Rattle.c_model.specs.TypedTrees.{WhereAny}
 use Rattle.c_model.specs.Formed.{depth, depth_of_item, depth_of_items, declared_within, declared_in_first, declared_in_item, declared_in_items}
-use Rattle.c_reader.proofs.ReadForms.{IsFull, IsFullOrCall, IsFullEffect, FirstRead, StatementRead, ItemRead, ItemsRead}
-use Rattle.c_reader.proofs.FormedExpressions.{full_each, full_value_each, full_effect_each, full_call_each}
+use Rattle.c_model.specs.Pure.{IsPure, IsPureOrCall, IsEffect}
+use Rattle.c_model.specs.FullExpressions.{EachIn, EachInFirst, EachInItem, EachInItems}
+use Rattle.c_model.specs.EffectPlaces.{FirstPlaced, StatementPlaced, ItemPlaced, ItemsPlaced}
+use Rattle.c_reader.proofs.ExpressionForms.{IsShortAndBare, IsFull, full_each, full_value_each, full_effect_each, full_call_each}
 use Rattle.c_model.specs.DeclarationGrammar.{ended}
-use Rattle.c_reader.proofs.FormedTerms.{clause_each}
-use Rattle.c_reader.proofs.Placed.{From, from_none, from_gives, from_then, from_choice, from_cond, from_any, from_each, from_many}
-use Rattle.c_reader.proofs.FormedDeclarations.{IsLater, Declares, declares_none, declares_joined, declares_lower, declares_higher, ended_from, declaration_from}
+use Rattle.c_reader.proofs.TermForms.{clause_each}
+use Rattle.c_reader.proofs.PlacedReadings.{From, from_none, from_gives, from_then, from_choice, from_cond, from_any, from_each, from_many}
+use Rattle.c_reader.proofs.DeclarationForms.{IsLater, Declares, declares_none, declares_joined, declares_lower, declares_higher, ended_from, declaration_from}
 
 -- ---- items in a list
 
 -- an item in which statements stand at most d deep
 pub record IsItem (d : ℕ) (i : BlockItem) : Type 0 where
-  pub is : ItemRead i
+  pub is : ItemPlaced i
+  pub short : EachInItem IsShortAndBare i
   pub deep : depth_of_item i ≤ d
 
 pub all_behind : {A : Type 0} (P : A → Type 0) (xs : List A) (y : A) → AllByRecursion P xs → P y → AllByRecursion P (xs ++ (y ∷ []))
 all_behind P [] y h p = (p, tt)
 all_behind P (x ∷ xs) y h p = (h.0, all_behind P xs y h.1 p)
 
-pub items_read : (d : ℕ) (l : List BlockItem) → AllByRecursion (IsItem d) l → ItemsRead (block_items l)
-items_read d [] h = tt
-items_read d (i ∷ l) h = (h.0.is, items_read d l h.1)
+pub items_placed : (d : ℕ) (l : List BlockItem) → AllByRecursion (IsItem d) l → ItemsPlaced (block_items l)
+items_placed d [] h = tt
+items_placed d (i ∷ l) h = (h.0.is, items_placed d l h.1)
+
+pub items_short : (d : ℕ) (l : List BlockItem) → AllByRecursion (IsItem d) l → EachInItems IsShortAndBare (block_items l)
+items_short d [] h = tt
+items_short d (i ∷ l) h = (h.0.short, items_short d l h.1)
 
 pub items_deep : (d : ℕ) (l : List BlockItem) → AllByRecursion (IsItem d) l → depth_of_items (block_items l) ≤ d
 items_deep d [] h = omega arith
@@ -46,7 +53,8 @@ declared_behind (j ∷ l) i = ap (λ (w : List Declaration). declared_in_item j 
 module _ (size : ℕ) (old : Vocabulary) where
   -- a statement d deep at most, after the offset l
   pub record IsWithin (d l n : ℕ) (x : Statement × ℕ) : Type 0 where
-    pub is : StatementRead x.0
+    pub is : StatementPlaced x.0
+    pub short : EachIn IsShortAndBare x.0
     pub deep : depth x.0 ≤ d
     pub declares : Declares size old l (declared_within x.0) n
 
@@ -63,12 +71,19 @@ module _ (size : ℕ) (old : Vocabulary) where
     is : P x
     on : l ≤ n
 
+  -- the same, where it may be left out
+  record IsOptional (P : Expression → Type 0) (l n : ℕ) (e : Option Expression) : Type 0 where
+    is : WhereAny P e
+    short : WhereAny IsShortAndBare e
+    on : l ≤ n
+
   record IsFirst (l n : ℕ) (x : ForFirst × ℕ) : Type 0 where
-    is : FirstRead x.0
+    is : FirstPlaced x.0
+    short : EachInFirst IsShortAndBare x.0
     declares : Declares size old l (declared_in_first x.0) n
 
   lower : (d k l n : ℕ) (x : Statement × ℕ) → k ≤ l → IsWithin d l n x → IsWithin d k n x
-  lower d k l n x le p = record { is = p.is; deep = p.deep; declares = declares_lower size old k l n (declared_within x.0) le p.declares }
+  lower d k l n x le p = record { is = p.is; short = p.short; deep = p.deep; declares = declares_lower size old k l n (declared_within x.0) le p.declares }
 
   pub closed_from : (ws : Vocabulary) {l : ℕ} {A : Type 0} (P : ℕ → A → Type 0) (x : A) → ((n : ℕ) → l ≤ n → P n x) → From size l (closed ws x) P
   unfolding closed
@@ -84,7 +99,7 @@ module _ (size : ℕ) (old : Vocabulary) where
     unfolding annotation
     annotation_from d l c =
         from_then (from_any (fixed ws annot_open_kind)) (λ m _ le. from_then (from_each (each_at_most (clause_each size ws c))) (λ i a p.
-        from_then (from_any (fixed ws annot_close_kind)) (λ n _ lf. from_gives _ (record { item = record { is = (p.2.0 p.2.1, tt); deep = omega arith }; declares = declares_none size old l n (omega (arith, le, lf, p.1)) }))))
+        from_then (from_any (fixed ws annot_close_kind)) (λ n _ lf. from_gives _ (record { item = record { is = (p.2.0 p.2.1, tt); short = tt; deep = omega arith }; declares = declares_none size old l n (omega (arith, le, lf, p.1)) }))))
 
     condition_from : (l : ℕ) → From size l (condition ws) (IsAlone IsFull l)
     unfolding condition
@@ -94,56 +109,56 @@ module _ (size : ℕ) (old : Vocabulary) where
     unfolding for_first
     for_first_from l c =
         from_choice (kind ws) first_type
-        (from_then (declaration_from size old ws later l) (λ n x h. from_gives _ (record { is = h.first; declares = h.declares })))
+        (from_then (declaration_from size old ws later l) (λ n x h. from_gives _ (record { is = h.first; short = h.short; declares = h.declares })))
         (from_choice (kind ws) first_effect
-        (from_then (from_each (full_call_each size ws)) (λ i e p. end_from (IsFirst l) _ (λ n le. record { is = p.2; declares = declares_none size old l n (omega (arith, le, p.1)) })))
-        (end_from (IsFirst l) _ (λ n le. record { is = tt; declares = declares_none size old l n le })))
+        (from_then (from_each (full_call_each size ws)) (λ i e p. end_from (IsFirst l) _ (λ n le. record { is = p.2.is; short = p.2.short; declares = declares_none size old l n (omega (arith, le, p.1)) })))
+        (end_from (IsFirst l) _ (λ n le. record { is = tt; short = tt; declares = declares_none size old l n le })))
 
-    maybe_from : (l : ℕ) → From size l (maybe_ended ws) (IsAlone (WhereAny IsFull) l)
+    maybe_from : (l : ℕ) → From size l (maybe_ended ws) (IsOptional IsPure l)
     unfolding maybe_ended
     maybe_from l =
-        let P = IsAlone (WhereAny IsFull) l in
+        let P = IsOptional IsPure l in
         from_choice (kind ws) first_expression
-        (from_then (from_each (full_each size ws)) (λ i e p. end_from P (Some e) (λ n le. record { is = p.2; on = omega (arith, le, p.1) })))
-        (end_from P None (λ n le. record { is = tt; on = le }))
+        (from_then (from_each (full_each size ws)) (λ i e p. end_from P (Some e) (λ n le. record { is = p.2.is; short = p.2.short; on = omega (arith, le, p.1) })))
+        (end_from P None (λ n le. record { is = tt; short = tt; on = le }))
 
-    returned_from : (l : ℕ) → From size l (returned ws) (IsAlone (WhereAny IsFullOrCall) l)
+    returned_from : (l : ℕ) → From size l (returned ws) (IsOptional IsPureOrCall l)
     unfolding returned
     returned_from l =
-        let P = IsAlone (WhereAny IsFullOrCall) l in
+        let P = IsOptional IsPureOrCall l in
         from_choice (kind ws) first_expression
-        (from_then (from_each (full_value_each size ws)) (λ i e p. end_from P (Some e) (λ n le. record { is = p.2; on = omega (arith, le, p.1) })))
-        (end_from P None (λ n le. record { is = tt; on = le }))
+        (from_then (from_each (full_value_each size ws)) (λ i e p. end_from P (Some e) (λ n le. record { is = p.2.is; short = p.2.short; on = omega (arith, le, p.1) })))
+        (end_from P None (λ n le. record { is = tt; short = tt; on = le }))
 
-    behind_from : (l : ℕ) → From size l (for_behind ws) (IsAlone (WhereAny IsFullEffect) l)
+    behind_from : (l : ℕ) → From size l (for_behind ws) (IsOptional IsEffect l)
     unfolding for_behind
     behind_from l =
-        let P = IsAlone (WhereAny IsFullEffect) l in
+        let P = IsOptional IsEffect l in
         from_choice (kind ws) first_effect
-        (from_then (from_each (full_effect_each size ws)) (λ i e p. closed_from ws P (Some e.0) (λ n le. record { is = p.2; on = omega (arith, le, p.1) })))
-        (closed_from ws P None (λ n le. record { is = tt; on = le }))
+        (from_then (from_each (full_effect_each size ws)) (λ i e p. closed_from ws P (Some e.0) (λ n le. record { is = p.2.is; short = p.2.short; on = omega (arith, le, p.1) })))
+        (closed_from ws P None (λ n le. record { is = tt; short = tt; on = le }))
 
     jump_from : (d l c : ℕ) → From size l (jump ws c) (IsWithin (suc d) l)
     unfolding jump
     jump_from d l c =
         let P = IsWithin (suc d) l in
         from_choice (kind ws) (keyword_kind keyword.Break ∷ [])
-        (from_then (from_any (reserved ws keyword.Break)) (λ m at le. end_from P _ (λ n lf. record { is = tt; deep = omega arith; declares = declares_none size old l n (omega (arith, le, lf)) })))
-        (from_then (from_any (reserved ws keyword.Continue)) (λ m at le. end_from P _ (λ n lf. record { is = tt; deep = omega arith; declares = declares_none size old l n (omega (arith, le, lf)) })))
+        (from_then (from_any (reserved ws keyword.Break)) (λ m at le. end_from P _ (λ n lf. record { is = tt; short = tt; deep = omega arith; declares = declares_none size old l n (omega (arith, le, lf)) })))
+        (from_then (from_any (reserved ws keyword.Continue)) (λ m at le. end_from P _ (λ n lf. record { is = tt; short = tt; deep = omega arith; declares = declares_none size old l n (omega (arith, le, lf)) })))
 
     return_from : (d l c : ℕ) → From size l (return_statement ws c) (IsWithin (suc d) l)
     unfolding return_statement
     return_from d l c = from_then (from_any (reserved ws keyword.Return)) (λ m at le. from_then (returned_from m)
-        (λ n e p. from_gives _ (record { is = p.is; deep = omega arith; declares = declares_none size old l n (omega (arith, le, p.on)) })))
+        (λ n e p. from_gives _ (record { is = p.is; short = p.short; deep = omega arith; declares = declares_none size old l n (omega (arith, le, p.on)) })))
 
     empty_from : (d l c : ℕ) → From size l (empty_statement ws c) (IsWithin (suc d) l)
     unfolding empty_statement
-    empty_from d l c = from_then (from_any (mark ws semicolon)) (λ n at le. from_gives _ (record { is = tt; deep = omega arith; declares = declares_none size old l n le }))
+    empty_from d l c = from_then (from_any (mark ws semicolon)) (λ n at le. from_gives _ (record { is = tt; short = tt; deep = omega arith; declares = declares_none size old l n le }))
 
     effect_from : (d l c : ℕ) → From size l (effect_statement ws c) (IsWithin (suc d) l)
     unfolding effect_statement
     effect_from d l c = from_then (from_each (full_call_each size ws)) (λ m e p. end_from (IsWithin (suc d) l) _
-        (λ n le. record { is = p.2; deep = omega arith; declares = declares_none size old l n (omega (arith, le, p.1)) }))
+        (λ n le. record { is = p.2.is; short = p.2.short; deep = omega arith; declares = declares_none size old l n (omega (arith, le, p.1)) }))
 
     -- ---- statements in statements
 
@@ -153,8 +168,8 @@ module _ (size : ℕ) (old : Vocabulary) where
       item_from l c =
           from_choice (kind ws) (annot_open_kind ∷ []) (annotation_from d l c)
           (from_choice (kind ws) first_type
-          (from_then (declaration_from size old ws later l) (λ n x h. from_gives _ (record { item = record { is = h.is; deep = omega (arith, h.flat) }; declares = h.declares })))
-          (from_then (each l c) (λ n x p. from_gives _ (record { item = record { is = p.is; deep = p.deep }; declares = p.declares }))))
+          (from_then (declaration_from size old ws later l) (λ n x h. from_gives _ (record { item = record { is = h.is; short = h.short; deep = omega (arith, h.flat) }; declares = h.declares })))
+          (from_then (each l c) (λ n x p. from_gives _ (record { item = record { is = p.is; short = p.short; deep = p.deep }; declares = p.declares }))))
 
       once_from : (l m : ℕ) (x : List BlockItem × ℕ) → AreItems d l m x → From size m (items_once ws S x) (AreItems d l)
       unfolding items_once
@@ -173,7 +188,8 @@ module _ (size : ℕ) (old : Vocabulary) where
       block_from l c =
           from_then (from_any (mark ws left_brace)) (λ m at le. from_then (items_from l m ([], c) (record { are = tt; declares = declares_none size old l m le })) (λ i x h.
           from_then (from_any (mark ws right_brace)) (λ n _ lf. from_gives _ (record {
-            is = items_read d x.0 h.are;
+            is = items_placed d x.0 h.are;
+            short = items_short d x.0 h.are;
             deep = omega (arith, items_deep d x.0 h.are);
             declares = declares_higher size old l i n (declared_in_items (block_items x.0)) lf h.declares;
           }))))
@@ -182,7 +198,8 @@ module _ (size : ℕ) (old : Vocabulary) where
       unfolding else_branch
       else_branch_from at e l m x p q =
           from_then (from_any (reserved ws keyword.Else)) (λ i _ le. from_then (each i x.1) (λ n y r. from_gives _ (record {
-            is = (p, q.is, r.is);
+            is = (p.is, q.is, r.is);
+            short = (p.short, q.short, r.short);
             deep = omega (arith, q.deep, r.deep);
             declares = declares_joined size old l m n (declared_within x.0) (declared_within y.0) q.declares (declares_lower size old m i n (declared_within y.0) le r.declares);
           })))
@@ -191,7 +208,8 @@ module _ (size : ℕ) (old : Vocabulary) where
       unfolding else_part
       else_part_from at e l m x p q =
           let alone : IsWithin (suc d) l m (If at e x.0 NoElse, x.1) = record {
-            is = (p, q.is, tt);
+            is = (p.is, q.is, tt);
+            short = (p.short, q.short, tt);
             deep = omega (arith, q.deep);
             declares = subst (λ (ds : List Declaration). Declares size old l ds m) (sym (append-nil (declared_within x.0))) q.declares;
           } in
@@ -207,14 +225,15 @@ module _ (size : ℕ) (old : Vocabulary) where
       unfolding while_loop
       while_from l c =
           from_then (from_any (reserved ws keyword.While)) (λ m at le. from_then (condition_from m) (λ i e p. from_then (each i c) (λ n x q.
-          from_gives _ (record { is = (refl, p.is, q.is); deep = omega (arith, q.deep); declares = (lower d l i n x (omega (arith, le, p.on)) q).declares }))))
+          from_gives _ (record { is = (refl, p.is.is, q.is); short = (p.is.short, q.short); deep = omega (arith, q.deep); declares = (lower d l i n x (omega (arith, le, p.on)) q).declares }))))
 
       do_from : (l c : ℕ) → From size l (do_loop ws S c) (IsWithin (suc d) l)
       unfolding do_loop
       do_from l c =
           from_then (from_any (reserved ws keyword.Do)) (λ m at le. from_then (each m c) (λ i x q. from_then (from_any (reserved ws keyword.While)) (λ j _ lf. from_then (condition_from j) (λ k e p.
           end_from (IsWithin (suc d) l) _ (λ n lg. record {
-            is = (q.is, p.is);
+            is = (q.is, p.is.is);
+            short = (q.short, p.is.short);
             deep = omega (arith, q.deep);
             declares = declares_higher size old l i n (declared_within x.0) (omega (arith, lf, p.on, lg)) (lower d l m i x le q).declares;
           })))))
@@ -225,6 +244,7 @@ module _ (size : ℕ) (old : Vocabulary) where
           from_then (from_any (reserved ws keyword.For)) (λ m at le. from_then (from_any (mark ws left_paren)) (λ i _ lf. from_then (for_first_from i c) (λ j f h. from_then (maybe_from j) (λ k e p.
           from_then (behind_from k) (λ o b r. from_then (each o f.1) (λ n x q. from_gives _ (record {
             is = (refl, h.is, p.is, r.is, q.is);
+            short = (h.short, p.short, r.short, q.short);
             deep = omega (arith, q.deep);
             declares = declares_joined size old l j n (declared_in_first f.0) (declared_within x.0)
                 (declares_lower size old l i j (declared_in_first f.0) (omega (arith, le, lf)) h.declares)

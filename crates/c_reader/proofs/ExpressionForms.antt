@@ -1,11 +1,11 @@
 -- Expressions, effects and calls that are read have effects and calls only where they may stand, and no more forms than tokens.
-use Rattle.std.proofs.Common.{◌≡◌, ℕ, zero, suc, ◌+◌, ◌<◌, ◌≤◌, pos, ◌≤ℤ◌, List, [], ◌∷◌, ◌++◌, Option, Some, None, refl, subst, arith}
-use Rattle.grammar.specs.Syntax.{Syntax, one, ◌then◌}
-use Rattle.grammar.proofs.Readings.{EachOf, each_more, each_gives, each_one, each_then, each_choice, each_at_most, each_many, each_knot}
+use Rattle.std.proofs.Common.{◌≡◌, ℕ, zero, suc, ◌+◌, ◌≤◌, List, [], ◌∷◌, ◌++◌, Option, Some, None, refl, subst, arith}
+use Rattle.grammar.specs.Syntax.{Syntax, ◌then◌}
+use Rattle.grammar.proofs.Readings.{each_more, each_gives, each_then, each_choice, each_at_most, each_many, each_knot}
 use Rattle.c_syntax.specs.declared.place.Place.{Place}
+use Rattle.c_syntax.specs.Ctypes.{PlainType, int_type}
 use Rattle.c_syntax.specs.Expressions.{Expression, Node, Number, Letter, Variable, Unary, Binary, Both, Either, Choice, Assign, Bump, Call, Cast, SizeOfType, SizeOfExpr, Text, Index, Dot, Arrow, Comma}
-use Rattle.c_syntax.specs.Tokens as token
-use Rattle.c_syntax.specs.Tokens.{PlainTokenKind, PlainToken}
+use Rattle.c_syntax.specs.Tokens.{PlainToken}
 use Rattle.c_syntax.specs.declared.expression.BinOp.{BinOp}
 use Rattle.c_model.specs.declared.operands.Form.{Form}
 use Rattle.c_model.specs.declared.operands.Form.TheVariants as form
@@ -22,28 +22,9 @@ use Rattle.c_model.specs.ExpressionGrammar.{joined, expressions, ReadOperand, si
 use Rattle.c_model.specs.ExpressionGrammar.{joined_once, behind_operand, choice_rest, expression_rest, expression_of, expression, behind_name_or_callee, expression_or_call, assigned_value, assigned, bumped, behind_unary, behind_postfix, behind_form}
 use Rattle.c_model.specs.ExpressionGrammar.{effect_rest, bump_first, effect_but_name, effect, next_argument, arguments, call_rest, behind_name, effect_or_call, full_expression, full_expression_or_call, full_effect, full_effect_or_call}
 use Rattle.c_model.specs.Formed.{nodes_of, nodes_of_all}
-use Rattle.c_reader.proofs.ReadExpressions.{IsPure, ArePure, IsPureOrCall, IsEffect, IsEffectOrCall, IsFull, IsFullOrCall, IsFullEffect, IsFullEffectOrCall}
-
--- ---- tokens
-
--- a token of a text with so many names: a word has one of their numbers, and a literal is never negative
-abbrev pub IsLexedKind : ℕ → PlainTokenKind → Type 0
-IsLexedKind size (token.Word n) = n < size
-IsLexedKind size (token.Number z t) = pos 0 ≤ℤ z
-IsLexedKind size _ = Unit {0}
-
-abbrev pub IsLexed : ℕ → PlainToken → Type 0
-IsLexed size t = IsLexedKind size t.kind
-
--- each value that G reads of such tokens is P at the number of its tokens
-abbrev pub Each : ℕ → {A : Type 0} → Syntax PlainToken A → (ℕ → A → Type 0) → Type 0
-Each size G P = EachOf (IsLexed size) G P
-
-pub each_token : {size : ℕ} {A : Type 0} (f : PlainToken → Option A) → Each size (one f) (λ k x. k ≡ 1)
-each_token f = each_one f (λ t x _ e. refl)
-
-pub each_any : {size : ℕ} {A : Type 0} (G : Syntax PlainToken A) → Each size G (λ k x. Unit {0})
-each_any G = record { holds = λ a x o r. tt }
+use Rattle.c_model.specs.Pure.{IsPure, ArePure, IsPureOrCall, IsEffect, IsEffectOrCall, HasBareCall}
+use Rattle.c_model.specs.ReadTree.{IsShort}
+use Rattle.c_reader.proofs.TokenForms.{Each, each_token, each_any}
 
 -- ---- expressions, by their forms
 
@@ -93,81 +74,191 @@ joined_part at Or k l a b p q = record { is = (p.is, q.is); small = omega (arith
 -- an expression or a call, and an effect, of so many forms at most
 pub record IsValuePart (k : ℕ) (e : Expression) : Type 0 where
   pub is : IsPureOrCall e
+  pub bare : HasBareCall e
   pub small : nodes_of e ≤ k
 
 pub record IsEffectPart (k : ℕ) (e : Expression) : Type 0 where
   pub is : IsEffect e
+  pub bare : HasBareCall e
   pub small : nodes_of e ≤ k
 
 pub record IsCallPart (k : ℕ) (e : Expression) : Type 0 where
   pub is : IsEffectOrCall e
+  pub bare : HasBareCall e
   pub small : nodes_of e ≤ k
 
+-- no call stands in a cast that is read
+cast_value : (to : PlainType) (at : Place) (t : PlainType) (a : Expression) → IsPure a → IsPureOrCall (Node at t (Cast to a))
+cast_value to at t (Node x s (Number n c)) h = h
+cast_value to at t (Node x s (Letter n)) h = h
+cast_value to at t (Node x s (Text n)) h = h
+cast_value to at t (Node x s (Variable y)) h = h
+cast_value to at t (Node x s (Unary op a)) h = h
+cast_value to at t (Node x s (Binary op a b)) h = h
+cast_value to at t (Node x s (Both a b)) h = h
+cast_value to at t (Node x s (Either a b)) h = h
+cast_value to at t (Node x s (Choice a b c)) h = h
+cast_value to at t (Node x s (Assign op a b)) h = absurd h
+cast_value to at t (Node x s (Bump op a)) h = absurd h
+cast_value to at t (Node x s (Call f es)) h = absurd h
+cast_value to at t (Node x s (Cast u a)) h = h
+cast_value to at t (Node x s (SizeOfType u)) h = h
+cast_value to at t (Node x s (SizeOfExpr a)) h = h
+cast_value to at t (Node x s (Index a b)) h = h
+cast_value to at t (Node x s (Dot a m)) h = h
+cast_value to at t (Node x s (Arrow a m)) h = h
+cast_value to at t (Node x s (Comma a b)) h = absurd h
+
+cast_bare : (to : PlainType) (at : Place) (t : PlainType) (a : Expression) → IsPure a → HasBareCall (Node at t (Cast to a))
+cast_bare to at t (Node x s (Number n c)) h = tt
+cast_bare to at t (Node x s (Letter n)) h = tt
+cast_bare to at t (Node x s (Text n)) h = tt
+cast_bare to at t (Node x s (Variable y)) h = tt
+cast_bare to at t (Node x s (Unary o a)) h = tt
+cast_bare to at t (Node x s (Binary o a b)) h = tt
+cast_bare to at t (Node x s (Both a b)) h = tt
+cast_bare to at t (Node x s (Either a b)) h = tt
+cast_bare to at t (Node x s (Choice a b c)) h = tt
+cast_bare to at t (Node x s (Assign o a b)) h = absurd h
+cast_bare to at t (Node x s (Bump o a)) h = absurd h
+cast_bare to at t (Node x s (Call f es)) h = absurd h
+cast_bare to at t (Node x s (Cast u a)) h = tt
+cast_bare to at t (Node x s (SizeOfType u)) h = tt
+cast_bare to at t (Node x s (SizeOfExpr a)) h = tt
+cast_bare to at t (Node x s (Index a b)) h = tt
+cast_bare to at t (Node x s (Dot a m)) h = tt
+cast_bare to at t (Node x s (Arrow a m)) h = tt
+cast_bare to at t (Node x s (Comma a b)) h = absurd h
+
+part_bare : (e : Expression) → IsPure e → HasBareCall e
+part_bare (Node x s (Number n c)) h = tt
+part_bare (Node x s (Letter n)) h = tt
+part_bare (Node x s (Text n)) h = tt
+part_bare (Node x s (Variable y)) h = tt
+part_bare (Node x s (Unary o a)) h = tt
+part_bare (Node x s (Binary o a b)) h = tt
+part_bare (Node x s (Both a b)) h = tt
+part_bare (Node x s (Either a b)) h = tt
+part_bare (Node x s (Choice a b c)) h = tt
+part_bare (Node x s (Assign o a b)) h = absurd h
+part_bare (Node x s (Bump o a)) h = absurd h
+part_bare (Node x s (Call f es)) h = absurd h
+part_bare (Node x s (Cast u a)) h = cast_bare u x s a h
+part_bare (Node x s (SizeOfType u)) h = tt
+part_bare (Node x s (SizeOfExpr a)) h = tt
+part_bare (Node x s (Index a b)) h = tt
+part_bare (Node x s (Dot a m)) h = tt
+part_bare (Node x s (Arrow a m)) h = tt
+part_bare (Node x s (Comma a b)) h = absurd h
+
+-- what is assigned
+assign_cast_bare : (at : Place) (t : PlainType) (op : Option BinOp) (a : Expression) (x : Place) (s to : PlainType) (b : Expression) → HasBareCall (Node x s (Cast to b)) → HasBareCall (Node at t (Assign op a (Node x s (Cast to b))))
+assign_cast_bare at t op a x s to (Node z r (Number n c)) h = tt
+assign_cast_bare at t op a x s to (Node z r (Letter n)) h = tt
+assign_cast_bare at t op a x s to (Node z r (Text n)) h = tt
+assign_cast_bare at t op a x s to (Node z r (Variable y)) h = tt
+assign_cast_bare at t op a x s to (Node z r (Unary o c)) h = tt
+assign_cast_bare at t op a x s to (Node z r (Binary o c d)) h = tt
+assign_cast_bare at t op a x s to (Node z r (Both c d)) h = tt
+assign_cast_bare at t op a x s to (Node z r (Either c d)) h = tt
+assign_cast_bare at t op a x s to (Node z r (Choice c d e)) h = tt
+assign_cast_bare at t op a x s to (Node z r (Assign o c d)) h = tt
+assign_cast_bare at t op a x s to (Node z r (Bump o c)) h = tt
+assign_cast_bare at t op a x s to (Node z r (Call f es)) h = absurd h
+assign_cast_bare at t op a x s to (Node z r (Cast u c)) h = tt
+assign_cast_bare at t op a x s to (Node z r (SizeOfType u)) h = tt
+assign_cast_bare at t op a x s to (Node z r (SizeOfExpr c)) h = tt
+assign_cast_bare at t op a x s to (Node z r (Index c d)) h = tt
+assign_cast_bare at t op a x s to (Node z r (Dot c m)) h = tt
+assign_cast_bare at t op a x s to (Node z r (Arrow c m)) h = tt
+assign_cast_bare at t op a x s to (Node z r (Comma c d)) h = tt
+
+assign_bare : (at : Place) (t : PlainType) (op : Option BinOp) (a b : Expression) → HasBareCall b → HasBareCall (Node at t (Assign op a b))
+assign_bare at t op a (Node x s (Number n c)) h = tt
+assign_bare at t op a (Node x s (Letter n)) h = tt
+assign_bare at t op a (Node x s (Text n)) h = tt
+assign_bare at t op a (Node x s (Variable y)) h = tt
+assign_bare at t op a (Node x s (Unary o c)) h = tt
+assign_bare at t op a (Node x s (Binary o c d)) h = tt
+assign_bare at t op a (Node x s (Both c d)) h = tt
+assign_bare at t op a (Node x s (Either c d)) h = tt
+assign_bare at t op a (Node x s (Choice c d e)) h = tt
+assign_bare at t op a (Node x s (Assign o c d)) h = tt
+assign_bare at t op a (Node x s (Bump o c)) h = tt
+assign_bare at t op a (Node x s (Call f es)) h = tt
+assign_bare at t op a (Node x s (Cast u c)) h = assign_cast_bare at t op a x s u c h
+assign_bare at t op a (Node x s (SizeOfType u)) h = tt
+assign_bare at t op a (Node x s (SizeOfExpr c)) h = tt
+assign_bare at t op a (Node x s (Index c d)) h = tt
+assign_bare at t op a (Node x s (Dot c m)) h = tt
+assign_bare at t op a (Node x s (Arrow c m)) h = tt
+assign_bare at t op a (Node x s (Comma c d)) h = tt
+
 part_value : (k : ℕ) (e : Expression) → IsPart k e → IsValuePart k e
-part_value k (Node x t (Number n c)) p = record { is = tt; small = p.small }
-part_value k (Node x t (Letter n)) p = record { is = tt; small = p.small }
-part_value k (Node x t (Variable y)) p = record { is = tt; small = p.small }
-part_value k (Node x t (Unary op a)) p = record { is = p.is; small = p.small }
-part_value k (Node x t (Binary op a b)) p = record { is = p.is; small = p.small }
-part_value k (Node x t (Both a b)) p = record { is = p.is; small = p.small }
-part_value k (Node x t (Either a b)) p = record { is = p.is; small = p.small }
-part_value k (Node x t (Choice a b c)) p = record { is = p.is; small = p.small }
+part_value k (Node x t (Number n c)) p = record { is = tt; bare = tt; small = p.small }
+part_value k (Node x t (Letter n)) p = record { is = tt; bare = tt; small = p.small }
+part_value k (Node x t (Variable y)) p = record { is = tt; bare = tt; small = p.small }
+part_value k (Node x t (Unary op a)) p = record { is = p.is; bare = tt; small = p.small }
+part_value k (Node x t (Binary op a b)) p = record { is = p.is; bare = tt; small = p.small }
+part_value k (Node x t (Both a b)) p = record { is = p.is; bare = tt; small = p.small }
+part_value k (Node x t (Either a b)) p = record { is = p.is; bare = tt; small = p.small }
+part_value k (Node x t (Choice a b c)) p = record { is = p.is; bare = tt; small = p.small }
 part_value k (Node x t (Assign op a b)) p = absurd p.is
 part_value k (Node x t (Bump op a)) p = absurd p.is
 part_value k (Node x t (Call f es)) p = absurd p.is
-part_value k (Node x t (Cast to a)) p = record { is = p.is; small = p.small }
-part_value k (Node x t (SizeOfType u)) p = record { is = tt; small = p.small }
-part_value k (Node x t (SizeOfExpr a)) p = record { is = p.is; small = p.small }
-part_value k (Node x t (Text n)) p = record { is = tt; small = p.small }
-part_value k (Node x t (Index a b)) p = record { is = p.is; small = p.small }
-part_value k (Node x t (Dot a m)) p = record { is = p.is; small = p.small }
-part_value k (Node x t (Arrow a m)) p = record { is = p.is; small = p.small }
+part_value k (Node x t (Cast to a)) p = record { is = cast_value to x t a p.is; bare = cast_bare to x t a p.is; small = p.small }
+part_value k (Node x t (SizeOfType u)) p = record { is = tt; bare = tt; small = p.small }
+part_value k (Node x t (SizeOfExpr a)) p = record { is = p.is; bare = tt; small = p.small }
+part_value k (Node x t (Text n)) p = record { is = tt; bare = tt; small = p.small }
+part_value k (Node x t (Index a b)) p = record { is = p.is; bare = tt; small = p.small }
+part_value k (Node x t (Dot a m)) p = record { is = p.is; bare = tt; small = p.small }
+part_value k (Node x t (Arrow a m)) p = record { is = p.is; bare = tt; small = p.small }
 part_value k (Node x t (Comma a b)) p = absurd p.is
 
 part_effect : (k : ℕ) (e : Expression) → IsPart k e → IsEffectPart k e
-part_effect k (Node x t (Number n c)) p = record { is = tt; small = p.small }
-part_effect k (Node x t (Letter n)) p = record { is = tt; small = p.small }
-part_effect k (Node x t (Variable y)) p = record { is = tt; small = p.small }
-part_effect k (Node x t (Unary op a)) p = record { is = p.is; small = p.small }
-part_effect k (Node x t (Binary op a b)) p = record { is = p.is; small = p.small }
-part_effect k (Node x t (Both a b)) p = record { is = p.is; small = p.small }
-part_effect k (Node x t (Either a b)) p = record { is = p.is; small = p.small }
-part_effect k (Node x t (Choice a b c)) p = record { is = p.is; small = p.small }
+part_effect k (Node x t (Number n c)) p = record { is = tt; bare = tt; small = p.small }
+part_effect k (Node x t (Letter n)) p = record { is = tt; bare = tt; small = p.small }
+part_effect k (Node x t (Variable y)) p = record { is = tt; bare = tt; small = p.small }
+part_effect k (Node x t (Unary op a)) p = record { is = p.is; bare = tt; small = p.small }
+part_effect k (Node x t (Binary op a b)) p = record { is = p.is; bare = tt; small = p.small }
+part_effect k (Node x t (Both a b)) p = record { is = p.is; bare = tt; small = p.small }
+part_effect k (Node x t (Either a b)) p = record { is = p.is; bare = tt; small = p.small }
+part_effect k (Node x t (Choice a b c)) p = record { is = p.is; bare = tt; small = p.small }
 part_effect k (Node x t (Assign op a b)) p = absurd p.is
 part_effect k (Node x t (Bump op a)) p = absurd p.is
 part_effect k (Node x t (Call f es)) p = absurd p.is
-part_effect k (Node x t (Cast to a)) p = record { is = p.is; small = p.small }
-part_effect k (Node x t (SizeOfType u)) p = record { is = tt; small = p.small }
-part_effect k (Node x t (SizeOfExpr a)) p = record { is = p.is; small = p.small }
-part_effect k (Node x t (Text n)) p = record { is = tt; small = p.small }
-part_effect k (Node x t (Index a b)) p = record { is = p.is; small = p.small }
-part_effect k (Node x t (Dot a m)) p = record { is = p.is; small = p.small }
-part_effect k (Node x t (Arrow a m)) p = record { is = p.is; small = p.small }
+part_effect k (Node x t (Cast to a)) p = record { is = p.is; bare = cast_bare to x t a p.is; small = p.small }
+part_effect k (Node x t (SizeOfType u)) p = record { is = tt; bare = tt; small = p.small }
+part_effect k (Node x t (SizeOfExpr a)) p = record { is = p.is; bare = tt; small = p.small }
+part_effect k (Node x t (Text n)) p = record { is = tt; bare = tt; small = p.small }
+part_effect k (Node x t (Index a b)) p = record { is = p.is; bare = tt; small = p.small }
+part_effect k (Node x t (Dot a m)) p = record { is = p.is; bare = tt; small = p.small }
+part_effect k (Node x t (Arrow a m)) p = record { is = p.is; bare = tt; small = p.small }
 part_effect k (Node x t (Comma a b)) p = absurd p.is
 
 effect_call : (k : ℕ) (e : Expression) → IsEffectPart k e → IsCallPart k e
-effect_call k (Node x t (Number n c)) p = record { is = tt; small = p.small }
-effect_call k (Node x t (Letter n)) p = record { is = tt; small = p.small }
-effect_call k (Node x t (Variable y)) p = record { is = tt; small = p.small }
-effect_call k (Node x t (Unary op a)) p = record { is = p.is; small = p.small }
-effect_call k (Node x t (Binary op a b)) p = record { is = p.is; small = p.small }
-effect_call k (Node x t (Both a b)) p = record { is = p.is; small = p.small }
-effect_call k (Node x t (Either a b)) p = record { is = p.is; small = p.small }
-effect_call k (Node x t (Choice a b c)) p = record { is = p.is; small = p.small }
-effect_call k (Node x t (Assign op a b)) p = record { is = p.is; small = p.small }
-effect_call k (Node x t (Bump op a)) p = record { is = p.is; small = p.small }
+effect_call k (Node x t (Number n c)) p = record { is = tt; bare = p.bare; small = p.small }
+effect_call k (Node x t (Letter n)) p = record { is = tt; bare = p.bare; small = p.small }
+effect_call k (Node x t (Variable y)) p = record { is = tt; bare = p.bare; small = p.small }
+effect_call k (Node x t (Unary op a)) p = record { is = p.is; bare = p.bare; small = p.small }
+effect_call k (Node x t (Binary op a b)) p = record { is = p.is; bare = p.bare; small = p.small }
+effect_call k (Node x t (Both a b)) p = record { is = p.is; bare = p.bare; small = p.small }
+effect_call k (Node x t (Either a b)) p = record { is = p.is; bare = p.bare; small = p.small }
+effect_call k (Node x t (Choice a b c)) p = record { is = p.is; bare = p.bare; small = p.small }
+effect_call k (Node x t (Assign op a b)) p = record { is = p.is; bare = p.bare; small = p.small }
+effect_call k (Node x t (Bump op a)) p = record { is = p.is; bare = p.bare; small = p.small }
 effect_call k (Node x t (Call f es)) p = absurd p.is
-effect_call k (Node x t (Cast to a)) p = record { is = p.is; small = p.small }
-effect_call k (Node x t (SizeOfType u)) p = record { is = tt; small = p.small }
-effect_call k (Node x t (SizeOfExpr a)) p = record { is = p.is; small = p.small }
-effect_call k (Node x t (Text n)) p = record { is = tt; small = p.small }
-effect_call k (Node x t (Index a b)) p = record { is = p.is; small = p.small }
-effect_call k (Node x t (Dot a m)) p = record { is = p.is; small = p.small }
-effect_call k (Node x t (Arrow a m)) p = record { is = p.is; small = p.small }
+effect_call k (Node x t (Cast to a)) p = record { is = p.is; bare = p.bare; small = p.small }
+effect_call k (Node x t (SizeOfType u)) p = record { is = tt; bare = p.bare; small = p.small }
+effect_call k (Node x t (SizeOfExpr a)) p = record { is = p.is; bare = p.bare; small = p.small }
+effect_call k (Node x t (Text n)) p = record { is = tt; bare = p.bare; small = p.small }
+effect_call k (Node x t (Index a b)) p = record { is = p.is; bare = p.bare; small = p.small }
+effect_call k (Node x t (Dot a m)) p = record { is = p.is; bare = p.bare; small = p.small }
+effect_call k (Node x t (Arrow a m)) p = record { is = p.is; bare = p.bare; small = p.small }
 effect_call k (Node x t (Comma a b)) p = absurd p.is
 
 effect_more : (k l : ℕ) (e : Expression) → k ≤ l → IsEffectPart k e → IsEffectPart l e
-effect_more k l e le p = record { is = p.is; small = omega (arith, p.small) }
+effect_more k l e le p = record { is = p.is; bare = p.bare; small = omega (arith, p.small) }
 
 -- arguments
 record AreParts (k : ℕ) (es : List Expression) : Type 0 where
@@ -184,6 +275,7 @@ parts_behind k l (f ∷ es) e h p =
 record IsCallAlone (k : ℕ) (e : Expression) : Type 0 where
   value : IsPureOrCall e
   effect : IsEffectOrCall e
+  bare : HasBareCall e
   small : nodes_of e ≤ k
 
 -- what is assigned by an operator, or by `=`
@@ -193,11 +285,33 @@ IsAssignable (Some op) e = IsPure e
 
 record IsAssigned (o : Option BinOp) (k : ℕ) (e : Expression) : Type 0 where
   is : IsAssignable o e
+  bare : HasBareCall e
   small : nodes_of e ≤ k
 
 assigned_part : (at : Place) (o : Option BinOp) (k i j : ℕ) (a b : Expression) → i ≡ 1 → IsPart k a → IsAssigned o j b → IsEffectPart (k + (i + (j + 0))) (read_as at (Assign o a b))
-assigned_part at None k i j a b h p q = record { is = (p.is, q.is); small = omega (arith, h, p.small, q.small) }
-assigned_part at (Some op) k i j a b h p q = record { is = (p.is, q.is); small = omega (arith, h, p.small, q.small) }
+assigned_part at None k i j a b h p q = record { is = (p.is, q.is); bare = assign_bare at int_type None a b q.bare; small = omega (arith, h, p.small, q.small) }
+assigned_part at (Some op) k i j a b h p q = record { is = (p.is, q.is); bare = assign_bare at int_type (Some op) a b q.bare; small = omega (arith, h, p.small, q.small) }
+
+-- expressions that stand in no other
+pub record IsShortAndBare (e : Expression) : Type 0 where
+  pub short : IsShort e
+  pub bare : HasBareCall e
+
+pub record IsFull (e : Expression) : Type 0 where
+  pub is : IsPure e
+  pub short : IsShortAndBare e
+
+pub record IsFullOrCall (e : Expression) : Type 0 where
+  pub is : IsPureOrCall e
+  pub short : IsShortAndBare e
+
+pub record IsFullEffect (e : Expression) : Type 0 where
+  pub is : IsEffect e
+  pub short : IsShortAndBare e
+
+pub record IsFullEffectOrCall (e : Expression) : Type 0 where
+  pub is : IsEffectOrCall e
+  pub short : IsShortAndBare e
 
 -- ---- productions
 
@@ -348,13 +462,13 @@ module _ (size : ℕ) (ws : Vocabulary) where
 
   call_each : (f : ℕ × Place) → Each size (call_rest ws f) (λ k x. IsCallAlone k x.0)
   unfolding call_rest
-  call_each f = each_then (each_fixed (mark_kind left_paren)) (λ i at h. each_then arguments_each (λ j es a. closed_each _ (record { effect = a.are; value = a.are; small = omega (arith, h, a.small) })))
+  call_each f = each_then (each_fixed (mark_kind left_paren)) (λ i at h. each_then arguments_each (λ j es a. closed_each _ (record { effect = a.are; value = a.are; bare = tt; small = omega (arith, h, a.small) })))
 
   -- a call is an expression or a call, and an effect or a call
   behind_callee_each : (k : ℕ) (x : ℕ × Place) → k ≡ 1 → Each size (behind_name_or_callee ws x) (λ j y. IsValuePart (k + j) y)
   unfolding behind_name_or_callee
   behind_callee_each k x h =
-      each_choice (kind ws) (mark_kind left_paren ∷ []) (each_then (call_each x) (λ j c p. each_gives _ (record { is = p.value; small = omega (arith, p.small) })))
+      each_choice (kind ws) (mark_kind left_paren ∷ []) (each_then (call_each x) (λ j c p. each_gives _ (record { is = p.value; bare = p.bare; small = omega (arith, p.small) })))
       (each_then (variable_each expression_each k x h) (λ i y q.
       each_more (λ j z w. part_value (k + (i + j)) z (part_more ((k + i) + j) (k + (i + j)) z (omega arith) w)) (expression_rest_each expression_each (k + i) y.expression q)))
 
@@ -374,8 +488,8 @@ module _ (size : ℕ) (ws : Vocabulary) where
 
   assigned_value_each : (o : Option BinOp) → Each size (assigned_value ws o) (λ k e. IsAssigned o k e)
   unfolding assigned_value
-  assigned_value_each None = each_more (λ k e p. record { is = p.is; small = p.small }) value_each
-  assigned_value_each (Some op) = each_more (λ k e p. record { is = p.is; small = p.small }) expression_each
+  assigned_value_each None = each_more (λ k e p. record { is = p.is; bare = p.bare; small = p.small }) value_each
+  assigned_value_each (Some op) = each_more (λ k e p. record { is = p.is; bare = part_bare e p.is; small = p.small }) expression_each
 
   assigned_each : (k : ℕ) (x : Expression) → IsPart k x → Each size (assigned ws x) (λ j y. IsEffectPart (k + j) y)
   unfolding assigned
@@ -383,7 +497,7 @@ module _ (size : ℕ) (ws : Vocabulary) where
 
   bumped_each : (k : ℕ) (x : Expression) → IsPart k x → Each size (bumped ws x) (λ j y. IsEffectPart (k + j) y)
   unfolding bumped
-  bumped_each k x p = each_then (each_token _) (λ i op h. each_gives _ (record { is = p.is; small = omega (arith, h, p.small) }))
+  bumped_each k x p = each_then (each_token _) (λ i op h. each_gives _ (record { is = p.is; bare = tt; small = omega (arith, h, p.small) }))
 
   behind_unary_each : (k : ℕ) (x : Expression) → IsPart k x → Each size (behind_unary ws x) (λ j y. IsEffectPart (k + j) y)
   unfolding behind_unary
@@ -402,11 +516,11 @@ module _ (size : ℕ) (ws : Vocabulary) where
 
   effect_rest_each : (k : ℕ) (x : ReadOperand) → IsPart k x.expression → Each size (effect_rest ws x) (λ j y. IsEffectPart (k + j) y.0)
   unfolding effect_rest
-  effect_rest_each k x p = each_then (behind_form_each x.form k x.expression p) (λ j e q. each_gives _ (record { is = q.is; small = omega (arith, q.small) }))
+  effect_rest_each k x p = each_then (behind_form_each x.form k x.expression p) (λ j e q. each_gives _ (record { is = q.is; bare = q.bare; small = omega (arith, q.small) }))
 
   bump_first_each : Each size (bump_first ws) Effects
   unfolding bump_first
-  bump_first_each = each_then (each_token _) (λ k op h. each_then (operand_each expression_each type_use.Nothing) (λ l x p. each_gives _ (record { is = p.is; small = omega (arith, h, p.small) })))
+  bump_first_each = each_then (each_token _) (λ k op h. each_then (operand_each expression_each type_use.Nothing) (λ l x p. each_gives _ (record { is = p.is; bare = tt; small = omega (arith, h, p.small) })))
 
   effect_but_name_each : Each size (effect_but_name ws) Effects
   unfolding effect_but_name
@@ -426,7 +540,7 @@ module _ (size : ℕ) (ws : Vocabulary) where
   behind_name_each : (k : ℕ) (x : ℕ × Place) → k ≡ 1 → Each size (behind_name ws x) (λ j y. IsCallPart (k + j) y.0)
   unfolding behind_name
   behind_name_each k x h =
-      each_choice (kind ws) (mark_kind left_paren ∷ []) (each_more (λ j y p. record { is = p.effect; small = omega (arith, p.small) }) (call_each x))
+      each_choice (kind ws) (mark_kind left_paren ∷ []) (each_more (λ j y p. record { is = p.effect; bare = p.bare; small = omega (arith, p.small) }) (call_each x))
       (each_more (λ j y p. effect_call (k + j) y.0 p) (variable_effect k x h))
 
   effect_or_call_each : Each size (effect_or_call ws) (λ k x. IsCallPart k x.0)
@@ -437,16 +551,16 @@ module _ (size : ℕ) (ws : Vocabulary) where
 
   pub full_each : Each size (full_expression ws) (λ k e. IsFull e)
   unfolding full_expression
-  full_each = each_more (λ k e p. record { is = p.0.is; small = omega (arith, p.0.small, p.1) }) (each_at_most expression_each)
+  full_each = each_more (λ k e p. record { is = p.0.is; short = record { short = omega (arith, p.0.small, p.1); bare = part_bare e p.0.is } }) (each_at_most expression_each)
 
   pub full_value_each : Each size (full_expression_or_call ws) (λ k e. IsFullOrCall e)
   unfolding full_expression_or_call
-  full_value_each = each_more (λ k e p. record { is = p.0.is; small = omega (arith, p.0.small, p.1) }) (each_at_most value_each)
+  full_value_each = each_more (λ k e p. record { is = p.0.is; short = record { short = omega (arith, p.0.small, p.1); bare = p.0.bare } }) (each_at_most value_each)
 
   pub full_effect_each : Each size (full_effect ws) (λ k x. IsFullEffect x.0)
   unfolding full_effect
-  full_effect_each = each_more (λ k x p. record { is = p.0.is; small = omega (arith, p.0.small, p.1) }) (each_at_most effect_each)
+  full_effect_each = each_more (λ k x p. record { is = p.0.is; short = record { short = omega (arith, p.0.small, p.1); bare = p.0.bare } }) (each_at_most effect_each)
 
   pub full_call_each : Each size (full_effect_or_call ws) (λ k x. IsFullEffectOrCall x.0)
   unfolding full_effect_or_call
-  full_call_each = each_more (λ k x p. record { is = p.0.is; small = omega (arith, p.0.small, p.1) }) (each_at_most effect_or_call_each)
+  full_call_each = each_more (λ k x p. record { is = p.0.is; short = record { short = omega (arith, p.0.small, p.1); bare = p.0.bare } }) (each_at_most effect_or_call_each)

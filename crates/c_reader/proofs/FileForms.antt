@@ -1,0 +1,303 @@
+-- What is read of a file: its functions are formed, what it declares has names of C, and the places of all that it declares are apart and in order.
+use Rattle.std.proofs.Common.{◌≡◌, ℕ, suc, ◌+◌, ◌-◌, ◌≤◌, List, [], ◌∷◌, ◌++◌, map, Some, None, refl, sym, ap, subst, ◌∙◌, arith}
+use Rattle.std.proofs.lemmas.List.{map-append}
+use Rattle.std.specs.List.{AllByRecursion}
+use Rattle.c_syntax.specs.declared.place.Place.{Place}
+use Rattle.c_syntax.specs.Ctypes.{PlainType}
+use Rattle.c_syntax.specs.Statements.{Declaration, Block, BlockItem}
+use Rattle.c_syntax.specs.Programs.{Function, StringLiteral, TranslationUnit}
+use Rattle.c_model.specs.declared.declarations.Storage.{Storage}
+use Rattle.c_model.specs.declared.declarations.Storage.TheVariants as storage
+use Rattle.c_model.specs.Vocabulary.{Vocabulary}
+use Rattle.c_model.specs.Punctuators.{semicolon, comma, left_paren, left_brace, right_brace}
+use Rattle.c_model.specs.ExpressionGrammar.{mark_kind, kind, mark, pointers, most_nested}
+use Rattle.c_model.specs.DeclarationGrammar.{Declarator, Definitions, names_function, ended, declared_by}
+use Rattle.c_model.specs.ProgramGrammar.{FileParts, no_parts, with_typedef, block_items, function_with, unit_with, function_rest, function, globals, behind_declarator, declared_at_file}
+use Rattle.c_model.specs.ProgramGrammar.{next_typedef, more_typedefs, typedefs, behind_spec, external, any_kind, more_external, unit}
+use Rattle.c_model.specs.Formed.{declared_in_body, declared_in_items, number_of, numbers_of}
+use Rattle.c_model.specs.FullExpressions.{EachInBody}
+use Rattle.c_model.specs.UnitTyping.{AFunction}
+use Rattle.c_model.specs.ReadTree.{Between, FunctionRead}
+use Rattle.c_reader.proofs.PlacedReadings.{From, from_gives, from_then, from_choice, from_cond, from_any, from_many, between_lower, between_higher, between_joined}
+use Rattle.c_reader.proofs.ExpressionForms.{IsShortAndBare}
+use Rattle.c_reader.proofs.Covers.{held, IsApart, apart_held, apart_higher, apart_more, apart_same}
+use Rattle.c_reader.proofs.ItemOrder.{behind_between, between_on, end_of_item}
+use Rattle.c_reader.proofs.DeclarationForms.{IsLater, later_typedef, IsNewName, IsNameWithin, name_wider, dtor_from, all_joined, declares_none, AreDeclarators, declarators_joined, declarators_higher, AreMore, initialised_from, more_from}
+use Rattle.c_reader.proofs.StatementForms.{items_placed, items_short, items_deep, AreItems, items_from, statement_in_from}
+use Rattle.c_reader.proofs.StructForms.{definitions_cover, AreDefinitions, definitions_higher, AreAdded, spec_from}
+use Rattle.c_reader.proofs.ParameterForms.{HasNoInitialiser, IsNamed, AreParameters, parameters_from}
+
+-- ---- how many things of a file stand over an offset
+
+abbrev pub declared_cover : ℕ → List Declaration → ℕ
+declared_cover o [] = 0
+declared_cover o (d ∷ ds) = held o d.place.offset (suc d.place.offset) + declared_cover o ds
+
+abbrev pub functions_cover : ℕ → List Function → ℕ
+functions_cover o [] = 0
+functions_cover o (f ∷ fs) = held o f.place.offset (end_of_item (AFunction f)) + functions_cover o fs
+
+abbrev pub others_cover : FileParts → ℕ → ℕ
+others_cover x o = declared_cover o x.typedefs + (declared_cover o x.globals + functions_cover o x.functions)
+
+abbrev pub parts_cover : FileParts → ℕ → ℕ
+parts_cover x o = others_cover x o + definitions_cover x.definitions o
+
+declared_joined : (o : ℕ) (ds es : List Declaration) → declared_cover o (ds ++ es) ≡ declared_cover o ds + declared_cover o es
+declared_joined o [] es = omega arith
+declared_joined o (d ∷ ds) es = let e = declared_joined o ds es in omega (arith, e)
+
+functions_behind : (o : ℕ) (fs : List Function) (f : Function) → functions_cover o (fs ++ f ∷ []) ≡ held o f.place.offset (end_of_item (AFunction f)) + functions_cover o fs
+functions_behind o [] f = omega arith
+functions_behind o (g ∷ fs) f = let e = functions_behind o fs f in omega (arith, e)
+
+-- declarations behind all others
+declared_apart : (l n : ℕ) (ds : List Declaration) (c : ℕ → ℕ) → Between l (map number_of ds) n → IsApart l c → IsApart n (λ o. declared_cover o ds + c o)
+declared_apart l n [] c h a = apart_same n c (λ o. 0 + c o) (λ o. omega arith) (apart_higher l n c h a)
+declared_apart l n (d ∷ ds) c h a =
+    let at = d.place.offset in
+    let first = apart_held l (suc at) at (suc at) c h.0 (omega arith) (omega arith) a in
+    apart_same n (λ o. declared_cover o ds + (held o at (suc at) + c o)) (λ o. declared_cover o (d ∷ ds) + c o) (λ o. omega arith)
+    (declared_apart (suc at) n ds (λ o. held o at (suc at) + c o) h.1 first)
+
+abbrev pub offset_of_function : Function → ℕ
+offset_of_function f = f.place.offset
+
+module _ (size : ℕ) (old : Vocabulary) where
+  -- ---- functions
+
+  -- what a function declares: names of C
+  pub record DeclaresNames (f : Function) : Type 0 where
+    pub name : IsNewName size old f.name
+    pub params : AllByRecursion (IsNamed size old) f.params
+    pub body : AllByRecursion (λ (d : Declaration). IsNewName size old d.name) (declared_in_body f.body)
+
+  pub record IsFunction (n : ℕ) (f : Function) : Type 0 where
+    pub read : FunctionRead f
+    pub short : EachInBody IsShortAndBare f.body
+    pub declares : DeclaresNames f
+    pub bare : AllByRecursion HasNoInitialiser f.params
+    pub numbers : Between f.place.offset (numbers_of f) n
+
+  -- a function that begins at the offset l or behind
+  record IsFunctionFrom (l n : ℕ) (f : Function) : Type 0 where
+    is : IsFunction n f
+    from : l ≤ f.place.offset
+
+  numbers_joined : (l m n : ℕ) (ds es : List Declaration) → Between l (map number_of ds) m → Between m (map number_of es) n → Between l (map number_of (ds ++ es)) n
+  numbers_joined l m n ds es p q = subst (λ is. Between l is n) (sym (map-append number_of ds es)) (between_joined l m n (map number_of ds) (map number_of es) p q)
+
+  prototype_is : (l k m n : ℕ) (t : PlainType) (f : ℕ × Place) (ds : List Declaration) (at : Place) → IsNameWithin size old l k f → AreParameters size old k m ds → m ≤ n → IsFunctionFrom l n (function_with t f ds None at)
+  prototype_is l k m n t f ds at p h le = record {
+    is = record {
+      read = record { no_contract = refl; body = tt };
+      short = tt;
+      declares = record { name = p.new; params = h.named; body = tt };
+      bare = h.bare;
+      numbers = (omega arith, numbers_joined (suc f.1.offset) m n ds [] (between_lower (suc f.1.offset) k (map number_of ds) m (omega (arith, p.to)) h.numbers) le);
+    };
+    from = p.from;
+  }
+
+  definition_is : (l k m i n : ℕ) (t : PlainType) (f : ℕ × Place) (ds : List Declaration) (start close : Place) (x : List BlockItem × ℕ) → IsNameWithin size old l k f → AreParameters size old k m ds → m ≤ i → AreItems size old most_nested i n x
+      → IsFunctionFrom l n (function_with t f ds (Some (Block start (block_items x.0))) close)
+  definition_is l k m i n t f ds start close x p h le b =
+      let body = declared_in_items (block_items x.0) in
+      record {
+        is = record {
+          read = record { no_contract = refl; body = (items_placed most_nested x.0 b.are, omega (arith, items_deep most_nested x.0 b.are)) };
+          short = items_short most_nested x.0 b.are;
+          declares = record { name = p.new; params = h.named; body = b.declares.names };
+          bare = h.bare;
+          numbers = (
+            omega arith,
+            numbers_joined (suc f.1.offset) m n ds body (between_lower (suc f.1.offset) k (map number_of ds) m (omega (arith, p.to)) h.numbers) (between_lower m i (map number_of body) n le b.declares.numbers),
+          );
+        };
+        from = p.from;
+      }
+
+  function_higher : (m n : ℕ) (f : Function) → m ≤ n → IsFunction m f → IsFunction n f
+  function_higher m n f le p = record { read = p.read; short = p.short; declares = p.declares; bare = p.bare; numbers = between_higher f.place.offset m n (numbers_of f) le p.numbers }
+
+  functions_higher : (m n : ℕ) (fs : List Function) → m ≤ n → AllByRecursion (IsFunction m) fs → AllByRecursion (IsFunction n) fs
+  functions_higher m n [] le h = tt
+  functions_higher m n (f ∷ fs) le h = (function_higher m n f le h.0, functions_higher m n fs le h.1)
+
+  -- ---- what is read of a text so far
+
+  pub record IsFile (n : ℕ) (x : FileParts) : Type 0 where
+    pub later : IsLater old x.words
+    pub definitions : AreDefinitions n x.definitions
+    pub typedefs : Between 0 (map number_of x.typedefs) n
+    pub globals : AreDeclarators size old 0 n x.globals
+    pub functions : AllByRecursion (IsFunction n) x.functions
+    pub ascend : Between 0 (map offset_of_function x.functions) n
+    pub apart : IsApart n (parts_cover x)
+
+  file_higher : (m n : ℕ) (x : FileParts) → m ≤ n → IsFile m x → IsFile n x
+  file_higher m n x le h = record {
+    later = h.later;
+    definitions = definitions_higher m n x.definitions le h.definitions;
+    typedefs = between_higher 0 m n (map number_of x.typedefs) le h.typedefs;
+    globals = declarators_higher size old 0 m n x.globals le h.globals;
+    functions = functions_higher m n x.functions le h.functions;
+    ascend = between_higher 0 m n (map offset_of_function x.functions) le h.ascend;
+    apart = apart_higher m n (parts_cover x) le h.apart;
+  }
+
+  with_function_is : (m l n : ℕ) (x : FileParts) (f : Function) (number : ℕ) → m ≤ l → IsFile m x → IsFunctionFrom l n f → IsFile n (record x { functions = x.functions ++ f ∷ []; number = number })
+  with_function_is m l n x f number le h p =
+      let end = behind_between f.place.offset n (numbers_of f) p.is.numbers in
+      let first = between_on f.place.offset (end_of_item (AFunction f)) (numbers_of f) end.0 in
+      let on = between_on f.place.offset n (numbers_of f) p.is.numbers in
+      let next = between_on (suc f.place.offset) n (map number_of (f.params ++ declared_in_body f.body)) p.is.numbers.1 in
+      let higher = file_higher m n x (omega (arith, le, p.from, on)) h in
+      record {
+        later = h.later;
+        definitions = higher.definitions;
+        typedefs = higher.typedefs;
+        globals = higher.globals;
+        functions = all_joined (IsFunction n) x.functions (f ∷ []) higher.functions (p.is, tt);
+        ascend = subst (λ is. Between 0 is n) (sym (map-append offset_of_function x.functions (f ∷ [])))
+            (between_joined 0 m n (map offset_of_function x.functions) (f.place.offset ∷ []) h.ascend (omega (arith, le, p.from), next));
+        apart = apart_same n (λ o. held o f.place.offset (end_of_item (AFunction f)) + parts_cover x o) (parts_cover (record x { functions = x.functions ++ f ∷ []; number = number }))
+            (λ o. (let e = functions_behind o x.functions f in omega (arith, e)))
+            (apart_held m n f.place.offset (end_of_item (AFunction f)) (parts_cover x) (omega (arith, le, p.from)) first end.1 h.apart);
+      }
+
+  with_globals_is : (m n : ℕ) (x : FileParts) (gs : List Declaration) → IsFile m x → AreMore size old x.globals m n gs → IsFile n (record x { globals = gs })
+  with_globals_is m n x gs h p =
+      let on = between_on m n (map number_of p.new) p.are.declares.numbers in
+      let higher = file_higher m n x on h in
+      record {
+        later = h.later;
+        definitions = higher.definitions;
+        typedefs = higher.typedefs;
+        globals = subst (λ (ds : List Declaration). AreDeclarators size old 0 n ds) (sym p.is) (declarators_joined size old 0 m n x.globals p.new h.globals p.are);
+        functions = higher.functions;
+        ascend = higher.ascend;
+        apart = apart_same n (λ o. declared_cover o p.new + parts_cover x o) (parts_cover (record x { globals = gs }))
+            (λ o. (let e = ap (declared_cover o) p.is ∙ declared_joined o x.globals p.new in omega (arith, e)))
+            (declared_apart m n p.new (parts_cover x) p.are.declares.numbers h.apart);
+      }
+
+  typedef_is : (t : PlainType) (m n : ℕ) (x : FileParts) (d : Declarator) → IsFile m x → IsNameWithin size old m n (d.name, d.place) → IsFile n (with_typedef t x d)
+  typedef_is t m n x d h p =
+      let new = declared_by t d None in
+      let numbers : Between m (map number_of (new ∷ [])) n = (p.from, p.to) in
+      let higher = file_higher m n x (omega (arith, p.from, p.to)) h in
+      record {
+        later = later_typedef old x.words d.name h.later;
+        definitions = higher.definitions;
+        typedefs = subst (λ is. Between 0 is n) (sym (map-append number_of x.typedefs (new ∷ []))) (between_joined 0 m n (map number_of x.typedefs) (map number_of (new ∷ [])) h.typedefs numbers);
+        globals = higher.globals;
+        functions = higher.functions;
+        ascend = higher.ascend;
+        apart = apart_same n (λ o. declared_cover o (new ∷ []) + parts_cover x o) (parts_cover (with_typedef t x d))
+            (λ o. (let e = declared_joined o x.typedefs (new ∷ []) in omega (arith, e)))
+            (declared_apart m n (new ∷ []) (parts_cover x) numbers h.apart);
+      }
+
+  with_definitions_is : (m n : ℕ) (x : FileParts) (d : Definitions) → IsFile m x → AreAdded m n x.definitions d → IsFile n (record x { definitions = d })
+  with_definitions_is m n x d h p =
+      let higher = file_higher m n x p.on h in
+      record {
+        later = h.later;
+        definitions = p.are;
+        typedefs = higher.typedefs;
+        globals = higher.globals;
+        functions = higher.functions;
+        ascend = higher.ascend;
+        apart = apart_more m m n (others_cover x) (definitions_cover x.definitions) (definitions_cover d) (omega arith) p.on h.apart p.adds;
+      }
+
+  -- ---- productions, where what the words are comes later
+
+  module _ (ws : Vocabulary) (later : IsLater old ws) where
+    function_rest_from : (t : PlainType) (f : ℕ × Place) (ds : List Declaration) (c l k m : ℕ) → IsNameWithin size old l k f → AreParameters size old k m ds → From size m (function_rest ws t f ds c) (λ n x. IsFunctionFrom l n x.0)
+    unfolding function_rest
+    function_rest_from t f ds c l k m p h =
+        from_choice (kind ws) (mark_kind semicolon ∷ [])
+        (from_then (from_any (mark ws semicolon)) (λ n at le. from_gives _ (prototype_is l k m n t f ds at p h le)))
+        (from_then (from_any (mark ws left_brace)) (λ i start le.
+        from_then (items_from size old ws later most_nested (statement_in_from size old ws later (most_nested - 1)) i i ([], c) (record { are = tt; declares = declares_none size old i i (omega arith) })) (λ j x b.
+        from_then (from_any (mark ws right_brace)) (λ n close lf.
+        from_gives _ (let g = definition_is l k m i j t f ds start close x p h le b in record { is = function_higher j n _ lf g.is; from = g.from })))))
+
+    function_from : (t : PlainType) (x : FileParts) (d : Declarator) (l m : ℕ) → IsFile l x → IsNameWithin size old l m (d.name, d.place) → From size m (function ws t x d) IsFile
+    unfolding function
+    function_from t x d l m h p =
+        from_then (from_any (mark ws left_paren)) (λ k _ lf. from_then (parameters_from size old ws later k) (λ i ds q.
+        from_then (function_rest_from (pointers d.stars.count t) (d.name, d.place) ds x.number l k i (name_wider size old l l m k (d.name, d.place) (omega arith) lf p) q) (λ n f g.
+        from_gives _ (with_function_is l l n x f.0 f.1 (omega arith) h g))))
+
+    globals_from : (t : PlainType) (x : FileParts) (d : Declarator) (l m : ℕ) → IsFile l x → IsNameWithin size old l m (d.name, d.place) → From size m (globals ws t x d) IsFile
+    unfolding globals
+    globals_from t x d l m h p =
+        from_then (initialised_from size old ws later t d l m p) (λ i g q. from_then (more_from size old ws later t x.globals l i (x.globals ++ g ∷ []) (record { new = g ∷ []; is = refl; are = q })) (λ n gs r.
+        from_gives _ (with_globals_is l n x gs h r)))
+
+    behind_from : (t : PlainType) (x : FileParts) (d : Declarator) (l m : ℕ) → IsFile l x → IsNameWithin size old l m (d.name, d.place) → From size m (behind_declarator ws t x d) IsFile
+    unfolding behind_declarator
+    behind_from t x d l m h p =
+        from_cond (names_function d)
+        (λ _. from_choice (kind ws) (mark_kind left_paren ∷ []) (function_from t x d l m h p) (globals_from t x d l m h p))
+        (λ _. globals_from t x d l m h p)
+
+    at_file_from : (t : PlainType) (x : FileParts) (l : ℕ) → IsFile l x → From size l (declared_at_file ws t x) IsFile
+    unfolding declared_at_file ended
+    at_file_from t x l h =
+        from_choice (kind ws) (mark_kind semicolon ∷ [])
+        (from_then (from_any (mark ws semicolon)) (λ n _ le. from_gives x (file_higher l n x le h)))
+        (from_then (dtor_from size old ws later l) (λ m d p. behind_from t x d l m h p))
+
+  -- ---- texts
+
+  next_typedef_from : (t : PlainType) (m : ℕ) (x : FileParts) → IsFile m x → From size m (next_typedef t x) IsFile
+  unfolding next_typedef
+  next_typedef_from t m x h = from_then (from_any (mark x.words comma)) (λ i _ le. from_then (dtor_from size old x.words h.later i) (λ n d p.
+      from_gives _ (typedef_is t i n x d (file_higher m i x le h) p)))
+
+  more_typedefs_from : (t : PlainType) (m : ℕ) (x : FileParts) → IsFile m x → From size m (more_typedefs t x) IsFile
+  unfolding more_typedefs ended
+  more_typedefs_from t m x h =
+      from_then (from_many (kind []) (λ _. mark_kind comma ∷ []) {P = IsFile} (λ i y g. next_typedef_from t i y g) m x h) (λ i y g.
+      from_then (from_any (mark y.words semicolon)) (λ n _ le. from_gives y (file_higher i n y le g)))
+
+  typedefs_from : (t : PlainType) (m : ℕ) (x : FileParts) → IsFile m x → From size m (typedefs t x) IsFile
+  unfolding typedefs
+  typedefs_from t m x h = from_then (dtor_from size old x.words h.later m) (λ i d p. more_typedefs_from t i (with_typedef t x d) (typedef_is t m i x d h p))
+
+  behind_spec_from : (s : Storage) (t : PlainType) (m : ℕ) (x : FileParts) → IsFile m x → From size m (behind_spec s t x) IsFile
+  behind_spec_from storage.Typedef t m x h = typedefs_from t m x h
+  behind_spec_from storage.Static t m x h = at_file_from x.words h.later t x m h
+  behind_spec_from storage.Nothing t m x h = at_file_from x.words h.later t x m h
+
+  external_from : (m : ℕ) (x : FileParts) → IsFile m x → From size m (external x) IsFile
+  unfolding external
+  external_from m x h = from_then (spec_from size old x.words h.later m x.definitions h.definitions) (λ n s p.
+      behind_spec_from s.storage s.ctype n (record x { definitions = s.definitions }) (with_definitions_is m n x s.definitions h p))
+
+  nothing_read : (ws : Vocabulary) → IsLater old ws → IsFile 0 (no_parts ws)
+  nothing_read ws later = record {
+    later = later;
+    definitions = record { structs = tt; enums = tt; ascend = omega arith; apart = record { once = λ o. omega arith; behind = λ o ge. omega arith } };
+    typedefs = omega arith;
+    globals = record { declares = declares_none size old 0 0 (omega arith); initialised = record { are = tt; short = tt } };
+    functions = tt;
+    ascend = omega arith;
+    apart = record { once = λ o. omega arith; behind = λ o ge. omega arith };
+  }
+
+-- what is known of a text that is read
+pub record IsReadUnit (size : ℕ) (ws : Vocabulary) (names : List (List ℕ)) (texts : List StringLiteral) (n : ℕ) (p : TranslationUnit) : Type 0 where
+  pub parts : FileParts
+  pub is : p ≡ unit_with names texts parts
+  pub file : IsFile size ws n parts
+
+pub unit_from : (size : ℕ) (ws : Vocabulary) (names : List (List ℕ)) (texts : List StringLiteral) → From size 0 (unit ws names texts) (IsReadUnit size ws names texts)
+unfolding unit more_external
+unit_from size ws names texts =
+    from_then (from_many any_kind (λ _. 0 ∷ []) {P = IsFile size ws} (λ m x h. external_from size ws m x h) 0 (no_parts ws) (nothing_read size ws ws (λ n e. e))) (λ n x h.
+    from_gives _ (record { parts = x; is = refl; file = h }))
