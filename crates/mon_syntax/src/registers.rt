@@ -1,20 +1,21 @@
 //! The registers of a function in monitored C while it is made.
 
-ghost use Rattle.std.specs.Prelude.{◌≡◌, ◌<◌, ◌∷◌, [], IfOk, OnOk, map, slice_get};
+ghost use Rattle.std.specs.Prelude.{◌≡◌, ◌<◌, ◌∷◌, [], IfOk, IsOk, OnOk, map, slice_get};
 ghost use Rattle.c_syntax.specs.Programs.{plain_func};
 ghost use Rattle.mon_syntax.specs.Indices.{index_of};
 ghost use Rattle.mon_syntax.specs.Registers.{next_register, no_registers, register_of, with_binding, with_kinds, with_table};
 
 use crate::definition::Definitions;
 use crate::tree::MonType;
-use c_syntax::{Layout, Name, Program, Text};
+use c_syntax::{Decl, Layout, Name, Program, Text};
 use indexmap::IndexMap;
 use std::alloc::{AllocError, Global};
 use std::marker::Model;
 
 /// The number of a register or of a function. No memory holds more of them.
 pub fn numbered(index: usize) -> Result<u32, AllocError>
-    ensures { IfOk result (λ r. r ≡ index) }
+    ensures number { IfOk result (λ r. r ≡ index) }
+    ensures fits { index < 4294967295 → IsOk result }
 {
     match u32::try_from(index) {
         Ok(number) => Ok(number),
@@ -64,12 +65,20 @@ impl<'a> Registers<'a> {
         self.bound = IndexMap::new(alloc);
     }
 
+    /// The number of the next register.
+    pub fn next(&self) -> Result<u32, AllocError>
+        ensures number { IfOk result (λ r. r ≡ next_register self.now.table) }
+        ensures fits { next_register self.now.table < 4294967295 → IsOk result }
+    {
+        numbered(self.kinds.len())
+    }
+
     /// A further register of the type.
     pub fn fresh(&mut self, kind: MonType) -> Result<u32, AllocError>
         ensures number { IfOk result (λ r. r ≡ next_register self.old.table) }
         ensures names { OnOk result (self.new ≡ with_table (with_kinds (kind ∷ []) self.old.table) self.old) }
     {
-        let number = numbered(self.kinds.len())?;
+        let number = self.next()?;
         self.kinds.push(kind)?;
         Ok(number)
     }
@@ -123,6 +132,13 @@ impl<'a> Registers<'a> {
         ensures { result.now ≡ self.now.program.structs.items }
     {
         &self.definitions.program.structs
+    }
+
+    /// Its globals.
+    pub fn globals(&self) -> &'a [Decl]
+        ensures { result.now ≡ self.now.program.globals.items }
+    {
+        &self.definitions.program.globals
     }
 
     /// Its string literals.

@@ -21,8 +21,8 @@ fn size_of_struct(structs: &[Layout], n: u32) -> u64
     }
 }
 
-// The size of a type in bytes. No memory holds an object of more than 64 bits count.
-fn size_of(structs: &[Layout], t: &CType) -> Result<u64, AllocError>
+/// The size of a type in bytes. No memory holds an object of more than 64 bits count.
+pub fn size_of(structs: &[Layout], t: &CType) -> Result<u64, AllocError>
     ensures { IfOk result (λ n. n ≡ size_of (map plain_layout structs.now) (plain_type t.now)) }
 {
     match t {
