@@ -9,7 +9,7 @@ use Rattle.c_syntax.specs.declared.expression.ExprKind as code
 use Rattle.c_syntax.specs.declared.place.Place.{Place}
 use Rattle.c_syntax.specs.declared.types.CType.{CType}
 use Rattle.c_syntax.specs.Ctypes.{PlainType, plain_type}
-use Rattle.c_syntax.specs.Expressions.{Expression, Node, Binary, Both, Either, Choice, Call, Cast, plain_expr, plain_exprs, plain_kind, type_of}
+use Rattle.c_syntax.specs.Expressions.{Expression, Node, Binary, Index, Both, Either, Choice, Call, Cast, plain_expr, plain_exprs, plain_kind, type_of}
 use Rattle.c_syntax.specs.Programs.{TranslationUnit}
 use Rattle.c_syntax.proofs.Rows.{call_is}
 use Rattle.mon_syntax.specs.declared.tree.MonType.{MonType}
@@ -38,46 +38,15 @@ call_expr e f args l is same =
     ap (λ z. Node e.place (plain_type e.ctype) (Call f (plain_exprs z))) same
     ∙ sym (ap (λ k. Node e.place (plain_type e.ctype) (plain_kind k)) is ∙ call_is e.place (plain_type e.ctype) f args)
 
--- ---- full expressions
-
-cast_setup : (p : TranslationUnit) (bound : Bindings) (rs : List MonType) (at : Place) (t to : PlainType) (a : Expression) → direct_setup p bound rs a ≡ full_setup p bound rs (Node at t (Cast to a))
-cast_setup p bound rs at t to (Node at2 u (Call f es)) = refl
-cast_setup p bound rs at t to _ = refl
-
-cast_value : (p : TranslationUnit) (bound : Bindings) (rs : List MonType) (at : Place) (t to : PlainType) (a : Expression)
-    → in_type (value_type (type_of a)) (value_type to) (direct_value p bound rs a) ≡ full_value p bound rs (Node at t (Cast to a))
-cast_value p bound rs at t to (Node at2 u (Call f es)) = refl
-cast_value p bound rs at t to _ = refl
-
-cast_temporaries : (at : Place) (t to : PlainType) (a : Expression) → direct_temporaries a ≡ full_temporaries (Node at t (Cast to a))
-cast_temporaries at t to (Node at2 u (Call f es)) = refl
-cast_temporaries at t to _ = refl
-
-cast_letters : (at : Place) (t to : PlainType) (a : Expression) → DirectHasLetters a → FullHasLetters (Node at t (Cast to a))
-cast_letters at t to (Node at2 u (Call f es)) l = l
-cast_letters at t to _ l = l
-
-module _ (n : Names) (e x : Expr) (to : CType) (a : Expr) (is : e.kind.value ≡ code.Cast to a) (same : x ≡ a) where
-  whole : Node e.place (plain_type e.ctype) (Cast (plain_type to) (plain_expr x)) ≡ plain_expr e
-  whole = ap (λ y. Node e.place (plain_type e.ctype) (Cast (plain_type to) (plain_expr y))) same ∙ sym (ap (λ k. Node e.place (plain_type e.ctype) (plain_kind k)) is)
-
-  pub full_cast_setup : direct_setup_by n (plain_expr x) ≡ full_setup_by n (plain_expr e)
-  full_cast_setup = cast_setup (unit_of n) n.table.bound n.table.kinds e.place (plain_type e.ctype) (plain_type to) (plain_expr x) ∙ ap (full_setup_by n) whole
-
-  pub full_cast_value : in_type (value_type (plain_type x.ctype)) (value_type (plain_type to)) (direct_value_by n (plain_expr x)) ≡ full_value_by n (plain_expr e)
-  full_cast_value = cast_value (unit_of n) n.table.bound n.table.kinds e.place (plain_type e.ctype) (plain_type to) (plain_expr x) ∙ ap (full_value_by n) whole
-
-  pub full_cast_temporaries : direct_temporaries (plain_expr x) ≡ full_temporaries (plain_expr e)
-  full_cast_temporaries = cast_temporaries e.place (plain_type e.ctype) (plain_type to) (plain_expr x) ∙ ap full_temporaries whole
-
-  pub full_cast_letters : DirectHasLetters (plain_expr x) → FullHasLetters (plain_expr e)
-  full_cast_letters l = subst FullHasLetters whole (cast_letters e.place (plain_type e.ctype) (plain_type to) (plain_expr x) l)
-
 -- ---- expressions
 
 module _ (n n1 : Names) (t t1 t2 : MonStatements) (at : Place) (u : PlainType) (a b : Expression) (names : n1 ≡ with_registers (temporaries a) n) where
   pub of_binary : {A E : Type 0} (r : Result A E) (op : BinOp) → t1 ≡ before t (setup_by n a) → t2 ≡ before t1 (setup_by n1 b) → OnOk r (t2 ≡ before t (setup_by n (Node at u (Binary op a b))))
   of_binary r op first second =
+      on_ok r (second ∙ (λ i. before (first i) (setup_by (names i) b)) ∙ before_assoc t (setup_by n a) (setup_by (with_registers (temporaries a) n) b))
+
+  pub of_element : {A E : Type 0} (r : Result A E) → t1 ≡ before t (setup_by n a) → t2 ≡ before t1 (setup_by n1 b) → OnOk r (t2 ≡ before t (setup_by n (Node at u (Index a b))))
+  of_element r first second =
       on_ok r (second ∙ (λ i. before (first i) (setup_by (names i) b)) ∙ before_assoc t (setup_by n a) (setup_by (with_registers (temporaries a) n) b))
 
   module _ (test : MonExpression) (first : t1 ≡ before t (setup_by n a)) (test_is : test ≡ condition_by n a) where

@@ -1,22 +1,26 @@
 -- What effects become: calls, assignments, increments and initialisers, the full expressions whose values they take, and the temporary
 -- registers of both. Statements are put before the values that they set up. What is assigned is stored in the block of its variable.
-use Rattle.std.specs.Prelude.{ℕ, pos, List, [], ◌∷◌, ◌++◌, length, Option, Some, None, if◌then◌else◌, codes, bytes_eq}
+use Rattle.std.specs.Prelude.{ℕ, zero, suc, ◌+◌, pos, Bool, true, false, not, nat_le, List, [], ◌∷◌, ◌++◌, length, map, Option, Some, None, if◌then◌else◌}
+use Rattle.std.specs.Prelude.{codes, bytes_eq}
 use Rattle.c_syntax.specs.declared.place.Place.{Place}
 use Rattle.c_syntax.specs.declared.expression.Use.{Use}
 use Rattle.c_syntax.specs.Ctypes.{PlainType, int_type}
 use Rattle.c_syntax.specs.Expressions as source
 use Rattle.c_syntax.specs.Expressions.{Expression, Node, Expressions, NoExpression, Following, type_of}
-use Rattle.c_syntax.specs.Statements.{Initialiser, One, Many, Declaration}
-use Rattle.c_syntax.specs.Programs.{TranslationUnit}
-use Rattle.c_model.specs.Meaning.{bump_operator, is_of_library}
-use Rattle.c_model.specs.Typing.{name_at}
+use Rattle.c_syntax.specs.Statements.{Initialiser, One, Many, Initialisers, NoInitialiser, Listed, Declaration}
+use Rattle.c_syntax.specs.Programs.{StructType, StringLiteral, TranslationUnit}
+use Rattle.c_model.specs.Library.{is_there}
+use Rattle.c_model.specs.Layouts.{Scalar, IntegerType, PointerType, size_of, offset_of, target_of, scalars_of}
+use Rattle.c_model.specs.Meaning.{bump_operator, is_member, is_of_library, string_in, text_at, parts_or_itself, tables_of}
+use Rattle.c_model.specs.ExpressionTyping.{name_at}
 use Rattle.c_model.specs.Formed.{number_of}
 use Rattle.mon_syntax.specs.declared.tree.MonType.{MonType}
-use Rattle.mon_syntax.specs.declared.tree.MonType.TheVariants.{I32}
+use Rattle.mon_syntax.specs.declared.tree.MonType.TheVariants.{U8, I32, I64, Ptr}
 use Rattle.mon_syntax.specs.Trees.{MonExpression, Register, Constant, Load, Store, PutChar, GetChar, Exit, Call, MonStatements, NoStatement}
 use Rattle.mon_syntax.specs.Registers.{Bindings, register_of}
 pub use Rattle.mon_syntax.specs.Indices.{index_of}
-use Rattle.c_effects.specs.Expressions.{value_type, in_type, compound, temporaries, value, before, one, setup}
+use Rattle.c_effects.specs.Expressions.{register_type, value_type, converted, compound, farther, global_index, temporaries}
+use Rattle.c_effects.specs.Expressions.{value, place, before, one, set, setup}
 
 -- ---- full expressions: one without effects, or a call, whose value a temporary register takes, perhaps in a cast
 
@@ -43,7 +47,7 @@ arguments p bound rs (Following e es) = value p bound rs e ∷ arguments p bound
 abbrev pub full_value : TranslationUnit → Bindings → List MonType → Expression → MonExpression
 full_value p bound rs (Node at t (source.Call f es)) = Register (length (rs ++ arguments_temporaries es))
 full_value p bound rs (Node at t (source.Cast to (Node at2 u (source.Call f es)))) =
-    in_type (value_type u) (value_type to) (Register (length (rs ++ arguments_temporaries es)))
+    converted u to (Register (length (rs ++ arguments_temporaries es)))
 full_value p bound rs e = value p bound rs e
 
 abbrev pub first_of : List MonExpression → MonExpression
@@ -63,6 +67,11 @@ call p r f args = if is_of_library f then library_call r (name_at p.names f.name
 
 -- ---- objects that are assigned to
 
+-- whether an expression is a variable of a function, to whose block a register points
+abbrev pub is_direct : TranslationUnit → Expression → Bool
+is_direct p (Node at t (source.Variable x)) = nat_le (length p.globals) (global_index x.decl p.globals)
+is_direct p _ = false
+
 -- the register that points to the block of a declaration
 abbrev pub block_register : Option ℕ → ℕ
 block_register (Some r) = r
@@ -71,10 +80,33 @@ block_register None = 0
 abbrev pub block_of : Bindings → ℕ → ℕ
 block_of bound x = block_register (register_of bound x)
 
--- the register that points to the object that an expression designates
-abbrev pub target : Bindings → Expression → ℕ
-target bound (Node at t (source.Variable x)) = block_of bound x.decl
-target bound _ = 0
+abbrev pub variable_register : Bindings → Expression → ℕ
+variable_register bound (Node at t (source.Variable x)) = block_of bound x.decl
+variable_register bound _ = 0
+
+-- The object in which a member stands, or else the object itself, and how many bytes from its start. A member is reached only where it is read or
+-- written: a call that comes before may end the run, and nothing asks of a pointer to be inside its object till then.
+abbrev pub base : TranslationUnit → Bindings → List MonType → Expression → MonExpression
+base p bound rs (Node at t (source.Dot a m)) = base p bound rs a
+base p bound rs (Node at t (source.Arrow a m)) = value p bound rs a
+base p bound rs e = place p bound rs e
+
+abbrev pub offset_in : List StructType → Expression → ℕ
+offset_in structs (Node at t (source.Dot a m)) = offset_in structs a + offset_of structs (type_of a) m
+offset_in structs (Node at t (source.Arrow a m)) = offset_of structs (target_of (type_of a)) m
+offset_in structs e = 0
+
+-- the register that points to the object that an expression designates, or at first to the one in which it is a member: that of a variable's block, or
+-- a temporary one
+abbrev pub target_temporaries : TranslationUnit → Expression → List MonType
+target_temporaries p a = if is_direct p a then [] else temporaries a ++ Ptr ∷ []
+
+abbrev pub target : TranslationUnit → Bindings → List MonType → Expression → ℕ
+target p bound rs a = if is_direct p a then variable_register bound a else length (rs ++ temporaries a)
+
+abbrev pub target_setup : TranslationUnit → Bindings → List MonType → Expression → MonStatements
+target_setup p bound rs a =
+    if is_direct p a then NoStatement else before (setup p bound rs a) (set (length (rs ++ temporaries a)) (base p bound rs a))
 
 -- the value of the object to which a register points
 abbrev pub current : ℕ → PlainType → MonExpression
@@ -84,26 +116,85 @@ current r t = Load (value_type t) (Register r)
 abbrev pub store : ℕ → PlainType → MonExpression → MonStatements
 store r t e = one (Store r (value_type t) e)
 
+-- a value, which may be made of the old one, becomes that of the object: of the member, to which a further register points, where the first one points
+-- to the object that it is in
+abbrev pub into_object : TranslationUnit → ℕ → ℕ → Expression → PlainType → (ℕ → MonExpression) → MonStatements
+into_object p r k a t e =
+    if is_member a then before (set k (farther (Register r) (offset_in p.structs a))) (store k t (e k)) else store r t (e r)
+
 -- ---- temporary registers of effects
 
-abbrev pub effect_temporaries : Expression → List MonType
-effect_temporaries (Node at t (source.Assign None a b)) = full_temporaries b
-effect_temporaries (Node at t (source.Assign (Some op) a b)) = temporaries b
-effect_temporaries (Node at t (source.Call f es)) = arguments_temporaries es
-effect_temporaries _ = []
+abbrev pub member_temporaries : Expression → List MonType
+member_temporaries a = if is_member a then Ptr ∷ [] else []
+
+abbrev pub effect_temporaries : TranslationUnit → Expression → List MonType
+effect_temporaries p (Node at t (source.Assign None a b)) = target_temporaries p a ++ full_temporaries b ++ member_temporaries a
+effect_temporaries p (Node at t (source.Assign (Some op) a b)) = target_temporaries p a ++ temporaries b ++ member_temporaries a
+effect_temporaries p (Node at t (source.Bump op a)) = target_temporaries p a ++ member_temporaries a
+effect_temporaries p (Node at t (source.Call f es)) = arguments_temporaries es
+effect_temporaries p _ = []
 
 abbrev pub any_temporaries : (Expression → List MonType) → Option Expression → List MonType
 any_temporaries of_one None = []
 any_temporaries of_one (Some e) = of_one e
 
+-- ---- initialisers (C99 6.7.8)
+
+-- one more register, that points to the part which is stored, after those of its value
+abbrev pub part_temporaries : List MonType → List MonType
+part_temporaries ts = ts ++ Ptr ∷ []
+
+abbrev pub one_temporaries : Option ℕ → Expression → List MonType
+one_temporaries (Some n) e = Ptr ∷ []
+one_temporaries None e = part_temporaries (full_temporaries e)
+
+abbrev mutual
+  pub fill_temporaries : Initialiser → List MonType
+  fill_temporaries (One e) = one_temporaries (string_in e) e
+  fill_temporaries (Many brace is) = parts_temporaries is
+
+  -- the last one points to the parts that are left out
+  pub parts_temporaries : Initialisers → List MonType
+  parts_temporaries NoInitialiser = Ptr ∷ []
+  parts_temporaries (Listed i is) = fill_temporaries i ++ parts_temporaries is
+
+-- a scalar of an object of its own is stored through the register of its block
+abbrev pub is_simple : Initialiser → Bool
+is_simple (One e) = not (is_there (string_in e))
+is_simple (Many brace is) = false
+
 abbrev pub initial_temporaries : Option (Place × Initialiser) → List MonType
 initial_temporaries None = []
-initial_temporaries (Some (at, One e)) = full_temporaries e
-initial_temporaries (Some (at, Many brace is)) = []
+initial_temporaries (Some (at, One e)) = if is_there (string_in e) then Ptr ∷ [] else full_temporaries e
+initial_temporaries (Some (at, Many brace is)) = parts_temporaries is
 
 abbrev pub declaration_temporaries : List Declaration → List MonType
 declaration_temporaries [] = []
 declaration_temporaries (d ∷ ds) = initial_temporaries d.init ++ declaration_temporaries ds
+
+-- a value of the monitored type at an offset from where the first register points, through the second
+abbrev pub stored_at : ℕ → ℕ → ℕ → MonType → MonExpression → MonStatements
+stored_at r k d t e = before (set k (farther (Register r) d)) (one (Store k t e))
+
+-- bytes, and then zeros, in so many bytes from an offset on
+abbrev pub bytes_at : ℕ → ℕ → ℕ → ℕ → List ℕ → MonStatements
+bytes_at r k d zero bytes = NoStatement
+bytes_at r k d (suc n) [] = before (stored_at r k d U8 (Constant U8 (pos 0))) (bytes_at r k (suc d) n [])
+bytes_at r k d (suc n) (b ∷ bs) = before (stored_at r k d U8 (Constant U8 (pos b))) (bytes_at r k (suc d) n bs)
+
+-- the whole number with the bytes of a scalar
+abbrev pub zero_type : Scalar → MonType
+zero_type (IntegerType k) = register_type k
+zero_type PointerType = I64
+
+-- zero in each byte of scalars, each at its offset
+abbrev pub zeros_at : ℕ → ℕ → ℕ → List (ℕ × Scalar) → MonStatements
+zeros_at r k d [] = NoStatement
+zeros_at r k d (c ∷ cs) = before (stored_at r k (d + c.0) (zero_type c.1) (Constant (zero_type c.1) (pos 0))) (zeros_at r k d cs)
+
+abbrev pub zero_parts : List StructType → ℕ → ℕ → ℕ → List (ℕ × PlainType) → MonStatements
+zero_parts structs r k d [] = NoStatement
+zero_parts structs r k d (c ∷ cs) = before (zeros_at r k (d + c.0) (scalars_of structs c.1)) (zero_parts structs r k d cs)
 
 -- ---- effects, where these registers are bound to variables
 
@@ -118,13 +209,20 @@ module _ (p : TranslationUnit) (bound : Bindings) where
   full_setup rs (Node at t (source.Cast to (Node at2 u (source.Call f es)))) = called rs (Some (length (rs ++ arguments_temporaries es))) f es
   full_setup rs e = setup p bound rs e
 
-  -- an expression for its effects: nothing is left of one that has none
+  -- an expression for its effects: the place, the value, the store; nothing is left of one that has none
   abbrev pub effect : List MonType → Expression → MonStatements
-  effect rs (Node at t (source.Assign None a b)) = before (full_setup rs b) (store (target bound a) t (full_value p bound rs b))
+  effect rs (Node at t (source.Assign None a b)) =
+      before (target_setup p bound rs a) (before (full_setup (rs ++ target_temporaries p a) b)
+      (into_object p (target p bound rs a) (length (rs ++ target_temporaries p a ++ full_temporaries b)) a t
+      (λ r. full_value p bound (rs ++ target_temporaries p a) b)))
   effect rs (Node at t (source.Assign (Some op) a b)) =
-      before (setup p bound rs b) (store (target bound a) t (compound op t (type_of b) (current (target bound a) t) (value p bound rs b)))
+      before (target_setup p bound rs a) (before (setup p bound (rs ++ target_temporaries p a) b)
+      (into_object p (target p bound rs a) (length (rs ++ target_temporaries p a ++ temporaries b)) a t
+      (λ r. compound p.structs op t (type_of b) (current r t) (value p bound (rs ++ target_temporaries p a) b))))
   effect rs (Node at t (source.Bump op a)) =
-      store (target bound a) t (compound (bump_operator op) t int_type (current (target bound a) t) (Constant I32 (pos 1)))
+      before (target_setup p bound rs a)
+      (into_object p (target p bound rs a) (length (rs ++ target_temporaries p a)) a t
+      (λ r. compound p.structs (bump_operator op) t int_type (current r t) (Constant I32 (pos 1))))
   effect rs (Node at t (source.Call f es)) = called rs None f es
   effect rs _ = NoStatement
 
@@ -132,12 +230,31 @@ module _ (p : TranslationUnit) (bound : Bindings) where
   effect_if_any rs None = NoStatement
   effect_if_any rs (Some e) = effect rs e
 
-  -- an initialiser of the declared object of this number and type, and the others
+  -- the part of an object at an offset from where a register points takes its initialiser
+  abbrev pub fill_one : ℕ → ℕ → List MonType → PlainType → Option ℕ → Expression → MonStatements
+  fill_one r d rs t (Some n) e = bytes_at r (length rs) d (size_of p.structs t) (text_at (map (λ (x : StringLiteral). x.bytes) p.texts) n)
+  fill_one r d rs t None e =
+      before (full_setup rs e) (stored_at r (length (rs ++ full_temporaries e)) d (value_type t) (full_value p bound rs e))
+
+  abbrev mutual
+    pub fill : ℕ → ℕ → List MonType → PlainType → Initialiser → MonStatements
+    fill r d rs t (One e) = fill_one r d rs t (string_in e) e
+    fill r d rs t (Many brace is) = fill_parts r d rs (parts_or_itself (tables_of p) t) is
+
+    pub fill_parts : ℕ → ℕ → List MonType → List (ℕ × PlainType) → Initialisers → MonStatements
+    fill_parts r d rs cs NoInitialiser = zero_parts p.structs r (length rs) d cs
+    fill_parts r d rs [] (Listed i is) = NoStatement
+    fill_parts r d rs (c ∷ cs) (Listed i is) = before (fill r (d + c.0) rs c.1 i) (fill_parts r d (rs ++ fill_temporaries i) cs is)
+
+  -- an initialiser of the object of this type to which a register points
   abbrev pub initialise : List MonType → ℕ → PlainType → Option (Place × Initialiser) → MonStatements
-  initialise rs x t None = NoStatement
-  initialise rs x t (Some (at, One e)) = before (full_setup rs e) (store (block_of bound x) t (full_value p bound rs e))
-  initialise rs x t (Some (at, Many brace is)) = NoStatement
+  initialise rs r t None = NoStatement
+  initialise rs r t (Some (at, i)) = if is_simple i then simple rs r t i else fill r 0 rs t i
+    where
+      simple : List MonType → ℕ → PlainType → Initialiser → MonStatements
+      simple rs r t (One e) = before (full_setup rs e) (store r t (full_value p bound rs e))
+      simple rs r t (Many brace is) = NoStatement
 
   abbrev pub initialise_all : List MonType → List Declaration → MonStatements
   initialise_all rs [] = NoStatement
-  initialise_all rs (d ∷ ds) = before (initialise rs (number_of d) d.ctype d.init) (initialise_all (rs ++ initial_temporaries d.init) ds)
+  initialise_all rs (d ∷ ds) = before (initialise rs (block_of bound (number_of d)) d.ctype d.init) (initialise_all (rs ++ initial_temporaries d.init) ds)

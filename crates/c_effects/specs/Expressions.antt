@@ -1,7 +1,7 @@
 -- Ours: a choice of code; what it has to do is C99 6.5 and ACSL 2.2, by the theorem of this crate.
 -- Expressions and annotations in monitored C: each variable is read from its block, to which a register points, and each annotation is an
 -- assertion. What an expression evaluates only at times, as the right side of `&&`, stands before it, in an `if` that sets a temporary register.
-use Rattle.std.specs.Prelude.{ℕ, zero, suc, ◌+◌, pos, List, [], ◌∷◌, ◌++◌, length, Option, Some, None, if◌then◌else◌}
+use Rattle.std.specs.Prelude.{ℕ, zero, suc, ◌+◌, pos, List, [], ◌∷◌, ◌++◌, length, Option, Some, None, if◌then◌else◌, nat_eq}
 use Rattle.c_syntax.specs.declared.types.CInt.{CInt}
 use Rattle.c_syntax.specs.declared.types.CInt.TheVariants as c
 use Rattle.c_syntax.specs.declared.expression.UnOp.{UnOp}
@@ -10,13 +10,17 @@ use Rattle.c_syntax.specs.declared.expression.BinOp.{BinOp}
 use Rattle.c_syntax.specs.declared.expression.BinOp.TheVariants as operator
 use Rattle.c_syntax.specs.declared.annotation.Relation.{Relation}
 use Rattle.c_syntax.specs.declared.annotation.Relation.TheVariants as relation
+use Rattle.c_syntax.specs.Ctypes as source_type
 use Rattle.c_syntax.specs.Ctypes.{PlainType, Int}
 use Rattle.c_syntax.specs.Expressions as source
 use Rattle.c_syntax.specs.Expressions.{Expression, Node, type_of}
-use Rattle.c_syntax.specs.Programs.{TranslationUnit}
+use Rattle.c_syntax.specs.Statements.{Declaration}
+use Rattle.c_syntax.specs.Programs.{StructType, TranslationUnit}
 use Rattle.c_syntax.specs.Annotations as logic
 use Rattle.c_syntax.specs.Annotations.{LogicTerm, Predicate, Chain, Links, NoLink, Linked, ClauseBody, Truth, Annotation}
-use Rattle.c_model.specs.Layouts.{size_of}
+use Rattle.c_model.specs.Formed.{number_of}
+use Rattle.c_model.specs.Layouts.{scalar_of, size_of, offset_of, target_of}
+use Rattle.c_model.specs.Meaning.{is_array, is_of_library, unit_of}
 use Rattle.c_model.specs.Conversions.{operation_type}
 use Rattle.mon_syntax.specs.declared.tree.MonOp.{MonOp}
 use Rattle.mon_syntax.specs.declared.tree.MonOp.TheVariants.{Add, Sub, Mul, Div, Rem, Shl, Shr, And, Or, Xor, Eq, Ne, Lt, Le, Gt, Ge}
@@ -25,8 +29,9 @@ use Rattle.mon_syntax.specs.declared.tree.AccessSize.TheVariants.{One, Two, Four
 use Rattle.mon_syntax.specs.declared.tree.MemoryCall.TheVariants.{Number}
 use Rattle.mon_syntax.specs.declared.tree.MonType.{MonType}
 use Rattle.mon_syntax.specs.declared.tree.MonType.TheVariants.{I8, U8, I16, U16, I32, U32, I64, U64, I128, Ptr}
-use Rattle.mon_syntax.specs.Trees.{MonExpression, Register, Constant, Binary, Minus, Flip, Cast, Load, MonStatement, Set, Act, Assert, If, MonStatements}
-use Rattle.mon_syntax.specs.Trees.{NoStatement, Then}
+use Rattle.mon_syntax.specs.Arithmetic.{is_pointer}
+use Rattle.mon_syntax.specs.Trees.{MonExpression, Register, Global, Constant, Binary, Minus, Flip, Cast, Load, MonStatement, Set, Act, Assert, If}
+use Rattle.mon_syntax.specs.Trees.{MonStatements, NoStatement, Then}
 use Rattle.mon_syntax.specs.Registers.{Bindings, register_of}
 use Rattle.mon_syntax.specs.Checking.{same_type}
 use Rattle.mon_syntax.specs.Valid.{result_type}
@@ -43,9 +48,10 @@ register_type c.U32 = U32
 register_type c.I64 = I64
 register_type c.U64 = U64
 
--- the type of a value; values are integers
+-- the type of a value: of an integer or a pointer; no other type has values
 abbrev pub value_type : PlainType → MonType
 value_type (Int k) = register_type k
+value_type (source_type.Ptr t) = Ptr
 value_type _ = I32
 
 -- the type of a term that is the value of an object
@@ -64,8 +70,8 @@ operand_type U32 = U32
 operand_type I64 = I64
 operand_type U64 = U64
 operand_type I128 = I128
--- no operator takes a pointer
-operand_type Ptr = U64
+-- a pointer is compared as it is
+operand_type Ptr = Ptr
 
 abbrev pub operator_of : BinOp → MonOp
 operator_of operator.Add = Add
@@ -106,7 +112,7 @@ unary prefix.Plus t e = e
 unary prefix.Minus t e = Minus t e
 unary prefix.Not t e = compared Eq t e
 unary prefix.Flip t e = Flip t e
--- no type has addresses
+-- these are places
 unary prefix.Deref t e = e
 unary prefix.Address t e = e
 
@@ -118,10 +124,57 @@ binary op t u a b = Binary (operator_of op) t a (in_type u t b)
 abbrev pub compound_in : BinOp → MonType → MonType → MonType → MonExpression → MonExpression → MonExpression
 compound_in op m t u a b = in_type (result_type (operator_of op) m) t (Binary (operator_of op) m (in_type t m a) (in_type u m b))
 
-abbrev pub compound : BinOp → PlainType → PlainType → MonExpression → MonExpression → MonExpression
-compound op (Int k) (Int l) a b = compound_in op (register_type (operation_type op k l)) (register_type k) (register_type l) a b
+-- ---- pointers
+
+-- a number of elements of so many bytes, in bytes
+abbrev pub scaled : ℕ → MonType → MonExpression → MonExpression
+scaled unit t i = Binary Mul I64 (in_type t I64 i) (Constant I64 (pos unit))
+
+-- a pointer so many bytes farther
+abbrev pub farther : MonExpression → ℕ → MonExpression
+farther p d = Binary Add Ptr p (Constant I64 (pos d))
+
+-- a pointer so many elements farther, or back (C99 6.5.6 p8)
+abbrev pub element : ℕ → MonExpression → MonType → MonExpression → MonExpression
+element unit p t i = Binary Add Ptr p (scaled unit t i)
+
+abbrev pub element_back : ℕ → MonExpression → MonType → MonExpression → MonExpression
+element_back unit p t i = Binary Add Ptr p (Minus I64 (scaled unit t i))
+
+abbrev pub pointer_and_integer : BinOp → ℕ → MonExpression → MonType → MonExpression → MonExpression
+pointer_and_integer operator.Sub unit p t i = element_back unit p t i
+pointer_and_integer _ unit p t i = element unit p t i
+
+-- the difference of two pointers in elements (C99 6.5.6 p9), and their relations (C99 6.5.8, 6.5.9)
+abbrev pub two_pointers : BinOp → ℕ → MonExpression → MonExpression → MonExpression
+two_pointers operator.Sub unit a b = Binary Div I64 (Binary Sub Ptr a b) (Constant I64 (pos unit))
+two_pointers op unit a b = Binary (operator_of op) Ptr a b
+
+-- an operator on values of two types of annotated C
+abbrev pub operated : List StructType → BinOp → PlainType → PlainType → MonExpression → MonExpression → MonExpression
+operated structs op t u a b =
+    if is_pointer (value_type t) then
+    (if is_pointer (value_type u) then two_pointers op (unit_of structs t u) a b else pointer_and_integer op (unit_of structs t u) a (value_type u) b)
+    else (if is_pointer (value_type u) then element (unit_of structs t u) b (value_type t) a else binary op (value_type t) (value_type u) a b)
+
+-- `a[b]`, of which one is a pointer (C99 6.5.2.1 p2)
+abbrev pub indexed : List StructType → PlainType → PlainType → MonExpression → MonExpression → MonExpression
+indexed structs t u a b =
+    if is_pointer (value_type t) then element (unit_of structs t u) a (value_type u) b else element (unit_of structs t u) b (value_type t) a
+
+-- a value of the first type converted to the second: an integer that becomes a pointer is the null constant, and what becomes `void` has no value
+abbrev pub converted : PlainType → PlainType → MonExpression → MonExpression
+converted (Int k) (Int l) e = in_type (register_type k) (register_type l) e
+converted (Int k) (source_type.Ptr u) e = Constant Ptr (pos 0)
+converted t (source_type.Ptr u) e = e
+converted t u e = Constant I32 (pos 0)
+
+-- `left op right`, as what stands on the left has it (C99 6.5.16.2 p3)
+abbrev pub compound : List StructType → BinOp → PlainType → PlainType → MonExpression → MonExpression → MonExpression
+compound structs op (Int k) (Int l) a b = compound_in op (register_type (operation_type op k l)) (register_type k) (register_type l) a b
+compound structs op (source_type.Ptr t) u a b = pointer_and_integer op (size_of structs t) a (value_type u) b
 -- no other type has operators
-compound op t u a b = Constant I32 (pos 0)
+compound structs op t u a b = Constant I32 (pos 0)
 
 -- ---- expressions without effects
 
@@ -142,41 +195,78 @@ temporaries (Node at t (source.SizeOfExpr a)) = []
 temporaries (Node at t (source.Assign op a b)) = []
 temporaries (Node at t (source.Bump op a)) = []
 temporaries (Node at t (source.Call f args)) = []
--- and typing refuses these
 temporaries (Node at t (source.Text n)) = []
-temporaries (Node at t (source.Index a b)) = []
-temporaries (Node at t (source.Dot a m)) = []
-temporaries (Node at t (source.Arrow a m)) = []
+temporaries (Node at t (source.Index a b)) = temporaries a ++ temporaries b
+temporaries (Node at t (source.Dot a m)) = temporaries a
+temporaries (Node at t (source.Arrow a m)) = temporaries a
 temporaries (Node at t (source.Comma a b)) = []
 
--- the pointer to the block of a declaration, which stands in its register
-abbrev pub pointer_of : Option ℕ → MonExpression
-pointer_of (Some r) = Register r
-pointer_of None = Constant Ptr (pos 0)
+-- the index of the global with this number
+abbrev pub global_index : ℕ → List Declaration → ℕ
+global_index x [] = 0
+global_index x (d ∷ ds) = if nat_eq (number_of d) x then 0 else suc (global_index x ds)
 
-abbrev pub pointer_to : Bindings → ℕ → MonExpression
-pointer_to bound x = pointer_of (register_of bound x)
+-- the pointer to the block of a declaration: in the register that is bound to it, or else that of a global
+abbrev pub pointer_of : Option ℕ → ℕ → MonExpression
+pointer_of (Some r) g = Register r
+pointer_of None g = Global g
 
--- the value of an expression, where these registers are bound to variables, after registers of these types
-abbrev pub value : TranslationUnit → Bindings → List MonType → Expression → MonExpression
-value p bound rs (Node at t (source.Number n k)) = Constant (value_type t) n
-value p bound rs (Node at t (source.Letter n)) = Constant (value_type t) n
-value p bound rs (Node at t (source.Variable x)) = Load (value_type t) (pointer_to bound x.decl)
-value p bound rs (Node at t (source.Unary op a)) = unary op (value_type (type_of a)) (value p bound rs a)
-value p bound rs (Node at t (source.Binary op a b)) =
-    binary op (value_type (type_of a)) (value_type (type_of b)) (value p bound rs a) (value p bound (rs ++ temporaries a) b)
-value p bound rs (Node at t (source.Both a b)) = Register (length (rs ++ temporaries a ++ temporaries b))
-value p bound rs (Node at t (source.Either a b)) = Register (length (rs ++ temporaries a ++ temporaries b))
-value p bound rs (Node at t (source.Choice a b c)) = Register (length (rs ++ temporaries a ++ temporaries b ++ temporaries c))
-value p bound rs (Node at t (source.Cast to a)) = in_type (value_type (type_of a)) (value_type to) (value p bound rs a)
-value p bound rs (Node at t (source.SizeOfType u)) = Constant U64 (pos (size_of p.structs u))
-value p bound rs (Node at t (source.SizeOfExpr a)) = Constant U64 (pos (size_of p.structs (type_of a)))
--- these stand in no other expression
-value p bound rs (Node at t (source.Assign op a b)) = Constant I32 (pos 0)
-value p bound rs (Node at t (source.Bump op a)) = Constant I32 (pos 0)
-value p bound rs (Node at t (source.Call f args)) = Constant I32 (pos 0)
--- and typing refuses the others
-value p bound rs _ = Constant I32 (pos 0)
+abbrev pub pointer_to : TranslationUnit → Bindings → ℕ → MonExpression
+pointer_to p bound x = pointer_of (register_of bound x) (global_index x p.globals)
+
+-- literals stand after the globals
+abbrev pub literal : TranslationUnit → ℕ → MonExpression
+literal p n = Global (length p.globals + n)
+
+-- what stands at a place: a value, or an object of a type that has none
+abbrev pub loaded : PlainType → MonExpression → MonExpression
+loaded t e = elim (scalar_of t) [ None ↦ e | Some k ↦ Load (value_type t) e ]
+
+-- the value of an expression, where these registers are bound to variables, after registers of these types; and the pointer to the object that
+-- an expression designates (C99 6.3.2.1)
+abbrev mutual
+  pub value : TranslationUnit → Bindings → List MonType → Expression → MonExpression
+  value p bound rs (Node at t (source.Number n k)) = Constant (value_type t) n
+  value p bound rs (Node at t (source.Letter n)) = Constant (value_type t) n
+  value p bound rs (Node at t (source.Text n)) = literal p n
+  -- the one pointer of the library is `NULL`
+  value p bound rs (Node at t (source.Variable x)) = if is_of_library x then Constant Ptr (pos 0) else loaded t (pointer_to p bound x.decl)
+  value p bound rs (Node at t (source.Unary prefix.Deref a)) = loaded t (value p bound rs a)
+  value p bound rs (Node at t (source.Unary prefix.Address a)) = place p bound rs a
+  value p bound rs (Node at t (source.Unary prefix.Plus a)) = unary prefix.Plus (value_type (type_of a)) (value p bound rs a)
+  value p bound rs (Node at t (source.Unary prefix.Minus a)) = unary prefix.Minus (value_type (type_of a)) (value p bound rs a)
+  value p bound rs (Node at t (source.Unary prefix.Not a)) = unary prefix.Not (value_type (type_of a)) (value p bound rs a)
+  value p bound rs (Node at t (source.Unary prefix.Flip a)) = unary prefix.Flip (value_type (type_of a)) (value p bound rs a)
+  value p bound rs (Node at t (source.Binary op a b)) =
+      operated p.structs op (type_of a) (type_of b) (value p bound rs a) (value p bound (rs ++ temporaries a) b)
+  value p bound rs (Node at t (source.Both a b)) = Register (length (rs ++ temporaries a ++ temporaries b))
+  value p bound rs (Node at t (source.Either a b)) = Register (length (rs ++ temporaries a ++ temporaries b))
+  value p bound rs (Node at t (source.Choice a b c)) = Register (length (rs ++ temporaries a ++ temporaries b ++ temporaries c))
+  -- a cast of an array is the address of its first element (C99 6.3.2.1 p3)
+  value p bound rs (Node at t (source.Cast to a)) =
+      if is_array (type_of a) then place p bound rs a else converted (type_of a) to (value p bound rs a)
+  value p bound rs (Node at t (source.SizeOfType u)) = Constant U64 (pos (size_of p.structs u))
+  value p bound rs (Node at t (source.SizeOfExpr a)) = Constant U64 (pos (size_of p.structs (type_of a)))
+  value p bound rs (Node at t (source.Index a b)) =
+      loaded t (indexed p.structs (type_of a) (type_of b) (value p bound rs a) (value p bound (rs ++ temporaries a) b))
+  value p bound rs (Node at t (source.Dot a m)) = loaded t (farther (place p bound rs a) (offset_of p.structs (type_of a) m))
+  value p bound rs (Node at t (source.Arrow a m)) = loaded t (farther (value p bound rs a) (offset_of p.structs (target_of (type_of a)) m))
+  -- these stand in no other expression
+  value p bound rs (Node at t (source.Assign op a b)) = Constant I32 (pos 0)
+  value p bound rs (Node at t (source.Bump op a)) = Constant I32 (pos 0)
+  value p bound rs (Node at t (source.Call f args)) = Constant I32 (pos 0)
+  value p bound rs (Node at t (source.Comma a b)) = Constant I32 (pos 0)
+
+  pub place : TranslationUnit → Bindings → List MonType → Expression → MonExpression
+  place p bound rs (Node at t (source.Variable x)) = pointer_to p bound x.decl
+  place p bound rs (Node at t (source.Text n)) = literal p n
+  place p bound rs (Node at t (source.Unary prefix.Deref a)) = value p bound rs a
+  place p bound rs (Node at t (source.Index a b)) =
+      indexed p.structs (type_of a) (type_of b) (value p bound rs a) (value p bound (rs ++ temporaries a) b)
+  place p bound rs (Node at t (source.Dot a m)) = farther (place p bound rs a) (offset_of p.structs (type_of a) m)
+  place p bound rs (Node at t (source.Arrow a m)) = farther (value p bound rs a) (offset_of p.structs (target_of (type_of a)) m)
+  -- no other expression designates an object
+  place p bound rs (Node at t _) = Constant Ptr (pos 0)
 
 abbrev pub before : MonStatements → MonStatements → MonStatements
 before NoStatement b = b
@@ -223,21 +313,20 @@ setup p bound rs (Node at t (source.SizeOfExpr a)) = NoStatement
 setup p bound rs (Node at t (source.Assign op a b)) = NoStatement
 setup p bound rs (Node at t (source.Bump op a)) = NoStatement
 setup p bound rs (Node at t (source.Call f args)) = NoStatement
--- and typing refuses these
 setup p bound rs (Node at t (source.Text n)) = NoStatement
-setup p bound rs (Node at t (source.Index a b)) = NoStatement
-setup p bound rs (Node at t (source.Dot a m)) = NoStatement
-setup p bound rs (Node at t (source.Arrow a m)) = NoStatement
+setup p bound rs (Node at t (source.Index a b)) = before (setup p bound rs a) (setup p bound (rs ++ temporaries a) b)
+setup p bound rs (Node at t (source.Dot a m)) = setup p bound rs a
+setup p bound rs (Node at t (source.Arrow a m)) = setup p bound rs a
 setup p bound rs (Node at t (source.Comma a b)) = NoStatement
 
 -- ---- annotations
 
 -- a term, whose value fits 128 bits
-abbrev pub term : Bindings → LogicTerm → MonExpression
-term bound (logic.Number at t r n) = Constant I128 n
-term bound (logic.Letter at t r n) = Constant I128 n
-term bound (logic.Variable at t r x) = Cast I128 (Load (term_type t) (pointer_to bound x.decl))
-term bound (logic.Binary at t r op a b) = Binary (operator_of op) I128 (term bound a) (term bound b)
+abbrev pub term : TranslationUnit → Bindings → LogicTerm → MonExpression
+term p bound (logic.Number at t r n) = Constant I128 n
+term p bound (logic.Letter at t r n) = Constant I128 n
+term p bound (logic.Variable at t r x) = Cast I128 (Load (term_type t) (pointer_to p bound x.decl))
+term p bound (logic.Binary at t r op a b) = Binary (operator_of op) I128 (term p bound a) (term p bound b)
 
 abbrev pub relation_operator : Relation → MonOp
 relation_operator relation.Eq = Eq
@@ -248,17 +337,17 @@ relation_operator relation.Gt = Gt
 relation_operator relation.Ge = Ge
 
 -- whether a chain is true from its first term on, where every term has a value, so that all relations may be asked
-abbrev pub chain : Bindings → LogicTerm → Links → MonExpression
-chain bound a NoLink = Constant I32 (pos 1)
-chain bound a (Linked at r b NoLink) = Binary (relation_operator r) I128 (term bound a) (term bound b)
-chain bound a (Linked at r b (Linked at2 r2 c rest)) =
-    Binary And I32 (Binary (relation_operator r) I128 (term bound a) (term bound b)) (chain bound b (Linked at2 r2 c rest))
+abbrev pub chain : TranslationUnit → Bindings → LogicTerm → Links → MonExpression
+chain p bound a NoLink = Constant I32 (pos 1)
+chain p bound a (Linked at r b NoLink) = Binary (relation_operator r) I128 (term p bound a) (term p bound b)
+chain p bound a (Linked at r b (Linked at2 r2 c rest)) =
+    Binary And I32 (Binary (relation_operator r) I128 (term p bound a) (term p bound b)) (chain p bound b (Linked at2 r2 c rest))
 
-abbrev pub truth_of_predicate : Bindings → Predicate → MonExpression
-truth_of_predicate bound (Chain at t links) = chain bound t links
+abbrev pub truth_of_predicate : TranslationUnit → Bindings → Predicate → MonExpression
+truth_of_predicate p bound (Chain at t links) = chain p bound t links
 
-abbrev pub truth_of_body : Bindings → ClauseBody → MonExpression
-truth_of_body bound (Truth p) = truth_of_predicate bound p
+abbrev pub truth_of_body : TranslationUnit → Bindings → ClauseBody → MonExpression
+truth_of_body p bound (Truth q) = truth_of_predicate p bound q
 
 -- ---- whether an annotation is defined: each variable that it reads holds a number
 
@@ -297,13 +386,13 @@ access_of I128 = Sixteen
 access_of Ptr = Eight
 
 -- the register with this number becomes whether the variable holds a number: `r = __e_acsl_number(p, I128(0), size);`
-abbrev pub question : Bindings → ℕ → Reading → MonStatement
-question bound r x = Act (Some r) (Number (access_of x.kind)) (pointer_to bound x.decl ∷ Constant I128 (pos 0) ∷ [])
+abbrev pub question : TranslationUnit → Bindings → ℕ → Reading → MonStatement
+question p bound r x = Act (Some r) (Number (access_of x.kind)) (pointer_to p bound x.decl ∷ Constant I128 (pos 0) ∷ [])
 
 -- the same of variables in order, by registers from this one on
-abbrev pub questions : Bindings → ℕ → List Reading → MonStatements
-questions bound r [] = NoStatement
-questions bound r (x ∷ xs) = Then (question bound r x) (questions bound (suc r) xs)
+abbrev pub questions : TranslationUnit → Bindings → ℕ → List Reading → MonStatements
+questions p bound r [] = NoStatement
+questions p bound r (x ∷ xs) = Then (question p bound r x) (questions p bound (suc r) xs)
 
 -- whether all of so many registers from this one on are 1
 abbrev pub all_of : ℕ → ℕ → MonExpression
@@ -320,19 +409,19 @@ abbrev pub assertion_temporaries : Annotation → List MonType
 assertion_temporaries a = kinds_of (readings_of a.body)
 
 -- an annotation is computed where it is defined, and stops the run where it isn't, or where it is false
-abbrev pub judged : Bindings → ℕ → ℕ → Annotation → MonStatements
-judged bound r count a =
-    Then (If (all_of r count) (set (r + count) (truth_of_body bound a.body)) (set (r + count) (Constant I32 (pos 0))))
+abbrev pub judged : TranslationUnit → Bindings → ℕ → ℕ → Annotation → MonStatements
+judged p bound r count a =
+    Then (If (all_of r count) (set (r + count) (truth_of_body p bound a.body)) (set (r + count) (Constant I32 (pos 0))))
     (one (Assert (all_of r count) (Register (r + count)) a.number a.place.line a.kind))
 
-abbrev pub assertion : Bindings → List MonType → Annotation → MonStatements
-assertion bound rs a =
-    before (questions bound (length rs) (readings_of a.body)) (judged bound (length rs) (length (readings_of a.body)) a)
+abbrev pub assertion : TranslationUnit → Bindings → List MonType → Annotation → MonStatements
+assertion p bound rs a =
+    before (questions p bound (length rs) (readings_of a.body)) (judged p bound (length rs) (length (readings_of a.body)) a)
 
 abbrev pub assertions_temporaries : List Annotation → List MonType
 assertions_temporaries [] = []
 assertions_temporaries (a ∷ rest) = assertion_temporaries a ++ assertions_temporaries rest
 
-abbrev pub assertions : Bindings → List MonType → List Annotation → MonStatements
-assertions bound rs [] = NoStatement
-assertions bound rs (a ∷ rest) = before (assertion bound rs a) (assertions bound (rs ++ assertion_temporaries a) rest)
+abbrev pub assertions : TranslationUnit → Bindings → List MonType → List Annotation → MonStatements
+assertions p bound rs [] = NoStatement
+assertions p bound rs (a ∷ rest) = before (assertion p bound rs a) (assertions p bound (rs ++ assertion_temporaries a) rest)

@@ -6,7 +6,7 @@ use Rattle.c_syntax.specs.Expressions as source
 use Rattle.c_syntax.specs.Expressions.{Expression, Node, Expressions, NoExpression, Following}
 use Rattle.c_syntax.specs.Annotations as logic
 use Rattle.c_syntax.specs.Annotations.{LogicTerm, Predicate, Chain, Links, NoLink, Linked, ClauseBody, Truth, Annotation}
-use Rattle.c_syntax.specs.Statements.{Initialiser, One, Many, Declaration}
+use Rattle.c_syntax.specs.Statements.{Initialiser, One, Many, Initialisers, NoInitialiser, Listed, Declaration}
 
 -- a value of `char`
 pub record IsLetter (z : ℤ) : Type 0 where
@@ -31,11 +31,10 @@ HasLetters (Node at t (source.SizeOfExpr a)) = Unit {0}
 HasLetters (Node at t (source.Assign op a b)) = Unit {0}
 HasLetters (Node at t (source.Bump op a)) = Unit {0}
 HasLetters (Node at t (source.Call f args)) = Unit {0}
--- and typing refuses these
 HasLetters (Node at t (source.Text n)) = Unit {0}
-HasLetters (Node at t (source.Index a b)) = Unit {0}
-HasLetters (Node at t (source.Dot a m)) = Unit {0}
-HasLetters (Node at t (source.Arrow a m)) = Unit {0}
+HasLetters (Node at t (source.Index a b)) = HasLetters a × HasLetters b
+HasLetters (Node at t (source.Dot a m)) = HasLetters a
+HasLetters (Node at t (source.Arrow a m)) = HasLetters a
 HasLetters (Node at t (source.Comma a b)) = Unit {0}
 
 abbrev pub ArgumentsHaveLetters : Expressions → Type 0
@@ -48,19 +47,29 @@ FullHasLetters (Node at t (source.Cast to (Node at2 u (source.Call f es)))) = Ar
 FullHasLetters e = HasLetters e
 
 abbrev pub EffectHasLetters : Expression → Type 0
-EffectHasLetters (Node at t (source.Assign None a b)) = FullHasLetters b
-EffectHasLetters (Node at t (source.Assign (Some op) a b)) = HasLetters b
+EffectHasLetters (Node at t (source.Assign None a b)) = HasLetters a × FullHasLetters b
+EffectHasLetters (Node at t (source.Assign (Some op) a b)) = HasLetters a × HasLetters b
+EffectHasLetters (Node at t (source.Bump op a)) = HasLetters a
 EffectHasLetters (Node at t (source.Call f es)) = ArgumentsHaveLetters es
-EffectHasLetters _ = Unit {0}
+-- nothing is left of one without effects
+EffectHasLetters e = Unit {0}
 
 abbrev pub Any : {A : Type 0} → (A → Type 0) → Option A → Type 0
 Any P None = Unit {0}
 Any P (Some x) = P x
 
+abbrev mutual
+  pub InitialiserHasLetters : Initialiser → Type 0
+  InitialiserHasLetters (One e) = FullHasLetters e
+  InitialiserHasLetters (Many brace is) = InitialisersHaveLetters is
+
+  pub InitialisersHaveLetters : Initialisers → Type 0
+  InitialisersHaveLetters NoInitialiser = Unit {0}
+  InitialisersHaveLetters (Listed i is) = InitialiserHasLetters i × InitialisersHaveLetters is
+
 abbrev pub InitialHasLetters : Option (Place × Initialiser) → Type 0
 InitialHasLetters None = Unit {0}
-InitialHasLetters (Some (at, One e)) = FullHasLetters e
-InitialHasLetters (Some (at, Many brace is)) = Unit {0}
+InitialHasLetters (Some x) = InitialiserHasLetters x.1
 
 abbrev pub InitialsHaveLetters : List Declaration → Type 0
 InitialsHaveLetters [] = Unit {0}

@@ -3,3 +3,5 @@ pub mod Effects
 pub mod Letters
 pub mod Parts
 pub mod Named
+pub mod Objects
+pub mod Initialisers

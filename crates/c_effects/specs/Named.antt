@@ -11,7 +11,7 @@ use Rattle.c_syntax.specs.Programs.{TranslationUnit, plain_program}
 use Rattle.mon_syntax.specs.declared.tree.MonType.{MonType}
 use Rattle.mon_syntax.specs.Registers.{Names, next_register, with_kinds, with_table}
 use Rattle.mon_syntax.specs.Trees.{MonExpression, MonStatements}
-use Rattle.c_effects.specs.Expressions.{Reading, value, setup, condition_of, questions, assertion, assertions}
+use Rattle.c_effects.specs.Expressions.{Reading, value, place, setup, condition_of, questions, assertion, assertions}
 use Rattle.c_effects.specs.Effects.{arguments, arguments_setup, called, full_value, full_setup, effect, effect_if_any, initialise, initialise_all}
 use Rattle.c_effects.specs.Parts.{truth_set, both_set, either_set, direct_setup, direct_value}
 
@@ -26,6 +26,9 @@ unit_of n = plain_program n.program
 
 abbrev pub value_by : Names → Expression → MonExpression
 value_by n e = value (unit_of n) n.table.bound n.table.kinds e
+
+abbrev pub place_by : Names → Expression → MonExpression
+place_by n e = place (unit_of n) n.table.bound n.table.kinds e
 
 abbrev pub condition_by : Names → Expression → MonExpression
 condition_by n e = condition_of (unit_of n) n.table.bound n.table.kinds e
@@ -81,10 +84,10 @@ initialise_all_by n ds = initialise_all (unit_of n) n.table.bound n.table.kinds 
 
 -- questions, whose answers further registers take
 abbrev pub asked_by : Names → List Reading → MonStatements
-asked_by n xs = questions n.table.bound (next_register n.table) xs
+asked_by n xs = questions (unit_of n) n.table.bound (next_register n.table) xs
 
 abbrev pub assertion_by : Names → Annotation → MonStatements
-assertion_by n a = assertion n.table.bound n.table.kinds a
+assertion_by n a = assertion (unit_of n) n.table.bound n.table.kinds a
 
 abbrev pub assertions_by : Names → List Annotation → MonStatements
-assertions_by n annots = assertions n.table.bound n.table.kinds annots
+assertions_by n annots = assertions (unit_of n) n.table.bound n.table.kinds annots

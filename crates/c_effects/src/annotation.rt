@@ -9,17 +9,16 @@ ghost use Rattle.mon_syntax.specs.Trees.{Assert, Binary, Cast, Load, Register, p
 ghost use Rattle.c_effects.specs.Letters.{BodyHasLetters, IsNumbered, LinksHaveLetters, TermHasLetters};
 ghost use Rattle.c_effects.specs.Expressions.{access_of, all_of, assertion_temporaries, before, chain, judged, kinds_of, pointer_to, readings_of};
 ghost use Rattle.c_effects.specs.Expressions.{readings_of_links, readings_of_term, relation_operator, term, term_type, truth_of_body};
-ghost use Rattle.c_effects.specs.Named.{asked_by, assertion_by, with_registers};
+ghost use Rattle.c_effects.specs.Named.{asked_by, assertion_by, unit_of, with_registers};
 ghost use Rattle.c_effects.specs.Parts.{answers};
 
 use crate::conversion::value_type;
-use crate::expression::{pointer_to, variable};
+use crate::expression::pointer_to;
 use crate::operator::{constant, operation, operator_of, register};
 use crate::part::{choose, then};
 use c_syntax::{Annot, Body, CType, Kind, Link, Pred, PredKind, Relation, Term, TermKind};
 use mon_syntax::{
     AccessSize, MemoryCall, MonExpr, MonExprKind, MonOp, MonStmt, MonStmtKind, MonType, Registers,
-    numbered,
 };
 use std::alloc::{AllocError, Global};
 
@@ -35,15 +34,16 @@ fn term_type(t: &Option<CType>) -> MonType
 
 // The value of a variable in 128 bits.
 fn wide(alloc: Global, names: &Registers<'_>, kind: MonType, x: u32) -> Result<MonExpr, AllocError>
-    ensures { IfOk result (λ m. plain_expr m ≡ Cast I128 (Load kind (pointer_to names.now.table.bound x))) }
+    ensures { IfOk result (λ m. plain_expr m ≡ Cast I128 (Load kind (pointer_to (unit_of names.now) names.now.table.bound x))) }
 {
-    let value = variable(alloc, names, kind, x)?;
+    let pointer = pointer_to(alloc, names, x)?;
+    let value = MonExpr::new(alloc, MonExprKind::Load(kind, pointer))?;
     MonExpr::new(alloc, MonExprKind::Cast(MonType::I128, value))
 }
 
 /// Translates a term, whose values fit 128 bits.
 pub fn term(alloc: Global, names: &Registers<'_>, t: &Term) -> Result<MonExpr, AllocError>
-    ensures code { IfOk result (λ m. plain_expr m ≡ term names.now.table.bound (plain_term t.now)) }
+    ensures code { IfOk result (λ m. plain_expr m ≡ term (unit_of names.now) names.now.table.bound (plain_term t.now)) }
     ensures letters { IfOk result (λ _. TermHasLetters (plain_term t.now)) }
 {
     match &*t.kind {
@@ -78,8 +78,9 @@ fn relation(
     left: &Term,
     link: &Link,
 ) -> Result<MonExpr, AllocError>
-    ensures code { IfOk result (λ m. plain_expr m ≡ Binary (relation_operator link.now.relation) I128 (term names.now.table.bound (plain_term left.now))
-        (term names.now.table.bound (plain_term link.now.term))) }
+    ensures code { IfOk result (λ m. plain_expr m ≡ Binary (relation_operator link.now.relation) I128
+        (term (unit_of names.now) names.now.table.bound (plain_term left.now))
+        (term (unit_of names.now) names.now.table.bound (plain_term link.now.term))) }
     ensures left { IfOk result (λ _. TermHasLetters (plain_term left.now)) }
     ensures right { IfOk result (λ _. TermHasLetters (plain_term link.now.term)) }
 {
@@ -101,7 +102,7 @@ fn chain(
     left: &Term,
     links: &[Link],
 ) -> Result<MonExpr, AllocError>
-    ensures code { IfOk result (λ m. plain_expr m ≡ chain names.now.table.bound (plain_term left.now) (plain_links links.now)) }
+    ensures code { IfOk result (λ m. plain_expr m ≡ chain (unit_of names.now) names.now.table.bound (plain_term left.now) (plain_links links.now)) }
     ensures left { IfOk result (λ _. TermHasLetters (plain_term left.now)) }
     ensures links { IfOk result (λ _. LinksHaveLetters (plain_links links.now)) }
 {
@@ -139,7 +140,7 @@ fn parts_of(pred: &Pred) -> (&Term, &[Link])
 
 // Whether the predicate of a clause is true.
 fn truth_of_body(alloc: Global, names: &Registers<'_>, body: &Body) -> Result<MonExpr, AllocError>
-    ensures code { IfOk result (λ m. plain_expr m ≡ truth_of_body names.now.table.bound (plain_body body.now)) }
+    ensures code { IfOk result (λ m. plain_expr m ≡ truth_of_body (unit_of names.now) names.now.table.bound (plain_body body.now)) }
     ensures letters { IfOk result (λ _. BodyHasLetters (plain_body body.now)) }
 {
     let (first, links) = parts_of(predicate_of(body));
@@ -248,7 +249,7 @@ fn asked(
         (asked_by names.old (readings_of (plain_body body.now)))) }
     ensures names { OnOk result (names.new ≡ with_registers (kinds_of (readings_of (plain_body body.now))) names.old) }
 {
-    let first = numbered(names.kinds().len())?;
+    let first = names.next()?;
     ask_body(alloc, body, names, to)?;
     let truth = names.fresh(MonType::I32)?;
     Ok((first, truth - first))
@@ -290,7 +291,7 @@ fn judge(
 ) -> Result<(), AllocError>
     requires { first + count ≤ 4294967295 }
     ensures code { OnOk result (plain_stmts to.new.items ≡ before (plain_stmts to.old.items)
-        (judged names.now.table.bound first count (plain_annot annot.now))) }
+        (judged (unit_of names.now) names.now.table.bound first count (plain_annot annot.now))) }
     ensures numbered { OnOk result (IsNumbered (plain_annot annot.now)) }
 {
     let value = truth_of_body(alloc, names, &annot.body)?;

@@ -10,10 +10,10 @@ ghost use Rattle.c_effects.specs.Effects.{arguments_temporaries, call, first_of,
 ghost use Rattle.c_effects.specs.Named.{arguments_by, arguments_setup_by, called_by, with_registers};
 
 use crate::expression::expression;
+use crate::name::name_at;
 use crate::operator::constant;
 use crate::part::then;
 use c_syntax::{Expr, Use};
-use c_type_rules::scope::name_at;
 use mon_syntax::{MonExpr, MonStmt, MonStmtKind, MonType, Registers, numbered};
 use std::alloc::{AllocError, Global};
 

@@ -1,44 +1,58 @@
-//! Expressions without effects (C99 6.5).
+//! Expressions without effects, and the places that they designate (C99 6.5).
 
 ghost use Rattle.std.specs.Prelude.{◌≡◌, ◌++◌, ◌∷◌, [], IfOk, OnOk, length};
 ghost use Rattle.c_syntax.specs.Ctypes.{plain_type};
-ghost use Rattle.c_syntax.specs.Expressions.{plain_expr, type_of};
+ghost use Rattle.c_syntax.specs.Expressions.{plain_expr};
 ghost use Rattle.mon_syntax.specs.declared.tree.MonType.TheVariants.{I32};
-ghost use Rattle.mon_syntax.specs.Trees.{Load, Register, plain_expr as plain_monitored, plain_stmts};
+ghost use Rattle.mon_syntax.specs.Trees.{Register, plain_expr as plain_monitored, plain_stmts};
 ghost use Rattle.c_effects.specs.Letters.{HasLetters};
-ghost use Rattle.c_effects.specs.Expressions.{before, in_type, pointer_to, temporaries, unary, value_type};
-ghost use Rattle.c_effects.specs.Named.{both_set_by, condition_by, either_set_by, setup_by, truth_set_by, value_by, with_registers};
-ghost use Rattle.c_effects.specs.Parts.{binary_of, both_of, choice_of, either_of};
+ghost use Rattle.c_effects.specs.Expressions.{before, literal, pointer_to, temporaries};
+ghost use Rattle.c_effects.specs.Named.{both_set_by, condition_by, either_set_by, place_by, setup_by, truth_set_by, unit_of, value_by, with_registers};
+ghost use Rattle.c_effects.specs.Parts.{arrow_of, binary_of, both_of, cast_of, choice_of, dot_of, either_of, index_of, named_value, unary_of};
 
 use crate::conversion::value_type;
-use crate::operator::{binary, condition, constant, in_type, register, truth, unary};
+use crate::layout::{global_index, is_array, offset_in_target, offset_of};
+use crate::operator::{
+    condition, constant, converted, farther, indexed, loaded, operated, register, truth, unary,
+};
 use crate::part::{alone, choose, then};
-use c_syntax::{BinOp, CType, Expr, ExprKind, UnOp};
-use mon_syntax::{MonExpr, MonExprKind, MonStmt, MonStmtKind, MonType, Registers};
+use c_syntax::{BinOp, CType, Expr, ExprKind, UnOp, Use};
+use mon_syntax::{MonExpr, MonExprKind, MonStmt, MonStmtKind, MonType, Registers, numbered};
 use std::alloc::{AllocError, Global};
 use track_scopes::size::size_constant;
 
-/// The pointer to the block of a declaration, which stands in its register.
+/// The pointer to the block of a declaration: in its register, or else that of a global.
 pub fn pointer_to(alloc: Global, names: &Registers<'_>, x: u32) -> Result<MonExpr, AllocError>
-    ensures { IfOk result (λ m. plain_monitored m ≡ pointer_to names.now.table.bound x) }
+    ensures { IfOk result (λ m. plain_monitored m ≡ pointer_to (unit_of names.now) names.now.table.bound x) }
 {
     match names.register_of(x) {
         Some(number) => register(alloc, number),
-        None => constant(alloc, MonType::Ptr, 0),
+        None => {
+            let number = numbered(global_index(names.globals(), x))?;
+            MonExpr::new(alloc, MonExprKind::Global(number))
+        }
     }
 }
 
-/// The value of a variable, by the type of its register.
-pub fn variable(
-    alloc: Global,
-    names: &Registers<'_>,
-    kind: MonType,
-    x: u32,
-) -> Result<MonExpr, AllocError>
-    ensures { IfOk result (λ m. plain_monitored m ≡ Load kind (pointer_to names.now.table.bound x)) }
+// A string literal: they stand after the globals.
+fn literal(alloc: Global, names: &Registers<'_>, n: u32) -> Result<MonExpr, AllocError>
+    ensures { IfOk result (λ m. plain_monitored m ≡ literal (unit_of names.now) n) }
 {
-    let pointer = pointer_to(alloc, names, x)?;
-    MonExpr::new(alloc, MonExprKind::Load(kind, pointer))
+    let first = numbered(names.globals().len())?;
+    let number = first.checked_add(n).ok_or(AllocError)?;
+    MonExpr::new(alloc, MonExprKind::Global(number))
+}
+
+// The value of a variable. The one pointer of the library is `NULL`.
+fn variable(alloc: Global, names: &Registers<'_>, t: &CType, x: Use) -> Result<MonExpr, AllocError>
+    ensures { IfOk result (λ m. plain_monitored m ≡ named_value (unit_of names.now) names.now.table.bound (plain_type t.now) x) }
+{
+    if x.decl == Use::LIBRARY {
+        constant(alloc, MonType::Ptr, 0)
+    } else {
+        let pointer = pointer_to(alloc, names, x.decl)?;
+        loaded(alloc, t, pointer)
+    }
 }
 
 /// Translates an expression without effects: its statements stand after those that are there, and its temporary
@@ -59,46 +73,128 @@ pub fn expression(
     match &*e.kind {
         ExprKind::Number(n, _) => constant(alloc, value_type(&e.ctype), *n),
         ExprKind::Letter(n) => constant(alloc, value_type(&e.ctype), i128::from(*n)),
-        ExprKind::Variable(x) => variable(alloc, names, value_type(&e.ctype), x.decl),
-        ExprKind::Unary(op, a) => prefixed(alloc, *op, a, names, to),
-        ExprKind::Binary(op, a, b) => operated(alloc, *op, (a, b), names, to),
+        ExprKind::Text(n) => literal(alloc, names, *n),
+        ExprKind::Variable(x) => variable(alloc, names, &e.ctype, *x),
+        ExprKind::Unary(op, a) => prefixed(alloc, (&e.ctype, *op), a, names, to),
+        ExprKind::Binary(op, a, b) => binary(alloc, *op, (a, b), names, to),
         ExprKind::Both(a, b) => and(alloc, a, b, names, to),
         ExprKind::Either(a, b) => or(alloc, a, b, names, to),
         ExprKind::Choice(a, b, c) => choice(alloc, a, (b, c), names, to),
         ExprKind::Cast(t, a) => cast(alloc, t, a, names, to),
         ExprKind::SizeOfType(t) => size_constant(alloc, names.layouts(), t),
         ExprKind::SizeOfExpr(a) => size_constant(alloc, names.layouts(), &a.ctype),
+        ExprKind::Index(a, b) => {
+            let pointer = element(alloc, a, b, names, to)?;
+            loaded(alloc, &e.ctype, pointer)
+        }
+        ExprKind::Dot(a, m) => {
+            let pointer = member(alloc, a, *m, names, to)?;
+            loaded(alloc, &e.ctype, pointer)
+        }
+        ExprKind::Arrow(a, m) => {
+            let pointer = member_behind(alloc, a, *m, names, to)?;
+            loaded(alloc, &e.ctype, pointer)
+        }
         ExprKind::Assign(_, _, _)
         | ExprKind::Bump(_, _)
         | ExprKind::Call(_, _)
-        | ExprKind::Text(_)
-        | ExprKind::Index(_, _)
-        | ExprKind::Dot(_, _)
-        | ExprKind::Arrow(_, _)
         | ExprKind::Comma(_, _) => constant(alloc, MonType::I32, 0),
     }
 }
 
-// A prefix operator on an expression.
+/// Translates an expression to the pointer to the object that it designates (C99 6.3.2.1). In place of that of any
+/// other expression stands the null pointer.
+#[cycle(expression)]
+#[tactic(auto, using(crate::proofs::Sequences::before_none))]
+pub fn place(
+    alloc: Global,
+    e: &Expr,
+    names: &mut Registers<'_>,
+    to: &mut Vec<MonStmt>,
+) -> Result<MonExpr, AllocError>
+    ensures value { IfOk result (λ m. plain_monitored m ≡ place_by names.old (plain_expr e.now)) }
+    ensures setup { OnOk result (plain_stmts to.new.items ≡ before (plain_stmts to.old.items) (setup_by names.old (plain_expr e.now))) }
+    ensures names { OnOk result (names.new ≡ with_registers (temporaries (plain_expr e.now)) names.old) }
+    ensures letters { OnOk result (HasLetters (plain_expr e.now)) }
+{
+    match &*e.kind {
+        ExprKind::Variable(x) => pointer_to(alloc, names, x.decl),
+        ExprKind::Text(n) => literal(alloc, names, *n),
+        ExprKind::Unary(op, a) => pointed_to(alloc, *op, a, names, to),
+        ExprKind::Index(a, b) => element(alloc, a, b, names, to),
+        ExprKind::Dot(a, m) => member(alloc, a, *m, names, to),
+        ExprKind::Arrow(a, m) => member_behind(alloc, a, *m, names, to),
+        ExprKind::Number(_, _)
+        | ExprKind::Letter(_)
+        | ExprKind::Binary(_, _, _)
+        | ExprKind::Both(_, _)
+        | ExprKind::Either(_, _)
+        | ExprKind::Choice(_, _, _)
+        | ExprKind::Assign(_, _, _)
+        | ExprKind::Bump(_, _)
+        | ExprKind::Call(_, _)
+        | ExprKind::Cast(_, _)
+        | ExprKind::SizeOfType(_)
+        | ExprKind::SizeOfExpr(_)
+        | ExprKind::Comma(_, _) => {
+            let _ = expression(alloc, e, names, to)?;
+            constant(alloc, MonType::Ptr, 0)
+        }
+    }
+}
+
+// A prefix operator on an expression, whose result has the type.
 #[cycle(expression)]
 fn prefixed(
+    alloc: Global,
+    operator: (&CType, UnOp),
+    a: &Expr,
+    names: &mut Registers<'_>,
+    to: &mut Vec<MonStmt>,
+) -> Result<MonExpr, AllocError>
+    ensures value { IfOk result (λ m. plain_monitored m ≡ value_by names.old (unary_of operator.entry.0.now operator.entry.1 a.now)) }
+    ensures setup { OnOk result (plain_stmts to.new.items ≡ before (plain_stmts to.old.items) (setup_by names.old (plain_expr a.now))) }
+    ensures names { OnOk result (names.new ≡ with_registers (temporaries (plain_expr a.now)) names.old) }
+    ensures letters { OnOk result (HasLetters (plain_expr a.now)) }
+{
+    let (t, op) = operator;
+    match op {
+        UnOp::Deref => {
+            let pointer = expression(alloc, a, names, to)?;
+            loaded(alloc, t, pointer)
+        }
+        UnOp::Address => place(alloc, a, names, to),
+        UnOp::Plus | UnOp::Minus | UnOp::Not | UnOp::Flip => {
+            let operand = expression(alloc, a, names, to)?;
+            unary(alloc, op, value_type(&a.ctype), operand)
+        }
+    }
+}
+
+// The place that a prefix operator designates: `*` does, of a pointer.
+#[cycle(expression)]
+fn pointed_to(
     alloc: Global,
     op: UnOp,
     a: &Expr,
     names: &mut Registers<'_>,
     to: &mut Vec<MonStmt>,
 ) -> Result<MonExpr, AllocError>
-    ensures value { IfOk result (λ m. plain_monitored m ≡ unary op (value_type (type_of (plain_expr a.now)))
-        (value_by names.old (plain_expr a.now))) }
+    ensures value { IfOk result (λ m. plain_monitored m ≡ place_by names.old (unary_of a.now.ctype op a.now)) }
     ensures setup { OnOk result (plain_stmts to.new.items ≡ before (plain_stmts to.old.items) (setup_by names.old (plain_expr a.now))) }
     ensures names { OnOk result (names.new ≡ with_registers (temporaries (plain_expr a.now)) names.old) }
     ensures letters { OnOk result (HasLetters (plain_expr a.now)) }
 {
-    let operand = expression(alloc, a, names, to)?;
-    unary(alloc, op, value_type(&a.ctype), operand)
+    let value = expression(alloc, a, names, to)?;
+    match op {
+        UnOp::Deref => Ok(value),
+        UnOp::Address | UnOp::Plus | UnOp::Minus | UnOp::Not | UnOp::Flip => {
+            constant(alloc, MonType::Ptr, 0)
+        }
+    }
 }
 
-// An expression in a type.
+// An expression in a type. A cast of an array is the address of its first element (C99 6.3.2.1 p3).
 #[cycle(expression)]
 fn cast(
     alloc: Global,
@@ -107,19 +203,22 @@ fn cast(
     names: &mut Registers<'_>,
     to: &mut Vec<MonStmt>,
 ) -> Result<MonExpr, AllocError>
-    ensures value { IfOk result (λ m. plain_monitored m ≡ in_type (value_type (type_of (plain_expr a.now))) (value_type (plain_type t.now))
-        (value_by names.old (plain_expr a.now))) }
+    ensures value { IfOk result (λ m. plain_monitored m ≡ value_by names.old (cast_of t.now a.now)) }
     ensures setup { OnOk result (plain_stmts to.new.items ≡ before (plain_stmts to.old.items) (setup_by names.old (plain_expr a.now))) }
     ensures names { OnOk result (names.new ≡ with_registers (temporaries (plain_expr a.now)) names.old) }
     ensures letters { OnOk result (HasLetters (plain_expr a.now)) }
 {
-    let operand = expression(alloc, a, names, to)?;
-    in_type(alloc, value_type(&a.ctype), value_type(t), operand)
+    if is_array(&a.ctype) {
+        place(alloc, a, names, to)
+    } else {
+        let operand = expression(alloc, a, names, to)?;
+        converted(alloc, &a.ctype, t, operand)
+    }
 }
 
 // An operator on the values of two expressions.
 #[cycle(expression)]
-fn operated(
+fn binary(
     alloc: Global,
     op: BinOp,
     operands: (&Expr, &Expr),
@@ -135,14 +234,65 @@ fn operated(
     let (a, b) = operands;
     let left = expression(alloc, a, names, to)?;
     let right = expression(alloc, b, names, to)?;
-    binary(
-        alloc,
-        op,
-        value_type(&a.ctype),
-        value_type(&b.ctype),
-        left,
-        right,
-    )
+    let types = (&a.ctype, &b.ctype);
+    operated(alloc, names.layouts(), op, types, left, right)
+}
+
+// The pointer to `a[b]`.
+#[cycle(expression)]
+fn element(
+    alloc: Global,
+    a: &Expr,
+    b: &Expr,
+    names: &mut Registers<'_>,
+    to: &mut Vec<MonStmt>,
+) -> Result<MonExpr, AllocError>
+    ensures value { IfOk result (λ m. plain_monitored m ≡ place_by names.old (index_of a.now b.now)) }
+    ensures setup { OnOk result (plain_stmts to.new.items ≡ before (plain_stmts to.old.items) (setup_by names.old (index_of a.now b.now))) }
+    ensures names { OnOk result (names.new ≡ with_registers (temporaries (index_of a.now b.now)) names.old) }
+    ensures letters { OnOk result (HasLetters (index_of a.now b.now)) }
+{
+    let left = expression(alloc, a, names, to)?;
+    let right = expression(alloc, b, names, to)?;
+    indexed(alloc, names.layouts(), &a.ctype, &b.ctype, left, right)
+}
+
+// The pointer to `a.m`.
+#[cycle(expression)]
+fn member(
+    alloc: Global,
+    a: &Expr,
+    m: u32,
+    names: &mut Registers<'_>,
+    to: &mut Vec<MonStmt>,
+) -> Result<MonExpr, AllocError>
+    ensures value { IfOk result (λ e. plain_monitored e ≡ place_by names.old (dot_of a.now m)) }
+    ensures setup { OnOk result (plain_stmts to.new.items ≡ before (plain_stmts to.old.items) (setup_by names.old (plain_expr a.now))) }
+    ensures names { OnOk result (names.new ≡ with_registers (temporaries (plain_expr a.now)) names.old) }
+    ensures letters { OnOk result (HasLetters (plain_expr a.now)) }
+{
+    let object = place(alloc, a, names, to)?;
+    let distance = offset_of(names.layouts(), &a.ctype, m);
+    farther(alloc, object, u64::from(distance))
+}
+
+// The pointer to `a->m`.
+#[cycle(expression)]
+fn member_behind(
+    alloc: Global,
+    a: &Expr,
+    m: u32,
+    names: &mut Registers<'_>,
+    to: &mut Vec<MonStmt>,
+) -> Result<MonExpr, AllocError>
+    ensures value { IfOk result (λ e. plain_monitored e ≡ place_by names.old (arrow_of a.now m)) }
+    ensures setup { OnOk result (plain_stmts to.new.items ≡ before (plain_stmts to.old.items) (setup_by names.old (plain_expr a.now))) }
+    ensures names { OnOk result (names.new ≡ with_registers (temporaries (plain_expr a.now)) names.old) }
+    ensures letters { OnOk result (HasLetters (plain_expr a.now)) }
+{
+    let pointer = expression(alloc, a, names, to)?;
+    let distance = offset_in_target(names.layouts(), &a.ctype, m);
+    farther(alloc, pointer, u64::from(distance))
 }
 
 // `a && b`, whose value is in a register.

@@ -5,17 +5,44 @@ ghost use Rattle.c_syntax.specs.Expressions.{plain_expr, plain_exprs};
 ghost use Rattle.mon_syntax.specs.Trees.{plain_expr as plain_monitored, plain_stmts};
 ghost use Rattle.c_effects.specs.Letters.{ArgumentsHaveLetters, FullHasLetters};
 ghost use Rattle.c_effects.specs.Expressions.{before};
-ghost use Rattle.c_effects.specs.Parts.{DirectHasLetters, direct_temporaries};
+ghost use Rattle.c_effects.specs.Parts.{DirectHasLetters, direct_temporaries, is_call};
 ghost use Rattle.c_effects.specs.Effects.{arguments_temporaries, full_temporaries};
 ghost use Rattle.c_effects.specs.Named.{called_by, direct_setup_by, direct_value_by, full_setup_by, full_value_by, with_registers};
 
 use crate::call::{arguments, call};
 use crate::conversion::value_type;
 use crate::expression::expression;
-use crate::operator::{in_type, register};
+use crate::operator::{converted, register};
 use c_syntax::{Expr, ExprKind, Use};
 use mon_syntax::{MonExpr, MonStmt, MonType, Registers};
 use std::alloc::{AllocError, Global};
+
+// Whether an expression is a call.
+fn is_call(e: &Expr) -> bool
+    ensures { result ≡ is_call (plain_expr e.now) }
+{
+    match &*e.kind {
+        ExprKind::Call(_, _) => true,
+        ExprKind::Number(_, _)
+        | ExprKind::Letter(_)
+        | ExprKind::Variable(_)
+        | ExprKind::Unary(_, _)
+        | ExprKind::Binary(_, _, _)
+        | ExprKind::Both(_, _)
+        | ExprKind::Either(_, _)
+        | ExprKind::Choice(_, _, _)
+        | ExprKind::Assign(_, _, _)
+        | ExprKind::Bump(_, _)
+        | ExprKind::Cast(_, _)
+        | ExprKind::SizeOfType(_)
+        | ExprKind::SizeOfExpr(_)
+        | ExprKind::Text(_)
+        | ExprKind::Index(_, _)
+        | ExprKind::Dot(_, _)
+        | ExprKind::Arrow(_, _)
+        | ExprKind::Comma(_, _) => false,
+    }
+}
 
 // A call, whose value goes to a further register.
 #[tactic(auto, using(crate::proofs::Sequences::before_assoc))]
@@ -96,8 +123,12 @@ pub fn full(
 {
     match &*e.kind {
         ExprKind::Cast(t, a) => {
-            let operand = direct(alloc, a, names, to)?;
-            in_type(alloc, value_type(&a.ctype), value_type(t), operand)
+            if is_call(a) {
+                let operand = direct(alloc, a, names, to)?;
+                converted(alloc, &a.ctype, t, operand)
+            } else {
+                expression(alloc, e, names, to)
+            }
         }
         ExprKind::Number(_, _)
         | ExprKind::Letter(_)

@@ -6,14 +6,22 @@
 
 // what code is made of
 pub mod conversion;
+pub mod layout;
+pub mod name;
 pub mod operator;
 pub mod part;
+
+// initialisers
+pub mod aggregate;
+pub mod initialiser;
+pub mod slot;
 
 // expressions and effects
 pub mod call;
 pub mod effect;
 pub mod expression;
 pub mod full;
+pub mod object;
 
 // annotations
 pub mod annotation;

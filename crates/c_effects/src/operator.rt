@@ -1,14 +1,23 @@
 //! Operators over registers (C99 6.5).
 
-ghost use Rattle.std.specs.Prelude.{◌≡◌, IfOk};
+ghost use Rattle.std.specs.Prelude.{◌≡◌, IfOk, map, pos};
 ghost use Rattle.c_syntax.specs.Ctypes.{plain_type};
+ghost use Rattle.c_syntax.specs.Programs.{plain_layout};
+ghost use Rattle.c_model.specs.Conversions.{operation_type};
+ghost use Rattle.mon_syntax.specs.declared.tree.MonOp.TheVariants.{Div, Sub};
+ghost use Rattle.mon_syntax.specs.declared.tree.MonType.TheVariants.{I64, Ptr};
 ghost use Rattle.mon_syntax.specs.Trees.{Binary, Constant, Register, plain_expr};
-ghost use Rattle.c_effects.specs.Expressions.{binary, compared, compound, compound_in, condition, in_type, operator_of, truth, unary};
+ghost use Rattle.c_effects.specs.Expressions.{binary, compared, compound, compound_in, condition, converted, element, element_back, farther};
+ghost use Rattle.c_effects.specs.Expressions.{in_type, indexed, loaded, operated, operator_of, pointer_and_integer, register_type, scaled};
+ghost use Rattle.c_effects.specs.Expressions.{truth, two_pointers, unary};
+ghost use Rattle.c_effects.specs.Parts.{pointers_operated};
 
-use crate::conversion::{operand_type, operation_type, register_type};
-use c_syntax::{BinOp, CType, UnOp};
-use mon_syntax::{MonExpr, MonExprKind, MonOp, MonType, result_type, same_type};
+use crate::conversion::{operand_type, operation_type, register_type, value_type};
+use crate::layout::unit_of;
+use c_syntax::{BinOp, CInt, CType, Layout, UnOp};
+use mon_syntax::{MonExpr, MonExprKind, MonOp, MonType, is_pointer, result_type, same_type};
 use std::alloc::{AllocError, Global};
+use track_scopes::size::size_of;
 
 /// The operator of registers that does what the operator does.
 pub fn operator_of(op: BinOp) -> MonOp
@@ -145,29 +154,220 @@ fn compound_in(
     in_type(alloc, result_type(operator_of(op), m), t, value)
 }
 
-/// `left op right` in the type of the left side (C99 6.5.16.2 p3).
-pub fn compound(
+// A number of elements of so many bytes, in bytes.
+fn scaled(alloc: Global, unit: u64, t: MonType, i: MonExpr) -> Result<MonExpr, AllocError>
+    ensures { IfOk result (λ e. plain_expr e ≡ scaled unit t (plain_expr i)) }
+{
+    let count = in_type(alloc, t, MonType::I64, i)?;
+    let size = constant(alloc, MonType::I64, i128::from(unit))?;
+    operation(alloc, MonOp::Mul, MonType::I64, count, size)
+}
+
+/// A pointer so many bytes farther.
+pub fn farther(alloc: Global, p: MonExpr, d: u64) -> Result<MonExpr, AllocError>
+    ensures { IfOk result (λ e. plain_expr e ≡ farther (plain_expr p) d) }
+{
+    let distance = constant(alloc, MonType::I64, i128::from(d))?;
+    operation(alloc, MonOp::Add, MonType::Ptr, p, distance)
+}
+
+/// A pointer so many elements farther (C99 6.5.6 p8).
+pub fn element(
+    alloc: Global,
+    unit: u64,
+    p: MonExpr,
+    t: MonType,
+    i: MonExpr,
+) -> Result<MonExpr, AllocError>
+    ensures { IfOk result (λ e. plain_expr e ≡ element unit (plain_expr p) t (plain_expr i)) }
+{
+    let distance = scaled(alloc, unit, t, i)?;
+    operation(alloc, MonOp::Add, MonType::Ptr, p, distance)
+}
+
+// The same back.
+fn element_back(
+    alloc: Global,
+    unit: u64,
+    p: MonExpr,
+    t: MonType,
+    i: MonExpr,
+) -> Result<MonExpr, AllocError>
+    ensures { IfOk result (λ e. plain_expr e ≡ element_back unit (plain_expr p) t (plain_expr i)) }
+{
+    let distance = scaled(alloc, unit, t, i)?;
+    let back = MonExpr::new(alloc, MonExprKind::Minus(MonType::I64, distance))?;
+    operation(alloc, MonOp::Add, MonType::Ptr, p, back)
+}
+
+// An operator on a pointer and an integer.
+fn pointer_and_integer(
     alloc: Global,
     op: BinOp,
+    unit: u64,
+    p: MonExpr,
+    t: MonType,
+    i: MonExpr,
+) -> Result<MonExpr, AllocError>
+    ensures { IfOk result (λ e. plain_expr e ≡ pointer_and_integer op unit (plain_expr p) t (plain_expr i)) }
+{
+    match op {
+        BinOp::Sub => element_back(alloc, unit, p, t, i),
+        _ => element(alloc, unit, p, t, i),
+    }
+}
+
+// The difference of two pointers in elements (C99 6.5.6 p9).
+fn difference(alloc: Global, unit: u64, a: MonExpr, b: MonExpr) -> Result<MonExpr, AllocError>
+    ensures { IfOk result (λ e. plain_expr e ≡ Binary Div I64 (Binary Sub Ptr (plain_expr a) (plain_expr b)) (Constant I64 (pos unit))) }
+{
+    let bytes = operation(alloc, MonOp::Sub, MonType::Ptr, a, b)?;
+    let size = constant(alloc, MonType::I64, i128::from(unit))?;
+    operation(alloc, MonOp::Div, MonType::I64, bytes, size)
+}
+
+// An operator on two pointers.
+fn two_pointers(
+    alloc: Global,
+    op: BinOp,
+    unit: u64,
+    a: MonExpr,
+    b: MonExpr,
+) -> Result<MonExpr, AllocError>
+    ensures { IfOk result (λ e. plain_expr e ≡ two_pointers op unit (plain_expr a) (plain_expr b)) }
+{
+    match op {
+        BinOp::Sub => difference(alloc, unit, a, b),
+        _ => operation(alloc, operator_of(op), MonType::Ptr, a, b),
+    }
+}
+
+// An operator on values of two types, of which at least one is a pointer to something of this size.
+fn pointers_operated(
+    alloc: Global,
+    op: BinOp,
+    unit: u64,
+    types: (MonType, MonType),
+    a: MonExpr,
+    b: MonExpr,
+) -> Result<MonExpr, AllocError>
+    ensures { IfOk result (λ e. plain_expr e ≡ pointers_operated op unit types.0 types.1 (plain_expr a) (plain_expr b)) }
+{
+    let (t, u) = types;
+    if !is_pointer(t) {
+        element(alloc, unit, b, t, a)
+    } else if is_pointer(u) {
+        two_pointers(alloc, op, unit, a, b)
+    } else {
+        pointer_and_integer(alloc, op, unit, a, u, b)
+    }
+}
+
+/// An operator on values of two types of annotated C.
+pub fn operated(
+    alloc: Global,
+    structs: &[Layout],
+    op: BinOp,
+    types: (&CType, &CType),
+    a: MonExpr,
+    b: MonExpr,
+) -> Result<MonExpr, AllocError>
+    ensures { IfOk result (λ e. plain_expr e ≡ operated (map plain_layout structs.now) op (plain_type types.entry.0.now) (plain_type types.entry.1.now)
+        (plain_expr a) (plain_expr b)) }
+{
+    let (t, u) = types;
+    let kinds = (value_type(t), value_type(u));
+    if is_pointer(kinds.0) || is_pointer(kinds.1) {
+        pointers_operated(alloc, op, unit_of(structs, t, u)?, kinds, a, b)
+    } else {
+        binary(alloc, op, kinds.0, kinds.1, a, b)
+    }
+}
+
+/// `a[b]`, of which one is a pointer (C99 6.5.2.1 p2).
+pub fn indexed(
+    alloc: Global,
+    structs: &[Layout],
     t: &CType,
     u: &CType,
+    a: MonExpr,
+    b: MonExpr,
+) -> Result<MonExpr, AllocError>
+    ensures { IfOk result (λ e. plain_expr e ≡ indexed (map plain_layout structs.now) (plain_type t.now) (plain_type u.now) (plain_expr a)
+        (plain_expr b)) }
+{
+    let unit = unit_of(structs, t, u)?;
+    if is_pointer(value_type(t)) {
+        element(alloc, unit, a, value_type(u), b)
+    } else {
+        element(alloc, unit, b, value_type(t), a)
+    }
+}
+
+/// A value of the first type converted to the second: an integer that becomes a pointer is the null constant, and what
+/// becomes `void` has no value.
+pub fn converted(alloc: Global, t: &CType, u: &CType, e: MonExpr) -> Result<MonExpr, AllocError>
+    ensures { IfOk result (λ m. plain_expr m ≡ converted (plain_type t.now) (plain_type u.now) (plain_expr e)) }
+{
+    match (t, u) {
+        (CType::Int(k), CType::Int(l)) => in_type(alloc, register_type(*k), register_type(*l), e),
+        (CType::Int(_), CType::Ptr(_)) => constant(alloc, MonType::Ptr, 0),
+        (_, CType::Ptr(_)) => Ok(e),
+        _ => constant(alloc, MonType::I32, 0),
+    }
+}
+
+/// What stands at a place: a value, or an object of a type that has none.
+pub fn loaded(alloc: Global, t: &CType, e: MonExpr) -> Result<MonExpr, AllocError>
+    ensures { IfOk result (λ m. plain_expr m ≡ loaded (plain_type t.now) (plain_expr e)) }
+{
+    match t {
+        CType::Int(_) | CType::Ptr(_) => MonExpr::new(alloc, MonExprKind::Load(value_type(t), e)),
+        _ => Ok(e),
+    }
+}
+
+// `left op right` of two integers.
+fn integers_compound(
+    alloc: Global,
+    op: BinOp,
+    k: CInt,
+    l: CInt,
     left: MonExpr,
     right: MonExpr,
 ) -> Result<MonExpr, AllocError>
-    ensures { IfOk result (λ e. plain_expr e ≡ compound op (plain_type t.now) (plain_type u.now) (plain_expr left) (plain_expr right)) }
+    ensures { IfOk result (λ e. plain_expr e ≡ compound_in op (register_type (operation_type op k l)) (register_type k) (register_type l)
+        (plain_expr left) (plain_expr right)) }
 {
-    match (t, u) {
-        (CType::Int(k), CType::Int(l)) => {
-            let m = register_type(operation_type(op, *k, *l));
-            compound_in(
-                alloc,
-                op,
-                m,
-                register_type(*k),
-                register_type(*l),
-                left,
-                right,
-            )
+    let m = register_type(operation_type(op, k, l));
+    compound_in(
+        alloc,
+        op,
+        m,
+        register_type(k),
+        register_type(l),
+        left,
+        right,
+    )
+}
+
+/// `left op right`, as what stands on the left has it (C99 6.5.16.2 p3).
+pub fn compound(
+    alloc: Global,
+    structs: &[Layout],
+    op: BinOp,
+    types: (&CType, &CType),
+    left: MonExpr,
+    right: MonExpr,
+) -> Result<MonExpr, AllocError>
+    ensures { IfOk result (λ e. plain_expr e ≡ compound (map plain_layout structs.now) op (plain_type types.entry.0.now) (plain_type types.entry.1.now)
+        (plain_expr left) (plain_expr right)) }
+{
+    match types {
+        (CType::Int(k), CType::Int(l)) => integers_compound(alloc, op, *k, *l, left, right),
+        (CType::Ptr(t), u) => {
+            let unit = size_of(structs, t)?;
+            pointer_and_integer(alloc, op, unit, left, value_type(u), right)
         }
         _ => constant(alloc, MonType::I32, 0),
     }

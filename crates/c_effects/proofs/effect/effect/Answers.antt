@@ -1,7 +1,7 @@
 use Rattle.std.proofs.Common.{◌≡◌, subst, sym, ◌∙◌}
 use Rattle.std.specs.Prelude.{OnOk}
 use Rattle.c_syntax.specs.Expressions.{Expression}
-use Rattle.c_effects.specs.Named.{effect_by, with_registers}
+use Rattle.c_effects.specs.Named.{effect_by, unit_of, with_registers}
 use Rattle.mon_syntax.specs.Trees.{plain_stmts}
 use Rattle.c_effects.specs.Letters.{EffectHasLetters}
 use Rattle.c_effects.specs.Expressions.{before}
@@ -16,7 +16,7 @@ returns-in-Call-clause-code c =
 
 pub returns-in-Call-clause-names : goal.returns-in-Call-clause-names
 returns-in-Call-clause-names c =
-    subst (λ (x : Expression). OnOk c.called.result (c.called.new.names ≡ with_registers (effect_temporaries x) c.args.names.now))
+    subst (λ (x : Expression). OnOk c.called.result (c.called.new.names ≡ with_registers (effect_temporaries (unit_of c.args.names.now) x) c.args.names.now))
     (call_expr c.args.e.now c.in-Call.f c.in-Call.args _ (sym c.deref.ensures ∙ c.in-Call.is) c.deref-in-Call.ensures.value)
     c.called.ensures.names
 

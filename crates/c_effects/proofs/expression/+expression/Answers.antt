@@ -7,14 +7,14 @@ use Rattle.c_syntax.specs.Expressions.{plain_expr}
 use Rattle.mon_syntax.specs.Trees.{plain_expr as plain_monitored}
 use Rattle.mon_syntax.specs.Trees.{If, MonExpression, plain_stmts}
 use Rattle.mon_syntax.proofs.Rows.{if_is}
-use Rattle.c_effects.specs.Expressions.{before, binary, one, set}
-use Rattle.c_effects.proofs.Trees.{on_ok, of_binary, of_both, of_either, of_choice}
+use Rattle.c_effects.specs.Expressions.{before, one, set}
+use Rattle.c_effects.proofs.Trees.{on_ok, of_binary, of_element, of_both, of_either, of_choice}
 use Rattle.c_effects.proofs.Sizes.{binary_size, both_size, either_size, choice_size}
 use Rattle.c_effects.proofs.Trees.{on_ok_then}
 use Rattle.c_effects.proofs.expression.+expression.Goals as goal
 
-pub expression-operated-requires : goal.expression-operated-requires
-expression-operated-requires t c =
+pub expression-binary-requires : goal.expression-binary-requires
+expression-binary-requires t c =
     let smaller = binary_size c.args.e.now c.in-Binary.op c.in-Binary.a c.in-Binary.b (sym c.deref.ensures ∙ c.in-Binary.is) in
     let measure = c.decreases in
     (omega (arith, smaller, measure), tt)
@@ -37,18 +37,17 @@ expression-choice-requires t c =
     let measure = c.decreases in
     (omega (arith, smaller, measure), tt)
 
-pub operated-returns-clause-value : goal.operated-returns-clause-value
-operated-returns-clause-value t c =
-    let b = plain_expr c.args.operands.1.now in
-    let right = c.in_ok-right.ensures.value ∙ ap (λ n. value_by n b) c.in_ok-left.ensures.names in
-    subst (λ (x : MonExpression). IfOk c.binary.result (λ (m : MonExpr). plain_monitored m ≡ x))
-    (λ i. binary c.args.op (c.value_type.ensures i) (c.value_type-2.ensures i) (c.in_ok-left.ensures.value i) (right i)) c.binary.ensures
-
-pub operated-returns-clause-setup : goal.operated-returns-clause-setup
-operated-returns-clause-setup t c =
+pub binary-returns-clause-setup : goal.binary-returns-clause-setup
+binary-returns-clause-setup t c =
     of_binary c.args.names.now c.expression.new.names (plain_stmts c.args.to.now.items) (plain_stmts c.expression.new.to.items) (plain_stmts c.expression-2.new.to.items) c.args.operands.0.now.place
     (plain_type c.args.operands.0.now.ctype) (plain_expr c.args.operands.0.now) (plain_expr c.args.operands.1.now) c.in_ok-left.ensures.names
-    c.binary.result c.args.op c.in_ok-left.ensures.setup c.in_ok-right.ensures.setup
+    c.operated.result c.args.op c.in_ok-left.ensures.setup c.in_ok-right.ensures.setup
+
+pub element-returns-clause-setup : goal.element-returns-clause-setup
+element-returns-clause-setup t c =
+    of_element c.args.names.now c.expression.new.names (plain_stmts c.args.to.now.items) (plain_stmts c.expression.new.to.items) (plain_stmts c.expression-2.new.to.items) c.args.a.now.place
+    (plain_type c.args.a.now.ctype) (plain_expr c.args.a.now) (plain_expr c.args.b.now) c.in_ok-left.ensures.names
+    c.indexed.result c.in_ok-left.ensures.setup c.in_ok-right.ensures.setup
 
 pub and-returns-clause-setup : goal.and-returns-clause-setup
 and-returns-clause-setup t c =

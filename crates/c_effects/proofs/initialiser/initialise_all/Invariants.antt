@@ -5,7 +5,7 @@ use Rattle.c_effects.specs.Letters.{InitialsHaveLetters}
 use Rattle.c_effects.specs.Expressions.{before}
 use Rattle.c_effects.specs.Effects.{declaration_temporaries}
 use Rattle.c_effects.specs.Named.{initialise_all_by, with_registers}
-use Rattle.c_effects.proofs.effect.initialise_all.Given as goal
+use Rattle.c_effects.proofs.initialiser.initialise_all.Given as goal
 
 abbrev pub invariant-decls : goal.invariant-decls
 invariant-decls l = record {

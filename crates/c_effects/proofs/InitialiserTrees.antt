@@ -1,0 +1,141 @@
+-- Initialisers and the zeros of what they leave out, part by part.
+use Rattle.std.proofs.Common.{◌≡◌, ℕ, zero, suc, ◌+◌, ◌-◌, ◌<◌, ◌≤◌, List, [], ◌∷◌, ◌++◌, length, drop, get_or, slice_get, Option, Some, None, refl, sym, ap, ◌∙◌, arith}
+use Rattle.std.specs.Prelude.{pos, not, if◌then◌else◌}
+use Rattle.c_syntax.specs.declared.expression.Expr.{Expr}
+use Rattle.c_syntax.specs.declared.place.Place.{Place}
+use Rattle.c_syntax.specs.Ctypes.{PlainType, Struct}
+use Rattle.c_syntax.specs.Expressions.{Expression, plain_expr}
+use Rattle.c_syntax.specs.Programs.{StructType, StructMember}
+use Rattle.c_syntax.specs.Statements.{Initialiser, Many, Initialisers, NoInitialiser, Listed}
+use Rattle.c_model.specs.Library.{is_there}
+use Rattle.c_model.specs.Layouts.{Scalar, in_each, in_members, members_of_struct, scalars_from, scalars_of}
+use Rattle.c_model.specs.Meaning.{string_in}
+use Rattle.mon_syntax.specs.declared.tree.MonType.{MonType}
+use Rattle.mon_syntax.specs.declared.tree.MonType.TheVariants.{U8}
+use Rattle.mon_syntax.specs.Registers.{Names, next_register}
+use Rattle.mon_syntax.specs.Trees.{MonExpression, MonStatements, NoStatement, Constant}
+use Rattle.c_effects.specs.Expressions.{before, value_type}
+use Rattle.c_effects.specs.Effects.{bytes_at, fill_one, fill_temporaries, full_temporaries, store, stored_at, zeros_at, zero_parts}
+use Rattle.c_effects.specs.Initialisers.{fill_by, fill_first_by, fill_one_by, fill_parts_by, first_part, initialise_object_by, initialise_one_by, parts_in}
+use Rattle.c_effects.specs.Named.{full_setup_by, full_value_by, unit_of, with_registers}
+use Rattle.c_effects.proofs.Sequences.{before_assoc}
+
+-- ---- bytes and zeros
+
+-- one more byte of a string
+pub bytes_more : (r k d n : ℕ) (bytes : List ℕ) → 0 < n → bytes_at r k d n bytes ≡ before (stored_at r k d U8 (Constant U8 (pos (get_or bytes 0 0)))) (bytes_at r k (d + 1) (n - 1) (drop 1 bytes))
+bytes_more r k d zero bytes lt = absurd (omega arith)
+bytes_more r k d (suc n) [] lt =
+    let next : suc d ≡ d + 1 = omega arith in
+    let less : n ≡ suc n - 1 = omega arith in
+    λ i. before (stored_at r k d U8 (Constant U8 (pos 0))) (bytes_at r k (next i) (less i) [])
+bytes_more r k d (suc n) (b ∷ bytes) lt =
+    let next : suc d ≡ d + 1 = omega arith in
+    let less : n ≡ suc n - 1 = omega arith in
+    λ i. before (stored_at r k d U8 (Constant U8 (pos b))) (bytes_at r k (next i) (less i) bytes)
+
+zeros_behind : (r k d : ℕ) (xs ys : List (ℕ × Scalar)) → zeros_at r k d (xs ++ ys) ≡ before (zeros_at r k d xs) (zeros_at r k d ys)
+zeros_behind r k d [] ys = refl
+zeros_behind r k d (x ∷ xs) ys = ap (before (zeros_at r k d (x ∷ []))) (zeros_behind r k d xs ys)
+
+-- the zeros of one more element, and of one more member
+pub each_more : (r k d at size left : ℕ) (inside : ℕ → List (ℕ × Scalar)) → 0 < left
+    → zeros_at r k d (in_each at size left inside) ≡ before (zeros_at r k d (inside at)) (zeros_at r k d (in_each (at + size) size (left - 1) inside))
+each_more r k d at size zero inside lt = absurd (omega arith)
+each_more r k d at size (suc left) inside lt =
+    let less : left ≡ suc left - 1 = omega arith in
+    zeros_behind r k d (inside at) (in_each (at + size) size left inside) ∙ ap (λ n. before (zeros_at r k d (inside at)) (zeros_at r k d (in_each (at + size) size n inside))) less
+
+pub members_more : (r k d offset : ℕ) (m : StructMember) (ms : List StructMember) (inside : PlainType → ℕ → List (ℕ × Scalar))
+    → zeros_at r k d (in_members (m ∷ ms) offset inside) ≡ before (zeros_at r k d (inside m.ctype (offset + m.offset))) (zeros_at r k d (in_members ms offset inside))
+members_more r k d offset m ms inside = zeros_behind r k d (inside m.ctype (offset + m.offset)) (in_members ms offset inside)
+
+pub no_element : (r k d at size left : ℕ) (inside : ℕ → List (ℕ × Scalar)) → left ≤ 0 → zeros_at r k d (in_each at size left inside) ≡ NoStatement
+no_element r k d at size zero inside le = refl
+no_element r k d at size (suc left) inside le = absurd (omega arith)
+
+pub no_byte : (r k d n : ℕ) (bytes : List ℕ) → n ≡ 0 → bytes_at r k d n bytes ≡ NoStatement
+no_byte r k d zero bytes e = refl
+no_byte r k d (suc n) bytes e = absurd (omega arith)
+
+-- the scalars of a struct
+pub struct_scalars : (structs : List StructType) (deep n offset : ℕ) (o : Option StructType) → 0 < deep → o ≡ slice_get structs n
+    → in_members (members_of_struct o) offset (scalars_from structs (deep - 1)) ≡ scalars_from structs deep (Struct n) offset
+struct_scalars structs zero n offset o lt is = absurd (omega arith)
+struct_scalars structs (suc deep) n offset o lt is =
+    let less : suc deep - 1 ≡ deep = omega arith in
+    λ i. in_members (members_of_struct (is i)) offset (scalars_from structs (less i))
+
+-- no struct may stand in it
+pub no_scalars : (structs : List StructType) (deep n offset : ℕ) → deep ≡ 0 → [] ≡ scalars_from structs deep (Struct n) offset
+no_scalars structs zero n offset e = refl
+no_scalars structs (suc deep) n offset e = absurd (omega arith)
+
+-- ---- parts
+
+-- the zeros of one more part
+pub parts_more : (structs : List StructType) (r k d : ℕ) (cs : List (ℕ × PlainType)) (c : ℕ × PlainType) → Some c ≡ first_part cs
+    → zero_parts structs r k d cs ≡ before (zeros_at r k (d + c.0) (scalars_of structs c.1)) (zero_parts structs r k d (drop 1 cs))
+parts_more structs r k d [] c e = absurd cc
+parts_more structs r k d (x ∷ cs) c e = let same : x ≡ c = cc in ap (λ y. before (zeros_at r k (d + y.0) (scalars_of structs y.1)) (zero_parts structs r k d cs)) same
+
+pub no_part : (structs : List StructType) (r k d : ℕ) (cs : List (ℕ × PlainType)) → None ≡ first_part cs → zero_parts structs r k d cs ≡ NoStatement
+no_part structs r k d [] e = refl
+no_part structs r k d (x ∷ cs) e = absurd cc
+
+pub fewer_parts : (cs : List (ℕ × PlainType)) (c : ℕ × PlainType) → Some c ≡ first_part cs → length (drop 1 cs) < length cs
+fewer_parts [] c e = absurd cc
+fewer_parts (x ∷ cs) c e = omega arith
+
+-- ---- initialisers
+
+pub none_filled : (n : Names) (r d : ℕ) (cs : List (ℕ × PlainType)) (i : Initialiser) → None ≡ first_part cs → NoStatement ≡ fill_first_by n r d cs i
+none_filled n r d [] i e = refl
+none_filled n r d (x ∷ cs) i e = absurd cc
+
+nothing_filled : (n : Names) (r d : ℕ) (is : Initialisers) → fill_parts_by n r d [] is ≡ NoStatement
+nothing_filled n r d NoInitialiser = refl
+nothing_filled n r d (Listed i is) = refl
+
+-- one more initialiser of a list
+pub filled_more : (n : Names) (r d : ℕ) (cs : List (ℕ × PlainType)) (i : Initialiser) (is : Initialisers)
+    → fill_parts_by n r d cs (Listed i is) ≡ before (fill_first_by n r d cs i) (fill_parts_by (with_registers (fill_temporaries i) n) r d (drop 1 cs) is)
+filled_more n r d [] i is = sym (nothing_filled (with_registers (fill_temporaries i) n) r d is)
+filled_more n r d (c ∷ cs) i is = refl
+
+-- a part takes the value of an expression
+filled_as : (n : Names) (r d : ℕ) (t : PlainType) (e : Expression) (o : Option ℕ) (t0 : MonStatements) → string_in e ≡ o
+    → before t0 (fill_one (unit_of n) n.table.bound r d n.table.kinds t o e) ≡ before t0 (fill_one_by n r d t e)
+filled_as n r d t e o t0 is = ap (λ x. before t0 (fill_one (unit_of n) n.table.bound r d n.table.kinds t x e)) (sym is)
+
+pub filled_value : (n n1 : Names) (r d k : ℕ) (kind : MonType) (t : PlainType) (e : Expression) (v : MonExpression) (t0 t1 t2 : MonStatements) → string_in e ≡ None → v ≡ full_value_by n e → t1 ≡ before t0 (full_setup_by n e)
+    → n1 ≡ with_registers (full_temporaries e) n → k ≡ next_register n1.table → kind ≡ value_type t → t2 ≡ before t1 (stored_at r k d kind v) → t2 ≡ before t0 (fill_one_by n r d t e)
+filled_value n n1 r d k kind t e v t0 t1 t2 is v_is first names k_is kind_is last =
+    let k_at : k ≡ length (n.table.kinds ++ full_temporaries e) = k_is ∙ ap (λ (m : Names). next_register m.table) names in
+    last ∙ (λ i. before (first i) (stored_at r (k_at i) d (kind_is i) (v_is i)))
+    ∙ before_assoc t0 (full_setup_by n e) (stored_at r (length (n.table.kinds ++ full_temporaries e)) d (value_type t) (full_value_by n e))
+    ∙ filled_as n r d t e None t0 is
+
+-- an object of its own
+module _ (n : Names) (r : ℕ) (t : PlainType) (e : Expr) where
+  abbrev chosen : Option ℕ → MonStatements
+  chosen o =
+      if not (is_there o) then before (full_setup_by n (plain_expr e)) (store r t (full_value_by n (plain_expr e)))
+      else fill_one (unit_of n) n.table.bound r 0 n.table.kinds t (string_in (plain_expr e)) (plain_expr e)
+
+  value_initialised : string_in (plain_expr e) ≡ None → before (full_setup_by n (plain_expr e)) (store r t (full_value_by n (plain_expr e))) ≡ initialise_one_by n r t e
+  value_initialised is = ap chosen (sym is)
+
+  -- from its parts
+  pub value_done : (v : MonExpression) (t0 t1 t2 : MonStatements) → string_in (plain_expr e) ≡ None → v ≡ full_value_by n (plain_expr e) → t1 ≡ before t0 (full_setup_by n (plain_expr e)) → t2 ≡ before t1 (store r t v)
+      → t2 ≡ before t0 (initialise_one_by n r t e)
+  value_done v t0 t1 t2 none v_is first last =
+      last ∙ (λ i. before (first i) (store r t (v_is i))) ∙ before_assoc t0 (full_setup_by n (plain_expr e)) (store r t (full_value_by n (plain_expr e))) ∙ ap (before t0) (value_initialised none)
+
+-- a list in braces from its parts
+module _ (n : Names) (r : ℕ) (u : PlainType) (at : Place) (is js : Initialisers) (cs : List (ℕ × PlainType)) (t0 t1 : MonStatements) (parts : cs ≡ parts_in (unit_of n).structs u) (same : is ≡ js) where
+  pub many_filled : (d : ℕ) → t1 ≡ before t0 (fill_parts_by n r d cs is) → t1 ≡ before t0 (fill_by n r d u (Many at js))
+  many_filled d last = last ∙ (λ i. before t0 (fill_parts_by n r d (parts i) (same i)))
+
+  pub many_initialised : t1 ≡ before t0 (fill_parts_by n r 0 cs is) → t1 ≡ before t0 (initialise_object_by n r u (Many at js))
+  many_initialised last = last ∙ (λ i. before t0 (fill_parts_by n r 0 (parts i) (same i)))

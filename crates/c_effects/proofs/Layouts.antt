@@ -1,0 +1,54 @@
+-- Members and globals that are found in order.
+use Rattle.std.proofs.Common.{◌≡◌, ℕ, zero, suc, slice_get, ◌+◌, List, [], ◌∷◌, Bool, true, false, length, get_or, ltb, map, nat_eq, refl, ap, subst, sym, ◌∙◌, arith}
+use Rattle.std.proofs.Math.Dec.{nltb→le, ltb→lt}
+use Rattle.std.proofs.lemmas.Option.{slice_get_past, slice_get-get_or}
+use Rattle.std.specs.Prelude.{Some, None, if◌then◌else◌, T, not}
+use Rattle.std.proofs.lemmas.Bool.{eqb-true, eq-eqb}
+use Rattle.c_syntax.specs.declared.program.Member.{Member}
+use Rattle.c_syntax.specs.declared.statement.Decl.{Decl}
+use Rattle.c_syntax.specs.declared.program.Text.{Text}
+use Rattle.c_syntax.specs.Programs.{StringLiteral, plain_member, plain_text}
+use Rattle.c_syntax.specs.Statements.{plain_decl}
+use Rattle.c_model.specs.Layouts.{member_among, member_offset}
+use Rattle.c_model.specs.Meaning.{text_at}
+use Rattle.c_effects.specs.Expressions.{global_index}
+
+-- numbers that aren't equal
+differ : (a b : ℕ) → (a ≡ b → ⊥) → nat_eq a b ≡ false
+differ a b distinct = by (nat_eq a b) refl
+  where
+    by : (t : Bool) → nat_eq a b ≡ t → t ≡ false
+    by true e = absurd (distinct (eqb-true a b e))
+    by false e = refl
+
+pub member_here : (name : ℕ) (m : Member) (ms : List Member) → m.name ≡ name → m.offset ≡ member_offset (member_among name (map plain_member (m ∷ ms)))
+member_here name m ms e = sym (ap (λ b. member_offset (if b then Some (plain_member m) else member_among name (map plain_member ms))) (eq-eqb m.name name e))
+
+pub member_later : (name : ℕ) (m : Member) (ms : List Member) → (m.name ≡ name → ⊥)
+    → member_offset (member_among name (map plain_member ms)) ≡ member_offset (member_among name (map plain_member (m ∷ ms)))
+member_later name m ms distinct = sym (ap (λ b. member_offset (if b then Some (plain_member m) else member_among name (map plain_member ms))) (differ m.name name distinct))
+
+pub global_here : (x : ℕ) (d : Decl) (ds : List Decl) → d.place.offset ≡ x → 0 ≡ global_index x (map plain_decl (d ∷ ds))
+global_here x d ds e = sym (ap (λ b. if b then 0 else suc (global_index x (map plain_decl ds))) (eq-eqb d.place.offset x e))
+
+pub global_later : (x : ℕ) (d : Decl) (ds : List Decl) → (d.place.offset ≡ x → ⊥)
+    → suc (global_index x (map plain_decl ds)) ≡ global_index x (map plain_decl (d ∷ ds))
+global_later x d ds distinct = sym (ap (λ b. if b then 0 else suc (global_index x (map plain_decl ds))) (differ d.place.offset x distinct))
+
+-- an element by its index
+pub found : {A : Type 0} (xs : List A) (n : ℕ) (x : A) → true ≡ ltb n (length xs) → x ≡ get_or xs n x → slice_get xs n ≡ Some x
+found xs n x within is = slice_get-get_or xs n x (ltb→lt n (length xs) (subst T within tt)) ∙ ap Some (sym is)
+
+pub missing : {A : Type 0} (xs : List A) (n : ℕ) → false ≡ ltb n (length xs) → slice_get xs n ≡ None
+missing xs n past = slice_get_past xs n (nltb→le n (length xs) (subst (λ b. T (not b)) past tt))
+
+-- the bytes of a literal, by its number
+pub text_there : (texts : List Text) (n : ℕ) (x : Text) → slice_get texts n ≡ Some x → x.bytes ≡ text_at (map (λ (y : StringLiteral). y.bytes) (map plain_text texts)) n
+text_there [] n x is = absurd cc
+text_there (y ∷ texts) zero x is = let same : x ≡ y = cc in ap (λ (z : Text). z.bytes) same
+text_there (y ∷ texts) (suc n) x is = text_there texts n x is
+
+pub text_missing : (texts : List Text) (n : ℕ) → slice_get texts n ≡ None → [] ≡ text_at (map (λ (y : StringLiteral). y.bytes) (map plain_text texts)) n
+text_missing [] n is = refl
+text_missing (y ∷ texts) zero is = absurd cc
+text_missing (y ∷ texts) (suc n) is = text_missing texts n is
