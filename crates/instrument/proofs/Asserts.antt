@@ -11,14 +11,13 @@ use Rattle.c_model.specs.Memory.{Value, Integer, Into}
 use Rattle.c_model.specs.State.{State, Broken}
 use Rattle.c_model.specs.Logic.{Says, SaysNothing, check, checks}
 use Rattle.c_model.specs.Logic as source
-use Rattle.c_model.specs.Typing.{Scopes}
-use Rattle.c_model.specs.WellTypedPrograms.{ClauseTyped, AnnotationsTyped}
+use Rattle.c_model.specs.ExpressionTyping.{Sight}
 use Rattle.mon_syntax.specs.declared.tree.MonType.{MonType}
 use Rattle.mon_syntax.specs.declared.tree.MonType.TheVariants.{I32}
 use Rattle.mon_syntax.specs.declared.tree.MonOp.TheVariants.{And}
 use Rattle.mon_syntax.specs.Registers.{Bindings}
 use Rattle.mon_syntax.specs.Arithmetic.{operate, access_bytes}
-use Rattle.mon_syntax.specs.Meaning.{Done, Stops, Next, then_do, at_next, with_value, given_to, replied, number_or_none}
+use Rattle.mon_syntax.specs.Meaning.{Done, Stops, Next, then_do, at_next, with_value, writes, given_to, replied, number_or_none, eval}
 use Rattle.mon_syntax.specs.Meaning.{◌>>=◌ as bind}
 use Rattle.mon_syntax.specs.Meaning as monitored
 use Rattle.mon_syntax.specs.BlockMemory.{integer_of, over_blocks, act_on_blocks, holds_number}
@@ -33,7 +32,8 @@ use Rattle.instrument.proofs.Following.{later_same, Follows, IsOver, stays, onwa
 use Rattle.instrument.proofs.Values.{HasNumber, operation}
 use Rattle.instrument.proofs.Anchors.{pointer_has}
 use Rattle.instrument.proofs.Evaluating.{behind_setup, set_runs, if_runs}
-use Rattle.instrument.proofs.Scenes.{Scene, IsFound, AreFound}
+use Rattle.instrument.proofs.Scenes.{IsFound, AreFound}
+use Rattle.c_model.specs.TypedAnnotations.{ClauseTyped, AnnotationsTyped}
 use Rattle.instrument.proofs.Terms.{holds_at, answer, answers, ReadingsFound, ClauseFollows, SaysThis, SaysNone, clause_follows, clause_found}
 
 long_kinds : (xs : List Reading) → length (kinds_of xs) ≡ suc (length xs)
@@ -57,11 +57,11 @@ module _ (w : Setting) (n : ℕ) (low : ℕ) (bound : Bindings) (s : State) (t :
   record Asked (xs : List Reading) (r : ℕ) (regs : List Value) : Type 0 where
     after : List Value
     same : Same r regs after
-    runs_to : runs w n t (questions bound r xs) regs ≡ Done (Next after) t []
+    runs_to : runs w n t (questions w.unit bound r xs) regs ≡ Done (Next after) t []
     all : (later : List Value) → Same (r + length xs) after later → HasNumber w later t.mem (all_of r (length xs)) (truth (answers s xs))
 
-  question_runs : (x : Reading) (r : ℕ) (regs : List Value) → Anchored low bound regs s.scope → IsFound s.scope x.decl
-      → monitored.exec over_blocks w.globals (question bound r x) w.calls n regs t ≡ Done (Next (slice_set regs r (Integer (truth (answer s x))))) t []
+  question_runs : (x : Reading) (r : ℕ) (regs : List Value) → Anchored w low bound regs s.scope → IsFound s.scope x.decl
+      → monitored.exec over_blocks w.globals (question w.unit bound r x) w.calls n regs t ≡ Done (Next (slice_set regs r (Integer (truth (answer s x))))) t []
   question_runs x r regs h (number, found) =
       ap (λ o. with_value (bind o (λ v. Some (v ∷ Integer (pos 0) ∷ []))) t.steps after) (pointer_has w low low bound regs regs t.mem s.scope x.decl number (omega arith) (same_all low regs) h found)
       ∙ ap (λ b. Done (Next (slice_set regs r (Integer (truth b)))) t []) (ap (λ store. holds_number store (Into number 0) (pos 0) (access_bytes (access_of x.kind))) store_is
@@ -78,19 +78,19 @@ module _ (w : Setting) (n : ℕ) (low : ℕ) (bound : Bindings) (s : State) (t :
       operation w later t.mem And I32 (Register r) (all_of (suc r) (length (y ∷ xs))) (truth (answer s x)) (truth (answers s (y ∷ xs))) refl e h
       ∙ ap (number_or_none over_blocks) (both_are (answer s x) (answers s (y ∷ xs)))
 
-  questions_run : (xs : List Reading) (r : ℕ) (regs : List Value) → low ≤ r → r + length xs ≤ length regs → Anchored low bound regs s.scope → ReadingsFound s.scope xs → Asked xs r regs
+  questions_run : (xs : List Reading) (r : ℕ) (regs : List Value) → low ≤ r → r + length xs ≤ length regs → Anchored w low bound regs s.scope → ReadingsFound s.scope xs → Asked xs r regs
   questions_run [] r regs le room h f = record { after = regs; same = same_all r regs; runs_to = refl; all = λ later same. refl }
   questions_run (x ∷ xs) r regs le room h f =
       let v = Integer (truth (answer s x)) in
       let next = slice_set regs r v in
       let set_same : Same r regs next = same_set r r regs v (omega arith) in
-      let rest = questions_run xs (suc r) next (omega (arith, le)) (omega (arith, set_same.long, room)) (anchored_same low bound regs next s.scope (same_less low r regs next le set_same) h) f.1 in
+      let rest = questions_run xs (suc r) next (omega (arith, le)) (omega (arith, set_same.long, room)) (anchored_same w low bound regs next s.scope (same_less low r regs next le set_same) h) f.1 in
       record {
         after = rest.after;
         same = same_trans r (suc r) regs next rest.after (omega arith) set_same rest.same;
         runs_to =
-            ap (λ q. then_do q (at_next (monitored.exec_all over_blocks w.globals (questions bound (suc r) xs) w.calls n))) (question_runs x r regs h f.0)
-            ∙ writes_none (runs w n t (questions bound (suc r) xs) next)
+            ap (λ q. then_do q (at_next (monitored.exec_all over_blocks w.globals (questions w.unit bound (suc r) xs) w.calls n))) (question_runs x r regs h f.0)
+            ∙ writes_none (runs w n t (questions w.unit bound (suc r) xs) next)
             ∙ rest.runs_to;
         all = λ later same.
             with_more x xs r later
@@ -113,11 +113,11 @@ module _ (w : Setting) (n : ℕ) (low : ℕ) (bound : Bindings) (s : State) (t :
 
   -- the truth in the last register, and the assertion
   judged_runs : (a : Annotation) (r count : ℕ) (regs : List Value) (d : Bool) (x : ℤ) → r + count < length regs → ((later : List Value) → Same (r + count) regs later → HasNumber w later t.mem (all_of r count) (truth d))
-      → monitored.choose (truth d) (runs w n t (set (r + count) (truth_of_body bound a.body)) regs) (runs w n t (set (r + count) (Constant I32 (pos 0))) regs) ≡ Done (Next (slice_set regs (r + count) (Integer x))) t []
-      → runs w n t (judged bound r count a) regs ≡ judges a (truth d) x (slice_set regs (r + count) (Integer x))
+      → monitored.choose (truth d) (runs w n t (set (r + count) (truth_of_body w.unit bound a.body)) regs) (runs w n t (set (r + count) (Constant I32 (pos 0))) regs) ≡ Done (Next (slice_set regs (r + count) (Integer x))) t []
+      → runs w n t (judged w.unit bound r count a) regs ≡ judges a (truth d) x (slice_set regs (r + count) (Integer x))
   judged_runs a r count regs d x room all chosen =
       let flag = all_of r count in
-      let truth_set = set (r + count) (truth_of_body bound a.body) in
+      let truth_set = set (r + count) (truth_of_body w.unit bound a.body) in
       let none_set = set (r + count) (Constant I32 (pos 0)) in
       let next = slice_set regs (r + count) (Integer x) in
       behind_setup w n t (one (If flag truth_set none_set)) (one (Assert flag (Register (r + count)) a.number a.place.line a.kind)) regs next
@@ -134,10 +134,10 @@ module _ (w : Setting) (n : ℕ) (low : ℕ) (bound : Bindings) (s : State) (t :
     nothing_follows a regs after v =
         IsOver (Broken a.number a.place.line a.kind how.Undefined) s [] (λ h. absurd cc) refl (sym (append-nil s.output)) (ap (λ k. Stops (Broken a.number a.place.line a.kind how.Undefined) k []) b.steps)
 
-    assertion_follows : (scopes : Scopes) → Scene w n scopes → AreFound scopes.objects s.scope → (a : Annotation) → IsAssert a → ClauseTyped scopes a.body → IsNumbered a → (rs : List MonType) → low ≤ length rs
-        → (regs : List Value) → length (rs ++ assertion_temporaries a) ≤ length regs → Anchored low bound regs s.scope → Follows w h low regs Next s (check a s) (runs w n t (assertion bound rs a) regs)
-    assertion_follows scopes scene found a p q l rs behind regs room anchored =
-        by (clause_follows w n scopes scene low bound s t.mem store_is bounded found after (anchored_same low bound regs after s.scope (same_less low r regs after behind asked.same) anchored) a.body p.body q l.letters)
+    assertion_follows : (sight : Sight) → AreFound sight.entities s.scope → (a : Annotation) → IsAssert a → ClauseTyped sight a.body → IsNumbered a → (rs : List MonType) → low ≤ length rs
+        → (regs : List Value) → length (rs ++ assertion_temporaries a) ≤ length regs → Anchored w low bound regs s.scope → Follows w h low regs Next s (check a s) (runs w n t (assertion w.unit bound rs a) regs)
+    assertion_follows sight found a p q l rs behind regs room anchored =
+        by (clause_follows w sight low bound s t.mem store_is bounded found after (anchored_same w low bound regs after s.scope (same_less low r regs after behind asked.same) anchored) a.body p.body q l.letters)
       where
         r : ℕ
         r = length rs
@@ -152,7 +152,7 @@ module _ (w : Setting) (n : ℕ) (low : ℕ) (bound : Bindings) (s : State) (t :
         long = omega (arith, room, length-append rs (kinds_of xs), long_kinds xs)
 
         asked : Asked xs r regs
-        asked = questions_run xs r regs behind (omega (arith, long)) anchored (clause_found w n scopes scene low bound s t.mem store_is bounded found a.body q)
+        asked = questions_run xs r regs behind (omega (arith, long)) anchored (clause_found w sight low bound s t.mem store_is bounded found a.body q)
 
         after : List Value
         after = asked.after
@@ -167,16 +167,16 @@ module _ (w : Setting) (n : ℕ) (low : ℕ) (bound : Bindings) (s : State) (t :
         next_same x = same_trans low r regs after (next x) behind (same_less low r regs after behind asked.same) (same_set r (r + count) after (Integer x) (omega arith))
 
         code_is : (d : Bool) (x : ℤ) → answers s xs ≡ d
-            → monitored.choose (truth d) (runs w n t (set (r + count) (truth_of_body bound a.body)) after) (runs w n t (set (r + count) (Constant I32 (pos 0))) after) ≡ Done (Next (next x)) t []
-            → runs w n t (assertion bound rs a) regs ≡ judges a (truth d) x (next x)
+            → monitored.choose (truth d) (runs w n t (set (r + count) (truth_of_body w.unit bound a.body)) after) (runs w n t (set (r + count) (Constant I32 (pos 0))) after) ≡ Done (Next (next x)) t []
+            → runs w n t (assertion w.unit bound rs a) regs ≡ judges a (truth d) x (next x)
         code_is d x is chosen =
-            behind_setup w n t (questions bound r xs) (judged bound r count a) regs after asked.runs_to
+            behind_setup w n t (questions w.unit bound r xs) (judged w.unit bound r count a) regs after asked.runs_to
             ∙ judged_runs a r count after d x long_after (λ later same. asked.all later same ∙ ap (λ d. Some (Integer (truth d))) is) chosen
 
-        by : ClauseFollows w n scopes scene low bound s t.mem store_is bounded found after (anchored_same low bound regs after s.scope (same_less low r regs after behind asked.same) anchored) a.body
-            → Follows w h low regs Next s (check a s) (runs w n t (assertion bound rs a) regs)
+        by : ClauseFollows w sight low bound s t.mem store_is bounded found after (anchored_same w low bound regs after s.scope (same_less low r regs after behind asked.same) anchored) a.body
+            → Follows w h low regs Next s (check a s) (runs w n t (assertion w.unit bound rs a) regs)
         by (SaysThis is says source_is target_is) =
-            subst (λ q. Follows w h low regs Next s (check a s) q) (sym (code_is true (truth says) is (set_runs w n t (r + count) (truth_of_body bound a.body) after (Integer (truth says)) target_is)))
+            subst (λ q. Follows w h low regs Next s (check a s) q) (sym (code_is true (truth says) is (set_runs w n t (r + count) (truth_of_body w.unit bound a.body) after (Integer (truth says)) target_is)))
             (subst (λ r. Follows w h low regs Next s r (judges a (pos 1) (truth says) (next (truth says)))) (sym (ap (λ c. source.judged a c s) (source_is s.steps)))
             (says_follows a regs (next (truth says)) says (next_same (truth says))))
         by (SaysNone is source_is) =
@@ -184,20 +184,20 @@ module _ (w : Setting) (n : ℕ) (low : ℕ) (bound : Bindings) (s : State) (t :
             (subst (λ r. Follows w h low regs Next s r (judges a (pos 0) (pos 0) (next (pos 0)))) (sym (ap (λ c. source.judged a c s) (source_is s.steps)))
             (nothing_follows a regs (next (pos 0)) (pos 0)))
 
-module _ (w : Setting) (n : ℕ) (h : Here) (scopes : Scopes) (scene : Scene w n scopes) (low : ℕ) (bound : Bindings) where
-  pub assertions_follow : (annots : List Annotation) → AreAsserts annots → AnnotationsTyped scopes annots → AreNumbered annots → (rs : List MonType) → low ≤ length rs → length (rs ++ assertions_temporaries annots) ≤ w.registers
-      → (regs : List Value) (s : State) (t : Target) → AreFound scopes.objects s.scope → Standing w h low bound regs s → Beside w s.store s t
-      → Follows w h low regs Next s (checks annots s) (runs w n t (assertions bound rs annots) regs)
+module _ (w : Setting) (n : ℕ) (h : Here) (sight : Sight) (low : ℕ) (bound : Bindings) where
+  pub assertions_follow : (annots : List Annotation) → AreAsserts annots → AnnotationsTyped sight annots → AreNumbered annots → (rs : List MonType) → low ≤ length rs → length (rs ++ assertions_temporaries annots) ≤ w.registers
+      → (regs : List Value) (s : State) (t : Target) → AreFound sight.entities s.scope → Standing w h low bound regs s → Beside w s.store s t
+      → Follows w h low regs Next s (checks annots s) (runs w n t (assertions w.unit bound rs annots) regs)
   assertions_follow [] p q l rs behind room regs s t found m b = stays w h low regs s t m.bounded b
   assertions_follow (a ∷ annots) p q l rs behind room regs s t found m b =
       let here = assertion_temporaries a in
       let rest = assertions_temporaries annots in
       let more : length (rs ++ (here ++ rest)) ≡ length (rs ++ here ++ rest) = omega (arith, length-append (rs ++ here) rest, length-append rs here, length-append rs (here ++ rest), length-append here rest) in
-      let first = assertion bound rs a in
-      let others = assertions bound (rs ++ here) annots in
+      let first = assertion w.unit bound rs a in
+      let others = assertions w.unit bound (rs ++ here) annots in
       subst (λ q. Follows w h low regs Next s (checks (a ∷ annots) s) q) (sym (before_is w.globals first others w.calls n regs t))
       (follows_then w h low regs Next s (check a s) (runs w n t first regs) (checks annots) (λ r u. runs w n u others r)
-      (assertion_follows w n low bound s t b.store_is h b m.bounded scopes scene found a p.0 q.0 l.0 rs behind regs (omega (arith, more, room, m.registers, longer (rs ++ here) rest)) m.anchored)
+      (assertion_follows w n low bound s t b.store_is h b m.bounded sight found a p.0 q.0 l.0 rs behind regs (omega (arith, more, room, m.registers, longer (rs ++ here) rest)) m.anchored)
       (λ to after u o same la be.
-      assertions_follow annots p.1 q.1 l.1 (rs ++ here) (omega (arith, behind, longer rs here)) (omega (arith, more, room)) after to u (subst (AreFound scopes.objects) (sym la.scope) found)
+      assertions_follow annots p.1 q.1 l.1 (rs ++ here) (omega (arith, behind, longer rs here)) (omega (arith, more, room)) after to u (subst (AreFound sight.entities) (sym la.scope) found)
       (standing_later w h low bound regs after s to o same la m) be))

@@ -1,7 +1,6 @@
 -- Births of variables: what lives, what is in sight and which registers point to it after them, on both sides.
 use Rattle.std.proofs.Common.{◌≡◌, ℕ, zero, suc, ◌+◌, ◌^◌, ◌<◌, ◌≤◌, Bool, true, false, cond, if◌then◌else◌, nat_eq, nat_le, nat_lt, List, [], ◌∷◌, ◌++◌, length, length-append, replicate, Option, Some, None, slice_get, refl, sym, ap, ◌∙◌}
 use Rattle.std.proofs.Common.{subst, arith}
-use Rattle.std.proofs.lemmas.Bool.{eq-eqb}
 use Rattle.std.proofs.lemmas.Bool.Decides.{nat_tests}
 use Rattle.std.specs.Prelude.{map}
 use Rattle.c_syntax.specs.declared.types.BlockKind.TheVariants.{Stack}
@@ -18,58 +17,52 @@ use Rattle.mon_syntax.specs.LiveBlocks.{LiveBlock, live_in}
 use Rattle.mon_syntax.proofs.FlatBlocks.{live-born}
 use Rattle.track_scopes.specs.Blocks.{with_pointer, entered, with_born}
 use Rattle.track_scopes.specs.Lives.{AreFrom, Point, PointInOrder, PointToBorn, with_variables}
-use Rattle.instrument.proofs.Standing.{Setting, Same, AreBytes, Bounded, Here, Standing, IsAnchored, Anchored}
+use Rattle.instrument.proofs.Standing.{Setting, Same, AreBytes, Bounded, Here, Standing, IsAnchored, InRegister, AtGlobal, IsInSight, Anchored}
 use Rattle.instrument.proofs.Following.{anchored_same}
-
--- ---- bindings
-
-pub register_of-bound_same : (x r : ℕ) (bs : Bindings) → register_of (bound_with x r bs) x ≡ Some r
-register_of-bound_same x r [] = ap (λ t. cond t (Some r) None) (eq-eqb x x refl)
-register_of-bound_same x r (b ∷ bs) = by (register_of-bound_same x r bs) (nat_eq b.0 x) refl
-  where
-    by : register_of (bound_with x r bs) x ≡ Some r → (t : Bool) → nat_eq b.0 x ≡ t → register_of (cond t ((x, r) ∷ bs) (b ∷ bound_with x r bs)) x ≡ Some r
-    by rest true e = ap (λ t. cond t (Some r) (register_of bs x)) (eq-eqb x x refl)
-    by rest false e = ap (λ t. cond t (Some b.1) (register_of (bound_with x r bs) x)) e ∙ rest
-
-pub register_of-bound_other : (x r y : ℕ) (bs : Bindings) → nat_eq x y ≡ false → register_of (bound_with x r bs) y ≡ register_of bs y
-register_of-bound_other x r y [] e = ap (λ t. cond t (Some r) None) e
-register_of-bound_other x r y (b ∷ bs) e = by (register_of-bound_other x r y bs e) (nat_eq b.0 x) refl
-  where
-    by : register_of (bound_with x r bs) y ≡ register_of bs y → (t : Bool) → nat_eq b.0 x ≡ t → register_of (cond t ((x, r) ∷ bs) (b ∷ bound_with x r bs)) y ≡ cond (nat_eq b.0 y) (Some b.1) (register_of bs y)
-    by rest true f =
-        let other : nat_eq b.0 y ≡ false = grind (arith, nat_tests) in
-        ap (λ t. cond t (Some r) (register_of bs y)) e ∙ sym (ap (λ t. cond t (Some b.1) (register_of bs y)) other)
-    by rest false f = ap (λ o. cond (nat_eq b.0 y) (Some b.1) o) rest
+use Rattle.instrument.proofs.Own.{AreOwn}
+use Rattle.mon_syntax.specs.declared.tree.MonType.TheVariants.{Ptr}
+use Rattle.instrument.proofs.Registers.{register_of-bound_same, register_of-bound_other}
 
 -- ---- names in sight
 
 -- a name is in sight, and its register points to its block
-pub anchored_born : (p number x : ℕ) (bound : Bindings) (regs : List Value) (scope : Scope) → slice_get regs p ≡ Some (Points (Into number 0)) → Anchored p bound regs scope → Anchored (suc p) (bound_with x p bound) regs ((x, number) ∷ scope)
-anchored_born p number x bound regs scope there h y at e = by (nat_eq x y) refl e
+pub anchored_born : (w : Setting) (p number x : ℕ) (bound : Bindings) (regs : List Value) (scope : Scope) → nat_eq x 4294967295 ≡ false → slice_get regs p ≡ Some (Points (Into number 0)) → Anchored w p bound regs scope
+    → Anchored w (suc p) (bound_with x p bound) regs ((x, number) ∷ scope)
+anchored_born w p number x bound regs scope own there h y at e = by (nat_eq x y) refl e
   where
-    by : (t : Bool) → nat_eq x y ≡ t → cond t (Some number) (find y scope) ≡ Some at → IsAnchored (suc p) (bound_with x p bound) regs y at
+    by : (t : Bool) → nat_eq x y ≡ t → cond t (Some number) (find y scope) ≡ Some at → IsInSight w (suc p) (bound_with x p bound) regs y at
     by true f g =
         let same : x ≡ y = grind (arith, nat_tests) in
         let one : number ≡ at = cc in
-        record { register = p; is_bound = ap (λ z. register_of (bound_with x p bound) z) (sym same) ∙ register_of-bound_same x p bound; below = omega arith; points = there ∙ ap (λ i. Some (Points (Into i 0))) one }
-    by false f g =
-        let a = h y at g in
-        record { register = a.register; is_bound = register_of-bound_other x p y bound f ∙ a.is_bound; below = omega (arith, a.below); points = a.points }
+        record {
+          own = subst (λ z. nat_eq z 4294967295 ≡ false) same own;
+          anchor = InRegister p (ap (λ z. register_of (bound_with x p bound) z) (sym same) ∙ register_of-bound_same x p bound) (omega arith) (there ∙ ap (λ i. Some (Points (Into i 0))) one);
+        }
+    by false f g = let a = h y at g in record { own = a.own; anchor = of_anchor a.anchor }
+      where
+        of_anchor : IsAnchored w p bound regs y at → IsAnchored w (suc p) (bound_with x p bound) regs y at
+        of_anchor (InRegister r is_bound below points) = InRegister r (register_of-bound_other x p y bound f ∙ is_bound) (omega (arith, below)) points
+        of_anchor (AtGlobal free is_global points) = AtGlobal (register_of-bound_other x p y bound f ∙ free) is_global points
 
-pub anchored_higher : (low high : ℕ) (bound : Bindings) (regs : List Value) (scope : Scope) → low ≤ high → Anchored low bound regs scope → Anchored high bound regs scope
-anchored_higher low high bound regs scope le h x number e = let a = h x number e in record { register = a.register; is_bound = a.is_bound; below = omega (arith, le, a.below); points = a.points }
+pub anchored_higher : (w : Setting) (low high : ℕ) (bound : Bindings) (regs : List Value) (scope : Scope) → low ≤ high → Anchored w low bound regs scope → Anchored w high bound regs scope
+anchored_higher w low high bound regs scope le h x number e = let a = h x number e in record { own = a.own; anchor = of_anchor a.anchor }
+  where
+    of_anchor : IsAnchored w low bound regs x number → IsAnchored w high bound regs x number
+    of_anchor (InRegister r is_bound below points) = InRegister r is_bound (omega (arith, le, below)) points
+    of_anchor (AtGlobal free is_global points) = AtGlobal free is_global points
 
 -- all that were born are in sight
-pub anchored_entered : (structs : List StructType) (ds : List Declaration) (r : RegisterTable) (p : ℕ) (regs : List Value) (s : State) → length r.kinds ≡ p → PointInOrder regs p (length s.store + 1) ds → Anchored p r.bound regs s.scope
-    → Anchored (p + length ds) (entered ds r).bound regs (with_variables structs ds s).scope
-anchored_entered structs [] r p regs s e there h = anchored_higher p (p + 0) r.bound regs s.scope (omega arith) h
-anchored_entered structs (d ∷ ds) r p regs s e there h =
+pub anchored_entered : (w : Setting) (structs : List StructType) (ds : List Declaration) (r : RegisterTable) (p : ℕ) (regs : List Value) (s : State) → AreOwn ds → length r.kinds ≡ p → PointInOrder regs p (length s.store + 1) ds
+    → Anchored w p r.bound regs s.scope
+    → Anchored w (p + length ds) (entered ds r).bound regs (with_variables structs ds s).scope
+anchored_entered w structs [] r p regs s own e there h = anchored_higher w p (p + 0) r.bound regs s.scope (omega arith) h
+anchored_entered w structs (d ∷ ds) r p regs s own e there h =
     let to : State = record s { store = s.store ++ new_block Stack (size_of structs d.ctype) ∷ []; scope = (number_of d, length s.store + 1) ∷ s.scope } in
     let long : suc (length s.store + 1) ≡ length to.store + 1 = omega (arith, length-append s.store (new_block Stack (size_of structs d.ctype) ∷ [])) in
     let sum : suc p + length ds ≡ p + suc (length ds) = omega arith in
-    subst (λ n. Anchored n (entered (d ∷ ds) r).bound regs (with_variables structs (d ∷ ds) s).scope) sum
-    (anchored_entered structs ds (with_pointer d r) (suc p) regs to (omega (arith, e, length-append r.kinds (Rattle.mon_syntax.specs.declared.tree.MonType.TheVariants.Ptr ∷ []))) (subst (λ n. PointInOrder regs (suc p) n ds) long there.1)
-    (subst (λ i. Anchored (suc p) (bound_with (number_of d) i r.bound) regs to.scope) (sym e) (anchored_born p (length s.store + 1) (number_of d) r.bound regs s.scope there.0 h)))
+    subst (λ n. Anchored w n (entered (d ∷ ds) r).bound regs (with_variables structs (d ∷ ds) s).scope) sum
+    (anchored_entered w structs ds (with_pointer d r) (suc p) regs to own.1 (omega (arith, e, length-append r.kinds (Ptr ∷ []))) (subst (λ n. PointInOrder regs (suc p) n ds) long there.1)
+    (subst (λ i. Anchored w (suc p) (bound_with (number_of d) i r.bound) regs to.scope) (sym e) (anchored_born w p (length s.store + 1) (number_of d) r.bound regs s.scope own.0 there.0 h)))
 
 -- the numbers of names in sight
 abbrev pub names_of : Scope → List ℕ
@@ -221,11 +214,11 @@ module _ (w : Setting) (h : Here) (low : ℕ) (r : RegisterTable) (ds : List Dec
   pub are_new : AreFrom (length s.store) new
   are_new = blocks_from w.unit.structs (length s.store) (length s.store + 1) ds [] (omega arith) tt
 
-  pub standing_born : Standing w (record h { inner = with_blocks w.unit.structs (length s.store + 1) ds h.inner }) (length r.kinds + length ds) (entered ds r).bound after to
-  standing_born =
+  pub standing_born : AreOwn ds → Standing w (record h { inner = with_blocks w.unit.structs (length s.store + 1) ds h.inner }) (length r.kinds + length ds) (entered ds r).bound after to
+  standing_born own =
       let b = besides w.unit.structs ds s in
       record {
-        anchored = anchored_entered w.unit.structs ds r (length r.kinds) after s refl born.point (anchored_higher low (length r.kinds) r.bound after s.scope le (anchored_same low r.bound regs after s.scope new_same st.anchored));
+        anchored = anchored_entered w w.unit.structs ds r (length r.kinds) after s own refl born.point (anchored_higher w low (length r.kinds) r.bound after s.scope le (anchored_same w low r.bound regs after s.scope new_same st.anchored));
         active = b.calls ∙ st.active;
         live =
             live_with w.unit.structs ds s ∙ ap (with_blocks w.unit.structs (length s.store + 1) ds) st.live

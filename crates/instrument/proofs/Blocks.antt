@@ -24,6 +24,7 @@ use Rattle.instrument.proofs.Lives.{length-killed}
 use Rattle.instrument.proofs.Deaths.{kill_more, bounded_killed, all_before, live_killed}
 use Rattle.instrument.proofs.Following.{Later, Follows, GoesOn, Breaks, Continues, IsLeft, IsOver, IsUndefined, standing_later}
 use Rattle.instrument.proofs.Births.{names_of, names_of-born, with_numbers, with_blocks, Pointed, pointed_point, pointed_same, pointed_born, besides, long_with, behind_births, new_same, new_live, are_new, standing_born}
+use Rattle.instrument.proofs.Own.{AreOwn}
 
 -- ---- states from which statements go on
 
@@ -114,7 +115,7 @@ alive_runs w n t p ds a regs =
     ∙ ap (λ g. then_do (runs w n t (target.births w.unit.structs p ds) regs) (at_next g)) (λ i r u. before_is w.globals a (deaths (with_born p ds [])) w.calls n r u i)
 
 module _ (w : Setting) (h : Here) (spot : Spot) (low : ℕ) (r : RegisterTable) (living : List ℕ) (ds : List Declaration) (le : low ≤ length r.kinds) (regs : List Value) (s : State) (t : Target)
-    (m : Meets w h spot low r.bound living regs s t) where
+    (m : Meets w h spot low r.bound living regs s t) (own : AreOwn ds) where
   abbrev p : ℕ
   p = length r.kinds
 
@@ -131,7 +132,7 @@ module _ (w : Setting) (h : Here) (spot : Spot) (low : ℕ) (r : RegisterTable) 
     meets_inside =
         let b = besides w.unit.structs ds s in
         record {
-          standing = standing_born w h low r ds regs after s le m.standing born done;
+          standing = standing_born w h low r ds regs after s le m.standing born done own;
           beside = record { store_is = refl; frames = m.beside.frames; steps = m.beside.steps ∙ sym b.steps; input = m.beside.input ∙ sym b.input };
           inside = pointed_born w.unit.structs p (length s.store + 1) ds after spot.inside h.inner born.point (pointed_same low p regs after spot.inside h.inner le (λ j lt. born.before j (omega (arith, lt, le))) m.inside);
           outside = pointed_same low (p + length ds) regs after spot.outside h.outer (omega (arith, le)) (λ j lt. born.before j (omega (arith, lt, le))) m.outside;

@@ -1,61 +1,88 @@
 -- What a typed call calls: a function of the library, or one of the program, which does the same on both sides.
-use Rattle.std.proofs.Common.{◌≡◌, ℕ, zero, suc, ◌+◌, Bool, true, false, if◌then◌else◌, List, [], ◌∷◌, ◌++◌, length, map, Option, Some, None, refl, sym, ap, ◌∙◌, subst, arith}
+use Rattle.std.proofs.Common.{◌≡◌, ℕ, zero, suc, ◌+◌, Bool, true, false, ◌&&◌, if◌then◌else◌, nat_eq, List, [], ◌∷◌, Option, Some, None, refl, sym, ap, ◌∙◌, subst, arith}
 use Rattle.std.proofs.lemmas.List.{append-nil}
+use Rattle.std.proofs.lemmas.Bool.Decides.{nat_tests}
 use Rattle.std.specs.Prelude.{slice_get, bytes_eq, codes}
 use Rattle.c_syntax.specs.declared.place.Place.{Place}
-use Rattle.c_syntax.specs.declared.types.CInt.{CInt}
 use Rattle.c_syntax.specs.declared.types.CInt.TheVariants.{I32}
 use Rattle.c_syntax.specs.declared.expression.Use.{Use}
-use Rattle.c_syntax.specs.Ctypes.{PlainType, Void, Int, int_type}
+use Rattle.c_syntax.specs.Ctypes.{PlainType, Void, int_type}
 use Rattle.c_syntax.specs.Expressions.{Expressions}
+use Rattle.c_syntax.specs.Statements.{Declaration}
 use Rattle.c_syntax.specs.Programs.{Function, TranslationUnit}
 use Rattle.c_model.specs.Memory.{Value, Store}
 use Rattle.c_model.specs.State.{State, Spent, Over, Stop, Evaluation, ◌>>◌, on_outcome, step_from, frame, alone, mark, within}
-use Rattle.c_model.specs.Meaning.{Tables, tables_of, global_scope, is_of_library, definition_at, call_with, call_of, library_call, parameters, returned_by, body_with}
-use Rattle.c_model.specs.Typing.{Signature, Scopes, name_at, library_function, of_library}
-use Rattle.c_model.specs.ProgramTyping.{signature, function_scopes}
-use Rattle.c_model.specs.WellTyped.{HaveTypes, Calls}
-use Rattle.c_model.specs.Formed.{IsProgram}
-use Rattle.mon_syntax.specs.Meaning.{Stops, then_do, level, body_runs, with_value}
+use Rattle.c_model.specs.Meaning.{Tables, tables_of, is_definition, global_scope, is_of_library, definition_at, call_with, call_of, library_call, parameters, returned_by, body_with}
+use Rattle.c_model.specs.Layouts.{IntegerType}
+use Rattle.c_model.specs.ExpressionTyping.{Sight, Signature, name_at, library_function, of_library, inner}
+use Rattle.c_model.specs.UnitTyping.{types_of}
+use Rattle.c_model.specs.TypedTrees.{HaveTypes, Calls, IsScalar}
+use Rattle.mon_syntax.specs.Meaning.{Result, Done, Stops, then_do, eval_all, level, body_runs, with_value}
 use Rattle.mon_syntax.specs.Meaning as monitored
 use Rattle.mon_syntax.specs.BlockMemory.{over_blocks}
 use Rattle.mon_syntax.specs.LiveBlocks.{LiveBlock}
-use Rattle.mon_syntax.specs.Trees.{MonExpression, MonFunction}
+use Rattle.mon_syntax.specs.Trees.{MonExpression, MonFunction, MonStatements}
 use Rattle.mon_syntax.specs.Trees as tree
-use Rattle.instrument.specs.Limits.{FunctionsHaveNumbers}
 use Rattle.c_effects.specs.Expressions.{one}
-use Rattle.instrument.specs.Translation.{function_of}
+use Rattle.instrument.specs.Translation.{function_of, functions_from, front_temporaries, index_of_main}
 use Rattle.c_effects.specs.Effects.{index_of, call}
 use Rattle.c_effects.specs.Effects as effects
 use Rattle.instrument.proofs.Standing.{Target, Setting, runs, Anchored}
 use Rattle.instrument.proofs.Results.{one_is}
-use Rattle.instrument.proofs.Births.{names_of}
-use Rattle.instrument.proofs.Numbers.{AreObjects, parameter_objects}
-use Rattle.instrument.proofs.Calls.{Called, EndsRun, AreOf, HaveAll, takes, DoesCall, AllDo, IsCalled}
+use Rattle.c_model.specs.AcceptedPrograms.{AreScalar}
+use Rattle.instrument.proofs.Calls.{Called, EndsRun, HaveAll, takes, DoesCall, AllDo, IsCalled}
 use Rattle.instrument.proofs.Functions.{setting, call_follows}
-use Rattle.instrument.proofs.Library.{putchar_does, getchar_does, exit_does, nothing_does}
-use Rattle.instrument.proofs.Programs.{Part, index_by, IsPicked, has_number, index_is}
-use Rattle.instrument.proofs.Objects.{parameter_ints}
-use Rattle.instrument.proofs.Resolved.{IsOther, IsResolved, IsFunction, IsOfLibrary, IsNothing, ints_of, main as resolved_main, functions as resolved_functions, resolved, has_body}
-use Rattle.instrument.proofs.Bodies.{AreApart, body_follows, has_room}
+use Rattle.instrument.proofs.Library.{putchar_does, getchar_does, exit_does}
+use Rattle.instrument.proofs.Resolved.{IsResolved, IsFunction, IsOfLibrary}
+use Rattle.instrument.proofs.Programs.{Part, Parts, picked, index_by, IsPicked, is_picked, has_number, definition_is, index_is}
+use Rattle.instrument.proofs.Bodies.{LiteralsStand, first_of, has_body, body_follows, has_room, parameters_are, parameters_own, parameters_scalars}
+use Rattle.instrument.proofs.Parameters.{AreScalars}
 
 -- by the signature that is called
-called_as : (w : Setting) (n : ℕ) (f : Use) (t : PlainType) (es : Expressions) (params : List PlainType) (result : PlainType) (ints : List CInt) → HaveTypes params es → params ≡ map (λ k. Int k) ints → t ≡ result
-    → AllDo w n f result (map (λ k. Int k) ints) → IsCalled w n f t es
-called_as w n f t es params result ints types same e does = record {
-  ints = ints;
-  arguments = subst (λ l. HaveTypes l es) same types;
-  does = subst (λ r. AllDo w n f r (map (λ k. Int k) ints)) (sym e) does;
+called_as : (w : Setting) (n : ℕ) (f : Use) (t : PlainType) (es : Expressions) (params : List PlainType) (result : PlainType) → AreScalar params → HaveTypes params es → t ≡ result → AllDo w n f result params → IsCalled w n f t es
+called_as w n f t es params result scalars types same does = record {
+  types = params;
+  scalars = scalars;
+  arguments = types;
+  does = subst (λ r. AllDo w n f r params) (sym same) does;
 }
 
--- the pointers to the globals stand so at the beginning of each call, and globals have numbers apart from those of a function
-module _ (p : TranslationUnit) (q : IsProgram p) (numbers : FunctionsHaveNumbers p.funcs) (gs : List Value) (anchored : (low : ℕ) (regs : List Value) → Anchored low [] regs (global_scope 1 p.globals))
-    (apart : (f : Function) (part : Part p f) → AreApart p f part (names_of (global_scope 1 p.globals))) where
-  abbrev main : ℕ
-  main = resolved_main p q numbers
+parameters_scalar : (ds : List Declaration) → AreScalars ds → AreScalar (types_of ds)
+parameters_scalar [] h = tt
+parameters_scalar (d ∷ ds) h = (h.0, parameters_scalar ds h.1)
 
-  abbrev functions : List MonFunction
-  functions = resolved_functions p q numbers
+an_int : IsScalar int_type
+an_int = record { scalar = IntegerType I32; is = refl }
+
+-- the function that a number picks isn't the one that a name picks, where it has another name
+differs : (p : TranslationUnit) (x : ℕ) (fs : List Function) (g : Function) → picked (has_number x) fs ≡ Some g → bytes_eq (name_at p.names g.name) (codes "main") ≡ false → nat_eq (index_by (has_number x) fs) (index_of_main p.names fs) ≡ false
+differs p x [] g e other = absurd cc
+differs p x (f ∷ fs) g e other = by (λ h. differs p x fs g h other) (is_definition f) (has_number x f) (bytes_eq (name_at p.names f.name) (codes "main")) refl e
+  where
+    by : (picked (has_number x) fs ≡ Some g → nat_eq (index_by (has_number x) fs) (index_of_main p.names fs) ≡ false) → (d h m : Bool) → bytes_eq (name_at p.names f.name) (codes "main") ≡ m
+        → (if d && h then Some f else picked (has_number x) fs) ≡ Some g
+        → nat_eq (if d then (if h then 0 else suc (index_by (has_number x) fs)) else index_by (has_number x) fs) (if d then (if m then 0 else suc (index_of_main p.names fs)) else index_of_main p.names fs) ≡ false
+    by rest false h m i j = rest j
+    by rest true false true i j = grind (arith, nat_tests)
+    by rest true false false i j = let before = rest j in grind (arith, nat_tests)
+    by rest true true false i j = grind (arith, nat_tests)
+    by rest true true true i j =
+        let same : f ≡ g = cc in
+        let both : bytes_eq (name_at p.names f.name) (codes "main") ≡ false = ap (λ (h : Function). bytes_eq (name_at p.names h.name) (codes "main")) same ∙ other in
+        absurd cc
+
+nothing_before : (n : ℕ) → 0 + n ≡ n
+nothing_before n = omega arith
+
+-- what a program's text tells of its functions, and what stands where at the beginning of each call: the pointers to globals and literals
+module _ (p : TranslationUnit) (parts : Parts p p.funcs) (gs : List Value)
+    (anchored : (w : Setting) → w.unit ≡ p → w.globals ≡ gs → (low : ℕ) (regs : List Value) → Anchored w low [] regs (global_scope 1 p.globals))
+    (literals : LiteralsStand p gs) where
+  abbrev pub main : ℕ
+  main = index_of_main p.names p.funcs
+
+  abbrev pub functions : List MonFunction
+  functions = functions_from p main 0 p.funcs
 
   abbrev T : Tables
   T = tables_of p
@@ -77,8 +104,8 @@ module _ (p : TranslationUnit) (q : IsProgram p) (numbers : FunctionsHaveNumbers
 
   -- the calls of all functions do the same
   abbrev pub CallsAt : ℕ → Type 0
-  CallsAt k = (registers base : ℕ) (around : List LiveBlock) (active : ℕ) (before after : List Function) (current : Function) → before ++ (current ∷ after) ≡ p.funcs → (s : Scopes) → s.names ≡ p.names
-      → s.functions ≡ map (signature p.funcs) (before ++ current ∷ []) → (f : Use) (t : PlainType) (es : Expressions) → Calls s f t es → IsCalled (at_depth k registers base around active) k f t es
+  CallsAt k = (registers base : ℕ) (around : List LiveBlock) (active : ℕ) (current : Function) (part : Part p current) (s : Sight) → s.names ≡ part.sight.names → s.functions ≡ part.sight.functions
+      → (f : Use) (t : PlainType) (es : Expressions) → Calls s f t es → IsCalled (at_depth k registers base around active) k f t es
 
   module _ (registers base : ℕ) (around : List LiveBlock) (active : ℕ) where
     abbrev w : ℕ → Setting
@@ -102,25 +129,22 @@ module _ (p : TranslationUnit) (q : IsProgram p) (numbers : FunctionsHaveNumbers
         leave : Signature
         leave = of_library f.name (int_type ∷ []) Void
 
-        found : (sig : Signature) (ints : List CInt) → Some sig ≡ Some callee → sig.params ≡ map (λ k. Int k) ints → AllDo (w k) k f sig.result (map (λ k. Int k) ints) → IsCalled (w k) k f t es
-        found sig ints h params does =
+        found : (sig : Signature) → Some sig ≡ Some callee → AreScalar sig.params → AllDo (w k) k f sig.result sig.params → IsCalled (w k) k f t es
+        found sig h scalars does =
             let same : sig ≡ callee = cc in
-            called_as (w k) k f t es callee.params sig.result ints types (ap (λ (g : Signature). g.params) (sym same) ∙ params) (result ∙ ap (λ (g : Signature). g.result) (sym same)) does
+            called_as (w k) k f t es sig.params sig.result scalars (subst (λ (g : Signature). HaveTypes g.params es) (sym same) types) (result ∙ ap (λ (g : Signature). g.result) (sym same)) does
 
         by : (a b c : Bool) → bytes_eq name (codes "putchar") ≡ a → bytes_eq name (codes "getchar") ≡ b → bytes_eq name (codes "exit") ≡ c → (if a then Some put else (if b then Some get else (if c then Some leave else None))) ≡ Some callee
             → IsCalled (w k) k f t es
-        by true b c x y z h = found put (I32 ∷ []) h refl (putchar_does (w k) k (suc k) refl f l x)
-        by false true c x y z h = found get [] h refl (getchar_does (w k) k (suc k) refl f l x y)
-        by false false true x y z h = found leave (I32 ∷ []) h refl (exit_does (w k) k (suc k) refl f l x y z)
+        by true b c x y z h = found put h (an_int, tt) (putchar_does (w k) k (suc k) refl f l x)
+        by false true c x y z h = found get h tt (getchar_does (w k) k (suc k) refl f l x y)
+        by false false true x y z h = found leave h (an_int, tt) (exit_does (w k) k (suc k) refl f l x y z)
         by false false false x y z h = absurd cc
-
-    -- a call that the source doesn't make, with arguments of any types
-    nothing_called : (k : ℕ) (f : Use) (t : PlainType) (es : Expressions) → is_of_library f ≡ true → IsOther (name_at p.names f.name) → (ints : List CInt) → HaveTypes (map (λ k. Int k) ints) es → IsCalled (w k) k f t es
-    nothing_called k f t es l o ints types = record { ints = ints; arguments = types; does = nothing_does (w k) k (suc k) refl f l o.putchar o.getchar o.exit (map (λ k. Int k) ints) t }
 
     -- ---- a call of a function of the program
 
-    module _ (f : Use) (g : Function) (l : is_of_library f ≡ false) (found : definition_at f.decl p.funcs ≡ Some g) (picked : IsPicked p (has_number f.decl) main 0 p.funcs g) where
+    module _ (f : Use) (g : Function) (l : is_of_library f ≡ false) (found : definition_at f.decl p.funcs ≡ Some g) (picked : IsPicked p (has_number f.decl) main 0 p.funcs g)
+        (not_main : nat_eq (0 + index_by (has_number f.decl) p.funcs) main ≡ false) where
       abbrev index : ℕ
       index = 0 + index_by (has_number f.decl) p.funcs
 
@@ -147,11 +171,8 @@ module _ (p : TranslationUnit) (q : IsProgram p) (numbers : FunctionsHaveNumbers
       part : Part p g
       part = picked.part
 
-      objects : AreObjects g.params
-      objects = parameter_objects (function_scopes p part.before g) g.params part.typed.params
-
       -- no call is made where no step is left
-      function_zero : AllDo (w 0) 0 f g.result (map (λ k. Int k) (parameter_ints g.params))
+      function_zero : AllDo (w 0) 0 f g.result (types_of g.params)
       function_zero vs types s t even bounded le at into regs args has =
           DoesCall (Stops Spent 0 []) (calls_run 0 into args vs regs t has)
           (EndsRun Spent s [] (λ h. absurd cc)
@@ -164,36 +185,48 @@ module _ (p : TranslationUnit) (q : IsProgram p) (numbers : FunctionsHaveNumbers
           spent : (k : ℕ) → k ≡ 0 → on_outcome (step_from k s) (λ _. inside) ≡ Stop (Over Spent) s
           spent k e = ap (λ i. on_outcome (step_from i s) (λ _. inside)) e
 
-      function_more : (k : ℕ) → CallsAt k → AllDo (w (suc k)) (suc k) f g.result (map (λ k. Int k) (parameter_ints g.params))
+      function_more : (k : ℕ) → CallsAt k → AllDo (w (suc k)) (suc k) f g.result (types_of g.params)
       function_more k below vs types s t even bounded le at into regs args has =
           let body = has_body p g part picked.definition in
           let deeper = level over_blocks gs functions k in
-          let calls_below = λ (store : Store) (active : ℕ) (s : Scopes) (names : s.names ≡ p.names) (signatures : s.functions ≡ map (signature p.funcs) (part.before ++ g ∷ [])) (u : Use) (t : PlainType) (es : Expressions) (c : Calls s u t es).
-          let inner = setting p gs main index g (call_of p (suc k)) deeper k store active in
-          below inner.registers inner.base inner.around active part.before part.after g part.is s names signatures u t es c in
+          let there = λ (store : Store) (active : ℕ). setting p gs main index g (call_of p (suc k)) deeper k store active in
+          let calls_below = λ (store : Store) (active : ℕ) (s : Sight) (names : s.names ≡ part.sight.names) (signatures : s.functions ≡ part.sight.functions) (u : Use) (t : PlainType) (es : Expressions) (c : Calls s u t es).
+          let inner = there store active in
+          below inner.registers inner.base inner.around active g part s names signatures u t es c in
           DoesCall (level over_blocks gs functions (suc k) (index_of f.decl p.funcs) vs t) (calls_run (suc k) into args vs regs t has)
           (subst (λ r. Called s g.result r (level over_blocks gs functions (suc k) (index_of f.decl p.funcs) vs t)) (sym (source_is (suc k) at vs s))
           (subst (λ o. Called s g.result (call_with T (global_scope 1 p.globals) (Some g) (call_of p (suc k)) (suc k) at vs s)
           (monitored.step_from t.steps (λ j. body_runs over_blocks gs o deeper k vs (record t { steps = j }))))
           (sym function_is)
-          (call_follows p gs main index g (call_of p (suc k)) deeper k (λ regs. anchored (length g.params) regs)
-          (has_room p gs main index g part body (call_of p (suc k)) deeper k (apart g part) calls_below)
-          objects
-          (body_follows p gs main index g part body (call_of p (suc k)) deeper k (apart g part) calls_below)
-          vs (subst (λ ts. AreOf ts vs) (sym (ints_of g.params objects)) types) at s t even bounded le)))
+          (call_follows p gs main index g (call_of p (suc k)) deeper k not_main
+          (λ store active regs. anchored (there store active) refl refl (first_of (front_temporaries p (nat_eq index main)) g) regs)
+          (has_room p gs main index g part body (call_of p (suc k)) deeper k literals calls_below)
+          (parameters_are p gs main index g part body (call_of p (suc k)) deeper k literals calls_below)
+          (parameters_own p gs main index g part body (call_of p (suc k)) deeper k literals calls_below)
+          (body_follows p gs main index g part body (call_of p (suc k)) deeper k literals calls_below)
+          vs types at s t even bounded le)))
 
     -- what is called, so deep
-    called_at : (k : ℕ) (f : Use) (t : PlainType) (es : Expressions) (callee : Signature) → HaveTypes callee.params es → ((g : Function) → is_of_library f ≡ false → definition_at f.decl p.funcs ≡ Some g
-        → IsPicked p (has_number f.decl) main 0 p.funcs g → AllDo (w k) k f g.result (map (λ k. Int k) (parameter_ints g.params))) → IsResolved p main f t callee → IsCalled (w k) k f t es
-    called_at k f t es callee types go (IsFunction g l found picked name params result) =
-        let objects = parameter_objects (function_scopes p picked.part.before g) g.params picked.part.typed.params in
-        called_as (w k) k f t es callee.params g.result (parameter_ints g.params) types (params ∙ ints_of g.params objects) result (go g l found picked)
-    called_at k f t es callee types go (IsOfLibrary l found result) = library_called k f t es callee l found result types
-    called_at k f t es callee types go (IsNothing l o ints params) = nothing_called k f t es l o ints (subst (λ ts. HaveTypes ts es) params types)
+    called_at : (k : ℕ) (f : Use) (t : PlainType) (es : Expressions) (callee : Signature) → HaveTypes callee.params es → bytes_eq (name_at p.names f.name) (codes "main") ≡ false
+        → ((g : Function) → is_of_library f ≡ false → definition_at f.decl p.funcs ≡ Some g → IsPicked p (has_number f.decl) main 0 p.funcs g → nat_eq (0 + index_by (has_number f.decl) p.funcs) main ≡ false → AllDo (w k) k f g.result
+        (types_of g.params))
+        → IsResolved p f t callee → IsCalled (w k) k f t es
+    called_at k f t es callee types other go (IsFunction g l found name params result) =
+        let first : picked (has_number f.decl) p.funcs ≡ Some g = sym (definition_is f.decl p.funcs) ∙ found in
+        let pick = is_picked p (has_number f.decl) main p.funcs g parts first 0 in
+        let not_main : nat_eq (0 + index_by (has_number f.decl) p.funcs) main ≡ false = ap (λ i. nat_eq i main) (nothing_before (index_by (has_number f.decl) p.funcs)) ∙ differs p f.decl p.funcs g first
+        (ap (λ x. bytes_eq (name_at p.names x) (codes "main")) name ∙ other) in
+        called_as (w k) k f t es (types_of g.params) g.result (parameters_scalar g.params (parameters_scalars (inner pick.part.sight) g.params pick.part.typed.params)) (subst (λ ts. HaveTypes ts es) params types) result (go g l found pick not_main)
+    called_at k f t es callee types other go (IsOfLibrary l found result) = library_called k f t es callee l found result types
+
+  -- a call in this part isn't one of main
+  no_main : (current : Function) (part : Part p current) (s : Sight) (f : Use) (t : PlainType) (es : Expressions) → s.names ≡ part.sight.names → Calls s f t es → bytes_eq (name_at p.names f.name) (codes "main") ≡ false
+  no_main current part s f t es names c = ap (λ l. bytes_eq (name_at l f.name) (codes "main")) (sym (names ∙ part.names)) ∙ c.not_main
 
   pub calls_at : (k : ℕ) → CallsAt k
-  calls_at zero registers base around active before after current place s names signatures f t es c =
-      called_at registers base around active 0 f t es c.callee c.arguments (λ g l found picked. function_zero registers base around active f g l found picked) (resolved p q numbers before after current place s names signatures f t es c)
-  calls_at (suc k) registers base around active before after current place s names signatures f t es c =
-      called_at registers base around active (suc k) f t es c.callee c.arguments (λ g l found picked. function_more registers base around active f g l found picked k (calls_at k))
-      (resolved p q numbers before after current place s names signatures f t es c)
+  calls_at zero registers base around active current part s names signatures f t es c =
+      called_at registers base around active 0 f t es c.callee c.arguments (no_main current part s f t es names c) (λ g l found picked not_main. function_zero registers base around active f g l found picked not_main)
+      (part.resolves s names signatures f t es c)
+  calls_at (suc k) registers base around active current part s names signatures f t es c =
+      called_at registers base around active (suc k) f t es c.callee c.arguments (no_main current part s f t es names c) (λ g l found picked not_main. function_more registers base around active f g l found picked not_main k (calls_at k))
+      (part.resolves s names signatures f t es c)

@@ -1,14 +1,14 @@
 -- What a call does on both sides: where the source's comes back, so does the target's, with the same value and the same blocks.
-use Rattle.std.proofs.Common.{◌≡◌, ◌≢◌, ℕ, ◌≤◌, List, [], ◌∷◌, ◌++◌, map, Option, Some, None, sym, ◌∙◌}
+use Rattle.std.proofs.Common.{◌≡◌, ◌≢◌, ℕ, ◌≤◌, List, [], ◌∷◌, ◌++◌, Option, Some, None, sym, ◌∙◌}
 use Rattle.c_syntax.specs.declared.place.Place.{Place}
-use Rattle.c_syntax.specs.declared.types.CInt.{CInt}
 use Rattle.c_syntax.specs.declared.expression.Use.{Use}
-use Rattle.c_syntax.specs.Ctypes.{PlainType, Int}
+use Rattle.c_syntax.specs.Ctypes.{PlainType}
 use Rattle.c_syntax.specs.Expressions.{Expressions}
 use Rattle.c_model.specs.Memory.{Value, NoValue}
 use Rattle.c_model.specs.State.{State, Final, Fault, Undefined, Over, Outcome, Normal, Stop}
 use Rattle.c_model.specs.Reports.{Extends}
-use Rattle.c_model.specs.WellTyped.{HaveTypes}
+use Rattle.c_model.specs.TypedTrees.{HaveTypes}
+use Rattle.c_model.specs.AcceptedPrograms.{AreScalar}
 use Rattle.mon_syntax.specs.Meaning.{Result, Done, Stops, Next, then_do, given_to, eval_all}
 use Rattle.mon_syntax.specs.BlockMemory.{Blocks, over_blocks}
 use Rattle.mon_syntax.specs.Trees.{MonExpression}
@@ -66,9 +66,10 @@ AllDo w n f result types = (vs : List Value) → AreOf types vs → (s : State) 
 
 -- a function that is called with arguments of these types
 pub record IsCalled (w : Setting) (n : ℕ) (f : Use) (result : PlainType) (es : Expressions) : Type 0 where
-  pub ints : List CInt
-  pub arguments : HaveTypes (map (λ k. Int k) ints) es
-  pub does : AllDo w n f result (map (λ k. Int k) ints)
+  pub types : List PlainType
+  pub scalars : AreScalar types
+  pub arguments : HaveTypes types es
+  pub does : AllDo w n f result types
 
 -- ---- between calls and statements
 

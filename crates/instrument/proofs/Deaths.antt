@@ -7,10 +7,10 @@ use Rattle.track_scopes.specs.Lives.{AreFrom, AreBefore}
 use Rattle.instrument.proofs.Standing.{Bounded}
 use Rattle.instrument.proofs.Lives.{up_to, AllUpTo, AllAbove, up_to-all, up_to-behind, live-numbered, live-killed}
 
-abbrev ended : Block → Block
+abbrev pub ended : Block → Block
 ended b = record b { live = b.live && not (is_stack b.kind) }
 
-ended_other : (b : Block) → is_live_on_stack b ≡ false → ended b ≡ b
+pub ended_other : (b : Block) → is_live_on_stack b ≡ false → ended b ≡ b
 ended_other b e = ap (λ l. record b { live = l }) (by b.live (is_stack b.kind) e)
   where
     by : (l k : Bool) → (l && k) ≡ false → (l && not k) ≡ l
@@ -25,7 +25,7 @@ none_killed zero (b ∷ bs) h =
     ap (λ c. c ∷ kill_from zero bs) (ended_other b (h 0 b (omega arith) refl)) ∙ ap (λ cs. b ∷ cs) (none_killed zero bs (λ k c le e. h (suc k) c (omega arith) e))
 none_killed (suc n) (b ∷ bs) h = ap (λ cs. b ∷ cs) (none_killed n bs (λ k c le e. h (suc k) c (omega (arith, le)) e))
 
-before_found : (n j : ℕ) (bs : Store) (found : List LiveBlock) → AreBefore n (live_from j bs found) → AreBefore n found
+pub before_found : (n j : ℕ) (bs : Store) (found : List LiveBlock) → AreBefore n (live_from j bs found) → AreBefore n found
 before_found n j [] found h = h
 before_found n j (b ∷ bs) found h = by (λ more g. before_found n (suc j) bs more g) (is_live_on_stack b) h
   where
@@ -85,22 +85,6 @@ before-up_to n (b ∷ bs) h = (h.0, before-up_to n bs h.1)
 -- all that live were born
 pub all_before : (store : Store) → AreBefore (length store) (live_in store)
 all_before store = up_to-before (length store) (live_in store) (live-numbered store)
-
-pub before_more : (m n : ℕ) (bs : List LiveBlock) → m ≤ n → AreBefore m bs → AreBefore n bs
-before_more m n [] le h = tt
-before_more m n (b ∷ bs) le h = (omega (arith, le, h.0), before_more m n bs le h.1)
-
-pub from_less : (m n : ℕ) (bs : List LiveBlock) → m ≤ n → AreFrom n bs → AreFrom m bs
-from_less m n [] le h = tt
-from_less m n (b ∷ bs) le h = (omega (arith, le, h.0), from_less m n bs le h.1)
-
-pub from_append : (n : ℕ) (xs bs : List LiveBlock) → AreFrom n xs → AreFrom n bs → AreFrom n (xs ++ bs)
-from_append n [] bs h g = g
-from_append n (x ∷ xs) bs h g = (h.0, from_append n xs bs h.1 g)
-
-pub before_append : (n : ℕ) (xs bs : List LiveBlock) → AreBefore n xs → AreBefore n bs → AreBefore n (xs ++ bs)
-before_append n [] bs h g = g
-before_append n (x ∷ xs) bs h g = (h.0, before_append n xs bs h.1 g)
 
 -- what lives where all from an index on are dead
 pub live_killed : (n : ℕ) (store : Store) (inside outside : List LiveBlock) → live_in store ≡ inside ++ outside → AreFrom n inside → AreBefore n outside → live_in (kill_from n store) ≡ outside

@@ -1,23 +1,25 @@
 -- What is declared in statements: it is new there, so that the names in sight keep their registers.
-use Rattle.std.proofs.Common.{◌≡◌, ℕ, ◌+◌, ◌≤◌, Bool, true, false, cond, nat_eq, List, [], ◌∷◌, ◌++◌, length, length-append, Some, refl, sym, ◌∙◌, subst, arith}
+use Rattle.std.proofs.Common.{◌≡◌, ℕ, ◌≤◌, Bool, true, false, cond, nat_eq, List, [], ◌∷◌, ◌++◌, length, length-append, Some, refl, sym, ◌∙◌, subst, arith}
 use Rattle.std.proofs.lemmas.Bool.Decides.{nat_tests}
-use Rattle.c_syntax.specs.Programs.{StructType}
+use Rattle.c_syntax.specs.Programs.{TranslationUnit}
 use Rattle.c_syntax.specs.Statements.{Declaration, Statement, Empty, Eval, Block, If, While, Do, For, Break, Continue, Return, ElsePart, NoElse, Else, ForFirst, NoFirst, First, BlockItem, Declare, Run, Asserts, BlockItems, NoItem, Then}
 use Rattle.c_model.specs.Memory.{Value}
 use Rattle.c_model.specs.State.{State, Scope, find}
 use Rattle.c_model.specs.Meaning.{declared_in, declared_first}
 use Rattle.c_model.specs.Formed.{number_of, declared_within, declared_in_else, declared_in_first, declared_in_item, declared_in_items}
 use Rattle.mon_syntax.specs.declared.tree.MonType.{MonType}
-use Rattle.mon_syntax.specs.declared.tree.MonType.TheVariants.{Ptr}
 use Rattle.mon_syntax.specs.Registers.{RegisterTable, register_of, with_kinds, next_register}
-use Rattle.c_effects.specs.Expressions.{temporaries}
-use Rattle.c_effects.specs.Effects.{any_temporaries, effect_temporaries}
+use Rattle.c_effects.specs.Expressions.{temporaries, assertions_temporaries}
+use Rattle.c_effects.specs.Effects.{any_temporaries, effect_temporaries, declaration_temporaries}
 use Rattle.track_scopes.specs.Blocks.{AreSmall, with_pointer, entered}
-use Rattle.instrument.specs.Translation.{Spot, after_statement, after_else, after_first, after_item, after_items}
-use Rattle.instrument.proofs.Standing.{Target, Setting, Here, Anchored}
+use Rattle.instrument.specs.Translation.{Spot, after_statement, after_else, after_first, after_item, after_items, returned_temporaries}
+use Rattle.instrument.proofs.DeclarationCode.{next-entered}
+use Rattle.instrument.proofs.Standing.{Target, Setting, Here, IsAnchored, InRegister, AtGlobal, Anchored}
 use Rattle.instrument.proofs.Following.{standing_as}
-use Rattle.instrument.proofs.Births.{register_of-bound_other, names_of, with_numbers}
+use Rattle.instrument.proofs.Births.{names_of, with_numbers}
 use Rattle.instrument.proofs.Blocks.{Meets}
+use Rattle.instrument.proofs.Own.{AreOwn, AreLocal}
+use Rattle.instrument.proofs.Registers.{register_of-bound_other}
 
 -- ---- what can be declared in statements, where names with these numbers are in sight
 
@@ -29,29 +31,35 @@ abbrev pub AreAbsent : List ℕ → List Declaration → Type 0
 AreAbsent living [] = Unit {0}
 AreAbsent living (d ∷ ds) = Absent (number_of d) living × AreAbsent living ds
 
+-- variables of functions: each is small, and none of the library's
+pub record AreBorn (p : TranslationUnit) (ds : List Declaration) : Type 0 where
+  pub small : AreSmall p.structs ds
+  pub own : AreOwn ds
+  pub local : AreLocal p ds
+
 abbrev mutual
-  -- what is born is small, and what is declared inside has numbers that none in sight has
-  pub CanDeclare : List StructType → List ℕ → Statement → Type 0
-  CanDeclare structs living (Block at items) = AreSmall structs (declared_in items) × ItemsCanDeclare structs (with_numbers (declared_in items) living) items
-  CanDeclare structs living (If at e a b) = AreAbsent living (declared_within a) × CanDeclare structs living a × ElseCanDeclare structs living b
-  CanDeclare structs living (While at annots e a) = CanDeclare structs living a
-  CanDeclare structs living (Do at a e) = AreAbsent living (declared_within a) × CanDeclare structs living a
-  CanDeclare structs living (For at annots first e step a) =
-      AreSmall structs (declared_first first) × AreAbsent (with_numbers (declared_first first) living) (declared_within a) × CanDeclare structs (with_numbers (declared_first first) living) a
-  CanDeclare structs living _ = Unit {0}
+  -- what is born is such a variable, and what is declared inside has numbers that none in sight has
+  pub CanDeclare : TranslationUnit → List ℕ → Statement → Type 0
+  CanDeclare p living (Block at items) = AreBorn p (declared_in items) × ItemsCanDeclare p (with_numbers (declared_in items) living) items
+  CanDeclare p living (If at e a b) = AreAbsent living (declared_within a) × CanDeclare p living a × ElseCanDeclare p living b
+  CanDeclare p living (While at annots e a) = CanDeclare p living a
+  CanDeclare p living (Do at a e) = AreAbsent living (declared_within a) × CanDeclare p living a
+  CanDeclare p living (For at annots first e step a) =
+      AreBorn p (declared_first first) × AreAbsent (with_numbers (declared_first first) living) (declared_within a) × CanDeclare p (with_numbers (declared_first first) living) a
+  CanDeclare p living _ = Unit {0}
 
-  pub ElseCanDeclare : List StructType → List ℕ → ElsePart → Type 0
-  ElseCanDeclare structs living NoElse = Unit {0}
-  ElseCanDeclare structs living (Else a) = CanDeclare structs living a
+  pub ElseCanDeclare : TranslationUnit → List ℕ → ElsePart → Type 0
+  ElseCanDeclare p living NoElse = Unit {0}
+  ElseCanDeclare p living (Else a) = CanDeclare p living a
 
-  pub ItemCanDeclare : List StructType → List ℕ → BlockItem → Type 0
-  ItemCanDeclare structs living (Declare ds) = Unit {0}
-  ItemCanDeclare structs living (Run a) = AreAbsent living (declared_within a) × CanDeclare structs living a
-  ItemCanDeclare structs living (Asserts annots) = Unit {0}
+  pub ItemCanDeclare : TranslationUnit → List ℕ → BlockItem → Type 0
+  ItemCanDeclare p living (Declare ds) = Unit {0}
+  ItemCanDeclare p living (Run a) = AreAbsent living (declared_within a) × CanDeclare p living a
+  ItemCanDeclare p living (Asserts annots) = Unit {0}
 
-  pub ItemsCanDeclare : List StructType → List ℕ → BlockItems → Type 0
-  ItemsCanDeclare structs living NoItem = Unit {0}
-  ItemsCanDeclare structs living (Then i rest) = ItemCanDeclare structs living i × ItemsCanDeclare structs living rest
+  pub ItemsCanDeclare : TranslationUnit → List ℕ → BlockItems → Type 0
+  ItemsCanDeclare p living NoItem = Unit {0}
+  ItemsCanDeclare p living (Then i rest) = ItemCanDeclare p living i × ItemsCanDeclare p living rest
 
 -- ---- registers of names that are declared elsewhere
 
@@ -88,40 +96,40 @@ entered_other x [] r h = refl
 entered_other x (d ∷ ds) r h = entered_other x ds (with_pointer d r) h.1 ∙ register_of-bound_other (number_of d) (length r.kinds) x r.bound h.0
 
 mutual
-  statement_other : (x : ℕ) (a : Statement) (r : RegisterTable) → NotIn x (declared_within a) → register_of (after_statement a r).bound x ≡ register_of r.bound x
-  statement_other x (Empty at) r h = refl
-  statement_other x (Eval at e) r h = refl
-  statement_other x (Block at body) r h = items_other x body (entered (declared_in body) r) h ∙ entered_other x (declared_in body) r (not_own x body h)
-  statement_other x (If at e a b) r h =
-      else_other x b (after_statement a (with_kinds (temporaries e) r)) (not_back x (declared_within a) (declared_in_else b) h)
-      ∙ statement_other x a (with_kinds (temporaries e) r) (not_front x (declared_within a) (declared_in_else b) h)
-  statement_other x (While at annots e a) r h = statement_other x a (with_kinds (temporaries e) r) h
-  statement_other x (Do at a e) r h = statement_other x a r h
-  statement_other x (For at annots first e behind a) r h =
+  statement_other : (p : TranslationUnit) (x : ℕ) (a : Statement) (r : RegisterTable) → NotIn x (declared_within a) → register_of (after_statement p a r).bound x ≡ register_of r.bound x
+  statement_other p x (Empty at) r h = refl
+  statement_other p x (Eval at e) r h = refl
+  statement_other p x (Block at body) r h = items_other p x body (entered (declared_in body) r) h ∙ entered_other x (declared_in body) r (not_own x body h)
+  statement_other p x (If at e a b) r h =
+      else_other p x b (after_statement p a (with_kinds (temporaries e) r)) (not_back x (declared_within a) (declared_in_else b) h)
+      ∙ statement_other p x a (with_kinds (temporaries e) r) (not_front x (declared_within a) (declared_in_else b) h)
+  statement_other p x (While at annots e a) r h = statement_other p x a (with_kinds (temporaries e) r) h
+  statement_other p x (Do at a e) r h = statement_other p x a r h
+  statement_other p x (For at annots first e behind a) r h =
       let own = not_front x (declared_in_first first) (declared_within a) h in
-      statement_other x a (with_kinds (any_temporaries temporaries e) (after_first first (entered (declared_first first) r))) (not_back x (declared_in_first first) (declared_within a) h)
-      ∙ first_other x first (entered (declared_first first) r) own
+      statement_other p x a (with_kinds (any_temporaries temporaries e) (after_first p first (entered (declared_first first) r))) (not_back x (declared_in_first first) (declared_within a) h)
+      ∙ first_other p x first (entered (declared_first first) r) own
       ∙ entered_other x (declared_first first) r (not_first x first own)
-  statement_other x (Break at) r h = refl
-  statement_other x (Continue at) r h = refl
-  statement_other x (Return at e) r h = refl
+  statement_other p x (Break at) r h = refl
+  statement_other p x (Continue at) r h = refl
+  statement_other p x (Return at e) r h = refl
 
-  else_other : (x : ℕ) (b : ElsePart) (r : RegisterTable) → NotIn x (declared_in_else b) → register_of (after_else b r).bound x ≡ register_of r.bound x
-  else_other x NoElse r h = refl
-  else_other x (Else a) r h = statement_other x a r h
+  else_other : (p : TranslationUnit) (x : ℕ) (b : ElsePart) (r : RegisterTable) → NotIn x (declared_in_else b) → register_of (after_else p b r).bound x ≡ register_of r.bound x
+  else_other p x NoElse r h = refl
+  else_other p x (Else a) r h = statement_other p x a r h
 
-  first_other : (x : ℕ) (first : ForFirst) (r : RegisterTable) → NotIn x (declared_in_first first) → register_of (after_first first r).bound x ≡ register_of r.bound x
-  first_other x NoFirst r h = refl
-  first_other x (First i) r h = item_other x i r h
+  first_other : (p : TranslationUnit) (x : ℕ) (first : ForFirst) (r : RegisterTable) → NotIn x (declared_in_first first) → register_of (after_first p first r).bound x ≡ register_of r.bound x
+  first_other p x NoFirst r h = refl
+  first_other p x (First i) r h = item_other p x i r h
 
-  item_other : (x : ℕ) (i : BlockItem) (r : RegisterTable) → NotIn x (declared_in_item i) → register_of (after_item i r).bound x ≡ register_of r.bound x
-  item_other x (Declare ds) r h = refl
-  item_other x (Run a) r h = statement_other x a r h
-  item_other x (Asserts annots) r h = refl
+  item_other : (p : TranslationUnit) (x : ℕ) (i : BlockItem) (r : RegisterTable) → NotIn x (declared_in_item i) → register_of (after_item p i r).bound x ≡ register_of r.bound x
+  item_other p x (Declare ds) r h = refl
+  item_other p x (Run a) r h = statement_other p x a r h
+  item_other p x (Asserts annots) r h = refl
 
-  items_other : (x : ℕ) (is : BlockItems) (r : RegisterTable) → NotIn x (declared_in_items is) → register_of (after_items is r).bound x ≡ register_of r.bound x
-  items_other x NoItem r h = refl
-  items_other x (Then i rest) r h = items_other x rest (after_item i r) (not_back x (declared_in_item i) (declared_in_items rest) h) ∙ item_other x i r (not_front x (declared_in_item i) (declared_in_items rest) h)
+  items_other : (p : TranslationUnit) (x : ℕ) (is : BlockItems) (r : RegisterTable) → NotIn x (declared_in_items is) → register_of (after_items p is r).bound x ≡ register_of r.bound x
+  items_other p x NoItem r h = refl
+  items_other p x (Then i rest) r h = items_other p x rest (after_item p i r) (not_back x (declared_in_item i) (declared_in_items rest) h) ∙ item_other p x i r (not_front x (declared_in_item i) (declared_in_items rest) h)
 
 -- ---- names in sight keep their registers
 
@@ -137,16 +145,23 @@ not_in_sight : (y number : ℕ) (scope : Scope) (ds : List Declaration) → AreA
 not_in_sight y number scope [] h e = tt
 not_in_sight y number scope (d ∷ ds) h e = (differs (number_of d) y number scope h.0 e, not_in_sight y number scope ds h.1 e)
 
-pub anchored_behind : (a : Statement) (r : RegisterTable) (low : ℕ) (regs : List Value) (scope : Scope) → AreAbsent (names_of scope) (declared_within a) → Anchored low r.bound regs scope → Anchored low (after_statement a r).bound regs scope
-anchored_behind a r low regs scope absent h x number e =
-    let i = h x number e in
-    record { register = i.register; is_bound = statement_other x a r (not_in_sight x number scope (declared_within a) absent e) ∙ i.is_bound; below = i.below; points = i.points }
+pub anchored_behind : (w : Setting) (a : Statement) (r : RegisterTable) (low : ℕ) (regs : List Value) (scope : Scope) → AreAbsent (names_of scope) (declared_within a) → Anchored w low r.bound regs scope
+    → Anchored w low (after_statement w.unit a r).bound regs scope
+anchored_behind w a r low regs scope absent h x number e =
+    let i = h x number e in record { own = i.own; anchor = of_anchor i.anchor }
+  where
+    same : register_of (after_statement w.unit a r).bound x ≡ register_of r.bound x
+    same = statement_other w.unit x a r (not_in_sight x number scope (declared_within a) absent e)
+
+    of_anchor : IsAnchored w low r.bound regs x number → IsAnchored w low (after_statement w.unit a r).bound regs x number
+    of_anchor (InRegister k is_bound below points) = InRegister k (same ∙ is_bound) below points
+    of_anchor (AtGlobal free is_global points) = AtGlobal (same ∙ free) is_global points
 
 pub meets_behind : (w : Setting) (h : Here) (spot : Spot) (low : ℕ) (a : Statement) (r : RegisterTable) (living : List ℕ) (regs : List Value) (s : State) (t : Target) → AreAbsent living (declared_within a)
-    → Meets w h spot low r.bound living regs s t → Meets w h spot low (after_statement a r).bound living regs s t
+    → Meets w h spot low r.bound living regs s t → Meets w h spot low (after_statement w.unit a r).bound living regs s t
 meets_behind w h spot low a r living regs s t absent m = record {
-  standing = standing_as w h low low r.bound (after_statement a r).bound regs regs s s h.looped m.standing
-      (anchored_behind a r low regs s.scope (subst (λ l. AreAbsent l (declared_within a)) (sym m.names) absent) m.standing.anchored) refl refl (omega arith) m.standing.bounded refl;
+  standing = standing_as w h low low r.bound (after_statement w.unit a r).bound regs regs s s h.looped m.standing
+      (anchored_behind w a r low regs s.scope (subst (λ l. AreAbsent l (declared_within a)) (sym m.names) absent) m.standing.anchored) refl refl (omega arith) m.standing.bounded refl;
   beside = m.beside;
   inside = m.inside;
   outside = m.outside;
@@ -158,49 +173,45 @@ meets_behind w h spot low a r living regs s t absent m = record {
 pub more_kinds : (ts : List MonType) (r : RegisterTable) → next_register r ≤ next_register (with_kinds ts r)
 more_kinds ts r = omega (arith, length-append r.kinds ts)
 
-pub entered_long : (ds : List Declaration) (r : RegisterTable) → next_register (entered ds r) ≡ next_register r + length ds
-entered_long [] r = omega arith
-entered_long (d ∷ ds) r = omega (arith, entered_long ds (with_pointer d r), length-append r.kinds (Ptr ∷ []))
-
 mutual
-  pub statement_grows : (a : Statement) (r : RegisterTable) → next_register r ≤ next_register (after_statement a r)
-  statement_grows (Empty at) r = omega arith
-  statement_grows (Eval at e) r = more_kinds (effect_temporaries e) r
-  statement_grows (Block at body) r = omega (arith, entered_long (declared_in body) r, items_grow body (entered (declared_in body) r))
-  statement_grows (If at e a b) r =
+  pub statement_grows : (p : TranslationUnit) (a : Statement) (r : RegisterTable) → next_register r ≤ next_register (after_statement p a r)
+  statement_grows p (Empty at) r = omega arith
+  statement_grows p (Eval at e) r = more_kinds (effect_temporaries p e) r
+  statement_grows p (Block at body) r = omega (arith, next-entered (declared_in body) r, items_grow p body (entered (declared_in body) r))
+  statement_grows p (If at e a b) r =
       let one = with_kinds (temporaries e) r in
-      omega (arith, more_kinds (temporaries e) r, statement_grows a one, else_grows b (after_statement a one))
-  statement_grows (While at annots e a) r = omega (arith, more_kinds (temporaries e) r, statement_grows a (with_kinds (temporaries e) r))
-  statement_grows (Do at a e) r = omega (arith, statement_grows a r, more_kinds (temporaries e) (after_statement a r))
-  statement_grows (For at annots first e behind a) r =
+      omega (arith, more_kinds (temporaries e) r, statement_grows p a one, else_grows p b (after_statement p a one))
+  statement_grows p (While at annots e a) r = omega (arith, more_kinds (temporaries e) r, statement_grows p a (with_kinds (temporaries e) r))
+  statement_grows p (Do at a e) r = omega (arith, statement_grows p a r, more_kinds (temporaries e) (after_statement p a r))
+  statement_grows p (For at annots first e behind a) r =
       let one = entered (declared_first first) r in
-      let two = after_first first one in
+      let two = after_first p first one in
       let three = with_kinds (any_temporaries temporaries e) two in
       omega (
         arith,
-        entered_long (declared_first first) r,
-        first_grows first one,
+        next-entered (declared_first first) r,
+        first_grows p first one,
         more_kinds (any_temporaries temporaries e) two,
-        statement_grows a three,
-        more_kinds (any_temporaries effect_temporaries behind) (after_statement a three),
+        statement_grows p a three,
+        more_kinds (any_temporaries (effect_temporaries p) behind) (after_statement p a three),
       )
-  statement_grows (Break at) r = omega arith
-  statement_grows (Continue at) r = omega arith
-  statement_grows (Return at e) r = more_kinds (any_temporaries Rattle.instrument.specs.Translation.returned_temporaries e) r
+  statement_grows p (Break at) r = omega arith
+  statement_grows p (Continue at) r = omega arith
+  statement_grows p (Return at e) r = more_kinds (any_temporaries returned_temporaries e) r
 
-  pub else_grows : (b : ElsePart) (r : RegisterTable) → next_register r ≤ next_register (after_else b r)
-  else_grows NoElse r = omega arith
-  else_grows (Else a) r = statement_grows a r
+  pub else_grows : (p : TranslationUnit) (b : ElsePart) (r : RegisterTable) → next_register r ≤ next_register (after_else p b r)
+  else_grows p NoElse r = omega arith
+  else_grows p (Else a) r = statement_grows p a r
 
-  pub first_grows : (first : ForFirst) (r : RegisterTable) → next_register r ≤ next_register (after_first first r)
-  first_grows NoFirst r = omega arith
-  first_grows (First i) r = item_grows i r
+  pub first_grows : (p : TranslationUnit) (first : ForFirst) (r : RegisterTable) → next_register r ≤ next_register (after_first p first r)
+  first_grows p NoFirst r = omega arith
+  first_grows p (First i) r = item_grows p i r
 
-  pub item_grows : (i : BlockItem) (r : RegisterTable) → next_register r ≤ next_register (after_item i r)
-  item_grows (Declare ds) r = more_kinds (Rattle.c_effects.specs.Effects.declaration_temporaries ds) r
-  item_grows (Run a) r = statement_grows a r
-  item_grows (Asserts annots) r = more_kinds (Rattle.c_effects.specs.Expressions.assertions_temporaries annots) r
+  pub item_grows : (p : TranslationUnit) (i : BlockItem) (r : RegisterTable) → next_register r ≤ next_register (after_item p i r)
+  item_grows p (Declare ds) r = more_kinds (declaration_temporaries ds) r
+  item_grows p (Run a) r = statement_grows p a r
+  item_grows p (Asserts annots) r = more_kinds (assertions_temporaries annots) r
 
-  pub items_grow : (is : BlockItems) (r : RegisterTable) → next_register r ≤ next_register (after_items is r)
-  items_grow NoItem r = omega arith
-  items_grow (Then i rest) r = omega (arith, item_grows i r, items_grow rest (after_item i r))
+  pub items_grow : (p : TranslationUnit) (is : BlockItems) (r : RegisterTable) → next_register r ≤ next_register (after_items p is r)
+  items_grow p NoItem r = omega arith
+  items_grow p (Then i rest) r = omega (arith, item_grows p i r, items_grow p rest (after_item p i r))

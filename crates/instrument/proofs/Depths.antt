@@ -5,20 +5,23 @@ use Rattle.c_syntax.specs.Expressions.{Expression}
 use Rattle.c_syntax.specs.Statements.{Declaration, Statement, Empty, Eval, Block, If, While, Do, For, Break, Continue, Return, ElsePart, NoElse, Else, ForFirst, NoFirst, First, BlockItem, Declare, Run, Asserts, BlockItems, NoItem, Then}
 use Rattle.c_syntax.specs.Programs.{TranslationUnit}
 use Rattle.c_model.specs.Formed as form
-use Rattle.c_model.specs.Formed.{number_of, IsFull, IsFullOrCall, IsFullEffect, AreInitialised, FirstFormed, StatementFormed, ElseFormed, ItemFormed, ItemsFormed, nodes_of}
+use Rattle.c_model.specs.Formed.{number_of}
+use Rattle.c_model.specs.TypedTrees.{WhereAny}
+use Rattle.instrument.proofs.FormedTrees.{IsFull, IsFullOrCall, IsFullEffect, AreInitialised, FirstFormed, StatementFormed, ElseFormed, ItemFormed, ItemsFormed}
+use Rattle.c_model.specs.Sizes.{forms_of, most_forms}
 use Rattle.c_model.specs.Meaning.{declared_in, declared_first}
-use Rattle.c_model.specs.WellTypedPrograms.{WhereAny}
 use Rattle.mon_syntax.specs.Registers.{Bindings, RegisterTable, with_kinds, next_register}
 use Rattle.mon_syntax.specs.Trees.{MonStatements, NoStatement}
 use Rattle.mon_syntax.specs.Trees as tree
 use Rattle.mon_syntax.specs.Valid.{Types, has_no_step, depth_of_all}
 use Rattle.track_scopes.specs.Blocks.{entered, deaths}
 use Rattle.c_effects.specs.Expressions.{before, one, set, setup, temporaries, condition_of}
-use Rattle.c_effects.specs.Effects.{any_temporaries, full_temporaries, full_setup, full_value, effect_if_any, initialise, initialise_all, initial_temporaries}
+use Rattle.c_effects.specs.Effects.{block_of, any_temporaries, full_temporaries, full_setup, full_value, effect_if_any, initialise, initialise_all, initial_temporaries}
 use Rattle.instrument.specs.Translation.{Spot, in_loop, with_variables, leave_where_zero, test, test_if_any, loop, for_turns, returned, end_label, next_label, after_statement, after_first, after_item, statement, else_part, first_part, item, items}
 use Rattle.instrument.proofs.ValidSetups.{no_step_before, no_step_setup, deep_before, deep_one, deep_set, deep_setup, deep_behind}
 use Rattle.instrument.proofs.ValidAsserts.{deep_assertions}
-use Rattle.instrument.proofs.ValidEffects.{no_step_effect, deep_full, deep_effect, deep_initialise}
+use Rattle.instrument.proofs.ValidEffects.{no_step_effect, deep_full, deep_effect}
+use Rattle.instrument.proofs.ValidInitialisers.{deep_initialise}
 use Rattle.instrument.proofs.ValidBlocks.{deep_deaths, deep_alive}
 
 -- ---- no step
@@ -39,7 +42,7 @@ module _ (p : TranslationUnit) (bound : Bindings) (rs : Types) where
 
 -- what stands in no other statement is at most so deep
 abbrev pub most_deep : ℕ
-most_deep = 801
+most_deep = 401
 
 -- a jump after deaths
 deep_jump : (live : List ℕ) (l : List ℕ) (n : ℕ) → 1 ≤ n → depth_of_all (before (deaths live) (one (tree.Goto l))) ≤ n
@@ -55,26 +58,26 @@ deep_loop loops front body behind n f b h =
     max-le (omega (arith, turns)) (omega arith)
 
 module _ (p : TranslationUnit) where
-  deep_test : (bound : Bindings) (rs : Types) (loops : ℕ) (e : Expression) → nodes_of e ≤ 800 → depth_of_all (test p bound rs loops e) ≤ most_deep
+  deep_test : (bound : Bindings) (rs : Types) (loops : ℕ) (e : Expression) → forms_of e ≤ most_forms → depth_of_all (test p bound rs loops e) ≤ most_deep
   deep_test bound rs loops e few =
       let d = deep_setup p bound rs e in
       deep_before (setup p bound rs e) (leave_where_zero loops (condition_of p bound rs e)) most_deep (omega (arith, d, few)) (omega arith)
 
-  deep_test_if_any : (bound : Bindings) (rs : Types) (loops : ℕ) (e : Option Expression) → WhereAny (IsFull 800) e → depth_of_all (test_if_any p bound rs loops e) ≤ most_deep
+  deep_test_if_any : (bound : Bindings) (rs : Types) (loops : ℕ) (e : Option Expression) → WhereAny (IsFull p.structs) e → depth_of_all (test_if_any p bound rs loops e) ≤ most_deep
   deep_test_if_any bound rs loops None f = omega arith
-  deep_test_if_any bound rs loops (Some e) f = deep_test bound rs loops e f.small
+  deep_test_if_any bound rs loops (Some e) f = deep_test bound rs loops e f.small.few
 
-  deep_effect_if_any : (bound : Bindings) (rs : Types) (e : Option Expression) → WhereAny (IsFullEffect 800) e → depth_of_all (effect_if_any p bound rs e) ≤ most_deep
+  deep_effect_if_any : (bound : Bindings) (rs : Types) (e : Option Expression) → WhereAny (IsFullEffect p.structs) e → depth_of_all (effect_if_any p bound rs e) ≤ most_deep
   deep_effect_if_any bound rs None f = omega arith
-  deep_effect_if_any bound rs (Some e) f = let d = deep_effect p bound rs e in let s = f.small in omega (arith, d, s)
+  deep_effect_if_any bound rs (Some e) f = let d = deep_effect p bound rs e in let s = f.small.few in omega (arith, d, s)
 
-  deep_initials : (bound : Bindings) (rs : Types) (ds : List Declaration) → AreInitialised 800 ds → depth_of_all (initialise_all p bound rs ds) ≤ most_deep
+  deep_initials : (bound : Bindings) (rs : Types) (ds : List Declaration) → AreInitialised p.structs ds → depth_of_all (initialise_all p bound rs ds) ≤ most_deep
   deep_initials bound rs [] f = omega arith
   deep_initials bound rs (d ∷ ds) f =
-      deep_before (initialise p bound rs (number_of d) d.ctype d.init) (initialise_all p bound (rs ++ initial_temporaries d.init) ds) most_deep (deep_initialise p bound rs (number_of d) d.ctype d.init f.0)
+      deep_before (initialise p bound rs (block_of bound (number_of d)) d.ctype d.init) (initialise_all p bound (rs ++ initial_temporaries d.init) ds) most_deep (deep_initialise p bound rs (block_of bound (number_of d)) d.ctype d.init f.0)
       (deep_initials bound (rs ++ initial_temporaries d.init) ds f.1)
 
-  deep_returned : (spot : Spot) (r : RegisterTable) (e : Option Expression) → WhereAny (IsFullOrCall 800) e → depth_of_all (returned p spot r e) ≤ most_deep
+  deep_returned : (spot : Spot) (r : RegisterTable) (e : Option Expression) → WhereAny (IsFullOrCall p.structs) e → depth_of_all (returned p spot r e) ≤ most_deep
   deep_returned spot r None f =
       let live = spot.inside ++ spot.outside in
       let d = deep_deaths live in
@@ -86,21 +89,21 @@ module _ (p : TranslationUnit) where
       let leaves = one (tree.Return (Some (tree.Register last))) in
       let x = deep_full p r.bound r.kinds e in
       let y = deep_deaths live in
-      let s = f.small in
+      let s = f.small.few in
       deep_before (full_setup p r.bound r.kinds e) (before (set last value) (before (deaths live) leaves)) most_deep (omega (arith, x, s))
       (deep_before (set last value) (before (deaths live) leaves) most_deep (deep_set last value most_deep (omega arith))
       (deep_before (deaths live) leaves most_deep (omega (arith, y)) (omega arith)))
 
-  deep_first : (spot : Spot) (r : RegisterTable) (first : ForFirst) → FirstFormed 800 first → depth_of_all (first_part p spot r first) ≤ most_deep
+  deep_first : (spot : Spot) (r : RegisterTable) (first : ForFirst) → FirstFormed p.structs first → depth_of_all (first_part p spot r first) ≤ most_deep
   deep_first spot r NoFirst f = omega arith
-  deep_first spot r (First (Run (Eval at e))) f = let d = deep_effect p r.bound r.kinds e in let s = f.small in omega (arith, d, s)
+  deep_first spot r (First (Run (Eval at e))) f = let d = deep_effect p r.bound r.kinds e in let s = f.small.few in omega (arith, d, s)
   deep_first spot r (First (Declare ds)) f = deep_initials r.bound r.kinds ds f
   deep_first spot r _ f = absurd f
 
   mutual
-    pub deep : (spot : Spot) (r : RegisterTable) (a : Statement) → StatementFormed 800 a → depth_of_all (statement p spot r a) ≤ 4 * form.depth a + most_deep
+    pub deep : (spot : Spot) (r : RegisterTable) (a : Statement) → StatementFormed p.structs a → depth_of_all (statement p spot r a) ≤ 4 * form.depth a + most_deep
     deep spot r (Empty at) f = omega arith
-    deep spot r (Eval at e) f = let d = deep_effect p r.bound r.kinds e in let s = f.small in omega (arith, d, s)
+    deep spot r (Eval at e) f = let d = deep_effect p r.bound r.kinds e in let s = f.small.few in omega (arith, d, s)
     deep spot r (Block at body) f =
         let own = declared_in body in
         let inside = with_variables (next_register r) own spot in
@@ -108,28 +111,28 @@ module _ (p : TranslationUnit) where
         deep_alive p (next_register r) own (items p inside (entered own r) body) (4 * (1 + form.depth_of_items body) + most_deep) (omega (arith, d)) (omega arith)
     deep spot r (If at e a b) f =
         let first = with_kinds (temporaries e) r in
-        let second = after_statement a first in
+        let second = after_statement p a first in
         let x = deep spot first a f.1 in
         let y = deep_else spot second b f.2 in
         let left = le-max_left (form.depth a) (form.depth_of_else b) in
         let right = le-max_right (form.depth a) (form.depth_of_else b) in
         let n = 4 * max (form.depth a) (form.depth_of_else b) + most_deep in
         let m : max (depth_of_all (statement p spot first a)) (depth_of_all (else_part p spot second b)) ≤ n = max-le (omega (arith, x, left)) (omega (arith, y, right)) in
-        let s = f.0.small in
+        let s = f.0.small.few in
         deep_behind p r.bound r.kinds e (tree.If (condition_of p r.bound r.kinds e) (statement p spot first a) (else_part p spot second b))
         (4 * (1 + max (form.depth a) (form.depth_of_else b)) + most_deep) (omega (arith, s)) (omega (arith, m))
     deep spot r (While at annots e a) f =
         let loops = spot.loops + 1 in
         let inside = with_kinds (temporaries e) r in
         let x = deep (in_loop spot) inside a f.2 in
-        let y = deep_test r.bound r.kinds loops e f.1.small in
+        let y = deep_test r.bound r.kinds loops e f.1.small.few in
         let d = deep_loop loops (test p r.bound r.kinds loops e) (statement p (in_loop spot) inside a) NoStatement (4 * form.depth a + most_deep) (omega (arith, y)) x (omega arith) in
         omega (arith, d)
     deep spot r (Do at a e) f =
         let loops = spot.loops + 1 in
-        let after = after_statement a r in
+        let after = after_statement p a r in
         let x = deep (in_loop spot) r a f.0 in
-        let y = deep_test after.bound after.kinds loops e f.1.small in
+        let y = deep_test after.bound after.kinds loops e f.1.small.few in
         let d = deep_loop loops NoStatement (statement p (in_loop spot) r a) (test p after.bound after.kinds loops e) (4 * form.depth a + most_deep) (omega arith) x (omega (arith, y)) in
         omega (arith, d)
     deep spot r (For at annots first e step a) f =
@@ -137,9 +140,9 @@ module _ (p : TranslationUnit) where
         let inside = with_variables (next_register r) own spot in
         let loops = spot.loops + 1 in
         let born = entered own r in
-        let begun = after_first first born in
+        let begun = after_first p first born in
         let tested = with_kinds (any_temporaries temporaries e) begun in
-        let after = after_statement a tested in
+        let after = after_statement p a tested in
         let x = deep (in_loop inside) tested a f.4 in
         let y = deep_test_if_any begun.bound begun.kinds loops e f.2 in
         let z = deep_effect_if_any after.bound after.kinds step f.3 in
@@ -153,20 +156,20 @@ module _ (p : TranslationUnit) where
     deep spot r (Continue at) f = deep_jump spot.inside (next_label spot.loops) (4 * 1 + most_deep) (omega arith)
     deep spot r (Return at e) f = let d = deep_returned spot r e f in omega (arith, d)
 
-    deep_else : (spot : Spot) (r : RegisterTable) (b : ElsePart) → ElseFormed 800 b → depth_of_all (else_part p spot r b) ≤ 4 * form.depth_of_else b + most_deep
+    deep_else : (spot : Spot) (r : RegisterTable) (b : ElsePart) → ElseFormed p.structs b → depth_of_all (else_part p spot r b) ≤ 4 * form.depth_of_else b + most_deep
     deep_else spot r NoElse f = omega arith
     deep_else spot r (Else a) f = deep spot r a f
 
-    deep_item : (spot : Spot) (r : RegisterTable) (i : BlockItem) → ItemFormed 800 i → depth_of_all (item p spot r i) ≤ 4 * form.depth_of_item i + most_deep
+    deep_item : (spot : Spot) (r : RegisterTable) (i : BlockItem) → ItemFormed p.structs i → depth_of_all (item p spot r i) ≤ 4 * form.depth_of_item i + most_deep
     deep_item spot r (Declare ds) f = let d = deep_initials r.bound r.kinds ds f in omega (arith, d)
     deep_item spot r (Run a) f = deep spot r a f
-    deep_item spot r (Asserts annots) f = let d = deep_assertions r.bound r.kinds annots in omega (arith, d)
+    deep_item spot r (Asserts annots) f = let d = deep_assertions p r.bound r.kinds annots in omega (arith, d)
 
-    deep_items : (spot : Spot) (r : RegisterTable) (is : BlockItems) → ItemsFormed 800 is → depth_of_all (items p spot r is) ≤ 4 * form.depth_of_items is + most_deep
+    deep_items : (spot : Spot) (r : RegisterTable) (is : BlockItems) → ItemsFormed p.structs is → depth_of_all (items p spot r is) ≤ 4 * form.depth_of_items is + most_deep
     deep_items spot r NoItem f = omega arith
     deep_items spot r (Then i rest) f =
         let x = deep_item spot r i f.0 in
-        let y = deep_items spot (after_item i r) rest f.1 in
+        let y = deep_items spot (after_item p i r) rest f.1 in
         let left = le-max_left (form.depth_of_item i) (form.depth_of_items rest) in
         let right = le-max_right (form.depth_of_item i) (form.depth_of_items rest) in
-        deep_before (item p spot r i) (items p spot (after_item i r) rest) (4 * max (form.depth_of_item i) (form.depth_of_items rest) + most_deep) (omega (arith, x, left)) (omega (arith, y, right))
+        deep_before (item p spot r i) (items p spot (after_item p i r) rest) (4 * max (form.depth_of_item i) (form.depth_of_items rest) + most_deep) (omega (arith, x, left)) (omega (arith, y, right))

@@ -1,125 +1,58 @@
--- Assignments, increments, calls, expressions without effects, and initialisations: a value is stored in a variable's block.
-use Rattle.std.proofs.Common.{◌≡◌, ℕ, ◌≤◌, ℤ, pos, Bool, true, false, List, [], ◌∷◌, ◌++◌, length, Option, Some, None, option_map, if◌then◌else◌, refl, sym, ap, ◌∙◌, subst, arith}
-use Rattle.std.proofs.lemmas.List.{append-nil, length-append}
-use Rattle.std.specs.Prelude.{slice_get}
+-- Effects: assignments to any object, increments, calls, and expressions without effects.
+use Rattle.std.proofs.Common.{◌≡◌, ℕ, suc, ◌<◌, ◌≤◌, Bool, true, false, if◌then◌else◌, pos, List, [], ◌∷◌, ◌++◌, length, Option, Some, None, slice_get, slice_set, refl, sym, ap, ◌∙◌, subst, arith}
+use Rattle.std.proofs.lemmas.Bool.{leb-true}
+use Rattle.std.proofs.lemmas.List.{length-append}
 use Rattle.c_syntax.specs.declared.place.Place.{Place}
-use Rattle.c_syntax.specs.declared.types.CInt.{CInt}
-use Rattle.c_syntax.specs.declared.types.CInt.TheVariants.{I32}
 use Rattle.c_syntax.specs.declared.expression.Use.{Use}
 use Rattle.c_syntax.specs.declared.expression.BinOp.{BinOp}
+use Rattle.c_syntax.specs.declared.expression.BinOp.TheVariants as operator
 use Rattle.c_syntax.specs.declared.expression.BumpOp.{BumpOp}
-use Rattle.c_syntax.specs.Ctypes.{PlainType, Int, int_type}
-use Rattle.c_syntax.specs.Expressions.{Expression, Node, Variable, Assign, Bump, Call, Text, Expressions, type_of}
-use Rattle.c_syntax.specs.Statements.{Initialiser, One, Many, Declaration}
-use Rattle.c_syntax.specs.Programs.{StructType}
-use Rattle.c_model.specs.Integers.{fits, convert, operate_in}
-use Rattle.c_model.specs.Layouts.{Scalar, IntegerType}
-use Rattle.c_model.specs.Conversions.{operation_type, is_shift}
-use Rattle.c_model.specs.Memory.{Pointer, Value, Integer, Points, Into, Store, load, save}
-use Rattle.c_model.specs.State.{State, Undefined, Over, Outcome, Normal, Stop, Evaluation, on_outcome, ◌>>=◌, ◌>>◌, give, done, defined, computed, object, read, write, put_store, find, start_of}
-use Rattle.c_model.specs.Meaning.{Tables, tables_of, eval_with, place_with, initialise, initialise_all, fill_one, string_in, compound, converted, operate_values, bump_operator, bump_value}
-use Rattle.c_model.specs.Meaning as meaning
-use Rattle.c_model.specs.Typing.{Scopes, with_object}
-use Rattle.c_model.specs.WellTyped.{IsInteger, IsPlace, Calls, WellTyped, AreWellTyped}
-use Rattle.c_model.specs.WellTypedPrograms.{Initialises, AreDeclared}
-use Rattle.c_model.specs.Formed.{IsPure, ArePure, IsPureOrCall, IsEffectOrCall, IsInitialiser, AreInitialised, number_of}
-use Rattle.c_model.proofs.Conversions.{fits-convert}
+use Rattle.c_syntax.specs.declared.types.CInt.TheVariants.{I32}
+use Rattle.c_syntax.specs.Ctypes.{PlainType, int_type}
+use Rattle.c_syntax.specs.Expressions.{Expression, Node, Variable, Assign, Bump, Call, Expressions, type_of}
+use Rattle.c_model.specs.Layouts.{Scalar, IntegerType, PointerType, scalar_of}
+use Rattle.c_model.specs.Memory.{Pointer, Into, Value, Integer, Points, load}
+use Rattle.c_model.specs.State.{State, Outcome, Normal, Stop, Over, Undefined, Evaluation, on_outcome, ◌>>=◌, ◌>>◌, give, done, defined, start_of, find, write, read, computed, as_scalar}
+use Rattle.c_model.specs.Meaning.{Tables, tables_of, eval_with, place_with, assigned, compound, bump_operator, bump_value, is_member}
+use Rattle.c_model.specs.ExpressionTyping.{Sight, is_place}
+use Rattle.c_model.specs.TypedTrees.{WellTyped, AreWellTyped, Calls, IsScalar, CompoundTypes, ToInteger, ToPointer}
 use Rattle.mon_syntax.specs.declared.tree.MonType.{MonType}
 use Rattle.mon_syntax.specs.declared.tree.MonType.TheVariants as kind
 use Rattle.mon_syntax.specs.Registers.{Bindings}
-use Rattle.mon_syntax.specs.Meaning.{Done, Next, with_value, eval}
-use Rattle.mon_syntax.specs.BlockMemory.{Blocks, over_blocks, save_scalar, stored_in, store_value}
-use Rattle.mon_syntax.specs.Trees.{MonExpression, Register, Constant, MonStatements, NoStatement}
-use Rattle.mon_syntax.specs.Trees as tree
-use Rattle.c_effects.specs.Letters.{HasLetters, ArgumentsHaveLetters, FullHasLetters, EffectHasLetters, InitialHasLetters, InitialsHaveLetters}
-use Rattle.c_effects.specs.Expressions.{register_type, temporaries, value, before, one, setup}
+use Rattle.mon_syntax.specs.Meaning.{Done, Next, eval}
+use Rattle.mon_syntax.specs.BlockMemory.{over_blocks}
+use Rattle.mon_syntax.specs.Trees.{MonExpression, Load, Register, Constant, MonStatements, NoStatement}
+use Rattle.c_model.specs.Pure.{IsPure, ArePure, IsPureOrCall, IsEffectOrCall}
+use Rattle.c_effects.specs.Letters.{HasLetters, ArgumentsHaveLetters, FullHasLetters, EffectHasLetters}
+use Rattle.c_effects.specs.Expressions.{temporaries, value, before, set, setup}
 use Rattle.c_effects.specs.Expressions as spec
-use Rattle.c_effects.specs.Effects.{arguments_temporaries, full_temporaries, effect_temporaries, initial_temporaries, declaration_temporaries, called, full_setup, full_value, effect, current, store, block_of}
-use Rattle.c_effects.specs.Effects as translation
-use Rattle.track_scopes.specs.Lives.{with_store}
-use Rattle.instrument.proofs.Results.{one_is, before_is}
-use Rattle.instrument.proofs.Standing.{Setting, Target, Did, runs, Same, Has, IsOf, Bounded, Here, Standing, Beside}
-use Rattle.instrument.proofs.Registers.{same_all, longer}
-use Rattle.instrument.proofs.Following.{Follows, GoesOn, stays, undefined_here, follows_value, follows_then, standing_later}
-use Rattle.instrument.proofs.Values.{compound_is}
-use Rattle.instrument.proofs.Anchors.{scalar_is, block_has, load_has}
-use Rattle.instrument.proofs.Bounds.{loaded_is_of, saved_value}
-use Rattle.instrument.proofs.ExpressionTypes.{HasInt, integer_int, object_int}
-use Rattle.instrument.proofs.Evaluating.{lower_same}
-use Rattle.instrument.proofs.Expressions.{of_integer, evaluates}
-use Rattle.instrument.proofs.Purity.{Quiet, Gives, IsUndefined, pure_is_quiet}
-use Rattle.instrument.proofs.Scenes.{Scene, denoted_int, scene_with}
+use Rattle.c_effects.specs.Effects.{arguments_temporaries, full_temporaries, full_setup, full_value, called, effect, effect_temporaries, is_direct}
+use Rattle.c_effects.specs.Effects.{variable_register, target_temporaries, target, target_setup, base, into_object, member_temporaries, current, block_of}
+use Rattle.c_effects.proofs.Sequences.{before_none}
+use Rattle.instrument.proofs.Results.{writes_none}
+use Rattle.instrument.proofs.Standing.{Setting, Target, runs, Same, Has, IsOf, Here, Standing, Beside}
+use Rattle.instrument.proofs.Registers.{same_all, same_less, same_trans, same_set, get-set_same, longer}
+use Rattle.instrument.proofs.Following.{Follows, later_same, stays, onward, undefined_here, follows_value, follows_lower, anchored_same, standing_later}
+use Rattle.instrument.proofs.Anchors.{block_has, block_below}
+use Rattle.instrument.proofs.ExpressionTypes.{place_has_object, bump_types}
+use Rattle.instrument.proofs.Evaluating.{behind_setup, set_runs}
+use Rattle.instrument.proofs.PureValues.{Quiet, Gives, IsUndefined, HasKind, pure_gives}
+use Rattle.instrument.proofs.Bounds.{loaded_is_of}
+use Rattle.instrument.proofs.PointerValues.{value_type_is, load_has}
+use Rattle.instrument.proofs.Compounds.{combined}
+use Rattle.instrument.proofs.Expressions.{evaluates}
+use Rattle.instrument.proofs.Scenes.{Scene}
 use Rattle.instrument.proofs.FullExpressions.{handed_on, follows_called, follows_full}
-
-before_none : (a : MonStatements) → before a NoStatement ≡ a
-before_none NoStatement = refl
-before_none (tree.Then x a) = ap (tree.Then x) (before_none a)
-
--- ---- `op=`
-
-both_mapped : (k : CInt) (o : Option ℤ) → option_map (converted (Int k)) (option_map Integer o) ≡ option_map (λ z. Integer (convert k z)) o
-both_mapped k None = refl
-both_mapped k (Some z) = refl
-
-pub compound_value : (structs : List StructType) (store : Store) (k l : CInt) (op : BinOp) (x y : ℤ) → compound structs (Int k) op store (Integer x) (Int l) (Integer y) ≡ option_map (λ z. Integer (convert k z))
-    (operate_in (operation_type op k l) op (convert (operation_type op k l) x)
-    (if is_shift op then y else convert (operation_type op k l) y))
-compound_value structs store k l op x y = by (operation_type op k l) (is_shift op)
-  where
-    by : (m : CInt) (t : Bool) → option_map (converted (Int k)) (operate_values 1 (Int m) op store (converted (Int m) (Integer x)) (if t then Integer y else converted (Int m) (Integer y))) ≡ option_map (λ z. Integer (convert k z))
-        (operate_in m op (convert m x) (if t then y else convert m y))
-    by m true = both_mapped k (operate_in m op (convert m x) y)
-    by m false = both_mapped k (operate_in m op (convert m x) (convert m y))
-
--- an initialiser without effects, or a call, is no string literal
-no_string : (e : Expression) → IsPureOrCall e → string_in e ≡ None
-no_string (Node at t (Text n)) p = absurd p
-no_string _ p = refl
+use Rattle.instrument.proofs.Stores.{reached_from, into_follows}
+use Rattle.instrument.proofs.Bases.{Based, HasBase, HasNoBase, bases}
 
 -- a value that is given, and dropped
 given_done : (r : Outcome (Unit {0})) (v : Value) → on_outcome (on_outcome r (λ _. give v)) (λ _. done) ≡ r
 given_done (Normal u s) v = refl
 given_done (Stop e s) v = refl
 
--- ---- a value is stored in a block
-
-module _ (w : Setting) (n : ℕ) (h : Here) (low : ℕ) where
-  pub store_runs : (i : CInt) (r number : ℕ) (v : Value) (t : Target) (regs : List Value) (e : MonExpression) (saved : Store) → slice_get regs r ≡ Some (Points (Into number 0)) → IsOf (IntegerType i) v → Has w e regs t.mem v
-      → save t.mem.store (Into number 0) (IntegerType i) v ≡ Some saved → runs w n t (one (tree.Store r (register_type i) e)) regs ≡ Done (Next regs) (with_store saved t) []
-  store_runs i r number v t regs e saved points f has saves =
-      one_is w.globals (tree.Store r (register_type i) e) w.calls n regs t
-      ∙ ap (λ o. with_value o t.steps (λ p. with_value (eval over_blocks w.globals e regs t.mem) t.steps (λ v. after (store_value (register_type i) p v t.mem)))) points
-      ∙ ap (λ o. with_value o t.steps (λ v. after (store_value (register_type i) (Points (Into number 0)) v t.mem))) has
-      ∙ ap (λ (o : Option Scalar). after (stored_in t.mem (save_scalar o t.mem.store (Into number 0) v))) (scalar_is i)
-      ∙ of_integer i (λ v. save t.mem.store (Into number 0) (IntegerType i) v ≡ Some saved → after (stored_in t.mem (save_scalar (Some (IntegerType i)) t.mem.store (Into number 0) v)) ≡ Done (Next regs) (with_store saved t) []) v f
-      (λ z fit saves. ap (λ o. after (stored_in t.mem o)) saves) saves
-    where
-      after : Option Blocks → Did
-      after o = with_value o t.steps (λ m. Done (Next regs) (record t { mem = m }) [])
-
-  -- what was written in the source is stored in the target
-  pub write_follows : (at : Place) (i : CInt) (number r : ℕ) (v : Value) (s : State) (t : Target) (regs : List Value) (e : MonExpression) → Bounded s.store → Beside w s.store s t → slice_get regs r ≡ Some (Points (Into number 0))
-      → IsOf (IntegerType i) v → Has w e regs t.mem v → Follows w h low regs Next s (write at (Into number 0) (IntegerType i) v s) (runs w n t (one (tree.Store r (register_type i) e)) regs)
-  write_follows at i number r v s t regs e bounded b points f has = by (save s.store (Into number 0) (IntegerType i) v) refl
-    where
-      code : Did
-      code = runs w n t (one (tree.Store r (register_type i) e)) regs
-
-      write_is : (o : Option Store) → save s.store (Into number 0) (IntegerType i) v ≡ o → write at (Into number 0) (IntegerType i) v s ≡ (defined at o >>= put_store) s
-      write_is o saves = ap (λ o. (defined at o >>= put_store) s) saves
-
-      by : (o : Option Store) → save s.store (Into number 0) (IntegerType i) v ≡ o → Follows w h low regs Next s (write at (Into number 0) (IntegerType i) v s) code
-      by None saves = undefined_here w h low regs Next s (write at (Into number 0) (IntegerType i) v s) code at (write_is None saves)
-      by (Some saved) saves =
-          let kept = saved_value s.store saved (Into number 0) (IntegerType i) v bounded f saves in
-          GoesOn (record s { store = saved }) regs (with_store saved t) [] (same_all low regs)
-          (record { scope = refl; calls = refl; live = kept.live; longer = omega (arith, kept.long); bounded = kept.bounded; spent = omega arith; output = sym (append-nil s.output) })
-          (record { store_is = refl; frames = b.frames; steps = b.steps; input = b.input })
-          (write_is (Some saved) saves)
-          (store_runs i r number v t regs e saved points f has (ap (λ store. save store (Into number 0) (IntegerType i) v) b.store_is ∙ saves))
-
 -- where an effect stands, after registers of these types
-module _ (w : Setting) (n : ℕ) (h : Here) (scopes : Scopes) (scene : Scene w n scopes) (low : ℕ) (bound : Bindings) (s : State) (t : Target) (le : s.steps ≤ n) (rs : List MonType) (behind : low ≤ length rs)
+module _ (w : Setting) (n : ℕ) (h : Here) (sight : Sight) (scene : Scene w n sight) (low : ℕ) (bound : Bindings) (s : State) (t : Target) (le : s.steps ≤ n) (rs : List MonType) (behind : low ≤ length rs)
     (regs : List Value) (m : Standing w h low bound regs s) (b : Beside w s.store s t) where
   abbrev T : Tables
   T = tables_of w.unit
@@ -130,241 +63,285 @@ module _ (w : Setting) (n : ℕ) (h : Here) (scopes : Scopes) (scene : Scene w n
   abbrev Does : Expression → Type 0
   Does e = does_as e (effect w.unit bound rs e)
 
-  -- ---- expressions without effects
-
-  pure_follows : (e : Expression) → IsPure e → WellTyped scopes e → does_as e NoStatement
-  pure_follows e pure q = by (pure_is_quiet T scopes w.call s e pure q)
-    where
-      by : Quiet s (eval_with T e w.call s) → does_as e NoStatement
-      by (Gives v x) = subst (λ r. Follows w h low regs Next s (on_outcome r (λ _. done)) (runs w n t NoStatement regs)) (sym x) (stays w h low regs s t m.bounded b)
-      by (IsUndefined at x) = undefined_here w h low regs Next s ((eval_with T e w.call >> done) s) (runs w n t NoStatement regs) at (ap (λ r. on_outcome r (λ _. done)) x)
-
-  -- ---- assignments to a variable
-
-  no_object : (at : Place) (x : ℕ) → find x s.scope ≡ None → object at x s ≡ Stop (Over (Undefined at)) s
-  no_object at x e = ap (λ o. defined at (start_of o) s) e
-
-  object_is : (at : Place) (x number : ℕ) → find x s.scope ≡ Some number → object at x s ≡ Normal (Into number 0) s
-  object_is at x number e = ap (λ o. defined at (start_of o) s) e
-
-  module _ (at pa : Place) (u : PlainType) (x : Use) (i : CInt) where
-    abbrev variable : Expression
-    variable = Node pa u (Variable x)
-
-    abbrev register : ℕ
-    register = block_of bound x.decl
-
-    assigned : (e : Expression) → IsPureOrCall e → WellTyped scopes e → type_of e ≡ Int i → FullHasLetters e → length (rs ++ full_temporaries e) ≤ w.registers → Does (Node at (Int i) (Assign None variable e))
-    assigned e pure q same l room = by (find x.decl s.scope) refl
-      where
-        code : MonStatements
-        code = store register (Int i) (full_value w.unit bound rs e)
-
-        whole : Outcome Pointer → Outcome (Unit {0})
-        whole o = on_outcome (on_outcome o (λ p. meaning.assigned T.structs at (Int i) (Some (IntegerType i)) p (eval_with T e w.call) (place_with T e w.call))) (λ _. done)
-
-        given : ℕ → Value → Evaluation Value
-        given number v = write at (Into number 0) (IntegerType i) v >> give v
-
-        by : (o : Option ℕ) → find x.decl s.scope ≡ o → Does (Node at (Int i) (Assign None variable e))
-        by None f = undefined_here w h low regs Next s (whole (object pa x.decl s)) (runs w n t (before (full_setup w.unit bound rs e) code) regs) pa (ap whole (no_object pa x.decl f))
-        by (Some number) f =
-            subst (λ r. Follows w h low regs Next s r (runs w n t (before (full_setup w.unit bound rs e) code) regs))
-            (sym (ap whole (object_is pa x.decl number f) ∙ handed_on (eval_with T e w.call s) (given number) (λ _. done)))
-            (follows_full w n h scopes scene Next low bound s t le rs behind regs m b e i (λ v s. on_outcome (given number v s) (λ _. done)) code same pure q l room (λ v to there o after f2 same2 la be has.
-            subst (λ r. Follows w h low after Next to r (runs w n there code after)) (sym (given_done (write at (Into number 0) (IntegerType i) v to) v))
-            (write_follows w n h low at i number register v to there after (full_value w.unit bound rs e) la.bounded be (block_has low (length rs) bound regs after s.scope x.decl number behind same2 m.anchored f) f2 has)))
-
-    -- what an operator makes of the old value and another
-    combined : (number : ℕ) (old : Value) → find x.decl s.scope ≡ Some number → load s.store (Into number 0) (IntegerType i) ≡ Some old → (op : BinOp) (c : PlainType) (l : CInt) (y : Value) (e : MonExpression) (after : List Value) (g : Value → Value)
-        → c ≡ Int l → IsOf (IntegerType l) y → Same low regs after → Has w e after t.mem y
-        → Follows w h low after Next s (on_outcome ((computed at (λ store. compound T.structs (Int i) op store old c y) >>= λ v. write at (Into number 0) (IntegerType i) v >> give (g v)) s) (λ _. done))
-        (runs w n t (store register (Int i) (spec.compound op (Int i) c (current register (Int i)) e)) after)
-    combined number old found loads op c l y e after g c_int fy same has =
-        subst (λ c. FollowsIn (compound T.structs (Int i) op s.store old c y) (spec.compound op (Int i) c (current register (Int i)) e)) (sym c_int)
-        (of_integer i (λ old. load s.store (Into number 0) (IntegerType i) ≡ Some old → FollowsIn (compound T.structs (Int i) op s.store old (Int l) y) code) old
-        (loaded_is_of s.store (Into number 0) (IntegerType i) old m.bounded loads) (λ z1 f1 loads.
-        of_integer l (λ y. Has w e after t.mem y → FollowsIn (compound T.structs (Int i) op s.store (Integer z1) (Int l) y) code) y fy (λ z2 f2 has.
-        subst (λ o. FollowsIn o code) (sym (compound_value T.structs s.store i l op z1 z2))
-        (by z1 z2 f1 f2 loads has (operate_in k op (convert k z1) (if is_shift op then z2 else convert k z2)) refl)) has) loads)
-      where
-        k : CInt
-        k = operation_type op i l
-
-        code : MonExpression
-        code = spec.compound op (Int i) (Int l) (current register (Int i)) e
-
-        FollowsIn : Option Value → MonExpression → Type 0
-        FollowsIn o e2 = Follows w h low after Next s (on_outcome ((defined at o >>= λ v. write at (Into number 0) (IntegerType i) v >> give (g v)) s) (λ _. done)) (runs w n t (store register (Int i) e2) after)
-
-        there : slice_get after register ≡ Some (Points (Into number 0))
-        there = block_has low low bound regs after s.scope x.decl number (omega arith) same m.anchored found
-
-        by : (z1 z2 : ℤ) → fits i z1 ≡ true → fits l z2 ≡ true → load s.store (Into number 0) (IntegerType i) ≡ Some (Integer z1) → Has w e after t.mem (Integer z2) → (o : Option ℤ)
-            → operate_in k op (convert k z1) (if is_shift op then z2 else convert k z2) ≡ o → FollowsIn (option_map (λ z. Integer (convert i z)) o) code
-        by z1 z2 f1 f2 loads has None none = undefined_here w h low after Next s (Stop (Over (Undefined at)) s) (runs w n t (store register (Int i) code) after) at refl
-        by z1 z2 f1 f2 loads has (Some z) some =
-            let v = Integer (convert i z) in
-            subst (λ r. Follows w h low after Next s r (runs w n t (store register (Int i) code) after)) (sym (given_done (write at (Into number 0) (IntegerType i) v s) (g v)))
-            (write_follows w n h low at i number register v s t after code m.bounded b there (convert i z, refl, fits-convert i z)
-            (compound_is w after t.mem k i l op (current register (Int i)) e z1 z2 z f1 f2 some
-            (load_has w i (Register register) after t.mem (Into number 0) (Integer z1) there (ap (λ store. load store (Into number 0) (IntegerType i)) b.store_is ∙ loads)) has))
-
-    compounded : (op : BinOp) (e : Expression) → IsPure e → WellTyped scopes e → IsInteger (type_of e) → HasLetters e → length (rs ++ temporaries e) ≤ w.registers → Does (Node at (Int i) (Assign (Some op) variable e))
-    compounded op e pure q integer l room = by (find x.decl s.scope) refl
-      where
-        k : HasInt (type_of e)
-        k = integer_int (type_of e) integer
-
-        code : MonStatements
-        code = store register (Int i) (spec.compound op (Int i) (type_of e) (current register (Int i)) (value w.unit bound rs e))
-
-        all : MonStatements
-        all = before (setup w.unit bound rs e) code
-
-        rest : ℕ → Value → Value → Evaluation Value
-        rest number old y = computed at (λ store. compound T.structs (Int i) op store old (type_of e) y) >>= λ v. write at (Into number 0) (IntegerType i) v >> give v
-
-        whole : Outcome Pointer → Outcome (Unit {0})
-        whole o = on_outcome (on_outcome o (λ p. read at p (IntegerType i) >>= λ x. eval_with T e w.call >>= λ y. computed at (λ store. compound T.structs (Int i) op store x (type_of e) y) >>= λ v. write at p (IntegerType i) v >> give v)) (λ _. done)
-
-        whole_read : ℕ → Outcome Value → Outcome (Unit {0})
-        whole_read number o = on_outcome (on_outcome o (λ x. eval_with T e w.call >>= λ y. rest number x y)) (λ _. done)
-
-        read_is : (number : ℕ) (o : Option Value) → find x.decl s.scope ≡ Some number → load s.store (Into number 0) (IntegerType i) ≡ o → whole (object pa x.decl s) ≡ whole_read number (defined at o s)
-        read_is number o f loads = ap whole (object_is pa x.decl number f) ∙ ap (λ o. whole_read number (defined at o s)) loads
-
-        loaded : (number : ℕ) → find x.decl s.scope ≡ Some number → (o : Option Value) → load s.store (Into number 0) (IntegerType i) ≡ o → Does (Node at (Int i) (Assign (Some op) variable e))
-        loaded number f None loads = undefined_here w h low regs Next s (whole (object pa x.decl s)) (runs w n t all regs) at (read_is number None f loads)
-        loaded number f (Some old) loads =
-            subst (λ r. Follows w h low regs Next s r (runs w n t all regs)) (sym (read_is number (Some old) f loads ∙ handed_on (eval_with T e w.call s) (rest number old) (λ _. done)))
-            (follows_value w h low Next (IntegerType k.int) n s t (eval_with T e w.call s) (λ y s. on_outcome (rest number old y s) (λ _. done)) regs (length (rs ++ temporaries e)) (setup w.unit bound rs e) code (value w.unit bound rs e) m.bounded
-            (lower_same w (IntegerType k.int) s t (eval_with T e w.call s) regs (length rs) low (length (rs ++ temporaries e)) (runs w n t (setup w.unit bound rs e) regs) (value w.unit bound rs e) behind
-            (evaluates w n scopes bound s t b.store_is m.bounded low e k.int rs k.is pure q l behind regs m.anchored (omega (arith, room, m.registers))))
-            (λ y fy after same has. combined number old f loads op (type_of e) k.int y (value w.unit bound rs e) after (λ v. v) k.is fy same (has after (same_all (length (rs ++ temporaries e)) after))))
-
-        by : (o : Option ℕ) → find x.decl s.scope ≡ o → Does (Node at (Int i) (Assign (Some op) variable e))
-        by None f = undefined_here w h low regs Next s (whole (object pa x.decl s)) (runs w n t all regs) pa (ap whole (no_object pa x.decl f))
-        by (Some number) f = loaded number f (load s.store (Into number 0) (IntegerType i)) refl
-
-    bumped : (op : BumpOp) → Does (Node at (Int i) (Bump op variable))
-    bumped op = by (find x.decl s.scope) refl
-      where
-        one_more : MonExpression
-        one_more = Constant kind.I32 (pos 1)
-
-        code : MonStatements
-        code = store register (Int i) (spec.compound (bump_operator op) (Int i) int_type (current register (Int i)) one_more)
-
-        rest : ℕ → Value → Evaluation Value
-        rest number old = computed at (λ store. compound T.structs (Int i) (bump_operator op) store old int_type (Integer (pos 1))) >>= λ v. write at (Into number 0) (IntegerType i) v >> give (bump_value op old v)
-
-        whole : Outcome Pointer → Outcome (Unit {0})
-        whole o =
-            on_outcome (on_outcome o (λ p. read at p (IntegerType i) >>= λ x. computed at (λ store. compound T.structs (Int i) (bump_operator op) store x int_type (Integer (pos 1))) >>= λ v.
-            write at p (IntegerType i) v >> give (bump_value op x v))) (λ _. done)
-
-        whole_read : ℕ → Outcome Value → Outcome (Unit {0})
-        whole_read number o = on_outcome (on_outcome o (λ x. rest number x)) (λ _. done)
-
-        read_is : (number : ℕ) (o : Option Value) → find x.decl s.scope ≡ Some number → load s.store (Into number 0) (IntegerType i) ≡ o → whole (object pa x.decl s) ≡ whole_read number (defined at o s)
-        read_is number o f loads = ap whole (object_is pa x.decl number f) ∙ ap (λ o. whole_read number (defined at o s)) loads
-
-        loaded : (number : ℕ) → find x.decl s.scope ≡ Some number → (o : Option Value) → load s.store (Into number 0) (IntegerType i) ≡ o → Does (Node at (Int i) (Bump op variable))
-        loaded number f None loads = undefined_here w h low regs Next s (whole (object pa x.decl s)) (runs w n t code regs) at (read_is number None f loads)
-        loaded number f (Some old) loads =
-            subst (λ r. Follows w h low regs Next s r (runs w n t code regs)) (sym (read_is number (Some old) f loads))
-            (combined number old f loads (bump_operator op) int_type I32 (Integer (pos 1)) one_more regs (λ v. bump_value op old v) refl (pos 1, refl, refl) (same_all low regs) refl)
-
-        by : (o : Option ℕ) → find x.decl s.scope ≡ o → Does (Node at (Int i) (Bump op variable))
-        by None f = undefined_here w h low regs Next s (whole (object pa x.decl s)) (runs w n t code regs) pa (ap whole (no_object pa x.decl f))
-        by (Some number) f = loaded number f (load s.store (Into number 0) (IntegerType i)) refl
-
-  place_assigned : (at : Place) (k : PlainType) (a e : Expression) → IsPlace scopes k a → IsPureOrCall e → WellTyped scopes e → type_of e ≡ k → FullHasLetters e → length (rs ++ full_temporaries e) ≤ w.registers → Does (Node at k (Assign None a e))
-  place_assigned at k (Node pa u (Variable x)) e d pure q same l room =
-      let i = denoted_int w n scopes x k scene d.1 in
-      subst (λ k. Does (Node at k (Assign None (Node pa u (Variable x)) e))) (sym i.is) (assigned at pa u x i.int e pure q (same ∙ i.is) l room)
-  place_assigned at k _ e d pure q same l room = absurd d
-
-  place_compounded : (at : Place) (k : PlainType) (op : BinOp) (a e : Expression) → IsPlace scopes k a → IsInteger k → IsPure e → WellTyped scopes e → IsInteger (type_of e) → HasLetters e → length (rs ++ temporaries e) ≤ w.registers
-      → Does (Node at k (Assign (Some op) a e))
-  place_compounded at k op (Node pa u (Variable x)) e d z pure q integer l room =
-      let i = integer_int k z in
-      subst (λ k. Does (Node at k (Assign (Some op) (Node pa u (Variable x)) e))) (sym i.is) (compounded at pa u x i.int op e pure q integer l room)
-  place_compounded at k op _ e d z pure q integer l room = absurd d
-
-  place_bumped : (at : Place) (k : PlainType) (op : BumpOp) (a : Expression) → IsPlace scopes k a → IsInteger k → Does (Node at k (Bump op a))
-  place_bumped at k op (Node pa u (Variable x)) d z =
-      let i = integer_int k z in
-      subst (λ k. Does (Node at k (Bump op (Node pa u (Variable x))))) (sym i.is) (bumped at pa u x i.int op)
-  place_bumped at k op _ d z = absurd d
-
   -- a call, whose value nothing takes
-  called_alone : (at : Place) (k : PlainType) (f : Use) (es : Expressions) → ArePure es → AreWellTyped scopes es → Calls scopes f k es → ArgumentsHaveLetters es → length (rs ++ arguments_temporaries es) ≤ w.registers → Does (Node at k (Call f es))
+  pub called_alone : (at : Place) (k : PlainType) (f : Use) (es : Expressions) → ArePure es → AreWellTyped sight es → Calls sight f k es → ArgumentsHaveLetters es → length (rs ++ arguments_temporaries es) ≤ w.registers → Does (Node at k (Call f es))
   called_alone at k f es pure q c l room =
       subst (λ a. does_as (Node at k (Call f es)) a) (before_none (called w.unit bound rs None f es))
-      (follows_called w n h scopes scene Next low bound s t le rs behind regs m b at k f es None (λ _. done) NoStatement (λ r e. absurd cc) pure q c l room
+      (follows_called w n h sight scene Next low bound s t le rs behind regs m b at k f es None (λ _. done) NoStatement (λ r e. absurd cc) pure q c l room
       (λ z v to there o after i like same la be. stays w h low after to there la.bounded be))
+
+  -- ---- the object that is assigned to
+
+  -- a register points to it, or to the object of which it is a member, after these statements
+  pub data Aims (a : Expression) (code : MonStatements) (r high : ℕ) : Type 0 where
+    AimsAt : (to : Pointer) → place_with T a w.call s ≡ Normal (reached_from w a to) s → (after : List Value) → Same low regs after → runs w n t code regs ≡ Done (Next after) t [] → slice_get after r ≡ Some (Points to) → r < high
+        → Aims a code r high
+    NoAim : (at : Place) → place_with T a w.call s ≡ Stop (Over (Undefined at)) s → Aims a code r high
+
+  direct : (a : Expression) → is_direct w.unit a ≡ true → Aims a NoStatement (variable_register bound a) (length (rs ++ []))
+  direct (Node at u (Variable x)) d = by (find x.decl s.scope) refl
+    where
+      by : (o : Option ℕ) → find x.decl s.scope ≡ o → Aims (Node at u (Variable x)) NoStatement (block_of bound x.decl) (length (rs ++ []))
+      by None f = NoAim at (ap (λ o. defined at (start_of o) s) f)
+      by (Some number) f =
+          let local = leb-true _ _ d in
+          let below = block_below w low bound regs s.scope x.decl number m.anchored f local in
+          AimsAt (Into number 0) (ap (λ o. defined at (start_of o) s) f) regs (same_all low regs) refl
+          (block_has w low low bound regs regs s.scope x.decl number (omega arith) (same_all low regs) m.anchored f local) (omega (arith, below, behind, longer rs []))
+  direct _ d = absurd cc
+
+  through_base : (a : Expression) → length (rs ++ (temporaries a ++ kind.Ptr ∷ [])) ≤ w.registers → Based w n sight scene.knows bound s t b.store_is m.bounded low a rs regs
+      → Aims a (before (setup w.unit bound rs a) (set (length (rs ++ temporaries a)) (base w.unit bound rs a))) (length (rs ++ temporaries a)) (length (rs ++ (temporaries a ++ kind.Ptr ∷ [])))
+  through_base a room (HasNoBase at x) = NoAim at x
+  through_base a room (HasBase to x after same run has) =
+      let r = length (rs ++ temporaries a) in
+      let long : length (rs ++ (temporaries a ++ kind.Ptr ∷ [])) ≡ suc r =
+      omega (arith, length-append rs (temporaries a ++ kind.Ptr ∷ []), length-append (temporaries a) (kind.Ptr ∷ []), length-append rs (temporaries a)) in
+      AimsAt to x (slice_set after r (Points to))
+      (same_trans low low regs after (slice_set after r (Points to)) (omega arith) (same_less low (length rs) regs after behind same) (same_set low r after (Points to) (omega (arith, behind, longer rs (temporaries a)))))
+      (behind_setup w n t (setup w.unit bound rs a) (set r (base w.unit bound rs a)) regs after run ∙ set_runs w n t r (base w.unit bound rs a) after (Points to) (has after (same_all r after)))
+      (get-set_same after r (Points to) (omega (arith, long, room, same.long, m.registers))) (omega (arith, long))
+
+  pub aims : (a : Expression) → is_place a ≡ true → IsPure a → WellTyped sight a → HasLetters a → length (rs ++ target_temporaries w.unit a) ≤ w.registers
+      → Aims a (target_setup w.unit bound rs a) (target w.unit bound rs a) (length (rs ++ target_temporaries w.unit a))
+  aims a o p q l room = by (is_direct w.unit a) refl room
+    where
+      by : (c : Bool) → is_direct w.unit a ≡ c → length (rs ++ (if c then [] else temporaries a ++ kind.Ptr ∷ [])) ≤ w.registers
+          → Aims a (if c then NoStatement else before (setup w.unit bound rs a) (set (length (rs ++ temporaries a)) (base w.unit bound rs a))) (if c then variable_register bound a else length (rs ++ temporaries a))
+          (length (rs ++ (if c then [] else temporaries a ++ kind.Ptr ∷ [])))
+      by true d room = direct a d
+      by false d room =
+          through_base a room (bases w n sight scene.knows bound s t b.store_is m.bounded low a rs (place_has_object a o) p q l behind regs m.anchored
+          (omega (arith, room, m.registers, length-append rs (temporaries a ++ kind.Ptr ∷ []), length-append (temporaries a) (kind.Ptr ∷ []), length-append rs (temporaries a))))
+
+  -- ---- `=`
+
+  module _ (at : Place) (u : PlainType) (a e : Expression) (k : Scalar) (is : scalar_of u ≡ Some k) where
+    abbrev front : List MonType
+    front = rs ++ target_temporaries w.unit a
+
+    abbrev last : ℕ
+    last = length (front ++ full_temporaries e)
+
+    abbrev puts : MonStatements
+    puts = into_object w.unit (target w.unit bound rs a) last a u (λ r. full_value w.unit bound front e)
+
+    abbrev rest : MonStatements
+    rest = before (full_setup w.unit bound front e) puts
+
+    room_of : length (rs ++ (target_temporaries w.unit a ++ full_temporaries e ++ member_temporaries a)) ≤ w.registers → (length front ≤ w.registers) × (last ≤ w.registers) × (is_member a ≡ true → last < w.registers)
+    room_of room =
+        let all = length-append rs (target_temporaries w.unit a ++ full_temporaries e ++ member_temporaries a) in
+        let most = length-append (target_temporaries w.unit a ++ full_temporaries e) (member_temporaries a) in
+        let some = length-append (target_temporaries w.unit a) (full_temporaries e) in
+        let few = length-append rs (target_temporaries w.unit a) in
+        let whole = length-append (rs ++ target_temporaries w.unit a) (full_temporaries e) in (
+          omega (arith, room, all, most, some, few),
+          omega (arith, room, all, most, some, few, whole),
+          λ c. let one : length (member_temporaries a) ≡ 1 = ap (λ c. length (if c then kind.Ptr ∷ [] else [])) c in omega (arith, room, all, most, some, few, whole, one),
+        )
+
+    pub assignment_follows : is_place a ≡ true → IsPure a → WellTyped sight a → HasLetters a → IsPureOrCall e → WellTyped sight e → type_of e ≡ u → FullHasLetters e
+        → length (rs ++ (target_temporaries w.unit a ++ full_temporaries e ++ member_temporaries a)) ≤ w.registers → Does (Node at u (Assign None a e))
+    assignment_follows o pa qa la pe qe same le2 room = by (aims a o pa qa la (room_of room).0)
+      where
+        code : MonStatements
+        code = before (target_setup w.unit bound rs a) rest
+
+        by : Aims a (target_setup w.unit bound rs a) (target w.unit bound rs a) (length front) → Does (Node at u (Assign None a e))
+        by (NoAim there x) =
+            undefined_here w h low regs Next s ((eval_with T (Node at u (Assign None a e)) w.call >> done) s) (runs w n t code regs) there
+            (ap (λ r. on_outcome (on_outcome r (λ p. assigned T.structs at u (scalar_of u) p (eval_with T e w.call) (place_with T e w.call))) (λ _. done)) x)
+        by (AimsAt to x after keeps run points below) =
+            subst (λ r. Follows w h low regs Next s r (runs w n t code regs)) (sym source)
+            (subst (λ q. Follows w h low regs Next s (on_outcome (eval_with T e w.call s) tail) q) (writes_none (runs w n t rest after) ∙ sym (behind_setup w n t (target_setup w.unit bound rs a) rest regs after run))
+            (onward w h low regs after Next s s [] (on_outcome (eval_with T e w.call s) tail) (runs w n t rest after) keeps (later_same s m.bounded)
+            (follows_full w n h sight scene Next low bound s t le front (omega (arith, behind, longer rs (target_temporaries w.unit a))) after (standing_later w h low bound regs after s s [] keeps (later_same s m.bounded) m) b
+            e k tail puts (ap scalar_of same ∙ is) pe qe le2 (room_of room).1 (λ v state there o after2 f2 same2 later2 be has.
+            subst (λ r. Follows w h low after2 Next state r (runs w n there puts after2)) (sym (given_done (write at (reached_from w a to) k v state) v))
+            (into_follows w n h low at k u is a to (target w.unit bound rs a) last v state there after2 (λ r. full_value w.unit bound front e) later2.bounded be (same2.below (target w.unit bound rs a) below ∙ points)
+            (omega (arith, behind, longer rs (target_temporaries w.unit a), longer front (full_temporaries e)))
+            (λ c. omega (arith, (room_of room).2 c, same2.long, keeps.long, m.registers)) f2 (λ y later same3 held. has later same3))))))
+          where
+            given : Value → Evaluation Value
+            given v = write at (reached_from w a to) k v >> give v
+
+            tail : Value → Evaluation (Unit {0})
+            tail v s = on_outcome (given v s) (λ _. done)
+
+            source : (eval_with T (Node at u (Assign None a e)) w.call >> done) s ≡ on_outcome (eval_with T e w.call s) tail
+            source =
+                ap (λ o. on_outcome (on_outcome (place_with T a w.call s) (λ p. assigned T.structs at u o p (eval_with T e w.call) (place_with T e w.call))) (λ _. done)) is
+                ∙ ap (λ r. on_outcome (on_outcome r (λ p. assigned T.structs at u (Some k) p (eval_with T e w.call) (place_with T e w.call))) (λ _. done)) x
+                ∙ handed_on (eval_with T e w.call s) given (λ _. done)
+
+  -- ---- `op=`, `++` and `--`
+
+  module _ (at : Place) (u v : PlainType) (a : Expression) (k l : Scalar) (is : scalar_of u ≡ Some k) (l_is : scalar_of v ≡ Some l) (op : BinOp) (types : CompoundTypes sight op u v) (to : Pointer) (old : Value)
+      (loads : load s.store (reached_from w a to) k ≡ Some old) where
+    abbrev there : Pointer
+    there = reached_from w a to
+
+    current_has : (r : ℕ) (later : List Value) → slice_get later r ≡ Some (Points there) → Has w (current r u) later t.mem old
+    current_has r later held =
+        ap (λ m. eval over_blocks w.globals (Load m (Register r)) later t.mem) (value_type_is u k is)
+        ∙ load_has w later t.mem k (Register r) there old held (ap (λ store. load store there k) b.store_is ∙ loads)
+
+    -- what is made of the old value and another goes into the object
+    pub combined_into : (level r j : ℕ) (y : Value) (e : MonExpression) (after : List Value) (g : Value → Value) → IsOf l y → slice_get after r ≡ Some (Points to) → level ≤ j → (is_member a ≡ true → j < length after)
+        → ((later : List Value) → Same j after later → Has w e later t.mem y)
+        → Follows w h level after Next s (on_outcome ((computed at (λ store. compound T.structs u op store old v y) >>= λ z. write at there k z >> give (g z)) s) (λ _. done))
+        (runs w n t (into_object w.unit r j a u (λ r. spec.compound T.structs op u v (current r u) e)) after)
+    combined_into level r j y e after g fy points above room has = by (compound T.structs u op s.store old v y) refl
+      where
+        code : MonStatements
+        code = into_object w.unit r j a u (λ r. spec.compound T.structs op u v (current r u) e)
+
+        by : (o : Option Value) → compound T.structs u op s.store old v y ≡ o
+            → Follows w h level after Next s (on_outcome ((defined at o >>= λ z. write at there k z >> give (g z)) s) (λ _. done)) (runs w n t code after)
+        by None d = undefined_here w h level after Next s (Stop (Over (Undefined at)) s) (runs w n t code after) at refl
+        by (Some z) d =
+            let c = combined w n t s b.store_is m.bounded sight T.structs at op u v k l is l_is types old y z (loaded_is_of s.store there k old m.bounded loads) fy d (current r u) e in
+            subst (λ q. Follows w h level after Next s q (runs w n t code after)) (sym (given_done (write at there k z s) (g z)))
+            (into_follows w n h level at k u is a to r j z s t after (λ r. spec.compound T.structs op u v (current r u) e) m.bounded b points above room c.fits
+            (λ x later same held. c.has (current x u) e later (current_has x later held, has later same)))
+
+  module _ (at : Place) (u : PlainType) (op : BinOp) (a e : Expression) (k l : Scalar) (is : scalar_of u ≡ Some k) (l_is : scalar_of (type_of e) ≡ Some l) (types : CompoundTypes sight op u (type_of e)) where
+    abbrev before_it : List MonType
+    before_it = rs ++ target_temporaries w.unit a
+
+    abbrev end : ℕ
+    end = length (before_it ++ temporaries e)
+
+    abbrev combines : MonStatements
+    combines = into_object w.unit (target w.unit bound rs a) end a u (λ r. spec.compound T.structs op u (type_of e) (current r u) (value w.unit bound before_it e))
+
+    abbrev others : MonStatements
+    others = before (setup w.unit bound before_it e) combines
+
+    place_for : length (rs ++ (target_temporaries w.unit a ++ temporaries e ++ member_temporaries a)) ≤ w.registers → (length before_it ≤ w.registers) × (end ≤ w.registers) × (is_member a ≡ true → end < w.registers)
+    place_for room =
+        let all = length-append rs (target_temporaries w.unit a ++ temporaries e ++ member_temporaries a) in
+        let most = length-append (target_temporaries w.unit a ++ temporaries e) (member_temporaries a) in
+        let some = length-append (target_temporaries w.unit a) (temporaries e) in
+        let few = length-append rs (target_temporaries w.unit a) in
+        let whole = length-append (rs ++ target_temporaries w.unit a) (temporaries e) in (
+          omega (arith, room, all, most, some, few),
+          omega (arith, room, all, most, some, few, whole),
+          λ c. let one : length (member_temporaries a) ≡ 1 = ap (λ c. length (if c then kind.Ptr ∷ [] else [])) c in omega (arith, room, all, most, some, few, whole, one),
+        )
+
+    -- what is done with the place, with the scalar type, and with what is read there
+    abbrev at_place : Option Scalar → Outcome Pointer → Outcome (Unit {0})
+    at_place o r =
+        on_outcome (on_outcome r (λ p. as_scalar o (λ k. read at p k >>= λ x. eval_with T e w.call >>= λ y. computed at (λ store. compound T.structs u op store x (type_of e) y) >>= λ v. write at p k v >> give v))) (λ _. done)
+
+    abbrev at_value : Pointer → Outcome Value → Outcome (Unit {0})
+    at_value p r =
+        on_outcome (on_outcome r (λ x. eval_with T e w.call >>= λ y. computed at (λ store. compound T.structs u op store x (type_of e) y) >>= λ v. write at p k v >> give v)) (λ _. done)
+
+    pub compound_follows : is_place a ≡ true → IsPure a → WellTyped sight a → HasLetters a → IsPure e → WellTyped sight e → HasLetters e
+        → length (rs ++ (target_temporaries w.unit a ++ temporaries e ++ member_temporaries a)) ≤ w.registers → Does (Node at u (Assign (Some op) a e))
+    compound_follows o pa qa la pe qe le2 room = by (aims a o pa qa la (place_for room).0)
+      where
+        code : MonStatements
+        code = before (target_setup w.unit bound rs a) others
+
+        this : Expression
+        this = Node at u (Assign (Some op) a e)
+
+        by : Aims a (target_setup w.unit bound rs a) (target w.unit bound rs a) (length before_it) → Does this
+        by (NoAim there x) = undefined_here w h low regs Next s (at_place (scalar_of u) (place_with T a w.call s)) (runs w n t code regs) there (ap (at_place (scalar_of u)) x)
+        by (AimsAt to x after keeps run points below) = read_first (load s.store (reached_from w a to) k) refl
+          where
+            leads : (o : Option Value) → load s.store (reached_from w a to) k ≡ o → at_place (scalar_of u) (place_with T a w.call s) ≡ at_value (reached_from w a to) (defined at o s)
+            leads o loads = ap (λ o. at_place o (place_with T a w.call s)) is ∙ ap (at_place (Some k)) x ∙ ap (λ o. at_value (reached_from w a to) (defined at o s)) loads
+
+            rest_of : Value → Value → Evaluation Value
+            rest_of old y = computed at (λ store. compound T.structs u op store old (type_of e) y) >>= λ v. write at (reached_from w a to) k v >> give v
+
+            read_first : (o : Option Value) → load s.store (reached_from w a to) k ≡ o → Does this
+            read_first None loads = undefined_here w h low regs Next s (at_place (scalar_of u) (place_with T a w.call s)) (runs w n t code regs) at (leads None loads)
+            read_first (Some old) loads =
+                let level = length before_it in
+                let tail = λ (y : Value) (s : State). on_outcome (rest_of old y s) (λ _. done) in
+                subst (λ r. Follows w h low regs Next s r (runs w n t code regs)) (sym (leads (Some old) loads ∙ handed_on (eval_with T e w.call s) (rest_of old) (λ _. done)))
+                (subst (λ q. Follows w h low regs Next s (on_outcome (eval_with T e w.call s) tail) q) (writes_none (runs w n t others after) ∙ sym (behind_setup w n t (target_setup w.unit bound rs a) others regs after run))
+                (onward w h low regs after Next s s [] (on_outcome (eval_with T e w.call s) tail) (runs w n t others after) keeps (later_same s m.bounded)
+                (follows_lower w h low level after Next s (on_outcome (eval_with T e w.call s) tail) (runs w n t others after) (omega (arith, behind, longer rs (target_temporaries w.unit a)))
+                (follows_value w h level Next l n s t (eval_with T e w.call s) tail after end (setup w.unit bound before_it e) combines (value w.unit bound before_it e) m.bounded
+                (evaluates w n sight scene.knows bound s t b.store_is m.bounded low e l before_it l_is pe qe le2 (omega (arith, behind, longer rs (target_temporaries w.unit a))) after
+                (anchored_same w low bound regs after s.scope keeps m.anchored) (omega (arith, (place_for room).1, keeps.long, m.registers)))
+                (λ y fy after2 same2 has2.
+                combined_into at u (type_of e) a k l is l_is op types to old loads level (target w.unit bound rs a) end y (value w.unit bound before_it e) after2 (λ v. v) fy (same2.below (target w.unit bound rs a) below ∙ points)
+                (longer before_it (temporaries e)) (λ c. omega (arith, (place_for room).2 c, same2.long, keeps.long, m.registers)) has2)))))
+
+  module _ (at : Place) (u : PlainType) (op : BumpOp) (a : Expression) (k : Scalar) (is : scalar_of u ≡ Some k) (types : CompoundTypes sight operator.Add u int_type) where
+    abbrev behind_place : List MonType
+    behind_place = rs ++ target_temporaries w.unit a
+
+    abbrev bumps : MonStatements
+    bumps = into_object w.unit (target w.unit bound rs a) (length behind_place) a u (λ r. spec.compound T.structs (bump_operator op) u int_type (current r u) (Constant kind.I32 (pos 1)))
+
+    abbrev bump_at : Option Scalar → Outcome Pointer → Outcome (Unit {0})
+    bump_at o r =
+        on_outcome (on_outcome r (λ p. as_scalar o (λ k. read at p k >>= λ x. computed at (λ store. compound T.structs u (bump_operator op) store x int_type (Integer (pos 1))) >>= λ v. write at p k v >> give (bump_value op x v)))) (λ _. done)
+
+    abbrev bump_value_at : Pointer → Outcome Value → Outcome (Unit {0})
+    bump_value_at p r =
+        on_outcome (on_outcome r (λ x. computed at (λ store. compound T.structs u (bump_operator op) store x int_type (Integer (pos 1))) >>= λ v. write at p k v >> give (bump_value op x v))) (λ _. done)
+
+    room_to_bump : length (rs ++ (target_temporaries w.unit a ++ member_temporaries a)) ≤ w.registers → (length behind_place ≤ w.registers) × (is_member a ≡ true → length behind_place < w.registers)
+    room_to_bump room =
+        let all = length-append rs (target_temporaries w.unit a ++ member_temporaries a) in
+        let some = length-append (target_temporaries w.unit a) (member_temporaries a) in
+        let few = length-append rs (target_temporaries w.unit a) in
+        (omega (arith, room, all, some, few), λ c. let one : length (member_temporaries a) ≡ 1 = ap (λ c. length (if c then kind.Ptr ∷ [] else [])) c in omega (arith, room, all, some, few, one))
+
+    pub bump_follows : is_place a ≡ true → IsPure a → WellTyped sight a → HasLetters a → length (rs ++ (target_temporaries w.unit a ++ member_temporaries a)) ≤ w.registers → Does (Node at u (Bump op a))
+    bump_follows o pa qa la room = by (aims a o pa qa la (room_to_bump room).0)
+      where
+        code : MonStatements
+        code = before (target_setup w.unit bound rs a) bumps
+
+        by : Aims a (target_setup w.unit bound rs a) (target w.unit bound rs a) (length behind_place) → Does (Node at u (Bump op a))
+        by (NoAim there x) = undefined_here w h low regs Next s (bump_at (scalar_of u) (place_with T a w.call s)) (runs w n t code regs) there (ap (bump_at (scalar_of u)) x)
+        by (AimsAt to x after keeps run points below) = read_first (load s.store (reached_from w a to) k) refl
+          where
+            leads : (o : Option Value) → load s.store (reached_from w a to) k ≡ o → bump_at (scalar_of u) (place_with T a w.call s) ≡ bump_value_at (reached_from w a to) (defined at o s)
+            leads o loads = ap (λ o. bump_at o (place_with T a w.call s)) is ∙ ap (bump_at (Some k)) x ∙ ap (λ o. bump_value_at (reached_from w a to) (defined at o s)) loads
+
+            read_first : (o : Option Value) → load s.store (reached_from w a to) k ≡ o → Does (Node at u (Bump op a))
+            read_first None loads = undefined_here w h low regs Next s (bump_at (scalar_of u) (place_with T a w.call s)) (runs w n t code regs) at (leads None loads)
+            read_first (Some old) loads =
+                subst (λ r. Follows w h low regs Next s r (runs w n t code regs)) (sym (leads (Some old) loads))
+                (subst (λ q. Follows w h low regs Next s (bump_value_at (reached_from w a to) (Normal old s)) q) (writes_none (runs w n t bumps after) ∙ sym (behind_setup w n t (target_setup w.unit bound rs a) bumps regs after run))
+                (onward w h low regs after Next s s [] (bump_value_at (reached_from w a to) (Normal old s)) (runs w n t bumps after) keeps (later_same s m.bounded)
+                (combined_into at u int_type a k (IntegerType I32) is refl (bump_operator op) (bump_types sight op u int_type types) to old loads low (target w.unit bound rs a) (length behind_place)
+                (Integer (pos 1)) (Constant kind.I32 (pos 1)) after
+                (λ v. bump_value op old v) (pos 1, refl, refl) points (omega (arith, behind, longer rs (target_temporaries w.unit a))) (λ c. omega (arith, (room_to_bump room).1 c, keeps.long, m.registers)) (λ later same. refl))))
 
   -- ---- all of them
 
-  pub effect_follows : (e : Expression) → IsEffectOrCall e → WellTyped scopes e → EffectHasLetters e → length (rs ++ effect_temporaries e) ≤ w.registers → Does e
-  effect_follows (Node at k (Assign None a e)) pure q l room = place_assigned at k a e q.0 pure.1 q.1 q.2 l room
-  effect_follows (Node at k (Assign (Some op) a e)) pure q l room = place_compounded at k op a e q.0 q.2 pure.1 q.1 q.3 l room
-  effect_follows (Node at k (Bump op a)) pure q l room = place_bumped at k op a q.0 q.1
-  effect_follows (Node at k (Call f es)) pure q l room = called_alone at k f es pure q.0 q.1 l room
-  effect_follows e pure q l room = pure_follows e pure q
+  compound_scalars : (op : BinOp) (u v : PlainType) → CompoundTypes sight op u v → IsScalar u × IsScalar v
+  compound_scalars op u v (ToInteger p q) = (record { scalar = IntegerType p.int; is = ap scalar_of p.is }, record { scalar = IntegerType q.int; is = ap scalar_of q.is })
+  compound_scalars op u v (ToPointer step p q) = (record { scalar = PointerType; is = ap scalar_of p.is }, record { scalar = IntegerType q.int; is = ap scalar_of q.is })
 
-  -- ---- initialisations
-
-  initial_int : (d : Declaration) (at : Place) (e : Expression) (i : CInt) → d.ctype ≡ Int i → IsPureOrCall e → WellTyped scopes e → type_of e ≡ Int i → FullHasLetters e → length (rs ++ full_temporaries e) ≤ w.registers
-      → Follows w h low regs Next s (initialise T d (Some (at, One e)) w.call s) (runs w n t (translation.initialise w.unit bound rs (number_of d) d.ctype (Some (at, One e))) regs)
-  initial_int d at e i int pure q same l room =
-      subst (λ k. Follows w h low regs Next s (whole k (string_in e) (object at (number_of d) s)) (runs w n t (before (full_setup w.unit bound rs e) (store register k (full_value w.unit bound rs e))) regs)) (sym int)
-      (subst (λ o. Follows w h low regs Next s (whole (Int i) o (object at (number_of d) s)) (runs w n t all regs)) (sym (no_string e pure))
-      (by (find (number_of d) s.scope) refl))
+  -- an expression without effects leaves no statement
+  pub quiet_follows : (e : Expression) → IsPure e → WellTyped sight e → does_as e NoStatement
+  quiet_follows e pure q = by (pure_gives T w.call sight s e pure q)
     where
-      register : ℕ
-      register = block_of bound (number_of d)
+      by : Quiet (HasKind (scalar_of (type_of e))) s (eval_with T e w.call s) → does_as e NoStatement
+      by (Gives v kind x) = subst (λ r. Follows w h low regs Next s (on_outcome r (λ _. done)) (runs w n t NoStatement regs)) (sym x) (stays w h low regs s t m.bounded b)
+      by (IsUndefined at x) = undefined_here w h low regs Next s ((eval_with T e w.call >> done) s) (runs w n t NoStatement regs) at (ap (λ r. on_outcome r (λ _. done)) x)
 
-      code : MonStatements
-      code = store register (Int i) (full_value w.unit bound rs e)
-
-      all : MonStatements
-      all = before (full_setup w.unit bound rs e) code
-
-      whole : PlainType → Option ℕ → Outcome Pointer → Outcome (Unit {0})
-      whole k string o = on_outcome o (λ p. fill_one T at k p string (eval_with T e w.call))
-
-      by : (o : Option ℕ) → find (number_of d) s.scope ≡ o → Follows w h low regs Next s (whole (Int i) None (object at (number_of d) s)) (runs w n t all regs)
-      by None f = undefined_here w h low regs Next s (whole (Int i) None (object at (number_of d) s)) (runs w n t all regs) at (ap (whole (Int i) None) (no_object at (number_of d) f))
-      by (Some number) f =
-          subst (λ r. Follows w h low regs Next s r (runs w n t all regs)) (sym (ap (whole (Int i) None) (object_is at (number_of d) number f)))
-          (follows_full w n h scopes scene Next low bound s t le rs behind regs m b e i (λ v. write at (Into number 0) (IntegerType i) v) code same pure q l room (λ v to there o after f2 same2 la be has.
-          write_follows w n h low at i number register v to there after (full_value w.unit bound rs e) la.bounded be (block_has low (length rs) bound regs after s.scope (number_of d) number behind same2 m.anchored f) f2 has))
-
-  -- an initialiser, where there is one
-  pub initial_follows : (most : ℕ) (d : Declaration) (o : Option (Place × Initialiser)) → HasInt d.ctype → IsInitialiser most o → Initialises scopes d.ctype o → InitialHasLetters o → length (rs ++ initial_temporaries o) ≤ w.registers
-      → Follows w h low regs Next s (initialise T d o w.call s) (runs w n t (translation.initialise w.unit bound rs (number_of d) d.ctype o) regs)
-  initial_follows most d None int i q l room = stays w h low regs s t m.bounded b
-  initial_follows most d (Some (at, One e)) int i q l room = initial_int d at e int.int int.is i.is q.0 (q.1 ∙ int.is) l room
-  initial_follows most d (Some (at, Many brace is)) int i q l room = absurd i
-
--- declared objects in their order
-module _ (w : Setting) (n : ℕ) (h : Here) (low : ℕ) (bound : Bindings) where
-  pub initials_follow : (most : ℕ) (ds : List Declaration) (scopes : Scopes) → Scene w n scopes → AreInitialised most ds → AreDeclared scopes ds → InitialsHaveLetters ds → (rs : List MonType) → low ≤ length rs
-      → length (rs ++ declaration_temporaries ds) ≤ w.registers → (regs : List Value) (s : State) (t : Target) → s.steps ≤ n → Standing w h low bound regs s → Beside w s.store s t
-      → Follows w h low regs Next s (initialise_all (tables_of w.unit) ds w.call s) (runs w n t (translation.initialise_all w.unit bound rs ds) regs)
-  initials_follow most [] scopes scene f q l rs behind room regs s t le m b = stays w h low regs s t m.bounded b
-  initials_follow most (d ∷ ds) scopes scene f q l rs behind room regs s t le m b =
-      let here = initial_temporaries d.init in
-      let rest = declaration_temporaries ds in
-      let more : length (rs ++ (here ++ rest)) ≡ length (rs ++ here ++ rest) = omega (arith, length-append (rs ++ here) rest, length-append rs here, length-append rs (here ++ rest), length-append here rest) in
-      let first = translation.initialise w.unit bound rs (number_of d) d.ctype d.init in
-      let others = translation.initialise_all w.unit bound (rs ++ here) ds in
-      subst (λ q. Follows w h low regs Next s (initialise_all (tables_of w.unit) (d ∷ ds) w.call s) q) (sym (before_is w.globals first others w.calls n regs t))
-      (follows_then w h low regs Next s (initialise (tables_of w.unit) d d.init w.call s) (runs w n t first regs) (initialise_all (tables_of w.unit) ds w.call) (λ r u. runs w n u others r)
-      (initial_follows w n h (with_object scopes d) (scene_with w n scopes d q.0.ctype scene) low bound s t le rs behind regs m b most d d.init (object_int d.ctype q.0.ctype) f.0 q.0.init l.0 (omega (arith, more, room, longer (rs ++ here) rest)))
-      (λ to after u o same la be.
-      initials_follow most ds (with_object scopes d) (scene_with w n scopes d q.0.ctype scene) f.1 q.1 l.1 (rs ++ here) (omega (arith, behind, longer rs here)) (omega (arith, more, room)) after to u (omega (arith, le, la.spent))
-      (standing_later w h low bound regs after s to o same la m) be))
+  pub effect_follows : (e : Expression) → IsEffectOrCall e → WellTyped sight e → EffectHasLetters e → length (rs ++ effect_temporaries w.unit e) ≤ w.registers → Does e
+  effect_follows (Node at u (Assign None a e)) pure q l room = assignment_follows at u a e q.3.scalar q.3.is q.2 pure.0 q.0 l.0 pure.1 q.1 q.5 l.1 room
+  effect_follows (Node at u (Assign (Some op) a e)) pure q l room =
+      let scalars = compound_scalars op u (type_of e) q.4 in
+      compound_follows at u op a e scalars.0.scalar scalars.1.scalar scalars.0.is scalars.1.is q.4 q.2 pure.0 q.0 l.0 pure.1 q.1 l.1 room
+  effect_follows (Node at u (Bump op a)) pure q l room =
+      let scalars = compound_scalars operator.Add u int_type q.3 in
+      bump_follows at u op a scalars.0.scalar scalars.0.is q.3 q.1 pure q.0 l room
+  effect_follows (Node at k (Call f es)) pure q l room = called_alone at k f es pure q.0 q.1 l room
+  effect_follows e pure q l room = quiet_follows e pure q

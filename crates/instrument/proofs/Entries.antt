@@ -1,21 +1,17 @@
 -- The entry of a function: its arguments, and the blocks of its parameters one after another.
-use Rattle.std.proofs.Common.{◌≡◌, ℕ, suc, ◌+◌, ◌-◌, List, [], ◌∷◌, ◌++◌, length, map, sym, ap, ◌∙◌, arith}
-use Rattle.std.specs.Prelude.{Result, Ok, Err, Vec, IfOk}
-use Rattle.std.specs.declared.alloc.Global.{Global}
-use Rattle.std.proofs.lemmas.List.{length-map, length-append, map-append}
+use Rattle.std.proofs.Common.{◌≡◌, ℕ, suc, ◌+◌, List, [], ◌∷◌, ◌++◌, length, map, sym, ap, ◌∙◌, arith}
+use Rattle.std.proofs.lemmas.List.{length-append, map-append}
 use Rattle.c_syntax.specs.Statements.{Declaration}
 use Rattle.mon_syntax.specs.declared.tree.MonType.TheVariants.{Ptr}
 use Rattle.mon_syntax.specs.declared.tree.Register.{Register}
-use Rattle.mon_syntax.specs.Registers.{Names, next_register, no_registers, with_kinds, with_table}
+use Rattle.mon_syntax.specs.Registers.{Names, next_register}
 use Rattle.mon_syntax.specs.Trees as mon
 use Rattle.mon_syntax.specs.Trees.{MonExpression, MonRegister, MonStatements, plain_register}
-use Rattle.track_scopes.specs.Blocks.{entered, with_born}
 use Rattle.c_effects.specs.Expressions.{before, one, value_type}
 use Rattle.c_effects.specs.Named.{unit_of}
 use Rattle.c_effects.proofs.Sequences.{before_assoc, grown}
-use Rattle.instrument.specs.Options.{births_by, entering, youngest}
-use Rattle.instrument.specs.Translation.{arguments_from, own_name, parameters, register_name, value_types}
-use Rattle.instrument.proofs.Declarations.{between_is}
+use Rattle.instrument.specs.Options.{births_by, entering}
+use Rattle.instrument.specs.Translation.{arguments_from, own_name, parameters, register_name}
 
 -- ---- arguments
 
@@ -51,20 +47,3 @@ module _ (n n1 : Names) (argument argument1 : ℕ) (d : Declaration) (rest left 
 
   pub entering_more : (all : Names) → entering left n ≡ all → entering rest n1 ≡ all
   entering_more all kept = ap (entering rest) names ∙ ap (λ l. entering l n) (sym left_is) ∙ kept
-
--- ---- both
-
-module _ (n n1 : Names) (ds : List Declaration) (names : n1 ≡ with_table (with_kinds (value_types ds) no_registers) n) where
-  first_is : next_register n1.table ≡ length ds
-  first_is = ap (λ (m : Names). next_register m.table) names ∙ length-map ds (λ (d : Declaration). value_type d.ctype)
-
-  pub entry_code : (t t1 : MonStatements) → t1 ≡ before t (parameters (unit_of n1) (next_register n1.table) 0 ds) → t1 ≡ before t (parameters (unit_of n) (length ds) 0 ds)
-  entry_code t t1 born = born ∙ (λ i. before t (parameters (unit_of (names i)) (first_is i) 0 ds))
-
-  pub entry_names : (n2 : Names) → n2 ≡ entering ds n1 → n2 ≡ with_table (entered ds (with_kinds (value_types ds) no_registers)) n
-  entry_names n2 last = last ∙ ap (entering ds) names
-
-  pub entry_own : {E : Type 0} (n2 : Names) (first end : ℕ) (r : Result (Vec ℕ Global) E) → n2 ≡ entering ds n1 → first ≡ next_register n1.table → end ≡ next_register n2.table → IfOk r (λ own. own.items ≡ youngest first (end - first))
-      → IfOk r (λ own. own.items ≡ with_born (length ds) ds [])
-  entry_own n2 first end (Ok own) last first_at end_at own_is = between_is n1 n2 ds first end (let o : Result (Vec ℕ Global) (Unit {0}) = Ok own in o) last first_at end_at own_is ∙ ap (λ k. with_born k ds []) first_is
-  entry_own n2 first end (Err e) last first_at end_at own_is = tt

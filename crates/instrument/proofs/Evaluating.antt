@@ -1,35 +1,24 @@
 -- How the translation of an expression follows it, and how this goes on from part to part: the statements before a value change
 -- temporary registers alone, and then the value is the source's.
-use Rattle.std.proofs.Common.{◌≡◌, ℕ, suc, ◌<◌, ◌≤◌, ℤ, pos, Bool, true, false, cond, List, [], length, if◌then◌else◌, refl, sym, ap, ◌∙◌, subst, arith}
+use Rattle.std.proofs.Common.{◌≡◌, ℕ, suc, ◌<◌, ◌≤◌, ℤ, pos, Bool, true, false, cond, List, [], length, if◌then◌else◌, sym, ap, ◌∙◌, subst, arith}
 use Rattle.std.specs.Ordering.{int_eq}
 use Rattle.std.specs.Prelude.{slice_set}
 use Rattle.c_syntax.specs.declared.place.Place.{Place}
-use Rattle.c_syntax.specs.declared.types.CInt.{CInt}
-use Rattle.c_model.specs.Layouts.{Scalar, IntegerType}
-use Rattle.c_model.specs.Memory.{Value, Integer}
-use Rattle.c_model.specs.State.{State, Outcome, Normal, Stop, Over, Undefined, Evaluation, on_outcome, tested}
+use Rattle.c_model.specs.Layouts.{Scalar}
+use Rattle.c_model.specs.Memory.{Pointer, Value, Integer, Points}
+use Rattle.c_model.specs.State.{State, Outcome, Normal, Stop, Over, Undefined, Evaluation, on_outcome, ◌>>=◌}
 use Rattle.c_model.specs.Meaning.{choose, is_zero}
-use Rattle.mon_syntax.specs.Meaning.{Done, Next, then_do, at_next, with_value}
+use Rattle.mon_syntax.specs.Meaning.{Result, Done, Flow, Next, then_do, at_next, with_value}
 use Rattle.mon_syntax.specs.Meaning.{◌>>=◌ as bind}
 use Rattle.mon_syntax.specs.Meaning as monitored
 use Rattle.mon_syntax.specs.BlockMemory.{integer_of, over_blocks}
-use Rattle.mon_syntax.specs.Trees.{MonExpression, Register, Set, MonStatements}
+use Rattle.mon_syntax.specs.Trees.{MonExpression, Register, MonStatement, Set, MonStatements}
 use Rattle.mon_syntax.specs.Trees as tree
 use Rattle.c_effects.specs.Expressions.{before, one, set}
 use Rattle.instrument.proofs.Results.{one_is, before_is, writes_none}
-use Rattle.instrument.proofs.Standing.{Setting, Target, Did, runs, Same, Has, IsOf}
-use Rattle.instrument.proofs.Following.{Evaluates, HasValue, HasNone}
+use Rattle.instrument.proofs.Standing.{Setting, Target, Did, runs, Same, Has, IsSmall, IsOf}
+use Rattle.instrument.proofs.Following.{Evaluates, HasValue, HasNone, Places, HasPlace, HasNoPlace, Tests, HasTest, HasNoTest}
 use Rattle.instrument.proofs.Registers.{same_all, same_less, same_trans, same_set, get-set_same}
-
--- an integer is tested as it is
-tested_integer : (at : Place) (k : CInt) (s : State) (v : Value) → IsOf (IntegerType k) v → tested at v s ≡ Normal v s
-tested_integer at k s v (z, e, fit) = subst (λ v. tested at v s ≡ Normal v s) (sym e) refl
-
-pub tested_value : (w : Setting) (at : Place) (k : CInt) (s : State) (t : Target) (r : Outcome Value) (regs : List Value) (low high : ℕ) (q : Did) (e : MonExpression) → Evaluates w (IntegerType k) s t r regs low high q e
-    → Evaluates w (IntegerType k) s t (on_outcome r (tested at)) regs low high q e
-tested_value w at k s t r regs low high q e (HasValue v fit x after same run has) =
-    HasValue v fit (ap (λ r. on_outcome r (tested at)) x ∙ tested_integer at k s v fit) after same run has
-tested_value w at k s t r regs low high q e (HasNone there x) = HasNone there (ap (λ r. on_outcome r (tested at)) x)
 
 -- registers below a lower number stay too
 pub lower_same : (w : Setting) (k : Scalar) (s : State) (t : Target) (r : Outcome Value) (regs : List Value) (low least high : ℕ) (q : Did) (e : MonExpression) → least ≤ low → Evaluates w k s t r regs low high q e
@@ -72,6 +61,24 @@ module _ (w : Setting) (n : ℕ) (t : Target) where
         by (HasValue v fit2 y after2 same2 run2 has2) =
             HasValue v fit2 (ap (λ r. on_outcome r f) x ∙ y) after2 (same_trans low mid regs after after2 le same same2) (behind_setup a b regs after run ∙ run2) has2
 
+    -- two expressions, one after the other
+    pub data Pair (k l : Scalar) (r : Outcome Value) (m : Evaluation Value) (regs : List Value) (low high : ℕ) (q : Did) (x y : MonExpression) : Type 0 where
+      HasBoth : (i j : Value) → IsOf k i → IsOf l j → r ≡ Normal i s → m s ≡ Normal j s → (after : List Value) → Same low regs after → q ≡ Done (Next after) t []
+          → ((later : List Value) → Same high after later → Has w x later t.mem i × Has w y later t.mem j) → Pair k l r m regs low high q x y
+      HasNoLeft : (at : Place) → r ≡ Stop (Over (Undefined at)) s → Pair k l r m regs low high q x y
+      HasNoRight : (i : Value) (at : Place) → r ≡ Normal i s → m s ≡ Stop (Over (Undefined at)) s → Pair k l r m regs low high q x y
+
+    pub pairs : (k l : Scalar) (r : Outcome Value) (m : Evaluation Value) (regs : List Value) (low mid high : ℕ) (a b : MonStatements) (x y : MonExpression) → low ≤ mid → mid ≤ high → Evaluated k r regs low mid (runs w n t a regs) x
+        → ((after : List Value) → Same low regs after → Evaluated l (m s) after mid high (runs w n t b after) y) → Pair k l r m regs low high (runs w n t (before a b) regs) x y
+    pairs k l r m regs low mid high a b x y le le2 (HasNone at e) go = HasNoLeft at e
+    pairs k l r m regs low mid high a b x y le le2 (HasValue i fit e after same run has) go = by (go after same)
+      where
+        by : Evaluated l (m s) after mid high (runs w n t b after) y → Pair k l r m regs low high (runs w n t (before a b) regs) x y
+        by (HasNone at f) = HasNoRight i at e f
+        by (HasValue j fit2 f after2 same2 run2 has2) =
+            HasBoth i j fit fit2 e f after2 (same_trans low mid regs after after2 le same same2) (behind_setup a b regs after run ∙ run2)
+            (λ later same3. (has later (same_trans mid high after after2 later le2 same2 same3), has2 later same3))
+
     -- what is made of a value, without further statements
     pub data Makes (l : Scalar) (o : Outcome Value) (P : List Value → Type 0) (e' : MonExpression) : Type 0 where
       MakesValue : (v : Value) → IsOf l v → o ≡ Normal v s → ((later : List Value) → P later → Has w e' later t.mem v) → Makes l o P e'
@@ -85,6 +92,38 @@ module _ (w : Setting) (n : ℕ) (t : Target) where
         by : Makes l (f u s) (λ later. Same high after later × Has w e later t.mem u) e' → Evaluated l (on_outcome r f) regs low high q e'
         by (MakesNone at y) = HasNone at (ap (λ r. on_outcome r f) x ∙ y)
         by (MakesValue v fit2 y has2) = HasValue v fit2 (ap (λ r. on_outcome r f) x ∙ y) after same run (λ later sm. has2 later (sm, has later sm))
+
+    -- what is made of two
+    pub changed_pair : (k l m : Scalar) (r : Outcome Value) (right : Evaluation Value) (f : Value → Value → Evaluation Value) (regs : List Value) (low high : ℕ) (q : Did) (x y e : MonExpression) → Pair k l r right regs low high q x y
+        → ((i j : Value) → IsOf k i → IsOf l j → Makes m (f i j s) (λ later. Has w x later t.mem i × Has w y later t.mem j) e) → Evaluated m (on_outcome r (λ i. right >>= λ j. f i j)) regs low high q e
+    changed_pair k l m r right f regs low high q x y e (HasNoLeft at g) go = HasNone at (ap (λ r. on_outcome r (λ i. right >>= λ j. f i j)) g)
+    changed_pair k l m r right f regs low high q x y e (HasNoRight i at g h) go = HasNone at (ap (λ r. on_outcome r (λ i. right >>= λ j. f i j)) g ∙ ap (λ r. on_outcome r (λ j. f i j)) h)
+    changed_pair k l m r right f regs low high q x y e (HasBoth i j fit fit2 g h after same run has) go = by (go i j fit fit2)
+      where
+        leads : on_outcome r (λ i. right >>= λ j. f i j) ≡ f i j s
+        leads = ap (λ r. on_outcome r (λ i. right >>= λ j. f i j)) g ∙ ap (λ r. on_outcome r (λ j. f i j)) h
+
+        by : Makes m (f i j s) (λ later. Has w x later t.mem i × Has w y later t.mem j) e → Evaluated m (on_outcome r (λ i. right >>= λ j. f i j)) regs low high q e
+        by (MakesNone at d) = HasNone at (leads ∙ d)
+        by (MakesValue v fit3 d has2) = HasValue v fit3 (leads ∙ d) after same run (λ later same2. has2 later (has later same2))
+
+    -- a place that is made of two
+    pub data MakesAt (o : Outcome Pointer) (P : List Value → Type 0) (e : MonExpression) : Type 0 where
+      MakesPlace : (p : Pointer) → IsSmall p → o ≡ Normal p s → ((later : List Value) → P later → Has w e later t.mem (Points p)) → MakesAt o P e
+      MakesNoPlace : (at : Place) → o ≡ Stop (Over (Undefined at)) s → MakesAt o P e
+
+    pub placed_pair : (k l : Scalar) (r : Outcome Value) (right : Evaluation Value) (f : Value → Value → Evaluation Pointer) (regs : List Value) (low high : ℕ) (q : Did) (x y e : MonExpression) → Pair k l r right regs low high q x y
+        → ((i j : Value) → IsOf k i → IsOf l j → MakesAt (f i j s) (λ later. Has w x later t.mem i × Has w y later t.mem j) e) → Places w false s t (on_outcome r (λ i. right >>= λ j. f i j)) regs low high q e
+    placed_pair k l r right f regs low high q x y e (HasNoLeft at g) go = HasNoPlace at (ap (λ r. on_outcome r (λ i. right >>= λ j. f i j)) g)
+    placed_pair k l r right f regs low high q x y e (HasNoRight i at g h) go = HasNoPlace at (ap (λ r. on_outcome r (λ i. right >>= λ j. f i j)) g ∙ ap (λ r. on_outcome r (λ j. f i j)) h)
+    placed_pair k l r right f regs low high q x y e (HasBoth i j fit fit2 g h after same run has) go = by (go i j fit fit2)
+      where
+        leads : on_outcome r (λ i. right >>= λ j. f i j) ≡ f i j s
+        leads = ap (λ r. on_outcome r (λ i. right >>= λ j. f i j)) g ∙ ap (λ r. on_outcome r (λ j. f i j)) h
+
+        by : MakesAt (f i j s) (λ later. Has w x later t.mem i × Has w y later t.mem j) e → Places w false s t (on_outcome r (λ i. right >>= λ j. f i j)) regs low high q e
+        by (MakesNoPlace at d) = HasNoPlace at (leads ∙ d)
+        by (MakesPlace p small d has2) = HasPlace p (λ c. small) (leads ∙ d) after same run (λ inside later same2. has2 later (has later same2))
 
     -- ---- temporary registers
 
@@ -115,12 +154,16 @@ module _ (w : Setting) (n : ℕ) (t : Target) where
         by false = h
 
     -- the condition of an `if`, and a temporary register that both its parts set
-    pub through_if : (k l : Scalar) (r : Outcome Value) (x y : Evaluation Value) (regs : List Value) (low mid high : ℕ) (a b c : MonStatements) (e c' e' : MonExpression) → low ≤ mid → Evaluated k r regs low mid (runs w n t a regs) e
-        → ((v : Value) (later : List Value) → IsOf k v → Has w e later t.mem v → (i : ℤ) × Has w c' later t.mem (Integer i) × (int_eq i (pos 0) ≡ is_zero v))
-        → ((after : List Value) → Same low regs after → Evaluated l (x s) after mid high (runs w n t b after) e') → ((after : List Value) → Same low regs after → Evaluated l (y s) after mid high (runs w n t c after) e')
-        → Evaluated l (on_outcome r (λ v. choose v x y)) regs low high (runs w n t (before a (one (tree.If c' b c))) regs) e'
-    through_if k l r x y regs low mid high a b c e c' e' le h test go on =
-        onward_value k l r (λ v. choose v x y) regs low mid high a (one (tree.If c' b c)) e e' le h (λ v fit after same has.
-        let i = test v after fit (has after (same_all mid after)) in
-        subst (λ q. Evaluated l (choose v x y s) after mid high q e') (sym (if_runs c' b c after i.0 i.1))
-        (chosen l v i.0 x y after mid high (runs w n t b after) (runs w n t c after) e' i.2 (go after same) (on after same)))
+    pub through_if : (l : Scalar) (r : Outcome Value) (x y : Evaluation Value) (regs : List Value) (low mid high : ℕ) (a b c : MonStatements) (test e : MonExpression) → low ≤ mid → Tests w s t r regs low mid (runs w n t a regs) test
+        → ((after : List Value) → Same low regs after → Evaluated l (x s) after mid high (runs w n t b after) e) → ((after : List Value) → Same low regs after → Evaluated l (y s) after mid high (runs w n t c after) e)
+        → Evaluated l (on_outcome r (λ v. choose v x y)) regs low high (runs w n t (before a (one (tree.If test b c))) regs) e
+    through_if l r x y regs low mid high a b c test e le (HasNoTest at f) go on = HasNone at (ap (λ r. on_outcome r (λ v. choose v x y)) f)
+    through_if l r x y regs low mid high a b c test e le (HasTest u f after same run tested) go on =
+        let i = tested after (same_all mid after) in
+        by (subst (λ q. Evaluated l (choose u x y s) after mid high q e) (sym (if_runs test b c after i.number i.has))
+        (chosen l u i.number x y after mid high (runs w n t b after) (runs w n t c after) e i.alike (go after same) (on after same)))
+      where
+        by : Evaluated l (choose u x y s) after mid high (runs w n t (one (tree.If test b c)) after) e → Evaluated l (on_outcome r (λ v. choose v x y)) regs low high (runs w n t (before a (one (tree.If test b c))) regs) e
+        by (HasNone at g) = HasNone at (ap (λ r. on_outcome r (λ v. choose v x y)) f ∙ g)
+        by (HasValue v fit g after2 same2 run2 has2) =
+            HasValue v fit (ap (λ r. on_outcome r (λ v. choose v x y)) f ∙ g) after2 (same_trans low mid regs after after2 le same same2) (behind_setup a (one (tree.If test b c)) regs after run ∙ run2) has2

@@ -5,8 +5,8 @@ use Rattle.std.specs.Ordering.{int_eq}
 use Rattle.c_syntax.specs.declared.place.Place.{Place}
 use Rattle.c_syntax.specs.Ctypes.{PlainType}
 use Rattle.c_model.specs.Layouts.{Scalar, scalar_of}
-use Rattle.c_model.specs.Memory.{Value, kill_from}
-use Rattle.c_model.specs.State.{State, Scope, Final, Fault, Undefined, Leaves, Over, Outcome, Normal, Stop, Evaluation, on_outcome}
+use Rattle.c_model.specs.Memory.{Pointer, Value, Integer, Points, kill_from}
+use Rattle.c_model.specs.State.{State, Scope, Final, Fault, Undefined, Leaves, Over, Outcome, Normal, Stop, Evaluation, on_outcome, find}
 use Rattle.c_model.specs.State as source
 use Rattle.c_model.specs.Meaning.{is_zero}
 use Rattle.c_model.specs.Meaning as source_meaning
@@ -19,7 +19,9 @@ use Rattle.mon_syntax.specs.Trees.{MonExpression, MonStatements}
 use Rattle.c_effects.specs.Expressions.{before}
 use Rattle.instrument.specs.Translation.{end_label, next_label}
 use Rattle.instrument.proofs.Results.{written, written_writes, written_then, before_is}
-use Rattle.instrument.proofs.Standing.{Target, Did, Setting, runs, Same, Has, IsOf, Bounded, Here, Beside, Anchored, Standing}
+use Rattle.instrument.proofs.Standing.{Target, Did, Setting, runs, Same, Has, IsSmall, IsOf, Bounded, Here, Beside, IsAnchored, InRegister, AtGlobal, Anchored, Standing}
+use Rattle.mon_syntax.specs.BlockMemory.{Blocks}
+use Rattle.instrument.proofs.Pointers.{IsInside}
 use Rattle.instrument.proofs.Registers.{same_all, same_less, same_trans}
 
 -- An expression of the scalar type in a state of the source, and its translation over these registers: statements that change registers from
@@ -28,6 +30,25 @@ pub data Evaluates (w : Setting) (k : Scalar) (s : State) (t : Target) (r : Outc
   HasValue : (v : Value) → IsOf k v → r ≡ Normal v s → (after : List Value) → Same low regs after → q ≡ Done (Next after) t [] → ((later : List Value) → Same high after later → Has w e later t.mem v)
       → Evaluates w k s t r regs low high q e
   HasNone : (at : Place) → r ≡ Stop (Over (Undefined at)) s → Evaluates w k s t r regs low high q e
+
+-- The same of the place of an object, to which the target has the pointer: to that of a member only where it is inside a live block, or one after its
+-- end, since the target asks that of each step.
+pub data Places (w : Setting) (checked : Bool) (s : State) (t : Target) (r : Outcome Pointer) (regs : List Value) (low high : ℕ) (q : Did) (e : MonExpression) : Type 0 where
+  HasPlace : (p : Pointer) → (checked ≡ false → IsSmall p) → r ≡ Normal p s → (after : List Value) → Same low regs after → q ≡ Done (Next after) t []
+      → ((checked ≡ true → IsInside t.mem.store p) → (later : List Value) → Same high after later → Has w e later t.mem (Points p)) → Places w checked s t r regs low high q e
+  HasNoPlace : (at : Place) → r ≡ Stop (Over (Undefined at)) s → Places w checked s t r regs low high q e
+
+-- a number that is 0 where the value is
+pub record IsTest (w : Setting) (c : MonExpression) (regs : List Value) (mem : Blocks) (u : Value) : Type 0 where
+  pub number : ℤ
+  pub has : Has w c regs mem (Integer number)
+  pub alike : int_eq number (pos 0) ≡ is_zero u
+
+-- the same of a condition, by what it tests
+pub data Tests (w : Setting) (s : State) (t : Target) (r : Outcome Value) (regs : List Value) (low high : ℕ) (q : Did) (c : MonExpression) : Type 0 where
+  HasTest : (u : Value) → r ≡ Normal u s → (after : List Value) → Same low regs after → q ≡ Done (Next after) t [] → ((later : List Value) → Same high after later → IsTest w c later t.mem u)
+      → Tests w s t r regs low high q c
+  HasNoTest : (at : Place) → r ≡ Stop (Over (Undefined at)) s → Tests w s t r regs low high q c
 
 -- a later state of the source, at the same names and with the same variables alive: what was written since
 pub record Later (from to : State) (o : List ℕ) : Type 0 where
@@ -80,13 +101,15 @@ later_trans a b c o p h g = record {
 }
 
 -- names in sight stand where they stood, as long as their registers stay
-pub anchored_same : (low : ℕ) (bound : Bindings) (regs after : List Value) (scope : Scope) → Same low regs after → Anchored low bound regs scope → Anchored low bound after scope
-anchored_same low bound regs after scope same h x number e =
-    let a = h x number e in
-    record { register = a.register; is_bound = a.is_bound; below = a.below; points = same.below a.register a.below ∙ a.points }
+pub anchored_same : (w : Setting) (low : ℕ) (bound : Bindings) (regs after : List Value) (scope : Scope) → Same low regs after → Anchored w low bound regs scope → Anchored w low bound after scope
+anchored_same w low bound regs after scope same h x number e = let a = h x number e in record { own = a.own; anchor = of_anchor a.anchor }
+  where
+    of_anchor : IsAnchored w low bound regs x number → IsAnchored w low bound after x number
+    of_anchor (InRegister r is_bound below points) = InRegister r is_bound below (same.below r below ∙ points)
+    of_anchor (AtGlobal free is_global points) = AtGlobal free is_global points
 
 -- where the blocks of a call live as before, and its names are in sight
-pub standing_as : (w : Setting) (h : Here) (low high : ℕ) (bound also : Bindings) (regs after : List Value) (s to : State) (looped : Bool) → Standing w h low bound regs s → Anchored high also after to.scope → to.calls ≡ s.calls
+pub standing_as : (w : Setting) (h : Here) (low high : ℕ) (bound also : Bindings) (regs after : List Value) (s to : State) (looped : Bool) → Standing w h low bound regs s → Anchored w high also after to.scope → to.calls ≡ s.calls
     → live_in to.store ≡ live_in s.store → length s.store ≤ length to.store → Bounded to.store → length after ≡ length regs → Standing w (record h { looped = looped }) high also after to
 standing_as w h low high bound also regs after s to looped st anchored calls live longer bounded long = record {
   anchored = anchored;
@@ -104,7 +127,7 @@ standing_as w h low high bound also regs after s to looped st anchored calls liv
 
 pub standing_later : (w : Setting) (h : Here) (low : ℕ) (bound : Bindings) (regs after : List Value) (s to : State) (o : List ℕ) → Same low regs after → Later s to o → Standing w h low bound regs s → Standing w h low bound after to
 standing_later w h low bound regs after s to o same l st =
-    standing_as w h low low bound bound regs after s to h.looped st (subst (Anchored low bound after) (sym l.scope) (anchored_same low bound regs after s.scope same st.anchored)) l.calls l.live l.longer l.bounded same.long
+    standing_as w h low low bound bound regs after s to h.looped st (subst (Anchored w low bound after) (sym l.scope) (anchored_same w low bound regs after s.scope same st.anchored)) l.calls l.live l.longer l.bounded same.long
 
 module _ (w : Setting) (h : Here) (low : ℕ) where
   abbrev pub Follow : List Value → (List Value → Flow Value) → State → Outcome (Unit {0}) → Did → Type 0

@@ -1,5 +1,5 @@
 -- A call of a function: a step, a frame, the parameters, the body, and what the call gives.
-use Rattle.std.proofs.Common.{◌≡◌, ℕ, zero, suc, ◌+◌, ◌-◌, ◌≤◌, pos, Bool, true, false, cond, if◌then◌else◌, nat_lt, List, [], ◌∷◌, ◌++◌, length, length-append, append_assoc, Some, None, refl, sym, ap, ◌∙◌, subst, arith, drop, length-drop}
+use Rattle.std.proofs.Common.{◌≡◌, ℕ, zero, suc, ◌+◌, ◌-◌, ◌≤◌, pos, Bool, true, false, cond, if◌then◌else◌, nat_eq, nat_lt, List, [], ◌∷◌, ◌++◌, length, length-append, append_assoc, Some, None, refl, sym, ap, ◌∙◌, subst, arith, drop, length-drop}
 use Rattle.std.proofs.lemmas.List.{append-nil, length-map}
 use Rattle.c_syntax.specs.declared.place.Place.{Place}
 use Rattle.c_syntax.specs.declared.types.Segment.TheVariants as segment
@@ -10,10 +10,10 @@ use Rattle.c_model.specs.Limits.{most_frames}
 use Rattle.c_model.specs.Memory.{Value, Store, kill_from}
 use Rattle.c_model.specs.State.{State, Mark, Spent, Full, Over, Outcome, Normal, Stop, Evaluation, on_outcome, ◌>>◌, step_from, frame, alone, mark, within, restored, back_to}
 use Rattle.c_model.specs.Meaning.{Callee, Tables, tables_of, global_scope, parameters, body_with, returned_by, at_close, call_with}
-use Rattle.c_model.specs.ProgramTyping.{types_of}
+use Rattle.c_model.specs.UnitTyping.{types_of}
 use Rattle.c_model.proofs.Agreement.{extends_trans}
 use Rattle.mon_syntax.specs.Registers.{Bindings, RegisterTable, no_registers, with_kinds}
-use Rattle.mon_syntax.specs.Meaning.{Result, Done, Stops, Next, then_do, at_next, at_return, body_runs, left_frame, registers, writes, replied, zeros, zero_result, exec_all}
+use Rattle.mon_syntax.specs.Meaning.{Result, Done, Stops, Next, Goes, Returns, then_do, at_next, at_return, body_runs, left_frame, registers, writes, replied, zeros, zero_result, exec_all}
 use Rattle.mon_syntax.specs.Meaning as monitored
 use Rattle.mon_syntax.specs.Memory.{Gives, IsFull}
 use Rattle.mon_syntax.specs.BlockMemory.{over_blocks}
@@ -22,8 +22,9 @@ use Rattle.mon_syntax.specs.Trees.{MonFunction, MonStatements, MonRegister}
 use Rattle.c_effects.specs.Expressions.{before}
 use Rattle.track_scopes.specs.Blocks.{deaths, with_born}
 use Rattle.track_scopes.specs.Lives as lives
-use Rattle.track_scopes.specs.Lives.{AreFrom, with_store}
-use Rattle.instrument.specs.Translation.{Spot, body_part, function_of, value_types, registers_of_body, result_of}
+use Rattle.track_scopes.specs.Lives.{AreFrom, Enters, with_store}
+use Rattle.instrument.specs.Translation.{Spot, with_variables, body_part, code_of, front, front_temporaries, function_of, value_types, registers_of_body, result_of}
+use Rattle.mon_syntax.specs.declared.tree.MonType.{MonType}
 use Rattle.instrument.specs.Translation as target
 use Rattle.instrument.proofs.Standing.{Target, Did, Setting, runs, Bounded, Here, Beside, Anchored}
 use Rattle.track_scopes.proofs.Deaths.{deaths_leave}
@@ -34,10 +35,10 @@ use Rattle.instrument.proofs.Deaths.{bounded_killed, all_before, live_killed}
 use Rattle.instrument.proofs.Following.{standing_as, Later, Follows, GoesOn, Breaks, Continues, IsLeft, IsOver, IsUndefined}
 use Rattle.instrument.proofs.Births.{names_of, with_numbers, pointed_point, pointed_same}
 use Rattle.instrument.proofs.Blocks.{Meets}
-use Rattle.instrument.proofs.Numbers.{AreObjects}
-use Rattle.instrument.proofs.Parameters.{HoldInOrder, BearsAll, AllBorn, SomeFull, SomeUndefined, parameters_follow}
-use Rattle.instrument.proofs.Calls.{Even, Called, EndsRun, HasNoMeaning, AreOf}
+use Rattle.instrument.proofs.Parameters.{AreScalars, HoldInOrder, BearsAll, AllBorn, SomeFull, SomeUndefined, parameters_follow}
+use Rattle.instrument.proofs.Calls.{Even, value_of, Called, EndsRun, HasNoMeaning, AreOf}
 use Rattle.instrument.proofs.Calls as calls
+use Rattle.instrument.proofs.Own.{AreOwn}
 
 -- ---- marks don't matter
 
@@ -206,26 +207,34 @@ module _ (p : TranslationUnit) (globals : List Value) (main index : ℕ) (f : Fu
   abbrev pub count : ℕ
   count = length f.params
 
+  -- the registers in front of those of its blocks
+  abbrev pub own : List MonType
+  own = front_temporaries p (nat_eq index main)
+
+  abbrev pub first : ℕ
+  first = length (value_types f.params ++ own)
+
   abbrev pub spot_of_body : Spot
-  spot_of_body = record { loops = 0; inside = with_born count f.params []; outside = [] }
+  spot_of_body = record { loops = 0; inside = with_born first f.params []; outside = [] }
 
   abbrev pub names_around : List ℕ
   names_around = names_of (global_scope 1 p.globals)
 
   abbrev pub MeetsBody : Store → ℕ → List LiveBlock → List Value → State → Target → Type 0
   MeetsBody store active blocks regs s t =
-      Meets (setting store active) (at_body (length store) blocks f.result) spot_of_body (count + count) (registers_of_body f).bound (with_numbers f.params names_around) regs s t
+      Meets (setting store active) (at_body (length store) blocks f.result) spot_of_body (first + count) (registers_of_body own f).bound (with_numbers f.params names_around) regs s t
 
   abbrev pub body_code : MonStatements
-  body_code = body_part p f.params (registers_of_body f) f.body
+  body_code = body_part p (with_born first f.params []) (registers_of_body own f) f.body
 
   -- the body does the same on both sides, from its parameters on
   abbrev pub BodyFollows : Type 0
   BodyFollows = (store : Store) (active : ℕ) (blocks : List LiveBlock) (regs : List Value) (s : State) (t : Target) → MeetsBody store active blocks regs s t → s.steps ≤ n
-      → Follows (setting store active) (at_body (length store) blocks f.result) (count + count) regs Next s (body_with T f.body call (suc n) s) (runs (setting store active) n t body_code regs)
+      → Follows (setting store active) (at_body (length store) blocks f.result) (first + count) regs Next s (body_with T f.body call (suc n) s) (runs (setting store active) n t body_code regs)
 
   module _
-      (anchored_globals : (regs : List Value) → Anchored count [] regs (global_scope 1 p.globals)) (enough : count + count ≤ how_many) (objects : AreObjects f.params) (body : BodyFollows) (vs : List Value) (types : AreOf (types_of f.params) vs)
+      (not_main : nat_eq index main ≡ false) (anchored_globals : (store : Store) (active : ℕ) (regs : List Value) → Anchored (setting store active) first [] regs (global_scope 1 p.globals)) (enough : first + count ≤ how_many)
+      (objects : AreScalars f.params) (own_params : AreOwn f.params) (body : BodyFollows) (vs : List Value) (types : AreOf (types_of f.params) vs)
       (at : Place) where
     abbrev opens : List Value
     opens = registers over_blocks (function.parameters ++ function.registers) vs
@@ -233,7 +242,9 @@ module _ (p : TranslationUnit) (globals : List Value) (main index : ℕ) (f : Fu
     opens_long : length opens ≡ how_many
     opens_long =
         let a = length-append function.parameters function.registers in
-        registers_full (function.parameters ++ function.registers) vs (omega (arith, a, of_long f.params vs types, enough)) ∙ a
+        let b = length-append (value_types f.params) own in
+        let c : length (value_types f.params) ≡ length f.params = length-map f.params _ in
+        registers_full (function.parameters ++ function.registers) vs (omega (arith, a, b, c, of_long f.params vs types, enough)) ∙ a
 
     holds : HoldInOrder opens 0 f.params vs
     holds = arguments_held [] (drop (length vs) (zeros over_blocks (function.parameters ++ function.registers))) f.params vs types
@@ -246,10 +257,16 @@ module _ (p : TranslationUnit) (globals : List Value) (main index : ℕ) (f : Fu
     inside_target t = body_runs over_blocks globals (Some function) calls_below n vs t
 
     abbrev first_table : RegisterTable
-    first_table = with_kinds (value_types f.params) no_registers
+    first_table = with_kinds own (with_kinds (value_types f.params) no_registers)
 
-    first_long : length first_table.kinds ≡ count
-    first_long = length-map f.params _
+    count_fits : 0 + count ≤ first
+    count_fits =
+        let a = length-append (value_types f.params) own in
+        let b : length (value_types f.params) ≡ length f.params = length-map f.params _ in
+        omega (arith, a, b)
+
+    body_is : function.body ≡ code_of p own f
+    body_is = ap (λ b. before (front p b f.params) (code_of p own f)) not_main
 
     module _ (s : State) (t : Target) (even : Even s t) (bounded : Bounded s.store) (le : s.steps ≤ n) where
       abbrev w : Setting
@@ -264,10 +281,10 @@ module _ (p : TranslationUnit) (globals : List Value) (main index : ℕ) (f : Fu
       abbrev first_spot : Spot
       first_spot = record { loops = 0; inside = []; outside = [] }
 
-      meets_first : Meets w (at_body (length s.store) [] f.result) first_spot count first_table.bound names_around opens entered_source entered_target
+      meets_first : Meets w (at_body (length s.store) [] f.result) first_spot first first_table.bound names_around opens entered_source entered_target
       meets_first = record {
         standing = record {
-          anchored = anchored_globals opens;
+          anchored = anchored_globals s.store (s.calls + 1) opens;
           active = refl;
           live = refl;
           since_loop = tt;
@@ -289,34 +306,35 @@ module _ (p : TranslationUnit) (globals : List Value) (main index : ℕ) (f : Fu
       finish r = restored s (on_outcome (on_outcome r (λ _. mark None)) (λ _ s. returned_by f (body_with T f.body call (suc n) s)))
 
       abbrev dying : Did → Did
-      dying q = then_do q (at_next (exec_all over_blocks globals (deaths (with_born count f.params [])) calls_below n))
+      dying q = then_do q (at_next (exec_all over_blocks globals (deaths (with_born first f.params [])) calls_below n))
 
       abbrev tail : Did → Result Target Value
       tail q = then_do (then_do q (at_next (λ r u. dying (runs w n u body_code r)))) (at_return over_blocks (zero_of f))
 
       -- after the frame
-      framed : BearsAll w (at_body (length s.store) [] f.result) first_spot count first_table names_around at f.params vs entered_source (runs w n entered_target (target.parameters p count 0 f.params) opens)
-          → Called s f.result (finish (parameters T at f.params vs entered_source)) (tail (runs w n entered_target (target.parameters p count 0 f.params) opens))
+      framed : BearsAll w (at_body (length s.store) [] f.result) first_spot first first_table names_around at f.params vs entered_source (runs w n entered_target (target.parameters p first 0 f.params) opens)
+          → Called s f.result (finish (parameters T at f.params vs entered_source)) (tail (runs w n entered_target (target.parameters p first 0 f.params) opens))
       framed (SomeFull g to e o x) =
           EndsRun (Full g) (back_to s to) [] (λ h. absurd cc) (ap finish e) (o ∙ sym (append-nil s.output)) (ap tail x)
       framed (SomeUndefined x to e o) =
-          HasNoMeaning x (back_to s to) [] (ap finish e) (o ∙ sym (append-nil s.output)) (record { rest = written (tail (runs w n entered_target (target.parameters p count 0 f.params) opens)); is = refl })
+          HasNoMeaning x (back_to s to) [] (ap finish e) (o ∙ sym (append-nil s.output)) (record { rest = written (tail (runs w n entered_target (target.parameters p first 0 f.params) opens)); is = refl })
       framed (AllBorn to regs u blocks e x m l) =
           let ms : List Mark = record { label = None; scope = to.scope; store = to.store } ∷ to.marks in
-          let m2 = meets_marked w (at_body (length s.store) blocks f.result) spot_of_body (count + count) (registers_of_body f).bound (with_numbers f.params names_around) regs to u ms m in
+          let m2 = meets_marked w (at_body (length s.store) blocks f.result) spot_of_body (first + count) (registers_of_body own f).bound (with_numbers f.params names_around) regs to u ms m in
           let body_did = body s.store (s.calls + 1) blocks regs (marked to ms) u m2 (omega (arith, le, l.spent)) in
           let did = runs w n u body_code regs in
-          subst (λ r. Called s f.result r (tail (runs w n entered_target (target.parameters p count 0 f.params) opens))) (sym (ap finish e))
+          subst (λ r. Called s f.result r (tail (runs w n entered_target (target.parameters p first 0 f.params) opens))) (sym (ap finish e))
           (subst (λ q. Called s f.result (finish (Normal tt to)) q) (sym (ap tail x))
           (subst (λ q. Called s f.result (finish (Normal tt to)) (then_do q (at_return over_blocks (zero_of f)))) (sym (writes_none (dying did)))
-          (function_ends w s (marked to ms) refl refl refl f (with_born count f.params []) blocks n (deaths_leave (with_born count f.params [])) (count + count) regs u spot_of_body refl (registers_of_body f).bound
+          (function_ends w s (marked to ms) refl refl refl f (with_born first f.params []) blocks n (deaths_leave (with_born first f.params [])) (first + count) regs u spot_of_body refl (registers_of_body own f).bound
           (with_numbers f.params names_around) m2 l.longer
           l.spent l.output _ did body_did)))
 
-      code_runs : runs w n entered_target function.body opens ≡ then_do (runs w n entered_target (target.parameters p count 0 f.params) opens) (at_next (λ r u. dying (runs w n u body_code r)))
+      code_runs : runs w n entered_target function.body opens ≡ then_do (runs w n entered_target (target.parameters p first 0 f.params) opens) (at_next (λ r u. dying (runs w n u body_code r)))
       code_runs =
-          before_is globals (target.parameters p count 0 f.params) (before body_code (deaths (with_born count f.params []))) calls_below n opens entered_target
-          ∙ ap (λ g. then_do (runs w n entered_target (target.parameters p count 0 f.params) opens) (at_next g)) (λ i r u. before_is globals body_code (deaths (with_born count f.params [])) calls_below n r u i)
+          ap (λ a. runs w n entered_target a opens) body_is
+          ∙ before_is globals (target.parameters p first 0 f.params) (before body_code (deaths (with_born first f.params []))) calls_below n opens entered_target
+          ∙ ap (λ g. then_do (runs w n entered_target (target.parameters p first 0 f.params) opens) (at_next g)) (λ i r u. before_is globals body_code (deaths (with_born first f.params [])) calls_below n r u i)
 
       -- the frame is there on both sides, or on none
       abbrev source_with : Bool → Outcome Value
@@ -332,7 +350,7 @@ module _ (p : TranslationUnit) (globals : List Value) (main index : ℕ) (f : Fu
       both true =
           subst (λ q. Called s f.result (source_with true) q) (sym (writes_none (then_do (exec_all over_blocks globals function.body calls_below n opens entered_target) (at_return over_blocks (zero_of f)))))
           (subst (λ q. Called s f.result (source_with true) (then_do q (at_return over_blocks (zero_of f)))) (sym code_runs)
-          (framed (parameters_follow w n at f.params vs (at_body (length s.store) [] f.result) first_spot count 0 first_table names_around opens entered_source entered_target first_long meets_first objects holds (omega arith)
+          (framed (parameters_follow w n at f.params vs (at_body (length s.store) [] f.result) first_spot first 0 first_table names_around opens entered_source entered_target refl meets_first objects own_params holds count_fits
           enough)))
       both false = EndsRun (Full segment.Frames) (back_to s s) [] (λ h. absurd cc) refl (sym (append-nil s.output)) (ap (λ k. Stops (Full segment.Frames) k []) even.steps)
 

@@ -11,7 +11,7 @@ use Rattle.c_syntax.specs.declared.expression.UnOp.TheVariants as prefix
 use Rattle.c_syntax.specs.declared.expression.BinOp.{BinOp}
 use Rattle.c_syntax.specs.declared.expression.BinOp.TheVariants.{Add, Sub, Mul, Div, Rem, Shl, Shr, BitAnd, BitOr, BitXor, Eq, Ne, Lt, Le, Gt, Ge}
 use Rattle.c_model.specs.Integers as source
-use Rattle.c_model.specs.Integers.{is_signed, fits, convert, result_in, result_of, truth, is_count, is_negative, remainder_in, operate_in, operate_one_in}
+use Rattle.c_model.specs.Integers.{int_size, is_signed, fits, bits_of, convert, result_in, result_of, truth, is_count, is_negative, remainder_in, operate_in, operate_one_in}
 use Rattle.c_model.specs.Operators.{quotient, shift_left, shift_right, complement, floor_quotient}
 use Rattle.c_model.specs.Conversions.{promoted, is_shift}
 use Rattle.c_model.proofs.OperatorResults.{fits-operate_in}
@@ -19,7 +19,7 @@ use Rattle.mon_syntax.specs.declared.tree.MonOp.{MonOp}
 use Rattle.mon_syntax.specs.declared.tree.MonOp.TheVariants as mon
 use Rattle.mon_syntax.specs.declared.tree.MonType.{MonType}
 use Rattle.mon_syntax.specs.declared.tree.MonType.TheVariants as kind
-use Rattle.mon_syntax.specs.Arithmetic.{is_pointer, wrap, operate, minus, flipped, divided, shift_count}
+use Rattle.mon_syntax.specs.Arithmetic.{is_pointer, wrap, operate, lowest_bits, minus, flipped, divided, shift_count}
 use Rattle.mon_syntax.specs.Arithmetic as register
 use Rattle.mon_syntax.specs.Checking.{same_type}
 use Rattle.mon_syntax.specs.Valid.{is_arithmetic, is_relation, is_sum, is_difference, has_operator, second_type, result_type}

@@ -11,7 +11,7 @@ use Rattle.c_model.specs.Integers.{fits, byte_of}
 use Rattle.c_model.specs.Memory.{Value, Integer}
 use Rattle.c_model.specs.State.{State, Input, InputTail, EndOfInput, InputFault, Spent, Exits, ReadFault, Undefined, Over, Normal, Stop, Evaluation, stop, read_byte}
 use Rattle.c_model.specs.Meaning.{tables_of, global_scope, put_char, get_char, exit_with, library_call, definition_at, call_with, is_of_library, call_of}
-use Rattle.c_model.specs.Typing.{name_at}
+use Rattle.c_model.specs.ExpressionTyping.{name_at}
 use Rattle.mon_syntax.specs.Meaning.{Result, Done, Stops, Next, then_do, given_to, got, with_read, with_value, eval, eval_all}
 use Rattle.mon_syntax.specs.Meaning.{◌>>=◌ as bind}
 use Rattle.mon_syntax.specs.BlockMemory.{Blocks, integer_of, over_blocks}
@@ -22,8 +22,8 @@ use Rattle.c_effects.specs.Effects.{index_of, call}
 use Rattle.instrument.proofs.Results.{one_is}
 use Rattle.instrument.proofs.Standing.{Setting, Target, runs, Has, Bounded}
 use Rattle.instrument.proofs.Following.{later_same}
-use Rattle.instrument.proofs.Calls.{Even, Called, Gives, EndsRun, AreOf, HaveAll, takes, CallDoes, DoesCall, CallsNothing, AllDo}
-use Rattle.instrument.proofs.Expressions.{of_integer}
+use Rattle.instrument.proofs.Calls.{Even, Called, Gives, EndsRun, AreOf, HaveAll, takes, CallDoes, DoesCall, AllDo}
+use Rattle.instrument.proofs.Places.{of_integer}
 
 -- ---- bytes as values of `int`
 
@@ -197,16 +197,3 @@ module _ (w : Setting) (n depth : ℕ) (calls : w.call ≡ call_of w.unit depth)
           ∙ one_is w.globals (Exit (effects.first_of args)) w.calls n regs t
           ∙ ap (λ o. with_value (bind o integer_of) t.steps (λ i. Stops (Exits i) t.steps [])) (first_has w args regs t.mem (Integer z) has))
           (EndsRun (Exits z) s [] (λ h. absurd cc) source (sym (append-nil s.output)) (ap (λ k. Stops (Exits z) k []) even.steps))
-
-  -- ---- other names, which the source doesn't call
-
-  pub nothing_does : bytes_eq name (codes "putchar") ≡ false → bytes_eq name (codes "getchar") ≡ false → bytes_eq name (codes "exit") ≡ false → (types : List PlainType) (result : PlainType) → AllDo w n f result types
-  nothing_does e1 e2 e3 types result = from_names types result (λ vs are s t even bounded at into regs args has. CallsNothing at (by (slice_get names f.name) refl at vs s))
-    where
-      by : (o : Option (List ℕ)) → slice_get names f.name ≡ o → (at : Place) (vs : List Value) (s : State) → library_call at o vs s ≡ Stop (Over (Undefined at)) s
-      by None e at vs s = refl
-      by (Some y) e at vs s =
-          let same = named y e in
-          ap (λ a. source_by a (bytes_eq y (codes "getchar")) (bytes_eq y (codes "exit")) at vs s) (ap (λ x. bytes_eq x (codes "putchar")) (sym same) ∙ e1)
-          ∙ ap (λ b. source_by false b (bytes_eq y (codes "exit")) at vs s) (ap (λ x. bytes_eq x (codes "getchar")) (sym same) ∙ e2)
-          ∙ ap (λ c. source_by false false c at vs s) (ap (λ x. bytes_eq x (codes "exit")) (sym same) ∙ e3)

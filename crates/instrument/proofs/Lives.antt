@@ -1,5 +1,5 @@
 -- The blocks that live on the stack: what ends of scopes do to their list.
-use Rattle.std.proofs.Common.{◌≡◌, ℕ, zero, suc, ◌+◌, ◌<◌, ◌≤◌, Bool, true, false, not, ◌&&◌, if◌then◌else◌, nat_le, List, [], ◌∷◌, ◌++◌, length, slice_get, refl, sym, ap, ◌∙◌, subst, arith}
+use Rattle.std.proofs.Common.{◌≡◌, ℕ, zero, suc, ◌+◌, ◌<◌, ◌≤◌, Bool, true, false, not, ◌&&◌, if◌then◌else◌, nat_le, List, [], ◌∷◌, ◌++◌, length, refl, sym, ap, ◌∙◌, subst, arith}
 use Rattle.std.proofs.lemmas.Bool.{le-leb}
 use Rattle.std.proofs.lemmas.Bool.Decides.{nat_tests}
 use Rattle.c_syntax.specs.declared.types.BlockKind.{BlockKind}
@@ -36,10 +36,6 @@ up_to-all n (b ∷ bs) h = kept n b bs h.0 ∙ ap (λ l. b ∷ l) (up_to-all n b
 pub up_to-behind : (n : ℕ) (xs bs : List LiveBlock) → AllAbove n xs → up_to n (xs ++ bs) ≡ up_to n bs
 up_to-behind n [] bs h = refl
 up_to-behind n (x ∷ xs) bs h = skipped n x (xs ++ bs) h.0 ∙ up_to-behind n xs bs h.1
-
-pub all_up_to-append : (n : ℕ) (xs bs : List LiveBlock) → AllUpTo n xs → AllUpTo n bs → AllUpTo n (xs ++ bs)
-all_up_to-append n [] bs h g = g
-all_up_to-append n (x ∷ xs) bs h g = (h.0, all_up_to-append n xs bs h.1 g)
 
 pub all_up_to-more : (m n : ℕ) (bs : List LiveBlock) → m ≤ n → AllUpTo m bs → AllUpTo n bs
 all_up_to-more m n [] le h = tt
@@ -102,9 +98,3 @@ pub length-killed : (n : ℕ) (store : Store) → length (kill_from n store) ≡
 length-killed n [] = refl
 length-killed zero (b ∷ bs) = ap suc (length-killed zero bs)
 length-killed (suc n) (b ∷ bs) = ap suc (length-killed n bs)
-
-pub get-killed : (n : ℕ) (store : Store) (j : ℕ) → j < n → slice_get (kill_from n store) j ≡ slice_get store j
-get-killed n [] j lt = refl
-get-killed zero (b ∷ bs) j lt = absurd (omega (arith, lt))
-get-killed (suc n) (b ∷ bs) zero lt = refl
-get-killed (suc n) (b ∷ bs) (suc j) lt = get-killed n bs j (omega (arith, lt))

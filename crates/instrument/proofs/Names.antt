@@ -12,9 +12,9 @@ use Rattle.std.proofs.Math.Nat.{min-le_left}
 use Rattle.c_model.specs.Characters.{is_digit, is_part}
 use Rattle.mon_syntax.specs.declared.tree.MonType.{MonType}
 use Rattle.mon_syntax.specs.declared.tree.MonType.TheVariants.{I8, U8, I16, U16, I32, U32, I64, U64, I128, Ptr}
-use Rattle.mon_syntax.specs.Names.{IsFreeName, is_reserved}
+use Rattle.mon_syntax.specs.Names.{IsFreeName, is_reserved, begins_name}
 use Rattle.mon_syntax.specs.Names as words
-use Rattle.instrument.specs.Translation.{end_label, next_label, register_name, pointer_name, temporary_name, function_name, name_of_register}
+use Rattle.instrument.specs.Translation.{end_label, next_label, register_name, pointer_name, temporary_name, function_name, name_of_register, global_name, text_name}
 
 -- ---- decimal numbers
 
@@ -278,3 +278,76 @@ named_no_value j k t name = by (is_named j t)
     by : IsNamed j t → bytes_eq (name_of_register j t) (register_name k name) ≡ false
     by (AsPointer x) = ap (λ w. bytes_eq w (register_name k name)) x
     by (AsTemporary x) = ap (λ w. bytes_eq w (register_name k name)) x
+
+-- ---- globals and literals
+
+-- no word begins with `g` and a digit
+global_digit : (d : ℕ) (l : List ℕ) → is_digit d ≡ true → is_reserved (103 ∷ d ∷ l) ≡ false
+unfolding words.reserved_words
+global_digit d l h =
+    let t : nat_eq d 111 ≡ false = grind (arith, nat_tests) in
+    let u : nat_eq d 101 ≡ false = grind (arith, nat_tests) in
+    both_are_other (nat_eq d 111) (nat_eq d 101) _ _ t u
+
+global_not_reserved : (ds r : List ℕ) → 0 < length ds → AllDigits ds → is_reserved (103 ∷ take 254 (ds ++ r)) ≡ false
+global_not_reserved [] r lt h = absurd (omega arith)
+global_not_reserved (d ∷ ds) r lt h = global_digit d (take 253 (ds ++ r)) h.0
+
+pub globals_differ : (j k : ℕ) (a b : List ℕ) → IsNumber j → IsNumber k → (j ≡ k → ⊥) → bytes_eq (global_name j a) (global_name k b) ≡ false
+globals_differ j k a b lj lk differ = numbered_differ 103 j k a b lj lk differ
+
+pub global_is_free : (k : ℕ) (name : List ℕ) → IsNumber k → AllParts name → IsFreeName (global_name k name)
+global_is_free k name le h = record {
+  begins = refl;
+  parts = numbered_parts 103 k name refl le h;
+  short = numbered_short 103 k name;
+  free = global_not_reserved (decimal k) (codes "_" ++ name) (decimal_nonempty k le) (decimal_digits k le);
+}
+
+-- nor with `s` and a digit
+text_digit : (d : ℕ) (l : List ℕ) → is_digit d ≡ true → is_reserved (115 ∷ d ∷ l) ≡ false
+unfolding words.reserved_words
+text_digit d l h =
+    let other : nat_eq d 116 ≡ false = grind (arith, nat_tests) in
+    first_is_other (nat_eq d 116) _ other
+
+text_not_reserved : (ds : List ℕ) → 0 < length ds → AllDigits ds → is_reserved (115 ∷ ds) ≡ false
+text_not_reserved [] lt h = absurd (omega arith)
+text_not_reserved (d ∷ ds) lt h = text_digit d ds h.0
+
+pub text_is_free : (k : ℕ) → IsNumber k → IsFreeName (text_name k)
+text_is_free k le =
+    let short = decimal_short k le in
+    record {
+      begins = refl;
+      parts = (refl, digits_parts (decimal k) (decimal_digits k le));
+      short = omega (arith, short);
+      free = text_not_reserved (decimal k) (decimal_nonempty k le) (decimal_digits k le);
+    }
+
+pub texts_differ : (j k : ℕ) → IsNumber j → IsNumber k → (j ≡ k → ⊥) → bytes_eq (text_name j) (text_name k) ≡ false
+texts_differ j k lj lk differ = unequal (text_name j) (text_name k) (λ e. differ (decimal_injective j k lj lk (ap (drop 1) e)))
+
+pub text_no_global : (j k : ℕ) (name : List ℕ) → bytes_eq (text_name j) (global_name k name) ≡ false
+text_no_global j k name = refl
+
+-- registers have letters that these haven't
+pub register_no_global : (j k : ℕ) (a b : List ℕ) → bytes_eq (register_name j a) (global_name k b) ≡ false
+register_no_global j k a b = refl
+
+pub register_no_text : (j k : ℕ) (a : List ℕ) → bytes_eq (register_name j a) (text_name k) ≡ false
+register_no_text j k a = refl
+
+pub named_no_global : (j k : ℕ) (t : MonType) (b : List ℕ) → bytes_eq (name_of_register j t) (global_name k b) ≡ false
+named_no_global j k t b = by (is_named j t)
+  where
+    by : IsNamed j t → bytes_eq (name_of_register j t) (global_name k b) ≡ false
+    by (AsPointer x) = ap (λ w. bytes_eq w (global_name k b)) x
+    by (AsTemporary x) = ap (λ w. bytes_eq w (global_name k b)) x
+
+pub named_no_text : (j k : ℕ) (t : MonType) → bytes_eq (name_of_register j t) (text_name k) ≡ false
+named_no_text j k t = by (is_named j t)
+  where
+    by : IsNamed j t → bytes_eq (name_of_register j t) (text_name k) ≡ false
+    by (AsPointer x) = ap (λ w. bytes_eq w (text_name k)) x
+    by (AsTemporary x) = ap (λ w. bytes_eq w (text_name k)) x

@@ -1,39 +1,28 @@
 -- Declarations of a function have numbers of their own, so that none hides another.
-use Rattle.std.proofs.Common.{◌≡◌, ℕ, suc, ◌^◌, ◌<◌, ◌≤◌, true, false, nat_eq, List, [], ◌∷◌, ◌++◌, map, refl, sym, subst, arith}
+use Rattle.std.proofs.Common.{◌≡◌, ℕ, suc, ◌^◌, ◌<◌, ◌≤◌, true, false, nat_eq, nat_le, if◌then◌else◌, List, [], ◌∷◌, ◌++◌, length, map, refl, ap, ◌∙◌, subst, arith}
 use Rattle.std.proofs.lemmas.List.{map-append}
+use Rattle.std.proofs.lemmas.Bool.{leb-true}
 use Rattle.std.proofs.lemmas.Bool.Decides.{nat_tests}
-use Rattle.c_syntax.specs.declared.types.CInt.{CInt}
-use Rattle.c_syntax.specs.declared.types.CInt.TheVariants.{I8, U8, I16, U16, I32, U32, I64, U64}
-use Rattle.c_syntax.specs.Ctypes.{PlainType, Int}
-use Rattle.c_syntax.specs.Programs.{StructType}
+use Rattle.c_syntax.specs.Ctypes.{PlainType}
+use Rattle.c_syntax.specs.Programs.{StructType, TranslationUnit}
 use Rattle.c_syntax.specs.Statements.{Declaration, Statement, Empty, Eval, Block, If, While, Do, For, Break, Continue, Return, ElsePart, NoElse, Else, ForFirst, NoFirst, First, Declare, Run, Asserts, BlockItems, NoItem, Then}
 use Rattle.c_model.specs.Layouts.{size_of}
-use Rattle.c_model.specs.Meaning.{declared_in, declared_first}
-use Rattle.c_model.specs.Formed.{number_of, Ascend, declared_within, declared_in_else, declared_in_first, declared_in_items}
-use Rattle.c_model.specs.Typing.{Scopes, Around, in_loop, inner, with_object, with_objects, is_object_type, behind_first}
-use Rattle.c_model.specs.ProgramTyping.{with_parameter}
-use Rattle.c_model.specs.WellTypedPrograms.{AreDeclared, AreParameters, StatementTyped, ElseTyped, ItemsTyped, FirstTyped}
+use Rattle.c_model.specs.Meaning.{global_scope, declared_in, declared_first}
+use Rattle.c_model.specs.Formed.{number_of, declared_within, declared_in_else, declared_in_first, declared_in_items}
+use Rattle.c_model.specs.ExpressionTyping.{Sight, inner, with_object, with_objects}
+use Rattle.c_model.specs.StatementTyping.{Around, in_loop, behind_first}
+use Rattle.c_model.specs.TypedTrees.{HasKnownSize, AreDeclared, StatementTyped, ElseTyped, ItemsTyped, FirstTyped}
 use Rattle.track_scopes.specs.Blocks.{AreSmall}
-use Rattle.instrument.proofs.Births.{with_numbers}
-use Rattle.instrument.proofs.Declared.{Absent, AreAbsent, CanDeclare, ElseCanDeclare, ItemsCanDeclare}
+use Rattle.c_effects.specs.Expressions.{global_index}
+use Rattle.instrument.proofs.Births.{names_of, with_numbers}
+use Rattle.instrument.proofs.Declared.{Absent, AreAbsent, AreBorn, CanDeclare, ElseCanDeclare, ItemsCanDeclare}
+use Rattle.instrument.proofs.Own.{AreOwn, AreLocal}
+use Rattle.c_model.specs.TextOrder.{Between}
 
 abbrev pub numbers_in : List Declaration → List ℕ
 numbers_in ds = map number_of ds
 
 -- ---- numbers that ascend, between these
-
-abbrev pub Between : ℕ → List ℕ → ℕ → Type 0
-Between low [] high = low ≤ high
-Between low (n ∷ ns) high = (low ≤ n) × Between (suc n) ns high
-
--- a list with a number above it
-pub record IsBounded (low : ℕ) (ns : List ℕ) : Type 0 where
-  pub high : ℕ
-  pub is : Between low ns high
-
-pub bounded : (low : ℕ) (ns : List ℕ) → Ascend low ns → IsBounded low ns
-bounded low [] h = record { high = low; is = omega arith }
-bounded low (n ∷ ns) h = let b = bounded (suc n) ns h.1 in record { high = b.high; is = (h.0, b.is) }
 
 pub in_bounds : (low high : ℕ) (ns : List ℕ) → Between low ns high → low ≤ high
 in_bounds low high [] h = h
@@ -55,10 +44,6 @@ parted_in low high ds es h = parted low high (numbers_in ds) (numbers_in es) (su
 from_lower : (low middle high : ℕ) (ns : List ℕ) → low ≤ middle → Between middle ns high → Between low ns high
 from_lower low middle high [] le h = omega (arith, le, h)
 from_lower low middle high (n ∷ ns) le h = (omega (arith, le, h.0), h.1)
-
-to_higher : (low middle high : ℕ) (ns : List ℕ) → middle ≤ high → Between low ns middle → Between low ns high
-to_higher low middle high [] le h = omega (arith, le, h)
-to_higher low middle high (n ∷ ns) le h = (h.0, to_higher (suc n) middle high ns le h.1)
 
 -- ---- numbers outside an interval
 
@@ -86,54 +71,44 @@ outside_absent : (low high n : ℕ) (xs : List ℕ) → low ≤ n → n < high �
 outside_absent low high n [] le lt h = tt
 outside_absent low high n (x ∷ xs) le lt h = (outside_differs low high n x le lt h.0, outside_absent low high n xs le lt h.1)
 
-abbrev pub int_of : PlainType → CInt
-int_of (Int k) = k
-int_of _ = I32
+-- ---- sizes
 
--- ---- objects
+few_bytes : (n : ℕ) → nat_le n 2147483647 ≡ true → n < 2 ^ 64
+few_bytes n e = let le : n ≤ 2147483647 = leb-true n 2147483647 e in omega (arith, le)
 
-abbrev pub IsObject : Declaration → Type 0
-IsObject d = d.ctype ≡ Int (int_of d.ctype)
+-- a type whose size is known
+pub known_small : (structs : List StructType) (s : Sight) (t : PlainType) → s.structs ≡ structs → HasKnownSize s t → size_of structs t < 2 ^ 64
+known_small structs s t same h = subst (λ l. size_of l t < 2 ^ 64) same (few_bytes (size_of s.structs t) h.small)
 
-abbrev pub AreObjects : List Declaration → Type 0
-AreObjects [] = Unit {0}
-AreObjects (d ∷ ds) = IsObject d × AreObjects ds
+small_behind : (structs : List StructType) (a b : List Declaration) → AreSmall structs a → AreSmall structs b → AreSmall structs (a ++ b)
+small_behind structs [] b h k = k
+small_behind structs (d ∷ a) b h k = (h.0, small_behind structs a b h.1 k)
 
-object_int : (t : PlainType) → is_object_type t ≡ true → t ≡ Int (int_of t)
-object_int (Int k) e = refl
-object_int _ e = absurd cc
+declared_small : (structs : List StructType) (s : Sight) (ds : List Declaration) → s.structs ≡ structs → AreDeclared s ds → AreSmall structs ds
+declared_small structs s [] same k = tt
+declared_small structs s (d ∷ ds) same k =
+    (known_small structs s d.ctype same k.0.size, declared_small structs (with_object s d) ds same k.1)
 
-objects_behind : (a b : List Declaration) → AreObjects a → AreObjects b → AreObjects (a ++ b)
-objects_behind [] b h k = k
-objects_behind (d ∷ a) b h k = (h.0, objects_behind a b h.1 k)
+pub structs_behind : (s : Sight) (ds : List Declaration) → (with_objects s ds).structs ≡ s.structs
+structs_behind s [] = refl
+structs_behind s (d ∷ ds) = structs_behind (with_object s d) ds
 
-pub declared_objects : (s : Scopes) (ds : List Declaration) → AreDeclared s ds → AreObjects ds
-declared_objects s [] k = tt
-declared_objects s (d ∷ ds) k = (object_int d.ctype k.0.ctype, declared_objects (with_object s d) ds k.1)
+items_small : (structs : List StructType) (s : Sight) (r : Around) (is : BlockItems) → s.structs ≡ structs → ItemsTyped s r is → AreSmall structs (declared_in is)
+items_small structs s r NoItem same q = tt
+items_small structs s r (Then (Declare ds) rest) same q =
+    small_behind structs ds (declared_in rest) (declared_small structs s ds same q.0) (items_small structs (with_objects s ds) r rest (structs_behind s ds ∙ same) q.1)
+items_small structs s r (Then (Run a) rest) same q = items_small structs s r rest same q.1
+items_small structs s r (Then (Asserts annots) rest) same q = items_small structs s r rest same q.1
 
-pub items_objects : (s : Scopes) (r : Around) (is : BlockItems) → ItemsTyped s r is → AreObjects (declared_in is)
-items_objects s r NoItem q = tt
-items_objects s r (Then (Declare ds) rest) q = objects_behind ds (declared_in rest) (declared_objects s ds q.0) (items_objects (with_objects s ds) r rest q.1)
-items_objects s r (Then (Run a) rest) q = items_objects s r rest q.1
-items_objects s r (Then (Asserts annots) rest) q = items_objects s r rest q.1
+-- ---- numbers that neither the library nor globals have
 
-pub parameter_objects : (s : Scopes) (ds : List Declaration) → AreParameters s ds → AreObjects ds
-parameter_objects s [] k = tt
-parameter_objects s (d ∷ ds) k = (object_int d.ctype k.0.ctype, parameter_objects (with_parameter s d) ds k.1)
+pub record IsFree (p : TranslationUnit) (x : ℕ) : Type 0 where
+  pub own : nat_eq x 4294967295 ≡ false
+  pub local : length p.globals ≤ global_index x p.globals
 
-small_size : (structs : List StructType) (k : CInt) → size_of structs (Int k) < 2 ^ 64
-small_size structs I8 = omega arith
-small_size structs U8 = omega arith
-small_size structs I16 = omega arith
-small_size structs U16 = omega arith
-small_size structs I32 = omega arith
-small_size structs U32 = omega arith
-small_size structs I64 = omega arith
-small_size structs U64 = omega arith
-
-pub objects_small : (structs : List StructType) (ds : List Declaration) → AreObjects ds → AreSmall structs ds
-objects_small structs [] o = tt
-objects_small structs (d ∷ ds) o = (subst (λ t. size_of structs t < 2 ^ 64) (sym o.0) (small_size structs (int_of d.ctype)), objects_small structs ds o.1)
+-- all between these
+abbrev pub AllFree : TranslationUnit → ℕ → ℕ → Type 0
+AllFree p low high = (x : ℕ) → low ≤ x → x < high → IsFree p x
 
 -- ---- what is declared inside
 
@@ -145,6 +120,30 @@ outside_absent_all (d ∷ ds) low high living b h =
       outside_absent low high n living b.0 (omega (arith, le)) h,
       outside_absent_all ds (suc n) high living b.1 (all_narrower low (suc n) high high living (omega (arith, b.0)) (omega arith) h),
     )
+
+pub are_free : (p : TranslationUnit) (ds : List Declaration) (low high : ℕ) → Between low (numbers_in ds) high → AllFree p low high → AreOwn ds × AreLocal p ds
+are_free p [] low high b free = (tt, tt)
+are_free p (d ∷ ds) low high b free =
+    let n = number_of d in
+    let le = in_bounds (suc n) high (numbers_in ds) b.1 in
+    let first = free n b.0 (omega (arith, le)) in
+    let rest = are_free p ds (suc n) high b.1 (λ x from to. free x (omega (arith, from, b.0)) to) in
+    ((first.own, rest.0), (first.local, rest.1))
+
+pub are_born : (p : TranslationUnit) (ds : List Declaration) (low high : ℕ) → AreSmall p.structs ds → Between low (numbers_in ds) high → AllFree p low high → AreBorn p ds
+are_born p ds low high small b free = let h = are_free p ds low high b free in record { small = small; own = h.0; local = h.1 }
+
+-- numbers of a part of the text in which no global is declared
+pub all_free : (p : TranslationUnit) (low high : ℕ) → high ≤ 4294967295 → AllOutside low high (names_of (global_scope 1 p.globals)) → AllFree p low high
+all_free p low high le apart x from to = record { own = grind (arith, nat_tests); local = no_index 1 p.globals apart }
+  where
+    no_index : (k : ℕ) (ds : List Declaration) → AllOutside low high (names_of (global_scope k ds)) → length ds ≤ global_index x ds
+    no_index k [] h = omega arith
+    no_index k (d ∷ ds) h =
+        let rest = no_index (suc k) ds h.1 in
+        let other : nat_eq (number_of d) x ≡ false = outside_differs low high x (number_of d) from to h.0 in
+        let there : global_index x (d ∷ ds) ≡ suc (global_index x ds) = ap (λ t. if t then 0 else suc (global_index x ds)) other in
+        omega (arith, there, rest)
 
 -- the declarations of a block are some of those in its items
 own_between : (is : BlockItems) (low high : ℕ) → Between low (numbers_in (declared_in_items is)) high → Between low (numbers_in (declared_in is)) high
@@ -253,73 +252,84 @@ first_between (First (Declare ds)) low high b = b
 first_between (First (Run a)) low high b = in_bounds low high (numbers_in (declared_within a)) b
 first_between (First (Asserts annots)) low high b = b
 
-pub first_objects : (first : ForFirst) (s : Scopes) (r : Around) → FirstTyped s r first → AreObjects (declared_first first)
-first_objects NoFirst s r q = tt
-first_objects (First (Declare ds)) s r q = declared_objects s ds q
-first_objects (First (Run a)) s r q = tt
-first_objects (First (Asserts annots)) s r q = tt
+first_small : (structs : List StructType) (first : ForFirst) (s : Sight) (r : Around) → s.structs ≡ structs → FirstTyped s r first → AreSmall structs (declared_first first)
+first_small structs NoFirst s r same q = tt
+first_small structs (First (Declare ds)) s r same q = declared_small structs s ds same q
+first_small structs (First (Run a)) s r same q = tt
+first_small structs (First (Asserts annots)) s r same q = tt
 
-module _ (structs : List StructType) where
+structs_behind_first : (s : Sight) (first : ForFirst) → (behind_first s first).structs ≡ s.structs
+structs_behind_first s NoFirst = refl
+structs_behind_first s (First (Declare ds)) = structs_behind s ds
+structs_behind_first s (First (Run a)) = refl
+structs_behind_first s (First (Asserts annots)) = refl
+
+module _ (p : TranslationUnit) where
   mutual
-    pub can_declare : (a : Statement) (s : Scopes) (r : Around) (low high : ℕ) (living : List ℕ) → StatementTyped s r a → Between low (numbers_in (declared_within a)) high → AllOutside low high living → CanDeclare structs living a
-    can_declare (Empty at) s r low high living q b o = tt
-    can_declare (Eval at e) s r low high living q b o = tt
-    can_declare (Block at is) s r low high living q b o =
+    pub can_declare : (a : Statement) (s : Sight) (r : Around) (low high : ℕ) (living : List ℕ) → s.structs ≡ p.structs → AllFree p low high → StatementTyped s r a → Between low (numbers_in (declared_within a)) high
+        → AllOutside low high living → CanDeclare p living a
+    can_declare (Empty at) s r low high living same free q b o = tt
+    can_declare (Eval at e) s r low high living same free q b o = tt
+    can_declare (Block at is) s r low high living same free q b o =
         let own = declared_in is in (
-          objects_small structs own (items_objects (inner s) r is q),
-          items_can_declare is (inner s) r low high (with_numbers own living) q b (born_live low high own own living (λ x i. i) (outside_live low high own living o)),
+          are_born p own low high (items_small p.structs (inner s) r is same q) (own_between is low high b) free,
+          items_can_declare is (inner s) r low high (with_numbers own living) same free q b (born_live low high own own living (λ x i. i) (outside_live low high own living o)),
         )
-    can_declare (If at e x y) s r low high living q b o =
-        let p = parted_in low high (declared_within x) (declared_in_else y) b in
-        let front = all_narrower low low high p.middle living (omega arith) (in_bounds p.middle high (numbers_in (declared_in_else y)) p.back) o in (
-          outside_absent_all (declared_within x) low p.middle living p.front front,
-          can_declare x s r low p.middle living q.1 p.front front,
-          else_can_declare y s r p.middle high living q.2 p.back (all_narrower low p.middle high high living (in_bounds low p.middle (numbers_in (declared_within x)) p.front) (omega arith) o),
+    can_declare (If at e x y) s r low high living same free q b o =
+        let cut = parted_in low high (declared_within x) (declared_in_else y) b in
+        let front = all_narrower low low high cut.middle living (omega arith) (in_bounds cut.middle high (numbers_in (declared_in_else y)) cut.back) o in (
+          outside_absent_all (declared_within x) low cut.middle living cut.front front,
+          can_declare x s r low cut.middle living same (λ n from to. free n from (omega (arith, to, in_bounds cut.middle high (numbers_in (declared_in_else y)) cut.back))) q.1 cut.front front,
+          else_can_declare y s r cut.middle high living same (λ n from to. free n (omega (arith, from, in_bounds low cut.middle (numbers_in (declared_within x)) cut.front)) to) q.2 cut.back
+              (all_narrower low cut.middle high high living (in_bounds low cut.middle (numbers_in (declared_within x)) cut.front) (omega arith) o),
         )
-    can_declare (While at annots e x) s r low high living q b o = can_declare x s (in_loop r) low high living q.1 b o
-    can_declare (Do at x e) s r low high living q b o = (outside_absent_all (declared_within x) low high living b o, can_declare x s (in_loop r) low high living q.0 b o)
-    can_declare (For at annots first e step x) s r low high living q b o =
-        let p = parted_in low high (declared_in_first first) (declared_within x) b in
-        let f = first_between first low p.middle p.front in
+    can_declare (While at annots e x) s r low high living same free q b o = can_declare x s (in_loop r) low high living same free q.1 b o
+    can_declare (Do at x e) s r low high living same free q b o = (outside_absent_all (declared_within x) low high living b o, can_declare x s (in_loop r) low high living same free q.0 b o)
+    can_declare (For at annots first e step x) s r low high living same free q b o =
+        let cut = parted_in low high (declared_in_first first) (declared_within x) b in
+        let f = first_between first low cut.middle cut.front in
         let outside =
-        born_outside p.middle high low p.middle (declared_first first) living f (omega arith)
-        (all_narrower low p.middle high high living (in_bounds low p.middle (numbers_in (declared_in_first first)) p.front) (omega arith) o) in (
-          objects_small structs (declared_first first) (first_objects first (inner s) r q.0),
-          outside_absent_all (declared_within x) p.middle high (with_numbers (declared_first first) living) p.back outside,
-          can_declare x (behind_first (inner s) first) (in_loop r) p.middle high (with_numbers (declared_first first) living) q.3 p.back outside,
+        born_outside cut.middle high low cut.middle (declared_first first) living f (omega arith)
+        (all_narrower low cut.middle high high living (in_bounds low cut.middle (numbers_in (declared_in_first first)) cut.front) (omega arith) o) in (
+          are_born p (declared_first first) low cut.middle (first_small p.structs first (inner s) r same q.0) f (λ n from to. free n from (omega (arith, to, in_bounds cut.middle high (numbers_in (declared_within x)) cut.back))),
+          outside_absent_all (declared_within x) cut.middle high (with_numbers (declared_first first) living) cut.back outside,
+          can_declare x (behind_first (inner s) first) (in_loop r) cut.middle high (with_numbers (declared_first first) living) (structs_behind_first (inner s) first ∙ same)
+              (λ n from to. free n (omega (arith, from, in_bounds low cut.middle (numbers_in (declared_in_first first)) cut.front)) to) q.3 cut.back outside,
         )
-    can_declare (Break at) s r low high living q b o = tt
-    can_declare (Continue at) s r low high living q b o = tt
-    can_declare (Return at e) s r low high living q b o = tt
+    can_declare (Break at) s r low high living same free q b o = tt
+    can_declare (Continue at) s r low high living same free q b o = tt
+    can_declare (Return at e) s r low high living same free q b o = tt
 
-    pub else_can_declare : (b : ElsePart) (s : Scopes) (r : Around) (low high : ℕ) (living : List ℕ) → ElseTyped s r b → Between low (numbers_in (declared_in_else b)) high → AllOutside low high living → ElseCanDeclare structs living b
-    else_can_declare NoElse s r low high living q b o = tt
-    else_can_declare (Else a) s r low high living q b o = can_declare a s r low high living q b o
+    pub else_can_declare : (b : ElsePart) (s : Sight) (r : Around) (low high : ℕ) (living : List ℕ) → s.structs ≡ p.structs → AllFree p low high → ElseTyped s r b → Between low (numbers_in (declared_in_else b)) high
+        → AllOutside low high living → ElseCanDeclare p living b
+    else_can_declare NoElse s r low high living same free q b o = tt
+    else_can_declare (Else a) s r low high living same free q b o = can_declare a s r low high living same free q b o
 
-    pub items_can_declare : (is : BlockItems) (s : Scopes) (r : Around) (low high : ℕ) (living : List ℕ) → ItemsTyped s r is → Between low (numbers_in (declared_in_items is)) high → AllLive low high (declared_in is) living
-        → ItemsCanDeclare structs living is
-    items_can_declare NoItem s r low high living q b o = tt
-    items_can_declare (Then (Declare ds) rest) s r low high living q b o =
-        let p = parted_in low high ds (declared_in_items rest) b in (
+    pub items_can_declare : (is : BlockItems) (s : Sight) (r : Around) (low high : ℕ) (living : List ℕ) → s.structs ≡ p.structs → AllFree p low high → ItemsTyped s r is → Between low (numbers_in (declared_in_items is)) high
+        → AllLive low high (declared_in is) living
+        → ItemsCanDeclare p living is
+    items_can_declare NoItem s r low high living same free q b o = tt
+    items_can_declare (Then (Declare ds) rest) s r low high living same free q b o =
+        let cut = parted_in low high ds (declared_in_items rest) b in (
           tt,
-          items_can_declare rest (with_objects s ds) r p.middle high living q.1 p.back
-              (live_behind low p.middle high (in_bounds low p.middle (numbers_in ds) p.front) (in_bounds p.middle high (numbers_in (declared_in_items rest)) p.back) ds (declared_in rest) p.front living o),
+          items_can_declare rest (with_objects s ds) r cut.middle high living (structs_behind s ds ∙ same) (λ n from to. free n (omega (arith, from, in_bounds low cut.middle (numbers_in (ds)) cut.front)) to) q.1 cut.back
+              (live_behind low cut.middle high (in_bounds low cut.middle (numbers_in ds) cut.front) (in_bounds cut.middle high (numbers_in (declared_in_items rest)) cut.back) ds (declared_in rest) cut.front living o),
         )
-    items_can_declare (Then (Run a) rest) s r low high living q b o =
-        let p = parted_in low high (declared_within a) (declared_in_items rest) b in
-        let le = in_bounds low p.middle (numbers_in (declared_within a)) p.front in
-        let le2 = in_bounds p.middle high (numbers_in (declared_in_items rest)) p.back in
-        let far = far_front low p.middle high le le2 rest (own_between rest p.middle high p.back) living o in (
-          (outside_absent_all (declared_within a) low p.middle living p.front far, can_declare a s r low p.middle living q.0 p.front far),
-          items_can_declare rest s r p.middle high living q.1 p.back (live_back low p.middle high le le2 (declared_in rest) living o),
+    items_can_declare (Then (Run a) rest) s r low high living same free q b o =
+        let cut = parted_in low high (declared_within a) (declared_in_items rest) b in
+        let le = in_bounds low cut.middle (numbers_in (declared_within a)) cut.front in
+        let le2 = in_bounds cut.middle high (numbers_in (declared_in_items rest)) cut.back in
+        let far = far_front low cut.middle high le le2 rest (own_between rest cut.middle high cut.back) living o in (
+          (outside_absent_all (declared_within a) low cut.middle living cut.front far, can_declare a s r low cut.middle living same (λ n from to. free n from (omega (arith, to, le2))) q.0 cut.front far),
+          items_can_declare rest s r cut.middle high living same (λ n from to. free n (omega (arith, from, le)) to) q.1 cut.back (live_back low cut.middle high le le2 (declared_in rest) living o),
         )
-    items_can_declare (Then (Asserts annots) rest) s r low high living q b o = (tt, items_can_declare rest s r low high living q.1 b o)
+    items_can_declare (Then (Asserts annots) rest) s r low high living same free q b o = (tt, items_can_declare rest s r low high living same free q.1 b o)
 
   -- the items of a body, whose scope is the function's
-  pub body_can_declare : (is : BlockItems) (s : Scopes) (r : Around) (low high : ℕ) (living : List ℕ) → ItemsTyped s r is → Between low (numbers_in (declared_in_items is)) high → AllOutside low high living
-      → AreSmall structs (declared_in is) × ItemsCanDeclare structs (with_numbers (declared_in is) living) is
-  body_can_declare is s r low high living q b o =
+  pub body_can_declare : (is : BlockItems) (s : Sight) (r : Around) (low high : ℕ) (living : List ℕ) → s.structs ≡ p.structs → AllFree p low high → ItemsTyped s r is → Between low (numbers_in (declared_in_items is)) high → AllOutside low high living
+      → AreBorn p (declared_in is) × ItemsCanDeclare p (with_numbers (declared_in is) living) is
+  body_can_declare is s r low high living same free q b o =
       let own = declared_in is in (
-        objects_small structs own (items_objects s r is q),
-        items_can_declare is s r low high (with_numbers own living) q b (born_live low high own own living (λ x i. i) (outside_live low high own living o)),
+        are_born p own low high (items_small p.structs s r is same q) (own_between is low high b) free,
+        items_can_declare is s r low high (with_numbers own living) same free q b (born_live low high own own living (λ x i. i) (outside_live low high own living o)),
       )

@@ -1,12 +1,16 @@
 -- Parameters are born in order, each with its argument, whose value stands in a register from the beginning of the call on.
-use Rattle.std.proofs.Common.{◌≡◌, ℕ, suc, ◌+◌, ◌<◌, ◌≤◌, List, [], ◌∷◌, length, length-append, Option, Some, None, slice_get, refl, sym, ap, ◌∙◌, subst, arith}
+use Rattle.std.proofs.Common.{◌≡◌, ℕ, suc, ◌+◌, ◌^◌, ◌<◌, ◌≤◌, nat_eq, false, List, [], ◌∷◌, length, length-append, Option, Some, None, slice_get, refl, sym, ap, ◌∙◌, subst, arith}
 use Rattle.std.proofs.lemmas.List.{append-nil}
 use Rattle.c_syntax.specs.declared.place.Place.{Place}
 use Rattle.c_syntax.specs.declared.types.CInt.{CInt}
+use Rattle.c_syntax.specs.declared.types.CInt.TheVariants.{I8, U8, I16, U16, I32, U32, I64, U64}
 use Rattle.c_syntax.specs.declared.types.Segment.{Segment}
-use Rattle.c_syntax.specs.Ctypes.{Int}
+use Rattle.c_syntax.specs.Ctypes.{PlainType, Int, Ptr as PointerTo}
+use Rattle.c_syntax.specs.Programs.{StructType}
 use Rattle.c_syntax.specs.Statements.{Declaration}
-use Rattle.c_model.specs.Layouts.{IntegerType, scalar_of}
+use Rattle.c_model.specs.Layouts.{Scalar, scalar_of, size_of}
+use Rattle.c_model.specs.TypedTrees.{IsScalar}
+use Rattle.c_model.specs.Formed.{number_of}
 use Rattle.c_model.specs.Memory.{Value, Points, Into, Store, save}
 use Rattle.c_model.specs.State.{State, Full, Undefined, Over, Outcome, Normal, Stop, on_outcome, ◌>>=◌, done, defined, put_store, birth, births, as_scalar, write, write_youngest}
 use Rattle.c_model.specs.Meaning.{Tables, tables_of, parameters}
@@ -15,12 +19,13 @@ use Rattle.mon_syntax.specs.Registers.{RegisterTable}
 use Rattle.mon_syntax.specs.Meaning.{Done, Stops, Next, then_do, at_next, exec}
 use Rattle.mon_syntax.specs.BlockMemory.{over_blocks}
 use Rattle.mon_syntax.specs.LiveBlocks.{LiveBlock}
+use Rattle.mon_syntax.specs.Trees.{MonExpression, MonStatements, NoStatement}
 use Rattle.mon_syntax.specs.Trees as tree
-use Rattle.c_effects.specs.Expressions.{register_type, value_type}
-use Rattle.track_scopes.specs.Blocks.{with_pointer, entered}
+use Rattle.c_effects.specs.Expressions.{value_type}
+use Rattle.track_scopes.specs.Blocks.{AreSmall, with_pointer, entered, deaths, with_born}
 use Rattle.track_scopes.specs.Blocks as target_blocks
 use Rattle.track_scopes.specs.Lives as lives
-use Rattle.track_scopes.specs.Lives.{Births, AllAre, OneIsFull, PointToBorn, with_store}
+use Rattle.track_scopes.specs.Lives.{Births, AllAre, OneIsFull, Enters, PointToBorn, with_store}
 use Rattle.instrument.specs.Translation.{Spot, with_variables}
 use Rattle.instrument.specs.Translation as target
 use Rattle.instrument.proofs.Standing.{Target, Did, Setting, runs, IsOf, Here, Beside}
@@ -28,11 +33,32 @@ use Rattle.track_scopes.proofs.Births.{births_enter}
 use Rattle.instrument.proofs.Results.{writes_none, one_is}
 use Rattle.instrument.proofs.Registers.{same_all}
 use Rattle.instrument.proofs.Bounds.{saved_value}
-use Rattle.instrument.proofs.Effects.{store_runs}
-use Rattle.instrument.proofs.Following.{Later, IsResult}
+use Rattle.instrument.proofs.PointerValues.{scalar_register, value_type_is}
+use Rattle.instrument.proofs.Stores.{store_runs}
+use Rattle.instrument.proofs.Following.{Later, IsResult, IsResultOf}
 use Rattle.instrument.proofs.Births.{with_numbers, behind_births}
 use Rattle.instrument.proofs.Blocks.{Meets, meets_later, meets_inside}
-use Rattle.instrument.proofs.Numbers.{int_of, AreObjects, objects_small}
+use Rattle.instrument.proofs.Own.{AreOwn}
+
+abbrev pub AreScalars : List Declaration → Type 0
+AreScalars [] = Unit {0}
+AreScalars (d ∷ ds) = IsScalar d.ctype × AreScalars ds
+
+-- a scalar has few bytes
+int_small : (structs : List StructType) (k : CInt) → size_of structs (Int k) < 2 ^ 64
+int_small structs I8 = omega arith
+int_small structs U8 = omega arith
+int_small structs I16 = omega arith
+int_small structs U16 = omega arith
+int_small structs I32 = omega arith
+int_small structs U32 = omega arith
+int_small structs I64 = omega arith
+int_small structs U64 = omega arith
+
+scalar_small : (structs : List StructType) (t : PlainType) (k : Scalar) → scalar_of t ≡ Some k → size_of structs t < 2 ^ 64
+scalar_small structs (Int i) k e = int_small structs i
+scalar_small structs (PointerTo t) k e = omega arith
+scalar_small structs _ k e = absurd cc
 
 -- registers from this one on hold the values of parameters, which are of their types
 abbrev pub HoldInOrder : List Value → ℕ → List Declaration → List Value → Type 0
@@ -71,12 +97,13 @@ module _ (w : Setting) (n : ℕ)
 
   -- one parameter, whose birth and value are followed by the others
   module _ (h : Here) (spot : Spot) (r : RegisterTable) (living : List ℕ) (d : Declaration) (ds : List Declaration) (v : Value) (vs : List Value) (regs : List Value) (s : State) (t : Target) (a : ℕ)
-      (m : Meets w h spot (length r.kinds) r.bound living regs s t) (object : d.ctype ≡ Int (int_of d.ctype)) (is : IsResult d.ctype (Some v)) (there : slice_get regs a ≡ Some v) (less : suc a + length ds ≤ length r.kinds) where
+      (m : Meets w h spot (length r.kinds) r.bound living regs s t) (own : nat_eq (number_of d) 4294967295 ≡ false) (object : IsScalar d.ctype) (is : IsResult d.ctype (Some v)) (there : slice_get regs a ≡ Some v)
+      (less : suc a + length ds ≤ length r.kinds) where
     abbrev p : ℕ
     p = length r.kinds
 
-    abbrev k : CInt
-    k = int_of d.ctype
+    abbrev k : Scalar
+    k = object.scalar
 
     abbrev rest : List Value → Target → Did
     rest after u = runs w n u (target.parameters w.unit (suc p) (suc a) ds) after
@@ -96,8 +123,8 @@ module _ (w : Setting) (n : ℕ)
     abbrev Others : List Value → State → Target → Type 0
     Others after to u = BearsAll w (behind_births w.unit.structs h s (d ∷ [])) (with_variables p (d ∷ []) spot) (suc p) (with_pointer d r) (with_numbers (d ∷ []) living) at ds vs to (rest after u)
 
-    is_int : IsOf (IntegerType k) v
-    is_int = subst (λ t. IsResult t (Some v)) object is
+    is_scalar : IsOf k v
+    is_scalar = subst (λ o. IsResultOf o (Some v)) object.is is
 
     -- the store with its value
     abbrev written : Store → State
@@ -114,8 +141,8 @@ module _ (w : Setting) (n : ℕ)
       number : length born.store ≡ length s.store + 1
       number = length-append s.store _
 
-      write_is : as_scalar (scalar_of d.ctype) (λ c. write_youngest at c v) born ≡ write at (Into (length born.store) 0) (IntegerType k) v born
-      write_is = ap (λ t. as_scalar (scalar_of t) (λ c. write_youngest at c v) born) object
+      write_is : as_scalar (scalar_of d.ctype) (λ c. write_youngest at c v) born ≡ write at (Into (length born.store) 0) k v born
+      write_is = ap (λ o. as_scalar o (λ c. write_youngest at c v) born) object.is
 
       with_others : (to : State) (after : List Value) (u : Target) → Since s to → source_rest (birth w.unit.structs d s) ≡ parameters T at ds vs to → code ≡ rest after u → Others after to u → Bear code
       with_others to after u since e f (AllBorn to2 after2 u2 blocks e2 f2 m2 l2) =
@@ -128,7 +155,7 @@ module _ (w : Setting) (n : ℕ)
 
       -- its value is written
       by_save : (after : List Value) → births w.unit.structs (d ∷ []) s ≡ Normal tt born → runs w n t (target_blocks.births w.unit.structs p (d ∷ [])) regs ≡ Done (Next after) target_born [] → PointToBorn p (d ∷ []) s.store regs after
-          → (o : Option Store) → save born.store (Into (length born.store) 0) (IntegerType k) v ≡ o → Bear code
+          → (o : Option Store) → save born.store (Into (length born.store) 0) k v ≡ o → Bear code
       by_save after e f b None saves =
           SomeUndefined at born
           (ap source_rest (sym (end_done (birth w.unit.structs d s)) ∙ e)
@@ -137,8 +164,8 @@ module _ (w : Setting) (n : ℕ)
       by_save after e f b (Some saved) saves =
           let points : slice_get after p ≡ Some (Points (Into (length born.store) 0)) = b.point.0 ∙ ap (λ i. Some (Points (Into i 0))) (sym number) in
           let holds : slice_get after a ≡ Some v = b.before a (omega (arith, less)) ∙ there in
-          let m1 = meets_inside w h spot p r living (d ∷ []) (omega arith) regs s t m after e b in
-          let kept = saved_value born.store saved (Into (length born.store) 0) (IntegerType k) v m1.standing.bounded is_int saves in
+          let m1 = meets_inside w h spot p r living (d ∷ []) (omega arith) regs s t m (own, tt) after e b in
+          let kept = saved_value born.store saved (Into (length born.store) 0) k v m1.standing.bounded is_scalar saves in
           let later : Later born (written saved) [] = record {
             scope = refl;
             calls = refl;
@@ -158,9 +185,9 @@ module _ (w : Setting) (n : ℕ)
           (ap target_rest (sym (one_is w.globals (target_blocks.birth w.unit.structs p d) w.calls n regs t) ∙ f)
           ∙ writes_none _
           ∙ ap (λ q. then_do q (at_next (λ r u. rest r u)))
-          (ap (λ y. exec over_blocks w.globals (tree.Store p (value_type y) (tree.Register a)) w.calls n after target_born) object
-          ∙ sym (one_is w.globals (tree.Store p (register_type k) (tree.Register a)) w.calls n after target_born)
-          ∙ store_runs w n h p k p (length born.store) v target_born after (tree.Register a) saved points is_int holds saves)
+          (ap (λ y. exec over_blocks w.globals (tree.Store p y (tree.Register a)) w.calls n after target_born) (value_type_is d.ctype k object.is)
+          ∙ sym (one_is w.globals (tree.Store p (scalar_register k) (tree.Register a)) w.calls n after target_born)
+          ∙ store_runs w n h p k p (Into (length born.store) 0) v target_born after (tree.Register a) saved points is_scalar holds saves)
           ∙ writes_none _)
           (go after (written saved) (with_store saved target_born) m2 b.before)
 
@@ -170,22 +197,22 @@ module _ (w : Setting) (n : ℕ)
           (ap source_rest (sym (end_done (birth w.unit.structs d s)) ∙ e))
           o
           (ap target_rest (sym (one_is w.globals (target_blocks.birth w.unit.structs p d) w.calls n regs t) ∙ f) ∙ ap (λ i. Stops (Full g) i []) (m.beside.steps ∙ sym steps))
-      parameter_follows (AllAre after e f b) = by_save after e f b (save born.store (Into (length born.store) 0) (IntegerType k) v) refl
+      parameter_follows (AllAre after e f b) = by_save after e f b (save born.store (Into (length born.store) 0) k v) refl
 
   pub parameters_follow : (ds : List Declaration) (vs : List Value) (h : Here) (spot : Spot) (p a : ℕ) (r : RegisterTable) (living : List ℕ) (regs : List Value) (s : State) (t : Target) → length r.kinds ≡ p → Meets w h spot p r.bound living regs s t
-      → AreObjects ds → HoldInOrder regs a ds vs → a + length ds ≤ p → p + length ds ≤ w.registers → BearsAll w h spot p r living at ds vs s (runs w n t (target.parameters w.unit p a ds) regs)
-  parameters_follow [] [] h spot p a r living regs s t e m objects holds less room =
+      → AreScalars ds → AreOwn ds → HoldInOrder regs a ds vs → a + length ds ≤ p → p + length ds ≤ w.registers → BearsAll w h spot p r living at ds vs s (runs w n t (target.parameters w.unit p a ds) regs)
+  parameters_follow [] [] h spot p a r living regs s t e m objects own holds less room =
       let sum : p ≡ p + 0 = omega arith in
       AllBorn s regs t h.inner refl refl (subst (λ low. Meets w h spot low r.bound living regs s t) sum m) (record { spent = omega arith; output = refl; longer = omega arith })
-  parameters_follow [] (v ∷ vs) h spot p a r living regs s t e m objects holds less room = absurd holds
-  parameters_follow (d ∷ ds) [] h spot p a r living regs s t e m objects holds less room = absurd holds
-  parameters_follow (d ∷ ds) (v ∷ vs) h spot p a r living regs s t e m objects holds less room =
+  parameters_follow [] (v ∷ vs) h spot p a r living regs s t e m objects own holds less room = absurd holds
+  parameters_follow (d ∷ ds) [] h spot p a r living regs s t e m objects own holds less room = absurd holds
+  parameters_follow (d ∷ ds) (v ∷ vs) h spot p a r living regs s t e m objects own holds less room =
       subst (λ p. BearsAll w h spot p r living at (d ∷ ds) (v ∷ vs) s (runs w n t (target.parameters w.unit p a (d ∷ ds)) regs)) e
-      (parameter_follows h spot r living d ds v vs regs s t a (subst (λ p. Meets w h spot p r.bound living regs s t) (sym e) m) objects.0 holds.0 holds.1 (omega (arith, e, less))
+      (parameter_follows h spot r living d ds v vs regs s t a (subst (λ p. Meets w h spot p r.bound living regs s t) (sym e) m) own.0 objects.0 holds.0 holds.1 (omega (arith, e, less))
       (λ after to u m2 before.
       parameters_follow ds vs (behind_births w.unit.structs h s (d ∷ [])) (with_variables (length r.kinds) (d ∷ []) spot) (suc (length r.kinds)) (suc a) (with_pointer d r) (with_numbers (d ∷ []) living) after to u
       (length-append r.kinds (Ptr ∷ []) ∙ omega arith)
       (let sum : length r.kinds + length (d ∷ []) ≡ suc (length r.kinds) = omega arith in
       subst (λ low. Meets w (behind_births w.unit.structs h s (d ∷ [])) (with_variables (length r.kinds) (d ∷ []) spot) low (with_pointer d r).bound (with_numbers (d ∷ []) living) after to u) sum m2)
-      objects.1 (hold_same (length r.kinds) (suc a) regs after ds vs (omega (arith, e, less)) before holds.2) (omega (arith, e, less)) (omega (arith, e, room)))
-      (births_enter w.unit.structs (length r.kinds) (d ∷ []) (objects_small w.unit.structs (d ∷ []) (objects.0, tt)) w.globals w.calls n regs s t m.beside.store_is (omega (arith, e, room, m.standing.registers))))
+      objects.1 own.1 (hold_same (length r.kinds) (suc a) regs after ds vs (omega (arith, e, less)) before holds.2) (omega (arith, e, less)) (omega (arith, e, room)))
+      (births_enter w.unit.structs (length r.kinds) (d ∷ []) (scalar_small w.unit.structs d.ctype objects.0.scalar objects.0.is, tt) w.globals w.calls n regs s t m.beside.store_is (omega (arith, e, room, m.standing.registers))))

@@ -1,55 +1,55 @@
 -- The functions of a program: what is known of each definition, and what a call calls.
-use Rattle.std.proofs.Common.{◌≡◌, ℕ, suc, ◌+◌, ◌≤◌, Bool, true, false, cond, ◌&&◌, if◌then◌else◌, nat_eq, List, [], ◌∷◌, ◌++◌, Option, Some, None, refl, sym, ap, ◌∙◌, subst, arith, append_assoc}
+use Rattle.std.proofs.Common.{◌≡◌, ℕ, suc, ◌+◌, ◌≤◌, Bool, true, false, ◌&&◌, if◌then◌else◌, nat_eq, List, [], ◌∷◌, ◌++◌, Option, Some, None, refl, sym, ap, ◌∙◌, subst, arith, ◌<◌, length}
 use Rattle.std.specs.Prelude.{slice_get, bytes_eq, codes}
+use Rattle.c_syntax.specs.declared.expression.Use.{Use}
+use Rattle.c_syntax.specs.Ctypes.{PlainType}
+use Rattle.c_syntax.specs.Expressions.{Expressions}
 use Rattle.c_syntax.specs.Programs.{Function, TranslationUnit}
-use Rattle.c_model.specs.Meaning.{is_definition, definition_at}
-use Rattle.c_model.specs.Typing.{name_at}
-use Rattle.c_model.specs.ProgramTyping.{first_of, function_scopes}
-use Rattle.c_model.specs.WellTypedPrograms.{FunctionTyped, FunctionsTyped}
-use Rattle.c_model.specs.Formed.{Ascend, IsProgram, numbers_of, numbers_of_all, FunctionFormed, FunctionsFormed, FunctionNamed, FunctionsNamed, most_typed}
-use Rattle.c_model.proofs.Signatures.{both_true, behind_function}
-use Rattle.instrument.specs.Limits.{FunctionHasNumbers, FunctionsHaveNumbers}
+use Rattle.c_model.specs.Meaning.{is_definition, definition_at, global_scope}
+use Rattle.c_model.specs.ExpressionTyping.{Sight, name_at, inner}
+use Rattle.c_model.specs.UnitTyping.{with_parameters, has_no_parameters}
+use Rattle.c_model.specs.TypedTrees.{FunctionTyped, Calls}
+use Rattle.c_model.specs.Formed.{declared_in_body}
+use Rattle.c_model.proofs.TypedParts.{and_true}
+use Rattle.c_model.specs.ReadTree.{BodyRead}
+use Rattle.instrument.specs.Limits.{BodyHasNumbers}
 use Rattle.instrument.specs.Translation.{function_of, functions_from, index_of_main}
 use Rattle.c_effects.specs.Effects.{index_of}
+use Rattle.instrument.proofs.Births.{names_of}
+use Rattle.instrument.proofs.Scenes.{AreFound}
+use Rattle.instrument.proofs.Sight.{scope_for}
+use Rattle.c_model.specs.TypedAnnotations.{BodyNoted}
+use Rattle.instrument.proofs.Numbers.{numbers_in, AllOutside}
+use Rattle.c_model.specs.TextOrder.{Between}
+use Rattle.instrument.proofs.Resolved.{IsResolved}
+use Rattle.c_syntax.specs.Statements.{Declaration}
 
 -- ---- a function in its place
 
--- a function of the program, with those before it and after it, and what is known of it
+-- a function of the program, with what is in sight at file scope, itself included, and what is known of it
 pub record Part (p : TranslationUnit) (f : Function) : Type 0 where
-  pub before : List Function
-  pub after : List Function
-  pub is : before ++ (f ∷ after) ≡ p.funcs
-  pub typed : FunctionTyped (function_scopes p before f) before f
-  pub formed : FunctionFormed most_typed f
-  pub named : FunctionNamed p.names f
-  pub low : ℕ
-  pub numbered : Ascend low (numbers_of f)
-  pub numbers : is_definition f ≡ true → FunctionHasNumbers f
-
-ascend_front : (low : ℕ) (a b : List ℕ) → Ascend low (a ++ b) → Ascend low a
-ascend_front low [] b h = tt
-ascend_front low (n ∷ a) b h = (h.0, ascend_front (suc n) a b h.1)
+  pub sight : Sight
+  pub names : sight.names ≡ p.names
+  pub texts : sight.texts ≡ p.texts
+  pub structs : sight.structs ≡ p.structs
+  -- the objects in sight are globals
+  pub found : AreFound sight.entities (scope_for (names_of (global_scope 1 p.globals)))
+  pub typed : FunctionTyped sight f
+  pub noted : BodyNoted (with_parameters (inner sight) f.params) f.body
+  pub formed : BodyRead f.body
+  pub letters : is_definition f ≡ true → BodyHasNumbers f.body
+  -- the numbers of what it declares are its own
+  pub high : ℕ
+  pub between : Between (suc f.place.offset) (numbers_in (f.params ++ declared_in_body f.body)) high
+  pub below : high ≤ 4294967295
+  pub apart : AllOutside (suc f.place.offset) high (names_of (global_scope 1 p.globals))
+  -- what is called in it
+  pub resolves : (s : Sight) → s.names ≡ sight.names → s.functions ≡ sight.functions → (u : Use) (t : PlainType) (es : Expressions) (c : Calls s u t es) → IsResolved p u t c.callee
 
 -- of each function
 abbrev pub Parts : TranslationUnit → List Function → Type 0
 Parts p [] = Unit {0}
 Parts p (f ∷ fs) = Part p f × Parts p fs
-
-less_ascends : (low low2 : ℕ) (ns : List ℕ) → low ≤ low2 → Ascend low2 ns → Ascend low ns
-less_ascends low low2 [] le a = tt
-less_ascends low low2 (n ∷ ns) le a = (omega (arith, le, a.0), a.1)
-
-all_parts : (p : TranslationUnit) (before fs : List Function) (low : ℕ) → before ++ fs ≡ p.funcs → FunctionsTyped p before fs → FunctionsFormed most_typed fs → FunctionsNamed p.names fs → Ascend low (numbers_of_all fs) → FunctionsHaveNumbers fs
-    → Parts p fs
-all_parts p before [] low is typed formed named numbered numbers = tt
-all_parts p before (g ∷ fs) low is typed formed named numbered numbers =
-    let h = behind_function low g fs numbered in (
-      record { before = before; after = fs; is = is; typed = typed.0; formed = formed.0; named = named.0; low = low; numbered = ascend_front low (numbers_of g) (numbers_of_all fs) numbered; numbers = numbers.0 },
-      all_parts p (before ++ g ∷ []) fs (suc g.place.offset) (append_assoc before (g ∷ []) fs ∙ is) typed.1 formed.1 named.1 (less_ascends (suc g.place.offset) h.low2 (numbers_of_all fs) h.le h.is) numbers.1,
-    )
-
-pub parts_of : (p : TranslationUnit) → IsProgram p → FunctionsHaveNumbers p.funcs → Parts p p.funcs
-parts_of p q numbers = all_parts p [] p.funcs 0 refl q.typed q.formed.functions q.named q.numbered numbers
 
 -- ---- the first definition of which something is true
 
@@ -102,7 +102,7 @@ module _ (p : TranslationUnit) (test : Function → Bool) (main : ℕ) where
 
   it_is : (k : ℕ) (f : Function) (fs : List Function) → Part p f → (is_definition f && test f) ≡ true → IsPicked p test main k (f ∷ fs) f
   it_is k f fs part both =
-      let q = both_true (is_definition f) (test f) both in
+      let q = and_true (is_definition f) (test f) both in
       let index : index_by test (f ∷ fs) ≡ 0 = ap (λ a. if a then (if test f then 0 else suc (index_by test fs)) else index_by test fs) q.0 ∙ ap (λ b. if b then 0 else suc (index_by test fs)) q.1 in
       let code : functions_from p main k (f ∷ fs) ≡ function_of p main k f ∷ functions_from p main (suc k) fs = ap (λ a. if a then function_of p main k f ∷ functions_from p main (suc k) fs else functions_from p main k fs) q.0 in
       let number : k ≡ k + 0 = omega arith in
@@ -145,17 +145,19 @@ pub main_index_is : (names : List (List ℕ)) (fs : List Function) → index_of_
 main_index_is names [] = refl
 main_index_is names (f ∷ fs) = ap (λ r. if is_definition f then (if bytes_eq (name_at names f.name) (codes "main") then 0 else suc r) else r) (main_index_is names fs)
 
--- ---- the function that a name calls
-
--- a declaration is typed after some others
-pub record IsTyped (p : TranslationUnit) (h : Function) : Type 0 where
-  pub before : List Function
-  pub typed : FunctionTyped (function_scopes p before h) before h
-
-pub typed_at : (p : TranslationUnit) (before fs : List Function) (x : ℕ) (h : Function) → FunctionsTyped p before fs → first_of x fs ≡ Some h → IsTyped p h
-typed_at p before [] x h t e = absurd cc
-typed_at p before (g ∷ fs) x h t e = by (λ f. typed_at p (before ++ g ∷ []) fs x h t.1 f) (nat_eq g.name x) e
+-- its index is below the number of functions that are translated
+pub index_below : (p : TranslationUnit) (test : Function → Bool) (main k : ℕ) (fs : List Function) (f : Function) → picked test fs ≡ Some f → index_by test fs < length (functions_from p main k fs)
+index_below p test main k [] f e = absurd cc
+index_below p test main k (g ∷ fs) f e = by (is_definition g) (test g) e (λ j h. index_below p test main j fs f h)
   where
-    by : (first_of x fs ≡ Some h → IsTyped p h) → (b : Bool) → cond b (Some g) (first_of x fs) ≡ Some h → IsTyped p h
-    by rest true f = let same : g ≡ h = cc in subst (IsTyped p) same (record { before = before; typed = t.0 })
-    by rest false f = rest f
+    by : (a b : Bool) → (if a && b then Some g else picked test fs) ≡ Some f → ((j : ℕ) → picked test fs ≡ Some f → index_by test fs < length (functions_from p main j fs))
+        → (if a then (if b then 0 else suc (index_by test fs)) else index_by test fs) < length (if a then function_of p main k g ∷ functions_from p main (suc k) fs else functions_from p main k fs)
+    by true true h rest = omega arith
+    by true false h rest = let below = rest (suc k) h in omega (arith, below)
+    by false b h rest = rest k h
+
+-- ---- `main`
+
+pub no_parameters : (ds : List Declaration) → has_no_parameters ds ≡ true → ds ≡ []
+no_parameters [] e = refl
+no_parameters (d ∷ ds) e = absurd cc

@@ -1,9 +1,12 @@
 -- Registers that stay the same, and those that are set.
-use Rattle.std.proofs.Common.{◌≡◌, ℕ, zero, suc, ◌<◌, ◌≤◌, List, [], ◌∷◌, ◌++◌, length, length-set, length-append, Some, slice_get, slice_set, refl, ◌∙◌, arith}
+use Rattle.std.proofs.Common.{◌≡◌, ℕ, zero, suc, ◌<◌, ◌≤◌, List, [], ◌∷◌, ◌++◌, length, length-set, length-append, Some, slice_get, slice_set, refl, sym, ◌∙◌, arith, Bool, true, false, cond, nat_eq, None, ap}
 use Rattle.c_model.specs.Memory.{Value}
 use Rattle.c_model.proofs.Blocks.{slice_get-slice_set_same, slice_get-slice_set_other}
 use Rattle.mon_syntax.specs.declared.tree.MonType.{MonType}
 use Rattle.instrument.proofs.Standing.{Same}
+use Rattle.mon_syntax.specs.Registers.{Bindings, register_of, bound_with}
+use Rattle.std.proofs.lemmas.Bool.{eq-eqb}
+use Rattle.std.proofs.lemmas.Bool.Decides.{nat_tests}
 
 -- ---- lists
 
@@ -19,16 +22,6 @@ get-some (b ∷ l) (suc k) lt = get-some l k (omega arith)
 
 pub get-set_same : {A : Type 0} (l : List A) (k : ℕ) (a : A) → k < length l → slice_get (slice_set l k a) k ≡ Some a
 get-set_same l k a lt = let h = get-some l k lt in slice_get-slice_set_same l k h.0 a h.1
-
-pub get-front : {A : Type 0} (a b : List A) (j : ℕ) (x : A) → slice_get a j ≡ Some x → slice_get (a ++ b) j ≡ Some x
-get-front [] b j x e = absurd cc
-get-front (y ∷ a) b zero x e = e
-get-front (y ∷ a) b (suc j) x e = get-front a b j x e
-
-pub get-front_same : {A : Type 0} (a b : List A) (j : ℕ) → j < length a → slice_get (a ++ b) j ≡ slice_get a j
-get-front_same [] b j lt = absurd (omega arith)
-get-front_same (y ∷ a) b zero lt = refl
-get-front_same (y ∷ a) b (suc j) lt = get-front_same a b j (omega arith)
 
 pub get-end : {A : Type 0} (a b : List A) (x : A) → slice_get (a ++ x ∷ b) (length a) ≡ Some x
 get-end [] b x = refl
@@ -52,3 +45,23 @@ same_set n r regs v le = record { long = length-set regs r v; below = λ j lt. s
 -- further registers
 pub longer : (rs ts : List MonType) → length rs ≤ length (rs ++ ts)
 longer rs ts = omega (arith, length-append rs ts)
+
+-- ---- bindings
+
+pub register_of-bound_same : (x r : ℕ) (bs : Bindings) → register_of (bound_with x r bs) x ≡ Some r
+register_of-bound_same x r [] = ap (λ t. cond t (Some r) None) (eq-eqb x x refl)
+register_of-bound_same x r (b ∷ bs) = by (register_of-bound_same x r bs) (nat_eq b.0 x) refl
+  where
+    by : register_of (bound_with x r bs) x ≡ Some r → (t : Bool) → nat_eq b.0 x ≡ t → register_of (cond t ((x, r) ∷ bs) (b ∷ bound_with x r bs)) x ≡ Some r
+    by rest true e = ap (λ t. cond t (Some r) (register_of bs x)) (eq-eqb x x refl)
+    by rest false e = ap (λ t. cond t (Some b.1) (register_of (bound_with x r bs) x)) e ∙ rest
+
+pub register_of-bound_other : (x r y : ℕ) (bs : Bindings) → nat_eq x y ≡ false → register_of (bound_with x r bs) y ≡ register_of bs y
+register_of-bound_other x r y [] e = ap (λ t. cond t (Some r) None) e
+register_of-bound_other x r y (b ∷ bs) e = by (register_of-bound_other x r y bs e) (nat_eq b.0 x) refl
+  where
+    by : register_of (bound_with x r bs) y ≡ register_of bs y → (t : Bool) → nat_eq b.0 x ≡ t → register_of (cond t ((x, r) ∷ bs) (b ∷ bound_with x r bs)) y ≡ cond (nat_eq b.0 y) (Some b.1) (register_of bs y)
+    by rest true f =
+        let other : nat_eq b.0 y ≡ false = grind (arith, nat_tests) in
+        ap (λ t. cond t (Some r) (register_of bs y)) e ∙ sym (ap (λ t. cond t (Some b.1) (register_of bs y)) other)
+    by rest false f = ap (λ o. cond (nat_eq b.0 y) (Some b.1) o) rest

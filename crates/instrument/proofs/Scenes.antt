@@ -1,4 +1,4 @@
--- What is in sight where a statement stands: objects of integer types, and functions whose calls do the same on both sides.
+-- What is known of the functions that are called where a part of the program stands, and of its sizes, types and literals.
 use Rattle.std.proofs.Common.{◌≡◌, ℕ, Bool, true, false, cond, nat_eq, List, [], ◌∷◌, ◌++◌, Option, Some, None, refl, subst, sym}
 use Rattle.c_syntax.specs.declared.expression.Use.{Use}
 use Rattle.c_syntax.specs.Ctypes.{PlainType}
@@ -6,44 +6,53 @@ use Rattle.c_syntax.specs.Expressions.{Expressions}
 use Rattle.c_syntax.specs.Statements.{Declaration, ForFirst, NoFirst, First, BlockItem, Declare, Run, Asserts}
 use Rattle.c_model.specs.State.{Scope, find}
 use Rattle.c_model.specs.Formed.{number_of}
-use Rattle.c_model.specs.Typing.{Object, Scopes, Around, or_else, object_named, is_object_type, inner, with_object, with_objects, behind, behind_first}
-use Rattle.c_model.specs.ProgramTyping.{with_parameter, with_parameters}
-use Rattle.c_model.specs.WellTyped.{Denotes, Calls}
-use Rattle.c_model.specs.WellTypedPrograms.{AreDeclared, AreParameters, ItemTyped, FirstTyped}
-use Rattle.instrument.proofs.Standing.{Setting}
+use Rattle.c_model.specs.ExpressionTyping.{Sight, Entity, AnObject, AnEnumerator, has_name, or_else, entity_named, inner, with_object, with_objects}
+use Rattle.c_model.specs.StatementTyping.{behind, behind_first}
+use Rattle.c_model.specs.TypedTrees.{Calls, Denotes}
+use Rattle.c_model.specs.UnitTyping.{with_parameter, with_parameters}
+use Rattle.instrument.proofs.Standing.{Setting, Knows}
 use Rattle.instrument.proofs.Calls.{IsCalled}
-use Rattle.instrument.proofs.ExpressionTypes.{HasInt, object_int}
 
--- objects of integer types
-abbrev pub AreIntegers : List Object → Type 0
-AreIntegers [] = Unit {0}
-AreIntegers (b ∷ bs) = HasInt b.ctype × AreIntegers bs
+pub record Scene (w : Setting) (n : ℕ) (sight : Sight) : Type 0 where
+  pub knows : Knows w sight
+  pub calls : (f : Use) (t : PlainType) (es : Expressions) → Calls sight f t es → IsCalled w n f t es
 
-integer_named : (x : ℕ) (objects : List Object) (b : Object) → AreIntegers objects → object_named x objects ≡ Some b → HasInt b.ctype
-integer_named x [] b h e = absurd cc
-integer_named x (o ∷ objects) b h e = by (object_named x objects) (λ f. integer_named x objects b h.1 f) (nat_eq x o.name) e
-  where
-    by : (r : Option Object) → (r ≡ Some b → HasInt b.ctype) → (t : Bool) → or_else r (cond t (Some o) None) ≡ Some b → HasInt b.ctype
-    by (Some c) go t f = go f
-    by None go true f = let same : o ≡ b = cc in subst (λ (b : Object). HasInt b.ctype) same h.0
-    by None go false f = absurd cc
+-- objects that come into sight change nothing of it
+pub knows_with : (w : Setting) (sight : Sight) (d : Declaration) → Knows w sight → Knows w (with_object sight d)
+knows_with w sight d k = record {
+  literals = k.literals;
+  octets = k.octets;
+  sizes = λ t known. k.sizes t (record { known = known.known; small = known.small });
+  structs = k.structs;
+}
 
-integers_end : (objects : List Object) (b : Object) → AreIntegers objects → HasInt b.ctype → AreIntegers (objects ++ b ∷ [])
-integers_end [] b h i = (i, tt)
-integers_end (o ∷ objects) b h i = (h.0, integers_end objects b h.1 i)
-
-pub record Scene (w : Setting) (n : ℕ) (scopes : Scopes) : Type 0 where
-  pub integers : AreIntegers scopes.objects
-  pub calls : (f : Use) (t : PlainType) (es : Expressions) → Calls scopes f t es → IsCalled w n f t es
+pub scene_with : (w : Setting) (n : ℕ) (sight : Sight) (d : Declaration) → Scene w n sight → Scene w n (with_object sight d)
+scene_with w n sight d scene = record {
+  knows = knows_with w sight d scene.knows;
+  calls = λ f t es c. scene.calls f t es (record {
+    callee = c.callee;
+    found = c.found;
+    defined = c.defined;
+    not_main = c.not_main;
+    decl = c.decl;
+    result = c.result;
+    arguments = c.arguments;
+  });
+}
 
 module _ (w : Setting) (n : ℕ) where
-  -- the type of a name in sight
-  pub denoted_int : (scopes : Scopes) (x : Use) (t : PlainType) → Scene w n scopes → Denotes scopes x t → HasInt t
-  denoted_int scopes x t scene d = subst HasInt d.ctype (integer_named x.name scopes.objects d.object scene.integers d.found)
+  pub scene_with_all : (sight : Sight) (ds : List Declaration) → Scene w n sight → Scene w n (with_objects sight ds)
+  scene_with_all sight [] scene = scene
+  scene_with_all sight (d ∷ ds) scene = scene_with_all (with_object sight d) ds (scene_with w n sight d scene)
 
-  pub scene_with : (scopes : Scopes) (d : Declaration) → is_object_type d.ctype ≡ true → Scene w n scopes → Scene w n (with_object scopes d)
-  scene_with scopes d o scene = record {
-    integers = integers_end scopes.objects _ scene.integers (object_int d.ctype o);
+  pub scene_inner : (sight : Sight) → Scene w n sight → Scene w n (inner sight)
+  scene_inner sight scene = record {
+    knows = record {
+      literals = scene.knows.literals;
+      octets = scene.knows.octets;
+      sizes = λ t known. scene.knows.sizes t (record { known = known.known; small = known.small });
+      structs = scene.knows.structs;
+    };
     calls = λ f t es c. scene.calls f t es (record {
       callee = c.callee;
       found = c.found;
@@ -55,39 +64,21 @@ module _ (w : Setting) (n : ℕ) where
     });
   }
 
-  pub scene_with_all : (scopes : Scopes) (ds : List Declaration) → AreDeclared scopes ds → Scene w n scopes → Scene w n (with_objects scopes ds)
-  scene_with_all scopes [] q scene = scene
-  scene_with_all scopes (d ∷ ds) q scene = scene_with_all (with_object scopes d) ds q.1 (scene_with scopes d q.0.ctype scene)
+  pub scene_behind : (sight : Sight) (i : BlockItem) → Scene w n sight → Scene w n (behind sight i)
+  scene_behind sight (Declare ds) scene = scene_with_all sight ds scene
+  scene_behind sight (Run a) scene = scene
+  scene_behind sight (Asserts annots) scene = scene
 
-  pub scene_inner : (scopes : Scopes) → Scene w n scopes → Scene w n (inner scopes)
-  scene_inner scopes scene = record {
-    integers = scene.integers;
-    calls = λ f t es c. scene.calls f t es (record {
-      callee = c.callee;
-      found = c.found;
-      defined = c.defined;
-      not_main = c.not_main;
-      decl = c.decl;
-      result = c.result;
-      arguments = c.arguments;
-    });
-  }
+  pub scene_behind_first : (sight : Sight) (first : ForFirst) → Scene w n sight → Scene w n (behind_first sight first)
+  scene_behind_first sight NoFirst scene = scene
+  scene_behind_first sight (First i) scene = scene_behind sight i scene
 
-  pub scene_behind : (scopes : Scopes) (r : Around) (i : BlockItem) → ItemTyped scopes r i → Scene w n scopes → Scene w n (behind scopes i)
-  scene_behind scopes r (Declare ds) q scene = scene_with_all scopes ds q scene
-  scene_behind scopes r (Run a) q scene = scene
-  scene_behind scopes r (Asserts annots) q scene = scene
-
-  pub scene_behind_first : (scopes : Scopes) (r : Around) (first : ForFirst) → FirstTyped scopes r first → Scene w n scopes → Scene w n (behind_first scopes first)
-  scene_behind_first scopes r NoFirst q scene = scene
-  scene_behind_first scopes r (First i) q scene = scene_behind scopes r i q scene
-
-  pub scene_parameters : (scopes : Scopes) (ds : List Declaration) → AreParameters scopes ds → Scene w n scopes → Scene w n (with_parameters scopes ds)
-  scene_parameters scopes [] q scene = scene
-  scene_parameters scopes (d ∷ ds) q scene = scene_parameters (with_parameter scopes d) ds q.1 (by d.named)
+  pub scene_parameters : (sight : Sight) (ds : List Declaration) → Scene w n sight → Scene w n (with_parameters sight ds)
+  scene_parameters sight [] scene = scene
+  scene_parameters sight (d ∷ ds) scene = scene_parameters (with_parameter sight d) ds (by d.named)
     where
-      by : (t : Bool) → Scene w n (cond t (with_object scopes d) scopes)
-      by true = scene_with scopes d q.0.ctype scene
+      by : (t : Bool) → Scene w n (cond t (with_object sight d) sight)
+      by true = scene_with w n sight d scene
       by false = scene
 
 -- ---- names in sight are found in the state's scope
@@ -95,45 +86,49 @@ module _ (w : Setting) (n : ℕ) where
 abbrev pub IsFound : Scope → ℕ → Type 0
 IsFound scope x = (number : ℕ) × (find x scope ≡ Some number)
 
-abbrev pub AreFound : List Object → Scope → Type 0
+abbrev pub EntityFound : Scope → Entity → Type 0
+EntityFound scope (AnObject b) = IsFound scope b.decl
+EntityFound scope (AnEnumerator c) = Unit {0}
+
+abbrev pub AreFound : List Entity → Scope → Type 0
 AreFound [] scope = Unit {0}
-AreFound (b ∷ bs) scope = IsFound scope b.decl × AreFound bs scope
+AreFound (b ∷ bs) scope = EntityFound scope b × AreFound bs scope
 
 -- the same of what is declared
 abbrev pub DeclarationsFound : List Declaration → Scope → Type 0
 DeclarationsFound [] scope = Unit {0}
 DeclarationsFound (d ∷ ds) scope = IsFound scope (number_of d) × DeclarationsFound ds scope
 
-pub found_named : (x : ℕ) (objects : List Object) (b : Object) (scope : Scope) → AreFound objects scope → object_named x objects ≡ Some b → IsFound scope b.decl
+pub found_named : (x : ℕ) (entities : List Entity) (b : Entity) (scope : Scope) → AreFound entities scope → entity_named x entities ≡ Some b → EntityFound scope b
 found_named x [] b scope h e = absurd cc
-found_named x (o ∷ objects) b scope h e = by (object_named x objects) (λ f. found_named x objects b scope h.1 f) (nat_eq x o.name) e
+found_named x (o ∷ entities) b scope h e = by (entity_named x entities) (λ f. found_named x entities b scope h.1 f) (has_name x o) e
   where
-    by : (r : Option Object) → (r ≡ Some b → IsFound scope b.decl) → (t : Bool) → or_else r (cond t (Some o) None) ≡ Some b → IsFound scope b.decl
+    by : (r : Option Entity) → (r ≡ Some b → EntityFound scope b) → (t : Bool) → or_else r (cond t (Some o) None) ≡ Some b → EntityFound scope b
     by (Some c) go t f = go f
-    by None go true f = let same : o ≡ b = cc in subst (λ (b : Object). IsFound scope b.decl) same h.0
+    by None go true f = let same : o ≡ b = cc in subst (EntityFound scope) same h.0
     by None go false f = absurd cc
 
 -- a name that is denoted
-pub denoted_found : (scopes : Scopes) (scope : Scope) (x : Use) (t : PlainType) → AreFound scopes.objects scope → Denotes scopes x t → IsFound scope x.decl
-denoted_found scopes scope x t h d = subst (IsFound scope) (sym d.decl) (found_named x.name scopes.objects d.object scope h d.found)
+pub denoted_found : (s : Sight) (scope : Scope) (x : Use) (t : PlainType) → AreFound s.entities scope → Denotes s x t → IsFound scope x.decl
+denoted_found s scope x t h d = subst (IsFound scope) (sym d.decl) (found_named x.name s.entities (AnObject d.object) scope h d.found)
 
-found_end : (objects : List Object) (b : Object) (scope : Scope) → AreFound objects scope → IsFound scope b.decl → AreFound (objects ++ b ∷ []) scope
+pub found_end : (entities : List Entity) (b : Entity) (scope : Scope) → AreFound entities scope → EntityFound scope b → AreFound (entities ++ b ∷ []) scope
 found_end [] b scope h i = (i, tt)
-found_end (o ∷ objects) b scope h i = (h.0, found_end objects b scope h.1 i)
+found_end (o ∷ entities) b scope h i = (h.0, found_end entities b scope h.1 i)
 
-pub found_with : (scopes : Scopes) (d : Declaration) (scope : Scope) → AreFound scopes.objects scope → IsFound scope (number_of d) → AreFound (with_object scopes d).objects scope
-found_with scopes d scope h i = found_end scopes.objects _ scope h i
+pub found_with : (s : Sight) (d : Declaration) (scope : Scope) → AreFound s.entities scope → IsFound scope (number_of d) → AreFound (with_object s d).entities scope
+found_with s d scope h i = found_end s.entities _ scope h i
 
-pub found_with_all : (scopes : Scopes) (ds : List Declaration) (scope : Scope) → AreFound scopes.objects scope → DeclarationsFound ds scope → AreFound (with_objects scopes ds).objects scope
-found_with_all scopes [] scope h i = h
-found_with_all scopes (d ∷ ds) scope h i = found_with_all (with_object scopes d) ds scope (found_with scopes d scope h i.0) i.1
+pub found_with_all : (s : Sight) (ds : List Declaration) (scope : Scope) → AreFound s.entities scope → DeclarationsFound ds scope → AreFound (with_objects s ds).entities scope
+found_with_all s [] scope h i = h
+found_with_all s (d ∷ ds) scope h i = found_with_all (with_object s d) ds scope (found_with s d scope h i.0) i.1
 
-pub found_parameters : (scopes : Scopes) (ds : List Declaration) (scope : Scope) → AreFound scopes.objects scope → DeclarationsFound ds scope → AreFound (with_parameters scopes ds).objects scope
-found_parameters scopes [] scope h i = h
-found_parameters scopes (d ∷ ds) scope h i = found_parameters (with_parameter scopes d) ds scope (by d.named) i.1
+pub found_parameters : (s : Sight) (ds : List Declaration) (scope : Scope) → AreFound s.entities scope → DeclarationsFound ds scope → AreFound (with_parameters s ds).entities scope
+found_parameters s [] scope h i = h
+found_parameters s (d ∷ ds) scope h i = found_parameters (with_parameter s d) ds scope (by d.named) i.1
   where
-    by : (t : Bool) → AreFound (cond t (with_object scopes d) scopes).objects scope
-    by true = found_with scopes d scope h i.0
+    by : (t : Bool) → AreFound (cond t (with_object s d) s).entities scope
+    by true = found_with s d scope h i.0
     by false = h
 
 pub declarations_found-append : (a b : List Declaration) (scope : Scope) → DeclarationsFound (a ++ b) scope → DeclarationsFound a scope × DeclarationsFound b scope
@@ -142,13 +137,14 @@ declarations_found-append (d ∷ a) b scope h = let rest = declarations_found-ap
 
 -- ---- births add to the scope
 
-found_more : (x y number : ℕ) (scope : Scope) → IsFound scope y → IsFound ((x, number) ∷ scope) y
+pub found_more : (x y number : ℕ) (scope : Scope) → IsFound scope y → IsFound ((x, number) ∷ scope) y
 found_more x y number scope (k, e) = by (nat_eq x y)
   where
     by : (t : Bool) → (number2 : ℕ) × (cond t (Some number) (find y scope) ≡ Some number2)
     by true = (number, refl)
     by false = (k, e)
 
-pub objects_found_more : (objects : List Object) (x number : ℕ) (scope : Scope) → AreFound objects scope → AreFound objects ((x, number) ∷ scope)
-objects_found_more [] x number scope h = tt
-objects_found_more (b ∷ bs) x number scope h = (found_more x b.decl number scope h.0, objects_found_more bs x number scope h.1)
+pub entities_found_more : (entities : List Entity) (x number : ℕ) (scope : Scope) → AreFound entities scope → AreFound entities ((x, number) ∷ scope)
+entities_found_more [] x number scope h = tt
+entities_found_more (AnObject b ∷ bs) x number scope h = (found_more x b.decl number scope h.0, entities_found_more bs x number scope h.1)
+entities_found_more (AnEnumerator c ∷ bs) x number scope h = (tt, entities_found_more bs x number scope h.1)

@@ -5,9 +5,9 @@ use Rattle.std.specs.Prelude.{map}
 use Rattle.c_syntax.specs.Statements.{Declaration}
 use Rattle.c_model.specs.State.{Scope, find}
 use Rattle.c_model.specs.Formed.{number_of}
-use Rattle.c_model.specs.Typing.{Object}
+use Rattle.c_model.specs.ExpressionTyping.{Entity, AnObject, AnEnumerator}
 use Rattle.instrument.proofs.Births.{names_of, with_numbers}
-use Rattle.instrument.proofs.Scenes.{IsFound, AreFound, DeclarationsFound, objects_found_more}
+use Rattle.instrument.proofs.Scenes.{IsFound, AreFound, DeclarationsFound, entities_found_more}
 
 -- a scope that has these numbers
 abbrev pub scope_for : List ℕ → Scope
@@ -21,18 +21,19 @@ in_scope x (b ∷ scope) h = by (λ i. in_scope x scope i) (nat_eq b.0 x) h
     by rest true i = (b.1, refl)
     by rest false i = rest i
 
-are_in_scope : (objects : List Object) (scope : Scope) → AreFound objects (scope_for (names_of scope)) → AreFound objects scope
+are_in_scope : (entities : List Entity) (scope : Scope) → AreFound entities (scope_for (names_of scope)) → AreFound entities scope
 are_in_scope [] scope h = tt
-are_in_scope (b ∷ bs) scope h = (in_scope b.decl scope h.0, are_in_scope bs scope h.1)
+are_in_scope (AnObject b ∷ bs) scope h = (in_scope b.decl scope h.0, are_in_scope bs scope h.1)
+are_in_scope (AnEnumerator c ∷ bs) scope h = (tt, are_in_scope bs scope h.1)
 
-pub sees_found : (objects : List Object) (living : List ℕ) (scope : Scope) → names_of scope ≡ living → AreFound objects (scope_for living) → AreFound objects scope
-sees_found objects living scope e h = are_in_scope objects scope (subst (λ l. AreFound objects (scope_for l)) (sym e) h)
+pub sees_found : (entities : List Entity) (living : List ℕ) (scope : Scope) → names_of scope ≡ living → AreFound entities (scope_for living) → AreFound entities scope
+sees_found entities living scope e h = are_in_scope entities scope (subst (λ l. AreFound entities (scope_for l)) (sym e) h)
 
 -- ---- births add names
 
-pub sees_born : (objects : List Object) (ds : List Declaration) (living : List ℕ) → AreFound objects (scope_for living) → AreFound objects (scope_for (with_numbers ds living))
-sees_born objects [] living h = h
-sees_born objects (d ∷ ds) living h = sees_born objects ds (number_of d ∷ living) (objects_found_more objects (number_of d) 0 (scope_for living) h)
+pub sees_born : (entities : List Entity) (ds : List Declaration) (living : List ℕ) → AreFound entities (scope_for living) → AreFound entities (scope_for (with_numbers ds living))
+sees_born entities [] living h = h
+sees_born entities (d ∷ ds) living h = sees_born entities ds (number_of d ∷ living) (entities_found_more entities (number_of d) 0 (scope_for living) h)
 
 newest : (d : Declaration) (living : List ℕ) → IsFound (scope_for (number_of d ∷ living)) (number_of d)
 newest d living = (0, ap (λ t. cond t (Some 0) (find (number_of d) (scope_for living))) (eq-eqb (number_of d) (number_of d) refl))
@@ -40,4 +41,4 @@ newest d living = (0, ap (λ t. cond t (Some 0) (find (number_of d) (scope_for l
 pub declared_born : (ds : List Declaration) (living : List ℕ) → DeclarationsFound ds (scope_for (with_numbers ds living))
 declared_born [] living = tt
 declared_born (d ∷ ds) living =
-    ((sees_born (record { name = d.name; decl = number_of d; ctype = d.ctype } ∷ []) ds (number_of d ∷ living) (newest d living, tt)).0, declared_born ds (number_of d ∷ living))
+    ((sees_born (AnObject (record { name = d.name; decl = number_of d; ctype = d.ctype }) ∷ []) ds (number_of d ∷ living) (newest d living, tt)).0, declared_born ds (number_of d ∷ living))

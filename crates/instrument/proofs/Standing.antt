@@ -1,18 +1,22 @@
 -- How a call in monitored C stands beside one of the source: it has the source's blocks, and registers point to those of the names in sight.
-use Rattle.std.proofs.Common.{◌≡◌, ℕ, ◌^◌, ◌<◌, ◌≤◌, ℤ, Bool, true, List, [], ◌∷◌, ◌++◌, length, Some, slice_get}
+use Rattle.std.proofs.Common.{◌≡◌, ℕ, ◌+◌, ◌^◌, ◌<◌, ◌≤◌, ℤ, pos, Bool, true, false, nat_eq, List, [], ◌∷◌, ◌++◌, length, Some, None, slice_get}
 use Rattle.c_syntax.specs.Ctypes.{PlainType}
-use Rattle.c_syntax.specs.Programs.{TranslationUnit}
+use Rattle.c_syntax.specs.Programs.{StringLiteral, TranslationUnit}
+use Rattle.c_syntax.specs.declared.types.CInt.TheVariants.{U64}
 use Rattle.c_model.specs.Integers.{fits}
-use Rattle.c_model.specs.Layouts.{Scalar, IntegerType, PointerType}
+use Rattle.c_model.specs.Layouts.{Scalar, IntegerType, PointerType, size_of}
 use Rattle.c_model.specs.Memory.{Pointer, Null, Into, Value, Integer, Points, Byte, Unwritten, Number, Piece, LoosePiece, Store}
 use Rattle.c_model.specs.State.{State, Scope, find}
-use Rattle.c_model.specs.Meaning.{Callee}
+use Rattle.c_model.specs.Meaning.{Callee, tables_of, text_at}
 use Rattle.mon_syntax.specs.Registers.{Bindings, register_of}
 use Rattle.mon_syntax.specs.Meaning.{Result, Flow, exec_all, eval}
 use Rattle.mon_syntax.specs.Meaning as monitored
 use Rattle.mon_syntax.specs.BlockMemory.{Blocks, over_blocks}
 use Rattle.mon_syntax.specs.LiveBlocks.{LiveBlock, live_in}
 use Rattle.mon_syntax.specs.Trees.{MonExpression, MonStatements}
+use Rattle.c_model.specs.ExpressionTyping.{Sight}
+use Rattle.c_model.specs.TypedTrees.{HasKnownSize}
+use Rattle.c_effects.specs.Expressions.{global_index}
 use Rattle.track_scopes.specs.Lives.{AreFrom, AreBefore}
 
 -- a state of the target, and what statements of it did
@@ -52,16 +56,33 @@ pub record Same (n : ℕ) (regs after : List Value) : Type 0 where
   pub long : length after ≡ length regs
   pub below : (j : ℕ) → j < n → slice_get after j ≡ slice_get regs j
 
--- a register below `low` is bound to the declaration, and points to the start of the block with this number
-pub record IsAnchored (low : ℕ) (bound : Bindings) (regs : List Value) (x number : ℕ) : Type 0 where
-  pub register : ℕ
-  pub is_bound : register_of bound x ≡ Some register
-  pub below : register < low
-  pub points : slice_get regs register ≡ Some (Points (Into number 0))
+-- where the object of a declaration stands, in the block with this number: a register below `low` is bound to the declaration and points to the
+-- start of the block, or else it is a global's
+pub data IsAnchored (w : Setting) (low : ℕ) (bound : Bindings) (regs : List Value) (x number : ℕ) : Type 0 where
+  InRegister : (r : ℕ) → register_of bound x ≡ Some r → r < low → slice_get regs r ≡ Some (Points (Into number 0)) → IsAnchored w low bound regs x number
+  AtGlobal : register_of bound x ≡ None → global_index x w.unit.globals < length w.unit.globals → slice_get w.globals (global_index x w.unit.globals) ≡ Some (Points (Into number 0))
+      → IsAnchored w low bound regs x number
+
+-- a name in sight is none of the library's, and is anchored
+pub record IsInSight (w : Setting) (low : ℕ) (bound : Bindings) (regs : List Value) (x number : ℕ) : Type 0 where
+  pub own : nat_eq x 4294967295 ≡ false
+  pub anchor : IsAnchored w low bound regs x number
 
 -- so it is for all names in sight
-abbrev pub Anchored : ℕ → Bindings → List Value → Scope → Type 0
-Anchored low bound regs scope = (x number : ℕ) → find x scope ≡ Some number → IsAnchored low bound regs x number
+abbrev pub Anchored : Setting → ℕ → Bindings → List Value → Scope → Type 0
+Anchored w low bound regs scope = (x number : ℕ) → find x scope ≡ Some number → IsInSight w low bound regs x number
+
+abbrev pub AreOctets : List ℕ → Type 0
+AreOctets [] = Unit {0}
+AreOctets (b ∷ bs) = (b < 256) × AreOctets bs
+
+-- what typing knows of the program at a place of its text: its literals have their blocks after the globals, and are bytes, the sizes that are asked
+-- for are values, and its structs are those of the whole program
+pub record Knows (w : Setting) (s : Sight) : Type 0 where
+  pub literals : (n : ℕ) (x : StringLiteral) → slice_get s.texts n ≡ Some x → slice_get w.globals (length w.unit.globals + n) ≡ Some (Points (Into (length w.unit.globals + n + 1) 0))
+  pub octets : (n : ℕ) → AreOctets (text_at (tables_of w.unit).texts n)
+  pub sizes : (t : PlainType) → HasKnownSize s t → fits U64 (pos (size_of w.unit.structs t)) ≡ true
+  pub structs : s.structs ≡ w.unit.structs
 
 -- ---- values and bytes
 
@@ -104,7 +125,7 @@ pub record Here : Type 0 where
 
 -- a state of the source in which these live, and what the registers below `low` have of it
 pub record Standing (w : Setting) (h : Here) (low : ℕ) (bound : Bindings) (regs : List Value) (s : State) : Type 0 where
-  pub anchored : Anchored low bound regs s.scope
+  pub anchored : Anchored w low bound regs s.scope
   pub active : s.calls ≡ w.active
   pub live : live_in s.store ≡ h.inner ++ (h.outer ++ w.around)
   pub since_loop : AreFrom h.loop h.inner

@@ -24,7 +24,7 @@ use Rattle.c_effects.specs.Named.{condition_by, effect_if_any_by, setup_by, unit
 use Rattle.c_effects.proofs.Sequences.{before_assoc}
 use Rattle.instrument.specs.Options.{after, behind_first, births_by, else_part_by, entering, first_part_by, items_of_first, plain_else_part, plain_first_part, statement_by, test_by, test_if_any_by, turns_by, with_blocks}
 use Rattle.instrument.specs.Translation.{Spot, alive, end_label, in_loop, next_label, with_variables}
-use Rattle.instrument.proofs.Declarations.{born_front}
+use Rattle.instrument.proofs.DeclarationCode.{born_front}
 
 -- ---- the parts of statements
 
@@ -145,6 +145,6 @@ module _ (n : Names) (spot : Spot) (t t1 t2 : MonStatements) (first : ForFirst) 
 -- ---- its names
 
 pub for_names : (n n1 n2 : Names) (at : Place) (annots : List Annotation) (first : ForFirst) (e step : Option Expression) (a : Statement) → n1 ≡ behind_first first (entering (declared_first first) n)
-    → n2 ≡ with_registers (any_temporaries effect_temporaries step) (after a (with_registers (any_temporaries temporaries e) n1)) → n2 ≡ after (For at annots first e step a) n
+    → n2 ≡ with_registers (any_temporaries (effect_temporaries (unit_of n1)) step) (after a (with_registers (any_temporaries temporaries e) n1)) → n2 ≡ after (For at annots first e step a) n
 for_names n n1 n2 at annots first e step a entered last =
-    last ∙ ap (λ (m : Names). with_registers (any_temporaries effect_temporaries step) (after a (with_registers (any_temporaries temporaries e) m))) entered
+    last ∙ ap (λ (m : Names). with_registers (any_temporaries (effect_temporaries (unit_of m)) step) (after a (with_registers (any_temporaries temporaries e) m))) entered

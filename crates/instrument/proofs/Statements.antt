@@ -3,59 +3,70 @@ use Rattle.std.proofs.Common.{◌≡◌, ℕ, suc, ◌+◌, ◌≤◌, true, Lis
 use Rattle.std.proofs.lemmas.List.{length-append}
 use Rattle.c_syntax.specs.declared.place.Place.{Place}
 use Rattle.c_syntax.specs.Annotations.{Annotation}
-use Rattle.c_syntax.specs.Expressions.{Expression, Node, Call, type_of}
+use Rattle.c_syntax.specs.Expressions.{Expression, type_of}
 use Rattle.c_syntax.specs.Statements.{Declaration, Statement, Empty, Eval, Block, If, While, Do, For, Break, Continue, Return, ElsePart, NoElse, Else, ForFirst, NoFirst, First, Declare, Run, Asserts, BlockItems, NoItem, Then}
-use Rattle.c_model.specs.Layouts.{IntegerType}
+use Rattle.c_syntax.specs.Programs.{TranslationUnit}
+use Rattle.c_model.specs.Layouts.{Scalar, scalar_of}
 use Rattle.c_model.specs.Memory.{Value, kill_from}
-use Rattle.c_model.specs.State.{State, Leaves, Returns, Outcome, Stop, Evaluation, on_outcome, ◌>>◌, stop, births, within, restored}
+use Rattle.c_model.specs.State.{State, Leaves, Returns, Outcome, Normal, Stop, Evaluation, on_outcome, ◌>>◌, stop, births, within, restored, tested}
 use Rattle.c_model.specs.State as state
-use Rattle.c_model.specs.Meaning.{Tables, tables_of, exec_with, else_with, first_with, items_with, condition_with, effect_with, initialise_all, declared_in, declared_first, turns}
+use Rattle.c_model.specs.Meaning.{Tables, tables_of, eval_with, exec_with, else_with, first_with, item_with, items_with, condition_with, effect_with, initialise_all, declared_in, declared_first, turns, is_zero}
 use Rattle.c_model.specs.Meaning as source
 use Rattle.c_model.specs.Logic.{checks}
-use Rattle.c_model.specs.Typing.{Scopes, Around, in_loop, inner, with_objects, behind_first}
-use Rattle.c_model.specs.WellTyped.{WellTyped}
-use Rattle.c_model.specs.WellTypedPrograms.{IsCondition, WhereAny, Returned, StatementTyped, ElseTyped, FirstTyped, ItemsTyped, StatementNoted, ElseNoted, ItemsNoted}
-use Rattle.c_model.specs.Formed.{IsEffect, IsEffectOrCall, IsFull, IsFullOrCall, IsFullEffect, FirstFormed, StatementFormed, ElseFormed, ItemsFormed, declared_within}
+use Rattle.c_model.specs.ExpressionTyping.{Sight, inner, with_objects}
+use Rattle.c_model.specs.StatementTyping.{Around, in_loop, behind_first}
+use Rattle.c_model.specs.TypedTrees.{WellTyped, IsCondition, WhereAny, Returned, StatementTyped, ElseTyped, FirstTyped, ItemsTyped}
+use Rattle.c_model.specs.Formed.{declared_within}
 use Rattle.mon_syntax.specs.declared.tree.MonType.{MonType}
 use Rattle.mon_syntax.specs.Registers.{Bindings, RegisterTable, with_kinds, next_register}
-use Rattle.mon_syntax.specs.Meaning.{Next, Goes, Done, then_do, at_next, with_value, exec_all}
+use Rattle.mon_syntax.specs.Meaning.{Flow, Next, Goes, Done, then_do, at_next, with_value, exec_all}
 use Rattle.mon_syntax.specs.Meaning as monitored
-use Rattle.mon_syntax.specs.BlockMemory.{over_blocks}
+use Rattle.mon_syntax.specs.BlockMemory.{over_blocks, integer_of}
 use Rattle.mon_syntax.specs.LiveBlocks.{live_in}
 use Rattle.mon_syntax.specs.Trees.{MonExpression, MonStatements, NoStatement}
 use Rattle.mon_syntax.specs.Trees as tree
 use Rattle.c_effects.specs.Letters.{Any, HasLetters, FullHasLetters, EffectHasLetters}
+use Rattle.c_model.specs.Pure.{IsPure, IsPureOrCall, IsEffect, IsEffectOrCall}
+use Rattle.c_model.specs.EffectPlaces.{FirstPlaced, StatementPlaced, ElsePlaced, ItemsPlaced}
 use Rattle.instrument.specs.Limits.{HasNumbers, ElseHasNumbers, FirstHasNumbers, HaveNumbers}
-use Rattle.c_effects.specs.Expressions.{value, value_type, temporaries, setup, condition_of, before, one, set, assertions, assertions_temporaries}
-use Rattle.c_effects.specs.Effects.{full_temporaries, full_value, effect_temporaries, any_temporaries, declaration_temporaries, effect_if_any}
+use Rattle.c_effects.specs.Expressions.{value_type, temporaries, setup, condition_of, before, one, set, assertions, assertions_temporaries}
+use Rattle.c_effects.specs.Effects.{full_temporaries, full_setup, full_value, effect_temporaries, any_temporaries, declaration_temporaries, effect_if_any}
 use Rattle.c_effects.specs.Effects as effects
-use Rattle.track_scopes.specs.Blocks.{AreSmall, entered, deaths, with_born}
+use Rattle.track_scopes.specs.Blocks.{entered, deaths, with_born}
 use Rattle.track_scopes.specs.Lives.{with_store}
-use Rattle.instrument.specs.Translation.{Spot, returned_temporaries, after_statement, after_else, after_first, after_items, with_variables, test, test_if_any, statement, else_part, first_part, items, end_label, next_label, loop}
+use Rattle.instrument.specs.Translation.{Spot, returned_temporaries, after_statement, after_else, after_first, after_item, after_items, with_variables, test, test_if_any, statement, else_part, first_part, item, items, end_label, next_label, loop}
 use Rattle.instrument.specs.Translation as target
+use Rattle.instrument.proofs.DeclarationCode.{next-entered}
 use Rattle.instrument.proofs.Standing.{Target, Setting, runs, Same, Has, IsOf, Here, Beside}
 use Rattle.track_scopes.proofs.Births.{births_enter}
 use Rattle.track_scopes.proofs.Deaths.{deaths_leave}
 use Rattle.instrument.proofs.Results.{writes_none, one_is, before_is}
 use Rattle.instrument.proofs.Registers.{get-set_same, same_all, same_less, same_trans, same_set, longer}
-use Rattle.instrument.proofs.Following.{Evaluates, HasValue, HasNone, Later, later_same, IsResult, Follows, Breaks, Continues, IsLeft, stays, onward, undefined_here, follows_choice, follows_then}
+use Rattle.instrument.proofs.Following.{Tests, HasTest, HasNoTest, Later, later_same, IsResult, IsResultOf, Follows, Breaks, Continues, IsLeft, stays, onward, undefined_here, follows_choice, follows_then}
 use Rattle.instrument.proofs.Births.{with_numbers, pointed_point, pointed_append, behind_births}
 use Rattle.instrument.proofs.Blocks.{Meets, meets_later, block_follows}
 use Rattle.instrument.proofs.Loops as loops
 use Rattle.instrument.proofs.Loops.{Tested, IsTested, NotTested, choice_runs}
-use Rattle.instrument.proofs.Declared.{CanDeclare, ElseCanDeclare, ItemsCanDeclare, AreAbsent, meets_behind, entered_long, more_kinds, statement_grows, else_grows, first_grows, items_grow}
-use Rattle.instrument.proofs.ExpressionTypes.{HasInt, scalar_int, integer_int}
+use Rattle.instrument.proofs.Declared.{AreBorn, CanDeclare, ElseCanDeclare, ItemsCanDeclare, AreAbsent, meets_behind, more_kinds, statement_grows, else_grows, first_grows, items_grow}
 use Rattle.instrument.proofs.Expressions as expressions
-use Rattle.instrument.proofs.Expressions.{test_is}
+use Rattle.instrument.proofs.Expressions.{handed_on}
+use Rattle.c_model.specs.TypedAnnotations.{StatementNoted, ElseNoted, ItemsNoted}
+use Rattle.instrument.proofs.InitialisedVariables.{initials_follow}
 use Rattle.instrument.proofs.Scenes.{Scene, scene_inner, scene_with_all, scene_behind_first, AreFound, DeclarationsFound, found_with_all, declarations_found-append}
 use Rattle.instrument.proofs.Sight.{scope_for, sees_found, sees_born, declared_born}
-use Rattle.instrument.proofs.Effects.{effect_follows, initials_follow}
+use Rattle.instrument.proofs.Effects.{effect_follows}
 use Rattle.instrument.proofs.Asserts.{assertions_follow}
-use Rattle.instrument.proofs.FullExpressions.{handed_on, follows_full}
+use Rattle.instrument.proofs.FullExpressions.{follows_full}
+use Rattle.instrument.proofs.Own.{AreLocal}
+use Rattle.instrument.proofs.FullForms.{effect_or_call}
 
-pub effect_or_call : (e : Expression) → IsEffect e → IsEffectOrCall e
-effect_or_call (Node at t (Call f es)) h = absurd h
-effect_or_call e h = h
+local_front : (p : TranslationUnit) (a b : List Declaration) → AreLocal p (a ++ b) → AreLocal p a
+local_front p [] b h = tt
+local_front p (d ∷ a) b h = (h.0, local_front p a b h.1)
+
+local_back : (p : TranslationUnit) (a b : List Declaration) → AreLocal p (a ++ b) → AreLocal p b
+local_back p [] b h = h
+local_back p (d ∷ a) b h = local_back p a b h.1
 
 -- ---- jumps: the blocks of the variables that are left die in front
 
@@ -105,7 +116,7 @@ module _ (w : Setting) (n : ℕ) (h : Here) (spot : Spot) (low : ℕ) (bound : B
 
 -- ---- statements
 
-module _ (w : Setting) (n most : ℕ) where
+module _ (w : Setting) (n : ℕ) where
   abbrev T : Tables
   T = tables_of w.unit
 
@@ -129,40 +140,38 @@ module _ (w : Setting) (n most : ℕ) where
   nothing_does : (h : Here) (spot : Spot) (low : ℕ) (bound : Bindings) (living : List ℕ) → DoSame h spot low bound living state.done NoStatement
   nothing_does h spot low bound living = λ regs from t m le. stays w h low regs from t m.standing.bounded m.beside
 
-  effect_does : (h : Here) (spot : Spot) (low : ℕ) (bound : Bindings) (living : List ℕ) (s : Scopes) (g : Scene w n s) (rs : List MonType) (e : Expression) → IsEffectOrCall e → WellTyped s e → EffectHasLetters e → low ≤ length rs
-      → length (rs ++ effect_temporaries e) ≤ w.registers → DoSame h spot low bound living (effect_with T (Some e) w.call) (effects.effect w.unit bound rs e)
+  effect_does : (h : Here) (spot : Spot) (low : ℕ) (bound : Bindings) (living : List ℕ) (s : Sight) (g : Scene w n s) (rs : List MonType) (e : Expression) → IsEffectOrCall e → WellTyped s e → EffectHasLetters e → low ≤ length rs
+      → length (rs ++ effect_temporaries w.unit e) ≤ w.registers → DoSame h spot low bound living (effect_with T (Some e) w.call) (effects.effect w.unit bound rs e)
   effect_does h spot low bound living s g rs e pure q l behind enough = λ regs from t m le.
       effect_follows w n h s g low bound from t le rs behind regs m.standing m.beside e pure q l enough
 
-  effect_if_any_does : (h : Here) (spot : Spot) (low : ℕ) (bound : Bindings) (living : List ℕ) (s : Scopes) (g : Scene w n s) (rs : List MonType) (e : Option Expression) → WhereAny (IsFullEffect most) e → WhereAny (WellTyped s) e
-      → Any EffectHasLetters e → low ≤ length rs → length (rs ++ any_temporaries effect_temporaries e) ≤ w.registers → DoSame h spot low bound living (effect_with T e w.call) (effect_if_any w.unit bound rs e)
+  effect_if_any_does : (h : Here) (spot : Spot) (low : ℕ) (bound : Bindings) (living : List ℕ) (s : Sight) (g : Scene w n s) (rs : List MonType) (e : Option Expression) → WhereAny IsEffect e → WhereAny (WellTyped s) e
+      → Any EffectHasLetters e → low ≤ length rs → length (rs ++ any_temporaries (effect_temporaries w.unit) e) ≤ w.registers → DoSame h spot low bound living (effect_with T e w.call) (effect_if_any w.unit bound rs e)
   effect_if_any_does h spot low bound living s g rs None pure q l behind enough = nothing_does h spot low bound living
-  effect_if_any_does h spot low bound living s g rs (Some e) pure q l behind enough = effect_does h spot low bound living s g rs e (effect_or_call e pure.is) q l behind enough
+  effect_if_any_does h spot low bound living s g rs (Some e) pure q l behind enough = effect_does h spot low bound living s g rs e (effect_or_call e pure) q l behind enough
 
   -- ---- conditions
 
-  condition_tested : (h : Here) (spot : Spot) (low : ℕ) (bound : Bindings) (living : List ℕ) (s : Scopes) (rs : List MonType) (e : Expression) → IsFull most e → IsCondition s e → HasLetters e → low ≤ length rs
+  condition_tested : (h : Here) (spot : Spot) (low : ℕ) (bound : Bindings) (living : List ℕ) (s : Sight) (g : Scene w n s) (rs : List MonType) (e : Expression) → IsPure e → IsCondition s e → HasLetters e → low ≤ length rs
       → length (rs ++ temporaries e) ≤ w.registers → (regs : List Value) (from : State) (t : Target) → Meets w h spot low bound living regs from t
       → Tested w from t low regs (source.condition_of T e w.call from) (runs w n t (setup w.unit bound rs e) regs) (condition_of w.unit bound rs e)
-  condition_tested h spot low bound living s rs e pure q l behind enough regs from t m =
-      let i = scalar_int (type_of e) q.scalar in
-      by i.int i.is
-      (expressions.tests w n s bound from t m.beside.store_is m.standing.bounded low e i.int rs i.is pure.is q.typed l behind regs m.standing.anchored (omega (arith, enough, m.standing.registers)))
+  condition_tested h spot low bound living s g rs e pure q l behind enough regs from t m =
+      by (expressions.tests w n s g.knows bound from t m.beside.store_is m.standing.bounded low e q.scalar.scalar rs q.scalar.is pure q.typed l behind regs m.standing.anchored (omega (arith, enough, m.standing.registers)))
     where
-      by : (k : Rattle.c_syntax.specs.declared.types.CInt.CInt) → type_of e ≡ Rattle.c_syntax.specs.Ctypes.Int k
-          → Evaluates w (IntegerType k) from t (source.condition_of T e w.call from) regs (length rs) (length (rs ++ temporaries e)) (runs w n t (setup w.unit bound rs e) regs) (value w.unit bound rs e)
+      by : Tests w from t (source.condition_of T e w.call from) regs (length rs) (length (rs ++ temporaries e)) (runs w n t (setup w.unit bound rs e) regs) (condition_of w.unit bound rs e)
           → Tested w from t low regs (source.condition_of T e w.call from) (runs w n t (setup w.unit bound rs e) regs) (condition_of w.unit bound rs e)
-      by k int (HasNone at x) = NotTested at x
-      by k int (HasValue v i x after same run has) =
-          let c = test_is w t.mem (type_of e) k (value w.unit bound rs e) after v int i (has after (same_all (length (rs ++ temporaries e)) after)) in
-          IsTested v c.0 x c.2 after (same_less low (length rs) regs after behind same) run (ap (λ o. monitored.◌>>=◌ o Rattle.mon_syntax.specs.BlockMemory.integer_of) c.1)
+      by (HasNoTest at x) = NotTested at x
+      by (HasTest v x after same run test) =
+          let c = test after (same_all (length (rs ++ temporaries e)) after) in
+          IsTested v c.number x c.alike after (same_less low (length rs) regs after behind same) run (ap (λ o. monitored.◌>>=◌ o integer_of) c.has)
 
   -- `if`
-  choice_does : (h : Here) (spot : Spot) (low : ℕ) (bound : Bindings) (living : List ℕ) (s : Scopes) (rs : List MonType) (e : Expression) (x y : Evaluation (Unit {0})) (a b : MonStatements) → IsFull most e → IsCondition s e → HasLetters e
+  choice_does : (h : Here) (spot : Spot) (low : ℕ) (bound : Bindings) (living : List ℕ) (s : Sight) (g : Scene w n s) (rs : List MonType) (e : Expression) (x y : Evaluation (Unit {0})) (a b : MonStatements)
+      → IsPure e → IsCondition s e → HasLetters e
       → low ≤ length rs → length (rs ++ temporaries e) ≤ w.registers → DoSame h spot low bound living x a → DoSame h spot low bound living y b
       → DoSame h spot low bound living (λ s. on_outcome (source.condition_of T e w.call s) (λ v. source.choose v x y)) (before (setup w.unit bound rs e) (one (tree.If (condition_of w.unit bound rs e) a b)))
-  choice_does h spot low bound living s rs e x y a b pure q l behind enough f k = λ regs from t m le.
-      by regs from t m le (source.condition_of T e w.call from) (condition_tested h spot low bound living s rs e pure q l behind enough regs from t m)
+  choice_does h spot low bound living s g rs e x y a b pure q l behind enough f k = λ regs from t m le.
+      by regs from t m le (source.condition_of T e w.call from) (condition_tested h spot low bound living s g rs e pure q l behind enough regs from t m)
     where
       c : MonExpression
       c = condition_of w.unit bound rs e
@@ -185,16 +194,16 @@ module _ (w : Setting) (n most : ℕ) where
 
   -- ---- `return`
 
-  returned_does : (h : Here) (spot : Spot) (low : ℕ) (living : List ℕ) (s : Scopes) (g : Scene w n s) (r : RegisterTable) (e : Option Expression) → WhereAny (IsFullOrCall most) e → Returned s h.result e → Any FullHasLetters e → low ≤ next_register r
+  returned_does : (h : Here) (spot : Spot) (low : ℕ) (living : List ℕ) (s : Sight) (g : Scene w n s) (r : RegisterTable) (e : Option Expression) → WhereAny IsPureOrCall e → Returned s h.result e → Any FullHasLetters e → low ≤ next_register r
       → next_register (with_kinds (any_temporaries returned_temporaries e) r) ≤ w.registers → (at_place : Place) → DoSame h spot low r.bound living (exec_with T (Return at_place e) w.call (suc n)) (target.returned w.unit spot r e)
   returned_does h spot low living s g r None pure q l behind enough place = λ regs from t m le.
       leave_follows w n h spot low r.bound living from regs t m None None (subst (λ k. IsResult k None) (sym q) tt) (λ u. one_is w.globals (tree.Return None) w.calls n regs u)
   returned_does h spot low living s g r (Some e) pure q l behind enough place = λ regs from t m le.
-      follows_full w n h s g Next low r.bound from t le r.kinds behind regs m.standing m.beside e int.int (λ v. stop (Leaves (Returns (Some v)))) rest (q.1 ∙ int.is) pure.is q.0 l (omega (arith, enough, long))
-      (λ v to u o after fit same la be has. by regs from t m v to u o after fit same la be has)
+      follows_full w n h s g Next low r.bound from t le r.kinds behind regs m.standing m.beside e k (λ v. stop (Leaves (Returns (Some v)))) rest (ap scalar_of q.ctype ∙ q.scalar.is) pure q.typed l (omega (arith, enough, long))
+      (λ v to u o after fit same la be has. by regs from t m v to u o after fit same la be (has after (same_all (length (r.kinds ++ full_temporaries e)) after)))
     where
-      int : HasInt h.result
-      int = integer_int h.result q.2
+      k : Scalar
+      k = q.scalar.scalar
 
       last : ℕ
       last = length (r.kinds ++ full_temporaries e)
@@ -211,7 +220,7 @@ module _ (w : Setting) (n most : ℕ) where
       rest : MonStatements
       rest = before (set last v_code) leaves
 
-      by : (regs : List Value) (from : State) (t : Target) → Meets w h spot low r.bound living regs from t → (v : Value) (to : State) (u : Target) (o : List ℕ) (after : List Value) → IsOf (IntegerType int.int) v
+      by : (regs : List Value) (from : State) (t : Target) → Meets w h spot low r.bound living regs from t → (v : Value) (to : State) (u : Target) (o : List ℕ) (after : List Value) → IsOf k v
           → Same (length r.kinds) regs after → Later from to o → Beside w to.store to u → Has w v_code after u.mem v → Follows w h low after Next to (Stop (Leaves (Returns (Some v))) to) (runs w n u rest after)
       by regs from t m v to u o after fit same la be has =
           let taken = slice_set after last v in
@@ -226,17 +235,17 @@ module _ (w : Setting) (n most : ℕ) where
           (one_is w.globals (tree.Set last v_code) w.calls n after u ∙ ap (λ x. with_value x u.steps (λ y. Done (Next (slice_set after last y)) u [])) has) in
           subst (λ q. Follows w h low after Next to (Stop (Leaves (Returns (Some v))) to) q) (sym run)
           (onward w h low after taken Next to to [] _ _ changed (later_same to la.bounded)
-          (leave_follows w n h spot low r.bound living to taken u m2 (Some v) (Some (tree.Register last)) (subst (λ k. IsResult k (Some v)) (sym int.is) fit)
+          (leave_follows w n h spot low r.bound living to taken u m2 (Some v) (Some (tree.Register last)) (subst (λ o. IsResultOf o (Some v)) (sym q.scalar.is) fit)
           (λ x. one_is w.globals (tree.Return (Some (tree.Register last))) w.calls n taken x ∙ ap (λ y. with_value y x.steps (λ z. Done (monitored.Returns (Some z)) x [])) there)))
 
   -- ---- blocks
 
   -- variables are born, and live while this is done
   pub block_does : (h : Here) (spot : Spot) (low : ℕ) (r : RegisterTable) (living : List ℕ) (ds : List Declaration) (x : Evaluation (Unit {0})) (a : MonStatements) → low ≤ next_register r → next_register r + length ds ≤ w.registers
-      → AreSmall w.unit.structs ds → ((old : State) → DoSame (behind_births w.unit.structs h old ds) (with_variables (next_register r) ds spot) (next_register r + length ds) (entered ds r).bound (with_numbers ds living) x a)
+      → AreBorn w.unit ds → ((old : State) → DoSame (behind_births w.unit.structs h old ds) (with_variables (next_register r) ds spot) (next_register r + length ds) (entered ds r).bound (with_numbers ds living) x a)
       → DoSame h spot low r.bound living (within (births w.unit.structs ds >> x)) (target.alive w.unit (next_register r) ds a)
-  block_does h spot low r living ds x a le room small f = λ regs from t m ln.
-      block_follows w h spot low r living ds le regs from t m n x a room (births_enter w.unit.structs (next_register r) ds small) (deaths_leave (with_born (next_register r) ds []))
+  block_does h spot low r living ds x a le room born f = λ regs from t m ln.
+      block_follows w h spot low r living ds le regs from t m born.own n x a room (births_enter w.unit.structs (next_register r) ds born.small) (deaths_leave (with_born (next_register r) ds []))
       (λ after to u less m2. f from after to u m2 (omega (arith, ln, less)))
 
   -- ---- the loop of a `for`
@@ -244,118 +253,120 @@ module _ (w : Setting) (n most : ℕ) where
   abbrev for_turns : Option Expression → Option Expression → Statement → Evaluation (Unit {0})
   for_turns e step a = turns (suc n) (condition_with T e w.call) (exec_with T a w.call (suc n)) (effect_with T step w.call)
 
-  test_if_any_does : (h : Here) (base : ℕ) (spot : Spot) (low : ℕ) (living : List ℕ) (s : Scopes) (r : RegisterTable) (e : Option Expression) → WhereAny (IsFull most) e → WhereAny (IsCondition s) e → Any HasLetters e
+  test_if_any_does : (h : Here) (base : ℕ) (spot : Spot) (low : ℕ) (living : List ℕ) (s : Sight) (g : Scene w n s) (r : RegisterTable) (e : Option Expression) → WhereAny IsPure e → WhereAny (IsCondition s) e → Any HasLetters e
       → low ≤ next_register r → next_register (with_kinds (any_temporaries temporaries e) r) ≤ w.registers
       → loops.Tests w h base spot low r.bound living n (condition_with T e w.call) (test_if_any w.unit r.bound r.kinds (spot.loops + 1) e)
-  test_if_any_does h base spot low living s r None pure q l behind enough = loops.no_test w h base spot low r.bound living n
-  test_if_any_does h base spot low living s r (Some e) pure q l behind enough =
+  test_if_any_does h base spot low living s g r None pure q l behind enough = loops.no_test w h base spot low r.bound living n
+  test_if_any_does h base spot low living s g r (Some e) pure q l behind enough =
       loops.tests w h base spot low r.bound living n (source.condition_of T e w.call) (setup w.unit r.bound r.kinds e) (condition_of w.unit r.bound r.kinds e)
-      (λ regs from t m. condition_tested (loops.in_turn w h base spot low r.bound living n) (target.in_loop spot) low r.bound living s r.kinds e pure q l behind enough regs from t m)
+      (λ regs from t m. condition_tested (loops.in_turn w h base spot low r.bound living n) (target.in_loop spot) low r.bound living s g r.kinds e pure q l behind enough regs from t m)
 
   abbrev BodyDoes : Here → Spot → ℕ → RegisterTable → List ℕ → Statement → Type 0
   BodyDoes h spot low r living a =
       (base : ℕ) → DoSame (loops.in_body w h base spot low r.bound living n) (target.in_loop spot) low r.bound living (exec_with T a w.call (suc n)) (statement w.unit (target.in_loop spot) r a)
 
-  for_does : (h : Here) (spot : Spot) (low : ℕ) (living : List ℕ) (s : Scopes) (g : Scene w n s) (r : RegisterTable) (e step : Option Expression) (a : Statement) → WhereAny (IsFull most) e → WhereAny (IsCondition s) e → Any HasLetters e
-      → WhereAny (IsFullEffect most) step → WhereAny (WellTyped s) step → Any EffectHasLetters step → AreAbsent living (declared_within a) → low ≤ next_register r
-      → next_register (with_kinds (any_temporaries effect_temporaries step) (after_statement a (with_kinds (any_temporaries temporaries e) r))) ≤ w.registers
+  for_does : (h : Here) (spot : Spot) (low : ℕ) (living : List ℕ) (s : Sight) (g : Scene w n s) (r : RegisterTable) (e step : Option Expression) (a : Statement) → WhereAny IsPure e → WhereAny (IsCondition s) e → Any HasLetters e
+      → WhereAny IsEffect step → WhereAny (WellTyped s) step → Any EffectHasLetters step → AreAbsent living (declared_within a) → low ≤ next_register r
+      → next_register (with_kinds (any_temporaries (effect_temporaries w.unit) step) (after_statement w.unit a (with_kinds (any_temporaries temporaries e) r))) ≤ w.registers
       → BodyDoes h spot low (with_kinds (any_temporaries temporaries e) r) living a
-      → DoSame h spot low r.bound living (for_turns e step a) (target.for_turns w.unit (spot.loops + 1) r (after_statement a (with_kinds (any_temporaries temporaries e) r)) e step
+      → DoSame h spot low r.bound living (for_turns e step a) (target.for_turns w.unit (spot.loops + 1) r (after_statement w.unit a (with_kinds (any_temporaries temporaries e) r)) e step
       (statement w.unit (target.in_loop spot) (with_kinds (any_temporaries temporaries e) r) a))
   for_does h spot low living s g r e step a e_full e_typed e_letters step_full step_typed step_letters absent behind enough body = λ regs from t m le.
       let r2 = with_kinds (any_temporaries temporaries e) r in
-      let r3 = after_statement a r2 in
+      let r3 = after_statement w.unit a r2 in
       let base = length from.store in
       let f1 = more_kinds (any_temporaries temporaries e) r in
-      let f2 = statement_grows a r2 in
-      let f3 = more_kinds (any_temporaries effect_temporaries step) r3 in
+      let f2 = statement_grows w.unit a r2 in
+      let f3 = more_kinds (any_temporaries (effect_temporaries w.unit) step) r3 in
       let here = loops.in_turn w h base spot low r.bound living n in
       loops.loop_follows w h base spot low r.bound living n from _ regs t (test_if_any w.unit r.bound r.kinds (spot.loops + 1) e) (statement w.unit (target.in_loop spot) r2 a) (effect_if_any w.unit r3.bound r3.kinds step)
       (loops.turns_follow w h base spot low r.bound living n (condition_with T e w.call) (exec_with T a w.call (suc n)) (statement w.unit (target.in_loop spot) r2 a) (body base)
-      (test_if_any w.unit r.bound r.kinds (spot.loops + 1) e) (test_if_any_does h base spot low living s r e e_full e_typed e_letters behind (omega (arith, enough, f2, f3)))
+      (test_if_any w.unit r.bound r.kinds (spot.loops + 1) e) (test_if_any_does h base spot low living s g r e e_full e_typed e_letters behind (omega (arith, enough, f2, f3)))
       (effect_with T step w.call) (effect_if_any w.unit r3.bound r3.kinds step)
       (λ regs from t m le. effect_if_any_does here (target.in_loop spot) low r3.bound living s g r3.kinds step step_full step_typed step_letters (omega (arith, behind, f1, f2)) enough regs from t
       (meets_behind w here (target.in_loop spot) low a r2 living regs from t absent m) le)
       n regs from t (loops.meets_turn w h base spot low r.bound living n regs from t refl m) le le)
 
   -- what stands first, and then the loop
-  first_then : (first : ForFirst) (h : Here) (spot : Spot) (low : ℕ) (living : List ℕ) (s : Scopes) (g : Scene w n s) (around : Around) (r : RegisterTable) (x : Evaluation (Unit {0})) (code : MonStatements) → FirstFormed most first
-      → FirstTyped s around first → FirstHasNumbers first → low ≤ next_register r → next_register (after_first first r) ≤ w.registers → DoSame h spot low (after_first first r).bound living x code
+  first_then : (first : ForFirst) → AreLocal w.unit (declared_first first)
+      → (h : Here) (spot : Spot) (low : ℕ) (living : List ℕ) (s : Sight) (g : Scene w n s) (around : Around) (r : RegisterTable) (x : Evaluation (Unit {0})) (code : MonStatements) → FirstPlaced first
+      → FirstTyped s around first → FirstHasNumbers first → low ≤ next_register r → next_register (after_first w.unit first r) ≤ w.registers → DoSame h spot low (after_first w.unit first r).bound living x code
       → DoSame h spot low r.bound living (first_with T first w.call (suc n) >> x) (before (first_part w.unit spot r first) code)
-  first_then NoFirst h spot low living s g around r x code f q l behind enough go = go
-  first_then (First (Run (Eval at e))) h spot low living s g around r x code f q l behind enough go =
-      in_order_same h spot low r.bound living (effect_with T (Some e) w.call) x (effects.effect w.unit r.bound r.kinds e) code (effect_does h spot low r.bound living s g r.kinds e f.is q l behind enough) go
-  first_then (First (Declare ds)) h spot low living s g around r x code f q l behind enough go =
+  first_then NoFirst local h spot low living s g around r x code f q l behind enough go = go
+  first_then (First (Run (Eval at e))) local h spot low living s g around r x code f q l behind enough go =
+      in_order_same h spot low r.bound living (effect_with T (Some e) w.call) x (effects.effect w.unit r.bound r.kinds e) code (effect_does h spot low r.bound living s g r.kinds e f q l behind enough) go
+  first_then (First (Declare ds)) local h spot low living s g around r x code f q l behind enough go =
       in_order_same h spot low r.bound living (initialise_all T ds w.call) x (effects.initialise_all w.unit r.bound r.kinds ds) code
-      (λ regs from t m le. initials_follow w n h low r.bound most ds s g f q l r.kinds behind enough regs from t le m.standing m.beside) go
-  first_then _ h spot low living s g around r x code f q l behind enough go = absurd f
+      (λ regs from t m le. initials_follow w n h low r.bound ds s g local f q l r.kinds behind enough regs from t le m.standing m.beside) go
+  first_then _ local h spot low living s g around r x code f q l behind enough go = absurd f
 
-  for_follows : (at : Place) (annots : List Annotation) (first : ForFirst) (s : Scopes) (g : Scene w n s) (around : Around) (h : Here) (spot : Spot) (low : ℕ) (r : RegisterTable) (living : List ℕ) (e step : Option Expression) (a : Statement)
-      → AreSmall w.unit.structs (declared_first first) → AreAbsent (with_numbers (declared_first first) living) (declared_within a) → FirstFormed most first → FirstTyped (inner s) around first → FirstHasNumbers first
-      → WhereAny (IsFull most) e → WhereAny (IsCondition (behind_first (inner s) first)) e → Any HasLetters e → WhereAny (IsFullEffect most) step → WhereAny (WellTyped (behind_first (inner s) first)) step → Any EffectHasLetters step
-      → low ≤ next_register r → next_register (after_statement (For at annots first e step a) r) ≤ w.registers
+  for_follows : (at : Place) (annots : List Annotation) (first : ForFirst) (s : Sight) (g : Scene w n s) (around : Around) (h : Here) (spot : Spot) (low : ℕ) (r : RegisterTable) (living : List ℕ) (e step : Option Expression) (a : Statement)
+      → AreBorn w.unit (declared_first first) → AreAbsent (with_numbers (declared_first first) living) (declared_within a) → FirstPlaced first → FirstTyped (inner s) around first → FirstHasNumbers first
+      → WhereAny IsPure e → WhereAny (IsCondition (behind_first (inner s) first)) e → Any HasLetters e → WhereAny IsEffect step → WhereAny (WellTyped (behind_first (inner s) first)) step → Any EffectHasLetters step
+      → low ≤ next_register r → next_register (after_statement w.unit (For at annots first e step a) r) ≤ w.registers
       → ((old : State) → BodyDoes (behind_births w.unit.structs h old (declared_first first)) (with_variables (next_register r) (declared_first first) spot) (next_register r + length (declared_first first))
-      (with_kinds (any_temporaries temporaries e) (after_first first (entered (declared_first first) r))) (with_numbers (declared_first first) living) a)
+      (with_kinds (any_temporaries temporaries e) (after_first w.unit first (entered (declared_first first) r))) (with_numbers (declared_first first) living) a)
       → DoSame h spot low r.bound living (exec_with T (For at annots first e step a) w.call (suc n)) (statement w.unit spot r (For at annots first e step a))
-  for_follows at annots first s g around h spot low r living e step a small absent f_formed f_typed f_letters e_full e_typed e_letters step_full step_typed step_letters behind enough body = λ regs from t m le.
+  for_follows at annots first s g around h spot low r living e step a born absent f_formed f_typed f_letters e_full e_typed e_letters step_full step_typed step_letters behind enough body = λ regs from t m le.
       let ds = declared_first first in
       let r1 = entered ds r in
-      let r2 = after_first first r1 in
+      let r2 = after_first w.unit first r1 in
       let r3 = with_kinds (any_temporaries temporaries e) r2 in
-      let r4 = after_statement a r3 in
+      let r4 = after_statement w.unit a r3 in
       let spot2 = with_variables (next_register r) ds spot in
       let low2 = next_register r + length ds in
-      let f0 = entered_long ds r in
-      let f1 = first_grows first r1 in
+      let f0 = next-entered ds r in
+      let f1 = first_grows w.unit first r1 in
       let f2 = more_kinds (any_temporaries temporaries e) r2 in
-      let f3 = statement_grows a r3 in
-      let f4 = more_kinds (any_temporaries effect_temporaries step) r4 in
+      let f3 = statement_grows w.unit a r3 in
+      let f4 = more_kinds (any_temporaries (effect_temporaries w.unit) step) r4 in
       let turns_of = for_turns e step a in
       let code = target.for_turns w.unit (spot.loops + 1) r2 r4 e step (statement w.unit (target.in_loop spot2) r3 a) in
       subst (λ x. Follows w h low regs Next from (restored from x) (runs w n t (target.alive w.unit (next_register r) ds (before (first_part w.unit spot2 r1 first) code)) regs))
-      (sym (handed_on (births w.unit.structs ds from) (λ _. first_with T first w.call (suc n)) (λ _. turns_of)))
-      (block_does h spot low r living ds (first_with T first w.call (suc n) >> turns_of) (before (first_part w.unit spot2 r1 first) code) behind (omega (arith, enough, f0, f1, f2, f3, f4)) small
-      (λ old. first_then first (behind_births w.unit.structs h old ds) spot2 low2 (with_numbers ds living) (inner s) (scene_inner w n s g) around r1 turns_of code f_formed f_typed f_letters (omega (arith, f0)) (omega (arith, enough, f2, f3, f4))
-      (for_does (behind_births w.unit.structs h old ds) spot2 low2 (with_numbers ds living) (behind_first (inner s) first) (scene_behind_first w n (inner s) around first f_typed (scene_inner w n s g)) r2 e step a
+      (handed_on (births w.unit.structs ds from) (λ _. first_with T first w.call (suc n)) (λ _. turns_of))
+      (block_does h spot low r living ds (first_with T first w.call (suc n) >> turns_of) (before (first_part w.unit spot2 r1 first) code) behind (omega (arith, enough, f0, f1, f2, f3, f4)) born
+      (λ old. first_then first born.local (behind_births w.unit.structs h old ds) spot2 low2 (with_numbers ds living) (inner s) (scene_inner w n s g) around r1 turns_of code f_formed f_typed f_letters (omega (arith, f0))
+      (omega (arith, enough, f2, f3, f4))
+      (for_does (behind_births w.unit.structs h old ds) spot2 low2 (with_numbers ds living) (behind_first (inner s) first) (scene_behind_first w n (inner s) first (scene_inner w n s g)) r2 e step a
       e_full e_typed e_letters step_full step_typed step_letters absent (omega (arith, f0, f1)) enough (body old)))
       regs from t m le)
 
   -- a part that stands after a statement in the code, though not in a run
   behind_first_part : (a : Statement) (h : Here) (spot : Spot) (low : ℕ) (r : RegisterTable) (living : List ℕ) (x : Evaluation (Unit {0})) (code : MonStatements) → AreAbsent living (declared_within a)
-      → DoSame h spot low (after_statement a r).bound living x code → DoSame h spot low r.bound living x code
+      → DoSame h spot low (after_statement w.unit a r).bound living x code → DoSame h spot low r.bound living x code
   behind_first_part a h spot low r living x code absent f = λ regs from t m le. f regs from t (meets_behind w h spot low a r living regs from t absent m) le
 
   -- after what stands first in a `for`
-  sees_first : (first : ForFirst) (s : Scopes) (living : List ℕ) → AreFound s.objects (scope_for living) → AreFound (behind_first (inner s) first).objects (scope_for (with_numbers (declared_first first) living))
+  sees_first : (first : ForFirst) (s : Sight) (living : List ℕ) → AreFound s.entities (scope_for living) → AreFound (behind_first (inner s) first).entities (scope_for (with_numbers (declared_first first) living))
   sees_first NoFirst s living sees = sees
-  sees_first (First (Declare ds)) s living sees = found_with_all (inner s) ds (scope_for (with_numbers ds living)) (sees_born s.objects ds living sees) (declared_born ds living)
+  sees_first (First (Declare ds)) s living sees = found_with_all (inner s) ds (scope_for (with_numbers ds living)) (sees_born s.entities ds living sees) (declared_born ds living)
   sees_first (First (Run a)) s living sees = sees
   sees_first (First (Asserts annots)) s living sees = sees
 
   -- ---- all statements
 
   mutual
-    pub statement_follows : (a : Statement) (s : Scopes) (around : Around) (h : Here) (spot : Spot) (low : ℕ) (r : RegisterTable) (living : List ℕ) → spot.loops ≡ h.loops → Scene w n s → AreFound s.objects (scope_for living)
+    pub statement_follows : (a : Statement) (s : Sight) (around : Around) (h : Here) (spot : Spot) (low : ℕ) (r : RegisterTable) (living : List ℕ) → spot.loops ≡ h.loops → Scene w n s → AreFound s.entities (scope_for living)
         → around.result ≡ h.result → around.loops ≡ h.looped
-        → CanDeclare w.unit.structs living a → StatementFormed most a → StatementTyped s around a → StatementNoted s a → HasNumbers a → low ≤ next_register r → next_register (after_statement a r) ≤ w.registers
+        → CanDeclare w.unit living a → StatementPlaced a → StatementTyped s around a → StatementNoted s a → HasNumbers a → low ≤ next_register r → next_register (after_statement w.unit a r) ≤ w.registers
         → DoSame h spot low r.bound living (exec_with T a w.call (suc n)) (statement w.unit spot r a)
     statement_follows (Empty at) s around h spot low r living stands g sees result looped c f q m l behind enough = nothing_does h spot low r.bound living
-    statement_follows (Eval at e) s around h spot low r living stands g sees result looped c f q m l behind enough = effect_does h spot low r.bound living s g r.kinds e f.is q l behind enough
+    statement_follows (Eval at e) s around h spot low r living stands g sees result looped c f q m l behind enough = effect_does h spot low r.bound living s g r.kinds e f q l behind enough
     statement_follows (Block at body) s around h spot low r living stands g sees result looped c f q m l behind enough =
         let ds = declared_in body in
-        let f0 = entered_long ds r in
-        let f1 = items_grow body (entered ds r) in
+        let f0 = next-entered ds r in
+        let f1 = items_grow w.unit body (entered ds r) in
         block_does h spot low r living ds (items_with T body w.call (suc n)) (items w.unit (with_variables (next_register r) ds spot) (entered ds r) body) behind (omega (arith, enough, f0, f1)) c.0
         (λ old. items_follow body (inner s) around (behind_births w.unit.structs h old ds) (with_variables (next_register r) ds spot) (next_register r + length ds) (entered ds r) (with_numbers ds living)
-        stands (scene_inner w n s g) (sees_born s.objects ds living sees) (declared_born ds living) result looped
+        stands (scene_inner w n s g) (sees_born s.entities ds living sees) (declared_born ds living) c.0.local result looped
         c.1 f q m l (omega (arith, f0)) enough)
     statement_follows (If at e a b) s around h spot low r living stands g sees result looped c f q m l behind enough =
         let r1 = with_kinds (temporaries e) r in
-        let r2 = after_statement a r1 in
+        let r2 = after_statement w.unit a r1 in
         let f1 = more_kinds (temporaries e) r in
-        let f2 = statement_grows a r1 in
-        let f3 = else_grows b r2 in
-        choice_does h spot low r.bound living s r.kinds e (exec_with T a w.call (suc n)) (else_with T b w.call (suc n)) (statement w.unit spot r1 a) (else_part w.unit spot r2 b) f.0 q.0 l.0 behind (omega (arith, enough, f2, f3))
+        let f2 = statement_grows w.unit a r1 in
+        let f3 = else_grows w.unit b r2 in
+        choice_does h spot low r.bound living s g r.kinds e (exec_with T a w.call (suc n)) (else_with T b w.call (suc n)) (statement w.unit spot r1 a) (else_part w.unit spot r2 b) f.0 q.0 l.0 behind (omega (arith, enough, f2, f3))
         (statement_follows a s around h spot low r1 living stands g sees result looped c.1 f.1 q.1 m.0 l.1 (omega (arith, behind, f1)) (omega (arith, enough, f3)))
         (behind_first_part a h spot low r1 living (else_with T b w.call (suc n)) (else_part w.unit spot r2 b) c.0
         (else_follows b s around h spot low r2 living stands g sees result looped c.2 f.2 q.2 m.1 l.2 (omega (arith, behind, f1, f2)) enough))
@@ -367,11 +378,11 @@ module _ (w : Setting) (n most : ℕ) where
         loops.loop_follows w h base spot low r.bound living n from _ regs t (test w.unit r.bound r.kinds k e) (statement w.unit (target.in_loop spot) r1 a) NoStatement
         (loops.turns_follow w h base spot low r.bound living n (source.condition_of T e w.call) (exec_with T a w.call (suc n)) (statement w.unit (target.in_loop spot) r1 a)
         (statement_follows a s (in_loop around) here (target.in_loop spot) low r1 living refl g sees result refl c f.2 q.1 m.1 l.1 (omega (arith, behind, more_kinds (temporaries e) r)) enough)
-        (test w.unit r.bound r.kinds k e) (test_if_any_does h base spot low living s r (Some e) f.1 q.0 l.0 behind (omega (arith, enough, statement_grows a r1)))
+        (test w.unit r.bound r.kinds k e) (test_if_any_does h base spot low living s g r (Some e) f.1 q.0 l.0 behind (omega (arith, enough, statement_grows w.unit a r1)))
         state.done NoStatement (nothing_does (loops.in_turn w h base spot low r.bound living n) (target.in_loop spot) low r.bound living)
         n regs from t (loops.meets_turn w h base spot low r.bound living n regs from t refl x) le le)
     statement_follows (Do at a e) s around h spot low r living stands g sees result looped c f q m l behind enough = λ regs from t x le.
-        let r1 = after_statement a r in
+        let r1 = after_statement w.unit a r in
         let k = spot.loops + 1 in
         let base = length from.store in
         let here = loops.in_body w h base spot low r.bound living n in
@@ -381,59 +392,59 @@ module _ (w : Setting) (n most : ℕ) where
         (statement_follows a s (in_loop around) here (target.in_loop spot) low r living refl g sees result refl c.1 f.0 q.0 m l.0 behind (omega (arith, enough, more_kinds (temporaries e) r1)))
         (test w.unit r1.bound r1.kinds k e)
         (loops.tests w h base spot low r.bound living n (source.condition_of T e w.call) (setup w.unit r1.bound r1.kinds e) (condition_of w.unit r1.bound r1.kinds e)
-        (λ regs from t m. condition_tested there (target.in_loop spot) low r1.bound living s r1.kinds e f.1 q.1 l.1 (omega (arith, behind, statement_grows a r)) enough regs from t
+        (λ regs from t m. condition_tested there (target.in_loop spot) low r1.bound living s g r1.kinds e f.1 q.1 l.1 (omega (arith, behind, statement_grows w.unit a r)) enough regs from t
         (meets_behind w there (target.in_loop spot) low a r living regs from t c.0 m)))
         n regs from t (loops.meets_turn w h base spot low r.bound living n regs from t refl x) le le)
     statement_follows (For at annots first e step a) s around h spot low r living stands g sees result looped c f q m l behind enough =
         let ds = declared_first first in
         let r1 = entered ds r in
-        let r2 = after_first first r1 in
+        let r2 = after_first w.unit first r1 in
         let r3 = with_kinds (any_temporaries temporaries e) r2 in
-        let f0 = entered_long ds r in
-        let f1 = first_grows first r1 in
+        let f0 = next-entered ds r in
+        let f1 = first_grows w.unit first r1 in
         let f2 = more_kinds (any_temporaries temporaries e) r2 in
-        let f4 = more_kinds (any_temporaries effect_temporaries step) (after_statement a r3) in
+        let f4 = more_kinds (any_temporaries (effect_temporaries w.unit) step) (after_statement w.unit a r3) in
         let spot2 = with_variables (next_register r) ds spot in
         let low2 = next_register r + length ds in
         for_follows at annots first s g around h spot low r living e step a c.0 c.1 f.1 q.0 l.0 f.2 q.1 l.1 f.3 q.2 l.3 behind enough (λ old base.
         statement_follows a (behind_first (inner s) first) (in_loop around) (loops.in_body w (behind_births w.unit.structs h old ds) base spot2 low2 r3.bound (with_numbers ds living) n) (target.in_loop spot2) low2 r3 (with_numbers ds living) refl
-        (scene_behind_first w n (inner s) around first q.0 (scene_inner w n s g)) (sees_first first s living sees) result refl c.2 f.4 q.3 m.1 l.2 (omega (arith, f0, f1, f2)) (omega (arith, enough, f4)))
+        (scene_behind_first w n (inner s) first (scene_inner w n s g)) (sees_first first s living sees) result refl c.2 f.4 q.3 m.1 l.2 (omega (arith, f0, f1, f2)) (omega (arith, enough, f4)))
     statement_follows (Break at) s around h spot low r living stands g sees result looped c f q m l behind enough = λ regs from t x le. break_follows w n h spot low r.bound living from regs t x stands (sym looped ∙ q)
     statement_follows (Continue at) s around h spot low r living stands g sees result looped c f q m l behind enough = λ regs from t x le. continue_follows w n h spot low r.bound living from regs t x stands (sym looped ∙ q)
     statement_follows (Return at e) s around h spot low r living stands g sees result looped c f q m l behind enough = returned_does h spot low living s g r e f (subst (λ k. Returned s k e) result q) l behind enough at
 
-    pub else_follows : (b : ElsePart) (s : Scopes) (around : Around) (h : Here) (spot : Spot) (low : ℕ) (r : RegisterTable) (living : List ℕ) → spot.loops ≡ h.loops → Scene w n s → AreFound s.objects (scope_for living)
+    pub else_follows : (b : ElsePart) (s : Sight) (around : Around) (h : Here) (spot : Spot) (low : ℕ) (r : RegisterTable) (living : List ℕ) → spot.loops ≡ h.loops → Scene w n s → AreFound s.entities (scope_for living)
         → around.result ≡ h.result → around.loops ≡ h.looped
-        → ElseCanDeclare w.unit.structs living b → ElseFormed most b → ElseTyped s around b → ElseNoted s b → ElseHasNumbers b → low ≤ next_register r → next_register (after_else b r) ≤ w.registers
+        → ElseCanDeclare w.unit living b → ElsePlaced b → ElseTyped s around b → ElseNoted s b → ElseHasNumbers b → low ≤ next_register r → next_register (after_else w.unit b r) ≤ w.registers
         → DoSame h spot low r.bound living (else_with T b w.call (suc n)) (else_part w.unit spot r b)
     else_follows NoElse s around h spot low r living stands g sees result looped c f q m l behind enough = nothing_does h spot low r.bound living
     else_follows (Else a) s around h spot low r living stands g sees result looped c f q m l behind enough = statement_follows a s around h spot low r living stands g sees result looped c f q m l behind enough
 
-    pub items_follow : (is : BlockItems) (s : Scopes) (around : Around) (h : Here) (spot : Spot) (low : ℕ) (r : RegisterTable) (living : List ℕ) → spot.loops ≡ h.loops → Scene w n s → AreFound s.objects (scope_for living)
-        → DeclarationsFound (declared_in is) (scope_for living) → around.result ≡ h.result → around.loops ≡ h.looped
-        → ItemsCanDeclare w.unit.structs living is → ItemsFormed most is → ItemsTyped s around is → ItemsNoted s is → HaveNumbers is → low ≤ next_register r → next_register (after_items is r) ≤ w.registers
+    pub items_follow : (is : BlockItems) (s : Sight) (around : Around) (h : Here) (spot : Spot) (low : ℕ) (r : RegisterTable) (living : List ℕ) → spot.loops ≡ h.loops → Scene w n s → AreFound s.entities (scope_for living)
+        → DeclarationsFound (declared_in is) (scope_for living) → AreLocal w.unit (declared_in is) → around.result ≡ h.result → around.loops ≡ h.looped
+        → ItemsCanDeclare w.unit living is → ItemsPlaced is → ItemsTyped s around is → ItemsNoted s is → HaveNumbers is → low ≤ next_register r → next_register (after_items w.unit is r) ≤ w.registers
         → DoSame h spot low r.bound living (items_with T is w.call (suc n)) (items w.unit spot r is)
-    items_follow NoItem s around h spot low r living stands g sees have result looped c f q m l behind enough = nothing_does h spot low r.bound living
-    items_follow (Then (Declare ds) rest) s around h spot low r living stands g sees have result looped c f q m l behind enough =
+    items_follow NoItem s around h spot low r living stands g sees have local result looped c f q m l behind enough = nothing_does h spot low r.bound living
+    items_follow (Then (Declare ds) rest) s around h spot low r living stands g sees have local result looped c f q m l behind enough =
         let r1 = with_kinds (declaration_temporaries ds) r in
         let f1 = more_kinds (declaration_temporaries ds) r in
-        let f2 = items_grow rest r1 in
+        let f2 = items_grow w.unit rest r1 in
         in_order_same h spot low r.bound living (initialise_all T ds w.call) (items_with T rest w.call (suc n)) (effects.initialise_all w.unit r.bound r.kinds ds) (items w.unit spot r1 rest)
-        (λ regs from t x le. initials_follow w n h low r.bound most ds s g f.0 q.0 l.0 r.kinds behind (omega (arith, enough, f2)) regs from t le x.standing x.beside)
-        (items_follow rest (with_objects s ds) around h spot low r1 living stands (scene_with_all w n s ds q.0 g) (found_with_all s ds (scope_for living) sees (declarations_found-append ds (declared_in rest) (scope_for living) have).0)
-        (declarations_found-append ds (declared_in rest) (scope_for living) have).1 result looped c.1 f.1 q.1 m.1 l.1 (omega (arith, behind, f1)) enough)
-    items_follow (Then (Run a) rest) s around h spot low r living stands g sees have result looped c f q m l behind enough =
-        let r1 = after_statement a r in
-        let f1 = statement_grows a r in
-        let f2 = items_grow rest r1 in
+        (λ regs from t x le. initials_follow w n h low r.bound ds s g (local_front w.unit ds (declared_in rest) local) f.0 q.0 l.0 r.kinds behind (omega (arith, enough, f2)) regs from t le x.standing x.beside)
+        (items_follow rest (with_objects s ds) around h spot low r1 living stands (scene_with_all w n s ds g) (found_with_all s ds (scope_for living) sees (declarations_found-append ds (declared_in rest) (scope_for living) have).0)
+        (declarations_found-append ds (declared_in rest) (scope_for living) have).1 (local_back w.unit ds (declared_in rest) local) result looped c.1 f.1 q.1 m.1 l.1 (omega (arith, behind, f1)) enough)
+    items_follow (Then (Run a) rest) s around h spot low r living stands g sees have local result looped c f q m l behind enough =
+        let r1 = after_statement w.unit a r in
+        let f1 = statement_grows w.unit a r in
+        let f2 = items_grow w.unit rest r1 in
         in_order h spot low r.bound r1.bound living (exec_with T a w.call (suc n)) (items_with T rest w.call (suc n)) (statement w.unit spot r a) (items w.unit spot r1 rest)
         (statement_follows a s around h spot low r living stands g sees result looped c.0.1 f.0 q.0 m.0 l.0 behind (omega (arith, enough, f2)))
         (λ regs from t x. meets_behind w h spot low a r living regs from t c.0.0 x)
-        (items_follow rest s around h spot low r1 living stands g sees have result looped c.1 f.1 q.1 m.1 l.1 (omega (arith, behind, f1)) enough)
-    items_follow (Then (Asserts annots) rest) s around h spot low r living stands g sees have result looped c f q m l behind enough =
+        (items_follow rest s around h spot low r1 living stands g sees have local result looped c.1 f.1 q.1 m.1 l.1 (omega (arith, behind, f1)) enough)
+    items_follow (Then (Asserts annots) rest) s around h spot low r living stands g sees have local result looped c f q m l behind enough =
         let r1 = with_kinds (assertions_temporaries annots) r in
         let f1 = more_kinds (assertions_temporaries annots) r in
-        let f2 = items_grow rest r1 in
-        in_order_same h spot low r.bound living (checks annots) (items_with T rest w.call (suc n)) (assertions r.bound r.kinds annots) (items w.unit spot r1 rest)
-        (λ regs from t x le. assertions_follow w n h s g low r.bound annots f.0 m.0 l.0 r.kinds behind (omega (arith, enough, f2)) regs from t (sees_found s.objects living from.scope x.names sees) x.standing x.beside)
-        (items_follow rest s around h spot low r1 living stands g sees have result looped c.1 f.1 q.1 m.1 l.1 (omega (arith, behind, f1)) enough)
+        let f2 = items_grow w.unit rest r1 in
+        in_order_same h spot low r.bound living (checks annots) (items_with T rest w.call (suc n)) (assertions w.unit r.bound r.kinds annots) (items w.unit spot r1 rest)
+        (λ regs from t x le. assertions_follow w n h s low r.bound annots f.0 m.0 l.0 r.kinds behind (omega (arith, enough, f2)) regs from t (sees_found s.entities living from.scope x.names sees) x.standing x.beside)
+        (items_follow rest s around h spot low r1 living stands g sees have local result looped c.1 f.1 q.1 m.1 l.1 (omega (arith, behind, f1)) enough)

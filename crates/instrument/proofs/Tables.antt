@@ -3,6 +3,7 @@ use Rattle.std.proofs.Common.{◌≡◌, ℕ, suc, Bool, true, false, nat_eq, Li
 use Rattle.std.proofs.lemmas.List.{append-nil, length-append}
 use Rattle.std.proofs.lemmas.Bool.Decides.{nat_tests}
 use Rattle.c_syntax.specs.Statements.{Declaration, Statement, Empty, Eval, Block, If, While, Do, For, Break, Continue, Return, ElsePart, NoElse, Else, ForFirst, NoFirst, First, BlockItem, Declare, Run, Asserts, BlockItems, NoItem, Then}
+use Rattle.c_syntax.specs.Programs.{TranslationUnit}
 use Rattle.c_model.specs.Meaning.{declared_in, declared_first}
 use Rattle.c_model.specs.Formed.{number_of}
 use Rattle.mon_syntax.specs.declared.tree.MonType.TheVariants.{Ptr}
@@ -12,8 +13,9 @@ use Rattle.track_scopes.specs.Blocks.{with_pointer, entered, with_born}
 use Rattle.c_effects.specs.Effects.{any_temporaries, declaration_temporaries, effect_temporaries}
 use Rattle.c_effects.specs.Expressions.{temporaries, assertions_temporaries}
 use Rattle.instrument.specs.Translation.{returned_temporaries, after_statement, after_else, after_first, after_item, after_items}
-use Rattle.instrument.proofs.Births.{register_of-bound_same, register_of-bound_other}
-use Rattle.instrument.proofs.Typed.{Begins, begins_front, register_at, HasPointer}
+use Rattle.mon_syntax.specs.Registers.{register_of}
+use Rattle.instrument.proofs.Typed.{Begins, begins_front, register_at, HasPointer, Aim, has_aim, aim_has}
+use Rattle.instrument.proofs.Registers.{register_of-bound_same, register_of-bound_other}
 
 -- ---- registers are only added
 
@@ -31,53 +33,53 @@ entered_begins [] r = begins_itself r.kinds
 entered_begins (d ∷ ds) r = begins_then r.kinds (r.kinds ++ Ptr ∷ []) (entered ds (with_pointer d r)).kinds (begins_added r.kinds (Ptr ∷ [])) (entered_begins ds (with_pointer d r))
 
 mutual
-  pub statement_begins : (a : Statement) (r : RegisterTable) → Begins r.kinds (after_statement a r).kinds
-  statement_begins (Empty at) r = begins_itself r.kinds
-  statement_begins (Eval at e) r = begins_added r.kinds (effect_temporaries e)
-  statement_begins (Block at body) r =
+  pub statement_begins : (p : TranslationUnit) (a : Statement) (r : RegisterTable) → Begins r.kinds (after_statement p a r).kinds
+  statement_begins p (Empty at) r = begins_itself r.kinds
+  statement_begins p (Eval at e) r = begins_added r.kinds (effect_temporaries p e)
+  statement_begins p (Block at body) r =
       let inside = entered (declared_in body) r in
-      begins_then r.kinds inside.kinds (after_items body inside).kinds (entered_begins (declared_in body) r) (items_begin body inside)
-  statement_begins (If at e a b) r =
+      begins_then r.kinds inside.kinds (after_items p body inside).kinds (entered_begins (declared_in body) r) (items_begin p body inside)
+  statement_begins p (If at e a b) r =
       let x = with_kinds (temporaries e) r in
-      let y = after_statement a x in
-      begins_then r.kinds x.kinds (after_else b y).kinds (begins_added r.kinds (temporaries e)) (begins_then x.kinds y.kinds (after_else b y).kinds (statement_begins a x) (else_begins b y))
-  statement_begins (While at annots e a) r =
+      let y = after_statement p a x in
+      begins_then r.kinds x.kinds (after_else p b y).kinds (begins_added r.kinds (temporaries e)) (begins_then x.kinds y.kinds (after_else p b y).kinds (statement_begins p a x) (else_begins p b y))
+  statement_begins p (While at annots e a) r =
       let x = with_kinds (temporaries e) r in
-      begins_then r.kinds x.kinds (after_statement a x).kinds (begins_added r.kinds (temporaries e)) (statement_begins a x)
-  statement_begins (Do at a e) r =
-      let x = after_statement a r in
-      begins_then r.kinds x.kinds (x.kinds ++ temporaries e) (statement_begins a r) (begins_added x.kinds (temporaries e))
-  statement_begins (For at annots first e behind a) r =
+      begins_then r.kinds x.kinds (after_statement p a x).kinds (begins_added r.kinds (temporaries e)) (statement_begins p a x)
+  statement_begins p (Do at a e) r =
+      let x = after_statement p a r in
+      begins_then r.kinds x.kinds (x.kinds ++ temporaries e) (statement_begins p a r) (begins_added x.kinds (temporaries e))
+  statement_begins p (For at annots first e behind a) r =
       let x = entered (declared_first first) r in
-      let y = after_first first x in
+      let y = after_first p first x in
       let z = with_kinds (any_temporaries temporaries e) y in
-      let w = after_statement a z in
-      begins_then r.kinds x.kinds (w.kinds ++ any_temporaries effect_temporaries behind) (entered_begins (declared_first first) r)
-      (begins_then x.kinds y.kinds (w.kinds ++ any_temporaries effect_temporaries behind) (first_begins first x)
-      (begins_then y.kinds z.kinds (w.kinds ++ any_temporaries effect_temporaries behind) (begins_added y.kinds (any_temporaries temporaries e))
-      (begins_then z.kinds w.kinds (w.kinds ++ any_temporaries effect_temporaries behind) (statement_begins a z) (begins_added w.kinds (any_temporaries effect_temporaries behind)))))
-  statement_begins (Break at) r = begins_itself r.kinds
-  statement_begins (Continue at) r = begins_itself r.kinds
-  statement_begins (Return at e) r = begins_added r.kinds (any_temporaries returned_temporaries e)
+      let w = after_statement p a z in
+      begins_then r.kinds x.kinds (w.kinds ++ any_temporaries (effect_temporaries p) behind) (entered_begins (declared_first first) r)
+      (begins_then x.kinds y.kinds (w.kinds ++ any_temporaries (effect_temporaries p) behind) (first_begins p first x)
+      (begins_then y.kinds z.kinds (w.kinds ++ any_temporaries (effect_temporaries p) behind) (begins_added y.kinds (any_temporaries temporaries e))
+      (begins_then z.kinds w.kinds (w.kinds ++ any_temporaries (effect_temporaries p) behind) (statement_begins p a z) (begins_added w.kinds (any_temporaries (effect_temporaries p) behind)))))
+  statement_begins p (Break at) r = begins_itself r.kinds
+  statement_begins p (Continue at) r = begins_itself r.kinds
+  statement_begins p (Return at e) r = begins_added r.kinds (any_temporaries returned_temporaries e)
 
-  pub else_begins : (b : ElsePart) (r : RegisterTable) → Begins r.kinds (after_else b r).kinds
-  else_begins NoElse r = begins_itself r.kinds
-  else_begins (Else a) r = statement_begins a r
+  pub else_begins : (p : TranslationUnit) (b : ElsePart) (r : RegisterTable) → Begins r.kinds (after_else p b r).kinds
+  else_begins p NoElse r = begins_itself r.kinds
+  else_begins p (Else a) r = statement_begins p a r
 
-  pub first_begins : (first : ForFirst) (r : RegisterTable) → Begins r.kinds (after_first first r).kinds
-  first_begins NoFirst r = begins_itself r.kinds
-  first_begins (First i) r = item_begins i r
+  pub first_begins : (p : TranslationUnit) (first : ForFirst) (r : RegisterTable) → Begins r.kinds (after_first p first r).kinds
+  first_begins p NoFirst r = begins_itself r.kinds
+  first_begins p (First i) r = item_begins p i r
 
-  pub item_begins : (i : BlockItem) (r : RegisterTable) → Begins r.kinds (after_item i r).kinds
-  item_begins (Declare ds) r = begins_added r.kinds (declaration_temporaries ds)
-  item_begins (Run a) r = statement_begins a r
-  item_begins (Asserts annots) r = begins_added r.kinds (assertions_temporaries annots)
+  pub item_begins : (p : TranslationUnit) (i : BlockItem) (r : RegisterTable) → Begins r.kinds (after_item p i r).kinds
+  item_begins p (Declare ds) r = begins_added r.kinds (declaration_temporaries ds)
+  item_begins p (Run a) r = statement_begins p a r
+  item_begins p (Asserts annots) r = begins_added r.kinds (assertions_temporaries annots)
 
-  pub items_begin : (is : BlockItems) (r : RegisterTable) → Begins r.kinds (after_items is r).kinds
-  items_begin NoItem r = begins_itself r.kinds
-  items_begin (Then i rest) r =
-      let x = after_item i r in
-      begins_then r.kinds x.kinds (after_items rest x).kinds (item_begins i r) (items_begin rest x)
+  pub items_begin : (p : TranslationUnit) (is : BlockItems) (r : RegisterTable) → Begins r.kinds (after_items p is r).kinds
+  items_begin p NoItem r = begins_itself r.kinds
+  items_begin p (Then i rest) r =
+      let x = after_item p i r in
+      begins_then r.kinds x.kinds (after_items p rest x).kinds (item_begins p i r) (items_begin p rest x)
 
 -- ---- pointers
 
@@ -86,20 +88,20 @@ module _ (ts : Types) where
   new_pointer : (x r : ℕ) (bound : Bindings) → slice_get ts r ≡ Some Ptr → HasPointer ts (bound_with x r bound) x
   new_pointer x r bound h = record { register = r; is_bound = register_of-bound_same x r bound; points = h }
 
-  pointer_stays : (x y r : ℕ) (bound : Bindings) → slice_get ts r ≡ Some Ptr → HasPointer ts bound x → HasPointer ts (bound_with y r bound) x
-  pointer_stays x y r bound h k = by (nat_eq y x) refl
+  aim_stays : (x y r : ℕ) (g : Bool) (bound : Bindings) → slice_get ts r ≡ Some Ptr → Aim ts g (register_of bound x) → Aim ts g (register_of (bound_with y r bound) x)
+  aim_stays x y r g bound h k = by (nat_eq y x) refl
     where
-      by : (t : Bool) → nat_eq y x ≡ t → HasPointer ts (bound_with y r bound) x
-      by true e = let same : y ≡ x = grind (arith, nat_tests) in subst (λ z. HasPointer ts (bound_with z r bound) x) (sym same) (new_pointer x r bound h)
-      by false e = record { register = k.register; is_bound = register_of-bound_other y r x bound e ∙ k.is_bound; points = k.points }
+      by : (t : Bool) → nat_eq y x ≡ t → Aim ts g (register_of (bound_with y r bound) x)
+      by true e = let same : y ≡ x = grind (arith, nat_tests) in subst (λ z. Aim ts g (register_of (bound_with y r bound) z)) same (subst (Aim ts g) (sym (register_of-bound_same y r bound)) h)
+      by false e = subst (Aim ts g) (sym (register_of-bound_other y r x bound e)) k
 
   -- the register of the first of some variables
   pub entered_points : (d : Declaration) (ds : List Declaration) (r : RegisterTable) → Begins (entered (d ∷ ds) r).kinds ts → slice_get ts (length r.kinds) ≡ Some Ptr
   entered_points d ds r b = register_at r.kinds ts Ptr (begins_then (r.kinds ++ Ptr ∷ []) (entered ds (with_pointer d r)).kinds ts (entered_begins ds (with_pointer d r)) b)
 
-  pub entered_keep : (x : ℕ) (ds : List Declaration) (r : RegisterTable) → Begins (entered ds r).kinds ts → HasPointer ts r.bound x → HasPointer ts (entered ds r).bound x
-  entered_keep x [] r b h = h
-  entered_keep x (d ∷ ds) r b h = entered_keep x ds (with_pointer d r) b (pointer_stays x (number_of d) (length r.kinds) r.bound (entered_points d ds r b) h)
+  pub entered_keep : (x : ℕ) (g : Bool) (ds : List Declaration) (r : RegisterTable) → Begins (entered ds r).kinds ts → Aim ts g (register_of r.bound x) → Aim ts g (register_of (entered ds r).bound x)
+  entered_keep x g [] r b h = h
+  entered_keep x g (d ∷ ds) r b h = entered_keep x g ds (with_pointer d r) b (aim_stays x (number_of d) (length r.kinds) g r.bound (entered_points d ds r b) h)
 
   -- ---- those of these declarations
 
@@ -118,62 +120,63 @@ module _ (ts : Types) where
   pub entered_have : (ds : List Declaration) (r : RegisterTable) → Begins (entered ds r).kinds ts → HavePointers (entered ds r).bound ds
   entered_have [] r b = tt
   entered_have (d ∷ ds) r b =
-      (entered_keep (number_of d) ds (with_pointer d r) b (new_pointer (number_of d) (length r.kinds) r.bound (entered_points d ds r b)), entered_have ds (with_pointer d r) b)
+      let born = new_pointer (number_of d) (length r.kinds) r.bound (entered_points d ds r b) in
+      (aim_has ts (entered (d ∷ ds) r).bound (number_of d) (entered_keep (number_of d) false ds (with_pointer d r) b (has_aim ts false (with_pointer d r).bound (number_of d) born)), entered_have ds (with_pointer d r) b)
 
   -- what is bound later leaves none without a pointer
   abbrev pub Keeps : RegisterTable → RegisterTable → Type 0
-  Keeps r after = (x : ℕ) → HasPointer ts r.bound x → HasPointer ts after.bound x
+  Keeps r after = (x : ℕ) (g : Bool) → Aim ts g (register_of r.bound x) → Aim ts g (register_of after.bound x)
 
   pub pointers_kept : (r after : RegisterTable) (ds : List Declaration) → Keeps r after → HavePointers r.bound ds → HavePointers after.bound ds
   pointers_kept r after [] k h = tt
-  pointers_kept r after (d ∷ ds) k h = (k (number_of d) h.0, pointers_kept r after ds k h.1)
+  pointers_kept r after (d ∷ ds) k h = (aim_has ts after.bound (number_of d) (k (number_of d) false (has_aim ts false r.bound (number_of d) h.0)), pointers_kept r after ds k h.1)
 
   mutual
-    pub statement_keeps : (a : Statement) (r : RegisterTable) → Begins (after_statement a r).kinds ts → Keeps r (after_statement a r)
-    statement_keeps (Empty at) r b x h = h
-    statement_keeps (Eval at e) r b x h = h
-    statement_keeps (Block at body) r b x h =
+    pub statement_keeps : (p : TranslationUnit) (a : Statement) (r : RegisterTable) → Begins (after_statement p a r).kinds ts → Keeps r (after_statement p a r)
+    statement_keeps p (Empty at) r b x g h = h
+    statement_keeps p (Eval at e) r b x g h = h
+    statement_keeps p (Block at body) r b x g h =
         let inside = entered (declared_in body) r in
-        items_keep body inside b x (entered_keep x (declared_in body) r (begins_then inside.kinds (after_items body inside).kinds ts (items_begin body inside) b) h)
-    statement_keeps (If at e a c) r b x h =
+        items_keep p body inside b x g (entered_keep x g (declared_in body) r (begins_then inside.kinds (after_items p body inside).kinds ts (items_begin p body inside) b) h)
+    statement_keeps p (If at e a c) r b x g h =
         let y = with_kinds (temporaries e) r in
-        let z = after_statement a y in
-        else_keeps c z b x (statement_keeps a y (begins_then z.kinds (after_else c z).kinds ts (else_begins c z) b) x h)
-    statement_keeps (While at annots e a) r b x h = statement_keeps a (with_kinds (temporaries e) r) b x h
-    statement_keeps (Do at a e) r b x h = statement_keeps a r (begins_front (after_statement a r).kinds (temporaries e) ts b) x h
-    statement_keeps (For at annots first e behind a) r b x h =
+        let z = after_statement p a y in
+        else_keeps p c z b x g (statement_keeps p a y (begins_then z.kinds (after_else p c z).kinds ts (else_begins p c z) b) x g h)
+    statement_keeps p (While at annots e a) r b x g h = statement_keeps p a (with_kinds (temporaries e) r) b x g h
+    statement_keeps p (Do at a e) r b x g h = statement_keeps p a r (begins_front (after_statement p a r).kinds (temporaries e) ts b) x g h
+    statement_keeps p (For at annots first e behind a) r b x g h =
         let own = declared_first first in
         let y = entered own r in
-        let z = after_first first y in
+        let z = after_first p first y in
         let v = with_kinds (any_temporaries temporaries e) z in
-        let w = after_statement a v in
-        let last = begins_front w.kinds (any_temporaries effect_temporaries behind) ts b in
-        let third = begins_then v.kinds w.kinds ts (statement_begins a v) last in
+        let w = after_statement p a v in
+        let last = begins_front w.kinds (any_temporaries (effect_temporaries p) behind) ts b in
+        let third = begins_then v.kinds w.kinds ts (statement_begins p a v) last in
         let second = begins_front z.kinds (any_temporaries temporaries e) ts third in
-        let one = begins_then y.kinds z.kinds ts (first_begins first y) second in
-        statement_keeps a v last x (first_keeps first y second x (entered_keep x own r one h))
-    statement_keeps (Break at) r b x h = h
-    statement_keeps (Continue at) r b x h = h
-    statement_keeps (Return at e) r b x h = h
+        let one = begins_then y.kinds z.kinds ts (first_begins p first y) second in
+        statement_keeps p a v last x g (first_keeps p first y second x g (entered_keep x g own r one h))
+    statement_keeps p (Break at) r b x g h = h
+    statement_keeps p (Continue at) r b x g h = h
+    statement_keeps p (Return at e) r b x g h = h
 
-    pub else_keeps : (c : ElsePart) (r : RegisterTable) → Begins (after_else c r).kinds ts → Keeps r (after_else c r)
-    else_keeps NoElse r b x h = h
-    else_keeps (Else a) r b x h = statement_keeps a r b x h
+    pub else_keeps : (p : TranslationUnit) (c : ElsePart) (r : RegisterTable) → Begins (after_else p c r).kinds ts → Keeps r (after_else p c r)
+    else_keeps p NoElse r b x g h = h
+    else_keeps p (Else a) r b x g h = statement_keeps p a r b x g h
 
-    pub first_keeps : (first : ForFirst) (r : RegisterTable) → Begins (after_first first r).kinds ts → Keeps r (after_first first r)
-    first_keeps NoFirst r b x h = h
-    first_keeps (First i) r b x h = item_keeps i r b x h
+    pub first_keeps : (p : TranslationUnit) (first : ForFirst) (r : RegisterTable) → Begins (after_first p first r).kinds ts → Keeps r (after_first p first r)
+    first_keeps p NoFirst r b x g h = h
+    first_keeps p (First i) r b x g h = item_keeps p i r b x g h
 
-    pub item_keeps : (i : BlockItem) (r : RegisterTable) → Begins (after_item i r).kinds ts → Keeps r (after_item i r)
-    item_keeps (Declare ds) r b x h = h
-    item_keeps (Run a) r b x h = statement_keeps a r b x h
-    item_keeps (Asserts annots) r b x h = h
+    pub item_keeps : (p : TranslationUnit) (i : BlockItem) (r : RegisterTable) → Begins (after_item p i r).kinds ts → Keeps r (after_item p i r)
+    item_keeps p (Declare ds) r b x g h = h
+    item_keeps p (Run a) r b x g h = statement_keeps p a r b x g h
+    item_keeps p (Asserts annots) r b x g h = h
 
-    pub items_keep : (is : BlockItems) (r : RegisterTable) → Begins (after_items is r).kinds ts → Keeps r (after_items is r)
-    items_keep NoItem r b x h = h
-    items_keep (Then i rest) r b x h =
-        let y = after_item i r in
-        items_keep rest y b x (item_keeps i r (begins_then y.kinds (after_items rest y).kinds ts (items_begin rest y) b) x h)
+    pub items_keep : (p : TranslationUnit) (is : BlockItems) (r : RegisterTable) → Begins (after_items p is r).kinds ts → Keeps r (after_items p is r)
+    items_keep p NoItem r b x g h = h
+    items_keep p (Then i rest) r b x g h =
+        let y = after_item p i r in
+        items_keep p rest y b x g (item_keeps p i r (begins_then y.kinds (after_items p rest y).kinds ts (items_begin p rest y) b) x g h)
 
 -- ---- these registers point to blocks
 

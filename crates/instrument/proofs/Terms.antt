@@ -21,8 +21,8 @@ use Rattle.c_model.specs.Memory.{◌>>=◌ as bind_loaded}
 use Rattle.c_model.specs.State.{State, Scope, find, start_of}
 use Rattle.c_model.specs.Logic as source
 use Rattle.c_model.specs.Logic.{TermValue, Mathematical, Says, SaysNothing, lazily, both, compute, read_object, of_value, related, relates}
-use Rattle.c_model.specs.Typing.{Scopes}
-use Rattle.c_model.specs.WellTypedPrograms.{TermDenotes, TermTyped, LinksTyped, ClauseTyped}
+use Rattle.c_model.specs.ExpressionTyping.{Sight}
+use Rattle.c_model.specs.TypedTrees.{IsInteger}
 use Rattle.c_model.specs.Formed.{IsLogicNumber, IsSumTerm, leaves_of_term, IsRelation}
 use Rattle.mon_syntax.specs.declared.tree.MonType.TheVariants.{I128}
 use Rattle.mon_syntax.specs.Registers.{Bindings}
@@ -36,12 +36,13 @@ use Rattle.c_effects.specs.Letters.{IsLetter, TermHasLetters, BodyHasLetters}
 use Rattle.c_effects.specs.Expressions.{register_type, term_type, pointer_to, term, relation_operator, operator_of, truth_of_body, Reading, readings_of_term, readings_of_links, readings_of, access_of}
 use Rattle.instrument.proofs.Standing.{Setting, Bounded, Anchored}
 use Rattle.instrument.proofs.Registers.{same_all}
-use Rattle.instrument.proofs.Anchors.{pointer_has, load_has}
+use Rattle.instrument.proofs.Anchors.{pointer_has}
+use Rattle.instrument.proofs.PointerValues.{load_has}
 use Rattle.instrument.proofs.Bounds.{loaded_is_of}
 use Rattle.instrument.proofs.Values.{HasNumber, operation, cast_has}
-use Rattle.instrument.proofs.ExpressionTypes.{HasInt}
-use Rattle.instrument.proofs.Expressions.{of_integer}
-use Rattle.instrument.proofs.Scenes.{Scene, denoted_int, IsFound, AreFound, denoted_found}
+use Rattle.instrument.proofs.Places.{of_integer}
+use Rattle.instrument.proofs.Scenes.{IsFound, AreFound, denoted_found}
+use Rattle.c_model.specs.TypedAnnotations.{TermDenotes, TermTyped, LinksTyped, ClauseTyped}
 
 -- ---- sizes
 
@@ -152,21 +153,21 @@ holds_where_read store number k = by (load_bytes store (Into number 0) (int_size
 
 -- ---- terms
 
-module _ (w : Setting) (n : ℕ) (scopes : Scopes) (scene : Scene w n scopes) (low : ℕ) (bound : Bindings) (now : State) (mem : Blocks) (store_is : mem.store ≡ now.store) (bounded : Bounded now.store) (found : AreFound scopes.objects now.scope) where
+module _ (w : Setting) (sight : Sight) (low : ℕ) (bound : Bindings) (now : State) (mem : Blocks) (store_is : mem.store ≡ now.store) (bounded : Bounded now.store) (found : AreFound sight.entities now.scope) where
   -- what a typed term reads is in sight
-  term_found : (t : LogicTerm) → TermTyped scopes t → ReadingsFound now.scope (readings_of_term t)
+  term_found : (t : LogicTerm) → TermTyped sight t → ReadingsFound now.scope (readings_of_term t)
   term_found (Number at c r z) q = tt
   term_found (Letter at c r z) q = tt
-  term_found (Variable at c r x) q = (denoted_found scopes now.scope x q.ctype found q.denotes, tt)
+  term_found (Variable at c r x) q = (denoted_found sight now.scope x q.ctype found q.denotes, tt)
   term_found (Binary at c r op a b) q = readings_found-append now.scope (readings_of_term a) (readings_of_term b) (term_found a q.0) (term_found b q.1)
 
-  module _ (regs : List Value) (h : Anchored low bound regs now.scope) where
+  module _ (regs : List Value) (h : Anchored w low bound regs now.scope) where
     -- the term has this value, and its translation the same
     record Means (t : LogicTerm) : Type 0 where
       value : ℤ
       within : Within (leaves_of_term t * most) value
       source_is : source.term t now ≡ Some (Mathematical value)
-      target_is : HasNumber w regs mem (term bound t) value
+      target_is : HasNumber w regs mem (term w.unit bound t) value
 
     -- it does where all that it reads holds a number, and elsewhere it has no value
     data TermFollows (t : LogicTerm) : Type 0 where
@@ -184,7 +185,7 @@ module _ (w : Setting) (n : ℕ) (scopes : Scopes) (scene : Scene w n scopes) (l
           ∙ ap (λ u. both (Some (Mathematical p.value)) u (compute op)) q.source_is
           ∙ e;
       target_is =
-          operation w regs mem (operator_of op) I128 (term bound a) (term bound b) p.value q.value refl p.target_is q.target_is
+          operation w regs mem (operator_of op) I128 (term w.unit bound a) (term w.unit bound b) p.value q.value refl p.target_is q.target_is
           ∙ ap (number_or_none over_blocks) f
           ∙ ap (λ v. Some (Integer v)) (short_fits (leaves_of_term a + leaves_of_term b) z short within);
     }
@@ -194,17 +195,17 @@ module _ (w : Setting) (n : ℕ) (scopes : Scopes) (scene : Scene w n scopes) (l
             let sizes : (leaves_of_term a + leaves_of_term b) * most ≡ leaves_of_term a * most + leaves_of_term b * most = omega arith in
             subst (λ n. Within n z) (sym sizes) fits
 
-    variable_follows : (at : Place) (t : Option PlainType) (r : Range) (x : Use) → TermDenotes scopes t x → TermFollows (Variable at t r x)
+    variable_follows : (at : Place) (t : Option PlainType) (r : Range) (x : Use) → TermDenotes sight t x → TermFollows (Variable at t r x)
     variable_follows at t r x d = by (load now.store (Into number 0) (IntegerType k)) refl
       where
         is_found : IsFound now.scope x.decl
-        is_found = denoted_found scopes now.scope x d.ctype found d.denotes
+        is_found = denoted_found sight now.scope x d.ctype found d.denotes
 
         number : ℕ
         number = is_found.0
 
-        has_int : HasInt d.ctype
-        has_int = denoted_int w n scopes x d.ctype scene d.denotes
+        has_int : IsInteger d.ctype
+        has_int = d.int
 
         k : CInt
         k = has_int.int
@@ -233,9 +234,9 @@ module _ (w : Setting) (n : ℕ) (scopes : Scopes) (scene : Scene w n scopes) (l
               within = record { low = omega (arith, ints, within.low); high = omega (arith, ints, within.high) };
               source_is = source_is ∙ ap of_value loads;
               target_is =
-                  cast_has w regs mem I128 (Load (term_type t) (pointer_to bound x.decl)) z z (short_fits 1 z (omega arith) (record { low = omega (arith, ints, within.low); high = omega (arith, ints, within.high) }))
-                  (ap (λ u. eval over_blocks w.globals (Load (term_type u) (pointer_to bound x.decl)) regs mem) int
-                  ∙ load_has w k (pointer_to bound x.decl) regs mem (Into number 0) (Integer z) (pointer_has w low low bound regs regs mem now.scope x.decl number (omega arith) (same_all low regs) h is_found.1)
+                  cast_has w regs mem I128 (Load (term_type t) (pointer_to w.unit bound x.decl)) z z (short_fits 1 z (omega arith) (record { low = omega (arith, ints, within.low); high = omega (arith, ints, within.high) }))
+                  (ap (λ u. eval over_blocks w.globals (Load (term_type u) (pointer_to w.unit bound x.decl)) regs mem) int
+                  ∙ load_has w regs mem (IntegerType k) (pointer_to w.unit bound x.decl) (Into number 0) (Integer z) (pointer_has w low low bound regs regs mem now.scope x.decl number (omega arith) (same_all low regs) h is_found.1)
                   (ap (λ store. load store (Into number 0) (IntegerType k)) store_is ∙ loads));
             }
 
@@ -259,7 +260,7 @@ module _ (w : Setting) (n : ℕ) (scopes : Scopes) (scene : Scene w n scopes) (l
     two_follow at r c op a b (HasNone p none) y go =
         HasNone (answers-append now (readings_of_term a) (readings_of_term b) ∙ ap (λ u. u && answers now (readings_of_term b)) p) (ap (λ u. both u (source.term b now) (compute op)) none)
 
-    term_follows : (t : LogicTerm) → IsSumTerm t → TermTyped scopes t → TermHasLetters t → leaves_of_term t ≤ 400 → TermFollows t
+    term_follows : (t : LogicTerm) → IsSumTerm t → TermTyped sight t → TermHasLetters t → leaves_of_term t ≤ 400 → TermFollows t
     term_follows (Number at c r z) p q l short =
         let within = number_within z p in
         HasMeaning refl (record { value = z; within = record { low = omega (arith, ints, within.low); high = omega (arith, ints, within.high) }; source_is = refl; target_is = refl })
@@ -279,7 +280,7 @@ module _ (w : Setting) (n : ℕ) (scopes : Scopes) (scene : Scene w n scopes) (l
 
     -- the clause says this, and its translation is 1 or 0, where all that it reads holds a number; elsewhere it says nothing
     pub data ClauseFollows (b : ClauseBody) : Type 0 where
-      SaysThis : answers now (readings_of b) ≡ true → (says : Bool) → ((n : ℕ) → source.clause b now n ≡ Says says n) → HasNumber w regs mem (truth_of_body bound b) (truth says) → ClauseFollows b
+      SaysThis : answers now (readings_of b) ≡ true → (says : Bool) → ((n : ℕ) → source.clause b now n ≡ Says says n) → HasNumber w regs mem (truth_of_body w.unit bound b) (truth says) → ClauseFollows b
       SaysNone : answers now (readings_of b) ≡ false → ((n : ℕ) → source.clause b now n ≡ SaysNothing n) → ClauseFollows b
 
     compared : (r : Relation) (x y : ℤ) → operate (relation_operator r) I128 x y ≡ Some (truth (relates r x y))
@@ -315,7 +316,7 @@ module _ (w : Setting) (n : ℕ) (scopes : Scopes) (scene : Scene w n scopes) (l
         ap (λ u. lazily (related r u (source.term b now) n) (Says true) (Says false)) x.source_is
         ∙ ap (λ u. lazily (related r (Some (Mathematical x.value)) u n) (Says true) (Says false)) y.source_is
         ∙ lazy_last (relates r x.value y.value) n)
-        (operation w regs mem (relation_operator r) I128 (term bound a) (term bound b) x.value y.value refl x.target_is y.target_is
+        (operation w regs mem (relation_operator r) I128 (term w.unit bound a) (term w.unit bound b) x.value y.value refl x.target_is y.target_is
         ∙ ap (number_or_none over_blocks) (compared r x.value y.value))
     relation_follows at at2 r a b (HasMeaning p x) (HasNone q none) =
         SaysNone (answers_of_two a b ∙ ap (λ u. u && answers now (readings_of_term b)) p ∙ q)
@@ -324,15 +325,15 @@ module _ (w : Setting) (n : ℕ) (scopes : Scopes) (scene : Scene w n scopes) (l
         SaysNone (answers_of_two a b ∙ ap (λ u. u && answers now (readings_of_term b)) p)
         (λ n. ap (λ u. lazily (related r u (source.term b now) n) (Says true) (Says false)) none)
 
-    pub clause_follows : (b : ClauseBody) → IsRelation b → ClauseTyped scopes b → BodyHasLetters b → ClauseFollows b
+    pub clause_follows : (b : ClauseBody) → IsRelation b → ClauseTyped sight b → BodyHasLetters b → ClauseFollows b
     clause_follows (Truth (Chain at a (Linked at2 r b NoLink))) p q l =
         relation_follows at at2 r a b (term_follows a p.0.is q.0 l.0 p.0.short) (term_follows b p.1.is q.1.0 l.1.0 p.1.short)
     clause_follows (Truth (Chain at a NoLink)) p q l = absurd p
     clause_follows (Truth (Chain at a (Linked at2 r b (Linked at3 r3 c rest)))) p q l = absurd p
 
-  links_found : (l : Links) → LinksTyped scopes l → ReadingsFound now.scope (readings_of_links l)
+  links_found : (l : Links) → LinksTyped sight l → ReadingsFound now.scope (readings_of_links l)
   links_found NoLink q = tt
   links_found (Linked at r t rest) q = readings_found-append now.scope (readings_of_term t) (readings_of_links rest) (term_found t q.0) (links_found rest q.1)
 
-  pub clause_found : (b : ClauseBody) → ClauseTyped scopes b → ReadingsFound now.scope (readings_of b)
+  pub clause_found : (b : ClauseBody) → ClauseTyped sight b → ReadingsFound now.scope (readings_of b)
   clause_found (Truth (Chain at a links)) q = readings_found-append now.scope (readings_of_term a) (readings_of_links links) (term_found a q.0) (links_found links q.1)

@@ -1,9 +1,12 @@
--- Translated expressions and annotations have their types, and their parentheses are within the limit.
-use Rattle.std.proofs.Common.{◌≡◌, ℕ, suc, ◌+◌, ◌*◌, ◌≤◌, ℤ, pos, negsuc, Bool, true, false, List, [], ◌∷◌, ◌++◌, length, Option, Some, None, slice_get, max, nat_lt, if◌then◌else◌, refl, sym, ap, ◌∙◌, subst, arith, append_assoc}
-use Rattle.std.proofs.lemmas.Bool.{ltb-true}
+-- Translated expressions have their types, and their parentheses are within the limit.
+pub use Rattle.instrument.proofs.Parentheses.{few_parens, few_parens_of_pointer, few_parens_of_variable, few_place, parens_back, parens_binary}
+pub use Rattle.instrument.proofs.Parentheses.{parens_cast, parens_compared, parens_compound, parens_compound_of, parens_condition, parens_converted}
+pub use Rattle.instrument.proofs.Parentheses.{parens_element, parens_farther, parens_in_type, parens_indexed, parens_loaded, parens_operated, parens_scaled, parens_step, parens_two, parens_unary, some_weight}
+pub use Rattle.instrument.proofs.TypedDefinitions.{is_global}
+use Rattle.std.proofs.Common.{◌≡◌, ℕ, ◌+◌, ◌≤◌, ℤ, pos, negsuc, Bool, true, false, not, List, [], ◌∷◌, ◌++◌, length, Option, Some, None, slice_get, nat_lt, nat_eq, if◌then◌else◌, cond, refl, sym, ap, ◌∙◌, subst, arith, append_assoc}
+use Rattle.std.proofs.lemmas.Bool.{ltb-true, leb-true}
 use Rattle.std.proofs.lemmas.Bool.Decides.{nat_tests}
 use Rattle.std.proofs.lemmas.Int.{ints}
-use Rattle.std.proofs.Math.Nat.{max-le, le-max_right}
 use Rattle.c_syntax.specs.declared.types.CInt.{CInt}
 use Rattle.c_syntax.specs.declared.types.CInt.TheVariants as c
 use Rattle.c_syntax.specs.declared.expression.Use.{Use}
@@ -11,20 +14,17 @@ use Rattle.c_syntax.specs.declared.expression.UnOp.{UnOp}
 use Rattle.c_syntax.specs.declared.expression.UnOp.TheVariants as prefix
 use Rattle.c_syntax.specs.declared.expression.BinOp.{BinOp}
 use Rattle.c_syntax.specs.declared.expression.BinOp.TheVariants as operator
-use Rattle.c_syntax.specs.declared.annotation.Relation.{Relation}
-use Rattle.c_syntax.specs.declared.annotation.Relation.TheVariants as relation
-use Rattle.c_syntax.specs.Ctypes.{PlainType, Int}
+use Rattle.c_syntax.specs.Ctypes as source_type
+use Rattle.c_syntax.specs.Ctypes.{PlainType, Void, Int, Array, Struct, PlainLength, Left, Written, Count, int_type}
 use Rattle.c_syntax.specs.Expressions.{Expression, Node, Number, Letter, Variable, Unary, Binary, Both, Either, Choice, Assign, Bump, Call, Cast, SizeOfType, SizeOfExpr, Text, Index, Dot, Arrow, Comma, type_of}
 use Rattle.c_syntax.specs.Programs.{StructType, TranslationUnit}
-use Rattle.c_syntax.specs.Annotations as logic
-use Rattle.c_syntax.specs.Annotations.{LogicTerm, NoLink, Linked, ClauseBody, Truth, Chain}
 use Rattle.c_model.specs.Integers.{fits, width, is_signed}
-use Rattle.c_model.specs.Layouts.{size_of}
+use Rattle.c_model.specs.Layouts.{Scalar, scalar_of, size_of, offset_of, target_of}
+use Rattle.c_model.specs.Meaning.{is_array, is_of_library, unit_of}
+use Rattle.c_model.specs.Conversions as convert
 use Rattle.c_model.specs.Conversions.{promoted, operation_type, is_shift, common, wider}
-use Rattle.c_model.specs.Typing.{Object, Scopes, object_named, is_object_type}
-use Rattle.c_model.specs.WellTyped.{Denotes, UnaryTypes, BinaryTypes, WellTyped}
-use Rattle.c_model.specs.WellTypedPrograms.{TermTyped, ClauseTyped}
-use Rattle.c_model.specs.Formed.{IsPure, nodes_of, IsLogicNumber, IsSumTerm, leaves_of_term, IsShortTerm, IsRelation}
+use Rattle.c_model.specs.Formed.{IsLogicNumber}
+use Rattle.c_model.specs.ExpressionTyping.{Object, Entity, AnObject, Sight, entity_named, has_small_parts, is_difference, is_place}
 use Rattle.mon_syntax.specs.declared.tree.MonType.{MonType}
 use Rattle.mon_syntax.specs.declared.tree.MonType.TheVariants.{I8, U8, I16, U16, I32, U32, I64, U64, I128, Ptr}
 use Rattle.mon_syntax.specs.declared.tree.MonOp.{MonOp}
@@ -34,14 +34,19 @@ use Rattle.mon_syntax.specs.Trees as tree
 use Rattle.mon_syntax.specs.Trees.{MonExpression}
 use Rattle.mon_syntax.specs.Arithmetic.{is_pointer}
 use Rattle.mon_syntax.specs.Checking.{same_type}
-use Rattle.mon_syntax.specs.Valid.{Types, HasType, has_constant, is_arithmetic, is_whole, is_relation, result_type, open_parens, IsExpression}
-use Rattle.c_effects.specs.Letters.{IsLetter, HasLetters, TermHasLetters, BodyHasLetters}
-use Rattle.c_effects.specs.Expressions.{register_type, value_type, term_type, operand_type, operator_of, in_type, compared, condition, truth, unary, binary, compound_in, temporaries}
-use Rattle.c_effects.specs.Expressions.{pointer_of, pointer_to, value, truth_of, condition_of, term, relation_operator, truth_of_body}
+use Rattle.mon_syntax.specs.Valid.{Types, HasType, has_constant, has_operator, second_type, is_arithmetic, is_whole, is_relation, result_type, IsExpression}
+use Rattle.c_effects.specs.Letters.{IsLetter, HasLetters}
+use Rattle.c_model.specs.Pure.{IsPure}
+use Rattle.c_model.specs.Sizes.{weight_of, most_weight}
+use Rattle.c_model.specs.SmallTypes.{TypesSmall}
+use Rattle.c_model.specs.TypedTrees.{IsScalar, HasKnownSize, IsInteger, IsPromoted, Denotes, IsName, OfObject, OfNull, OnIntegers, BinaryTypes, OfIntegers, OfPointerAndInteger, OfIntegerAndPointer, OfDifference, OfPointers}
+use Rattle.c_model.specs.TypedTrees.{IndexTypes, OnTheLeft, OnTheRight, CompoundTypes, ToInteger, ToPointer, CastTypes, ToVoid, OfInteger, OfPointer, OfNullConstant, OfArray, has_object, WellTyped}
+use Rattle.c_effects.specs.Expressions.{register_type, value_type, operand_type, operator_of, in_type, compared, condition, truth, binary, temporaries, scaled, farther, element, pointer_and_integer}
+use Rattle.c_effects.specs.Expressions.{two_pointers, operated, indexed, converted, compound, global_index, pointer_of, pointer_to, loaded, value, place, truth_of, condition_of}
 use Rattle.c_effects.specs.Effects.{block_register, block_of, current}
+use Rattle.instrument.proofs.Parts.{StructsFit, near}
 use Rattle.instrument.proofs.Integers.{operand_is, is_number, number_result, number_second, number_operator}
-use Rattle.instrument.proofs.Values.{result_type_is}
-use Rattle.instrument.proofs.ExpressionTypes.{scalar_int, same_int_type, cast_int, binary_at}
+use Rattle.instrument.proofs.Registers.{get-below, get-end}
 use Rattle.instrument.proofs.Expressions.{letter_fits}
 
 -- ---- constants
@@ -64,23 +69,44 @@ small_constant c.I64 (negsuc n) e = let l = ltb-true n 9223372036854775808 e in 
 small_constant c.U64 (pos n) e = let l = ltb-true n 18446744073709551616 e in grind (arith, nat_tests, ints)
 small_constant c.U64 (negsuc n) e = absurd cc
 
-logic_constant : (z : ℤ) → IsLogicNumber z → has_constant I128 z ≡ true
+pub logic_constant : (z : ℤ) → IsLogicNumber z → has_constant I128 z ≡ true
 logic_constant (pos n) h = let a = h.high in grind (arith, nat_tests, ints)
 logic_constant (negsuc n) h = let a = h.low in grind (arith, nat_tests, ints)
 
-letter_number : (z : ℤ) → IsLetter z → IsLogicNumber z
+pub letter_number : (z : ℤ) → IsLetter z → IsLogicNumber z
 letter_number z l = record { low = omega (arith, ints, l.low); high = omega (arith, ints, l.high) }
 
-pub size_constant : (structs : List StructType) (t : PlainType) → is_object_type t ≡ true → has_constant U64 (pos (size_of structs t)) ≡ true
-size_constant structs (Int c.I8) e = refl
-size_constant structs (Int c.U8) e = refl
-size_constant structs (Int c.I16) e = refl
-size_constant structs (Int c.U16) e = refl
-size_constant structs (Int c.I32) e = refl
-size_constant structs (Int c.U32) e = refl
-size_constant structs (Int c.I64) e = refl
-size_constant structs (Int c.U64) e = refl
-size_constant structs _ e = absurd cc
+-- numbers of bytes
+pub bytes_constant : (n : ℕ) → n ≤ 2147483647 → has_constant I64 (pos n) ≡ true
+bytes_constant n h = grind (arith, nat_tests, ints)
+
+pub size_constant : (n : ℕ) → n ≤ 2147483647 → has_constant U64 (pos n) ≡ true
+size_constant n h = grind (arith, nat_tests, ints)
+
+pub small_size : (structs : List StructType) (t : PlainType) → has_small_parts structs t ≡ true → size_of structs t ≤ 2147483647
+small_size structs (Int c.I8) e = omega arith
+small_size structs (Int c.U8) e = omega arith
+small_size structs (Int c.I16) e = omega arith
+small_size structs (Int c.U16) e = omega arith
+small_size structs (Int c.I32) e = omega arith
+small_size structs (Int c.U32) e = omega arith
+small_size structs (Int c.I64) e = omega arith
+small_size structs (Int c.U64) e = omega arith
+small_size structs (source_type.Ptr t) e = omega arith
+small_size structs (Array t n) e = grind (arith, nat_tests)
+small_size structs (Struct n) e = grind (arith, nat_tests)
+small_size structs _ e = omega arith
+
+-- a pointer goes on by elements of a small type
+small_target : (structs : List StructType) (u t : PlainType) → u ≡ source_type.Ptr t → has_small_parts structs u ≡ true → size_of structs t ≤ 2147483647
+small_target structs u t e h = small_size structs t (subst (λ x. has_small_parts structs x ≡ true) e h)
+
+pub type_small : (structs : List StructType) (e : Expression) → TypesSmall structs e → has_small_parts structs (type_of e) ≡ true
+type_small structs (Node at t k) h = h.0
+
+-- a type whose size is known
+pub known_small : (structs : List StructType) (s : Sight) (t : PlainType) → s.structs ≡ structs → HasKnownSize s t → size_of structs t ≤ 2147483647
+known_small structs s t e h = subst (λ x. size_of x t ≤ 2147483647) e (leb-true (size_of s.structs t) 2147483647 h.small)
 
 zero_constant : (t : MonType) → has_constant (operand_type t) (pos 0) ≡ true
 zero_constant I8 = refl
@@ -96,29 +122,17 @@ zero_constant Ptr = refl
 
 -- ---- types
 
-operand_computes : (t : MonType) → is_arithmetic (operand_type t) ≡ true
-operand_computes I8 = refl
-operand_computes U8 = refl
-operand_computes I16 = refl
-operand_computes U16 = refl
-operand_computes I32 = refl
-operand_computes U32 = refl
-operand_computes I64 = refl
-operand_computes U64 = refl
-operand_computes I128 = refl
-operand_computes Ptr = refl
-
-operand_whole : (t : MonType) → is_whole (operand_type t) ≡ true
-operand_whole I8 = refl
-operand_whole U8 = refl
-operand_whole I16 = refl
-operand_whole U16 = refl
-operand_whole I32 = refl
-operand_whole U32 = refl
-operand_whole I64 = refl
-operand_whole U64 = refl
-operand_whole I128 = refl
-operand_whole Ptr = refl
+operand_computes : (t : MonType) → is_pointer t ≡ false → is_arithmetic (operand_type t) ≡ true
+operand_computes I8 e = refl
+operand_computes U8 e = refl
+operand_computes I16 e = refl
+operand_computes U16 e = refl
+operand_computes I32 e = refl
+operand_computes U32 e = refl
+operand_computes I64 e = refl
+operand_computes U64 e = refl
+operand_computes I128 e = refl
+operand_computes Ptr e = absurd cc
 
 pub register_whole : (k : CInt) → is_whole (register_type k) ≡ true
 register_whole c.I8 = refl
@@ -129,10 +143,6 @@ register_whole c.I32 = refl
 register_whole c.U32 = refl
 register_whole c.I64 = refl
 register_whole c.U64 = refl
-
-pub value_whole : (t : PlainType) → is_whole (value_type t) ≡ true
-value_whole (Int k) = register_whole k
-value_whole _ = refl
 
 result_whole : (op : MonOp) (k : CInt) → is_whole (result_type op (register_type k)) ≡ true
 result_whole op k = ap is_whole (number_result op (register_type k) (is_number k)) ∙ by (is_relation op)
@@ -150,7 +160,7 @@ arithmetic_number I128 e = refl
 arithmetic_number _ e = absurd cc
 
 promoted_computes : (k : CInt) → is_arithmetic (register_type (promoted k)) ≡ true
-promoted_computes k = ap is_arithmetic (sym (operand_is k)) ∙ operand_computes (register_type k)
+promoted_computes k = ap is_arithmetic (sym (operand_is k)) ∙ operand_computes (register_type k) (is_number k)
 
 common_computes : (k l : CInt) → is_arithmetic (register_type (common k l)) ≡ true
 common_computes k l = by (promoted k) (promoted l) (promoted_computes k) (promoted_computes l)
@@ -184,121 +194,28 @@ same_mon I128 I128 e = refl
 same_mon Ptr Ptr e = refl
 same_mon _ _ e = absurd cc
 
-term_whole : (t : Option PlainType) → is_whole (term_type t) ≡ true
-term_whole None = refl
-term_whole (Some t) = value_whole t
+-- what a scalar type may be
+pub scalar_is : (P : PlainType → Type 0) (t : PlainType) → IsScalar t → ((k : CInt) → P (Int k)) → ((u : PlainType) → P (source_type.Ptr u)) → P t
+scalar_is P (Int k) h f g = f k
+scalar_is P (source_type.Ptr u) h f g = g u
+scalar_is P Void h f g = let i = h.is in absurd cc
+scalar_is P (Array u n) h f g = let i = h.is in absurd cc
+scalar_is P (Struct n) h f g = let i = h.is in absurd cc
+scalar_is P (source_type.Named x) h f g = let i = h.is in absurd cc
+scalar_is P (source_type.StructTag x) h f g = let i = h.is in absurd cc
+scalar_is P (source_type.EnumTag x at) h f g = let i = h.is in absurd cc
 
-relation_gives : (r : Relation) (t : MonType) → result_type (relation_operator r) t ≡ I32
-relation_gives relation.Eq t = refl
-relation_gives relation.Ne t = refl
-relation_gives relation.Lt t = refl
-relation_gives relation.Le t = refl
-relation_gives relation.Gt t = refl
-relation_gives relation.Ge t = refl
+pub int_scalar : (t : PlainType) (k : CInt) → t ≡ Int k → IsScalar t
+int_scalar t k e = record { scalar = _; is = ap scalar_of e }
 
--- ---- parentheses
+pub pointer_scalar : (t u : PlainType) → t ≡ source_type.Ptr u → IsScalar t
+pointer_scalar t u e = record { scalar = _; is = ap scalar_of e }
 
-pub parens_in_type : (from to : MonType) (e : MonExpression) → open_parens (in_type from to e) ≤ suc (max 1 (open_parens e))
-parens_in_type from to e = by (same_type from to)
-  where
-    by : (t : Bool) → open_parens (if t then e else tree.Cast to e) ≤ suc (max 1 (open_parens e))
-    by true = omega (arith, le-max_right 1 (open_parens e))
-    by false = omega arith
+pub integer_scalar : (t : PlainType) → IsInteger t → IsScalar t
+integer_scalar t i = int_scalar t i.int i.is
 
-parens_compared : (op : MonOp) (t : MonType) (e : MonExpression) (n : ℕ) → open_parens e ≤ n → 1 ≤ n → open_parens (compared op t e) ≤ n + 2
-parens_compared op t e n le one =
-    let a = parens_in_type t (operand_type t) e in
-    let b : max 1 (open_parens e) ≤ n = max-le one le in
-    let m : max (open_parens (in_type t (operand_type t) e)) 1 ≤ n + 1 = max-le (omega (arith, a, b)) (omega arith) in
-    omega (arith, m)
-
-parens_condition : (t : MonType) (e : MonExpression) (n : ℕ) → open_parens e ≤ n → 1 ≤ n → open_parens (condition t e) ≤ n + 2
-parens_condition t e n le one = by (same_type t I32)
-  where
-    by : (b : Bool) → open_parens (if b then e else truth t e) ≤ n + 2
-    by true = omega (arith, le)
-    by false = parens_compared mon.Ne t e n le one
-
-pub some_nodes : (e : Expression) → 1 ≤ nodes_of e
-some_nodes (Node at t (Number z k)) = omega arith
-some_nodes (Node at t (Letter z)) = omega arith
-some_nodes (Node at t (Variable x)) = omega arith
-some_nodes (Node at t (Unary op a)) = omega arith
-some_nodes (Node at t (Binary op a b)) = omega arith
-some_nodes (Node at t (Both a b)) = omega arith
-some_nodes (Node at t (Either a b)) = omega arith
-some_nodes (Node at t (Choice a b c)) = omega arith
-some_nodes (Node at t (Assign op a b)) = omega arith
-some_nodes (Node at t (Bump op a)) = omega arith
-some_nodes (Node at t (Call f es)) = omega arith
-some_nodes (Node at t (Cast to a)) = omega arith
-some_nodes (Node at t (SizeOfType u)) = omega arith
-some_nodes (Node at t (SizeOfExpr a)) = omega arith
-some_nodes (Node at t (Text n)) = omega arith
-some_nodes (Node at t (Index a b)) = omega arith
-some_nodes (Node at t (Dot a m)) = omega arith
-some_nodes (Node at t (Arrow a m)) = omega arith
-some_nodes (Node at t (Comma a b)) = omega arith
-
-parens_unary : (op : UnOp) (t : MonType) (e : MonExpression) (n : ℕ) → open_parens e ≤ n → 1 ≤ n → open_parens (unary op t e) ≤ n + 2
-parens_unary prefix.Plus t e n le one = omega (arith, le)
-parens_unary prefix.Minus t e n le one = omega (arith, le)
-parens_unary prefix.Not t e n le one = parens_compared mon.Eq t e n le one
-parens_unary prefix.Flip t e n le one = omega (arith, le)
-parens_unary prefix.Deref t e n le one = omega (arith, le)
-parens_unary prefix.Address t e n le one = omega (arith, le)
-
-pub parens_compound : (op : BinOp) (m t u : MonType) (a b : MonExpression) (n : ℕ) → open_parens a ≤ n → open_parens b ≤ n → 1 ≤ n → open_parens (compound_in op m t u a b) ≤ n + 3
-parens_compound op m t u a b n la lb one =
-    let p = parens_in_type t m a in
-    let q = parens_in_type u m b in
-    let x : max 1 (open_parens a) ≤ n = max-le one la in
-    let y : max 1 (open_parens b) ≤ n = max-le one lb in
-    let inner : max (open_parens (in_type t m a)) (open_parens (in_type u m b)) ≤ n + 1 = max-le (omega (arith, p, x)) (omega (arith, q, y)) in
-    let whole = parens_in_type (result_type (operator_of op) m) t (tree.Binary (operator_of op) m (in_type t m a) (in_type u m b)) in
-    let outer : max 1 (open_parens (tree.Binary (operator_of op) m (in_type t m a) (in_type u m b))) ≤ n + 2 = max-le (omega arith) (omega (arith, inner)) in
-    omega (arith, whole, outer)
-
-pub few_parens_of_pointer : (bound : Bindings) (x : ℕ) → open_parens (pointer_to bound x) ≤ 1
-few_parens_of_pointer bound x = by (register_of bound x)
-  where
-    by : (o : Option ℕ) → open_parens (pointer_of o) ≤ 1
-    by None = omega arith
-    by (Some r) = omega arith
-
-pub few_parens : (unit : TranslationUnit) (bound : Bindings) (rs : List MonType) (e : Expression) → open_parens (value unit bound rs e) ≤ 2 * nodes_of e
-few_parens unit bound rs (Node at t (Number z k)) = omega arith
-few_parens unit bound rs (Node at t (Letter z)) = omega arith
-few_parens unit bound rs (Node at t (Variable x)) = let m : max 1 (open_parens (pointer_to bound x.decl)) ≤ 1 = max-le (omega arith) (few_parens_of_pointer bound x.decl) in omega (arith, m)
-few_parens unit bound rs (Node at t (Unary op a)) =
-    let p = parens_unary op (value_type (type_of a)) (value unit bound rs a) (2 * nodes_of a) (few_parens unit bound rs a) (omega (arith, some_nodes a)) in
-    omega (arith, p)
-few_parens unit bound rs (Node at t (Binary op a b)) =
-    let p = few_parens unit bound rs a in
-    let q = few_parens unit bound (rs ++ temporaries a) b in
-    let s = parens_in_type (value_type (type_of b)) (value_type (type_of a)) (value unit bound (rs ++ temporaries a) b) in
-    let one : max 1 (open_parens (value unit bound (rs ++ temporaries a) b)) ≤ 2 * nodes_of b = max-le (omega (arith, some_nodes b)) q in
-    let m : max (open_parens (value unit bound rs a)) (open_parens (in_type (value_type (type_of b)) (value_type (type_of a)) (value unit bound (rs ++ temporaries a) b))) ≤ 2 * nodes_of a + 2 * nodes_of b + 1 =
-    max-le (omega (arith, p)) (omega (arith, s, one)) in
-    omega (arith, m)
-few_parens unit bound rs (Node at t (Both a b)) = omega arith
-few_parens unit bound rs (Node at t (Either a b)) = omega arith
-few_parens unit bound rs (Node at t (Choice a b c)) = omega arith
-few_parens unit bound rs (Node at t (Cast to a)) =
-    let p = few_parens unit bound rs a in
-    let s = parens_in_type (value_type (type_of a)) (value_type to) (value unit bound rs a) in
-    let one : max 1 (open_parens (value unit bound rs a)) ≤ 2 * nodes_of a = max-le (omega (arith, some_nodes a)) p in
-    omega (arith, s, one)
-few_parens unit bound rs (Node at t (SizeOfType u)) = omega arith
-few_parens unit bound rs (Node at t (SizeOfExpr a)) = omega arith
-few_parens unit bound rs (Node at t (Text n)) = omega arith
-few_parens unit bound rs (Node at t (Index a b)) = omega arith
-few_parens unit bound rs (Node at t (Dot a m)) = omega arith
-few_parens unit bound rs (Node at t (Arrow a m)) = omega arith
-few_parens unit bound rs (Node at t (Comma a b)) = omega arith
-few_parens unit bound rs (Node at t (Assign op a b)) = omega arith
-few_parens unit bound rs (Node at t (Bump op a)) = omega arith
-few_parens unit bound rs (Node at t (Call f es)) = omega arith
+pub promoted_scalar : (t : PlainType) → IsPromoted t → IsScalar t
+promoted_scalar t i = int_scalar t (promoted i.int) i.is
 
 -- ---- registers of these types
 
@@ -316,12 +233,8 @@ begins_right rs a b ts h = subst (λ l. Begins l ts) (sym (append_assoc rs a b))
 pub begins_front : (a b ts : Types) → Begins (a ++ b) ts → Begins a ts
 begins_front a b ts h = record { rest = b ++ h.rest; is = h.is ∙ append_assoc a b h.rest }
 
-pub at_end : {A : Type 0} (a b : List A) (x : A) → slice_get (a ++ x ∷ b) (length a) ≡ Some x
-at_end [] b x = refl
-at_end (y ∷ a) b x = at_end a b x
-
 pub register_at : (rs ts : Types) (t : MonType) → Begins (rs ++ t ∷ []) ts → slice_get ts (length rs) ≡ Some t
-register_at rs ts t h = ap (λ l. slice_get l (length rs)) (h.is ∙ append_assoc rs (t ∷ []) h.rest) ∙ at_end rs h.rest t
+register_at rs ts t h = ap (λ l. slice_get l (length rs)) (h.is ∙ append_assoc rs (t ∷ []) h.rest) ∙ get-end rs h.rest t
 
 -- a register that points to a block is bound to the declaration
 pub record HasPointer (ts : Types) (bound : Bindings) (x : ℕ) : Type 0 where
@@ -329,85 +242,287 @@ pub record HasPointer (ts : Types) (bound : Bindings) (x : ℕ) : Type 0 where
   pub is_bound : register_of bound x ≡ Some register
   pub points : slice_get ts register ≡ Some Ptr
 
--- so it is for a name in sight, whose type is an integer type
-pub record Seen (ts : Types) (bound : Bindings) (x : ℕ) (t : PlainType) : Type 0 where
-  pub int : CInt
-  pub ctype : t ≡ Int int
-  pub has : HasPointer ts bound x
+-- ---- what is in sight
 
-abbrev pub AreSeen : Types → Bindings → List Object → Type 0
-AreSeen ts bound objects = (x : ℕ) (b : Object) → object_named x objects ≡ Some b → Seen ts bound b.decl b.ctype
+-- the register that is bound points, or else this holds
+abbrev pub Aim : Types → Bool → Option ℕ → Type 0
+Aim ts b (Some r) = slice_get ts r ≡ Some Ptr
+Aim ts b None = b ≡ true
 
--- the pointer to its block
-pub pointer_typed : (ts : Types) (bound : Bindings) (x : ℕ) → HasPointer ts bound x → HasType 0 ts (pointer_to bound x) Ptr
-pointer_typed ts bound x h = subst (λ o. HasType 0 ts (pointer_of o) Ptr) (sym h.is_bound) h.points
+pub has_aim : (ts : Types) (b : Bool) (bound : Bindings) (x : ℕ) → HasPointer ts bound x → Aim ts b (register_of bound x)
+has_aim ts b bound x h = subst (Aim ts b) (sym h.is_bound) h.points
+
+pub aim_has : (ts : Types) (bound : Bindings) (x : ℕ) → Aim ts false (register_of bound x) → HasPointer ts bound x
+aim_has ts bound x h = by (register_of bound x) refl h
+  where
+    by : (o : Option ℕ) → register_of bound x ≡ o → Aim ts false o → HasPointer ts bound x
+    by None e k = absurd cc
+    by (Some r) e k = record { register = r; is_bound = e; points = k }
+
+-- the pointer to the block of a declaration: in a register, or that of a global
+abbrev pub Reaches : TranslationUnit → Types → Bindings → ℕ → Type 0
+Reaches p ts bound x = Aim ts (is_global p x) (register_of bound x)
+
+-- so it is for a name in sight, whose number is none of the library
+pub record Seen (p : TranslationUnit) (ts : Types) (bound : Bindings) (x : ℕ) : Type 0 where
+  pub own : nat_eq x 4294967295 ≡ false
+  pub has : Reaches p ts bound x
+
+abbrev pub AreSeen : TranslationUnit → Types → Bindings → List Entity → Type 0
+AreSeen p ts bound entities = (x : ℕ) (b : Object) → entity_named x entities ≡ Some (AnObject b) → Seen p ts bound b.decl
+
+-- where expressions stand
+pub record Knows (p : TranslationUnit) (ts : Types) (bound : Bindings) (s : Sight) : Type 0 where
+  pub sees : AreSeen p ts bound s.entities
+  pub structs_are : s.structs ≡ p.structs
+  pub texts_are : s.texts ≡ p.texts
+  pub fits : StructsFit p.structs
+
+-- globals and literals
+abbrev pub count_of_globals : TranslationUnit → ℕ
+count_of_globals p = length p.globals + length p.texts
 
 pub block_points : (ts : Types) (bound : Bindings) (x : ℕ) → HasPointer ts bound x → slice_get ts (block_of bound x) ≡ Some Ptr
 block_points ts bound x h = ap (λ o. slice_get ts (block_register o)) h.is_bound ∙ h.points
 
-module _ (ts : Types) where
-  pub in_typed : (from to : MonType) (e : MonExpression) → is_whole from ≡ true → is_whole to ≡ true → HasType 0 ts e from → HasType 0 ts (in_type from to e) to
-  in_typed from to e f g h = by (same_type from to) refl
+-- ---- types
+
+same_relation : (op : BinOp) → is_relation (operator_of op) ≡ convert.is_relation op
+same_relation operator.Add = refl
+same_relation operator.Sub = refl
+same_relation operator.Mul = refl
+same_relation operator.Div = refl
+same_relation operator.Rem = refl
+same_relation operator.Shl = refl
+same_relation operator.Shr = refl
+same_relation operator.BitAnd = refl
+same_relation operator.BitOr = refl
+same_relation operator.BitXor = refl
+same_relation operator.Eq = refl
+same_relation operator.Ne = refl
+same_relation operator.Lt = refl
+same_relation operator.Le = refl
+same_relation operator.Gt = refl
+same_relation operator.Ge = refl
+
+module _ (g : ℕ) (ts : Types) where
+  pub in_typed : (from to : MonType) (e : MonExpression) → is_whole from ≡ true → is_whole to ≡ true → HasType g ts e from → HasType g ts (in_type from to e) to
+  in_typed from to e f h k = by (same_type from to) refl
     where
-      by : (t : Bool) → same_type from to ≡ t → HasType 0 ts (if t then e else tree.Cast to e) to
-      by true s = subst (HasType 0 ts e) (same_mon from to s) h
-      by false s = (refl, g, (from, f, h))
+      by : (t : Bool) → same_type from to ≡ t → HasType g ts (if t then e else tree.Cast to e) to
+      by true s = subst (HasType g ts e) (same_mon from to s) k
+      by false s = (refl, h, (from, f, k))
 
   -- an operator on two numbers of a type
-  operation_typed : (op : MonOp) (t : MonType) (a b : MonExpression) → is_arithmetic t ≡ true → HasType 0 ts a t → HasType 0 ts b t → HasType 0 ts (tree.Binary op t a b) (result_type op t)
-  operation_typed op t a b w f g =
+  operation_typed : (op : MonOp) (t : MonType) (a b : MonExpression) → is_arithmetic t ≡ true → HasType g ts a t → HasType g ts b t → HasType g ts (tree.Binary op t a b) (result_type op t)
+  operation_typed op t a b w f h =
       let plain = arithmetic_number t w in
-      (refl, number_operator op t plain ∙ w, f, subst (HasType 0 ts b) (sym (number_second op t plain)) g)
+      (refl, number_operator op t plain ∙ w, f, subst (HasType g ts b) (sym (number_second op t plain)) h)
 
-  compared_typed : (op : MonOp) (t : MonType) (e : MonExpression) → is_whole t ≡ true → result_type op (operand_type t) ≡ I32 → HasType 0 ts e t → HasType 0 ts (compared op t e) I32
-  compared_typed op t e w r h =
-      subst (HasType 0 ts (compared op t e)) r
-      (operation_typed op (operand_type t) (in_type t (operand_type t) e) (tree.Constant (operand_type t) (pos 0)) (operand_computes t) (in_typed t (operand_type t) e w (operand_whole t) h) (refl, zero_constant t))
+  operand_typed : (t : MonType) (e : MonExpression) → HasType g ts e t → HasType g ts (in_type t (operand_type t) e) (operand_type t)
+  operand_typed I8 e h = (refl, refl, (I8, refl, h))
+  operand_typed U8 e h = (refl, refl, (U8, refl, h))
+  operand_typed I16 e h = (refl, refl, (I16, refl, h))
+  operand_typed U16 e h = (refl, refl, (U16, refl, h))
+  operand_typed I32 e h = h
+  operand_typed U32 e h = h
+  operand_typed I64 e h = h
+  operand_typed U64 e h = h
+  operand_typed I128 e h = h
+  operand_typed Ptr e h = h
 
-  truth_typed : (t : MonType) (e : MonExpression) → is_whole t ≡ true → HasType 0 ts e t → HasType 0 ts (truth t e) I32
-  truth_typed t e w h = compared_typed mon.Ne t e w refl h
+  equality_operator : (t : MonType) → (has_operator mon.Eq (operand_type t) ≡ true) × (second_type mon.Eq (operand_type t) ≡ operand_type t)
+  equality_operator I8 = (refl, refl)
+  equality_operator U8 = (refl, refl)
+  equality_operator I16 = (refl, refl)
+  equality_operator U16 = (refl, refl)
+  equality_operator I32 = (refl, refl)
+  equality_operator U32 = (refl, refl)
+  equality_operator I64 = (refl, refl)
+  equality_operator U64 = (refl, refl)
+  equality_operator I128 = (refl, refl)
+  equality_operator Ptr = (refl, refl)
 
-  condition_typed : (t : MonType) (e : MonExpression) → is_whole t ≡ true → HasType 0 ts e t → HasType 0 ts (condition t e) I32
-  condition_typed t e w h = by (same_type t I32) refl
+  difference_operator : (t : MonType) → (has_operator mon.Ne (operand_type t) ≡ true) × (second_type mon.Ne (operand_type t) ≡ operand_type t)
+  difference_operator I8 = (refl, refl)
+  difference_operator U8 = (refl, refl)
+  difference_operator I16 = (refl, refl)
+  difference_operator U16 = (refl, refl)
+  difference_operator I32 = (refl, refl)
+  difference_operator U32 = (refl, refl)
+  difference_operator I64 = (refl, refl)
+  difference_operator U64 = (refl, refl)
+  difference_operator I128 = (refl, refl)
+  difference_operator Ptr = (refl, refl)
+
+  zero_typed : (t k : MonType) → k ≡ operand_type t → HasType g ts (tree.Constant (operand_type t) (pos 0)) k
+  zero_typed t k e = (sym e, zero_constant t)
+
+  negated_typed : (t : MonType) (e : MonExpression) → HasType g ts e t → HasType g ts (compared mon.Eq t e) I32
+  negated_typed t e h = let o = equality_operator t in (refl, o.0, operand_typed t e h, zero_typed t (second_type mon.Eq (operand_type t)) o.1)
+
+  pub truth_typed : (t : MonType) (e : MonExpression) → HasType g ts e t → HasType g ts (truth t e) I32
+  truth_typed t e h = let o = difference_operator t in (refl, o.0, operand_typed t e h, zero_typed t (second_type mon.Ne (operand_type t)) o.1)
+
+  condition_typed : (t : MonType) (e : MonExpression) → HasType g ts e t → HasType g ts (condition t e) I32
+  condition_typed t e h = by (same_type t I32) refl
     where
-      by : (b : Bool) → same_type t I32 ≡ b → HasType 0 ts (if b then e else truth t e) I32
-      by true s = subst (HasType 0 ts e) (same_mon t I32 s) h
-      by false s = truth_typed t e w h
+      by : (b : Bool) → same_type t I32 ≡ b → HasType g ts (if b then e else truth t e) I32
+      by true s = subst (HasType g ts e) (same_mon t I32 s) h
+      by false s = truth_typed t e h
 
-  unary_typed : (op : UnOp) (t u : PlainType) (k : CInt) (e : MonExpression) → UnaryTypes op t u → t ≡ Int k → ((l : CInt) → u ≡ Int l → HasType 0 ts e (register_type l)) → HasType 0 ts (unary op (value_type u) e) (register_type k)
-  unary_typed prefix.Plus t u k e h int g = g k (sym h.0 ∙ int)
-  unary_typed prefix.Minus t u k e h int g =
-      let u_int : u ≡ Int k = sym h.0 ∙ int in
-      (ap value_type u_int, ap (λ x. is_arithmetic (value_type x)) h.1.is ∙ promoted_computes h.1.int, subst (HasType 0 ts e) (ap value_type (sym u_int)) (g k u_int))
-  unary_typed prefix.Flip t u k e h int g =
-      let u_int : u ≡ Int k = sym h.0 ∙ int in
-      (ap value_type u_int, ap (λ x. is_arithmetic (value_type x)) h.1.is ∙ promoted_computes h.1.int, subst (HasType 0 ts e) (ap value_type (sym u_int)) (g k u_int))
-  unary_typed prefix.Deref t u k e h int g = absurd h
-  unary_typed prefix.Address t u k e h int g = absurd h
-  unary_typed prefix.Not t u k e h int g =
-      let i = scalar_int u h.1 in
-      subst (λ l. HasType 0 ts (compared mon.Eq (value_type u) e) (register_type l)) (same_int_type c.I32 k (sym h.0 ∙ int))
-      (compared_typed mon.Eq (value_type u) e (value_whole u) refl (subst (HasType 0 ts e) (ap value_type (sym i.is)) (g i.int i.is)))
+  -- ---- pointers
 
-  binary_typed : (op : BinOp) (t u v : PlainType) (k : CInt) (a b : MonExpression) → BinaryTypes op t u v → t ≡ Int k → ((l : CInt) → u ≡ Int l → HasType 0 ts a (register_type l)) → ((l : CInt) → v ≡ Int l → HasType 0 ts b (register_type l))
-      → HasType 0 ts (binary op (value_type u) (value_type v) a b) (register_type k)
-  binary_typed op t u v k a b h int f g =
-      let m = binary_at op t u v k h int in
-      let left = value_type u in
-      subst (HasType 0 ts (binary op left (value_type v) a b)) (ap (λ x. result_type (operator_of op) (value_type x)) m.left_is ∙ result_type_is op m.left ∙ ap register_type m.result)
-      (operation_typed (operator_of op) left a (in_type (value_type v) left b)
-      (ap (λ x. is_arithmetic (value_type x)) h.0.is ∙ promoted_computes h.0.int)
-      (subst (HasType 0 ts a) (ap value_type (sym m.left_is)) (f m.left m.left_is))
-      (in_typed (value_type v) left b (value_whole v) (value_whole u) (subst (HasType 0 ts b) (ap value_type (sym m.right_is)) (g m.right m.right_is))))
+  farther_typed : (e : MonExpression) (d : ℕ) → d ≤ 2147483647 → HasType g ts e Ptr → HasType g ts (farther e d) Ptr
+  farther_typed e d small h = (refl, refl, h, (refl, bytes_constant d small))
 
-  pub compound_typed : (op : BinOp) (k l : CInt) (a b : MonExpression) → HasType 0 ts a (register_type k) → HasType 0 ts b (register_type l)
-      → HasType 0 ts (compound_in op (register_type (operation_type op k l)) (register_type k) (register_type l) a b) (register_type k)
-  compound_typed op k l a b f g =
-      let i = operation_type op k l in
-      let m = register_type i in
-      in_typed (result_type (operator_of op) m) (register_type k) (tree.Binary (operator_of op) m (in_type (register_type k) m a) (in_type (register_type l) m b)) (result_whole (operator_of op) i) (register_whole k)
-      (operation_typed (operator_of op) m (in_type (register_type k) m a) (in_type (register_type l) m b) (operation_computes op k l) (in_typed (register_type k) m a (register_whole k) (register_whole i) f)
-      (in_typed (register_type l) m b (register_whole l) (register_whole i) g))
+  scaled_typed : (unit : ℕ) (k : CInt) (i : MonExpression) → unit ≤ 2147483647 → HasType g ts i (register_type k) → HasType g ts (scaled unit (register_type k) i) I64
+  scaled_typed unit k i small h = (refl, refl, in_typed (register_type k) I64 i (register_whole k) refl h, (refl, bytes_constant unit small))
+
+  element_typed : (unit : ℕ) (e : MonExpression) (k : CInt) (i : MonExpression) → unit ≤ 2147483647 → HasType g ts e Ptr → HasType g ts i (register_type k) → HasType g ts (element unit e (register_type k) i) Ptr
+  element_typed unit e k i small h j = (refl, refl, h, scaled_typed unit k i small j)
+
+  step_typed : (op : BinOp) (unit : ℕ) (e : MonExpression) (k : CInt) (i : MonExpression) → unit ≤ 2147483647 → HasType g ts e Ptr → HasType g ts i (register_type k)
+      → HasType g ts (pointer_and_integer op unit e (register_type k) i) Ptr
+  step_typed operator.Sub unit e k i small h j = (refl, refl, h, (refl, refl, scaled_typed unit k i small j))
+  step_typed _ unit e k i small h j = element_typed unit e k i small h j
+
+  difference_typed : (op : BinOp) (unit : ℕ) (a b : MonExpression) → is_difference op ≡ true → unit ≤ 2147483647 → HasType g ts a Ptr → HasType g ts b Ptr → HasType g ts (two_pointers op unit a b) I64
+  difference_typed operator.Sub unit a b d small f h = (refl, refl, (refl, refl, f, h), (refl, bytes_constant unit small))
+  difference_typed _ unit a b d small f h = absurd cc
+
+  relation_typed : (op : BinOp) (unit : ℕ) (a b : MonExpression) → convert.is_relation op ≡ true → HasType g ts a Ptr → HasType g ts b Ptr → HasType g ts (two_pointers op unit a b) I32
+  relation_typed operator.Eq unit a b d f h = (refl, refl, f, h)
+  relation_typed operator.Ne unit a b d f h = (refl, refl, f, h)
+  relation_typed operator.Lt unit a b d f h = (refl, refl, f, h)
+  relation_typed operator.Le unit a b d f h = (refl, refl, f, h)
+  relation_typed operator.Gt unit a b d f h = (refl, refl, f, h)
+  relation_typed operator.Ge unit a b d f h = (refl, refl, f, h)
+  relation_typed _ unit a b d f h = absurd cc
+
+  pub loaded_typed : (t : PlainType) (e : MonExpression) → IsScalar t → HasType g ts e Ptr → HasType g ts (loaded t e) (value_type t)
+  loaded_typed t e h k = subst (λ (o : Option Scalar). HasType g ts (elim o [ None ↦ e | Some i ↦ tree.Load (value_type t) e ]) (value_type t)) (sym h.is) (refl, k)
+
+  -- ---- operators by the types of their operands
+
+  integers_typed : (op : BinOp) (t u v : PlainType) (a b : MonExpression) → OnIntegers op t u v → HasType g ts a (value_type u) → HasType g ts b (value_type v) → HasType g ts (binary op (value_type u) (value_type v) a b) (value_type t)
+  integers_typed op t u v a b h f k =
+      let m = promoted h.left.int in
+      let left = register_type m in
+      let gives : result_type (operator_of op) left ≡ value_type t =
+      number_result (operator_of op) left (is_number m) ∙ ap (λ x. if x then I32 else left) (same_relation op) ∙ chosen (convert.is_relation op) ∙ ap (λ x. value_type (cond (convert.is_relation op) int_type x)) (sym h.left.is)
+      ∙ ap value_type (sym h.result) in
+      subst (λ x. HasType g ts (binary op (value_type x) (value_type v) a b) (value_type t)) (sym h.left.is)
+      (subst (HasType g ts (binary op left (value_type v) a b)) gives
+      (operation_typed (operator_of op) left a (in_type (value_type v) left b) (promoted_computes h.left.int) (subst (λ x. HasType g ts a (value_type x)) h.left.is f)
+      (subst (λ x. HasType g ts (in_type (value_type x) left b) left) (sym h.right.is)
+      (in_typed (register_type (promoted h.right.int)) left b (register_whole (promoted h.right.int)) (register_whole m) (subst (λ x. HasType g ts b (value_type x)) h.right.is k)))))
+    where
+      chosen : (x : Bool) → (if x then I32 else register_type (promoted h.left.int)) ≡ value_type (cond x int_type (Int (promoted h.left.int)))
+      chosen true = refl
+      chosen false = refl
+
+  module _ (structs : List StructType) (s : Sight) (structs_are : s.structs ≡ structs) where
+    pub operated_typed : (op : BinOp) (t u v : PlainType) (a b : MonExpression) → BinaryTypes s op t u v → has_small_parts structs u ≡ true → has_small_parts structs v ≡ true → HasType g ts a (value_type u) → HasType g ts b (value_type v)
+        → HasType g ts (operated structs op u v a b) (value_type t)
+    operated_typed op t u v a b (OfIntegers h) left_small right_small f k =
+        let plain : operated structs op u v a b ≡ binary op (value_type u) (value_type v) a b =
+        ap (λ x. if x then (if is_pointer (value_type v) then two_pointers op (unit_of structs u v) a b else pointer_and_integer op (unit_of structs u v) a (value_type v) b)
+        else (if is_pointer (value_type v) then element (unit_of structs u v) b (value_type u) a else binary op (value_type u) (value_type v) a b)) (ap (λ x. is_pointer (value_type x)) h.left.is ∙ is_number (promoted h.left.int))
+        ∙ ap (λ x. if x then element (unit_of structs u v) b (value_type u) a else binary op (value_type u) (value_type v) a b) (ap (λ x. is_pointer (value_type x)) h.right.is ∙ is_number (promoted h.right.int)) in
+        subst (λ x. HasType g ts x (value_type t)) (sym plain) (integers_typed op t u v a b h f k)
+    operated_typed op t u v a b (OfPointerAndInteger step pointer integer same) left_small right_small f k =
+        let n = size_of structs pointer.target in
+        let e : operated structs op (source_type.Ptr pointer.target) (Int integer.int) a b ≡ pointer_and_integer op n a (register_type integer.int) b =
+        ap (λ x. if x then two_pointers op n a b else pointer_and_integer op n a (register_type integer.int) b) (is_number integer.int) in
+        subst (λ x. HasType g ts (operated structs op u v a b) (value_type x)) (sym (same ∙ pointer.is))
+        (subst (λ x. HasType g ts (operated structs op x v a b) Ptr) (sym pointer.is)
+        (subst (λ x. HasType g ts (operated structs op (source_type.Ptr pointer.target) x a b) Ptr) (sym integer.is)
+        (subst (λ x. HasType g ts x Ptr) (sym e)
+        (step_typed op n a integer.int b (small_target structs u pointer.target pointer.is left_small) (subst (λ x. HasType g ts a (value_type x)) pointer.is f) (subst (λ x. HasType g ts b (value_type x)) integer.is k)))))
+    operated_typed op t u v a b (OfIntegerAndPointer step integer pointer same) left_small right_small f k =
+        let n = size_of structs pointer.target in
+        let e : operated structs op (Int integer.int) (source_type.Ptr pointer.target) a b ≡ element n b (register_type integer.int) a =
+        ap (λ x. if x then two_pointers op n a b else element n b (register_type integer.int) a) (is_number integer.int) in
+        subst (λ x. HasType g ts (operated structs op u v a b) (value_type x)) (sym (same ∙ pointer.is))
+        (subst (λ x. HasType g ts (operated structs op u x a b) Ptr) (sym pointer.is)
+        (subst (λ x. HasType g ts (operated structs op x (source_type.Ptr pointer.target) a b) Ptr) (sym integer.is)
+        (subst (λ x. HasType g ts x Ptr) (sym e)
+        (element_typed n b integer.int a (small_target structs v pointer.target pointer.is right_small) (subst (λ x. HasType g ts b (value_type x)) pointer.is k) (subst (λ x. HasType g ts a (value_type x)) integer.is f)))))
+    operated_typed op t u v a b (OfDifference difference pointer alike result) left_small right_small f k =
+        let n = size_of structs pointer.target in
+        let q = source_type.Ptr pointer.target in
+        subst (λ x. HasType g ts (operated structs op u v a b) (value_type x)) (sym result)
+        (subst (λ x. HasType g ts (operated structs op x v a b) I64) (sym pointer.is)
+        (subst (λ x. HasType g ts (operated structs op q x a b) I64) (sym (alike ∙ pointer.is))
+        (difference_typed op n a b difference (small_target structs u pointer.target pointer.is left_small) (subst (λ x. HasType g ts a (value_type x)) pointer.is f) (subst (λ x. HasType g ts b (value_type x)) (alike ∙ pointer.is) k))))
+    operated_typed op t u v a b (OfPointers relation left right result) left_small right_small f k =
+        let q = source_type.Ptr left.target in
+        subst (λ x. HasType g ts (operated structs op u v a b) (value_type x)) (sym result)
+        (subst (λ x. HasType g ts (operated structs op x v a b) I32) (sym left.is)
+        (subst (λ x. HasType g ts (operated structs op q x a b) I32) (sym right.is)
+        (relation_typed op (size_of structs left.target) a b relation (subst (λ x. HasType g ts a (value_type x)) left.is f) (subst (λ x. HasType g ts b (value_type x)) right.is k))))
+
+    pub indexed_typed : (t u v : PlainType) (a b : MonExpression) → IndexTypes s t u v → has_small_parts structs u ≡ true → has_small_parts structs v ≡ true → HasType g ts a (value_type u) → HasType g ts b (value_type v)
+        → HasType g ts (indexed structs u v a b) Ptr
+    indexed_typed t u v a b (OnTheLeft pointer known integer) left_small right_small f k =
+        subst (λ x. HasType g ts (indexed structs x v a b) Ptr) (sym pointer)
+        (subst (λ x. HasType g ts (indexed structs (source_type.Ptr t) x a b) Ptr) (sym integer.is)
+        (element_typed (size_of structs t) a integer.int b (small_target structs u t pointer left_small) (subst (λ x. HasType g ts a (value_type x)) pointer f) (subst (λ x. HasType g ts b (value_type x)) integer.is k)))
+    indexed_typed t u v a b (OnTheRight integer pointer known) left_small right_small f k =
+        let n = size_of structs t in
+        let e : indexed structs (Int integer.int) (source_type.Ptr t) a b ≡ element n b (register_type integer.int) a =
+        ap (λ x. if x then element n a Ptr b else element n b (register_type integer.int) a) (is_number integer.int) in
+        subst (λ x. HasType g ts (indexed structs u x a b) Ptr) (sym pointer)
+        (subst (λ x. HasType g ts (indexed structs x (source_type.Ptr t) a b) Ptr) (sym integer.is)
+        (subst (λ x. HasType g ts x Ptr) (sym e)
+        (element_typed n b integer.int a (small_target structs v t pointer right_small) (subst (λ x. HasType g ts b (value_type x)) pointer k) (subst (λ x. HasType g ts a (value_type x)) integer.is f))))
+
+    -- `op=`, and `++` and `--`
+    pub compound_typed : (op : BinOp) (t u : PlainType) (a b : MonExpression) → CompoundTypes s op t u → has_small_parts structs t ≡ true → HasType g ts a (value_type t) → HasType g ts b (value_type u)
+        → HasType g ts (compound structs op t u a b) (value_type t)
+    compound_typed op t u a b (ToInteger left right) small f h =
+        let k = left.int in
+        let l = right.int in
+        let i = operation_type op k l in
+        let m = register_type i in
+        subst (λ x. HasType g ts (compound structs op x u a b) (value_type x)) (sym left.is)
+        (subst (λ x. HasType g ts (compound structs op (Int k) x a b) (register_type k)) (sym right.is)
+        (in_typed (result_type (operator_of op) m) (register_type k) (tree.Binary (operator_of op) m (in_type (register_type k) m a) (in_type (register_type l) m b)) (result_whole (operator_of op) i) (register_whole k)
+        (operation_typed (operator_of op) m (in_type (register_type k) m a) (in_type (register_type l) m b) (operation_computes op k l)
+        (in_typed (register_type k) m a (register_whole k) (register_whole i) (subst (λ x. HasType g ts a (value_type x)) left.is f))
+        (in_typed (register_type l) m b (register_whole l) (register_whole i) (subst (λ x. HasType g ts b (value_type x)) right.is h)))))
+    compound_typed op t u a b (ToPointer step pointer integer) small f h =
+        let n = size_of structs pointer.target in
+        subst (λ x. HasType g ts (compound structs op x u a b) (value_type x)) (sym pointer.is)
+        (subst (λ x. HasType g ts (compound structs op (source_type.Ptr pointer.target) x a b) Ptr) (sym integer.is)
+        (step_typed op n a integer.int b (small_target structs t pointer.target pointer.is small) (subst (λ x. HasType g ts a (value_type x)) pointer.is f) (subst (λ x. HasType g ts b (value_type x)) integer.is h)))
+
+    -- a cast to a scalar type of what is no array
+    pub converted_typed : (to : PlainType) (a : Expression) (e : MonExpression) → IsScalar to → is_array (type_of a) ≡ false → CastTypes s to a → (IsScalar (type_of a) → HasType g ts e (value_type (type_of a)))
+        → HasType g ts (converted (type_of a) to e) (value_type to)
+    converted_typed to a e scalar plain (ToVoid void) f = let h : scalar_of Void ≡ Some scalar.scalar = ap scalar_of (sym void) ∙ scalar.is in absurd cc
+    converted_typed to a e scalar plain (OfInteger left right) f =
+        subst (λ x. HasType g ts (converted (type_of a) x e) (value_type x)) (sym left.is)
+        (subst (λ x. HasType g ts (converted x (Int left.int) e) (register_type left.int)) (sym right.is)
+        (in_typed (register_type right.int) (register_type left.int) e (register_whole right.int) (register_whole left.int) (subst (λ x. HasType g ts e (value_type x)) right.is (f (integer_scalar (type_of a) right)))))
+    converted_typed to a e scalar plain (OfPointer left right) f =
+        subst (λ x. HasType g ts (converted (type_of a) x e) (value_type x)) (sym left.is)
+        (subst (λ x. HasType g ts (converted x (source_type.Ptr left.target) e) Ptr) (sym right.is) (subst (λ x. HasType g ts e (value_type x)) right.is (f (pointer_scalar (type_of a) right.target right.is))))
+    converted_typed to a e scalar plain (OfNullConstant left right null) f =
+        subst (λ x. HasType g ts (converted (type_of a) x e) (value_type x)) (sym left.is)
+        (subst (λ x. HasType g ts (converted x (source_type.Ptr left.target) e) Ptr) (sym right.is) (refl, refl))
+    converted_typed to a e scalar plain (OfArray t n is array object) f = let h : true ≡ false = ap is_array (sym array) ∙ plain in absurd cc
+
+    -- what an array in a cast designates, and where it goes
+    pub array_object : (to : PlainType) (a : Expression) → IsScalar to → is_array (type_of a) ≡ true → CastTypes s to a → (has_object a ≡ true) × (value_type to ≡ Ptr)
+    array_object to a scalar array (ToVoid void) = let h : scalar_of Void ≡ Some scalar.scalar = ap scalar_of (sym void) ∙ scalar.is in absurd cc
+    array_object to a scalar array (OfInteger left right) = let h : false ≡ true = ap is_array (sym right.is) ∙ array in absurd cc
+    array_object to a scalar array (OfPointer left right) = let h : false ≡ true = ap is_array (sym right.is) ∙ array in absurd cc
+    array_object to a scalar array (OfNullConstant left right null) = let h : false ≡ true = ap is_array (sym right.is) ∙ array in absurd cc
+    array_object to a scalar array (OfArray t n is of object) = (object, ap value_type is)
+
+  -- ---- registers after both sides
 
   pub both_begin : (x y : Expression) (rs : Types) → Begins (rs ++ (temporaries x ++ temporaries y ++ I32 ∷ [])) ts → Begins (rs ++ temporaries x ++ temporaries y ++ I32 ∷ []) ts
   both_begin x y rs h =
@@ -418,102 +533,190 @@ module _ (ts : Types) where
       subst (λ l. Begins l ts) (sym (append_assoc rs (temporaries x ++ temporaries y ++ temporaries z) (t ∷ [])) ∙ ap (λ l. l ++ t ∷ []) (sym (append_assoc rs (temporaries x ++ temporaries y) (temporaries z)) ∙ ap (λ l. l ++ temporaries z)
       (sym (append_assoc rs (temporaries x) (temporaries y))))) h
 
-  module _ (unit : TranslationUnit) (bound : Bindings) (scopes : Scopes) (sees : AreSeen ts bound scopes.objects) where
-    -- the variable that a name denotes
-    pub seen : (x : Use) (t : PlainType) → Denotes scopes x t → Seen ts bound x.decl t
-    seen x t d =
-        let s = sees x.name d.object d.found in
-        record { int = s.int; ctype = sym d.ctype ∙ s.ctype; has = subst (HasPointer ts bound) (sym d.decl) s.has }
+pub place_object : (a : Expression) → is_place a ≡ true → has_object a ≡ true
+place_object (Node at t (Dot a m)) e = place_object a e
+place_object (Node at t (Comma a b)) e = absurd cc
+place_object (Node at t (Number z k)) e = e
+place_object (Node at t (Letter z)) e = e
+place_object (Node at t (Text n)) e = e
+place_object (Node at t (Variable x)) e = e
+place_object (Node at t (Unary op a)) e = e
+place_object (Node at t (Binary op a b)) e = e
+place_object (Node at t (Both a b)) e = e
+place_object (Node at t (Either a b)) e = e
+place_object (Node at t (Choice a b c)) e = e
+place_object (Node at t (Assign op a b)) e = e
+place_object (Node at t (Bump op a)) e = e
+place_object (Node at t (Call f es)) e = e
+place_object (Node at t (Cast to a)) e = e
+place_object (Node at t (SizeOfType u)) e = e
+place_object (Node at t (SizeOfExpr a)) e = e
+place_object (Node at t (Index a b)) e = e
+place_object (Node at t (Arrow a m)) e = e
 
-    pub typed : (e : Expression) (k : CInt) (rs : Types) → type_of e ≡ Int k → IsPure e → WellTyped scopes e → HasLetters e → Begins (rs ++ temporaries e) ts → HasType 0 ts (value unit bound rs e) (register_type k)
-    typed (Node at t (Number z None)) k rs int p q l b = absurd q
-    typed (Node at t (Number z (Some i))) k rs int p q l b =
-        (ap value_type int, subst (λ j. has_constant (value_type j) z ≡ true) (sym q.0) (small_constant i z q.1))
-    typed (Node at t (Letter z)) k rs int p q l b = (ap value_type int, subst (λ j. has_constant (value_type j) z ≡ true) (sym q) (small_constant c.I32 z (letter_fits z l)))
-    typed (Node at t (Variable x)) k rs int p q l b = (ap value_type int, pointer_typed ts bound x.decl (seen x t q).has)
-    typed (Node at t (Unary op a)) k rs int p q l b = unary_typed op t (type_of a) k (value unit bound rs a) q.1 int (λ i e. typed a i rs e p q.0 l b)
-    typed (Node at t (Binary op x y)) k rs int p q l b =
-        binary_typed op t (type_of x) (type_of y) k (value unit bound rs x) (value unit bound (rs ++ temporaries x) y) q.2 int
-        (λ i e. typed x i rs e p.0 q.0 l.0 (begins_left rs (temporaries x) (temporaries y) ts b))
-        (λ i e. typed y i (rs ++ temporaries x) e p.1 q.1 l.1 (begins_right rs (temporaries x) (temporaries y) ts b))
-    typed (Node at t (Both x y)) k rs int p q l b =
-        register_at (rs ++ temporaries x ++ temporaries y) ts I32 (both_begin x y rs b) ∙ ap (λ i. Some (register_type i)) (same_int_type c.I32 k (sym q.2 ∙ int))
-    typed (Node at t (Either x y)) k rs int p q l b =
-        register_at (rs ++ temporaries x ++ temporaries y) ts I32 (both_begin x y rs b) ∙ ap (λ i. Some (register_type i)) (same_int_type c.I32 k (sym q.2 ∙ int))
-    typed (Node at t (Choice x y z)) k rs int p q l b =
-        register_at (rs ++ temporaries x ++ temporaries y ++ temporaries z) ts (value_type (type_of y)) (choice_begins x y z (value_type (type_of y)) rs b) ∙ ap (λ u. Some (value_type u)) (q.4 ∙ int)
-    typed (Node at t (Cast to a)) k rs int p q l b =
-        let to_int : to ≡ Int k = sym q.1 ∙ int in
-        let from = cast_int to (type_of a) k to_int q.2 in
-        subst (HasType 0 ts (in_type (value_type (type_of a)) (value_type to) (value unit bound rs a))) (ap value_type to_int)
-        (in_typed (value_type (type_of a)) (value_type to) (value unit bound rs a) (value_whole (type_of a)) (value_whole to) (subst (HasType 0 ts (value unit bound rs a)) (ap value_type (sym from.is)) (typed a from.int rs from.is p q.0 l b)))
-    typed (Node at t (SizeOfType u)) k rs int p q l b = (ap register_type (same_int_type c.U64 k (sym q.0 ∙ int)), size_constant unit.structs u q.1)
-    typed (Node at t (SizeOfExpr a)) k rs int p q l b = (ap register_type (same_int_type c.U64 k (sym q.1 ∙ int)), size_constant unit.structs (type_of a) q.2)
-    typed (Node at t (Text n)) k rs int p q l b = absurd p
-    typed (Node at t (Index a c)) k rs int p q l b = absurd p
-    typed (Node at t (Dot a m)) k rs int p q l b = absurd p
-    typed (Node at t (Arrow a m)) k rs int p q l b = absurd p
-    typed (Node at t (Comma a c)) k rs int p q l b = absurd p
-    typed (Node at t (Assign op x y)) k rs int p q l b = absurd p
-    typed (Node at t (Bump op a)) k rs int p q l b = absurd p
-    typed (Node at t (Call f es)) k rs int p q l b = absurd p
+module _ (s : Sight) where
+  pub operands_scalar : (op : BinOp) (t u v : PlainType) → BinaryTypes s op t u v → IsScalar u × IsScalar v
+  operands_scalar op t u v (OfIntegers h) = (promoted_scalar u h.left, promoted_scalar v h.right)
+  operands_scalar op t u v (OfPointerAndInteger step pointer integer same) = (pointer_scalar u pointer.target pointer.is, integer_scalar v integer)
+  operands_scalar op t u v (OfIntegerAndPointer step integer pointer same) = (integer_scalar u integer, pointer_scalar v pointer.target pointer.is)
+  operands_scalar op t u v (OfDifference difference pointer alike result) = (pointer_scalar u pointer.target pointer.is, pointer_scalar v pointer.target (alike ∙ pointer.is))
+  operands_scalar op t u v (OfPointers relation left right result) = (pointer_scalar u left.target left.is, pointer_scalar v right.target right.is)
 
-    pub expression_valid : (e : Expression) (k : CInt) (rs : Types) → type_of e ≡ Int k → IsPure e → WellTyped scopes e → HasLetters e → nodes_of e ≤ 800 → Begins (rs ++ temporaries e) ts → IsExpression 0 ts (value unit bound rs e) (register_type k)
-    expression_valid e k rs int p q l few b = record { typed = typed e k rs int p q l b; within = omega (arith, few_parens unit bound rs e, few) }
+  pub index_scalar : (t u v : PlainType) → IndexTypes s t u v → IsScalar u × IsScalar v
+  index_scalar t u v (OnTheLeft pointer known integer) = (pointer_scalar u t pointer, integer_scalar v integer)
+  index_scalar t u v (OnTheRight integer pointer known) = (integer_scalar u integer, pointer_scalar v t pointer)
 
-    pub condition_valid : (e : Expression) (k : CInt) (rs : Types) → type_of e ≡ Int k → IsPure e → WellTyped scopes e → HasLetters e → nodes_of e ≤ 800 → Begins (rs ++ temporaries e) ts → IsExpression 0 ts (condition_of unit bound rs e) I32
-    condition_valid e k rs int p q l few b =
-        let m = parens_condition (value_type (type_of e)) (value unit bound rs e) (2 * nodes_of e) (few_parens unit bound rs e) (omega (arith, some_nodes e)) in
-        record { typed = condition_typed (value_type (type_of e)) (value unit bound rs e) (value_whole (type_of e)) (subst (HasType 0 ts (value unit bound rs e)) (ap value_type (sym int)) (typed e k rs int p q l b)); within = omega (arith, m, few) }
+  pub compound_scalar : (op : BinOp) (t u : PlainType) → CompoundTypes s op t u → IsScalar u
+  compound_scalar op t u (ToInteger left right) = integer_scalar u right
+  compound_scalar op t u (ToPointer step pointer integer) = integer_scalar u integer
 
-    pub truth_valid : (e : Expression) (k : CInt) (rs : Types) → type_of e ≡ Int k → IsPure e → WellTyped scopes e → HasLetters e → nodes_of e ≤ 800 → Begins (rs ++ temporaries e) ts → IsExpression 0 ts (truth_of unit bound rs e) I32
-    truth_valid e k rs int p q l few b =
-        let m = parens_compared mon.Ne (value_type (type_of e)) (value unit bound rs e) (2 * nodes_of e) (few_parens unit bound rs e) (omega (arith, some_nodes e)) in
-        record { typed = truth_typed (value_type (type_of e)) (value unit bound rs e) (value_whole (type_of e)) (subst (HasType 0 ts (value unit bound rs e)) (ap value_type (sym int)) (typed e k rs int p q l b)); within = omega (arith, m, few) }
+-- ---- expressions
 
-    -- `op=` on an object
-    pub compound_valid : (op : BinOp) (k i : CInt) (r : ℕ) (e : Expression) (rs : Types) → slice_get ts r ≡ Some Ptr → type_of e ≡ Int i → IsPure e → WellTyped scopes e → HasLetters e → nodes_of e ≤ 800 → Begins (rs ++ temporaries e) ts
-        → IsExpression 0 ts (compound_in op (register_type (operation_type op k i)) (register_type k) (register_type i) (current r (Int k)) (value unit bound rs e)) (register_type k)
-    compound_valid op k i r e rs points int p q l few b =
-        let some = some_nodes e in
-        let m = parens_compound op (register_type (operation_type op k i)) (register_type k) (register_type i) (current r (Int k)) (value unit bound rs e) (2 * nodes_of e) (omega (arith, some)) (few_parens unit bound rs e) (omega (arith, some)) in
-        record { typed = compound_typed op k i (current r (Int k)) (value unit bound rs e) (refl, points) (typed e i rs int p q l b); within = omega (arith, m, few) }
+module _ (p : TranslationUnit) (ts : Types) (bound : Bindings) (s : Sight) (knows : Knows p ts bound s) where
+  abbrev Typed : MonExpression → MonType → Type 0
+  Typed e t = HasType (count_of_globals p) ts e t
 
-    -- ---- annotations
+  pub pointer_typed : (x : ℕ) → Reaches p ts bound x → Typed (pointer_to p bound x) Ptr
+  pointer_typed x h = by (register_of bound x) h
+    where
+      by : (o : Option ℕ) → Aim ts (is_global p x) o → Typed (pointer_of o (global_index x p.globals)) Ptr
+      by (Some r) k = k
+      by None k = let l = ltb-true (global_index x p.globals) (length p.globals) k in (refl, omega (arith, l))
 
-    term_typed : (t : LogicTerm) → IsSumTerm t → TermTyped scopes t → TermHasLetters t → HasType 0 ts (term bound t) I128
-    term_typed (logic.Number at u r z) p q l = (refl, logic_constant z p)
-    term_typed (logic.Letter at u r z) p q l = (refl, logic_constant z (letter_number z l))
-    term_typed (logic.Variable at u r x) p q l =
-        (refl, refl, (term_type u, term_whole u, (refl, pointer_typed ts bound x.decl (seen x q.ctype q.denotes).has)))
-    term_typed (logic.Binary at u r operator.Add a b) p q l = (refl, refl, term_typed a p.1 q.0 l.0, term_typed b p.2 q.1 l.1)
-    term_typed (logic.Binary at u r operator.Sub a b) p q l = (refl, refl, term_typed a p.1 q.0 l.0, term_typed b p.2 q.1 l.1)
-    term_typed (logic.Binary at u r _ a b) p q l = absurd p.0
+  -- the variable that a name denotes
+  pub seen : (x : Use) (t : PlainType) → Denotes s x t → Seen p ts bound x.decl
+  seen x t d = subst (Seen p ts bound) (sym d.decl) (knows.sees x.name d.object d.found)
 
-    one_leaf : (t : LogicTerm) → 1 ≤ leaves_of_term t
-    one_leaf (logic.Number at u r z) = omega arith
-    one_leaf (logic.Letter at u r z) = omega arith
-    one_leaf (logic.Variable at u r x) = omega arith
-    one_leaf (logic.Binary at u r op a b) = let p = one_leaf a in omega (arith, p)
+  name_typed : (x : Use) (t : PlainType) (b : Bool) → is_of_library x ≡ b → IsScalar t → IsName s x t → Typed (if b then tree.Constant Ptr (pos 0) else loaded t (pointer_to p bound x.decl)) (value_type t)
+  name_typed x t true e h (OfObject d) = let k : true ≡ false = sym e ∙ (seen x t d).own in absurd cc
+  name_typed x t false e h (OfObject d) = loaded_typed (count_of_globals p) ts t (pointer_to p bound x.decl) h (pointer_typed x.decl (seen x t d).has)
+  name_typed x t true e h (OfNull library is) = subst (λ u. Typed (tree.Constant Ptr (pos 0)) (value_type u)) (sym is) (refl, refl)
+  name_typed x t false e h (OfNull library is) = let k : true ≡ false = ap (λ n. nat_eq n 4294967295) (sym library) ∙ e in absurd cc
 
-    few_parens_of_term : (t : LogicTerm) → open_parens (term bound t) ≤ 2 + leaves_of_term t
-    few_parens_of_term (logic.Number at u r z) = omega arith
-    few_parens_of_term (logic.Letter at u r z) = omega arith
-    few_parens_of_term (logic.Variable at u r x) =
-        let m : max 1 (open_parens (pointer_to bound x.decl)) ≤ 1 = max-le (omega arith) (few_parens_of_pointer bound x.decl) in
-        let n : max 1 (open_parens (tree.Load (term_type u) (pointer_to bound x.decl))) ≤ 2 = max-le (omega arith) (omega (arith, m)) in
-        omega (arith, n)
-    few_parens_of_term (logic.Binary at u r op a b) =
-        let m : max (open_parens (term bound a)) (open_parens (term bound b)) ≤ 1 + leaves_of_term a + leaves_of_term b = max-le (omega (arith, few_parens_of_term a, one_leaf b)) (omega (arith, few_parens_of_term b, one_leaf a)) in
-        omega (arith, m)
+  name_placed : (x : Use) (t : PlainType) → is_of_library x ≡ false → IsName s x t → Typed (pointer_to p bound x.decl) Ptr
+  name_placed x t e (OfObject d) = pointer_typed x.decl (seen x t d).has
+  name_placed x t e (OfNull library is) = let k : true ≡ false = ap (λ n. nat_eq n 4294967295) (sym library) ∙ e in absurd cc
 
-    relation_valid : (r : Relation) (a b : LogicTerm) → IsShortTerm a → IsShortTerm b → TermTyped scopes a → TermTyped scopes b → TermHasLetters a → TermHasLetters b
-        → IsExpression 0 ts (tree.Binary (relation_operator r) I128 (term bound a) (term bound b)) I32
-    relation_valid r a b p q f g l m =
-        let deep : max (open_parens (term bound a)) (open_parens (term bound b)) ≤ 402 = max-le (omega (arith, few_parens_of_term a, p.short)) (omega (arith, few_parens_of_term b, q.short)) in
-        record { typed = (relation_gives r I128, refl, term_typed a p.is f l, term_typed b q.is g m); within = omega (arith, deep) }
+  not_true : (b : Bool) → not b ≡ true → b ≡ false
+  not_true true e = absurd cc
+  not_true false e = refl
 
-    pub body_valid : (b : ClauseBody) → IsRelation b → ClauseTyped scopes b → BodyHasLetters b → IsExpression 0 ts (truth_of_body bound b) I32
-    body_valid (Truth (Chain at a (Linked at2 r b NoLink))) p q l = relation_valid r a b p.0 p.1 q.0 q.1.0 l.0 l.1.0
-    body_valid (Truth (Chain at a NoLink)) p q l = absurd p
-    body_valid (Truth (Chain at a (Linked at2 r b (Linked at3 r3 c rest)))) p q l = absurd p
+  -- an operator on a promoted operand
+  sign_typed : (op : UnOp) (t u : PlainType) (e : MonExpression) → IsPromoted u → t ≡ u → Typed e (value_type u) → Typed (tree.Minus (value_type u) e) (value_type t) × Typed (tree.Flip (value_type u) e) (value_type t)
+  sign_typed op t u e h same f =
+      let computes = ap (λ x. is_arithmetic (value_type x)) h.is ∙ promoted_computes h.int in
+      ((ap value_type (sym same), computes, f), (ap value_type (sym same), computes, f))
+
+  cast_typed : (b : Bool) (to : PlainType) (a : Expression) (d e : MonExpression) → is_array (type_of a) ≡ b → IsScalar to → CastTypes s to a → (has_object a ≡ true → Typed d Ptr) → (IsScalar (type_of a) → Typed e (value_type (type_of a)))
+      → Typed (if b then d else converted (type_of a) to e) (value_type to)
+  cast_typed true to a d e is scalar types f h =
+      let k = array_object (count_of_globals p) ts p.structs s knows.structs_are to a scalar is types in subst (Typed d) (sym k.1) (f k.0)
+  cast_typed false to a d e is scalar types f h = converted_typed (count_of_globals p) ts p.structs s knows.structs_are to a e scalar is types h
+
+  mutual
+    pub typed : (e : Expression) (rs : Types) → IsScalar (type_of e) → IsPure e → WellTyped s e → TypesSmall p.structs e → HasLetters e → Begins (rs ++ temporaries e) ts → Typed (value p bound rs e) (value_type (type_of e))
+    typed (Node at t (Number z None)) rs h u q parts l b = absurd q
+    typed (Node at t (Number z (Some i))) rs h u q parts l b = (refl, subst (λ j. has_constant (value_type j) z ≡ true) (sym q.0) (small_constant i z q.1))
+    typed (Node at t (Letter z)) rs h u q parts l b = (refl, subst (λ j. has_constant (value_type j) z ≡ true) (sym q) (small_constant c.I32 z (letter_fits z l)))
+    typed (Node at t (Text n)) rs h u q parts l b = let k : scalar_of (Array (Int c.I8) (Count (length q.text.bytes + 1))) ≡ Some h.scalar = ap scalar_of (sym q.ctype) ∙ h.is in absurd cc
+    typed (Node at t (Variable x)) rs h u q parts l b = name_typed x t (is_of_library x) refl h q
+    typed (Node at t (Unary prefix.Deref a)) rs h u q parts l b =
+        loaded_typed (count_of_globals p) ts t (value p bound rs a) h (subst (λ x. Typed (value p bound rs a) (value_type x)) q.1 (typed a rs (pointer_scalar (type_of a) t q.1) u q.0 parts.1 l b))
+    typed (Node at t (Unary prefix.Address a)) rs h u q parts l b =
+        subst (λ x. Typed (place p bound rs a) (value_type x)) (sym q.2) (placed a rs (place_object a q.1) u q.0 parts.1 l b)
+    typed (Node at t (Unary prefix.Plus a)) rs h u q parts l b =
+        subst (λ x. Typed (value p bound rs a) (value_type x)) (sym q.2) (typed a rs (promoted_scalar (type_of a) q.1) u q.0 parts.1 l b)
+    typed (Node at t (Unary prefix.Minus a)) rs h u q parts l b =
+        (sign_typed prefix.Minus t (type_of a) (value p bound rs a) q.1 q.2 (typed a rs (promoted_scalar (type_of a) q.1) u q.0 parts.1 l b)).0
+    typed (Node at t (Unary prefix.Flip a)) rs h u q parts l b =
+        (sign_typed prefix.Flip t (type_of a) (value p bound rs a) q.1 q.2 (typed a rs (promoted_scalar (type_of a) q.1) u q.0 parts.1 l b)).1
+    typed (Node at t (Unary prefix.Not a)) rs h u q parts l b =
+        subst (λ x. Typed (compared mon.Eq (value_type (type_of a)) (value p bound rs a)) (value_type x)) (sym q.2) (negated_typed (count_of_globals p) ts (value_type (type_of a)) (value p bound rs a) (typed a rs q.1 u q.0 parts.1 l b))
+    typed (Node at t (Binary op x y)) rs h u q parts l b =
+        let k = operands_scalar s op t (type_of x) (type_of y) q.2 in
+        operated_typed (count_of_globals p) ts p.structs s knows.structs_are op t (type_of x) (type_of y) (value p bound rs x) (value p bound (rs ++ temporaries x) y) q.2
+        (type_small p.structs x parts.1.0) (type_small p.structs y parts.1.1) (typed x rs k.0 u.0 q.0 parts.1.0 l.0 (begins_left rs (temporaries x) (temporaries y) ts b))
+        (typed y (rs ++ temporaries x) k.1 u.1 q.1 parts.1.1 l.1 (begins_right rs (temporaries x) (temporaries y) ts b))
+    typed (Node at t (Both x y)) rs h u q parts l b = register_at (rs ++ temporaries x ++ temporaries y) ts I32 (both_begin (count_of_globals p) ts x y rs b) ∙ ap (λ i. Some (value_type i)) (sym q.4)
+    typed (Node at t (Either x y)) rs h u q parts l b = register_at (rs ++ temporaries x ++ temporaries y) ts I32 (both_begin (count_of_globals p) ts x y rs b) ∙ ap (λ i. Some (value_type i)) (sym q.4)
+    typed (Node at t (Choice x y z)) rs h u q parts l b =
+        register_at (rs ++ temporaries x ++ temporaries y ++ temporaries z) ts (value_type (type_of y)) (choice_begins (count_of_globals p) ts x y z (value_type (type_of y)) rs b) ∙ ap (λ i. Some (value_type i)) q.4
+    typed (Node at t (Cast to a)) rs h u q parts l b =
+        let scalar = subst IsScalar q.1 h in
+        subst (λ i. Typed (if is_array (type_of a) then place p bound rs a else converted (type_of a) to (value p bound rs a)) (value_type i)) (sym q.1)
+        (cast_typed (is_array (type_of a)) to a (place p bound rs a) (value p bound rs a) refl scalar q.2 (λ k. placed a rs k u q.0 parts.1 l b) (λ k. typed a rs k u q.0 parts.1 l b))
+    typed (Node at t (SizeOfType v)) rs h u q parts l b = (ap value_type (sym q.1), size_constant (size_of p.structs v) (known_small p.structs s v knows.structs_are q.0))
+    typed (Node at t (SizeOfExpr a)) rs h u q parts l b = (ap value_type (sym q.2), size_constant (size_of p.structs (type_of a)) (known_small p.structs s (type_of a) knows.structs_are q.1))
+    typed (Node at t (Index x y)) rs h u q parts l b =
+        let k = index_scalar s t (type_of x) (type_of y) q.2 in
+        let e = indexed p.structs (type_of x) (type_of y) (value p bound rs x) (value p bound (rs ++ temporaries x) y) in
+        loaded_typed (count_of_globals p) ts t e h
+        (indexed_typed (count_of_globals p) ts p.structs s knows.structs_are t (type_of x) (type_of y) (value p bound rs x) (value p bound (rs ++ temporaries x) y) q.2
+        (type_small p.structs x parts.1.0) (type_small p.structs y parts.1.1) (typed x rs k.0 u.0 q.0 parts.1.0 l.0 (begins_left rs (temporaries x) (temporaries y) ts b))
+        (typed y (rs ++ temporaries x) k.1 u.1 q.1 parts.1.1 l.1 (begins_right rs (temporaries x) (temporaries y) ts b)))
+    typed (Node at t (Dot a m)) rs h u q parts l b =
+        let d = offset_of p.structs (type_of a) m in
+        loaded_typed (count_of_globals p) ts t (farther (place p bound rs a) d) h (farther_typed (count_of_globals p) ts (place p bound rs a) d (near p.structs knows.fits (type_of a) m) (placed a rs q.1 u q.0 parts.1 l b))
+    typed (Node at t (Arrow a m)) rs h u q parts l b =
+        let d = offset_of p.structs (target_of (type_of a)) m in
+        loaded_typed (count_of_globals p) ts t (farther (value p bound rs a) d) h (farther_typed (count_of_globals p) ts (value p bound rs a) d (near p.structs knows.fits (target_of (type_of a)) m)
+        (subst (λ x. Typed (value p bound rs a) (value_type x)) q.1.is (typed a rs (pointer_scalar (type_of a) q.1.target q.1.is) u q.0 parts.1 l b)))
+    typed (Node at t (Comma a e)) rs h u q parts l b = absurd u
+    typed (Node at t (Assign op x y)) rs h u q parts l b = absurd u
+    typed (Node at t (Bump op a)) rs h u q parts l b = absurd u
+    typed (Node at t (Call f es)) rs h u q parts l b = absurd u
+
+    -- what designates an object
+    pub placed : (e : Expression) (rs : Types) → has_object e ≡ true → IsPure e → WellTyped s e → TypesSmall p.structs e → HasLetters e → Begins (rs ++ temporaries e) ts → Typed (place p bound rs e) Ptr
+    placed (Node at t (Text n)) rs h u q parts l b =
+        let inside = get-below p.texts n q.text (ap (λ x. slice_get x n) (sym knows.texts_are) ∙ q.found) in
+        (refl, omega (arith, inside))
+    placed (Node at t (Variable x)) rs h u q parts l b = name_placed x t (not_true (is_of_library x) h) q
+    placed (Node at t (Unary prefix.Deref a)) rs h u q parts l b = subst (λ x. Typed (value p bound rs a) (value_type x)) q.1 (typed a rs (pointer_scalar (type_of a) t q.1) u q.0 parts.1 l b)
+    placed (Node at t (Index x y)) rs h u q parts l b =
+        let k = index_scalar s t (type_of x) (type_of y) q.2 in
+        indexed_typed (count_of_globals p) ts p.structs s knows.structs_are t (type_of x) (type_of y) (value p bound rs x) (value p bound (rs ++ temporaries x) y) q.2
+        (type_small p.structs x parts.1.0) (type_small p.structs y parts.1.1) (typed x rs k.0 u.0 q.0 parts.1.0 l.0 (begins_left rs (temporaries x) (temporaries y) ts b))
+        (typed y (rs ++ temporaries x) k.1 u.1 q.1 parts.1.1 l.1 (begins_right rs (temporaries x) (temporaries y) ts b))
+    placed (Node at t (Dot a m)) rs h u q parts l b =
+        let d = offset_of p.structs (type_of a) m in
+        farther_typed (count_of_globals p) ts (place p bound rs a) d (near p.structs knows.fits (type_of a) m) (placed a rs q.1 u q.0 parts.1 l b)
+    placed (Node at t (Arrow a m)) rs h u q parts l b =
+        let d = offset_of p.structs (target_of (type_of a)) m in
+        farther_typed (count_of_globals p) ts (value p bound rs a) d (near p.structs knows.fits (target_of (type_of a)) m)
+        (subst (λ x. Typed (value p bound rs a) (value_type x)) q.1.is (typed a rs (pointer_scalar (type_of a) q.1.target q.1.is) u q.0 parts.1 l b))
+    placed (Node at t (Comma a e)) rs h u q parts l b = absurd u
+    placed _ rs h u q parts l b = absurd cc
+
+  -- ---- within the limit
+
+  pub expression_valid : (e : Expression) (rs : Types) → IsScalar (type_of e) → IsPure e → WellTyped s e → TypesSmall p.structs e → HasLetters e → weight_of e ≤ most_weight → Begins (rs ++ temporaries e) ts
+      → IsExpression (count_of_globals p) ts (value p bound rs e) (value_type (type_of e))
+  expression_valid e rs h u q parts l light b = record { typed = typed e rs h u q parts l b; within = omega (arith, few_parens p bound rs e, light) }
+
+  pub place_valid : (e : Expression) (rs : Types) → has_object e ≡ true → IsPure e → WellTyped s e → TypesSmall p.structs e → HasLetters e → weight_of e ≤ most_weight → Begins (rs ++ temporaries e) ts
+      → IsExpression (count_of_globals p) ts (place p bound rs e) Ptr
+  place_valid e rs h u q parts l light b = record { typed = placed e rs h u q parts l b; within = omega (arith, few_place p bound rs e, light) }
+
+  pub condition_valid : (e : Expression) (rs : Types) → IsScalar (type_of e) → IsPure e → WellTyped s e → TypesSmall p.structs e → HasLetters e → weight_of e ≤ most_weight → Begins (rs ++ temporaries e) ts
+      → IsExpression (count_of_globals p) ts (condition_of p bound rs e) I32
+  condition_valid e rs h u q parts l light b =
+      let m = parens_condition (value_type (type_of e)) (value p bound rs e) (weight_of e) (few_parens p bound rs e) (some_weight e) in
+      record { typed = condition_typed (count_of_globals p) ts (value_type (type_of e)) (value p bound rs e) (typed e rs h u q parts l b); within = omega (arith, m, light) }
+
+  pub truth_valid : (e : Expression) (rs : Types) → IsScalar (type_of e) → IsPure e → WellTyped s e → TypesSmall p.structs e → HasLetters e → weight_of e ≤ most_weight → Begins (rs ++ temporaries e) ts
+      → IsExpression (count_of_globals p) ts (truth_of p bound rs e) I32
+  truth_valid e rs h u q parts l light b =
+      let m = parens_compared mon.Ne (value_type (type_of e)) (value p bound rs e) (weight_of e) (few_parens p bound rs e) (some_weight e) in
+      record { typed = truth_typed (count_of_globals p) ts (value_type (type_of e)) (value p bound rs e) (typed e rs h u q parts l b); within = omega (arith, m, light) }
+
+  -- `op=` on an object
+  pub compound_valid : (op : BinOp) (t : PlainType) (r : ℕ) (e : Expression) (rs : Types) → CompoundTypes s op t (type_of e) → has_small_parts p.structs t ≡ true → slice_get ts r ≡ Some Ptr → IsPure e → WellTyped s e
+      → TypesSmall p.structs e → HasLetters e → weight_of e ≤ most_weight
+      → Begins (rs ++ temporaries e) ts → IsExpression (count_of_globals p) ts (compound p.structs op t (type_of e) (current r t) (value p bound rs e)) (value_type t)
+  compound_valid op t r e rs types small points u q parts l light b =
+      let m = parens_compound_of p.structs op t (type_of e) (current r t) (value p bound rs e) (1 + weight_of e) (let k = some_weight e in omega (arith, k)) (let k = few_parens p bound rs e in omega (arith, k)) (omega arith) in
+      record {
+        typed = compound_typed (count_of_globals p) ts p.structs s knows.structs_are op t (type_of e) (current r t) (value p bound rs e) types small (refl, points) (typed e rs (compound_scalar s op t (type_of e) types) u q parts l b);
+        within = omega (arith, m, light);
+      }

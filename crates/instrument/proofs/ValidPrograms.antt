@@ -1,39 +1,56 @@
--- The translation of a program is valid: its functions, each with a name of its own, one of which is `main`.
-use Rattle.std.proofs.Common.{◌≡◌, ℕ, suc, ◌+◌, ◌<◌, ◌≤◌, ◌^◌, Bool, true, false, cond, if◌then◌else◌, nat_eq, List, [], ◌∷◌, ◌++◌, length, map, Option, Some, slice_get, refl, sym, ap, ◌∙◌, subst, arith}
-use Rattle.std.proofs.lemmas.List.{length-append, length-map}
-use Rattle.std.proofs.lemmas.Bool.{eq-eqb}
+-- The translation of a typed program is valid: its globals, and its functions, each with a name of its own, one of which is `main`.
+pub use Rattle.instrument.proofs.TypedDefinitions.{IsFileSight, GlobalTyped, GlobalsTyped, DefinitionTyped, DefinitionsTyped, IsTypedProgram}
+use Rattle.std.proofs.Common.{◌≡◌, ℕ, suc, ◌+◌, ◌<◌, ◌≤◌, Bool, true, false, cond, if◌then◌else◌, ◌&&◌, ◌*◌, nat_eq, List, [], ◌∷◌, ◌++◌, length, Option, Some, None, slice_get, refl, sym, ap, ◌∙◌, subst, arith}
+use Rattle.std.proofs.lemmas.List.{length-append}
 use Rattle.std.proofs.lemmas.Bool.Decides.{nat_tests}
+use Rattle.std.proofs.lemmas.Bool.{eq-eqb}
 use Rattle.std.proofs.Math.Nat.{max-le}
 use Rattle.std.specs.Prelude.{bytes_eq, codes}
-use Rattle.c_syntax.specs.Statements.{Declaration, Block}
+use Rattle.c_syntax.specs.declared.place.Place.{Place}
+use Rattle.c_syntax.specs.declared.types.CInt.{CInt}
+use Rattle.c_syntax.specs.declared.types.CInt.TheVariants as c
+use Rattle.c_syntax.specs.Ctypes.{PlainType, Int, int_type}
+use Rattle.c_syntax.specs.Statements.{Initialiser, Declaration, Block}
 use Rattle.c_syntax.specs.Programs.{Function, TranslationUnit}
-use Rattle.c_model.specs.Formed.{IsProgram, BodyFormed, most_typed}
+use Rattle.c_model.specs.Layouts.{size_of}
+use Rattle.c_model.specs.Formed.{FunctionNamed}
 use Rattle.c_model.specs.Meaning.{is_definition, declared_in}
-use Rattle.c_model.specs.Typing.{Signature as Known, Scopes, name_at, with_object}
-use Rattle.c_model.specs.ProgramTyping.{signature, function_scopes, with_parameter, with_parameters}
-use Rattle.c_model.specs.WellTypedPrograms.{around_body}
+use Rattle.c_model.specs.ExpressionTyping.{name_at}
+use Rattle.c_model.specs.ExpressionTyping.{Sight, inner, with_object}
+use Rattle.c_model.specs.ExpressionTyping.{same_type}
+use Rattle.c_model.specs.UnitTyping.{no_main, has_no_parameters, main_fault, room_fault, with_parameter, with_parameters}
 use Rattle.mon_syntax.specs.declared.tree.MonType.{MonType}
+use Rattle.mon_syntax.specs.declared.tree.MonType.TheVariants.{I32, Ptr}
 use Rattle.mon_syntax.specs.Registers.{RegisterTable, with_kinds, no_registers, next_register}
-use Rattle.mon_syntax.specs.Trees.{MonStatements}
+use Rattle.mon_syntax.specs.Trees.{MonStatements, NoStatement, MonFunction, MonitoredGlobal}
+use Rattle.mon_syntax.specs.Globals.{globals_taken}
 use Rattle.mon_syntax.specs.Trees as tree
-use Rattle.mon_syntax.specs.Valid.{Types, Labels, Signature, IsExpression, AreStatements, IsFunction, AreFunctions, IsValid, has_label, depth_of_all}
+use Rattle.mon_syntax.specs.Valid.{Types, Labels, Signature, IsExpression, AreStatements, IsFunction, AreFunctions, IsValid, has_label, depth_of_all, types_of}
 use Rattle.mon_syntax.specs.Names.{IsFreeName}
+use Rattle.c_model.specs.Sizes.{most_forms}
+use Rattle.instrument.proofs.FormedTrees.{InitialFormed}
+use Rattle.c_model.specs.AcceptedPrograms.{AreDefined}
+use Rattle.c_model.specs.TypedTrees.{WhereAny, IsScalar, Initialises, AreParameters, around_body}
+use Rattle.c_effects.specs.Letters.{InitialiserHasLetters}
 use Rattle.track_scopes.specs.Blocks.{entered, deaths, with_born}
-use Rattle.c_effects.specs.Expressions.{value_type, before}
-use Rattle.instrument.specs.Limits.{FunctionsHaveNumbers}
-use Rattle.instrument.specs.Translation.{Spot, value_types, registers_of_body, after_body, after_items, with_variables, body_part, parameters, items, code_of, function_name, arguments_from, result_of, function_of, functions_from, translated}
+use Rattle.c_effects.specs.Expressions.{value_type, before, set}
+use Rattle.c_effects.specs.Effects.{initial_temporaries, initialise}
+use Rattle.instrument.specs.Translation.{Spot, value_types, registers_of_body, registers_of, after_body, after_items, with_variables, body_part, parameters, items, code_of, function_name, arguments_from, result_of}
+use Rattle.instrument.specs.Translation.{function_of, functions_from, translated}
+use Rattle.instrument.specs.Translation.{monitored_globals, index_of_main, front, front_temporaries, global_temporaries, all_global_temporaries, initialise_global, initialise_globals}
 use Rattle.instrument.proofs.Names.{IsNumber, main_is_free, function_is_free, functions_differ}
-use Rattle.instrument.proofs.Numbers.{AreObjects, items_objects, parameter_objects}
-use Rattle.instrument.proofs.Programs.{Part, Parts, parts_of, is_picked, index_by, has_bytes, main_index_is}
-use Rattle.instrument.proofs.Resolved.{HasBody, has_body, main, is_main}
-use Rattle.instrument.proofs.Typed.{Begins, begins_left, begins_right, register_at}
+use Rattle.instrument.proofs.Typed.{Begins, begins_left, begins_right, register_at, is_global, Knows, count_of_globals, scalar_is}
+use Rattle.instrument.proofs.LaidOut.{structs_fit}
 use Rattle.instrument.proofs.Tables.{begins_itself, begins_then, entered_begins, items_begin, HavePointers, entered_keep, entered_have, AllPoint, PointFrom, entered_from, point_born}
-use Rattle.instrument.proofs.ValidSetups.{deep_before, before_valid}
-use Rattle.instrument.proofs.ValidBlocks.{Sees, sees_one, sees_later, deep_deaths, birth_valid, deaths_valid, alive_valid}
-use Rattle.instrument.proofs.Depths.{deep}
-use Rattle.instrument.proofs.ValidStatements.{items_valid}
+use Rattle.instrument.proofs.ValidSetups.{deep_before, deep_set, before_valid, set_valid}
 use Rattle.instrument.proofs.ValidCalls.{signatures, calls_valid}
-use Rattle.instrument.proofs.ValidRegisters.{AllOf, all_of, not_among, kinds, values_begin, function_types, registers_valid}
+use Rattle.instrument.proofs.ValidInitialisers.{initialise_valid, deep_initialise}
+use Rattle.instrument.proofs.ValidBlocks.{Sees, AreSmall, sees_one, sees_later, deep_deaths, birth_valid, deaths_valid, alive_valid}
+use Rattle.instrument.proofs.Depths.{deep}
+use Rattle.instrument.proofs.ValidStatements.{items_small, items_valid}
+use Rattle.instrument.proofs.ValidRegisters.{AllOf, all_of, not_among, kinds, front_begins, values_begin, function_types, registers_valid, all_globals_valid, room_is, count_is}
+use Rattle.instrument.proofs.Own.{AreOwn}
+use Rattle.instrument.proofs.Programs.{no_parameters}
 
 -- ---- parameters
 
@@ -55,137 +72,224 @@ deep_parameters : (p : TranslationUnit) (r v : ℕ) (ds : List Declaration) → 
 deep_parameters p r v [] = omega arith
 deep_parameters p r v (d ∷ ds) = max-le (omega arith) (max-le (omega arith) (deep_parameters p (suc r) (suc v) ds))
 
-module _ (gs : List Signature) (ts : Types) (result : Option MonType) (ls : Labels) (p : TranslationUnit) where
+scalar_small : (p : TranslationUnit) (t : PlainType) → IsScalar t → size_of p.structs t ≤ 2147483647
+scalar_small p t h = scalar_is (λ u. size_of p.structs u ≤ 2147483647) t h int_small (λ u. omega arith)
+  where
+    int_small : (k : CInt) → size_of p.structs (Int k) ≤ 2147483647
+    int_small c.I8 = omega arith
+    int_small c.U8 = omega arith
+    int_small c.I16 = omega arith
+    int_small c.U16 = omega arith
+    int_small c.I32 = omega arith
+    int_small c.U32 = omega arith
+    int_small c.I64 = omega arith
+    int_small c.U64 = omega arith
+
+parameters_small : (p : TranslationUnit) (s : Sight) (ds : List Declaration) → AreParameters s ds → AreSmall p.structs ds
+parameters_small p s [] h = tt
+parameters_small p s (d ∷ ds) h = (scalar_small p d.ctype h.0.scalar, parameters_small p (with_parameter s d) ds h.1)
+
+module _ (p : TranslationUnit) (gs : List Signature) (ts : Types) (result : Option MonType) (ls : Labels) where
   -- each parameter is born and takes its argument
-  parameters_valid : (r v : ℕ) (ds : List Declaration) → AreObjects ds → PointFrom ts r ds → HoldFrom ts v ds → AreStatements 0 gs ts result ls (parameters p r v ds)
+  parameters_valid : (r v : ℕ) (ds : List Declaration) → AreSmall p.structs ds → PointFrom ts r ds → HoldFrom ts v ds → AreStatements (count_of_globals p) gs ts result ls (parameters p r v ds)
   parameters_valid r v [] o h k = tt
   parameters_valid r v (d ∷ ds) o h k =
-      let argument : IsExpression 0 ts (tree.Register v) (value_type d.ctype) = record { typed = k.0; within = omega arith } in
-      ((birth_valid gs ts result ls p.structs r d o.0 h.0).0, ((h.0, argument), parameters_valid (suc r) (suc v) ds o.1 h.1 k.1))
+      let argument : IsExpression (count_of_globals p) ts (tree.Register v) (value_type d.ctype) = record { typed = k.0; within = omega arith } in
+      ((birth_valid (count_of_globals p) gs ts result ls p.structs r d o.0 h.0).0, ((h.0, argument), parameters_valid (suc r) (suc v) ds o.1 h.1 k.1))
 
--- ---- a function
+-- ---- globals before `main`
 
-module _ (p : TranslationUnit) (q : IsProgram p) (numbers : FunctionsHaveNumbers p.funcs) where
-  abbrev m : ℕ
-  m = main p q numbers
+deep_globals : (p : TranslationUnit) (rs : Types) (g : ℕ) (ds : List Declaration) → GlobalsTyped p ds → depth_of_all (initialise_globals p rs g ds) ≤ suc most_forms
+deep_globals p rs g [] h = omega arith
+deep_globals p rs g (d ∷ ds) h =
+    deep_before (initialise_global p rs g d.ctype d.init) (initialise_globals p (rs ++ global_temporaries d.init) (suc g) ds) (suc most_forms) (one d.init h.0.formed) (deep_globals p (rs ++ global_temporaries d.init) (suc g) ds h.1)
+  where
+    one : (o : Option (Place × Initialiser)) → InitialFormed p.structs o → depth_of_all (initialise_global p rs g d.ctype o) ≤ suc most_forms
+    one None f = omega arith
+    one (Some i) f =
+        deep_before (set (length rs) (tree.Global g)) (initialise p [] (rs ++ Ptr ∷ []) (length rs) d.ctype (Some i)) (suc most_forms) (deep_set (length rs) (tree.Global g) (suc most_forms) (omega arith))
+        (deep_initialise p [] (rs ++ Ptr ∷ []) (length rs) d.ctype (Some i) f)
 
+module _ (p : TranslationUnit) (q : IsTypedProgram p) where
   abbrev gs : List Signature
-  gs = signatures p q numbers
+  gs = signatures p
 
-  module _ (f : Function) (part : Part p f) (definition : is_definition f ≡ true) where
+  file_knows : (ts : Types) (s : Sight) → IsFileSight p s → Knows p ts [] s
+  file_knows ts s f = record {
+    sees = λ x b e. let o = f.objects x b e in record { own = o.0; has = o.1 };
+    structs_are = f.structs_are;
+    texts_are = f.texts_are;
+    fits = structs_fit p.structs q.structs;
+  }
+
+  module _ (ts : Types) (result : Option MonType) where
+    abbrev Main : MonStatements → Type 0
+    Main a = AreStatements (count_of_globals p) gs ts result [] a
+
+    global_valid : (rs : Types) (g : ℕ) (d : Declaration) (o : Option (Place × Initialiser)) → g < length p.globals → (k : GlobalTyped p d) → d.init ≡ o → Begins (rs ++ global_temporaries o) ts → Main (initialise_global p rs g d.ctype o)
+    global_valid rs g d None lt k e b = tt
+    global_valid rs g d (Some i) lt k e b =
+        let here = begins_left rs (Ptr ∷ []) (initial_temporaries (Some i)) ts b in
+        let points = register_at rs ts Ptr here in
+        let pointer : IsExpression (count_of_globals p) ts (tree.Global g) Ptr = record { typed = (refl, omega (arith, lt)); within = omega arith } in
+        before_valid (count_of_globals p) gs ts result [] (set (length rs) (tree.Global g)) (initialise p [] (rs ++ Ptr ∷ []) (length rs) d.ctype (Some i))
+        (set_valid (count_of_globals p) gs ts result [] (length rs) (tree.Global g) Ptr points pointer)
+        (initialise_valid p gs ts result [] k.sight (file_knows ts k.sight k.file) (calls_valid p ts k.sight k.file.names_are k.file.functions) [] (structs_fit p.structs q.structs) q.texts (rs ++ Ptr ∷ []) (length rs) d.ctype (Some i) points k.size
+        (subst (WhereAny (λ (i : Place × Initialiser). Initialises k.sight d.ctype i.1)) e k.init) (subst (InitialFormed p.structs) e k.formed) (subst (WhereAny (λ (i : Place × Initialiser). InitialiserHasLetters i.1)) e k.letters)
+        (begins_right rs (Ptr ∷ []) (initial_temporaries (Some i)) ts b))
+
+    globals_valid : (rs : Types) (g : ℕ) (ds : List Declaration) → g + length ds ≤ length p.globals → GlobalsTyped p ds → Begins (rs ++ all_global_temporaries ds) ts → Main (initialise_globals p rs g ds)
+    globals_valid rs g [] le h b = tt
+    globals_valid rs g (d ∷ ds) le h b =
+        let own = global_temporaries d.init in
+        before_valid (count_of_globals p) gs ts result [] (initialise_global p rs g d.ctype d.init) (initialise_globals p (rs ++ own) (suc g) ds)
+        (global_valid rs g d d.init (omega (arith, le)) h.0 refl (begins_left rs own (all_global_temporaries ds) ts b))
+        (globals_valid (rs ++ own) (suc g) ds (omega (arith, le)) h.1 (begins_right rs own (all_global_temporaries ds) ts b))
+
+  -- ---- a function
+
+  abbrev m : ℕ
+  m = index_of_main p.names p.funcs
+
+  module _ (f : Function) (is_main : Bool) (part : DefinitionTyped p (front_temporaries p is_main) f) where
+    abbrev fr : Types
+    fr = front_temporaries p is_main
+
     abbrev ts : Types
-    ts = kinds f
+    ts = kinds p fr f
 
-    abbrev body : HasBody p f part
-    body = has_body p f part definition
-
-    -- the registers before the body, and those of its variables besides
     abbrev opens : RegisterTable
-    opens = with_kinds (value_types f.params) no_registers
+    opens = with_kinds fr (with_kinds (value_types f.params) no_registers)
 
     abbrev r : RegisterTable
-    r = registers_of_body f
+    r = registers_of_body fr f
 
     abbrev inside : RegisterTable
-    inside = entered (declared_in body.items) r
+    inside = entered (declared_in part.items) r
 
-    items_are : ts ≡ (after_items body.items inside).kinds
-    items_are = ap (λ b. (after_body b r).kinds) body.is
+    items_are : ts ≡ (after_items p part.items inside).kinds
+    items_are = ap (λ b. (after_body p b r).kinds) part.is
 
-    within_items : Begins (after_items body.items inside).kinds ts
-    within_items = subst (Begins (after_items body.items inside).kinds) (sym items_are) (begins_itself (after_items body.items inside).kinds)
+    within_items : Begins (after_items p part.items inside).kinds ts
+    within_items = subst (Begins (after_items p part.items inside).kinds) (sym items_are) (begins_itself (after_items p part.items inside).kinds)
 
     born : Begins inside.kinds ts
-    born = begins_then inside.kinds (after_items body.items inside).kinds ts (items_begin body.items inside) within_items
+    born = begins_then inside.kinds (after_items p part.items inside).kinds ts (items_begin p part.items inside) within_items
 
     begun : Begins r.kinds ts
-    begun = begins_then r.kinds inside.kinds ts (entered_begins (declared_in body.items) r) born
+    begun = begins_then r.kinds inside.kinds ts (entered_begins (declared_in part.items) r) born
 
-    long : length opens.kinds ≡ length f.params
-    long = length-map f.params (λ (d : Declaration). value_type d.ctype)
+    abbrev first : ℕ
+    first = length (value_types f.params ++ fr)
 
-    points : PointFrom ts (length f.params) f.params
-    points = subst (λ n. PointFrom ts n f.params) long (entered_from ts f.params opens begun)
+    points : PointFrom ts first f.params
+    points = entered_from ts f.params opens begun
 
-    objects : AreObjects f.params
-    objects = parameter_objects (function_scopes p part.before f) f.params part.typed.params
-
-    abbrev known : List Known
-    known = map (signature p.funcs) (part.before ++ f ∷ [])
+    small : AreSmall p.structs f.params
+    small = parameters_small p (inner part.sight) f.params part.params
 
     -- each parameter that has a name is in sight
-    sees_parameters : (ds : List Declaration) (s : Scopes) → AreObjects ds → HavePointers ts r.bound ds → Sees ts r.bound p.names known s → Sees ts r.bound p.names known (with_parameters s ds)
+    sees_parameters : (ds : List Declaration) (s : Sight) → AreOwn ds → HavePointers ts r.bound ds → Sees p ts r.bound part.sight.functions s → Sees p ts r.bound part.sight.functions (with_parameters s ds)
     sees_parameters [] s o h v = v
     sees_parameters (d ∷ ds) s o h v = sees_parameters ds (with_parameter s d) o.1 h.1 (by d.named)
       where
-        by : (b : Bool) → Sees ts r.bound p.names known (cond b (with_object s d) s)
-        by true = sees_one ts p.names known r.bound s d o.0 h.0 v
+        by : (b : Bool) → Sees p ts r.bound part.sight.functions (cond b (with_object s d) s)
+        by true = sees_one p ts part.sight.functions r.bound s d o.0 h.0 v
         by false = v
 
-    abbrev scopes : Scopes
-    scopes = with_parameters (function_scopes p part.before f) f.params
+    abbrev sight : Sight
+    sight = with_parameters (inner part.sight) f.params
 
-    sees : Sees ts r.bound p.names known scopes
-    sees = sees_parameters f.params (function_scopes p part.before f) objects (entered_have ts f.params opens begun) (record { sees = λ x b e. absurd cc; names_are = refl; functions_are = refl })
+    sees_file : Sees p ts r.bound part.sight.functions (inner part.sight)
+    sees_file = record {
+      knows = record {
+        sees = λ x b e. let o = part.file.objects x b e in record { own = o.0; has = entered_keep ts b.decl (is_global p b.decl) f.params opens begun o.1 };
+        structs_are = part.file.structs_are;
+        texts_are = part.file.texts_are;
+        fits = structs_fit p.structs q.structs;
+      };
+      names_are = part.file.names_are;
+      functions_are = refl;
+    }
+
+    sees : Sees p ts r.bound part.sight.functions sight
+    sees = sees_parameters f.params (inner part.sight) part.own (entered_have ts f.params opens begun) sees_file
 
     abbrev live : List ℕ
-    live = with_born (length f.params) f.params []
+    live = with_born first f.params []
 
     live_point : AllPoint ts live
-    live_point = point_born ts (length f.params) f.params [] points tt
+    live_point = point_born ts first f.params [] points tt
 
     abbrev spot : Spot
     spot = record { loops = 0; inside = live; outside = [] }
 
     abbrev Are : MonStatements → Type 0
-    Are a = AreStatements 0 gs ts (result_of f.result) [] a
+    Are a = AreStatements (count_of_globals p) gs ts (result_of f.result) [] a
 
-    block_formed : BodyFormed most_typed (Some (Block body.at body.items))
-    block_formed = subst (BodyFormed most_typed) body.is part.formed.body
-
-    block_valid : Are (body_part p f.params r (Some (Block body.at body.items)))
+    block_valid : Are (body_part p live r (Some (Block part.place part.items)))
     block_valid =
-        let own = declared_in body.items in
+        let own = declared_in part.items in
         let deeper = with_variables (next_register r) own spot in
-        let shallow = block_formed.1 in
-        alive_valid gs ts (result_of f.result) [] p (next_register r) own (items p deeper inside body.items) (items_objects scopes (around_body f.result) body.items body.typed) (entered_from ts own r born)
-        (items_valid p gs ts f.result p.names known (λ s names seen. calls_valid p q numbers ts part.before part.after f part.is s names seen) body.items scopes (around_body f.result) deeper
+        let shallow = part.shallow in
+        alive_valid (count_of_globals p) gs ts (result_of f.result) [] p (next_register r) own (items p deeper inside part.items)
+        (items_small p gs ts f.result part.sight.functions (λ s names seen. calls_valid p ts s names (subst (AreDefined p) (sym seen) part.file.functions)) (structs_fit p.structs q.structs) q.texts part.items sight
+        (around_body f.result) sees.knows.structs_are part.typed) (entered_from ts own r born)
+        (items_valid p gs ts f.result part.sight.functions (λ s names seen. calls_valid p ts s names (subst (AreDefined p) (sym seen) part.file.functions)) (structs_fit p.structs q.structs) q.texts part.items sight (around_body f.result) deeper
         (record { inside = point_born ts (next_register r) own live (entered_from ts own r born) live_point; outside = tt })
-        inside (sees_later ts p.names known r inside scopes (λ x h. entered_keep ts x own r born h) sees) refl (λ e. absurd cc) (entered_have ts own r born) body.formed body.typed body.noted body.letters (omega (arith, shallow)) within_items)
+        inside (sees_later p ts part.sight.functions r inside sight (λ x g h. entered_keep ts x g own r born h) sees) refl (λ e. absurd cc) (entered_have ts own r born) part.formed part.typed part.noted part.numbers part.letters
+        (omega (arith, shallow)) within_items)
 
-    code_valid : Are (code_of p f)
+    code_valid : Are (code_of p fr f)
     code_valid =
-        let whole = body_part p f.params r f.body in
-        before_valid gs ts (result_of f.result) [] (parameters p (length f.params) 0 f.params) (before whole (deaths live))
-        (parameters_valid gs ts (result_of f.result) [] p (length f.params) 0 f.params objects points (hold_from ts [] f.params (values_begin f)))
-        (before_valid gs ts (result_of f.result) [] whole (deaths live) (subst (λ b. Are (body_part p f.params r b)) (sym body.is) block_valid) (deaths_valid gs ts (result_of f.result) [] live live_point))
+        let whole = body_part p live r f.body in
+        before_valid (count_of_globals p) gs ts (result_of f.result) [] (parameters p first 0 f.params) (before whole (deaths live))
+        (parameters_valid p gs ts (result_of f.result) [] first 0 f.params small points (hold_from ts [] f.params (values_begin p fr f)))
+        (before_valid (count_of_globals p) gs ts (result_of f.result) [] whole (deaths live) (subst (λ b. Are (body_part p live r b)) (sym part.is) block_valid) (deaths_valid (count_of_globals p) gs ts (result_of f.result) [] live live_point))
 
-    deep_body : depth_of_all (body_part p f.params r f.body) ≤ 1605
+    front_valid : (b : Bool) → Begins (value_types f.params ++ front_temporaries p b) ts → Are (front p b f.params)
+    front_valid false h = tt
+    front_valid true h = globals_valid ts (result_of f.result) (value_types f.params) 0 p.globals (omega arith) q.globals h
+
+    whole_valid : Are (before (front p is_main f.params) (code_of p fr f))
+    whole_valid = before_valid (count_of_globals p) gs ts (result_of f.result) [] (front p is_main f.params) (code_of p fr f) (front_valid is_main (front_begins p fr f)) code_valid
+
+    deep_body : depth_of_all (body_part p live r f.body) ≤ 1205
     deep_body =
-        subst (λ b. depth_of_all (body_part p f.params r b) ≤ 1605) (sym body.is)
-        (let d = deep p spot r (Block body.at body.items) block_formed.0 in let shallow = block_formed.1 in omega (arith, d, shallow))
+        subst (λ b. depth_of_all (body_part p live r b) ≤ 1205) (sym part.is)
+        (let d = deep p spot r (Block part.place part.items) part.formed in let shallow = part.shallow in omega (arith, d, shallow))
 
-    deep_code : depth_of_all (code_of p f) ≤ 1605
+    deep_code : depth_of_all (code_of p fr f) ≤ 1205
     deep_code =
-        let whole = body_part p f.params r f.body in
-        let x = deep_parameters p (length f.params) 0 f.params in
+        let whole = body_part p live r f.body in
+        let x = deep_parameters p first 0 f.params in
         let y = deep_deaths live in
-        deep_before (parameters p (length f.params) 0 f.params) (before whole (deaths live)) 1605 (omega (arith, x)) (deep_before whole (deaths live) 1605 deep_body (omega (arith, y)))
+        deep_before (parameters p first 0 f.params) (before whole (deaths live)) 1205 (omega (arith, x)) (deep_before whole (deaths live) 1205 deep_body (omega (arith, y)))
 
-    name_free : (k : ℕ) → IsNumber k → (b : Bool) → IsFreeName (if b then codes "main" else function_name k (name_at p.names f.name))
-    name_free k few true = main_is_free
-    name_free k few false = function_is_free k (name_at p.names f.name) few part.named.name.parts
+    deep_front : (b : Bool) → depth_of_all (front p b f.params) ≤ 1205
+    deep_front false = omega arith
+    deep_front true = let d = deep_globals p (value_types f.params) 0 p.globals q.globals in omega (arith, d)
 
-    pub function_valid : (k : ℕ) → IsNumber k → IsFunction [] gs (function_of p m k f)
-    function_valid k few =
-        let small = (part.numbers definition).few in
-        let deep = deep_code in
-        record {
-          name = name_free k few (nat_eq k m);
-          registers = registers_valid p.names f part.named (omega (arith, small));
-          body = subst (λ ts. AreStatements 0 gs ts (result_of f.result) [] (code_of p f)) (sym (function_types p.names f)) code_valid;
-          within = omega (arith, deep);
-        }
+    deep_whole : depth_of_all (before (front p is_main f.params) (code_of p fr f)) ≤ 1205
+    deep_whole = deep_before (front p is_main f.params) (code_of p fr f) 1205 (deep_front is_main) deep_code
+
+  name_free : (f : Function) → FunctionNamed p.names f → (k : ℕ) → IsNumber k → (b : Bool) → IsFreeName (if b then codes "main" else function_name k (name_at p.names f.name))
+  name_free f named k few true = main_is_free
+  name_free f named k few false = function_is_free k (name_at p.names f.name) few named.name.parts
+
+  function_valid : (f : Function) (k : ℕ) → IsNumber k → DefinitionTyped p (front_temporaries p (nat_eq k m)) f → IsFunction (monitored_globals p) gs (function_of p m k f)
+  function_valid f k few part =
+      let b = nat_eq k m in
+      let fr = front_temporaries p b in
+      let small = part.few in
+      let deep = deep_whole f b part in
+      record {
+        name = name_free f part.named k few b;
+        registers = registers_valid p fr f part.named (omega (arith, small));
+        body = subst (λ n. AreStatements n gs (types_of (arguments_from p.names 0 f.params ++ registers_of p fr f)) (result_of f.result) [] (before (front p b f.params) (code_of p fr f))) (sym (count_is p))
+            (subst (λ ts. AreStatements (count_of_globals p) gs ts (result_of f.result) [] (before (front p b f.params) (code_of p fr f))) (sym (function_types p fr f)) (whole_valid f b part));
+        within = omega (arith, deep);
+      }
 
   -- ---- all of them
 
@@ -211,39 +315,98 @@ module _ (p : TranslationUnit) (q : IsProgram p) (numbers : FunctionsHaveNumbers
       by true e = let same : k ≡ m = grind (arith, nat_tests) in not_among (codes "main") ws (all_of (Above k) (λ w. bytes_eq (codes "main") w ≡ false) ws (λ w a. a.first (omega (arith, same))) h)
       by false e = not_among (function_name k name) ws (all_of (Above k) (λ w. bytes_eq (function_name k name) w ≡ false) ws (λ w a. a.other k name (omega arith) few) h)
 
-  functions_valid : (fs : List Function) (k : ℕ) (ws : List (List ℕ)) → Parts p fs → IsNumber (k + length fs) → AllOf (Above k) ws → AreFunctions [] gs ws (functions_from p m k fs)
+  functions_valid : (fs : List Function) (k : ℕ) (ws : List (List ℕ)) → DefinitionsTyped p m k fs → IsNumber (k + length fs) → AllOf (Above k) ws → AreFunctions (monitored_globals p) gs ws (functions_from p m k fs)
   functions_valid [] k ws parts few h = tt
-  functions_valid (f ∷ fs) k ws parts few h = by (is_definition f) refl (λ j us le g. functions_valid fs j us parts.1 le g)
+  functions_valid (f ∷ fs) k ws parts few h = by (is_definition f) refl parts.1 (λ j us rest le g. functions_valid fs j us rest le g)
     where
-      by : (b : Bool) → is_definition f ≡ b → ((j : ℕ) (us : List (List ℕ)) → IsNumber (j + length fs) → AllOf (Above j) us → AreFunctions [] gs us (functions_from p m j fs))
-          → AreFunctions [] gs ws (if b then function_of p m k f ∷ functions_from p m (suc k) fs else functions_from p m k fs)
-      by true e rest = (
-        function_valid f parts.0 e k (omega (arith, few)),
+      by : (b : Bool) → is_definition f ≡ b → DefinitionsTyped p m (if b then suc k else k) fs
+          → ((j : ℕ) (us : List (List ℕ)) → DefinitionsTyped p m j fs → IsNumber (j + length fs) → AllOf (Above j) us → AreFunctions (monitored_globals p) gs us (functions_from p m j fs))
+          → AreFunctions (monitored_globals p) gs ws (if b then function_of p m k f ∷ functions_from p m (suc k) fs else functions_from p m k fs)
+      by true e parts2 rest = (
+        function_valid f k (omega (arith, few)) (parts.0 e),
         new_name k (name_at p.names f.name) ws (omega (arith, few)) h,
-        rest (suc k) ((function_of p m k f).name ∷ ws) (omega (arith, few)) (above_this k (name_at p.names f.name) (omega (arith, few)), above_next k ws h),
+        rest (suc k) ((function_of p m k f).name ∷ ws) parts2 (omega (arith, few)) (above_this k (name_at p.names f.name) (omega (arith, few)), above_next k ws h),
       )
-      by false e rest = rest k ws (omega (arith, few)) h
+      by false e parts2 rest = rest k ws parts2 (omega (arith, few)) h
 
-  -- ---- main
+-- ---- `main`
 
-  -- the translation is valid
-  pub translated_valid : length p.funcs < 2 ^ 64 → IsValid (translated p)
-  translated_valid few =
-      let parts = parts_of p q numbers in
-      let found = is_main p.names p.funcs q.main in
-      let picked = is_picked p (has_bytes p.names (codes "main")) m p.funcs found.function parts found.first 0 in
-      let index = 0 + index_by (has_bytes p.names (codes "main")) p.funcs in
-      let first : index ≡ m = sym (main_index_is p.names p.funcs ∙ omega arith) in
-      record {
-        globals = tt;
-        room = omega arith;
-        functions = functions_valid p.funcs 0 [] parts (omega (arith, few)) tt;
-        number = index_by (has_bytes p.names (codes "main")) p.funcs;
-        main = function_of p m index found.function;
-        has = picked.translated;
-        is_main = record {
-          name = ap (λ b. if b then codes "main" else function_name index (name_at p.names found.function.name)) (eq-eqb index m first);
-          result = ap result_of found.result;
-          no_parameters = ap (arguments_from p.names 0) found.params;
-        };
-      }
+-- the first definition of `main`, at its index, where all that is translated stands from the index k on
+record FoundMain (p : TranslationUnit) (m k : ℕ) (fs : List Function) : Type 0 where
+  pub function : Function
+  pub has : slice_get (functions_from p m k fs) (index_of_main p.names fs) ≡ Some (function_of p m (k + index_of_main p.names fs) function)
+  pub result : result_of function.result ≡ Some I32
+  pub params : function.params ≡ []
+
+int_result : (t : PlainType) → same_type t int_type ≡ true → result_of t ≡ Some I32
+int_result (Int c.I32) e = refl
+int_result _ e = absurd cc
+
+found_main : (p : TranslationUnit) (m k : ℕ) (fs : List Function) → main_fault p.names fs ≡ None → FoundMain p m k fs
+found_main p m k [] e = absurd cc
+found_main p m k (f ∷ fs) e = by (is_definition f) (bytes_eq (name_at p.names f.name) (codes "main")) refl refl (same_type f.result int_type) (has_no_parameters f.params) refl refl e (λ j x. found_main p m j fs x)
+  where
+    with_tests : (x y : Bool) → is_definition f ≡ x → bytes_eq (name_at p.names f.name) (codes "main") ≡ y → (g : Function)
+        → slice_get (if x then function_of p m k f ∷ functions_from p m (suc k) fs else functions_from p m k fs) (if x then (if y then 0 else suc (index_of_main p.names fs)) else index_of_main p.names fs)
+        ≡ Some (function_of p m (k + (if x then (if y then 0 else suc (index_of_main p.names fs)) else index_of_main p.names fs)) g) → result_of g.result ≡ Some I32 → g.params ≡ [] → FoundMain p m k (f ∷ fs)
+    with_tests x y ex ey g has result params = record {
+      function = g;
+      has = subst (λ b. slice_get (if b then function_of p m k f ∷ functions_from p m (suc k) fs else functions_from p m k fs)
+          (if b then (if bytes_eq (name_at p.names f.name) (codes "main") then 0 else suc (index_of_main p.names fs)) else index_of_main p.names fs)
+          ≡ Some (function_of p m (k + (if b then (if bytes_eq (name_at p.names f.name) (codes "main") then 0 else suc (index_of_main p.names fs)) else index_of_main p.names fs)) g)) (sym ex)
+          (subst (λ b. slice_get (if x then function_of p m k f ∷ functions_from p m (suc k) fs else functions_from p m k fs) (if x then (if b then 0 else suc (index_of_main p.names fs)) else index_of_main p.names fs)
+          ≡ Some (function_of p m (k + (if x then (if b then 0 else suc (index_of_main p.names fs)) else index_of_main p.names fs)) g)) (sym ey) has);
+      result = result;
+      params = params;
+    }
+
+    by : (x y : Bool) → is_definition f ≡ x → bytes_eq (name_at p.names f.name) (codes "main") ≡ y → (u v : Bool) → same_type f.result int_type ≡ u → has_no_parameters f.params ≡ v
+        → cond (x && y) (cond (u && v) None (Some (no_main f.place))) (main_fault p.names fs) ≡ None → ((j : ℕ) → main_fault p.names fs ≡ None → FoundMain p m j fs) → FoundMain p m k (f ∷ fs)
+    by true true ex ey true true eu ev e rest =
+        let zero_more : k ≡ k + 0 = omega arith in with_tests true true ex ey f (ap (λ j. Some (function_of p m j f)) zero_more) (int_result f.result eu) (no_parameters f.params ev)
+    by true true ex ey true false eu ev e rest = absurd cc
+    by true true ex ey false v eu ev e rest = absurd cc
+    by true false ex ey u v eu ev e rest =
+        let r = rest (suc k) e in
+        let one_more : suc k + index_of_main p.names fs ≡ k + suc (index_of_main p.names fs) = omega arith in
+        with_tests true false ex ey r.function (r.has ∙ ap (λ j. Some (function_of p m j r.function)) one_more) r.result r.params
+    by false y ex ey u v eu ev e rest =
+        let r = rest k e in with_tests false y ex ey r.function r.has r.result r.params
+
+-- ---- how many globals
+
+-- each takes 16 bytes at least
+taken_of_globals : (gs : List MonitoredGlobal) → 16 * length gs ≤ globals_taken gs
+taken_of_globals [] = omega arith
+taken_of_globals (g ∷ gs) = let r = taken_of_globals gs in omega (arith, r)
+
+few_globals : (p : TranslationUnit) → room_fault p ≡ None → length p.globals + length p.texts ≤ 65536
+few_globals p e =
+    let r = room_is p e in
+    let t = taken_of_globals (monitored_globals p) in
+    let c = count_is p in
+    omega (arith, r, t, c)
+
+-- ---- the translation
+
+-- the translation of a typed program is valid
+pub translated_valid : (p : TranslationUnit) → IsTypedProgram p → IsValid (translated p)
+translated_valid p q =
+    let m = index_of_main p.names p.funcs in
+    let first = found_main p m 0 p.funcs q.main in
+    let f = first.function in
+    let few = q.few_functions in
+    let count = few_globals p q.room in
+    record {
+      globals = all_globals_valid p (omega (arith, count)) (omega (arith, count)) q.globals_named q.texts;
+      room = room_is p q.room;
+      functions = functions_valid p q p.funcs 0 [] q.definitions (omega (arith, few)) tt;
+      number = m;
+      main = function_of p m (0 + m) f;
+      has = first.has;
+      is_main = record {
+        name = ap (λ b. if b then codes "main" else function_name (0 + m) (name_at p.names f.name)) (eq-eqb (0 + m) m (omega arith));
+        result = first.result;
+        no_parameters = ap (arguments_from p.names 0) first.params;
+      };
+    }

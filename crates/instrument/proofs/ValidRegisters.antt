@@ -1,21 +1,36 @@
 -- The registers of translated functions: their names are free, and each has its own; and their types.
-use Rattle.std.proofs.Common.{◌≡◌, ℕ, suc, ◌+◌, ◌<◌, ◌≤◌, ◌^◌, Bool, true, false, ◌||◌, if◌then◌else◌, List, [], ◌∷◌, ◌++◌, length, drop, Option, Some, None, refl, sym, ap, ◌∙◌, arith}
+pub use Rattle.instrument.proofs.TypedDefinitions.{kinds}
+use Rattle.std.proofs.Common.{◌≡◌, ℕ, suc, ◌+◌, ◌<◌, ◌≤◌, ◌^◌, Bool, true, false, ◌||◌, if◌then◌else◌, List, [], ◌∷◌, ◌++◌, length, drop, map, nat_lt, Option, Some, None, refl, sym, ap, ◌∙◌, arith}
 use Rattle.std.proofs.lemmas.List.{length-append, length-map, map-append}
 use Rattle.std.specs.Prelude.{bytes_eq}
 use Rattle.c_syntax.specs.Statements.{Declaration, Statement}
-use Rattle.c_syntax.specs.Programs.{Function}
-use Rattle.c_model.specs.Typing.{name_at}
-use Rattle.c_model.specs.Formed.{IsName, AreNamedParameters, FunctionNamed}
+use Rattle.c_syntax.specs.Programs.{StringLiteral, Function, TranslationUnit}
+use Rattle.c_model.specs.ExpressionTyping.{name_at}
+use Rattle.std.proofs.lemmas.Bool.Decides.{nat_tests}
+use Rattle.c_model.specs.Limits.{globals_bytes}
+use Rattle.c_model.specs.Layouts.{size_of}
+use Rattle.c_model.specs.Memory.{rounded}
+use Rattle.c_model.specs.Checked.{Fault}
+use Rattle.c_model.specs.UnitTyping.{room_fault, room_fault_from}
+use Rattle.c_model.specs.Formed.{AreNamed, IsName, AreNamedParameters, FunctionNamed}
 use Rattle.mon_syntax.specs.declared.tree.MonType.{MonType}
 use Rattle.mon_syntax.specs.Registers.{RegisterTable, no_registers, with_kinds}
-use Rattle.mon_syntax.specs.Trees.{MonRegister}
-use Rattle.mon_syntax.specs.Valid.{Types, AreRegisters, has_label, types_of}
+use Rattle.mon_syntax.specs.Trees.{MonRegister, MonitoredGlobal}
+use Rattle.mon_syntax.specs.Globals.{globals_taken}
+use Rattle.mon_syntax.specs.Valid.{Types, AreRegisters, AreGlobals, names_before, has_label, types_of}
 use Rattle.c_effects.specs.Expressions.{value_type}
-use Rattle.instrument.specs.Translation.{register_name, name_of_register, own_name, value_types, arguments_from, registers_from, registers_of, registers_of_body, after_body}
-use Rattle.instrument.proofs.Names.{IsNumber, AllParts, register_is_free, registers_differ, named_free, named_differ, named_no_value}
-use Rattle.instrument.proofs.Typed.{Begins}
+use Rattle.instrument.specs.Translation.{register_name, name_of_register, own_name, value_types, arguments_from, registers_from, registers_of, registers_of_body, after_body, global_name, text_name, globals_from, texts_from, monitored_globals}
+use Rattle.instrument.proofs.Names.{IsNumber, AllParts, register_is_free, registers_differ, named_free, named_differ, named_no_value, global_is_free}
+use Rattle.instrument.proofs.Names.{globals_differ, text_is_free, texts_differ, text_no_global, register_no_global, register_no_text, named_no_global, named_no_text}
+use Rattle.instrument.proofs.Typed.{Begins, begins_front, count_of_globals}
+use Rattle.c_model.specs.ReadTree.{TextsAreBytes}
 use Rattle.instrument.proofs.Tables.{begins_itself, begins_then, entered_begins, statement_begins}
-use Rattle.instrument.proofs.ValidCalls.{types_of_arguments}
+
+-- ---- types of arguments
+
+pub types_of_arguments : (names : List (List ℕ)) (k : ℕ) (ds : List Declaration) → types_of (arguments_from names k ds) ≡ value_types ds
+types_of_arguments names k [] = refl
+types_of_arguments names k (d ∷ ds) = ap (λ l. value_type d.ctype ∷ l) (types_of_arguments names (suc k) ds)
 
 -- ---- names that others haven't
 
@@ -80,44 +95,156 @@ arguments_valid names k (d ∷ ds) before n ts o le few h =
       ),
     )
 
+-- ---- globals and literals
+
+-- the names of globals, of which each fulfils this
+abbrev NamesAre : (List ℕ → Type 0) → List MonitoredGlobal → Type 0
+NamesAre P [] = Unit {0}
+NamesAre P (g ∷ gs) = P g.name × NamesAre P gs
+
+names_are : (P : List ℕ → Type 0) (before : List (List ℕ)) (gs : List MonitoredGlobal) → AllOf P before → NamesAre P gs → AllOf P (names_before before gs)
+names_are P before [] h k = h
+names_are P before (g ∷ gs) h k = names_are P (g.name ∷ before) gs (k.0, h) k.1
+
+both_are : (P : List ℕ → Type 0) (a b : List MonitoredGlobal) → NamesAre P a → NamesAre P b → NamesAre P (a ++ b)
+both_are P [] b h k = k
+both_are P (g ∷ a) b h k = (h.0, both_are P a b h.1 k)
+
+above_global : (k : ℕ) (name : List ℕ) → AboveArguments 0 (global_name k name)
+above_global k name = record { argument = λ j a le few. register_no_global j k a name; other = λ j t. named_no_global j k t name }
+
+above_text : (k : ℕ) → AboveArguments 0 (text_name k)
+above_text k = record { argument = λ j a le few. register_no_text j k a; other = λ j t. named_no_text j k t }
+
+globals_above : (p : TranslationUnit) (k : ℕ) (ds : List Declaration) → NamesAre (AboveArguments 0) (globals_from p k ds)
+globals_above p k [] = tt
+globals_above p k (d ∷ ds) = (above_global k (name_at p.names d.name), globals_above p (suc k) ds)
+
+texts_above : (k : ℕ) (xs : List StringLiteral) → NamesAre (AboveArguments 0) (texts_from k xs)
+texts_above k [] = tt
+texts_above k (x ∷ xs) = (above_text k, texts_above (suc k) xs)
+
+-- no register has the name of a global
+above_globals : (p : TranslationUnit) → AllOf (AboveArguments 0) (names_before [] (monitored_globals p))
+above_globals p = names_are (AboveArguments 0) [] (monitored_globals p) tt (both_are (AboveArguments 0) (globals_from p 0 p.globals) (texts_from 0 p.texts) (globals_above p 0 p.globals) (texts_above 0 p.texts))
+
+-- names of globals in front, of which none with these numbers is one, nor that of a literal
+record AboveGlobals (k : ℕ) (w : List ℕ) : Type 0 where
+  pub global : (j : ℕ) (name : List ℕ) → k ≤ j → IsNumber j → bytes_eq (global_name j name) w ≡ false
+  pub text : (j : ℕ) → bytes_eq (text_name j) w ≡ false
+
+record AboveTexts (k : ℕ) (w : List ℕ) : Type 0 where
+  pub text : (j : ℕ) → k ≤ j → IsNumber j → bytes_eq (text_name j) w ≡ false
+
+texts_valid : (k : ℕ) (xs : List StringLiteral) (before : List (List ℕ)) → IsNumber (k + length xs) → TextsAreBytes xs → AllOf (AboveTexts k) before → AreGlobals before (texts_from k xs)
+texts_valid k [] before few bytes h = tt
+texts_valid k (x ∷ xs) before few bytes h = (
+  text_is_free k (omega (arith, few)),
+  not_among (text_name k) before (all_of (AboveTexts k) (λ w. bytes_eq (text_name k) w ≡ false) before (λ w a. a.text k (omega arith) (omega (arith, few))) h),
+  bytes.0,
+  texts_valid (suc k) xs (text_name k ∷ before) (omega (arith, few)) bytes.1 (
+    record { text = λ j lt small. texts_differ j k small (omega (arith, few)) (λ e. omega (arith, e, lt)) },
+    all_of (AboveTexts k) (AboveTexts (suc k)) before (λ w a. record { text = λ j lt small. a.text j (omega (arith, lt)) small }) h,
+  ),
+)
+
+globals_valid : (p : TranslationUnit) (k : ℕ) (ds : List Declaration) (before : List (List ℕ)) → IsNumber (k + length ds) → IsNumber (length p.texts) → AreNamed p.names ds → TextsAreBytes p.texts → AllOf (AboveGlobals k) before
+    → AreGlobals before (globals_from p k ds ++ texts_from 0 p.texts)
+globals_valid p k [] before few small named bytes h = texts_valid 0 p.texts before (omega (arith, small)) bytes (all_of (AboveGlobals k) (AboveTexts 0) before (λ w a. record { text = λ j lt less. a.text j }) h)
+globals_valid p k (d ∷ ds) before few small named bytes h =
+    let name = name_at p.names d.name in (
+      global_is_free k name (omega (arith, few)) named.0.parts,
+      not_among (global_name k name) before (all_of (AboveGlobals k) (λ w. bytes_eq (global_name k name) w ≡ false) before (λ w a. a.global k name (omega arith) (omega (arith, few))) h),
+      tt,
+      globals_valid p (suc k) ds (global_name k name ∷ before) (omega (arith, few)) small named.1 bytes (
+        record { global = λ j other lt less. globals_differ j k other name less (omega (arith, few)) (λ e. omega (arith, e, lt)); text = λ j. text_no_global j k name },
+        all_of (AboveGlobals k) (AboveGlobals (suc k)) before (λ w a. record { global = λ j other lt less. a.global j other (omega (arith, lt)) less; text = a.text }) h,
+      ),
+    )
+
+pub all_globals_valid : (p : TranslationUnit) → IsNumber (length p.globals) → IsNumber (length p.texts) → AreNamed p.names p.globals → TextsAreBytes p.texts → AreGlobals [] (monitored_globals p)
+all_globals_valid p few small named bytes = globals_valid p 0 p.globals [] (omega (arith, few)) small named bytes tt
+
+pub count_is : (p : TranslationUnit) → length (monitored_globals p) ≡ count_of_globals p
+count_is p = length-append (globals_from p 0 p.globals) (texts_from 0 p.texts) ∙ ap (λ n. n + length (texts_from 0 p.texts)) (count_globals 0 p.globals) ∙ ap (λ n. length p.globals + n) (count_texts 0 p.texts)
+  where
+    count_globals : (k : ℕ) (ds : List Declaration) → length (globals_from p k ds) ≡ length ds
+    count_globals k [] = refl
+    count_globals k (d ∷ ds) = ap suc (count_globals (suc k) ds)
+
+    count_texts : (k : ℕ) (xs : List StringLiteral) → length (texts_from k xs) ≡ length xs
+    count_texts k [] = refl
+    count_texts k (x ∷ xs) = ap suc (count_texts (suc k) xs)
+
+-- ---- their room (C99 5.2.4.1)
+
+room_here : (b : Bool) (x : Fault) (o : Option Fault) → (if b then Some x else o) ≡ None → (b ≡ false) × (o ≡ None)
+room_here true x o e = absurd cc
+room_here false x o e = (refl, e)
+
+not_less : (a b : ℕ) → nat_lt a b ≡ false → b ≤ a
+not_less a b e = grind (arith, nat_tests)
+
+texts_room : (k taken : ℕ) (xs : List StringLiteral) → room_fault_from taken (map (λ (l : StringLiteral). (l.place, length l.bytes + 1)) xs) ≡ None → taken ≤ globals_bytes → taken + globals_taken (texts_from k xs) ≤ globals_bytes
+texts_room k taken [] e le = omega (arith, le)
+texts_room k taken (x ∷ xs) e le =
+    let here = room_here (nat_lt globals_bytes (taken + rounded (length x.bytes + 1))) _ _ e in
+    let fits : taken + rounded (length x.bytes + 1) ≤ globals_bytes = not_less globals_bytes (taken + rounded (length x.bytes + 1)) here.0 in
+    let rest = texts_room (suc k) (taken + rounded (length x.bytes + 1)) xs here.1 fits in
+    omega (arith, rest)
+
+globals_room : (p : TranslationUnit) (k taken : ℕ) (ds : List Declaration)
+    → room_fault_from taken (map (λ (d : Declaration). (d.place, size_of p.structs d.ctype)) ds ++ map (λ (l : StringLiteral). (l.place, length l.bytes + 1)) p.texts) ≡ None → taken ≤ globals_bytes
+    → taken + globals_taken (globals_from p k ds ++ texts_from 0 p.texts) ≤ globals_bytes
+globals_room p k taken [] e le = texts_room 0 taken p.texts e le
+globals_room p k taken (d ∷ ds) e le =
+    let here = room_here (nat_lt globals_bytes (taken + rounded (size_of p.structs d.ctype))) _ _ e in
+    let fits : taken + rounded (size_of p.structs d.ctype) ≤ globals_bytes = not_less globals_bytes (taken + rounded (size_of p.structs d.ctype)) here.0 in
+    let rest = globals_room p (suc k) (taken + rounded (size_of p.structs d.ctype)) ds here.1 fits in
+    omega (arith, rest)
+
+pub room_is : (p : TranslationUnit) → room_fault p ≡ None → globals_taken (monitored_globals p) ≤ globals_bytes
+room_is p e = let r = globals_room p 0 0 p.globals e (omega arith) in omega (arith, r)
+
 -- ---- those of a function
 
 types_of_registers : (k : ℕ) (ts : Types) → types_of (registers_from k ts) ≡ ts
 types_of_registers k [] = refl
 types_of_registers k (t ∷ ts) = ap (λ l. t ∷ l) (types_of_registers (suc k) ts)
 
-body_begins : (body : Option Statement) (r : RegisterTable) → Begins r.kinds (after_body body r).kinds
-body_begins None r = begins_itself r.kinds
-body_begins (Some a) r = statement_begins a r
+body_begins : (p : TranslationUnit) (body : Option Statement) (r : RegisterTable) → Begins r.kinds (after_body p body r).kinds
+body_begins p None r = begins_itself r.kinds
+body_begins p (Some a) r = statement_begins p a r
 
 drop_values : (ds : List Declaration) (rest : Types) → drop (length ds) (value_types ds ++ rest) ≡ rest
 drop_values [] rest = refl
 drop_values (d ∷ ds) rest = drop_values ds rest
 
--- the types of all registers of a function
-abbrev pub kinds : Function → Types
-kinds f = (after_body f.body (registers_of_body f)).kinds
+-- those of arguments are the first, and those before the parameters' blocks come next
+pub front_begins : (p : TranslationUnit) (front : Types) (f : Function) → Begins (value_types f.params ++ front) (kinds p front f)
+front_begins p front f =
+    begins_then (value_types f.params ++ front) (registers_of_body front f).kinds (kinds p front f) (entered_begins f.params (with_kinds front (with_kinds (value_types f.params) no_registers))) (body_begins p f.body (registers_of_body front f))
 
--- those of arguments are the first
-pub values_begin : (f : Function) → Begins (value_types f.params) (kinds f)
-values_begin f =
-    begins_then (value_types f.params) (registers_of_body f).kinds (kinds f) (entered_begins f.params (with_kinds (value_types f.params) no_registers)) (body_begins f.body (registers_of_body f))
+pub values_begin : (p : TranslationUnit) (front : Types) (f : Function) → Begins (value_types f.params) (kinds p front f)
+values_begin p front f = begins_front (value_types f.params) front (kinds p front f) (front_begins p front f)
 
-module _ (names : List (List ℕ)) (f : Function) where
-  others_are : drop (length f.params) (kinds f) ≡ (values_begin f).rest
-  others_are = ap (drop (length f.params)) (values_begin f).is ∙ drop_values f.params (values_begin f).rest
+module _ (p : TranslationUnit) (front : Types) (f : Function) where
+  others_are : drop (length f.params) (kinds p front f) ≡ (values_begin p front f).rest
+  others_are = ap (drop (length f.params)) (values_begin p front f).is ∙ drop_values f.params (values_begin p front f).rest
 
-  pub function_types : types_of (arguments_from names 0 f.params ++ registers_of f) ≡ kinds f
+  pub function_types : types_of (arguments_from p.names 0 f.params ++ registers_of p front f) ≡ kinds p front f
   function_types =
-      map-append (λ (r : MonRegister). r.kind) (arguments_from names 0 f.params) (registers_of f)
-      ∙ ap (λ l. l ++ types_of (registers_of f)) (types_of_arguments names 0 f.params)
-      ∙ ap (λ l. value_types f.params ++ l) (types_of_registers (length f.params) (drop (length f.params) (kinds f)) ∙ others_are)
-      ∙ sym (values_begin f).is
+      map-append (λ (r : MonRegister). r.kind) (arguments_from p.names 0 f.params) (registers_of p front f)
+      ∙ ap (λ l. l ++ types_of (registers_of p front f)) (types_of_arguments p.names 0 f.params)
+      ∙ ap (λ l. value_types f.params ++ l) (types_of_registers (length f.params) (drop (length f.params) (kinds p front f)) ∙ others_are)
+      ∙ sym (values_begin p front f).is
 
-  pub registers_valid : FunctionNamed names f → length (kinds f) < 2 ^ 64 → AreRegisters [] (arguments_from names 0 f.params ++ registers_of f)
+  pub registers_valid : FunctionNamed p.names f → length (kinds p front f) < 2 ^ 64 → AreRegisters (names_before [] (monitored_globals p)) (arguments_from p.names 0 f.params ++ registers_of p front f)
   registers_valid named few =
-      let a : length (kinds f) ≡ length (value_types f.params ++ (values_begin f).rest) = ap (λ (l : Types). length l) (values_begin f).is in
-      let b = length-append (value_types f.params) (values_begin f).rest in
+      let a : length (kinds p front f) ≡ length (value_types f.params ++ (values_begin p front f).rest) = ap (λ (l : Types). length l) (values_begin p front f).is in
+      let b = length-append (value_types f.params) (values_begin p front f).rest in
       let c : length (value_types f.params) ≡ length f.params = length-map f.params (λ (d : Declaration). value_type d.ctype) in
-      let d : length (drop (length f.params) (kinds f)) ≡ length (values_begin f).rest = ap (λ (l : Types). length l) others_are in
-      arguments_valid names 0 f.params [] (length f.params) (drop (length f.params) (kinds f)) (parameters_parts names f.params named.params) (omega (arith, a, b, c, few)) (omega (arith, a, b, c, d, few)) tt
+      let d : length (drop (length f.params) (kinds p front f)) ≡ length (values_begin p front f).rest = ap (λ (l : Types). length l) others_are in
+      arguments_valid p.names 0 f.params (names_before [] (monitored_globals p)) (length f.params) (drop (length f.params) (kinds p front f)) (parameters_parts p.names f.params named.params) (omega (arith, a, b, c, few))
+      (omega (arith, a, b, c, d, few))
+      (above_globals p)

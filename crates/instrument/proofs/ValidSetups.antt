@@ -1,13 +1,12 @@
 -- What stands before translated expressions is valid: types, steps and depth.
-use Rattle.std.proofs.Common.{◌≡◌, ℕ, suc, ◌+◌, ◌≤◌, pos, Bool, true, false, not, ◌&&◌, List, [], ◌∷◌, ◌++◌, length, Option, Some, slice_get, max, refl, sym, ap, ◌∙◌, arith}
+use Rattle.std.proofs.Common.{◌≡◌, ℕ, suc, ◌+◌, ◌≤◌, pos, Bool, true, false, not, ◌&&◌, List, [], ◌∷◌, ◌++◌, length, Option, Some, slice_get, max, refl, sym, ap, ◌∙◌, subst, arith}
 use Rattle.std.proofs.Math.Nat.{max-le, le-max_left, le-max_right}
-use Rattle.c_syntax.specs.declared.types.CInt.{CInt}
-use Rattle.c_syntax.specs.Ctypes.{Int}
+use Rattle.c_syntax.specs.declared.expression.UnOp.TheVariants as prefix
+use Rattle.c_syntax.specs.Ctypes.{PlainType, Void}
 use Rattle.c_syntax.specs.Expressions.{Expression, Node, Number, Letter, Variable, Unary, Binary, Both, Either, Choice, Assign, Bump, Call, Cast, SizeOfType, SizeOfExpr, Text, Index, Dot, Arrow, Comma, type_of}
 use Rattle.c_syntax.specs.Programs.{TranslationUnit}
-use Rattle.c_model.specs.Typing.{Scopes}
-use Rattle.c_model.specs.WellTyped.{WellTyped}
-use Rattle.c_model.specs.Formed.{IsPure, nodes_of}
+use Rattle.c_model.specs.Layouts.{scalar_of}
+use Rattle.c_model.specs.ExpressionTyping.{Sight}
 use Rattle.mon_syntax.specs.declared.tree.MonType.{MonType}
 use Rattle.mon_syntax.specs.declared.tree.MonType.TheVariants.{I32}
 use Rattle.mon_syntax.specs.Trees.{MonExpression, MonStatement, MonStatements, NoStatement, Then}
@@ -15,9 +14,13 @@ use Rattle.mon_syntax.specs.Registers.{Bindings}
 use Rattle.mon_syntax.specs.Trees as tree
 use Rattle.mon_syntax.specs.Valid.{Types, Labels, Signature, IsExpression, AreStatements, has_no_step, depth, depth_of_all, is_step}
 use Rattle.c_effects.specs.Letters.{HasLetters}
-use Rattle.c_effects.specs.Expressions.{register_type, value_type, before, one, set, setup, value, temporaries, truth_of, condition_of}
-use Rattle.instrument.proofs.ExpressionTypes.{scalar_int, cast_int, unary_at, binary_at}
-use Rattle.instrument.proofs.Typed.{Begins, begins_left, begins_right, begins_front, register_at, AreSeen, both_begin, choice_begins, some_nodes, expression_valid, condition_valid, truth_valid}
+use Rattle.c_model.specs.Pure.{IsPure}
+use Rattle.c_model.specs.SmallTypes.{TypesSmall}
+use Rattle.c_model.specs.Sizes.{forms_of, weight_of, most_weight}
+use Rattle.c_model.specs.TypedTrees.{IsScalar, CastTypes, ToVoid, OfInteger, OfPointer, OfNullConstant, OfArray, has_object, WellTyped}
+use Rattle.c_effects.specs.Expressions.{value_type, before, one, set, setup, value, temporaries, truth_of, condition_of}
+use Rattle.instrument.proofs.Typed.{Begins, begins_left, begins_right, begins_front, register_at, Knows, count_of_globals, both_begin, choice_begins, pointer_scalar, promoted_scalar, integer_scalar, operands_scalar, index_scalar, place_object}
+use Rattle.instrument.proofs.Typed.{expression_valid, condition_valid, truth_valid}
 
 -- ---- no step stands there
 
@@ -35,10 +38,34 @@ no_step_setup unit bound rs (Node at t (Binary op a b)) = no_step_before (setup 
 no_step_setup unit bound rs (Node at t (Both a b)) = no_step_before (setup unit bound rs a) _ (no_step_setup unit bound rs a) refl
 no_step_setup unit bound rs (Node at t (Either a b)) = no_step_before (setup unit bound rs a) _ (no_step_setup unit bound rs a) refl
 no_step_setup unit bound rs (Node at t (Choice a b c)) = no_step_before (setup unit bound rs a) _ (no_step_setup unit bound rs a) refl
+no_step_setup unit bound rs (Node at t (Index a b)) = no_step_before (setup unit bound rs a) (setup unit bound (rs ++ temporaries a) b) (no_step_setup unit bound rs a) (no_step_setup unit bound (rs ++ temporaries a) b)
+no_step_setup unit bound rs (Node at t (Dot a m)) = no_step_setup unit bound rs a
+no_step_setup unit bound rs (Node at t (Arrow a m)) = no_step_setup unit bound rs a
 no_step_setup unit bound rs (Node at t (Cast to a)) = no_step_setup unit bound rs a
 no_step_setup unit bound rs _ = refl
 
 -- ---- how deep they stand
+
+pub some_forms : (e : Expression) → 1 ≤ forms_of e
+some_forms (Node at t (Number z k)) = omega arith
+some_forms (Node at t (Letter z)) = omega arith
+some_forms (Node at t (Variable x)) = omega arith
+some_forms (Node at t (Unary op a)) = omega arith
+some_forms (Node at t (Binary op a b)) = omega arith
+some_forms (Node at t (Both a b)) = omega arith
+some_forms (Node at t (Either a b)) = omega arith
+some_forms (Node at t (Choice a b c)) = omega arith
+some_forms (Node at t (Assign op a b)) = omega arith
+some_forms (Node at t (Bump op a)) = omega arith
+some_forms (Node at t (Call f es)) = omega arith
+some_forms (Node at t (Cast to a)) = some_forms a
+some_forms (Node at t (SizeOfType u)) = omega arith
+some_forms (Node at t (SizeOfExpr a)) = omega arith
+some_forms (Node at t (Text n)) = omega arith
+some_forms (Node at t (Index a b)) = omega arith
+some_forms (Node at t (Dot a m)) = omega arith
+some_forms (Node at t (Arrow a m)) = omega arith
+some_forms (Node at t (Comma a b)) = omega arith
 
 pub deep_before : (a b : MonStatements) (n : ℕ) → depth_of_all a ≤ n → depth_of_all b ≤ n → depth_of_all (before a b) ≤ n
 deep_before NoStatement b n h k = k
@@ -64,24 +91,24 @@ deep_choice front c a b n m f h k le = deep_before front (one (tree.If c a b)) m
 deep_then_set : (front : MonStatements) (r : ℕ) (e : MonExpression) (n : ℕ) → depth_of_all front ≤ n → 1 ≤ n → depth_of_all (before front (set r e)) ≤ n
 deep_then_set front r e n h le = deep_before front (set r e) n h (deep_set r e n le)
 
-pub deep_setup : (unit : TranslationUnit) (bound : Bindings) (rs : List MonType) (e : Expression) → depth_of_all (setup unit bound rs e) ≤ nodes_of e
+pub deep_setup : (unit : TranslationUnit) (bound : Bindings) (rs : List MonType) (e : Expression) → depth_of_all (setup unit bound rs e) ≤ forms_of e
 deep_setup unit bound rs (Node at t (Unary op a)) = let p = deep_setup unit bound rs a in omega (arith, p)
 deep_setup unit bound rs (Node at t (Binary op a b)) =
     let p = deep_setup unit bound rs a in
     let q = deep_setup unit bound (rs ++ temporaries a) b in
-    deep_before (setup unit bound rs a) (setup unit bound (rs ++ temporaries a) b) (suc (nodes_of a + nodes_of b)) (omega (arith, p)) (omega (arith, q))
+    deep_before (setup unit bound rs a) (setup unit bound (rs ++ temporaries a) b) (suc (forms_of a + forms_of b)) (omega (arith, p)) (omega (arith, q))
 deep_setup unit bound rs (Node at t (Both a b)) =
     let p = deep_setup unit bound rs a in
     let r = rs ++ temporaries a in
     let last = length (r ++ temporaries b) in
-    deep_choice (setup unit bound rs a) (condition_of unit bound rs a) (before (setup unit bound r b) (set last (truth_of unit bound r b))) (set last (tree.Constant I32 (pos 0))) (nodes_of b) (suc (nodes_of a + nodes_of b)) (omega (arith, p))
-    (deep_then_set (setup unit bound r b) last (truth_of unit bound r b) (nodes_of b) (deep_setup unit bound r b) (some_nodes b)) (deep_set last (tree.Constant I32 (pos 0)) (nodes_of b) (some_nodes b)) (omega arith)
+    deep_choice (setup unit bound rs a) (condition_of unit bound rs a) (before (setup unit bound r b) (set last (truth_of unit bound r b))) (set last (tree.Constant I32 (pos 0))) (forms_of b) (suc (forms_of a + forms_of b)) (omega (arith, p))
+    (deep_then_set (setup unit bound r b) last (truth_of unit bound r b) (forms_of b) (deep_setup unit bound r b) (some_forms b)) (deep_set last (tree.Constant I32 (pos 0)) (forms_of b) (some_forms b)) (omega arith)
 deep_setup unit bound rs (Node at t (Either a b)) =
     let p = deep_setup unit bound rs a in
     let r = rs ++ temporaries a in
     let last = length (r ++ temporaries b) in
-    deep_choice (setup unit bound rs a) (condition_of unit bound rs a) (set last (tree.Constant I32 (pos 1))) (before (setup unit bound r b) (set last (truth_of unit bound r b))) (nodes_of b) (suc (nodes_of a + nodes_of b)) (omega (arith, p))
-    (deep_set last (tree.Constant I32 (pos 1)) (nodes_of b) (some_nodes b)) (deep_then_set (setup unit bound r b) last (truth_of unit bound r b) (nodes_of b) (deep_setup unit bound r b) (some_nodes b)) (omega arith)
+    deep_choice (setup unit bound rs a) (condition_of unit bound rs a) (set last (tree.Constant I32 (pos 1))) (before (setup unit bound r b) (set last (truth_of unit bound r b))) (forms_of b) (suc (forms_of a + forms_of b)) (omega (arith, p))
+    (deep_set last (tree.Constant I32 (pos 1)) (forms_of b) (some_forms b)) (deep_then_set (setup unit bound r b) last (truth_of unit bound r b) (forms_of b) (deep_setup unit bound r b) (some_forms b)) (omega arith)
 deep_setup unit bound rs (Node at t (Choice a b c)) =
     let p = deep_setup unit bound rs a in
     let r = rs ++ temporaries a in
@@ -89,11 +116,11 @@ deep_setup unit bound rs (Node at t (Choice a b c)) =
     let last = length (s ++ temporaries c) in
     let q = deep_setup unit bound r b in
     let u = deep_setup unit bound s c in
-    let one = some_nodes b in
-    deep_choice (setup unit bound rs a) (condition_of unit bound rs a) (before (setup unit bound r b) (set last (value unit bound r b))) (before (setup unit bound s c) (set last (value unit bound s c))) (nodes_of b + nodes_of c)
-    (suc (nodes_of a + (nodes_of b + nodes_of c))) (omega (arith, p))
-    (deep_then_set (setup unit bound r b) last (value unit bound r b) (nodes_of b + nodes_of c) (omega (arith, q)) (omega (arith, one)))
-    (deep_then_set (setup unit bound s c) last (value unit bound s c) (nodes_of b + nodes_of c) (omega (arith, u)) (omega (arith, one)))
+    let one = some_forms b in
+    deep_choice (setup unit bound rs a) (condition_of unit bound rs a) (before (setup unit bound r b) (set last (value unit bound r b))) (before (setup unit bound s c) (set last (value unit bound s c))) (forms_of b + forms_of c)
+    (suc (forms_of a + (forms_of b + forms_of c))) (omega (arith, p))
+    (deep_then_set (setup unit bound r b) last (value unit bound r b) (forms_of b + forms_of c) (omega (arith, q)) (omega (arith, one)))
+    (deep_then_set (setup unit bound s c) last (value unit bound s c) (forms_of b + forms_of c) (omega (arith, u)) (omega (arith, one)))
     (omega arith)
 deep_setup unit bound rs (Node at t (Cast to a)) = let p = deep_setup unit bound rs a in omega (arith, p)
 deep_setup unit bound rs (Node at t (Number z k)) = omega arith
@@ -102,131 +129,162 @@ deep_setup unit bound rs (Node at t (Variable x)) = omega arith
 deep_setup unit bound rs (Node at t (SizeOfType u)) = omega arith
 deep_setup unit bound rs (Node at t (SizeOfExpr a)) = omega arith
 deep_setup unit bound rs (Node at t (Text n)) = omega arith
-deep_setup unit bound rs (Node at t (Index a b)) = omega arith
-deep_setup unit bound rs (Node at t (Dot a m)) = omega arith
-deep_setup unit bound rs (Node at t (Arrow a m)) = omega arith
+deep_setup unit bound rs (Node at t (Index a b)) =
+    let p = deep_setup unit bound rs a in
+    let q = deep_setup unit bound (rs ++ temporaries a) b in
+    deep_before (setup unit bound rs a) (setup unit bound (rs ++ temporaries a) b) (suc (forms_of a + forms_of b)) (omega (arith, p)) (omega (arith, q))
+deep_setup unit bound rs (Node at t (Dot a m)) = let p = deep_setup unit bound rs a in omega (arith, p)
+deep_setup unit bound rs (Node at t (Arrow a m)) = let p = deep_setup unit bound rs a in omega (arith, p)
 deep_setup unit bound rs (Node at t (Comma a b)) = omega arith
 deep_setup unit bound rs (Node at t (Assign op a b)) = omega arith
 deep_setup unit bound rs (Node at t (Bump op a)) = omega arith
 deep_setup unit bound rs (Node at t (Call f es)) = omega arith
 
 -- a statement after what stands before it
-pub deep_behind : (unit : TranslationUnit) (bound : Bindings) (rs : List MonType) (e : Expression) (s : MonStatement) (n : ℕ) → nodes_of e ≤ n → depth s ≤ n → depth_of_all (before (setup unit bound rs e) (one s)) ≤ n
+pub deep_behind : (unit : TranslationUnit) (bound : Bindings) (rs : List MonType) (e : Expression) (s : MonStatement) (n : ℕ) → forms_of e ≤ n → depth s ≤ n → depth_of_all (before (setup unit bound rs e) (one s)) ≤ n
 deep_behind unit bound rs e s n few le = deep_before (setup unit bound rs e) (one s) n (omega (arith, deep_setup unit bound rs e, few)) (deep_one s n le)
 
 -- ---- they are valid
 
-module _ (gs : List Signature) (ts : Types) (result : Option MonType) (ls : Labels) where
-  pub before_valid : (a b : MonStatements) → AreStatements 0 gs ts result ls a → AreStatements 0 gs ts result ls b → AreStatements 0 gs ts result ls (before a b)
+-- what is evaluated has a value, or designates an object
+pub data IsEvaluated (e : Expression) : Type 0 where
+  HasValue : IsScalar (type_of e) → IsEvaluated e
+  HasObject : has_object e ≡ true → IsEvaluated e
+
+pub evaluated_scalar : (e : Expression) → has_object e ≡ false → IsEvaluated e → IsScalar (type_of e)
+evaluated_scalar e h (HasValue k) = k
+evaluated_scalar e h (HasObject k) = let x : false ≡ true = sym h ∙ k in absurd cc
+
+-- the operand of a cast to a scalar type
+pub operand_evaluated : (s : Sight) (to : PlainType) (a : Expression) → IsScalar to → CastTypes s to a → IsEvaluated a
+operand_evaluated s to a h (ToVoid void) = let k : scalar_of Void ≡ Some h.scalar = ap scalar_of (sym void) ∙ h.is in absurd cc
+operand_evaluated s to a h (OfInteger left right) = HasValue (integer_scalar (type_of a) right)
+operand_evaluated s to a h (OfPointer left right) = HasValue (pointer_scalar (type_of a) right.target right.is)
+operand_evaluated s to a h (OfNullConstant left right null) = HasValue (integer_scalar (type_of a) right)
+operand_evaluated s to a h (OfArray t n is array object) = HasObject object
+
+module _ (g : ℕ) (gs : List Signature) (ts : Types) (result : Option MonType) (ls : Labels) where
+  pub before_valid : (a b : MonStatements) → AreStatements g gs ts result ls a → AreStatements g gs ts result ls b → AreStatements g gs ts result ls (before a b)
   before_valid NoStatement b h k = k
   before_valid (Then x a) b h k = (h.0, before_valid a b h.1 k)
 
-module _ (gs : List Signature) (ts : Types) (result : Option MonType) (unit : TranslationUnit) (bound : Bindings) (scopes : Scopes) (sees : AreSeen ts bound scopes.objects) (ls : Labels) where
-  abbrev pub Are : MonStatements → Type 0
-  Are a = AreStatements 0 gs ts result ls a
-
-  behind_setup : (a b : MonStatements) → Are a → Are b → Are (before a b)
-  behind_setup a b h k = before_valid gs ts result ls a b h k
-
-  pub set_valid : (r : ℕ) (e : MonExpression) (t : MonType) → slice_get ts r ≡ Some t → IsExpression 0 ts e t → Are (set r e)
+  pub set_valid : (r : ℕ) (e : MonExpression) (t : MonType) → slice_get ts r ≡ Some t → IsExpression g ts e t → AreStatements g gs ts result ls (set r e)
   set_valid r e t reg h = ((t, reg, h), tt)
 
-  zero_valid : IsExpression 0 ts (tree.Constant I32 (pos 0)) I32
+module _ (unit : TranslationUnit) (gs : List Signature) (ts : Types) (result : Option MonType) (bound : Bindings) (s : Sight) (knows : Knows unit ts bound s) (ls : Labels) where
+  abbrev pub Are : MonStatements → Type 0
+  Are a = AreStatements (count_of_globals unit) gs ts result ls a
+
+  abbrev G : ℕ
+  G = count_of_globals unit
+
+  behind_setup : (a b : MonStatements) → Are a → Are b → Are (before a b)
+  behind_setup a b h k = before_valid G gs ts result ls a b h k
+
+  sets : (r : ℕ) (e : MonExpression) (t : MonType) → slice_get ts r ≡ Some t → IsExpression G ts e t → Are (set r e)
+  sets r e t reg h = set_valid G gs ts result ls r e t reg h
+
+  zero_valid : IsExpression G ts (tree.Constant I32 (pos 0)) I32
   zero_valid = record { typed = (refl, refl); within = omega arith }
 
-  one_valid : IsExpression 0 ts (tree.Constant I32 (pos 1)) I32
+  one_valid : IsExpression G ts (tree.Constant I32 (pos 1)) I32
   one_valid = record { typed = (refl, refl); within = omega arith }
 
   -- the temporary register after both sides
   last_of_two : (x y : Expression) (rs : Types) → Begins (rs ++ (temporaries x ++ temporaries y ++ I32 ∷ [])) ts → slice_get ts (length (rs ++ temporaries x ++ temporaries y)) ≡ Some I32
-  last_of_two x y rs b = register_at (rs ++ temporaries x ++ temporaries y) ts I32 (both_begin ts x y rs b)
+  last_of_two x y rs b = register_at (rs ++ temporaries x ++ temporaries y) ts I32 (both_begin G ts x y rs b)
 
   first_begins : (x y : Expression) (rs : Types) → Begins (rs ++ (temporaries x ++ temporaries y ++ I32 ∷ [])) ts → Begins (rs ++ temporaries x) ts
-  first_begins x y rs b = begins_front (rs ++ temporaries x) (temporaries y) ts (begins_front (rs ++ temporaries x ++ temporaries y) (I32 ∷ []) ts (both_begin ts x y rs b))
+  first_begins x y rs b = begins_front (rs ++ temporaries x) (temporaries y) ts (begins_front (rs ++ temporaries x ++ temporaries y) (I32 ∷ []) ts (both_begin G ts x y rs b))
 
   second_begins : (x y : Expression) (rs : Types) → Begins (rs ++ (temporaries x ++ temporaries y ++ I32 ∷ [])) ts → Begins (rs ++ temporaries x ++ temporaries y) ts
-  second_begins x y rs b = begins_front (rs ++ temporaries x ++ temporaries y) (I32 ∷ []) ts (both_begin ts x y rs b)
+  second_begins x y rs b = begins_front (rs ++ temporaries x ++ temporaries y) (I32 ∷ []) ts (both_begin G ts x y rs b)
 
-  pub setup_valid : (e : Expression) (k : CInt) (rs : Types) → type_of e ≡ Int k → IsPure e → WellTyped scopes e → HasLetters e → nodes_of e ≤ 800 → Begins (rs ++ temporaries e) ts → Are (setup unit bound rs e)
-  setup_valid (Node at t (Unary op a)) k rs int p q l few b =
-      let m = unary_at op t (type_of a) k q.1 int in
-      setup_valid a m.operand rs m.is p q.0 l (omega (arith, few)) b
-  setup_valid (Node at t (Binary op x y)) k rs int p q l few b =
-      let m = binary_at op t (type_of x) (type_of y) k q.2 int in
+  pub setup_valid : (e : Expression) (rs : Types) → IsEvaluated e → IsPure e → WellTyped s e → TypesSmall unit.structs e → HasLetters e → weight_of e ≤ most_weight → Begins (rs ++ temporaries e) ts → Are (setup unit bound rs e)
+  setup_valid (Node at t (Unary prefix.Deref a)) rs h u q parts l light b = setup_valid a rs (HasValue (pointer_scalar (type_of a) t q.1)) u q.0 parts.1 l (omega (arith, light)) b
+  setup_valid (Node at t (Unary prefix.Address a)) rs h u q parts l light b = setup_valid a rs (HasObject (place_object a q.1)) u q.0 parts.1 l (omega (arith, light)) b
+  setup_valid (Node at t (Unary prefix.Plus a)) rs h u q parts l light b = setup_valid a rs (HasValue (promoted_scalar (type_of a) q.1)) u q.0 parts.1 l (omega (arith, light)) b
+  setup_valid (Node at t (Unary prefix.Minus a)) rs h u q parts l light b = setup_valid a rs (HasValue (promoted_scalar (type_of a) q.1)) u q.0 parts.1 l (omega (arith, light)) b
+  setup_valid (Node at t (Unary prefix.Flip a)) rs h u q parts l light b = setup_valid a rs (HasValue (promoted_scalar (type_of a) q.1)) u q.0 parts.1 l (omega (arith, light)) b
+  setup_valid (Node at t (Unary prefix.Not a)) rs h u q parts l light b = setup_valid a rs (HasValue q.1) u q.0 parts.1 l (omega (arith, light)) b
+  setup_valid (Node at t (Binary op x y)) rs h u q parts l light b =
+      let k = operands_scalar s op t (type_of x) (type_of y) q.2 in
       behind_setup (setup unit bound rs x) (setup unit bound (rs ++ temporaries x) y)
-      (setup_valid x m.left rs m.left_is p.0 q.0 l.0 (omega (arith, few)) (begins_left rs (temporaries x) (temporaries y) ts b))
-      (setup_valid y m.right (rs ++ temporaries x) m.right_is p.1 q.1 l.1 (omega (arith, few)) (begins_right rs (temporaries x) (temporaries y) ts b))
-  setup_valid (Node at t (Both x y)) k rs int p q l few b =
-      let i = scalar_int (type_of x) q.3 in
-      let j = scalar_int (type_of y) q.4 in
+      (setup_valid x rs (HasValue k.0) u.0 q.0 parts.1.0 l.0 (omega (arith, light)) (begins_left rs (temporaries x) (temporaries y) ts b))
+      (setup_valid y (rs ++ temporaries x) (HasValue k.1) u.1 q.1 parts.1.1 l.1 (omega (arith, light)) (begins_right rs (temporaries x) (temporaries y) ts b))
+  setup_valid (Node at t (Index x y)) rs h u q parts l light b =
+      let k = index_scalar s t (type_of x) (type_of y) q.2 in
+      behind_setup (setup unit bound rs x) (setup unit bound (rs ++ temporaries x) y)
+      (setup_valid x rs (HasValue k.0) u.0 q.0 parts.1.0 l.0 (omega (arith, light)) (begins_left rs (temporaries x) (temporaries y) ts b))
+      (setup_valid y (rs ++ temporaries x) (HasValue k.1) u.1 q.1 parts.1.1 l.1 (omega (arith, light)) (begins_right rs (temporaries x) (temporaries y) ts b))
+  setup_valid (Node at t (Dot a m)) rs h u q parts l light b = setup_valid a rs (HasObject q.1) u q.0 parts.1 l (omega (arith, light)) b
+  setup_valid (Node at t (Arrow a m)) rs h u q parts l light b = setup_valid a rs (HasValue (pointer_scalar (type_of a) q.1.target q.1.is)) u q.0 parts.1 l (omega (arith, light)) b
+  setup_valid (Node at t (Both x y)) rs h u q parts l light b =
       let r = rs ++ temporaries x in
       let first = first_begins x y rs b in
       let second = second_begins x y rs b in
       let last = last_of_two x y rs b in
       let right = truth_of unit bound r y in
       behind_setup (setup unit bound rs x) (one (tree.If (condition_of unit bound rs x) (before (setup unit bound r y) (set (length (r ++ temporaries y)) right)) (set (length (r ++ temporaries y)) (tree.Constant I32 (pos 0)))))
-      (setup_valid x i.int rs i.is p.0 q.0 l.0 (omega (arith, few)) first) (
+      (setup_valid x rs (HasValue q.2) u.0 q.0 parts.1.0 l.0 (omega (arith, light)) first) (
         (
-          condition_valid ts unit bound scopes sees x i.int rs i.is p.0 q.0 l.0 (omega (arith, few)) first,
-          behind_setup (setup unit bound r y) (set (length (r ++ temporaries y)) right) (setup_valid y j.int r j.is p.1 q.1 l.1 (omega (arith, few)) second) (set_valid (length (r ++ temporaries y)) right I32 last
-              (truth_valid ts unit bound scopes sees y j.int r j.is p.1 q.1 l.1 (omega (arith, few)) second)),
-          set_valid (length (r ++ temporaries y)) (tree.Constant I32 (pos 0)) I32 last zero_valid,
+          condition_valid unit ts bound s knows x rs q.2 u.0 q.0 parts.1.0 l.0 (omega (arith, light)) first,
+          behind_setup (setup unit bound r y) (set (length (r ++ temporaries y)) right) (setup_valid y r (HasValue q.3) u.1 q.1 parts.1.1 l.1 (omega (arith, light)) second)
+              (sets (length (r ++ temporaries y)) right I32 last (truth_valid unit ts bound s knows y r q.3 u.1 q.1 parts.1.1 l.1 (omega (arith, light)) second)),
+          sets (length (r ++ temporaries y)) (tree.Constant I32 (pos 0)) I32 last zero_valid,
         ),
         tt,
       )
-  setup_valid (Node at t (Either x y)) k rs int p q l few b =
-      let i = scalar_int (type_of x) q.3 in
-      let j = scalar_int (type_of y) q.4 in
+  setup_valid (Node at t (Either x y)) rs h u q parts l light b =
       let r = rs ++ temporaries x in
       let first = first_begins x y rs b in
       let second = second_begins x y rs b in
       let last = last_of_two x y rs b in
       let right = truth_of unit bound r y in
       behind_setup (setup unit bound rs x) (one (tree.If (condition_of unit bound rs x) (set (length (r ++ temporaries y)) (tree.Constant I32 (pos 1))) (before (setup unit bound r y) (set (length (r ++ temporaries y)) right))))
-      (setup_valid x i.int rs i.is p.0 q.0 l.0 (omega (arith, few)) first) (
+      (setup_valid x rs (HasValue q.2) u.0 q.0 parts.1.0 l.0 (omega (arith, light)) first) (
         (
-          condition_valid ts unit bound scopes sees x i.int rs i.is p.0 q.0 l.0 (omega (arith, few)) first,
-          set_valid (length (r ++ temporaries y)) (tree.Constant I32 (pos 1)) I32 last one_valid,
-          behind_setup (setup unit bound r y) (set (length (r ++ temporaries y)) right) (setup_valid y j.int r j.is p.1 q.1 l.1 (omega (arith, few)) second) (set_valid (length (r ++ temporaries y)) right I32 last
-              (truth_valid ts unit bound scopes sees y j.int r j.is p.1 q.1 l.1 (omega (arith, few)) second)),
+          condition_valid unit ts bound s knows x rs q.2 u.0 q.0 parts.1.0 l.0 (omega (arith, light)) first,
+          sets (length (r ++ temporaries y)) (tree.Constant I32 (pos 1)) I32 last one_valid,
+          behind_setup (setup unit bound r y) (set (length (r ++ temporaries y)) right) (setup_valid y r (HasValue q.3) u.1 q.1 parts.1.1 l.1 (omega (arith, light)) second)
+              (sets (length (r ++ temporaries y)) right I32 last (truth_valid unit ts bound s knows y r q.3 u.1 q.1 parts.1.1 l.1 (omega (arith, light)) second)),
         ),
         tt,
       )
-  setup_valid (Node at t (Choice x y z)) k rs int p q l few b =
-      let i = scalar_int (type_of x) q.3 in
+  setup_valid (Node at t (Choice x y z)) rs h u q parts l light b =
+      let scalar : IsScalar t = evaluated_scalar (Node at t (Choice x y z)) refl h in
       let r = rs ++ temporaries x in
-      let s = r ++ temporaries y in
-      let all = choice_begins ts x y z (value_type (type_of y)) rs b in
-      let third = begins_front (s ++ temporaries z) (value_type (type_of y) ∷ []) ts all in
-      let second = begins_front s (temporaries z) ts third in
+      let w = r ++ temporaries y in
+      let all = choice_begins G ts x y z (value_type (type_of y)) rs b in
+      let third = begins_front (w ++ temporaries z) (value_type (type_of y) ∷ []) ts all in
+      let second = begins_front w (temporaries z) ts third in
       let first = begins_front r (temporaries y) ts second in
-      let number = length (s ++ temporaries z) in
-      let y_int : type_of y ≡ Int k = q.4 ∙ int in
-      let last : slice_get ts number ≡ Some (register_type k) = register_at (s ++ temporaries z) ts (value_type (type_of y)) all ∙ ap (λ u. Some (value_type u)) y_int in
-      behind_setup (setup unit bound rs x) (one (tree.If (condition_of unit bound rs x) (before (setup unit bound r y) (set number (value unit bound r y))) (before (setup unit bound s z) (set number (value unit bound s z)))))
-      (setup_valid x i.int rs i.is p.0 q.0 l.0 (omega (arith, few)) first) (
+      let number = length (w ++ temporaries z) in
+      let y_scalar = subst IsScalar (sym q.4) scalar in
+      let z_scalar = subst IsScalar (sym q.5) scalar in
+      let last : slice_get ts number ≡ Some (value_type (type_of y)) = register_at (w ++ temporaries z) ts (value_type (type_of y)) all in
+      let other : slice_get ts number ≡ Some (value_type (type_of z)) = last ∙ ap (λ i. Some (value_type i)) (q.4 ∙ sym q.5) in
+      behind_setup (setup unit bound rs x) (one (tree.If (condition_of unit bound rs x) (before (setup unit bound r y) (set number (value unit bound r y))) (before (setup unit bound w z) (set number (value unit bound w z)))))
+      (setup_valid x rs (HasValue q.3) u.0 q.0 parts.1.0 l.0 (omega (arith, light)) first) (
         (
-          condition_valid ts unit bound scopes sees x i.int rs i.is p.0 q.0 l.0 (omega (arith, few)) first,
-          behind_setup (setup unit bound r y) (set number (value unit bound r y)) (setup_valid y k r y_int p.1 q.1 l.1 (omega (arith, few)) second) (set_valid number (value unit bound r y) (register_type k) last
-              (expression_valid ts unit bound scopes sees y k r y_int p.1 q.1 l.1 (omega (arith, few)) second)),
-          behind_setup (setup unit bound s z) (set number (value unit bound s z)) (setup_valid z k s (q.5 ∙ int) p.2 q.2 l.2 (omega (arith, few)) third) (set_valid number (value unit bound s z) (register_type k) last
-              (expression_valid ts unit bound scopes sees z k s (q.5 ∙ int) p.2 q.2 l.2 (omega (arith, few)) third)),
+          condition_valid unit ts bound s knows x rs q.3 u.0 q.0 parts.1.0 l.0 (omega (arith, light)) first,
+          behind_setup (setup unit bound r y) (set number (value unit bound r y)) (setup_valid y r (HasValue y_scalar) u.1 q.1 parts.1.1 l.1 (omega (arith, light)) second)
+              (sets number (value unit bound r y) (value_type (type_of y)) last (expression_valid unit ts bound s knows y r y_scalar u.1 q.1 parts.1.1 l.1 (omega (arith, light)) second)),
+          behind_setup (setup unit bound w z) (set number (value unit bound w z)) (setup_valid z w (HasValue z_scalar) u.2 q.2 parts.1.2 l.2 (omega (arith, light)) third)
+              (sets number (value unit bound w z) (value_type (type_of z)) other (expression_valid unit ts bound s knows z w z_scalar u.2 q.2 parts.1.2 l.2 (omega (arith, light)) third)),
         ),
         tt,
       )
-  setup_valid (Node at t (Cast to a)) k rs int p q l few b =
-      let from = cast_int to (type_of a) k (sym q.1 ∙ int) q.2 in
-      setup_valid a from.int rs from.is p q.0 l (omega (arith, few)) b
-  setup_valid (Node at t (Number z k)) i rs int p q l few b = tt
-  setup_valid (Node at t (Letter z)) k rs int p q l few b = tt
-  setup_valid (Node at t (Variable x)) k rs int p q l few b = tt
-  setup_valid (Node at t (SizeOfType u)) k rs int p q l few b = tt
-  setup_valid (Node at t (SizeOfExpr a)) k rs int p q l few b = tt
-  setup_valid (Node at t (Text n)) k rs int p q l few b = absurd p
-  setup_valid (Node at t (Index a c)) k rs int p q l few b = absurd p
-  setup_valid (Node at t (Dot a m)) k rs int p q l few b = absurd p
-  setup_valid (Node at t (Arrow a m)) k rs int p q l few b = absurd p
-  setup_valid (Node at t (Comma a c)) k rs int p q l few b = absurd p
-  setup_valid (Node at t (Assign op x y)) k rs int p q l few b = absurd p
-  setup_valid (Node at t (Bump op a)) k rs int p q l few b = absurd p
-  setup_valid (Node at t (Call f es)) k rs int p q l few b = absurd p
+  setup_valid (Node at t (Cast to a)) rs h u q parts l light b =
+      let scalar : IsScalar t = evaluated_scalar (Node at t (Cast to a)) refl h in
+      setup_valid a rs (operand_evaluated s to a (subst IsScalar q.1 scalar) q.2) u q.0 parts.1 l (omega (arith, light)) b
+  setup_valid (Node at t (Number z k)) rs h u q parts l light b = tt
+  setup_valid (Node at t (Letter z)) rs h u q parts l light b = tt
+  setup_valid (Node at t (Variable x)) rs h u q parts l light b = tt
+  setup_valid (Node at t (SizeOfType v)) rs h u q parts l light b = tt
+  setup_valid (Node at t (SizeOfExpr a)) rs h u q parts l light b = tt
+  setup_valid (Node at t (Text n)) rs h u q parts l light b = tt
+  setup_valid (Node at t (Comma a c)) rs h u q parts l light b = absurd u
+  setup_valid (Node at t (Assign op x y)) rs h u q parts l light b = absurd u
+  setup_valid (Node at t (Bump op a)) rs h u q parts l light b = absurd u
+  setup_valid (Node at t (Call f es)) rs h u q parts l light b = absurd u

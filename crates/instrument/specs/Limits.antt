@@ -1,13 +1,14 @@
 -- Ours: bounds that the trees have by their types.
 -- What the numbers of a tree's types bound, in the parts that are translated: the number and the line of an annotation are of 32
 -- bits, a letter is a value of `char`, and registers can be numbered.
-use Rattle.std.specs.Prelude.{◌≡◌, true, ◌<◌, ◌^◌, length, List, [], ◌∷◌, Option, Some, None}
+use Rattle.std.specs.Prelude.{◌≡◌, true, ℕ, suc, ◌<◌, ◌^◌, if◌then◌else◌, nat_eq, length, List, [], ◌∷◌, Option, Some, None}
 use Rattle.c_syntax.specs.Statements.{Statement, Empty, Eval, Block, If, While, Do, For, Break, Continue, Return}
 use Rattle.c_syntax.specs.Statements.{ElsePart, NoElse, Else, ForFirst, NoFirst, First, BlockItem, Declare, Run, Asserts, BlockItems, NoItem, Then}
-use Rattle.c_syntax.specs.Programs.{Function}
+use Rattle.c_syntax.specs.Programs.{Function, TranslationUnit}
 use Rattle.c_model.specs.Meaning.{is_definition}
 use Rattle.c_effects.specs.Letters.{Any, HasLetters, FullHasLetters, EffectHasLetters, InitialsHaveLetters, AreNumbered}
-use Rattle.instrument.specs.Translation.{registers_of_body, after_body}
+use Rattle.mon_syntax.specs.declared.tree.MonType.{MonType}
+use Rattle.instrument.specs.Translation.{registers_of_body, after_body, front_temporaries}
 
 -- ---- statements
 
@@ -47,11 +48,14 @@ abbrev pub BodyHasNumbers : Option Statement → Type 0
 BodyHasNumbers None = Unit {0}
 BodyHasNumbers (Some a) = HasNumbers a
 
--- a definition, whose registers can be numbered
-pub record FunctionHasNumbers (f : Function) : Type 0 where
+-- a definition, whose registers can be numbered, of which these stand before those of its body
+pub record FunctionHasNumbers (p : TranslationUnit) (front : List MonType) (f : Function) : Type 0 where
   pub body : BodyHasNumbers f.body
-  pub few : length (after_body f.body (registers_of_body f)).kinds < 2 ^ 32
+  pub few : length (after_body p f.body (registers_of_body front f)).kinds < 2 ^ 32
 
-abbrev pub FunctionsHaveNumbers : List Function → Type 0
-FunctionsHaveNumbers [] = Unit {0}
-FunctionsHaveNumbers (f ∷ rest) = (is_definition f ≡ true → FunctionHasNumbers f) × FunctionsHaveNumbers rest
+-- the definitions, from the index k on, where `main` has this index
+abbrev pub FunctionsHaveNumbers : TranslationUnit → ℕ → ℕ → List Function → Type 0
+FunctionsHaveNumbers p main k [] = Unit {0}
+FunctionsHaveNumbers p main k (f ∷ rest) =
+    (is_definition f ≡ true → FunctionHasNumbers p (front_temporaries p (nat_eq k main)) f)
+    × FunctionsHaveNumbers p main (if is_definition f then suc k else k) rest

@@ -1,22 +1,26 @@
 -- Ours: plain forms.
 -- The plain form of what the translation takes: of what may be left out of a statement, and of where a statement stands; and what statements
 -- become where a function's names are these.
-use Rattle.std.specs.Prelude.{ℕ, zero, suc, ◌+◌, List, [], ◌∷◌, ◌++◌, Option, Some, None}
+use Rattle.std.specs.Prelude.{ℕ, zero, suc, ◌+◌, Bool, List, [], ◌∷◌, ◌++◌, Option, Some, None}
+use Rattle.c_syntax.specs.declared.place.Place.{Place}
 use Rattle.c_syntax.specs.declared.statement.Item.{Item}
 use Rattle.c_syntax.specs.declared.statement.Stmt.{Stmt}
 use Rattle.c_syntax.specs.declared.expression.Expr.{Expr}
+use Rattle.c_syntax.specs.Ctypes.{PlainType}
 use Rattle.c_syntax.specs.Expressions.{Expression, plain_expr}
+use Rattle.c_syntax.specs.Programs.{Function, TranslationUnit}
 use Rattle.c_syntax.specs.Statements.{Declaration, Statement, ElsePart, NoElse, Else, ForFirst, NoFirst, First, BlockItem, Declare, Run, Asserts, BlockItems}
-use Rattle.c_syntax.specs.Statements.{NoItem, Then, While, Do, plain_stmt, plain_item}
+use Rattle.c_syntax.specs.Statements.{NoItem, Then, While, Do, Initialiser, plain_stmt, plain_item}
+use Rattle.mon_syntax.specs.declared.tree.MonType.TheVariants.{Ptr}
 use Rattle.mon_syntax.specs.Registers.{Names, next_register, with_kinds, with_table}
-use Rattle.mon_syntax.specs.Trees.{MonStatements, NoStatement}
+use Rattle.mon_syntax.specs.Trees.{MonStatements, NoStatement, Global}
 use Rattle.track_scopes.specs.Blocks.{births, entered}
 use Rattle.c_effects.specs.Effects.{any_temporaries}
-use Rattle.c_effects.specs.Expressions.{temporaries}
-use Rattle.c_effects.specs.Named.{unit_of}
+use Rattle.c_effects.specs.Expressions.{before, set, temporaries}
+use Rattle.c_effects.specs.Named.{initialise_by, unit_of, with_registers}
 use Rattle.instrument.specs.declared.spot.Spot as code
 use Rattle.instrument.specs.Translation.{Spot, after_body, after_else, after_first, after_item, after_items, after_statement, else_part, first_part, for_turns}
-use Rattle.instrument.specs.Translation.{in_loop, item, items, returned, statement, test, test_if_any}
+use Rattle.instrument.specs.Translation.{code_of, front, front_temporaries, global_temporaries, in_loop, item, items, returned, statement, test, test_if_any}
 
 abbrev pub plain_else_part : Option Stmt → ElsePart
 plain_else_part None = NoElse
@@ -35,22 +39,22 @@ abbrev pub entering : List Declaration → Names → Names
 entering ds n = with_table (entered ds n.table) n
 
 abbrev pub after : Statement → Names → Names
-after a n = with_table (after_statement a n.table) n
+after a n = with_table (after_statement (unit_of n) a n.table) n
 
 abbrev pub behind_else : ElsePart → Names → Names
-behind_else b n = with_table (after_else b n.table) n
+behind_else b n = with_table (after_else (unit_of n) b n.table) n
 
 abbrev pub behind_first : ForFirst → Names → Names
-behind_first first n = with_table (after_first first n.table) n
+behind_first first n = with_table (after_first (unit_of n) first n.table) n
 
 abbrev pub behind_item : BlockItem → Names → Names
-behind_item i n = with_table (after_item i n.table) n
+behind_item i n = with_table (after_item (unit_of n) i n.table) n
 
 abbrev pub behind_items : BlockItems → Names → Names
-behind_items block n = with_table (after_items block n.table) n
+behind_items block n = with_table (after_items (unit_of n) block n.table) n
 
 abbrev pub behind_body : Option Statement → Names → Names
-behind_body a n = with_table (after_body a n.table) n
+behind_body a n = with_table (after_body (unit_of n) a n.table) n
 
 -- ---- what parts become
 
@@ -84,7 +88,7 @@ test_if_any_by n loops e = test_if_any (unit_of n) n.table.bound n.table.kinds l
 -- the loop of a `for`, after what stands first in it
 abbrev pub turns_by : Names → Spot → Option Expression → Option Expression → Statement → MonStatements
 turns_by n spot e step a =
-    for_turns (unit_of n) (spot.loops + 1) n.table (after_statement a (with_kinds (any_temporaries temporaries e) n.table)) e step
+    for_turns (unit_of n) (spot.loops + 1) n.table (after_statement (unit_of n) a (with_kinds (any_temporaries temporaries e) n.table)) e step
     (statement (unit_of n) (in_loop spot) (with_kinds (any_temporaries temporaries e) n.table) a)
 
 -- the body of a function, where it has one
@@ -121,3 +125,25 @@ abbrev pub declared_by : BlockItem → List Declaration
 declared_by (Declare ds) = ds
 declared_by (Run a) = []
 declared_by (Asserts annots) = []
+
+-- ---- globals
+
+-- a global with this index is initialised, if it has an initialiser
+abbrev pub started : Names → ℕ → PlainType → Option (Place × Initialiser) → MonStatements
+started n g t None = NoStatement
+started n g t (Some i) = before (set (next_register n.table) (Global g)) (initialise_by (with_registers (Ptr ∷ []) n) (next_register n.table) t (Some i))
+
+abbrev pub global_initialised : Names → ℕ → Declaration → MonStatements
+global_initialised n g d = started n g d.ctype d.init
+
+-- globals in order, from the one with this index on
+abbrev pub globals_initialised : Names → ℕ → List Declaration → MonStatements
+globals_initialised n g [] = NoStatement
+globals_initialised n g (d ∷ ds) =
+    before (global_initialised n g d) (globals_initialised (with_registers (global_temporaries d.init) n) (suc g) ds)
+
+-- ---- functions
+
+-- the code of a function, which initialises the globals first where it is `main`
+abbrev pub whole_code : TranslationUnit → Bool → Function → MonStatements
+whole_code p is_main f = before (front p is_main f.params) (code_of p (front_temporaries p is_main) f)

@@ -1,23 +1,27 @@
 -- Ours: a choice of code; what it has to do is C99 6.8 and 6.9, by the theorem of this crate.
 -- The program in monitored C that an annotated program becomes. A variable's value stands in its block of memory, which is born and dies where
 -- the variable does, and a register points to the block.
-use Rattle.std.specs.Prelude.{ℕ, suc, ◌+◌, List, [], ◌∷◌, ◌++◌, length, take, drop, map, Option, Some, None, if◌then◌else◌, nat_eq, codes, bytes_eq}
+use Rattle.std.specs.Prelude.{ℕ, suc, ◌+◌, Bool, List, [], ◌∷◌, ◌++◌, length, take, drop, map, Option, Some, None, if◌then◌else◌, nat_eq, codes, bytes_eq}
 use Rattle.std.specs.Fmt.{decimal}
+use Rattle.c_syntax.specs.declared.place.Place.{Place}
+use Rattle.c_syntax.specs.Ctypes as source_type
 use Rattle.c_syntax.specs.Ctypes.{PlainType, Int}
 use Rattle.c_syntax.specs.Expressions.{Expression, type_of}
 use Rattle.c_syntax.specs.Statements as source_statement
 use Rattle.c_syntax.specs.Statements.{Declaration, Statement, ElsePart, NoElse, Else, ForFirst, NoFirst, First, BlockItem, Declare, Run, Asserts, BlockItems}
-use Rattle.c_syntax.specs.Statements.{NoItem}
-use Rattle.c_syntax.specs.Programs.{Function, TranslationUnit}
+use Rattle.c_syntax.specs.Statements.{NoItem, Initialiser}
+use Rattle.c_syntax.specs.Programs.{StringLiteral, Function, TranslationUnit}
+use Rattle.c_model.specs.Layouts.{size_of}
 use Rattle.c_model.specs.Meaning.{declared_in, declared_first, is_definition}
-use Rattle.c_model.specs.Typing.{name_at}
+use Rattle.c_model.specs.ExpressionTyping.{name_at}
 use Rattle.mon_syntax.specs.declared.tree.MonType.{MonType}
 use Rattle.mon_syntax.specs.declared.tree.MonType.TheVariants.{Ptr}
-use Rattle.mon_syntax.specs.Trees.{MonExpression, MonStatement, Register, Store, If, Loop, Labelled, Goto, Return, MonStatements, NoStatement, Then}
-use Rattle.mon_syntax.specs.Trees.{MonRegister, MonFunction, MonitoredProgram}
+use Rattle.mon_syntax.specs.Trees.{MonExpression, MonStatement, Register, Global, Store, If, Loop, Labelled, Goto, Return}
+use Rattle.mon_syntax.specs.Trees.{MonStatements, NoStatement, Then, MonRegister}
+use Rattle.mon_syntax.specs.Trees.{Zeros, Literal, MonitoredGlobal, MonFunction, MonitoredProgram}
 use Rattle.mon_syntax.specs.Registers.{Bindings, RegisterTable, no_registers, with_kinds, next_register}
 use Rattle.c_effects.specs.Effects.{any_temporaries, declaration_temporaries, effect_temporaries, full_temporaries, full_setup, full_value, effect}
-use Rattle.c_effects.specs.Effects.{effect_if_any, initialise_all}
+use Rattle.c_effects.specs.Effects.{effect_if_any, initial_temporaries, initialise, initialise_all}
 use Rattle.c_effects.specs.Expressions.{register_type, value_type, temporaries, before, one, set, condition_of, setup, assertions, assertions_temporaries}
 use Rattle.track_scopes.specs.Blocks.{entered, birth, births, deaths, with_born}
 
@@ -62,36 +66,36 @@ abbrev pub returned_temporaries : Expression → List MonType
 returned_temporaries e = full_temporaries e ++ value_type (type_of e) ∷ []
 
 abbrev mutual
-  pub after_statement : Statement → RegisterTable → RegisterTable
-  after_statement (source_statement.Empty at) r = r
-  after_statement (source_statement.Eval at e) r = with_kinds (effect_temporaries e) r
-  after_statement (source_statement.Block at body) r = after_items body (entered (declared_in body) r)
-  after_statement (source_statement.If at e a b) r = after_else b (after_statement a (with_kinds (temporaries e) r))
-  after_statement (source_statement.While at annots e a) r = after_statement a (with_kinds (temporaries e) r)
-  after_statement (source_statement.Do at a e) r = with_kinds (temporaries e) (after_statement a r)
-  after_statement (source_statement.For at annots first e behind a) r =
-      with_kinds (any_temporaries effect_temporaries behind)
-      (after_statement a (with_kinds (any_temporaries temporaries e) (after_first first (entered (declared_first first) r))))
-  after_statement (source_statement.Break at) r = r
-  after_statement (source_statement.Continue at) r = r
-  after_statement (source_statement.Return at e) r = with_kinds (any_temporaries returned_temporaries e) r
+  pub after_statement : TranslationUnit → Statement → RegisterTable → RegisterTable
+  after_statement p (source_statement.Empty at) r = r
+  after_statement p (source_statement.Eval at e) r = with_kinds (effect_temporaries p e) r
+  after_statement p (source_statement.Block at body) r = after_items p body (entered (declared_in body) r)
+  after_statement p (source_statement.If at e a b) r = after_else p b (after_statement p a (with_kinds (temporaries e) r))
+  after_statement p (source_statement.While at annots e a) r = after_statement p a (with_kinds (temporaries e) r)
+  after_statement p (source_statement.Do at a e) r = with_kinds (temporaries e) (after_statement p a r)
+  after_statement p (source_statement.For at annots first e behind a) r =
+      with_kinds (any_temporaries (effect_temporaries p) behind)
+      (after_statement p a (with_kinds (any_temporaries temporaries e) (after_first p first (entered (declared_first first) r))))
+  after_statement p (source_statement.Break at) r = r
+  after_statement p (source_statement.Continue at) r = r
+  after_statement p (source_statement.Return at e) r = with_kinds (any_temporaries returned_temporaries e) r
 
-  pub after_else : ElsePart → RegisterTable → RegisterTable
-  after_else NoElse r = r
-  after_else (Else a) r = after_statement a r
+  pub after_else : TranslationUnit → ElsePart → RegisterTable → RegisterTable
+  after_else p NoElse r = r
+  after_else p (Else a) r = after_statement p a r
 
-  pub after_first : ForFirst → RegisterTable → RegisterTable
-  after_first NoFirst r = r
-  after_first (First i) r = after_item i r
+  pub after_first : TranslationUnit → ForFirst → RegisterTable → RegisterTable
+  after_first p NoFirst r = r
+  after_first p (First i) r = after_item p i r
 
-  pub after_item : BlockItem → RegisterTable → RegisterTable
-  after_item (Declare ds) r = with_kinds (declaration_temporaries ds) r
-  after_item (Run a) r = after_statement a r
-  after_item (Asserts annots) r = with_kinds (assertions_temporaries annots) r
+  pub after_item : TranslationUnit → BlockItem → RegisterTable → RegisterTable
+  after_item p (Declare ds) r = with_kinds (declaration_temporaries ds) r
+  after_item p (Run a) r = after_statement p a r
+  after_item p (Asserts annots) r = with_kinds (assertions_temporaries annots) r
 
-  pub after_items : BlockItems → RegisterTable → RegisterTable
-  after_items NoItem r = r
-  after_items (source_statement.Then i rest) r = after_items rest (after_item i r)
+  pub after_items : TranslationUnit → BlockItems → RegisterTable → RegisterTable
+  after_items p NoItem r = r
+  after_items p (source_statement.Then i rest) r = after_items p rest (after_item p i r)
 
 -- ---- the blocks of variables
 
@@ -156,19 +160,19 @@ module _ (p : TranslationUnit) where
     statement spot r (source_statement.If at e a b) =
         before (setup p r.bound r.kinds e) (one (If (condition_of p r.bound r.kinds e)
         (statement spot (with_kinds (temporaries e) r) a)
-        (else_part spot (after_statement a (with_kinds (temporaries e) r)) b)))
+        (else_part spot (after_statement p a (with_kinds (temporaries e) r)) b)))
     statement spot r (source_statement.While at annots e a) =
         one (loop (spot.loops + 1) (test p r.bound r.kinds (spot.loops + 1) e) (statement (in_loop spot) (with_kinds (temporaries e) r) a) NoStatement)
     statement spot r (source_statement.Do at a e) =
         one (loop (spot.loops + 1) NoStatement (statement (in_loop spot) r a)
-        (test p (after_statement a r).bound (after_statement a r).kinds (spot.loops + 1) e))
+        (test p (after_statement p a r).bound (after_statement p a r).kinds (spot.loops + 1) e))
     statement spot r (source_statement.For at annots first e behind a) =
         alive p (next_register r) (declared_first first)
         (before (first_part (with_variables (next_register r) (declared_first first) spot) (entered (declared_first first) r) first)
-        (for_turns p (spot.loops + 1) (after_first first (entered (declared_first first) r))
-        (after_statement a (with_kinds (any_temporaries temporaries e) (after_first first (entered (declared_first first) r)))) e behind
+        (for_turns p (spot.loops + 1) (after_first p first (entered (declared_first first) r))
+        (after_statement p a (with_kinds (any_temporaries temporaries e) (after_first p first (entered (declared_first first) r)))) e behind
         (statement (in_loop (with_variables (next_register r) (declared_first first) spot))
-        (with_kinds (any_temporaries temporaries e) (after_first first (entered (declared_first first) r))) a)))
+        (with_kinds (any_temporaries temporaries e) (after_first p first (entered (declared_first first) r))) a)))
     statement spot r (source_statement.Break at) = before (deaths spot.inside) (one (Goto (end_label spot.loops)))
     statement spot r (source_statement.Continue at) = before (deaths spot.inside) (one (Goto (next_label spot.loops)))
     statement spot r (source_statement.Return at e) = returned spot r e
@@ -184,16 +188,16 @@ module _ (p : TranslationUnit) where
     pub item : Spot → RegisterTable → BlockItem → MonStatements
     item spot r (Declare ds) = initialise_all p r.bound r.kinds ds
     item spot r (Run a) = statement spot r a
-    item spot r (Asserts annots) = assertions r.bound r.kinds annots
+    item spot r (Asserts annots) = assertions p r.bound r.kinds annots
 
     pub items : Spot → RegisterTable → BlockItems → MonStatements
     items spot r NoItem = NoStatement
-    items spot r (source_statement.Then i rest) = before (item spot r i) (items spot (after_item i r) rest)
+    items spot r (source_statement.Then i rest) = before (item spot r i) (items spot (after_item p i r) rest)
 
-  -- the body of a function, outside all loops, where its parameters live
-  abbrev pub body_part : List Declaration → RegisterTable → Option Statement → MonStatements
-  body_part params r None = NoStatement
-  body_part params r (Some a) = statement (record { loops = 0; inside = with_born (length params) params []; outside = [] }) r a
+  -- the body of a function, outside all loops, where its parameters live, to whose blocks these registers point
+  abbrev pub body_part : List ℕ → RegisterTable → Option Statement → MonStatements
+  body_part inside r None = NoStatement
+  body_part inside r (Some a) = statement (record { loops = 0; inside = inside; outside = [] }) r a
 
   -- parameters are born in order, each with its argument: pointers stand in the registers from r on, and arguments from v on
   abbrev pub parameters : ℕ → ℕ → List Declaration → MonStatements
@@ -207,14 +211,14 @@ module _ (p : TranslationUnit) where
 abbrev pub value_types : List Declaration → List MonType
 value_types ds = map (λ (d : Declaration). value_type d.ctype) ds
 
--- the registers at the beginning of a body: the arguments, and those that point to the parameters' blocks
-abbrev pub registers_of_body : Function → RegisterTable
-registers_of_body f = entered f.params (with_kinds (value_types f.params) no_registers)
+-- the registers at the beginning of a body: the arguments, those that a part before it takes, and those that point to the parameters' blocks
+abbrev pub registers_of_body : List MonType → Function → RegisterTable
+registers_of_body front f = entered f.params (with_kinds front (with_kinds (value_types f.params) no_registers))
 
 -- all registers of a function
-abbrev pub after_body : Option Statement → RegisterTable → RegisterTable
-after_body None r = r
-after_body (Some a) r = after_statement a r
+abbrev pub after_body : TranslationUnit → Option Statement → RegisterTable → RegisterTable
+after_body p None r = r
+after_body p (Some a) r = after_statement p a r
 
 -- the name of a declaration, where it has one
 abbrev pub own_name : List (List ℕ) → Declaration → List ℕ
@@ -237,20 +241,70 @@ registers_from k [] = []
 registers_from k (t ∷ ts) = record { kind = t; name = name_of_register k t } ∷ registers_from (suc k) ts
 
 -- the registers that are no arguments
-abbrev pub registers_of : Function → List MonRegister
-registers_of f = registers_from (length f.params) (drop (length f.params) (after_body f.body (registers_of_body f)).kinds)
+abbrev pub registers_of : TranslationUnit → List MonType → Function → List MonRegister
+registers_of p front f = registers_from (length f.params) (drop (length f.params) (after_body p f.body (registers_of_body front f)).kinds)
+
+-- ---- globals and string literals (C99 6.4.5, 6.9.2)
+
+-- `g3_count`, a global, and `s4`, a string literal, by their places among them
+abbrev pub global_name : ℕ → List ℕ → List ℕ
+global_name k name = take 255 (codes "g" ++ (decimal k ++ (codes "_" ++ name)))
+
+abbrev pub text_name : ℕ → List ℕ
+text_name k = codes "s" ++ decimal k
+
+abbrev pub globals_from : TranslationUnit → ℕ → List Declaration → List MonitoredGlobal
+globals_from p k [] = []
+globals_from p k (d ∷ ds) =
+    record { name = global_name k (name_at p.names d.name); content = Zeros (size_of p.structs d.ctype) } ∷ globals_from p (suc k) ds
+
+abbrev pub texts_from : ℕ → List StringLiteral → List MonitoredGlobal
+texts_from k [] = []
+texts_from k (x ∷ xs) = record { name = text_name k; content = Literal x.bytes } ∷ texts_from (suc k) xs
+
+-- globals first, and then literals, in text order
+abbrev pub monitored_globals : TranslationUnit → List MonitoredGlobal
+monitored_globals p = globals_from p 0 p.globals ++ texts_from 0 p.texts
+
+-- what a global that has an initialiser takes: a register that points to it, and those of the initialiser
+abbrev pub global_temporaries : Option (Place × Initialiser) → List MonType
+global_temporaries None = []
+global_temporaries (Some i) = Ptr ∷ initial_temporaries (Some i)
+
+abbrev pub all_global_temporaries : List Declaration → List MonType
+all_global_temporaries [] = []
+all_global_temporaries (d ∷ ds) = global_temporaries d.init ++ all_global_temporaries ds
+
+abbrev pub initialise_global : TranslationUnit → List MonType → ℕ → PlainType → Option (Place × Initialiser) → MonStatements
+initialise_global p rs g t None = NoStatement
+initialise_global p rs g t (Some i) = before (set (length rs) (Global g)) (initialise p [] (rs ++ Ptr ∷ []) (length rs) t (Some i))
+
+-- the globals are initialised in text order, from the one with this index on
+abbrev pub initialise_globals : TranslationUnit → List MonType → ℕ → List Declaration → MonStatements
+initialise_globals p rs g [] = NoStatement
+initialise_globals p rs g (d ∷ ds) =
+    before (initialise_global p rs g d.ctype d.init) (initialise_globals p (rs ++ global_temporaries d.init) (suc g) ds)
 
 -- ---- programs
 
 abbrev pub result_of : PlainType → Option MonType
 result_of (Int k) = Some (register_type k)
+result_of (source_type.Ptr t) = Some Ptr
 result_of _ = None
 
--- the code of a function: its parameters live as long as its body is done
-abbrev pub code_of : TranslationUnit → Function → MonStatements
-code_of p f =
-    before (parameters p (length f.params) 0 f.params) (before (body_part p f.params (registers_of_body f) f.body)
-    (deaths (with_born (length f.params) f.params [])))
+-- the code of a function after its globals: its parameters live as long as its body is done
+abbrev pub code_of : TranslationUnit → List MonType → Function → MonStatements
+code_of p front f =
+    before (parameters p (length (value_types f.params ++ front)) 0 f.params)
+    (before (body_part p (with_born (length (value_types f.params ++ front)) f.params []) (registers_of_body front f) f.body)
+    (deaths (with_born (length (value_types f.params ++ front)) f.params [])))
+
+-- `main` initialises the globals first
+abbrev pub front_temporaries : TranslationUnit → Bool → List MonType
+front_temporaries p is_main = if is_main then all_global_temporaries p.globals else []
+
+abbrev pub front : TranslationUnit → Bool → List Declaration → MonStatements
+front p is_main params = if is_main then initialise_globals p (value_types params) 0 p.globals else NoStatement
 
 -- the definition with the index k, where `main` has this index
 abbrev pub function_of : TranslationUnit → ℕ → ℕ → Function → MonFunction
@@ -258,8 +312,8 @@ function_of p main k f = record {
   result = result_of f.result;
   name = if nat_eq k main then codes "main" else function_name k (name_at p.names f.name);
   parameters = arguments_from p.names 0 f.params;
-  registers = registers_of f;
-  body = code_of p f;
+  registers = registers_of p (front_temporaries p (nat_eq k main)) f;
+  body = before (front p (nat_eq k main) f.params) (code_of p (front_temporaries p (nat_eq k main)) f);
 }
 
 -- the definitions, from the index k on
@@ -269,4 +323,4 @@ functions_from p main k (f ∷ fs) =
     if is_definition f then function_of p main k f ∷ functions_from p main (suc k) fs else functions_from p main k fs
 
 abbrev pub translated : TranslationUnit → MonitoredProgram
-translated p = record { globals = []; functions = functions_from p (index_of_main p.names p.funcs) 0 p.funcs }
+translated p = record { globals = monitored_globals p; functions = functions_from p (index_of_main p.names p.funcs) 0 p.funcs }

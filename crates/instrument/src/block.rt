@@ -11,7 +11,7 @@ ghost use Rattle.instrument.specs.Options.{births_by, declared_by, entering, ite
 
 use c_effects::part::then_all;
 use c_syntax::{Decl, Item};
-use mon_syntax::{MonStmt, Registers, numbered};
+use mon_syntax::{MonStmt, Registers};
 use std::alloc::{AllocError, Global};
 
 // What an item declares itself.
@@ -30,13 +30,6 @@ pub fn one_more(number: u32) -> Result<u32, AllocError>
     ensures { IfOk result (λ next. next ≡ number + 1) }
 {
     number.checked_add(1).ok_or(AllocError)
-}
-
-/// The number of the next register.
-pub fn next(names: &Registers<'_>) -> Result<u32, AllocError>
-    ensures { IfOk result (λ r. r ≡ next_register names.now.table) }
-{
-    numbered(names.kinds().len())
 }
 
 /// Enters the scope of these variables.
@@ -92,9 +85,9 @@ pub fn enter_block(
     ensures names { OnOk result (names.new ≡ entering (declared_in (plain_items block.now)) names.old) }
     ensures own { IfOk result (λ own. own.items ≡ with_born (next_register names.old.table) (declared_in (plain_items block.now)) []) }
 {
-    let first = next(names)?;
+    let first = names.next()?;
     enter_items(alloc, block, names, to)?;
-    let end = next(names)?;
+    let end = names.next()?;
     between(alloc, first, end)
 }
 

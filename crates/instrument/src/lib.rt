@@ -5,6 +5,7 @@
 #![tactic(auto)]
 
 mod block;
+mod global;
 mod name;
 mod parameter;
 mod program;

@@ -1,8 +1,8 @@
-//! Names of registers, functions and labels.
+//! Names of registers, functions, globals and labels.
 
 ghost use Rattle.std.specs.Prelude.{◌≡◌, ◌++◌, IfOk, codes, take};
 ghost use Rattle.std.specs.Fmt.{decimal};
-ghost use Rattle.instrument.specs.Translation.{end_label, function_name, next_label, pointer_name, register_name, temporary_name};
+ghost use Rattle.instrument.specs.Translation.{end_label, function_name, global_name, next_label, pointer_name, register_name, temporary_name, text_name};
 
 use c_syntax::Name;
 use std::alloc::{AllocError, Global};
@@ -63,6 +63,20 @@ pub fn function_name(alloc: Global, index: usize, name: &[u8]) -> Result<Name, A
     ensures { IfOk result (λ bytes. bytes ≡ function_name index name.now) }
 {
     long(alloc, b"f", index, name)
+}
+
+/// `g3_count`: the index of the global, and its name as far as there is room.
+pub fn global_name(alloc: Global, index: usize, name: &[u8]) -> Result<Name, AllocError>
+    ensures { IfOk result (λ bytes. bytes ≡ global_name index name.now) }
+{
+    long(alloc, b"g", index, name)
+}
+
+/// `s4`: a string literal, by its index.
+pub fn text_name(alloc: Global, index: usize) -> Result<Name, AllocError>
+    ensures { IfOk result (λ bytes. bytes ≡ text_name index) }
+{
+    short(alloc, b"s", index)
 }
 
 /// `end_3`: the label of the end of a loop around whose body stand three loops, itself included.

@@ -1,22 +1,22 @@
 //! The parameters of a function (C99 6.9.1): arguments stand in the first registers, and are stored in the blocks of the parameters.
 
-ghost use Rattle.std.specs.Prelude.{◌≡◌, ◌∷◌, [], IfOk, OnOk, length, map};
+ghost use Rattle.std.specs.Prelude.{◌≡◌, ◌∷◌, [], IfOk, OnOk, map};
 ghost use Rattle.c_syntax.specs.Statements.{plain_decl};
 ghost use Rattle.mon_syntax.specs.Registers.{next_register, no_registers, with_kinds, with_table};
 ghost use Rattle.mon_syntax.specs.Trees.{plain_register, plain_stmts};
-ghost use Rattle.track_scopes.specs.Blocks.{entered, with_born};
+ghost use Rattle.track_scopes.specs.Blocks.{with_born};
 ghost use Rattle.c_effects.specs.Expressions.{before};
 ghost use Rattle.c_effects.specs.Named.{unit_of};
 ghost use Rattle.instrument.specs.Options.{entering};
 ghost use Rattle.instrument.specs.Translation.{arguments_from, own_name, parameters, value_types};
 
-use crate::block::{between, enter, next, one_more};
+use crate::block::{between, enter, one_more};
 use crate::name::register_name;
 use c_effects::conversion::value_type;
+use c_effects::name::name_at;
 use c_effects::operator::register;
 use c_effects::part::then;
 use c_syntax::{Decl, Name};
-use c_type_rules::scope::name_at;
 use mon_syntax::{MonStmt, MonStmtKind, Register, Registers};
 use std::alloc::{AllocError, Global};
 
@@ -44,8 +44,8 @@ pub fn arguments(
     Ok(all)
 }
 
-// A register for each argument, and none before them.
-fn make_arguments(
+/// A register for each argument, and none before them.
+pub fn make_arguments(
     alloc: Global,
     params: &[Decl],
     names: &mut Registers<'_>,
@@ -71,7 +71,7 @@ fn enter_parameter(
         (parameters (unit_of names.old) (next_register names.old.table) argument (plain_decl d.now ∷ []))) }
     ensures names { OnOk result (names.new ≡ entering (plain_decl d.now ∷ []) names.old) }
 {
-    let block = next(names)?;
+    let block = names.next()?;
     enter(alloc, std::slice::from_ref(d), names, to)?;
     let value = register(alloc, argument)?;
     then(
@@ -100,8 +100,8 @@ fn enter_all(
     Ok(())
 }
 
-/// The registers of a function's arguments and the births of its parameters' blocks, which it gives by the registers that point to
-/// them, the youngest first.
+/// The births of the blocks of a function's parameters, with their arguments, which are its first registers. It gives the blocks by the
+/// registers that point to them, the youngest first.
 pub fn enter_parameters(
     alloc: Global,
     params: &[Decl],
@@ -109,14 +109,12 @@ pub fn enter_parameters(
     to: &mut Vec<MonStmt>,
 ) -> Result<Vec<u32>, AllocError>
     ensures code { OnOk result (plain_stmts to.new.items ≡ before (plain_stmts to.old.items)
-        (parameters (unit_of names.old) (length (map plain_decl params.now)) 0 (map plain_decl params.now))) }
-    ensures names { OnOk result (names.new ≡ with_table (entered (map plain_decl params.now)
-        (with_kinds (value_types (map plain_decl params.now)) no_registers)) names.old) }
-    ensures own { IfOk result (λ own. own.items ≡ with_born (length (map plain_decl params.now)) (map plain_decl params.now) []) }
+        (parameters (unit_of names.old) (next_register names.old.table) 0 (map plain_decl params.now))) }
+    ensures names { OnOk result (names.new ≡ entering (map plain_decl params.now) names.old) }
+    ensures own { IfOk result (λ own. own.items ≡ with_born (next_register names.old.table) (map plain_decl params.now) []) }
 {
-    make_arguments(alloc, params, names)?;
-    let first = next(names)?;
+    let first = names.next()?;
     enter_all(alloc, params, names, to)?;
-    let end = next(names)?;
+    let end = names.next()?;
     between(alloc, first, end)
 }

@@ -4,29 +4,32 @@ ghost use Rattle.std.specs.Prelude.{◌≡◌, ◌<◌, ◌++◌, ◌∷◌, [],
 ghost use Rattle.c_syntax.specs.Ctypes.{plain_type};
 ghost use Rattle.c_syntax.specs.Programs.{plain_func, plain_program};
 ghost use Rattle.c_syntax.specs.Statements.{plain_decl, plain_stmt};
-ghost use Rattle.c_model.specs.Formed.{IsProgram};
+ghost use Rattle.c_model.specs.ExpressionTyping.{name_at};
+ghost use Rattle.c_model.specs.AcceptedPrograms.{IsProgram};
 ghost use Rattle.c_model.specs.Meaning.{is_definition, run};
 ghost use Rattle.c_model.specs.Reports.{Agrees};
 ghost use Rattle.c_model.specs.State.{Input};
-ghost use Rattle.c_model.specs.Typing.{name_at};
 ghost use Rattle.mon_syntax.specs.BlockMemory.{block_run};
-ghost use Rattle.mon_syntax.specs.Registers.{no_registers, with_table};
-ghost use Rattle.mon_syntax.specs.Trees.{plain_func as plain_monitored_func, plain_program as plain_monitored, plain_register, plain_stmts};
+ghost use Rattle.mon_syntax.specs.Registers.{with_table};
+ghost use Rattle.mon_syntax.specs.Trees.{NoStatement, plain_func as plain_monitored_func, plain_program as plain_monitored, plain_register, plain_stmts};
 ghost use Rattle.mon_syntax.specs.Valid.{IsValid};
+ghost use Rattle.c_effects.specs.Letters.{InitialsHaveLetters};
 ghost use Rattle.c_effects.specs.Expressions.{before};
+ghost use Rattle.c_effects.specs.Named.{unit_of, with_registers};
 ghost use Rattle.instrument.specs.Limits.{BodyHasNumbers, FunctionHasNumbers, FunctionsHaveNumbers};
-ghost use Rattle.instrument.specs.Options.{behind_body, body_by, plain_spot};
-ghost use Rattle.instrument.specs.Translation.{after_body, code_of, function_name, function_of, functions_from, index_of_main, name_of_register};
+ghost use Rattle.instrument.specs.Options.{behind_body, body_by, globals_initialised, plain_spot, whole_code};
+ghost use Rattle.instrument.specs.Translation.{after_body, front_temporaries, function_name, function_of, functions_from, index_of_main, name_of_register};
 ghost use Rattle.instrument.specs.Translation.{registers_from, registers_of_body, result_of, translated};
 
-use crate::block::{leave, next};
+use crate::block::leave;
+use crate::global::{initialise_globals, monitored_globals};
 use crate::name::{function_name, pointer_name, temporary_name};
-use crate::parameter::{arguments, enter_parameters};
+use crate::parameter::{arguments, enter_parameters, make_arguments};
 use crate::spot::Spot;
 use crate::statement::statement;
 use c_effects::conversion::register_type;
+use c_effects::name::name_at;
 use c_syntax::{CType, Func, Name, Program, Stmt};
-use c_type_rules::scope::name_at;
 use mon_syntax::{MonFunc, MonProgram, MonStmt, MonType, Register, Registers};
 use std::alloc::{AllocError, Global};
 
@@ -61,6 +64,7 @@ fn result_of(t: &CType) -> Option<MonType>
 {
     match t {
         CType::Int(k) => Some(register_type(*k)),
+        CType::Ptr(_) => Some(MonType::Ptr),
         _ => None,
     }
 }
@@ -117,13 +121,42 @@ fn statement_of(
     }
 }
 
+// What stands before the rest of a function: `main` initialises the globals.
+#[tactic(auto, using(c_effects::proofs::Sequences::before_none))]
+fn front(
+    alloc: Global,
+    is_main: bool,
+    names: &mut Registers<'_>,
+    to: &mut Vec<MonStmt>,
+) -> Result<(), AllocError>
+    ensures code { OnOk result (plain_stmts to.new.items ≡ before (plain_stmts to.old.items) (if is_main then globals_initialised names.old 0
+        (unit_of names.old).globals else NoStatement)) }
+    ensures names { OnOk result (names.new ≡ with_registers (front_temporaries (unit_of names.old) is_main) names.old) }
+    ensures letters { OnOk result (is_main ≡ true → InitialsHaveLetters (unit_of names.old).globals) }
+{
+    if is_main {
+        initialise_globals(alloc, names, to)
+    } else {
+        Ok(())
+    }
+}
+
 // The code of a function, in which its parameters live, over registers of its own.
-fn code_of(alloc: Global, f: &Func, names: &mut Registers<'_>) -> Result<Vec<MonStmt>, AllocError>
-    ensures code { IfOk result (λ code. plain_stmts code.items ≡ code_of (plain_program names.old.program) (plain_func f.now)) }
-    ensures names { OnOk result (names.new ≡ with_table (after_body (plain_func f.now).body (registers_of_body (plain_func f.now))) names.old) }
+fn code_of(
+    alloc: Global,
+    is_main: bool,
+    f: &Func,
+    names: &mut Registers<'_>,
+) -> Result<Vec<MonStmt>, AllocError>
+    ensures code { IfOk result (λ code. plain_stmts code.items ≡ whole_code (unit_of names.old) is_main (plain_func f.now)) }
+    ensures names { OnOk result (names.new ≡ with_table (after_body (unit_of names.old) (plain_func f.now).body
+        (registers_of_body (front_temporaries (unit_of names.old) is_main) (plain_func f.now))) names.old) }
     ensures numbers { IfOk result (λ _. BodyHasNumbers (plain_func f.now).body) }
+    ensures letters { IfOk result (λ _. is_main ≡ true → InitialsHaveLetters (unit_of names.old).globals) }
 {
     let mut code = Vec::new(alloc);
+    make_arguments(alloc, &f.params, names)?;
+    front(alloc, is_main, names, &mut code)?;
     let own = enter_parameters(alloc, &f.params, names, &mut code)?;
     let spot = Spot {
         loops: 0,
@@ -143,15 +176,17 @@ fn function_of(
     f: &Func,
     names: &mut Registers<'_>,
 ) -> Result<MonFunc, AllocError>
-    ensures code { IfOk result (λ m. plain_monitored_func m ≡ function_of (plain_program names.old.program) main index (plain_func f.now)) }
+    ensures code { IfOk result (λ m. plain_monitored_func m ≡ function_of (unit_of names.old) main index (plain_func f.now)) }
     ensures program { OnOk result (names.new.program ≡ names.old.program) }
-    ensures numbers { IfOk result (λ _. FunctionHasNumbers (plain_func f.now)) }
+    ensures numbers { IfOk result (λ _. FunctionHasNumbers (unit_of names.old) (front_temporaries (unit_of names.old) (nat_eq index main))
+        (plain_func f.now)) }
+    ensures letters { IfOk result (λ _. index ≡ main → InitialsHaveLetters (unit_of names.old).globals) }
 {
     let texts = names.names();
     let name = name_of(alloc, texts, main, index, f)?;
     let parameters = arguments(alloc, texts, &f.params)?;
-    let body = code_of(alloc, f, names)?;
-    let _ = next(names)?;
+    let body = code_of(alloc, index == main, f, names)?;
+    let _ = names.next()?;
     let registers = registers(alloc, names.kinds(), f.params.len())?;
     Ok(MonFunc {
         result: result_of(&f.result),
@@ -171,9 +206,12 @@ fn add(
     to: &mut Vec<MonFunc>,
 ) -> Result<(), AllocError>
     ensures code { OnOk result (map plain_monitored_func to.new.items ≡ map plain_monitored_func to.old.items ++ functions_from
-        (plain_program names.old.program) main (length to.old.items) (plain_func f.now ∷ [])) }
+        (unit_of names.old) main (length to.old.items) (plain_func f.now ∷ [])) }
     ensures program { OnOk result (names.new.program ≡ names.old.program) }
-    ensures numbers { OnOk result (is_definition (plain_func f.now) ≡ true → FunctionHasNumbers (plain_func f.now)) }
+    ensures numbers { OnOk result (is_definition (plain_func f.now) ≡ true → FunctionHasNumbers (unit_of names.old)
+        (front_temporaries (unit_of names.old) (nat_eq (length to.old.items) main)) (plain_func f.now)) }
+    ensures letters { OnOk result ((main < length to.old.items → InitialsHaveLetters (unit_of names.old).globals)
+        → main < length to.new.items → InitialsHaveLetters (unit_of names.old).globals) }
 {
     match &f.body {
         Some(_) => {
@@ -185,14 +223,13 @@ fn add(
     }
 }
 
-// Translates the definitions.
-fn functions(alloc: Global, p: &Program) -> Result<Vec<MonFunc>, AllocError>
-    ensures code { IfOk result (λ fs. map plain_monitored_func fs.items ≡ functions_from (plain_program p.now)
-        (index_of_main p.now.names.items (map plain_func p.now.funcs.items)) 0 (map plain_func p.now.funcs.items)) }
-    ensures numbers { IfOk result (λ _. FunctionsHaveNumbers (map plain_func p.now.funcs.items)) }
-    ensures few { length p.now.funcs.items < 2 ^ 64 }
+// Translates the definitions, of which `main` has this index.
+fn functions(alloc: Global, main: usize, p: &Program) -> Result<Vec<MonFunc>, AllocError>
+    ensures code { IfOk result (λ fs. map plain_monitored_func fs.items ≡ functions_from (plain_program p.now) main 0 (plain_program p.now).funcs) }
+    ensures numbers { IfOk result (λ _. FunctionsHaveNumbers (plain_program p.now) main 0 (plain_program p.now).funcs) }
+    ensures letters { IfOk result (λ fs. main < length fs.items → InitialsHaveLetters (plain_program p.now).globals) }
+    ensures few { length (plain_program p.now).funcs < 2 ^ 64 }
 {
-    let main = index_of_main(&p.names, &p.funcs);
     let mut functions = Vec::with_capacity(alloc, p.funcs.len())?;
     let mut names = Registers::new(alloc, p)?;
     'funcs: for f in &p.funcs {
@@ -201,17 +238,19 @@ fn functions(alloc: Global, p: &Program) -> Result<Vec<MonFunc>, AllocError>
     Ok(functions)
 }
 
-// Translates each definition of a program.
+// Translates the globals and the definitions of a program.
 fn translate(alloc: Global, p: &Program) -> Result<MonProgram, AllocError>
     ensures translated { IfOk result (λ m. plain_monitored m ≡ translated (plain_program p.now)) }
-    ensures numbers { IfOk result (λ _. FunctionsHaveNumbers (plain_program p.now).funcs) }
+    ensures numbers { IfOk result (λ _. FunctionsHaveNumbers (plain_program p.now) (index_of_main (plain_program p.now).names (plain_program p.now).funcs) 0
+        (plain_program p.now).funcs) }
+    ensures letters { IfOk result (λ m. index_of_main (plain_program p.now).names (plain_program p.now).funcs < length (plain_monitored m).functions
+        → InitialsHaveLetters (plain_program p.now).globals) }
     ensures few { length (plain_program p.now).funcs < 2 ^ 64 }
 {
-    let functions = functions(alloc, p)?;
-    Ok(MonProgram {
-        globals: Vec::new(alloc),
-        functions,
-    })
+    let main = index_of_main(&p.names, &p.funcs);
+    let functions = functions(alloc, main, p)?;
+    let globals = monitored_globals(alloc, p)?;
+    Ok(MonProgram { globals, functions })
 }
 
 /// Translates a program into monitored C. Only running out of memory can keep it from that.

@@ -23,9 +23,10 @@ use crate::name::{end_label, next_label};
 use crate::spot::Spot;
 use c_effects::annotation::assertion;
 use c_effects::conversion::value_type;
-use c_effects::effect::{effect, effect_if_any, initialise_all};
+use c_effects::effect::{effect, effect_if_any};
 use c_effects::expression::condition_of;
 use c_effects::full::full;
+use c_effects::initialiser::initialise_all;
 use c_effects::operator::register;
 use c_effects::part::{alone, then};
 use c_syntax::{Annot, Expr, Item, Name, Stmt, StmtKind};
@@ -130,7 +131,7 @@ fn go_on(alloc: Global, spot: &Spot<'_>, to: &mut Vec<MonStmt>) -> Result<(), Al
 }
 
 // The deaths of all blocks of a function.
-#[tactic(auto, using(c_effects::proofs::Sequences::before_assoc, crate::proofs::Declarations::deaths_behind))]
+#[tactic(auto, using(c_effects::proofs::Sequences::before_assoc, crate::proofs::DeclarationCode::deaths_behind))]
 fn leave_all(alloc: Global, spot: &Spot<'_>, to: &mut Vec<MonStmt>) -> Result<(), AllocError>
     ensures { OnOk result (plain_stmts to.new.items ≡ before (plain_stmts to.old.items) (deaths (spot.now.inside.now ++ spot.now.outside.now))) }
 {
@@ -359,7 +360,8 @@ fn rest_of_for(
     ensures code { OnOk result (plain_stmts to.new.items ≡ before (plain_stmts to.old.items)
         (before (turns_by names.old (with_blocks own.items (plain_spot spot.now))
         (option_map plain_expr controls.entry.0.now) (option_map plain_expr controls.entry.1.now) (plain_stmt a.now)) (deaths own.items))) }
-    ensures names { OnOk result (names.new ≡ with_registers (any_temporaries effect_temporaries (option_map plain_expr controls.entry.1.now))
+    ensures names { OnOk result (names.new ≡ with_registers
+        (any_temporaries (effect_temporaries (unit_of names.old)) (option_map plain_expr controls.entry.1.now))
         (after (plain_stmt a.now) (with_registers (any_temporaries temporaries (option_map plain_expr controls.entry.0.now)) names.old))) }
     ensures numbers { OnOk result (Any HasLetters (option_map plain_expr controls.entry.0.now) × HasNumbers (plain_stmt a.now)
         × Any EffectHasLetters (option_map plain_expr controls.entry.1.now)) }
@@ -512,7 +514,8 @@ fn turns(
     ensures code { OnOk result (plain_stmts to.new.items ≡ before (plain_stmts to.old.items)
         (turns_by names.old (plain_spot spot.now)
         (option_map plain_expr controls.entry.0.now) (option_map plain_expr controls.entry.1.now) (plain_stmt a.now))) }
-    ensures names { OnOk result (names.new ≡ with_registers (any_temporaries effect_temporaries (option_map plain_expr controls.entry.1.now))
+    ensures names { OnOk result (names.new ≡ with_registers
+        (any_temporaries (effect_temporaries (unit_of names.old)) (option_map plain_expr controls.entry.1.now))
         (after (plain_stmt a.now) (with_registers (any_temporaries temporaries (option_map plain_expr controls.entry.0.now)) names.old))) }
     ensures numbers { OnOk result (Any HasLetters (option_map plain_expr controls.entry.0.now) × HasNumbers (plain_stmt a.now)
         × Any EffectHasLetters (option_map plain_expr controls.entry.1.now)) }

@@ -1,7 +1,7 @@
 use Rattle.std.proofs.Common.{◌-◌}
 use Rattle.instrument.specs.Options.{youngest}
 use Rattle.c_effects.proofs.Sequences.{grown}
-use Rattle.instrument.proofs.Declarations.{youngest_left}
+use Rattle.instrument.proofs.DeclarationCode.{youngest_left}
 use Rattle.instrument.proofs.block.between.Goals as goal
 
 pub registers-preserved : goal.registers-preserved

@@ -5,7 +5,7 @@ use Rattle.mon_syntax.specs.Trees.{plain_stmts}
 use Rattle.c_effects.specs.Expressions.{before}
 use Rattle.c_effects.proofs.Sequences.{left_at, none_left, all_there}
 use Rattle.instrument.specs.Options.{births_by, declared_by, entering}
-use Rattle.instrument.proofs.Declarations.{births_then, declared_first_item, entering_then}
+use Rattle.instrument.proofs.DeclarationCode.{births_then, declared_first_item, entering_then}
 use Rattle.instrument.proofs.block.enter_items.Goals as goal
 
 pub returns-clause-born : goal.returns-clause-born

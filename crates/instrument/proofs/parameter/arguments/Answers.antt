@@ -1,6 +1,6 @@
 use Rattle.std.proofs.Common.{◌≡◌, ◌+◌, length, drop, map, refl, ◌∙◌, arith}
 use Rattle.c_syntax.specs.Statements.{plain_decl}
-use Rattle.instrument.specs.Translation.{own_name, register_name}
+use Rattle.instrument.specs.Translation.{register_name}
 use Rattle.c_effects.proofs.Sequences.{left_at}
 use Rattle.instrument.proofs.Entries.{argument_more}
 use Rattle.mon_syntax.specs.Trees.{MonRegister}

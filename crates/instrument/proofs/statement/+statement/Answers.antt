@@ -13,7 +13,7 @@ use Rattle.c_effects.proofs.Sequences.{left_at, none_left, all_there, more_behin
 use Rattle.c_effects.proofs.Trees.{on_ok_then}
 use Rattle.instrument.specs.Limits.{HasNumbers, HaveNumbers}
 use Rattle.instrument.specs.Options.{after, behind_first, behind_item, behind_items, else_part_by, entering, first_part_by, item_by, items_by, plain_else_part, plain_first_part, plain_spot, statement_by, test_if_any_by}
-use Rattle.instrument.proofs.Declarations.{born_front}
+use Rattle.instrument.proofs.DeclarationCode.{born_front}
 use Rattle.instrument.proofs.StatementTrees.{block_stmt, branches_code, if_stmt, for_stmt, if_code, do_code, turns_code, entered_code, rest_code, for_code, alive_code, declared_of_first, for_names}
 use Rattle.instrument.proofs.statement.+statement.Goals as goal
 

@@ -1,0 +1,79 @@
+-- Trees as the translation needs them: where effects, calls and declarations stand in them, and how large their full expressions and their types are.
+use Rattle.std.proofs.Common.{◌≡◌, List, [], ◌∷◌, Option}
+use Rattle.c_syntax.specs.declared.place.Place.{Place}
+use Rattle.c_syntax.specs.Expressions.{Expression}
+use Rattle.c_syntax.specs.Statements.{Initialiser, Declaration, Statement, Empty, Eval, Block, If, While, Do, For}
+use Rattle.c_syntax.specs.Statements.{Break, Continue, Return, ElsePart, NoElse, Else, ForFirst, NoFirst, First, BlockItem, Declare, Run, Asserts, BlockItems, NoItem, Then}
+use Rattle.c_syntax.specs.Programs.{StructType}
+use Rattle.c_model.specs.Formed.{AreAsserts}
+use Rattle.c_model.specs.TypedTrees.{WhereAny}
+use Rattle.c_model.specs.Pure.{IsPure, IsPureOrCall, IsEffect, IsEffectOrCall, IsInitialiser}
+use Rattle.c_model.specs.Sizes.{IsSmall}
+use Rattle.c_model.specs.SmallTypes.{TypesSmall}
+use Rattle.c_model.specs.FullExpressions.{EachInitial}
+
+-- among these structs
+module _ (structs : List StructType) where
+  -- expressions that stand in no other: without effects, or besides as calls, with an effect, and besides as calls
+  pub record IsFull (e : Expression) : Type 0 where
+    pub is : IsPure e
+    pub small : IsSmall e
+    pub types : TypesSmall structs e
+
+  pub record IsFullOrCall (e : Expression) : Type 0 where
+    pub is : IsPureOrCall e
+    pub small : IsSmall e
+    pub types : TypesSmall structs e
+
+  pub record IsFullEffect (e : Expression) : Type 0 where
+    pub is : IsEffect e
+    pub small : IsSmall e
+    pub types : TypesSmall structs e
+
+  pub record IsFullEffectOrCall (e : Expression) : Type 0 where
+    pub is : IsEffectOrCall e
+    pub small : IsSmall e
+    pub types : TypesSmall structs e
+
+  -- each expression of an initialiser is a full expression (C99 6.8 p4)
+  pub record InitialFormed (o : Option (Place × Initialiser)) : Type 0 where
+    pub is : IsInitialiser o
+    pub small : WhereAny (λ (x : Place × Initialiser). EachInitial IsSmall x.1) o
+    pub types : WhereAny (λ (x : Place × Initialiser). EachInitial (TypesSmall structs) x.1) o
+
+  abbrev pub AreInitialised : List Declaration → Type 0
+  AreInitialised [] = Unit {0}
+  AreInitialised (d ∷ ds) = InitialFormed d.init × AreInitialised ds
+
+  abbrev pub FirstFormed : ForFirst → Type 0
+  FirstFormed NoFirst = Unit {0}
+  FirstFormed (First (Run (Eval at e))) = IsFullEffectOrCall e
+  FirstFormed (First (Declare ds)) = AreInitialised ds
+  FirstFormed _ = ⊥
+
+  abbrev mutual
+    pub StatementFormed : Statement → Type 0
+    StatementFormed (Empty at) = Unit {0}
+    StatementFormed (Eval at e) = IsFullEffectOrCall e
+    StatementFormed (Block at items) = ItemsFormed items
+    StatementFormed (If at e a b) = IsFull e × StatementFormed a × ElseFormed b
+    StatementFormed (While at annots e a) = (annots ≡ []) × IsFull e × StatementFormed a
+    StatementFormed (Do at a e) = StatementFormed a × IsFull e
+    StatementFormed (For at annots first e step a) =
+        (annots ≡ []) × FirstFormed first × WhereAny IsFull e × WhereAny IsFullEffect step × StatementFormed a
+    StatementFormed (Break at) = Unit {0}
+    StatementFormed (Continue at) = Unit {0}
+    StatementFormed (Return at e) = WhereAny IsFullOrCall e
+
+    pub ElseFormed : ElsePart → Type 0
+    ElseFormed NoElse = Unit {0}
+    ElseFormed (Else a) = StatementFormed a
+
+    pub ItemsFormed : BlockItems → Type 0
+    ItemsFormed NoItem = Unit {0}
+    ItemsFormed (Then i rest) = ItemFormed i × ItemsFormed rest
+
+    pub ItemFormed : BlockItem → Type 0
+    ItemFormed (Declare ds) = AreInitialised ds
+    ItemFormed (Run a) = StatementFormed a
+    ItemFormed (Asserts annots) = AreAsserts annots

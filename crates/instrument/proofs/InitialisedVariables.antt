@@ -1,0 +1,201 @@
+-- The initialisers of objects that are declared one after another: those of a block, and globals.
+use Rattle.std.proofs.Common.{◌≡◌, ℕ, suc, ◌<◌, ◌≤◌, if◌then◌else◌, List, [], ◌∷◌, ◌++◌, length, Option, Some, None, slice_get, slice_set, refl, sym, ap, ◌∙◌, subst, arith}
+use Rattle.std.proofs.lemmas.List.{length-append}
+use Rattle.c_syntax.specs.declared.place.Place.{Place}
+use Rattle.c_syntax.specs.Statements.{Declaration, Initialiser, One, Many}
+use Rattle.c_model.specs.Formed.{number_of}
+use Rattle.c_model.specs.Library.{is_there}
+use Rattle.c_model.specs.Memory.{Into, Value, Points}
+use Rattle.c_model.specs.State.{State, Scope, on_outcome, defined, start_of, find}
+use Rattle.c_model.specs.Meaning.{Tables, tables_of, fill, initialise, initialise_all}
+use Rattle.c_model.specs.ExpressionTyping.{Sight, with_object}
+use Rattle.c_model.specs.TypedTrees.{ByText, ByValue, Initialises, WhereAny, IsDeclared, AreDeclared}
+use Rattle.mon_syntax.specs.declared.tree.MonType.{MonType}
+use Rattle.mon_syntax.specs.declared.tree.MonType.TheVariants as kind
+use Rattle.mon_syntax.specs.Registers.{Bindings}
+use Rattle.mon_syntax.specs.Meaning.{Next}
+use Rattle.mon_syntax.specs.Trees.{MonStatements, Global}
+use Rattle.c_model.specs.Pure.{IsPureInitialiser, IsInitialiser}
+use Rattle.c_effects.specs.Letters.{InitialHasLetters, InitialsHaveLetters}
+use Rattle.c_effects.specs.Expressions.{global_index, set}
+use Rattle.c_effects.specs.Effects.{full_temporaries, block_of, initial_temporaries, declaration_temporaries}
+use Rattle.c_effects.specs.Effects as translation
+use Rattle.instrument.specs.Translation.{global_temporaries, all_global_temporaries, initialise_global, initialise_globals}
+use Rattle.instrument.proofs.Standing.{Setting, Target, runs, IsAnchored, InRegister, AtGlobal, Anchored, Knows, Bounded, Here, Standing, Beside}
+use Rattle.instrument.proofs.Registers.{same_all, same_set, get-set_same, longer}
+use Rattle.instrument.proofs.Results.{writes_none, before_is}
+use Rattle.instrument.proofs.Following.{Follows, later_same, stays, onward, undefined_here, follows_then, follows_lower, standing_later}
+use Rattle.instrument.proofs.Anchors.{block_has, block_below}
+use Rattle.instrument.proofs.Evaluating.{behind_setup, set_runs}
+use Rattle.instrument.proofs.Scenes.{Scene, scene_with, knows_with}
+use Rattle.instrument.proofs.Initialisers.{initial_follows}
+use Rattle.instrument.proofs.Fillings.{Filling, object_text, object_parts, object_follows}
+use Rattle.instrument.proofs.Own.{IsLocal, AreLocal}
+use Rattle.c_model.specs.EffectPlaces.{ArePlaced}
+
+module _ (w : Setting) (n : ℕ) (h : Here) (sight : Sight) (scene : Scene w n sight) (low : ℕ) (bound : Bindings) (s : State) (t : Target) (le : s.steps ≤ n) (rs : List MonType) (behind : low ≤ length rs)
+    (regs : List Value) (m : Standing w h low bound regs s) (b : Beside w s.store s t) where
+  abbrev T : Tables
+  T = tables_of w.unit
+
+  abbrev Does : Declaration → Option (Place × Initialiser) → Type 0
+  Does d o = Follows w h low regs Next s (initialise T d o w.call s) (runs w n t (translation.initialise w.unit bound rs (block_of bound (number_of d)) d.ctype o) regs)
+
+  object_in_block : (d : Declaration) (at : Place) (i : Initialiser) (number : ℕ) → find (number_of d) s.scope ≡ Some number → IsLocal w.unit d → IsInitialiser (Some (at, i)) → Initialises sight d.ctype i
+      → InitialHasLetters (Some (at, i)) → length (rs ++ initial_temporaries (Some (at, i))) ≤ w.registers → Does d (Some (at, i))
+  object_in_block d at i number found local pure q l room = by i pure q l room
+    where
+      r : ℕ
+      r = block_of bound (number_of d)
+
+      below : r < low
+      below = block_below w low bound regs s.scope (number_of d) number m.anchored found local
+
+      points : slice_get regs r ≡ Some (Points (Into number 0))
+      points = block_has w low low bound regs regs s.scope (number_of d) number (omega arith) (same_all low regs) m.anchored found local
+
+      filling : Filling w bound low (Into number 0) r regs s t
+      filling = record { anchored = m.anchored; bounded = m.bounded; beside = b; points = points; below = below; registers = m.registers }
+
+      from_start : (i : Initialiser) → Follows w h low regs Next s (fill T at d.ctype (Into number 0) i w.call s) (runs w n t (translation.initialise w.unit bound rs r d.ctype (Some (at, i))) regs) → Does d (Some (at, i))
+      from_start i go =
+          subst (λ q. Follows w h low regs Next s q (runs w n t (translation.initialise w.unit bound rs r d.ctype (Some (at, i))) regs)) (sym (ap (λ o. on_outcome (defined at (start_of o) s) (λ p. fill T at d.ctype p i w.call)) found)) go
+
+      by : (i : Initialiser) → IsInitialiser (Some (at, i)) → Initialises sight d.ctype i → InitialHasLetters (Some (at, i)) → length (rs ++ initial_temporaries (Some (at, i))) ≤ w.registers → Does d (Some (at, i))
+      by (One e) pure (ByValue v none) l room =
+          let few : length (rs ++ full_temporaries e) ≤ w.registers = subst (λ o. length (rs ++ (if is_there o then kind.Ptr ∷ [] else full_temporaries e)) ≤ w.registers) none room in
+          initial_follows w n h sight scene low bound s t le rs behind regs m b d at e v.scalar.scalar number r v.scalar.is found points (omega (arith, below, behind)) none pure v.typed v.ctype l few
+      by (One e) pure (ByText f) l room = from_start (One e) (object_text w n h sight scene.knows bound low e at d.ctype number r rs regs s t behind f room filling)
+      by (Many brace is) pure q l room = from_start (Many brace is) (object_parts w n h sight scene.knows bound low brace is at d.ctype number r rs regs s t behind pure q l room filling)
+
+  -- an object of a block
+  pub declared_follows : (d : Declaration) (o : Option (Place × Initialiser)) → IsLocal w.unit d → IsInitialiser o → WhereAny (λ (i : Place × Initialiser). Initialises sight d.ctype i.1) o → InitialHasLetters o
+      → length (rs ++ initial_temporaries o) ≤ w.registers → Does d o
+  declared_follows d None local pure q l room = stays w h low regs s t m.bounded b
+  declared_follows d (Some (at, i)) local pure q l room = by (find (number_of d) s.scope) refl
+    where
+      by : (o : Option ℕ) → find (number_of d) s.scope ≡ o → Does d (Some (at, i))
+      by None found =
+          undefined_here w h low regs Next s (initialise T d (Some (at, i)) w.call s) (runs w n t (translation.initialise w.unit bound rs (block_of bound (number_of d)) d.ctype (Some (at, i))) regs) at
+          (ap (λ o. on_outcome (defined at (start_of o) s) (λ p. fill T at d.ctype p i w.call)) found)
+      by (Some number) found = object_in_block d at i number found local pure q l room
+
+-- ---- the objects of a block, in their order
+
+module _ (w : Setting) (n : ℕ) (h : Here) (low : ℕ) (bound : Bindings) where
+  pub initials_follow : (ds : List Declaration) (sight : Sight) → Scene w n sight → AreLocal w.unit ds → ArePlaced ds → AreDeclared sight ds → InitialsHaveLetters ds → (rs : List MonType) → low ≤ length rs
+      → length (rs ++ declaration_temporaries ds) ≤ w.registers
+      → (regs : List Value) (s : State) (t : Target) → s.steps ≤ n → Standing w h low bound regs s → Beside w s.store s t
+      → Follows w h low regs Next s (initialise_all (tables_of w.unit) ds w.call s) (runs w n t (translation.initialise_all w.unit bound rs ds) regs)
+  initials_follow [] sight scene local f q l rs behind room regs s t le m b = stays w h low regs s t m.bounded b
+  initials_follow (d ∷ ds) sight scene local f q l rs behind room regs s t le m b =
+      let here = initial_temporaries d.init in
+      let rest = declaration_temporaries ds in
+      let more : length (rs ++ (here ++ rest)) ≡ length (rs ++ here ++ rest) = omega (arith, length-append (rs ++ here) rest, length-append rs here, length-append rs (here ++ rest), length-append here rest) in
+      let first = translation.initialise w.unit bound rs (block_of bound (number_of d)) d.ctype d.init in
+      let others = translation.initialise_all w.unit bound (rs ++ here) ds in
+      let own = record d { ctype = q.0.first } in
+      subst (λ q. Follows w h low regs Next s (initialise_all (tables_of w.unit) (d ∷ ds) w.call s) q) (sym (before_is w.globals first others w.calls n regs t))
+      (follows_then w h low regs Next s (initialise (tables_of w.unit) d d.init w.call s) (runs w n t first regs) (initialise_all (tables_of w.unit) ds w.call) (λ r u. runs w n u others r)
+      (declared_follows w n h (with_object sight own) (scene_with w n sight own scene) low bound s t le rs behind regs m b d d.init local.0 f.0 q.0.init l.0 (omega (arith, more, room, longer (rs ++ here) rest)))
+      (λ to after u o same la be.
+      initials_follow ds (with_object sight d) (scene_with w n sight d scene) local.1 f.1 q.1 l.1 (rs ++ here) (omega (arith, behind, longer rs here)) (omega (arith, more, room)) after to u (omega (arith, le, la.spent))
+      (standing_later w h low bound regs after s to o same la m) be))
+
+-- ---- globals, in their order
+
+-- a global with this index, and what is known of it where it stands in the file; its initialiser has no calls
+pub record IsGlobal (w : Setting) (g : ℕ) (d : Declaration) : Type 0 where
+  pub index : global_index (number_of d) w.unit.globals ≡ g
+  pub sight : Sight
+  pub knows : Knows w sight
+  pub declared : IsDeclared sight d
+  pub pure : WhereAny (λ (i : Place × Initialiser). IsPureInitialiser i.1) d.init
+  pub letters : InitialHasLetters d.init
+
+abbrev pub AreGlobals : Setting → ℕ → List Declaration → Type 0
+AreGlobals w g [] = Unit {0}
+AreGlobals w g (d ∷ ds) = IsGlobal w g d × AreGlobals w (suc g) ds
+
+-- where no register is bound to a name, all names in sight are those of globals, whatever the registers hold
+pub anchored_anywhere : (w : Setting) (low high : ℕ) (regs after : List Value) (scope : Scope) → Anchored w low [] regs scope → Anchored w high [] after scope
+anchored_anywhere w low high regs after scope m x number found = let a = m x number found in record { own = a.own; anchor = of_anchor a.anchor }
+  where
+    of_anchor : IsAnchored w low [] regs x number → IsAnchored w high [] after x number
+    of_anchor (InRegister r is_bound below points) = absurd cc
+    of_anchor (AtGlobal free is_global points) = AtGlobal free is_global points
+
+global_points : (w : Setting) (low : ℕ) (regs : List Value) (scope : Scope) (x number : ℕ) → Anchored w low [] regs scope → find x scope ≡ Some number → slice_get w.globals (global_index x w.unit.globals) ≡ Some (Points (Into number 0))
+global_points w low regs scope x number m found = of_anchor (m x number found).anchor
+  where
+    of_anchor : IsAnchored w low [] regs x number → slice_get w.globals (global_index x w.unit.globals) ≡ Some (Points (Into number 0))
+    of_anchor (InRegister r is_bound below points) = absurd cc
+    of_anchor (AtGlobal free is_global points) = points
+
+module _ (w : Setting) (n : ℕ) (h : Here) (low : ℕ) where
+  abbrev tables : Tables
+  tables = tables_of w.unit
+
+  -- one that has no initialiser keeps the zeros in which it is born
+  global_follows : (d : Declaration) (o : Option (Place × Initialiser)) (g : ℕ) (sight : Sight) → Knows w sight → global_index (number_of d) w.unit.globals ≡ g
+      → WhereAny (λ (i : Place × Initialiser). IsPureInitialiser i.1) o → WhereAny (λ (i : Place × Initialiser). Initialises sight d.ctype i.1) o → InitialHasLetters o → (rs : List MonType) → low ≤ length rs
+      → length (rs ++ global_temporaries o) ≤ w.registers
+      → (regs : List Value) (s : State) (t : Target) → length regs ≡ w.registers → Anchored w low [] regs s.scope → Bounded s.store → Beside w s.store s t
+      → Follows w h low regs Next s (initialise tables d o w.call s) (runs w n t (initialise_global w.unit rs g d.ctype o) regs)
+  global_follows d None g sight knows index pure q l rs behind room regs s t long anchored bounded b = stays w h low regs s t bounded b
+  global_follows d (Some (at, i)) g sight knows index pure q l rs behind room regs s t long anchored bounded b = by (find (number_of d) s.scope) refl
+    where
+      j : ℕ
+      j = length rs
+
+      code : MonStatements
+      code = translation.initialise w.unit [] (rs ++ kind.Ptr ∷ []) j d.ctype (Some (at, i))
+
+      all : MonStatements
+      all = initialise_global w.unit rs g d.ctype (Some (at, i))
+
+      by : (o : Option ℕ) → find (number_of d) s.scope ≡ o → Follows w h low regs Next s (initialise tables d (Some (at, i)) w.call s) (runs w n t all regs)
+      by None found =
+          undefined_here w h low regs Next s (initialise tables d (Some (at, i)) w.call s) (runs w n t all regs) at
+          (ap (λ o. on_outcome (defined at (start_of o) s) (λ p. fill tables at d.ctype p i w.call)) found)
+      by (Some number) found =
+          let v = Points (Into number 0) in
+          let after = slice_set regs j v in
+          let same = same_set low j regs v behind in
+          let points : slice_get w.globals g ≡ Some v = subst (λ g. slice_get w.globals g ≡ Some v) index (global_points w low regs s.scope (number_of d) number anchored found) in
+          let one_more : length (rs ++ kind.Ptr ∷ []) ≡ suc j = omega (arith, length-append rs (kind.Ptr ∷ [])) in
+          let more : length (rs ++ kind.Ptr ∷ [] ++ initial_temporaries (Some (at, i))) ≡ length (rs ++ global_temporaries (Some (at, i))) =
+          omega (arith, length-append (rs ++ kind.Ptr ∷ []) (initial_temporaries (Some (at, i))), one_more, length-append rs (global_temporaries (Some (at, i)))) in
+          let enough : j < length regs = omega (arith, room, long, length-append rs (global_temporaries (Some (at, i)))) in
+          let filling : Filling w [] (suc j) (Into number 0) j after s t = record {
+            anchored = anchored_anywhere w low (suc j) regs after s.scope anchored;
+            bounded = bounded;
+            beside = b;
+            points = get-set_same regs j v enough;
+            below = omega arith;
+            registers = same.long ∙ long;
+          } in
+          subst (λ o. Follows w h low regs Next s o (runs w n t all regs)) (sym (ap (λ o. on_outcome (defined at (start_of o) s) (λ p. fill tables at d.ctype p i w.call)) found))
+          (subst (λ q. Follows w h low regs Next s (fill tables at d.ctype (Into number 0) i w.call s) q) (writes_none (runs w n t code after) ∙ sym (behind_setup w n t (set j (Global g)) code regs after (set_runs w n t j (Global g) regs v points)))
+          (onward w h low regs after Next s s [] (fill tables at d.ctype (Into number 0) i w.call s) (runs w n t code after) same (later_same s bounded)
+          (follows_lower w h low (suc j) after Next s (fill tables at d.ctype (Into number 0) i w.call s) (runs w n t code after) (omega (arith, behind))
+          (object_follows w n h sight knows [] (suc j) i at d.ctype number j (rs ++ kind.Ptr ∷ []) after s t (omega (arith, one_more)) pure q l (omega (arith, more, room)) filling))))
+
+  -- globals from the one with this index on, with nothing else in sight
+  pub globals_follow : (ds : List Declaration) (g : ℕ) → AreGlobals w g ds → (rs : List MonType) → low ≤ length rs → length (rs ++ all_global_temporaries ds) ≤ w.registers → (regs : List Value) (s : State) (t : Target) → length regs ≡ w.registers
+      → Anchored w low [] regs s.scope → Bounded s.store → Beside w s.store s t → Follows w h low regs Next s (initialise_all tables ds w.call s) (runs w n t (initialise_globals w.unit rs g ds) regs)
+  globals_follow [] g q rs behind room regs s t long anchored bounded b = stays w h low regs s t bounded b
+  globals_follow (d ∷ ds) g q rs behind room regs s t long anchored bounded b =
+      let own = record d { ctype = q.0.declared.first } in
+      let here = global_temporaries d.init in
+      let rest = all_global_temporaries ds in
+      let more : length (rs ++ (here ++ rest)) ≡ length (rs ++ here ++ rest) = omega (arith, length-append (rs ++ here) rest, length-append rs here, length-append rs (here ++ rest), length-append here rest) in
+      let first = initialise_global w.unit rs g d.ctype d.init in
+      let others = initialise_globals w.unit (rs ++ here) (suc g) ds in
+      subst (λ q. Follows w h low regs Next s (initialise_all tables (d ∷ ds) w.call s) q) (sym (before_is w.globals first others w.calls n regs t))
+      (follows_then w h low regs Next s (initialise tables d d.init w.call s) (runs w n t first regs) (initialise_all tables ds w.call) (λ r u. runs w n u others r)
+      (global_follows d d.init g (with_object q.0.sight own) (knows_with w q.0.sight own q.0.knows) q.0.index q.0.pure q.0.declared.init q.0.letters rs behind (omega (arith, more, room, longer (rs ++ here) rest)) regs s t long
+      anchored bounded b)
+      (λ to after u o same la be.
+      globals_follow ds (suc g) q.1 (rs ++ here) (omega (arith, behind, longer rs here)) (omega (arith, more, room)) after to u (same.long ∙ long)
+      (anchored_anywhere w low low regs after to.scope (subst (Anchored w low [] regs) (sym la.scope) anchored)) la.bounded be))

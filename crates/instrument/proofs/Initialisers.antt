@@ -1,0 +1,56 @@
+-- Initialisers of scalars: the value, and the store through the register that points to the object.
+use Rattle.std.proofs.Common.{◌≡◌, ℕ, ◌<◌, ◌≤◌, not, if◌then◌else◌, List, ◌++◌, length, Some, None, slice_get, sym, ap, ◌∙◌, subst}
+use Rattle.c_syntax.specs.declared.place.Place.{Place}
+use Rattle.c_syntax.specs.Ctypes.{PlainType}
+use Rattle.c_syntax.specs.Expressions.{Expression, type_of}
+use Rattle.c_syntax.specs.Statements.{Declaration, One}
+use Rattle.c_model.specs.Library.{is_there}
+use Rattle.c_model.specs.Layouts.{Scalar, scalar_of}
+use Rattle.c_model.specs.Memory.{Pointer, Into, Value, Points}
+use Rattle.c_model.specs.State.{State, on_outcome, as_scalar, write, defined, start_of, find}
+use Rattle.c_model.specs.Meaning.{Tables, tables_of, eval_with, string_in, fill, fill_one, initialise}
+use Rattle.c_model.specs.ExpressionTyping.{Sight}
+use Rattle.c_model.specs.TypedTrees.{WellTyped}
+use Rattle.mon_syntax.specs.declared.tree.MonType.{MonType}
+use Rattle.mon_syntax.specs.Registers.{Bindings}
+use Rattle.mon_syntax.specs.Meaning.{Next}
+use Rattle.mon_syntax.specs.Trees.{MonStatements}
+use Rattle.mon_syntax.specs.Trees as tree
+use Rattle.c_model.specs.Pure.{IsPureOrCall}
+use Rattle.c_effects.specs.Letters.{FullHasLetters}
+use Rattle.c_effects.specs.Expressions.{before, one}
+use Rattle.c_effects.specs.Effects.{full_temporaries, full_setup, full_value, store}
+use Rattle.c_effects.specs.Effects as translation
+use Rattle.instrument.proofs.Standing.{Setting, Target, runs, Here, Standing, Beside}
+use Rattle.instrument.proofs.Registers.{same_all}
+use Rattle.instrument.proofs.Following.{Follows}
+use Rattle.instrument.proofs.PointerValues.{scalar_register, value_type_is}
+use Rattle.instrument.proofs.Scenes.{Scene}
+use Rattle.instrument.proofs.FullExpressions.{follows_full}
+use Rattle.instrument.proofs.Stores.{write_follows}
+
+module _ (w : Setting) (n : ℕ) (h : Here) (sight : Sight) (scene : Scene w n sight) (low : ℕ) (bound : Bindings) (s : State) (t : Target) (le : s.steps ≤ n) (rs : List MonType) (behind : low ≤ length rs)
+    (regs : List Value) (m : Standing w h low bound regs s) (b : Beside w s.store s t) where
+  abbrev T : Tables
+  T = tables_of w.unit
+
+  pub simple_follows : (at : Place) (u : PlainType) (e : Expression) (k : Scalar) (p : Pointer) (r : ℕ) → scalar_of u ≡ Some k → slice_get regs r ≡ Some (Points p) → r < length rs → IsPureOrCall e → WellTyped sight e → type_of e ≡ u
+      → FullHasLetters e
+      → length (rs ++ full_temporaries e) ≤ w.registers
+      → Follows w h low regs Next s (fill_one T at u p None (eval_with T e w.call) s) (runs w n t (before (full_setup w.unit bound rs e) (store r u (full_value w.unit bound rs e))) regs)
+  simple_follows at u e k p r is points lt pe qe same l room =
+      let value = full_value w.unit bound rs e in
+      subst (λ c. Follows w h low regs Next s (fill_one T at u p None (eval_with T e w.call) s) (runs w n t (before (full_setup w.unit bound rs e) c) regs)) (ap (λ m. one (tree.Store r m value)) (sym (value_type_is u k is)))
+      (subst (λ o. Follows w h low regs Next s (on_outcome (eval_with T e w.call s) (λ x. as_scalar o λ k. write at p k x)) (runs w n t (before (full_setup w.unit bound rs e) (one (tree.Store r (scalar_register k) value))) regs)) (sym is)
+      (follows_full w n h sight scene Next low bound s t le rs behind regs m b e k (λ x. write at p k x) (one (tree.Store r (scalar_register k) value)) (ap scalar_of same ∙ is) pe qe l room (λ v state there o after f2 same2 later be has.
+      write_follows w n h low at k p r v state there after value later.bounded be (same2.below r lt ∙ points) f2 (has after (same_all (length (rs ++ full_temporaries e)) after)))))
+
+  -- a declared scalar, to whose block the register points
+  pub initial_follows : (d : Declaration) (at : Place) (e : Expression) (k : Scalar) (number r : ℕ) → scalar_of d.ctype ≡ Some k → find d.place.offset s.scope ≡ Some number → slice_get regs r ≡ Some (Points (Into number 0)) → r < length rs
+      → string_in e ≡ None → IsPureOrCall e → WellTyped sight e → type_of e ≡ d.ctype → FullHasLetters e → length (rs ++ full_temporaries e) ≤ w.registers
+      → Follows w h low regs Next s (initialise T d (Some (at, One e)) w.call s) (runs w n t (translation.initialise w.unit bound rs r d.ctype (Some (at, One e))) regs)
+  initial_follows d at e k number r is found points lt none pe qe same l room =
+      subst (λ q. Follows w h low regs Next s q (runs w n t (translation.initialise w.unit bound rs r d.ctype (Some (at, One e))) regs)) (sym (ap (λ o. on_outcome (defined at (start_of o) s) (λ p. fill T at d.ctype p (One e) w.call)) found))
+      (subst (λ o. Follows w h low regs Next s (fill_one T at d.ctype (Into number 0) o (eval_with T e w.call) s) (runs w n t
+      (if not (is_there o) then before (full_setup w.unit bound rs e) (store r d.ctype (full_value w.unit bound rs e)) else translation.fill_one w.unit bound r 0 rs d.ctype o e) regs)) (sym none)
+      (simple_follows at d.ctype e k (Into number 0) r is points lt pe qe same l room))

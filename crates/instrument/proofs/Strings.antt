@@ -1,0 +1,61 @@
+-- A string literal that initialises an array of characters: its bytes, and then zeros, one by one on both sides.
+use Rattle.std.proofs.Common.{◌≡◌, ℕ, zero, suc, ◌+◌, ◌%◌, ◌^◌, ◌<◌, pos, true, List, [], ◌∷◌, length, Some, slice_get, refl, sym, ap, ◌∙◌, subst, arith}
+use Rattle.std.proofs.lemmas.Bool.{lt-ltb}
+use Rattle.c_syntax.specs.declared.place.Place.{Place}
+use Rattle.c_syntax.specs.declared.types.CInt.TheVariants.{U8}
+use Rattle.c_model.specs.Integers.{fits}
+use Rattle.c_model.specs.Layouts.{IntegerType}
+use Rattle.c_model.specs.Memory.{Pointer, Null, Into, Value, Integer, Points, shifted}
+use Rattle.c_model.specs.Memory.{Number as NumberByte}
+use Rattle.c_model.specs.State.{State, write, write_bytes}
+use Rattle.c_model.specs.Meaning.{write_each, padded}
+use Rattle.mon_syntax.specs.declared.tree.MonType.TheVariants as kind
+use Rattle.mon_syntax.specs.Meaning.{Next}
+use Rattle.mon_syntax.specs.Trees.{Constant}
+use Rattle.c_effects.specs.Effects.{stored_at, bytes_at}
+use Rattle.instrument.proofs.Results.{before_is}
+use Rattle.instrument.proofs.Standing.{Setting, Target, runs, AreOctets, Bounded, Here, Beside}
+use Rattle.instrument.proofs.Following.{Follows, stays, follows_then}
+use Rattle.instrument.proofs.Values.{constant_has}
+use Rattle.instrument.proofs.Zeros.{stored_at_follows}
+
+one_farther : (p : Pointer) (d : ℕ) → shifted (shifted p d) 1 ≡ shifted p (suc d)
+one_farther Null d = refl
+one_farther (Into m i) d = let same : (i + d) + 1 ≡ i + suc d = omega arith in ap (Into m) same
+
+octet_stays : (b : ℕ) → b < 256 → b ≡ b % 256 ^ 1 % 256
+octet_stays b lt = omega (arith, lt)
+
+byte_written : (at : Place) (q : Pointer) (b : ℕ) (s : State) → b < 256 → write_bytes at q (NumberByte b ∷ []) s ≡ write at q (IntegerType U8) (Integer (pos b)) s
+byte_written at q b s lt = ap (λ y. write_bytes at q (NumberByte y ∷ []) s) (octet_stays b lt)
+
+octet_fits : (b : ℕ) → b < 256 → fits U8 (pos b) ≡ true
+octet_fits b lt = lt-ltb b (2 ^ 8) (omega (arith, lt))
+
+module _ (w : Setting) (n : ℕ) (h : Here) (low : ℕ) where
+  byte_follows : (at : Place) (p : Pointer) (r d byte : ℕ) (s : State) (t : Target) (regs : List Value) → byte < 256 → Bounded s.store → Beside w s.store s t → slice_get regs r ≡ Some (Points p) → low < length regs
+      → Follows w h low regs Next s (write_bytes at (shifted p d) (NumberByte byte ∷ []) s) (runs w n t (stored_at r low d kind.U8 (Constant kind.U8 (pos byte))) regs)
+  byte_follows at p r d byte s t regs lt bounded b points room =
+      subst (λ q. Follows w h low regs Next s q (runs w n t (stored_at r low d kind.U8 (Constant kind.U8 (pos byte))) regs)) (sym (byte_written at (shifted p d) byte s lt))
+      (stored_at_follows w n h low at (IntegerType U8) p r low d (Integer (pos byte)) s t regs (Constant kind.U8 (pos byte)) bounded b points (omega arith) room (pos byte, refl, octet_fits byte lt)
+      (λ after same. constant_has w after t.mem kind.U8 (pos byte) refl))
+
+  pub bytes_follow : (size : ℕ) (bytes : List ℕ) (at : Place) (p : Pointer) (r d : ℕ) (s : State) (t : Target) (regs : List Value) → AreOctets bytes → Bounded s.store → Beside w s.store s t → slice_get regs r ≡ Some (Points p) → r < low
+      → low < length regs → Follows w h low regs Next s (write_each at (shifted p d) (padded size bytes) s) (runs w n t (bytes_at r low d size bytes) regs)
+  bytes_follow zero bytes at p r d s t regs octets bounded b points below room = stays w h low regs s t bounded b
+  bytes_follow (suc size) [] at p r d s t regs octets bounded b points below room =
+      let first = stored_at r low d kind.U8 (Constant kind.U8 (pos 0)) in
+      let others = bytes_at r low (suc d) size [] in
+      subst (λ q. Follows w h low regs Next s (write_each at (shifted p d) (padded (suc size) []) s) q) (sym (before_is w.globals first others w.calls n regs t))
+      (follows_then w h low regs Next s (write_bytes at (shifted p d) (NumberByte 0 ∷ []) s) (runs w n t first regs) (write_each at (shifted (shifted p d) 1) (padded size [])) (λ r u. runs w n u others r)
+      (byte_follows at p r d 0 s t regs (omega arith) bounded b points room)
+      (λ to after u o same la be. subst (λ q. Follows w h low after Next to (write_each at q (padded size []) to) (runs w n u others after)) (sym (one_farther p d))
+      (bytes_follow size [] at p r (suc d) to u after octets la.bounded be (same.below r below ∙ points) below (omega (arith, room, same.long)))))
+  bytes_follow (suc size) (c ∷ cs) at p r d s t regs octets bounded b points below room =
+      let first = stored_at r low d kind.U8 (Constant kind.U8 (pos c)) in
+      let others = bytes_at r low (suc d) size cs in
+      subst (λ q. Follows w h low regs Next s (write_each at (shifted p d) (padded (suc size) (c ∷ cs)) s) q) (sym (before_is w.globals first others w.calls n regs t))
+      (follows_then w h low regs Next s (write_bytes at (shifted p d) (NumberByte c ∷ []) s) (runs w n t first regs) (write_each at (shifted (shifted p d) 1) (padded size cs)) (λ r u. runs w n u others r)
+      (byte_follows at p r d c s t regs octets.0 bounded b points room)
+      (λ to after u o same la be. subst (λ q. Follows w h low after Next to (write_each at q (padded size cs) to) (runs w n u others after)) (sym (one_farther p d))
+      (bytes_follow size cs at p r (suc d) to u after octets.1 la.bounded be (same.below r below ∙ points) below (omega (arith, room, same.long)))))

@@ -1,0 +1,224 @@
+-- Translated initialisers are valid: types and depth.
+use Rattle.std.proofs.Common.{◌≡◌, ℕ, zero, suc, ◌+◌, ◌≤◌, ◌<◌, pos, true, not, if◌then◌else◌, List, [], ◌∷◌, ◌++◌, length, map, Option, Some, None, slice_get, refl, sym, ap, subst, arith}
+use Rattle.std.proofs.lemmas.Bool.Decides.{nat_tests}
+use Rattle.std.proofs.lemmas.Int.{ints}
+use Rattle.c_syntax.specs.declared.place.Place.{Place}
+use Rattle.c_syntax.specs.declared.types.CInt.TheVariants as c
+use Rattle.c_syntax.specs.Ctypes.{PlainType}
+use Rattle.c_syntax.specs.Expressions.{Expression}
+use Rattle.c_syntax.specs.Statements.{Initialiser, One, Many, Initialisers, NoInitialiser, Listed}
+use Rattle.c_syntax.specs.Programs.{StructType, StringLiteral, TranslationUnit}
+use Rattle.c_model.specs.Library.{is_there}
+use Rattle.c_model.specs.Layouts.{Scalar, IntegerType, PointerType, size_of, scalars_of}
+use Rattle.c_model.specs.Meaning.{string_in, text_at, parts_or_itself, tables_of}
+use Rattle.c_model.specs.ExpressionTyping.{Sight, tables_in}
+use Rattle.mon_syntax.specs.declared.tree.MonType.{MonType}
+use Rattle.mon_syntax.specs.declared.tree.MonType.TheVariants.{U8, Ptr}
+use Rattle.mon_syntax.specs.Trees.{MonExpression, MonStatements, NoStatement}
+use Rattle.mon_syntax.specs.Registers.{Bindings}
+use Rattle.mon_syntax.specs.Trees as tree
+use Rattle.mon_syntax.specs.Valid.{Types, Labels, Signature, IsExpression, AreStatements, has_constant, depth_of_all}
+use Rattle.c_effects.specs.Letters.{FullHasLetters, InitialiserHasLetters, InitialisersHaveLetters, InitialHasLetters}
+use Rattle.c_model.specs.Pure.{IsPureOrCall, IsPureInitialiser, ArePureInitialisers}
+use Rattle.c_model.specs.ReadTree.{AreBytes, TextsAreBytes}
+use Rattle.c_model.specs.FullExpressions.{EachInitial, EachPart}
+use Rattle.c_model.specs.SmallTypes.{TypesSmall}
+use Rattle.c_model.specs.Sizes.{IsSmall, weight_of, most_weight, most_forms}
+use Rattle.instrument.proofs.FormedTrees.{InitialFormed}
+use Rattle.c_model.specs.TypedTrees.{IsScalar, InitialisedBy, ByText, ByValue, Initialises, PartsInitialised, WhereAny}
+use Rattle.c_effects.specs.Expressions.{value_type, before, one, set, farther}
+use Rattle.c_effects.specs.Effects.{full_temporaries, full_setup, full_value, store, initial_temporaries, one_temporaries, fill_temporaries, parts_temporaries, stored_at, bytes_at, zero_type, zeros_at, zero_parts}
+use Rattle.c_effects.specs.Effects.{fill_one, fill, fill_parts, initialise}
+use Rattle.instrument.proofs.Typed.{Begins, begins_left, begins_right, register_at, Knows, count_of_globals, bytes_constant}
+use Rattle.instrument.proofs.ValidSetups.{deep_before, deep_one, deep_set, before_valid, set_valid}
+use Rattle.instrument.proofs.ValidEffects.{CallsValid, full_valid, assigned_valid, deep_full, deep_behind_full}
+use Rattle.instrument.proofs.Parts.{StructsFit, PartsInside, ScalarsInside, parts_inside, all_scalars_inside}
+use Rattle.instrument.proofs.FullForms.{pure_full}
+
+pub initial_letters : (o : Option (Place × Initialiser)) → InitialHasLetters o → WhereAny (λ (i : Place × Initialiser). InitialiserHasLetters i.1) o
+initial_letters None h = tt
+initial_letters (Some i) h = h
+
+-- ---- how deep they stand
+
+deep_stored : (r k d : ℕ) (t : MonType) (e : MonExpression) (n : ℕ) → 1 ≤ n → depth_of_all (stored_at r k d t e) ≤ n
+deep_stored r k d t e n le = deep_before (set k (farther (tree.Register r) d)) (one (tree.Store k t e)) n (deep_set k (farther (tree.Register r) d) n le) (deep_one (tree.Store k t e) n le)
+
+deep_bytes : (r k d size : ℕ) (bytes : List ℕ) (n : ℕ) → 1 ≤ n → depth_of_all (bytes_at r k d size bytes) ≤ n
+deep_bytes r k d zero bytes n le = omega arith
+deep_bytes r k d (suc size) [] n le = deep_before (stored_at r k d U8 (tree.Constant U8 (pos 0))) (bytes_at r k (suc d) size []) n (deep_stored r k d U8 (tree.Constant U8 (pos 0)) n le) (deep_bytes r k (suc d) size [] n le)
+deep_bytes r k d (suc size) (b ∷ bs) n le = deep_before (stored_at r k d U8 (tree.Constant U8 (pos b))) (bytes_at r k (suc d) size bs) n (deep_stored r k d U8 (tree.Constant U8 (pos b)) n le) (deep_bytes r k (suc d) size bs n le)
+
+deep_zeros : (r k d : ℕ) (cs : List (ℕ × Scalar)) (n : ℕ) → 1 ≤ n → depth_of_all (zeros_at r k d cs) ≤ n
+deep_zeros r k d [] n le = omega arith
+deep_zeros r k d (s ∷ cs) n le =
+    deep_before (stored_at r k (d + s.0) (zero_type s.1) (tree.Constant (zero_type s.1) (pos 0))) (zeros_at r k d cs) n (deep_stored r k (d + s.0) (zero_type s.1) (tree.Constant (zero_type s.1) (pos 0)) n le) (deep_zeros r k d cs n le)
+
+deep_zero_parts : (structs : List StructType) (r k d : ℕ) (cs : List (ℕ × PlainType)) (n : ℕ) → 1 ≤ n → depth_of_all (zero_parts structs r k d cs) ≤ n
+deep_zero_parts structs r k d [] n le = omega arith
+deep_zero_parts structs r k d (s ∷ cs) n le =
+    deep_before (zeros_at r k (d + s.0) (scalars_of structs s.1)) (zero_parts structs r k d cs) n (deep_zeros r k (d + s.0) (scalars_of structs s.1) n le) (deep_zero_parts structs r k d cs n le)
+
+module _ (p : TranslationUnit) (bound : Bindings) where
+  deep_one_filled : (r d : ℕ) (rs : List MonType) (t : PlainType) (o : Option ℕ) (e : Expression) → IsSmall e → depth_of_all (fill_one p bound r d rs t o e) ≤ suc most_forms
+  deep_one_filled r d rs t (Some n) e small = deep_bytes r (length rs) d (size_of p.structs t) (text_at (map (λ (x : StringLiteral). x.bytes) p.texts) n) (suc most_forms) (omega arith)
+  deep_one_filled r d rs t None e small =
+      let x = deep_full p bound rs e in
+      let few = small.few in
+      let k = length (rs ++ full_temporaries e) in
+      deep_before (full_setup p bound rs e) (stored_at r k d (value_type t) (full_value p bound rs e)) (suc most_forms) (omega (arith, x, few)) (deep_stored r k d (value_type t) (full_value p bound rs e) (suc most_forms) (omega arith))
+
+  mutual
+    deep_fill : (r d : ℕ) (rs : List MonType) (t : PlainType) (i : Initialiser) → EachInitial IsSmall i → depth_of_all (fill p bound r d rs t i) ≤ suc most_forms
+    deep_fill r d rs t (One e) small = deep_one_filled r d rs t (string_in e) e small
+    deep_fill r d rs t (Many brace is) small = deep_parts r d rs (parts_or_itself (tables_of p) t) is small
+
+    deep_parts : (r d : ℕ) (rs : List MonType) (cs : List (ℕ × PlainType)) (is : Initialisers) → EachPart IsSmall is → depth_of_all (fill_parts p bound r d rs cs is) ≤ suc most_forms
+    deep_parts r d rs cs NoInitialiser small = deep_zero_parts p.structs r (length rs) d cs (suc most_forms) (omega arith)
+    deep_parts r d rs [] (Listed i is) small = omega arith
+    deep_parts r d rs (x ∷ cs) (Listed i is) small =
+        deep_before (fill p bound r (d + x.0) rs x.1 i) (fill_parts p bound r d (rs ++ fill_temporaries i) cs is) (suc most_forms) (deep_fill r (d + x.0) rs x.1 i small.0) (deep_parts r d (rs ++ fill_temporaries i) cs is small.1)
+
+  pub deep_initialise : (rs : List MonType) (r : ℕ) (t : PlainType) (o : Option (Place × Initialiser)) → InitialFormed p.structs o → depth_of_all (initialise p bound rs r t o) ≤ suc most_forms
+  deep_initialise rs r t None f = omega arith
+  deep_initialise rs r t (Some (at, One e)) f = by (string_in e) refl
+    where
+      by : (o : Option ℕ) → string_in e ≡ o → depth_of_all (initialise p bound rs r t (Some (at, One e))) ≤ suc most_forms
+      by None none =
+          let few = f.small.few in
+          subst (λ b. depth_of_all (if not (is_there b) then before (full_setup p bound rs e) (store r t (full_value p bound rs e)) else fill_one p bound r 0 rs t b e) ≤ suc most_forms) (sym none)
+          (deep_behind_full p bound rs e (tree.Store r (value_type t) (full_value p bound rs e)) (suc most_forms) (omega (arith, few)) (omega arith))
+      by (Some n) text =
+          subst (λ b. depth_of_all (if not (is_there b) then before (full_setup p bound rs e) (store r t (full_value p bound rs e)) else fill_one p bound r 0 rs t b e) ≤ suc most_forms) (sym text)
+          (deep_one_filled r 0 rs t (Some n) e f.small)
+  deep_initialise rs r t (Some (at, Many brace is)) f = deep_parts r 0 rs (parts_or_itself (tables_of p) t) is f.small
+
+-- ---- they are valid
+
+byte_constant : (b : ℕ) → b < 256 → has_constant U8 (pos b) ≡ true
+byte_constant b h = grind (arith, nat_tests, ints)
+
+scalar_zero : (k : Scalar) → has_constant (zero_type k) (pos 0) ≡ true
+scalar_zero (IntegerType c.I8) = refl
+scalar_zero (IntegerType c.U8) = refl
+scalar_zero (IntegerType c.I16) = refl
+scalar_zero (IntegerType c.U16) = refl
+scalar_zero (IntegerType c.I32) = refl
+scalar_zero (IntegerType c.U32) = refl
+scalar_zero (IntegerType c.I64) = refl
+scalar_zero (IntegerType c.U64) = refl
+scalar_zero PointerType = refl
+
+text_bytes : (xs : List StringLiteral) (n : ℕ) → TextsAreBytes xs → AreBytes (text_at (map (λ (x : StringLiteral). x.bytes) xs) n)
+text_bytes [] n h = tt
+text_bytes (x ∷ xs) zero h = h.0
+text_bytes (x ∷ xs) (suc n) h = text_bytes xs n h.1
+
+module _ (p : TranslationUnit) (gs : List Signature) (ts : Types) (result : Option MonType) (bound : Bindings) (s : Sight) (knows : Knows p ts bound s) (calls : CallsValid p gs ts s) (ls : Labels) (fits : StructsFit p.structs)
+    (texts : TextsAreBytes p.texts) where
+  abbrev Are : MonStatements → Type 0
+  Are a = AreStatements (count_of_globals p) gs ts result ls a
+
+  abbrev G : ℕ
+  G = count_of_globals p
+
+  abbrev IsPoint : ℕ → Type 0
+  IsPoint r = slice_get ts r ≡ Some Ptr
+
+  behind : (a b : MonStatements) → Are a → Are b → Are (before a b)
+  behind a b h k = before_valid G gs ts result ls a b h k
+
+  stored_valid : (r k d : ℕ) (t : MonType) (e : MonExpression) → IsPoint r → IsPoint k → d ≤ 2147483647 → IsExpression G ts e t → Are (stored_at r k d t e)
+  stored_valid r k d t e points at small h =
+      let pointer : IsExpression G ts (farther (tree.Register r) d) Ptr = record { typed = (refl, refl, points, (refl, bytes_constant d small)); within = omega arith } in
+      behind (set k (farther (tree.Register r) d)) (one (tree.Store k t e)) (set_valid G gs ts result ls k (farther (tree.Register r) d) Ptr at pointer) ((at, h), tt)
+
+  byte_valid : (b : ℕ) → b < 256 → IsExpression G ts (tree.Constant U8 (pos b)) U8
+  byte_valid b h = record { typed = (refl, byte_constant b h); within = omega arith }
+
+  bytes_valid : (r k d n : ℕ) (bytes : List ℕ) → IsPoint r → IsPoint k → d + n ≤ 2147483647 → AreBytes bytes → Are (bytes_at r k d n bytes)
+  bytes_valid r k d zero bytes points at small h = tt
+  bytes_valid r k d (suc n) [] points at small h =
+      behind (stored_at r k d U8 (tree.Constant U8 (pos 0))) (bytes_at r k (suc d) n []) (stored_valid r k d U8 (tree.Constant U8 (pos 0)) points at (omega (arith, small)) (byte_valid 0 (omega arith)))
+      (bytes_valid r k (suc d) n [] points at (omega (arith, small)) tt)
+  bytes_valid r k d (suc n) (b ∷ bs) points at small h =
+      behind (stored_at r k d U8 (tree.Constant U8 (pos b))) (bytes_at r k (suc d) n bs) (stored_valid r k d U8 (tree.Constant U8 (pos b)) points at (omega (arith, small)) (byte_valid b h.0))
+      (bytes_valid r k (suc d) n bs points at (omega (arith, small)) h.1)
+
+  zeros_valid : (r k d most : ℕ) (cs : List (ℕ × Scalar)) → IsPoint r → IsPoint k → d + most ≤ 2147483647 → ScalarsInside most cs → Are (zeros_at r k d cs)
+  zeros_valid r k d most [] points at small h = tt
+  zeros_valid r k d most (x ∷ cs) points at small h =
+      let inside = h.0 in
+      let e = tree.Constant (zero_type x.1) (pos 0) in
+      behind (stored_at r k (d + x.0) (zero_type x.1) e) (zeros_at r k d cs)
+      (stored_valid r k (d + x.0) (zero_type x.1) e points at (omega (arith, small, inside)) (record { typed = (refl, scalar_zero x.1); within = omega arith }))
+      (zeros_valid r k d most cs points at small h.1)
+
+  zero_parts_valid : (r k d most : ℕ) (cs : List (ℕ × PlainType)) → IsPoint r → IsPoint k → d + most ≤ 2147483647 → PartsInside p.structs most cs → Are (zero_parts p.structs r k d cs)
+  zero_parts_valid r k d most [] points at small h = tt
+  zero_parts_valid r k d most (x ∷ cs) points at small h =
+      let inside = h.0 in
+      behind (zeros_at r k (d + x.0) (scalars_of p.structs x.1)) (zero_parts p.structs r k d cs)
+      (zeros_valid r k (d + x.0) (size_of p.structs x.1) (scalars_of p.structs x.1) points at (omega (arith, small, inside)) (all_scalars_inside p.structs x.1 fits))
+      (zero_parts_valid r k d most cs points at small h.1)
+
+  -- ---- what fills an object to which a register points
+
+  -- a string literal, or a value
+  filled_valid : (r d : ℕ) (rs : Types) (t : PlainType) (e : Expression) → IsPoint r → d + size_of p.structs t ≤ 2147483647 → InitialisedBy s t e → IsPureOrCall e → TypesSmall p.structs e → FullHasLetters e → weight_of e ≤ most_weight
+      → Begins (rs ++ one_temporaries (string_in e) e) ts → Are (fill_one p bound r d rs t (string_in e) e)
+  filled_valid r d rs t e points small (ByText text) pure parts l light b =
+      let is : string_in e ≡ Some text.text = ap string_in text.is in
+      subst (λ o. Are (fill_one p bound r d rs t o e)) (sym is)
+      (bytes_valid r (length rs) d (size_of p.structs t) (text_at (map (λ (x : StringLiteral). x.bytes) p.texts) text.text) points (register_at rs ts Ptr (subst (λ o. Begins (rs ++ one_temporaries o e) ts) is b)) small
+      (text_bytes p.texts text.text texts))
+  filled_valid r d rs t e points small (ByValue val none) pure parts l light b =
+      let te = full_temporaries e in
+      let here = subst (λ o. Begins (rs ++ one_temporaries o e) ts) none b in
+      let v = full_valid p gs ts result bound s knows calls ls e rs (subst IsScalar (sym val.ctype) val.scalar) pure val.typed parts l light (begins_left rs te (Ptr ∷ []) ts here) in
+      subst (λ o. Are (fill_one p bound r d rs t o e)) (sym none)
+      (behind (full_setup p bound rs e) (stored_at r (length (rs ++ te)) d (value_type t) (full_value p bound rs e)) v.0
+      (stored_valid r (length (rs ++ te)) d (value_type t) (full_value p bound rs e) points (register_at (rs ++ te) ts Ptr (begins_right rs te (Ptr ∷ []) ts here)) (omega (arith, small))
+      (subst (λ u. IsExpression G ts (full_value p bound rs e) (value_type u)) val.ctype v.1)))
+
+  own_parts : (t : PlainType) (is : Initialisers) → PartsInitialised s (parts_or_itself (tables_in s) t) is → PartsInitialised s (parts_or_itself (tables_of p) t) is
+  own_parts t is h = subst (λ x. PartsInitialised s (parts_or_itself (record { structs = x; texts = map (λ (l : StringLiteral). l.bytes) s.texts; globals = 0 }) t) is) knows.structs_are h
+
+  mutual
+    fill_valid : (r d : ℕ) (rs : Types) (t : PlainType) (i : Initialiser) → IsPoint r → d + size_of p.structs t ≤ 2147483647 → Initialises s t i → IsPureInitialiser i → EachInitial IsSmall i → EachInitial (TypesSmall p.structs) i
+        → InitialiserHasLetters i
+        → Begins (rs ++ fill_temporaries i) ts → Are (fill p bound r d rs t i)
+    fill_valid r d rs t (One e) points small q pure f parts l b = filled_valid r d rs t e points small q (pure_full e pure) parts l f.light b
+    fill_valid r d rs t (Many brace is) points small q pure f parts l b =
+        fill_parts_valid r d (size_of p.structs t) rs (parts_or_itself (tables_of p) t) is points small (parts_inside (tables_of p) t fits) (own_parts t is q) pure f parts l b
+
+    fill_parts_valid : (r d most : ℕ) (rs : Types) (cs : List (ℕ × PlainType)) (is : Initialisers) → IsPoint r → d + most ≤ 2147483647 → PartsInside p.structs most cs → PartsInitialised s cs is → ArePureInitialisers is → EachPart IsSmall is
+        → EachPart (TypesSmall p.structs) is → InitialisersHaveLetters is → Begins (rs ++ parts_temporaries is) ts → Are (fill_parts p bound r d rs cs is)
+    fill_parts_valid r d most rs cs NoInitialiser points small h q pure f parts l b = zero_parts_valid r (length rs) d most cs points (register_at rs ts Ptr b) small h
+    fill_parts_valid r d most rs [] (Listed i is) points small h q pure f parts l b = absurd q
+    fill_parts_valid r d most rs (x ∷ cs) (Listed i is) points small h q pure f parts l b =
+        let inside = h.0 in
+        let ti = fill_temporaries i in
+        behind (fill p bound r (d + x.0) rs x.1 i) (fill_parts p bound r d (rs ++ ti) cs is)
+        (fill_valid r (d + x.0) rs x.1 i points (omega (arith, small, inside)) q.0 pure.0 f.0 parts.0 l.0 (begins_left rs ti (parts_temporaries is) ts b))
+        (fill_parts_valid r d most (rs ++ ti) cs is points small h.1 q.1 pure.1 f.1 parts.1 l.1 (begins_right rs ti (parts_temporaries is) ts b))
+
+  one_initialised : (at : Place) (rs : Types) (r : ℕ) (t : PlainType) (e : Expression) → IsPoint r → size_of p.structs t ≤ 2147483647 → InitialisedBy s t e → IsPureOrCall e → TypesSmall p.structs e → FullHasLetters e → weight_of e ≤ most_weight
+      → Begins (rs ++ initial_temporaries (Some (at, One e))) ts → Are (initialise p bound rs r t (Some (at, One e)))
+  one_initialised at rs r t e points small (ByText text) pure parts l light b =
+      let is : string_in e ≡ Some text.text = ap string_in text.is in
+      let k : Begins (rs ++ Ptr ∷ []) ts = subst (λ o. Begins (rs ++ (if is_there o then Ptr ∷ [] else full_temporaries e)) ts) is b in
+      let whole = filled_valid r 0 rs t e points (omega (arith, small)) (ByText text) pure parts l light (subst (λ o. Begins (rs ++ one_temporaries o e) ts) (sym is) k) in
+      subst (λ o. Are (if not (is_there o) then before (full_setup p bound rs e) (store r t (full_value p bound rs e)) else fill_one p bound r 0 rs t (string_in e) e)) (sym is) whole
+  one_initialised at rs r t e points small (ByValue val none) pure parts l light b =
+      let k = subst (λ o. Begins (rs ++ (if is_there o then Ptr ∷ [] else full_temporaries e)) ts) none b in
+      subst (λ o. Are (if not (is_there o) then before (full_setup p bound rs e) (store r t (full_value p bound rs e)) else fill_one p bound r 0 rs t (string_in e) e)) (sym none)
+      (assigned_valid p gs ts result bound s knows calls ls r t e rs points val.ctype val.scalar pure val.typed parts l light k)
+
+  -- an object of the type is initialised
+  pub initialise_valid : (rs : Types) (r : ℕ) (t : PlainType) (o : Option (Place × Initialiser)) → IsPoint r → size_of p.structs t ≤ 2147483647 → WhereAny (λ (i : Place × Initialiser). Initialises s t i.1) o → InitialFormed p.structs o
+      → WhereAny (λ (i : Place × Initialiser). InitialiserHasLetters i.1) o → Begins (rs ++ initial_temporaries o) ts → Are (initialise p bound rs r t o)
+  initialise_valid rs r t None points small q f l b = tt
+  initialise_valid rs r t (Some (at, One e)) points small q f l b = one_initialised at rs r t e points small q f.is f.types l f.small.light b
+  initialise_valid rs r t (Some (at, Many brace is)) points small q f l b =
+      fill_parts_valid r 0 (size_of p.structs t) rs (parts_or_itself (tables_of p) t) is points (omega (arith, small)) (parts_inside (tables_of p) t fits) (own_parts t is q) f.is f.small f.types l b

@@ -1,0 +1,60 @@
+-- Stores into members and what they become, by computation.
+use Rattle.std.proofs.Common.{◌≡◌, ℕ, pos, [], ◌∷◌, Some, None, refl}
+use Rattle.c_syntax.specs.declared.place.Place.{Place}
+use Rattle.c_syntax.specs.declared.types.CInt.TheVariants as c
+use Rattle.c_syntax.specs.declared.expression.BumpOp.TheVariants.{PostUp}
+use Rattle.c_syntax.specs.Ctypes.{Ptr, Struct, int_type}
+use Rattle.c_syntax.specs.Expressions as source
+use Rattle.c_syntax.specs.Expressions.{Expression, Node}
+use Rattle.c_syntax.specs.Programs.{StructMember, TranslationUnit}
+use Rattle.mon_syntax.specs.declared.tree.MonOp.TheVariants as mon
+use Rattle.mon_syntax.specs.declared.tree.MonType.TheVariants as kind
+use Rattle.mon_syntax.specs.Registers.{Bindings}
+use Rattle.mon_syntax.specs.Trees.{Register, Constant, Binary, Load, Set, Store, Then, NoStatement}
+use Rattle.c_effects.specs.Effects.{effect, effect_temporaries}
+
+abbrev here : Place
+here = record { line = 1; column = 1; offset = 1 }
+
+-- `struct s { int a; int b; };`, whose members have the names 7 and 8
+abbrev member : ℕ → ℕ → StructMember
+member x offset = record { place = here; name = x; ctype = int_type; offset = offset }
+
+abbrev program : TranslationUnit
+program = record {
+  names = [];
+  structs = record { place = here; tag = Some 6; members = member 7 0 ∷ member 8 4 ∷ []; size = 8; align = 4 } ∷ [];
+  enums = [];
+  typedefs = [];
+  globals = [];
+  funcs = [];
+  texts = [];
+  strays = [];
+}
+
+-- register 0 points to the block of `p`, which is a pointer to the struct
+abbrev bound : Bindings
+bound = (1, 0) ∷ []
+
+abbrev pointer : Expression
+pointer = Node here (Ptr (Struct 0)) (source.Variable (record { name = 1; decl = 1 }))
+
+abbrev second : Expression
+second = Node here int_type (source.Arrow pointer 8)
+
+abbrev one : Expression
+one = Node here int_type (source.Number (pos 1) (Some c.I32))
+
+-- `p->b = 1`: the pointer, the value, and then the member's place
+assigned_is : effect program bound (kind.Ptr ∷ []) (Node here int_type (source.Assign None second one))
+    ≡ Then (Set 1 (Load kind.Ptr (Register 0))) (Then (Set 2 (Binary mon.Add kind.Ptr (Register 1) (Constant kind.I64 (pos 4)))) (Then (Store 2 kind.I32 (Constant kind.I32 (pos 1))) NoStatement))
+assigned_is = refl
+
+assigned_registers : effect_temporaries program (Node here int_type (source.Assign None second one)) ≡ kind.Ptr ∷ kind.Ptr ∷ []
+assigned_registers = refl
+
+-- `p->b++`
+bumped_is : effect program bound (kind.Ptr ∷ []) (Node here int_type (source.Bump PostUp second))
+    ≡ Then (Set 1 (Load kind.Ptr (Register 0))) (Then (Set 2 (Binary mon.Add kind.Ptr (Register 1) (Constant kind.I64 (pos 4))))
+    (Then (Store 2 kind.I32 (Binary mon.Add kind.I32 (Load kind.I32 (Register 2)) (Constant kind.I32 (pos 1)))) NoStatement))
+bumped_is = refl
