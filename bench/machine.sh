@@ -1,8 +1,9 @@
 #!/bin/bash
 # Prints what the machine takes: of a loop of 5,000,000 turns with a sum and an assert each, of fib(27) with its 635,621
-# calls, and from the start of the process to the verdict of a program of 8 lines; the first two beside the plain program as
-# gcc -O0 compiles it. Seconds are the least of some runs. Where valgrind is there, it counts the processor's instructions of
-# a turn and of a call. It measures through ./eacsl.
+# calls, of 1,000 elements that are summed 5,000 times, of a bubble sort of 1,000 elements that stand backwards, and from the start
+# of the process to the verdict of a program of 8 lines; all but the last beside the plain program as gcc -O0 compiles it. Seconds
+# are the least of some runs. Where valgrind is there, it counts the processor's instructions of a turn, a call and an access. It
+# measures through ./eacsl.
 set -euo pipefail
 
 top=$(cd -- "$(dirname -- "${BASH_SOURCE[0]}")/.." && pwd)
@@ -36,6 +37,45 @@ int fib(int n) {
 int main(void) {
   int f = fib($1);
   return f % 100;
+}
+C
+}
+
+# an array of 1,000 elements that is summed so many times, with an assert after each
+sum_of() {
+  cat <<C
+int numbers[1000];
+int main(void) {
+  for (int i = 0; i < 1000; i++)
+    numbers[i] = i;
+  for (int time = 0; time < $1; time++) {
+    long sum = 0;
+    for (int i = 0; i < 1000; i++)
+      sum += numbers[i];
+    /*@ assert sum == 499500; */
+  }
+  return 0;
+}
+C
+}
+
+# a bubble sort of so many elements that stand backwards
+sort_of() {
+  cat <<C
+int numbers[$1];
+int main(void) {
+  for (int i = 0; i < $1; i++)
+    numbers[i] = $1 - i;
+  for (int end = $1; end > 1; end--)
+    for (int i = 1; i < end; i++)
+      if (numbers[i - 1] > numbers[i]) {
+        int kept = numbers[i];
+        numbers[i] = numbers[i - 1];
+        numbers[i - 1] = kept;
+      }
+  int least = numbers[0];
+  //@ assert least == 1;
+  return 0;
 }
 C
 }
@@ -91,18 +131,26 @@ least >"$scratch/least.c"
 "$top/eacsl" --build >&2
 loop_of 5000000 >"$scratch/loop.c"
 fib_of 27 >"$scratch/fib.c"
+sum_of 5000 >"$scratch/sum.c"
+sort_of 1000 >"$scratch/sort.c"
 
 printf '%-34s %10s %12s %10s\n' what 'ms' 'peak (KiB)' 'ns each'
 line 'a program of 8 lines, eacsl run' 20 0 "$top/eacsl" run "$scratch/least.c"
 line 'the same without the launcher' 20 0 "$top/crates/eacsl/out/eacsl" run "$scratch/least.c"
 line 'a loop of 5,000,000 turns' 5 5000000 "$top/eacsl" run "$scratch/loop.c"
 line 'fib(27), 635,621 calls' 5 635621 "$top/eacsl" run "$scratch/fib.c"
+line '1,000 elements summed 5,000 times' 3 5000000 "$top/eacsl" run "$scratch/sum.c"
+line 'a bubble sort of 1,000 elements' 3 499500 "$top/eacsl" run "$scratch/sort.c"
 
 if command -v gcc >/dev/null; then
   gcc -O0 -o "$scratch/loop" "$scratch/loop.c"
   gcc -O0 -o "$scratch/fib" "$scratch/fib.c"
+  gcc -O0 -o "$scratch/sum" "$scratch/sum.c"
+  gcc -O0 -o "$scratch/sort" "$scratch/sort.c"
   line 'the loop, gcc -O0, unchecked' 5 5000000 "$scratch/loop"
   line 'fib(27), gcc -O0' 5 635621 "$scratch/fib"
+  line 'the sums, gcc -O0' 5 5000000 "$scratch/sum"
+  line 'the bubble sort, gcc -O0' 5 499500 "$scratch/sort"
 else
   echo 'gcc is not on the path, so there is no plain program to compare with'
 fi
@@ -112,7 +160,13 @@ if command -v valgrind >/dev/null; then
   loop_of 101000 >"$scratch/loop2.c"
   fib_of 10 >"$scratch/fib1.c"
   fib_of 20 >"$scratch/fib2.c"
+  sum_of 1 >"$scratch/sum1.c"
+  sum_of 101 >"$scratch/sum2.c"
+  sort_of 10 >"$scratch/sort1.c"
+  sort_of 300 >"$scratch/sort2.c"
   printf '%-34s %10s\n' "the processor's instructions" each
   each 'a turn of the loop' 100000 "$scratch/loop1.c" "$scratch/loop2.c"
   each 'a call of fib' 21714 "$scratch/fib1.c" "$scratch/fib2.c"
+  each 'an element of a sum' 100000 "$scratch/sum1.c" "$scratch/sum2.c"
+  each 'a comparison of the sort' 44805 "$scratch/sort1.c" "$scratch/sort2.c"
 fi

@@ -1,7 +1,7 @@
 #!/bin/bash
-# Prints the time of reading annotated texts of 0.25 to 1 MiB, in all and for each token, and that of reading texts in
-# monitored C of 0.5 to 4 MiB, in all and for each byte, with the peak memory. A text returns before its statements, so
-# that they are read and translated, and not run. It measures through ./eacsl.
+# Prints the time of reading annotated texts of 0.25 to 1 MiB, of statements and of declarations with initialisers, in all and for
+# each token, and that of reading texts in monitored C of 0.5 to 4 MiB, in all and for each byte, with the peak memory. A text returns
+# before its statements, so that they are read and translated, and not run. It measures through ./eacsl.
 set -euo pipefail
 
 top=$(cd -- "$(dirname -- "${BASH_SOURCE[0]}")/.." && pwd)
@@ -60,6 +60,21 @@ def annotated(size):
     return f"{size >> 10} KiB", HEAD_TOKENS + lines * LINE_TOKENS, text
 
 
+D_LINES = "int table{0}[4] = {{1, {0}, 3}};\nstruct pair{0} {{ char *name; long value; }};\ntypedef struct pair{0} *link{0};\nlink{0} last{0} = 0;\n"
+D_TOKENS = 37
+
+
+def declared(size):
+    """A text of declarations at file scope of at most so many bytes, with the number of its tokens."""
+    text, count = "", 0
+    while len(text) + len(D_LINES.format(count)) + 40 <= size and (count + 1) * D_TOKENS < 200_000:
+        text += D_LINES.format(count)
+        count += 1
+    text += "int main(void) { return 0; }\n"
+    text += " " * (size - len(text))
+    return f"{size >> 10} KiB", count * D_TOKENS + 10, text
+
+
 HEAD = "#include <e_acsl.h>\ni32 main(void) {\n  i32 x;\n  return I32(0);\n"
 LINE = "  x = (x + I32(1));\n"
 
@@ -71,6 +86,8 @@ def monitored(size):
 
 
 table("run", "int main(void) { return 0; }\n", "token", map(annotated, (1 << 18, 1 << 19, 1 << 20)))
+print()
+table("run", "int main(void) { return 0; }\n", "token", map(declared, (1 << 18, 1 << 19, 1 << 20)))
 print()
 table("exec", HEAD + "}\n", "byte", map(monitored, (1 << 19, 1 << 20, 1 << 21, 1 << 22)))
 P
