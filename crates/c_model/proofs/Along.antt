@@ -1,5 +1,6 @@
 -- What holds between a state and each one that is reached from it: one induction for all such relations.
-use Rattle.std.proofs.Common.{◌≡◌, ℕ, zero, suc, ◌+◌, ◌≤◌, pos, Bool, true, false, cond, ◌&&◌, if◌then◌else◌, nat_lt, List, [], ◌∷◌, ◌++◌, length, Option, Some, None, option_map, slice_get, codes, bytes_eq, refl, sym, ap, ◌∙◌, append_assoc}
+use Rattle.std.proofs.Common.{◌≡◌, ℕ, zero, suc, ◌+◌, ◌*◌, ◌≤◌, pos, Bool, true, false, cond, ◌&&◌, if◌then◌else◌, nat_lt, nat_eq, List, [], ◌∷◌, ◌++◌, length, replicate, Option, Some, None, option_map, slice_get, codes, bytes_eq, refl, sym, ap, ◌∙◌}
+use Rattle.std.proofs.Common.{append_assoc}
 use Rattle.std.proofs.Common.{append-nil}
 use Rattle.std.proofs.Common.{arith}
 use Rattle.c_syntax.specs.declared.place.Place.{Place}
@@ -16,21 +17,25 @@ use Rattle.c_syntax.specs.Expressions.{type_of}
 use Rattle.c_syntax.specs.Statements.{Initialiser, One, Many, Initialisers, NoInitialiser, Listed, Declaration, Statement, Empty, Eval, Block, If, While, Do, For, Break, Continue, Return, ElsePart, NoElse, Else, ForFirst, NoFirst, First, BlockItem}
 use Rattle.c_syntax.specs.Statements.{Declare, Run, Asserts, BlockItems, NoItem, Then}
 use Rattle.c_syntax.specs.Programs.{StructType, Function, TranslationUnit}
-use Rattle.c_model.specs.Integers.{truth, byte_of}
+use Rattle.c_syntax.specs.declared.types.CInt.TheVariants.{U64}
+use Rattle.c_model.specs.Integers.{bits_of, truth, byte_of}
 use Rattle.c_model.specs.Layouts.{Scalar, scalar_size, scalar_of, size_of}
 use Rattle.c_model.specs.Memory.{Pointer, Null, Into, Value, Integer, Points, NoValue, Byte, new_block, Store, load, bytes_from, save_bytes, copy_all, moved, shifted, standard_sizes, full_at_stack_birth}
+use Rattle.c_model.specs.Memory.{Unwritten, Number as NumberByte, Room, At, NoRoom, heap_room, heap_block, freed}
 use Rattle.c_model.specs.State.{Scope, Mark, Input, InputTail, EndOfInput, InputFault, ReadFault, Exits, print, read_byte, State, Breaks, Continues, Returns, End, Leaves, Over, Undefined, Fault, Spent, Full, Outcome, Normal, Stop, Evaluation}
 use Rattle.c_model.specs.State.{on_outcome, ◌>>=◌, ◌>>◌, give, done, stop, defined, computed, as_scalar, step_from, step, find, start_of, object, read, read_any, put_store, changed, write, write_bytes, copy_object, tested, birth_of, birth, births}
+use Rattle.c_model.specs.State.{heap_birth, allocate}
 use Rattle.c_model.specs.State.{write_youngest, alone, frame, mark, back_to, restored, within}
 use Rattle.c_model.specs.Logic.{TermValue, Mathematical, Answer, Says, SaysNothing, OutOfSteps, lazily, related, term, chain, clause, judged, check, checks}
 use Rattle.c_model.specs.Meaning.{Tables, literal, Callee, is_zero, choose, truth_value, size_value, converted, is_of_library, is_pointer, named, is_member, address, is_array, pointed_to, member, assigned, compound, bump_operator, bump_value}
 use Rattle.c_model.specs.Meaning.{eval_with, place_with}
 use Rattle.c_model.specs.Meaning.{evals_with, after_body, turns, do_turns, declared_in, declared_first, zero_scalars, zero_parts, string_in, write_each, fill_one, parts_or_itself, fill, fill_parts, initialise, initialise_all, condition_with}
-use Rattle.c_model.specs.Meaning.{effect_with, exec_with, else_with, first_with, item_with, items_with, parameters, body_with, put_char, get_char, exit_with, library_call, at_close, returned_by, call_with, call_of, tables_of, global_scope}
+use Rattle.c_model.specs.Meaning.{effect_with, exec_with, else_with, first_with, item_with, items_with, parameters, body_with, put_char, get_char, exit_with, malloc_with, calloc_with, free_with, library_call, at_close, returned_by, call_with}
+use Rattle.c_model.specs.Meaning.{call_of, tables_of, global_scope}
 use Rattle.c_model.specs.Meaning.{definition_at, main_with, function_named, whole, exec}
 use Rattle.c_model.specs.Laws.{AreWhole, KeepsWhole, store_after}
 use Rattle.c_model.specs.Growth.{Grows, Grown}
-use Rattle.c_model.proofs.Blocks.{whole-saved_bytes, whole-copied_all, whole-append, whole-new_block, whole-kill_from}
+use Rattle.c_model.proofs.Blocks.{whole-saved_bytes, whole-copied_all, whole-append, whole-new_block, whole-freed, whole-kill_from}
 use Rattle.c_model.proofs.Cells.{length-bytes_from}
 
 -- the steps that an answer leaves
@@ -70,6 +75,8 @@ pub record Lasts (R : State → State → Type 0) : Type 0 where
   pub saved : (s : State) (p : Pointer) (n : ℕ) (bytes : List Byte) (store : Store) → length bytes ≤ n → save_bytes s.store p n bytes ≡ Some store → R s (record s { store = store })
   pub copied : (s : State) (p q : Pointer) (cs : List (ℕ × ℕ)) (store : Store) → copy_all s.store p q cs ≡ Some store → R s (record s { store = store })
   pub born : (s : State) (x size : ℕ) → R s (record s { store = s.store ++ new_block block.Stack size ∷ []; scope = (x, length s.store + 1) ∷ s.scope })
+  pub allocated : (s : State) (place n : ℕ) (b : Byte) → heap_room standard_sizes s.store n ≡ At place → R s (record s { store = s.store ++ heap_block place (replicate n b) ∷ [] })
+  pub released : (s : State) (p : Pointer) (store : Store) → freed s.store p ≡ Some store → R s (record s { store = store })
   pub fewer : (s : State) (n : ℕ) → n ≤ s.steps → R s (record s { steps = n })
   pub printed : (s : State) (byte : ℕ) → R s (record s { output = s.output ++ byte ∷ [] })
   pub took : (s : State) (input : Input) → R s (record s { input = input })
@@ -398,6 +405,25 @@ module _ (R : State → State → Type 0) (r : Lasts R) where
   along_put_char at (Integer z ∷ []) = along_then (print (byte_of z)) (give (Integer (pos (byte_of z)))) (record { at = λ s. r.printed s (byte_of z) }) (along_give _)
   along_put_char at (v ∷ w ∷ vs) = along_stop (Over (Undefined at))
 
+  heap_birth_along : (room : Room) (s : State) (n : ℕ) (b : Byte) → heap_room standard_sizes s.store n ≡ room → R s (state_after (heap_birth room (replicate n b) s))
+  heap_birth_along (NoRoom full) s n b e = r.same s
+  heap_birth_along (At place) s n b e = r.allocated s place n b e
+
+  pub along_allocate : (n : ℕ) (b : Byte) → Along (allocate n b)
+  along_allocate n b = along_cond (nat_eq n 0) _ _ (along_give (Points Null)) (record { at = λ s. heap_birth_along (heap_room standard_sizes s.store n) s n b refl })
+
+  pub along_malloc : (at : Place) (vs : List Value) → Along (malloc_with at vs)
+  along_malloc at (Integer n ∷ []) = along_allocate (bits_of U64 n) Unwritten
+  along_malloc at _ = along_stop (Over (Undefined at))
+
+  pub along_calloc : (at : Place) (vs : List Value) → Along (calloc_with at vs)
+  along_calloc at (Integer n ∷ Integer m ∷ []) = along_allocate (bits_of U64 n * bits_of U64 m) (NumberByte 0)
+  along_calloc at _ = along_stop (Over (Undefined at))
+
+  pub along_free : (at : Place) (vs : List Value) → Along (free_with at vs)
+  along_free at (Points p ∷ []) = along_then _ _ (along_changed at (λ store. freed store p) (λ s store e. r.released s p store e)) (along_give NoValue)
+  along_free at _ = along_stop (Over (Undefined at))
+
   read_byte_along : (bytes : List ℕ) (tail : InputTail) → Along (read_byte bytes tail)
   read_byte_along [] EndOfInput = along_give _
   read_byte_along [] InputFault = along_stop (Over ReadFault)
@@ -423,7 +449,10 @@ module _ (R : State → State → Type 0) (r : Lasts R) where
   along_library_call at (Some name) vs =
       along_if (bytes_eq name (codes "putchar")) _ _ (along_put_char at vs)
       (along_if (bytes_eq name (codes "getchar")) _ _ (along_get_char at vs)
-      (along_if (bytes_eq name (codes "exit")) _ _ (along_exit at vs) (along_stop (Over (Undefined at)))))
+      (along_if (bytes_eq name (codes "exit")) _ _ (along_exit at vs)
+      (along_if (bytes_eq name (codes "malloc")) _ _ (along_malloc at vs)
+      (along_if (bytes_eq name (codes "calloc")) _ _ (along_calloc at vs)
+      (along_if (bytes_eq name (codes "free")) _ _ (along_free at vs) (along_stop (Over (Undefined at))))))))
 
   pub along_at_close : (close : Place) (t : PlainType) → Along (at_close close t)
   along_at_close close t = by (scalar_of t)
@@ -481,6 +510,8 @@ steps_last = record {
   saved = λ s p n bytes store l e. omega arith;
   copied = λ s p q cs store e. omega arith;
   born = λ s x size. omega arith;
+  allocated = λ s place n b e. omega arith;
+  released = λ s p store e. omega arith;
   fewer = λ s n l. l;
   printed = λ s byte. omega arith;
   took = λ s input. omega arith;
@@ -496,6 +527,8 @@ output_lasts = record {
   saved = λ s p n bytes store l e. ([], sym (append-nil s.output));
   copied = λ s p q cs store e. ([], sym (append-nil s.output));
   born = λ s x size. ([], sym (append-nil s.output));
+  allocated = λ s place n b e. ([], sym (append-nil s.output));
+  released = λ s p store e. ([], sym (append-nil s.output));
   fewer = λ s n l. ([], sym (append-nil s.output));
   printed = λ s byte. (byte ∷ [], refl);
   took = λ s input. ([], sym (append-nil s.output));
@@ -511,6 +544,8 @@ whole_lasts = record {
   saved = λ s p n bytes store l e w. whole-saved_bytes s.store store p n bytes w l e;
   copied = λ s p q cs store e w. whole-copied_all s.store store p q cs w e;
   born = λ s x size w. whole-append s.store _ w (whole-new_block block.Stack size);
+  allocated = λ s place n b e w. whole-append s.store _ w (refl, tt);
+  released = λ s p store e w. whole-freed s.store store p w e;
   fewer = λ s n l w. w;
   printed = λ s byte w. w;
   took = λ s input w. w;

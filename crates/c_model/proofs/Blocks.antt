@@ -9,7 +9,7 @@ use Rattle.c_syntax.specs.declared.types.BlockKind.{BlockKind}
 use Rattle.c_model.specs.Integers.{int_size, fits}
 use Rattle.c_model.specs.Layouts.{Scalar, IntegerType, PointerType, scalar_size}
 use Rattle.c_model.specs.Memory.{Pointer, Null, Into, Value, Integer, Points, Byte, Unwritten, Block, Store, block_at, new_block, bytes_from, loosened, copied, is_accessible, is_literal, bytes_in, load_bytes, load, with_bytes}
-use Rattle.c_model.specs.Memory.{saved_block, with_block, save_bytes, save, shifted, ◌>>=◌, copy, copy_all, kill_from}
+use Rattle.c_model.specs.Memory.{saved_block, with_block, save_bytes, save, shifted, ◌>>=◌, copy, copy_all, is_heap, freed_block, freed, kill_from}
 use Rattle.c_model.specs.Laws.{AreWhole, SameButAt}
 use Rattle.c_model.proofs.Cells.{value_from-bytes_from, pointer_from-pieces, length-integer_bytes, length-bytes_from}
 
@@ -50,13 +50,13 @@ whole_set (c ∷ cs) (suc k) b w e = (w.0, whole_set cs k b w.1 e)
 -- ---- saves
 
 -- what a save did
-record Saved (store saved : Store) (k offset n : ℕ) (bytes : List Byte) : Type 0 where
-  b : Block
-  found : slice_get store k ≡ Some b
-  accessible : is_accessible b offset n ≡ true
-  is : saved ≡ slice_set store k (with_bytes b offset bytes)
+pub record Saved (store saved : Store) (k offset n : ℕ) (bytes : List Byte) : Type 0 where
+  pub b : Block
+  pub found : slice_get store k ≡ Some b
+  pub accessible : is_accessible b offset n ≡ true
+  pub is : saved ≡ slice_set store k (with_bytes b offset bytes)
 
-saved_parts : (store saved : Store) (k offset n : ℕ) (bytes : List Byte) → save_bytes store (Into (suc k) offset) n bytes ≡ Some saved → Saved store saved k offset n bytes
+pub saved_parts : (store saved : Store) (k offset n : ℕ) (bytes : List Byte) → save_bytes store (Into (suc k) offset) n bytes ≡ Some saved → Saved store saved k offset n bytes
 saved_parts store saved k offset n bytes = of_block (slice_get store k) refl
   where
     by : (b : Block) → slice_get store k ≡ Some b → (x y : Bool) → is_accessible b offset n ≡ x → with_block store k (if x && y then Some (with_bytes b offset bytes) else None) ≡ Some saved → Saved store saved k offset n bytes
@@ -72,7 +72,7 @@ both_true : (x y : Bool) → (x && y) ≡ true → (x ≡ true) × (y ≡ true)
 both_true true y e = (refl, e)
 both_true false y e = absurd cc
 
-within_block : (b : Block) (offset n : ℕ) → is_accessible b offset n ≡ true → offset + n ≤ b.size
+pub within_block : (b : Block) (offset n : ℕ) → is_accessible b offset n ≡ true → offset + n ≤ b.size
 within_block b offset n a =
     let parts = both_true b.live _ a in
     leb-true _ _ (both_true (nat_le (offset + n) b.size) _ parts.1).0
@@ -107,7 +107,7 @@ other_blocks-saved store saved (suc n) offset size bytes e (suc m) d =
     let s = saved_parts store saved n offset size bytes e in
     ap (λ x. slice_get x m) s.is ∙ slice_get-slice_set_other store n m (with_bytes s.b offset bytes) (λ q. d (ap suc q))
 
-same_but_at : (b : Block) (offset n : ℕ) (bytes : List Byte) → length bytes ≤ n → offset + n ≤ length b.bytes → SameButAt offset n b (with_bytes b offset bytes)
+pub same_but_at : (b : Block) (offset n : ℕ) (bytes : List Byte) → length bytes ≤ n → offset + n ≤ length b.bytes → SameButAt offset n b (with_bytes b offset bytes)
 same_but_at b offset n bytes few le = record {
   kind = refl;
   size_is = refl;
@@ -179,12 +179,12 @@ length-bytes_in (Some b) offset n bytes w e = by (is_accessible b offset n) refl
         sym (ap length is) ∙ length-take-le n (drop offset b.bytes) (omega (arith, w b refl, inside, length-drop offset b.bytes))
     by false a q = absurd cc
 
-length-loaded : (store : Store) (p : Pointer) (n : ℕ) (bytes : List Byte) → AreWhole store → load_bytes store p n ≡ Some bytes → length bytes ≡ n
+pub length-loaded : (store : Store) (p : Pointer) (n : ℕ) (bytes : List Byte) → AreWhole store → load_bytes store p n ≡ Some bytes → length bytes ≡ n
 length-loaded store Null n bytes w e = absurd cc
 length-loaded store (Into zero offset) n bytes w e = absurd cc
 length-loaded store (Into (suc k) offset) n bytes w e = length-bytes_in (slice_get store k) offset n bytes (λ b found. whole_at store k b w found) e
 
-length-copied : (bytes : List Byte) → length (copied bytes) ≡ length bytes
+pub length-copied : (bytes : List Byte) → length (copied bytes) ≡ length bytes
 length-copied bytes = by (nat_lt (length bytes) 8)
   where
     by : (x : Bool) → length (if x then map loosened bytes else bytes) ≡ length bytes
@@ -214,6 +214,34 @@ whole-append (c ∷ cs) b w v = (w.0, whole-append cs b w.1 v)
 
 pub whole-new_block : (kind : BlockKind) (size : ℕ) → AreWhole (new_block kind size ∷ [])
 whole-new_block kind size = (length-replicate size Unwritten, tt)
+
+-- what `free` did to a block that it was given
+pub record Freed (store after : Store) (k : ℕ) : Type 0 where
+  pub b : Block
+  pub found : slice_get store k ≡ Some b
+  pub live : b.live ≡ true
+  pub heap : is_heap b.kind ≡ true
+  pub is : after ≡ slice_set store k (record b { live = false })
+
+pub freed_parts : (store after : Store) (k : ℕ) → freed store (Into (suc k) 0) ≡ Some after → Freed store after k
+freed_parts store after k = of_block (slice_get store k) refl
+  where
+    by : (b : Block) → slice_get store k ≡ Some b → (x y : Bool) → b.live ≡ x → is_heap b.kind ≡ y → with_block store k (if x && y then Some (record b { live = false }) else None) ≡ Some after → Freed store after k
+    by b found true true l h e = record { b = b; found = found; live = l; heap = h; is = cc }
+    by b found true false l h e = absurd cc
+    by b found false y l h e = absurd cc
+
+    of_block : (o : Option Block) → slice_get store k ≡ o → with_block store k (freed_block o) ≡ Some after → Freed store after k
+    of_block None found e = absurd cc
+    of_block (Some b) found e = by b found b.live (is_heap b.kind) refl refl e
+
+pub whole-freed : (store after : Store) (p : Pointer) → AreWhole store → freed store p ≡ Some after → AreWhole after
+whole-freed store after Null w e = let same : store ≡ after = cc in subst AreWhole same w
+whole-freed store after (Into zero offset) w e = absurd cc
+whole-freed store after (Into (suc k) zero) w e =
+    let f = freed_parts store after k e in
+    subst AreWhole (sym f.is) (whole_set store k (record f.b { live = false }) w (whole_at store k f.b w f.found))
+whole-freed store after (Into (suc k) (suc offset)) w e = absurd cc
 
 pub whole-kill_from : (n : ℕ) (store : Store) → AreWhole store → AreWhole (kill_from n store)
 whole-kill_from n [] w = tt

@@ -11,16 +11,17 @@ use Rattle.c_syntax.specs.Ctypes.{PlainType, Void, Int, Ptr, Array, Struct, Name
 use Rattle.c_syntax.specs.Expressions.{Expression, Node, ExpressionKind, Number, Letter, Text, Variable, Unary, Binary, Both, Either, Choice, Assign, Bump, Call, Cast, SizeOfType, SizeOfExpr, Index, Dot, Arrow, Comma, Expressions}
 use Rattle.c_syntax.specs.Expressions.{NoExpression, Following, place_of, type_of}
 use Rattle.c_model.specs.Integers.{integer_type}
-use Rattle.c_model.specs.Layouts.{IntegerType}
+use Rattle.c_model.specs.Layouts.{IntegerType, PointerType}
 use Rattle.c_model.specs.Library.{library_constant, is_there}
 use Rattle.c_model.specs.Checked.{Checked, Good, Bad, faulty, one_part, given, where_so}
-use Rattle.c_model.specs.ExpressionTyping.{no_name, no_type, Sight, Entity, Signature, name_at, entity_named, function_called, library_function, of_library, or_else, use_as, same_type, is_scalar, pointed, is_place, is_struct, is_step}
+use Rattle.c_model.specs.ExpressionTyping.{no_name, no_type, Sight, Entity, Signature, name_at, entity_named, function_called, library_function, or_else, use_as, same_type, is_scalar, pointed, is_place, is_struct, is_step}
 use Rattle.c_model.specs.ExpressionTyping.{decayed, in_type, decayed_of, is_assigned, is_null_word, no_function, callee, first_type, rest_types, argument_for, count_of, call, params_of, where_elements, assigned_struct, assigned_scalar}
 use Rattle.c_model.specs.ExpressionTyping.{compounded, assign, bump, typed, typed_arguments}
 use Rattle.c_model.specs.TypedTrees.{IsResult, GivesNothing, GivesScalar, AsUse, AsNumber, NameTypedAs, TypedAs, KindTypedAs, in_casts, kind_of}
 use Rattle.c_model.specs.Pure.{IsPure, ArePure, IsPureOrCall, IsEffect, IsEffectOrCall, HasBareCall}
 use Rattle.c_model.proofs.TypedParts.{Gives, gives_one, gives_both, gives_given, gives_where, gives_sized, gives_elements}
 use Rattle.c_model.proofs.TypedReading.{decayed_as, typed_as}
+use Rattle.c_model.proofs.LibraryFunctions.{each_of_library}
 
 -- ---- expressions without effects
 
@@ -212,16 +213,10 @@ abbrev pub SeesResults : Sight → Type 0
 SeesResults s = (x : ℕ) (f : Signature) → function_called x s.functions ≡ Some f → IsResult f.result
 
 library_result : (x : ℕ) (w : List ℕ) (f : Signature) → library_function x w ≡ Some f → IsResult f.result
-library_result x w f e = by (bytes_eq w (codes "putchar")) (bytes_eq w (codes "getchar")) (bytes_eq w (codes "exit")) e
-  where
-    is : (g : Signature) → IsResult g.result → Some g ≡ Some f → IsResult f.result
-    is g r h = let same : g ≡ f = cc in subst (λ (g : Signature). IsResult g.result) same r
-
-    by : (a b d : Bool) → (if a then Some (of_library x (int_type ∷ []) int_type) else (if b then Some (of_library x [] int_type) else (if d then Some (of_library x (int_type ∷ []) Void) else None))) ≡ Some f → IsResult f.result
-    by true b d h = is (of_library x (int_type ∷ []) int_type) (GivesScalar (record { scalar = IntegerType I32; is = refl })) h
-    by false true d h = is (of_library x [] int_type) (GivesScalar (record { scalar = IntegerType I32; is = refl })) h
-    by false false true h = is (of_library x (int_type ∷ []) Void) (GivesNothing refl) h
-    by false false false h = absurd cc
+library_result x w f e =
+    let number : IsResult int_type = GivesScalar (record { scalar = IntegerType I32; is = refl }) in
+    let pointer : IsResult (Ptr Void) = GivesScalar (record { scalar = PointerType; is = refl }) in
+    each_of_library (λ f. IsResult f.result) f x w number number (GivesNothing refl) pointer pointer (GivesNothing refl) e
 
 module _ (s : Sight) (known : SeesResults s) where
   abbrev HasResult : Signature → Type 0
@@ -416,7 +411,7 @@ assigned_kept : (s : Sight) (at : Place) (x y : Expression) → IsPure x → IsB
 assigned_kept s at x y p q = by (is_struct (type_of x))
   where
     by : (z : Bool) → Gives IsEffect (if z then assigned_struct s at x y else assigned_scalar s at x y)
-    by true = gives_where IsEffect (is_place x && same_type (type_of y) (type_of x)) _ _ (λ e. gives_sized IsEffect s at (type_of x) _ (λ k. tt))
+    by true = gives_where IsEffect (is_place x && same_type (type_of y) (type_of x)) _ _ (λ e. gives_sized IsEffect s at (type_of x) _ (λ k. (p, bare_value y q)))
     by false = gives_where IsEffect (is_place x && is_scalar (type_of x) && is_assigned s y (type_of x)) _ _ (λ e. (p, bare_in_type (type_of x) y q))
 
 module _ (s : Sight) (known : SeesResults s) where

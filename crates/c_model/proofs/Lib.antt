@@ -11,7 +11,13 @@ pub mod Blocks
 -- runs
 pub mod Fit
 pub mod Along
+pub mod HeapPlaces
+pub mod HeapBlocks
+pub mod StructCopies
+pub mod BlocksLast
+pub mod SettledBlocks
 pub mod Agreement
+pub mod LibraryFunctions
 pub mod TypedParts
 pub mod TypedOperators
 pub mod TypedExpressions
@@ -46,6 +52,7 @@ pub mod TypedBelow
 pub mod LaidOut
 pub mod EndedMembers
 pub mod TypedLayouts
+pub mod ScalarOrder
 pub mod TypedStructs
 pub mod TypedPrograms
 pub mod TypedNumbers
@@ -90,12 +97,14 @@ mod MonitoredTexts
 mod CTexts
 mod WorkedTrees
 mod WorkedExpressionTyping
+mod WorkedStructTyping
 mod WorkedDeclarationTyping
 mod WorkedTypingFaults
 mod WorkedDeclarationFaults
 mod WorkedAnnotationTyping
 mod WorkedOperators
 mod WorkedMemory
+mod WorkedHeap
 mod WorkedRuns
 mod WorkedCalls
 pub mod WorkedTypings

@@ -3,50 +3,43 @@ use Rattle.std.proofs.Common.{◌≡◌, ℕ, zero, suc, Bool, true, false, cond
 use Rattle.std.proofs.Common.{append_assoc}
 use Rattle.c_syntax.specs.declared.place.Place.{Place}
 use Rattle.c_syntax.specs.declared.expression.Use.{Use}
-use Rattle.c_syntax.specs.Ctypes.{PlainType, Void, int_type}
+use Rattle.c_syntax.specs.Ctypes.{PlainType, int_type}
 use Rattle.c_syntax.specs.Expressions.{Expressions}
 use Rattle.c_syntax.specs.Statements.{Declaration}
 use Rattle.c_syntax.specs.Programs.{Function, TranslationUnit}
 use Rattle.c_model.specs.Memory.{Value, Integer, Points, NoValue}
-use Rattle.c_model.specs.State.{Leave, Breaks, Continues, Returns, Final, Fault, Spent, Leaves, Over, Outcome, Normal, Stop, ◌>>◌, stop}
+use Rattle.c_model.specs.State.{Leave, Breaks, Continues, Returns, Final, Undefined, Fault, Spent, Leaves, Over, Outcome, Normal, Stop, ◌>>◌, stop}
 use Rattle.c_model.specs.Meaning.{is_definition, Callee, is_of_library, library_call, definition_at, body_with, call_with, initialise_all, tables_of}
 use Rattle.c_model.specs.Meaning.{global_scope, call_of, has_name, function_named, main_with, start, ran, run}
-use Rattle.c_model.specs.ExpressionTyping.{Sight, Signature, name_at, or_else, function_called, library_function, of_library, same_type, inner}
+use Rattle.c_model.specs.ExpressionTyping.{Sight, Signature, name_at, or_else, function_called, library_function, same_type, inner}
 use Rattle.c_model.specs.UnitTyping.{with_parameters, main_fault, no_main, has_no_parameters}
 use Rattle.c_model.specs.TypedTrees.{Calls, around_body}
 use Rattle.c_model.specs.ReadTree.{FunctionRead, FunctionsRead}
 use Rattle.c_model.specs.AcceptedPrograms.{IsProgram}
 use Rattle.c_model.specs.Laws.{NeverFaults}
+use Rattle.c_model.proofs.LibraryFunctions.{each_of_library}
 use Rattle.c_model.proofs.TypedParts.{and_true, same_type_is}
-use Rattle.c_model.proofs.NoFaultsRuns.{IsNamed, Anything, NoJump, IsNumber, IsValueOf, EndsWell, Gives, gives_then, gives_give}
-use Rattle.c_model.proofs.NoFaultsRuns.{gives_over, gives_values, gives_births, gives_frame, gives_mark, gives_within, gives_library_call, Allowed}
+use Rattle.c_model.proofs.NoFaultsRuns.{IsNamed, Anything, NoJump, IsValueOf, EndsWell, Gives, gives_then, gives_give}
+use Rattle.c_model.proofs.NoFaultsRuns.{gives_over, gives_births, gives_frame, gives_mark, gives_within, gives_library_call, Allowed}
 use Rattle.c_model.proofs.NoFaultsExpressions.{Sees, CallsGive, gives_declared}
 use Rattle.c_model.proofs.NoFaultsStatements.{sees_inner, sees_parameters, gives_body, gives_call}
 use Rattle.c_model.proofs.NoFaultsItems.{function_in_sight, global_in_sight}
 
 -- ---- what is called
 
--- a definition of the program, or a function of the library, which gives a number or nothing
+-- a definition of the program, or a function of the library, which gives values of its type
 data IsCalled (p : TranslationUnit) (f : Use) (t : PlainType) : Type 0 where
   CallsFunction : (g : Function) → is_of_library f ≡ false → definition_at f.decl p.funcs ≡ Some g → t ≡ g.result → IsCalled p f t
-  CallsLibrary : is_of_library f ≡ true → ((v : Value) → IsNumber v → IsValueOf t v) → IsCalled p f t
+  CallsLibrary : is_of_library f ≡ true → ((at : Place) (vs : List Value) → Gives (IsValueOf t) NoJump (library_call at (slice_get p.names f.name) vs)) → IsCalled p f t
 
--- functions of the library have its number, and give numbers
-record IsOfLibrary (g : Signature) : Type 0 where
-  decl : nat_eq g.decl 4294967295 ≡ true
-  gives : (v : Value) → IsNumber v → IsValueOf g.result v
+-- functions of the library have its number
+library_number : (x : ℕ) (w : List ℕ) (g : Signature) → library_function x w ≡ Some g → nat_eq g.decl 4294967295 ≡ true
+library_number x w g e = each_of_library (λ (h : Signature). nat_eq h.decl 4294967295 ≡ true) g x w refl refl refl refl refl refl e
 
-of_the_library : (x : ℕ) (w : List ℕ) (g : Signature) → library_function x w ≡ Some g → IsOfLibrary g
-of_the_library x w g e = by (bytes_eq w (codes "putchar")) (bytes_eq w (codes "getchar")) (bytes_eq w (codes "exit")) e
-  where
-    is : (h : Signature) → IsOfLibrary h → Some h ≡ Some g → IsOfLibrary g
-    is h l same = subst IsOfLibrary (let one : h ≡ g = cc in one) l
-
-    by : (a b d : Bool) → (if a then Some (of_library x (int_type ∷ []) int_type) else (if b then Some (of_library x [] int_type) else (if d then Some (of_library x (int_type ∷ []) Void) else None))) ≡ Some g → IsOfLibrary g
-    by true b d e = is (of_library x (int_type ∷ []) int_type) (record { decl = refl; gives = λ v h. h }) e
-    by false true d e = is (of_library x [] int_type) (record { decl = refl; gives = λ v h. h }) e
-    by false false true e = is (of_library x (int_type ∷ []) Void) (record { decl = refl; gives = λ v h. tt }) e
-    by false false false e = absurd cc
+-- what a call of a function of the library gives, by its name among those of the text
+library_gives : (x : ℕ) (o : Option (List ℕ)) (g : Signature) → library_function x (elim o [ None ↦ [] | Some w ↦ w ]) ≡ Some g → (at : Place) (vs : List Value) → Gives (IsValueOf g.result) NoJump (library_call at o vs)
+library_gives x None g e at vs = gives_over (Undefined at) tt
+library_gives x (Some w) g e at vs = gives_library_call at x w vs g e
 
 called : (p : TranslationUnit) (s : Sight) → Sees p s → (f : Use) (t : PlainType) (es : Expressions) → Calls s f t es → IsCalled p f t
 called p s see f t es c = by (function_called f.name s.functions) refl c.found
@@ -57,8 +50,9 @@ called p s see f t es c = by (function_called f.name s.functions) refl c.found
         let d = see.defined f.name c.callee (e ∙ ap Some same) c.defined in
         CallsFunction d.function (ap (λ n. nat_eq n 4294967295) c.decl ∙ d.own) (ap (λ n. definition_at n p.funcs) c.decl ∙ d.at) (c.result ∙ d.result)
     by None e found =
-        let l = of_the_library f.name (name_at s.names f.name) c.callee found in
-        CallsLibrary (ap (λ n. nat_eq n 4294967295) c.decl ∙ l.decl) (subst (λ u. (v : Value) → IsNumber v → IsValueOf u v) (sym c.result) l.gives)
+        let in_text : library_function f.name (name_at p.names f.name) ≡ Some c.callee = ap (λ ns. library_function f.name (name_at ns f.name)) (sym see.names) ∙ found in
+        CallsLibrary (ap (λ n. nat_eq n 4294967295) c.decl ∙ library_number f.name (name_at s.names f.name) c.callee found)
+        (λ at vs. subst (λ u. Gives (IsValueOf u) NoJump (library_call at (slice_get p.names f.name) vs)) (sym c.result) (library_gives f.name (slice_get p.names f.name) c.callee in_text at vs))
 
 -- ---- definitions
 
@@ -126,7 +120,7 @@ module _ (p : TranslationUnit) where
             subst (λ b. Gives (IsValueOf t) NoJump (if b then library_call at (slice_get p.names f.name) vs else stop (Over Spent))) (sym other) (gives_over Spent tt)
         by (CallsLibrary is gives) =
             subst (λ b. Gives (IsValueOf t) NoJump (if b then library_call at (slice_get p.names f.name) vs else stop (Over Spent))) (sym is)
-            (gives_values (IsValueOf t) _ (gives_library_call at (slice_get p.names f.name) vs) gives)
+            (gives at vs)
     calls_give (suc n) s see f t es c at vs = by (calls_give n) (called p s see f t es c)
       where
         by : CallsGive p (call_of p n) → IsCalled p f t → Ends n f t at vs (is_of_library f) (definition_at f.decl p.funcs)
@@ -136,7 +130,7 @@ module _ (p : TranslationUnit) where
             subst (λ u. Gives (IsValueOf u) NoJump (call_with (tables_of p) (global_scope 1 p.globals) (Some g) (call_of p n) n at vs)) (sym result) (gives_placed_call g i (call_of p n) n at vs below) in
             subst (λ b. Ends n f t at vs b (definition_at f.decl p.funcs)) (sym other) (subst (λ o. Ends n f t at vs false o) (sym found) own)
         by below (CallsLibrary is gives) =
-            let own : Ends n f t at vs true (definition_at f.decl p.funcs) = gives_values (IsValueOf t) _ (gives_library_call at (slice_get p.names f.name) vs) gives in
+            let own : Ends n f t at vs true (definition_at f.decl p.funcs) = gives at vs in
             subst (λ b. Ends n f t at vs b (definition_at f.decl p.funcs)) (sym is) own
 
     -- the initialisation of globals

@@ -106,7 +106,7 @@ module _ (p : TranslationUnit) (T : Tables) (structs : T.structs ≡ p.structs) 
         gives_bind _ _ (gives_tested_of a (gives_eval s see a w.0)) (λ x _. gives_choose x _ _
         (subst (λ u. Gives (IsValueOf u) NoJump (eval_with T b call)) w.4 (gives_eval s see b w.1)) (subst (λ u. Gives (IsValueOf u) NoJump (eval_with T c call)) w.5 (gives_eval s see c w.2)))
     gives_eval s see (Node at t (Assign None a b)) w =
-        gives_bind _ _ (gives_place s see a w.0) (λ q _. gives_assigned T.structs at t q _ _ (subst (λ u. Gives (IsValueOf u) NoJump (eval_with T b call)) w.5 (gives_eval s see b w.1)) (gives_place s see b w.1))
+        gives_bind _ _ (gives_place s see a w.0) (λ q _. gives_assigned T.structs at t q _ _ (subst (λ u. Gives (IsValueOf u) NoJump (eval_with T b call)) w.4 (gives_eval s see b w.1)) (gives_place s see b w.1))
     gives_eval s see (Node at t (Assign (Some op) a b)) w =
         gives_bind _ _ (gives_place s see a w.0) (λ q _. gives_scalar t _ (scalar_of_compound s op t (type_of b) w.4) (λ k e. gives_bind _ _ (gives_read at q t k e) (λ x h. gives_bind _ _ (gives_eval s see b w.1) (λ y g.
         gives_bind {P = IsValueOf t} _ _ (gives_computed at _ (λ store. value_of_compound s T.structs op op t (type_of b) store x y w.4 h g)) (λ v i. gives_written at q k v v i)))))
@@ -138,7 +138,7 @@ module _ (p : TranslationUnit) (T : Tables) (structs : T.structs ≡ p.structs) 
     gives_place s see (Node at t (Arrow a m)) w =
         gives_bind _ _ (gives_eval s see a w.0) (λ x h. gives_bind _ _ (gives_pointed x (address_by (type_of a) w.1.target x w.1.is h)) (λ q _. gives_member at q (offset_of T.structs (target_of (type_of a)) m)))
     gives_place s see (Node at t (Assign None a b)) w =
-        gives_bind _ _ (gives_place s see a w.0) (λ q _. gives_then _ _ (gives_assigned T.structs at t q _ _ (subst (λ u. Gives (IsValueOf u) NoJump (eval_with T b call)) w.5 (gives_eval s see b w.1)) (gives_place s see b w.1))
+        gives_bind _ _ (gives_place s see a w.0) (λ q _. gives_then _ _ (gives_assigned T.structs at t q _ _ (subst (λ u. Gives (IsValueOf u) NoJump (eval_with T b call)) w.4 (gives_eval s see b w.1)) (gives_place s see b w.1))
         (gives_give q tt))
     gives_place s see (Node at t (Comma a b)) w = gives_then _ _ (gives_eval s see a w.0) (gives_place s see b w.1)
     gives_place s see (Node at t (Assign (Some op) a b)) w = gives_over (Undefined at) tt

@@ -1,26 +1,29 @@
 -- Evaluations that end in no fault, whatever is typed: births, blocks, annotations, loops and the library.
-use Rattle.std.proofs.Common.{◌≡◌, ℕ, zero, suc, ◌+◌, pos, Bool, true, false, cond, if◌then◌else◌, nat_lt, List, [], ◌∷◌, length, Option, Some, None, codes, bytes_eq}
+use Rattle.std.proofs.Common.{◌≡◌, ℕ, zero, suc, ◌+◌, ◌*◌, pos, Bool, true, false, cond, if◌then◌else◌, nat_eq, nat_lt, List, [], ◌∷◌, length, replicate, Option, Some, None, codes, bytes_eq, subst}
 use Rattle.c_syntax.specs.declared.place.Place.{Place}
 use Rattle.c_syntax.specs.declared.types.Segment.{Segment}
 use Rattle.c_syntax.specs.declared.types.Segment.TheVariants.{Frames}
-use Rattle.c_syntax.specs.Ctypes.{PlainType, Int, Ptr}
+use Rattle.c_syntax.specs.declared.types.CInt.TheVariants.{U64}
+use Rattle.c_syntax.specs.Ctypes.{PlainType, Void, Int, Ptr, int_type}
 use Rattle.c_syntax.specs.Annotations.{Annotation}
 use Rattle.c_syntax.specs.Statements.{Declaration}
 use Rattle.c_syntax.specs.Programs.{StructType}
-use Rattle.c_model.specs.Integers.{byte_of}
+use Rattle.c_model.specs.Integers.{bits_of, byte_of}
 use Rattle.c_model.specs.Layouts.{Scalar, size_of}
-use Rattle.c_model.specs.Memory.{Pointer, Into, Value, Integer, Points, NoValue, Store, save, tested_value, standard_sizes, full_at_stack_birth}
+use Rattle.c_model.specs.Memory.{Pointer, Null, Into, Value, Integer, Points, NoValue, Byte, Unwritten, Number as NumberByte, Store, save, tested_value}
+use Rattle.c_model.specs.Memory.{standard_sizes, full_at_stack_birth, Room, At, NoRoom, heap_room, freed}
 use Rattle.c_model.specs.State.{InputTail, EndOfInput, InputFault, State, Leave, Breaks, Continues, Returns, Final, Undefined, Fault, Spent, Full}
 use Rattle.c_model.specs.State.{Exits, Leaves, Over, Outcome, Normal, Stop, Evaluation, on_outcome, ◌>>=◌, ◌>>◌, give, done}
 use Rattle.c_model.specs.State.{Scope, stop, defined, computed, changed, step_from, step, read_byte, print, find}
-use Rattle.c_model.specs.State.{start_of, object, put_store, write, tested, birth_of, birth, births, write_youngest, alone}
+use Rattle.c_model.specs.State.{start_of, object, put_store, write, tested, birth_of, birth, births, heap_birth, allocate, write_youngest, alone}
 use Rattle.c_model.specs.State.{frame, mark, restored, within}
 use Rattle.c_model.specs.StatementTyping.{Around, in_loop}
+use Rattle.c_model.specs.ExpressionTyping.{Signature, of_library, library_function}
 use Rattle.c_model.specs.TypedTrees.{WhereAny}
 use Rattle.c_model.specs.Logic.{Answer, Says, SaysNothing, OutOfSteps, clause, judged, check, checks}
 use Rattle.c_model.specs.Meaning.{is_zero, choose}
 use Rattle.c_model.specs.Meaning.{after_body, turns, do_turns}
-use Rattle.c_model.specs.Meaning.{put_char, get_char, exit_with, library_call}
+use Rattle.c_model.specs.Meaning.{put_char, get_char, exit_with, malloc_with, calloc_with, free_with, library_call}
 
 -- ---- what evaluations give
 
@@ -269,9 +272,42 @@ gives_exit at (Points p ∷ []) = gives_over (Undefined at) tt
 gives_exit at (Integer z ∷ []) = gives_over (Exits z) tt
 gives_exit at (v ∷ w ∷ vs) = gives_over (Undefined at) tt
 
-pub gives_library_call : (at : Place) (name : Option (List ℕ)) (vs : List Value) → Gives IsNumber NoJump (library_call at name vs)
-gives_library_call at None vs = gives_over (Undefined at) tt
-gives_library_call at (Some name) vs =
-    gives_if (bytes_eq name (codes "putchar")) _ _ (gives_put_char at vs)
-    (gives_if (bytes_eq name (codes "getchar")) _ _ (gives_get_char at vs)
-    (gives_if (bytes_eq name (codes "exit")) _ _ (gives_exit at vs) (gives_over (Undefined at) tt)))
+birth_gives : (room : Room) (bytes : List Byte) → Gives IsAddress NoJump (heap_birth room bytes)
+birth_gives (NoRoom full) bytes = gives_over (Full full) tt
+birth_gives (At place) bytes = record { at = λ s. tt }
+
+pub gives_allocate : (n : ℕ) (b : Byte) → Gives IsAddress NoJump (allocate n b)
+gives_allocate n b =
+    gives_cond (nat_eq n 0) _ _ (gives_give (Points Null) tt) (record { at = λ s. (birth_gives (heap_room standard_sizes s.store n) (replicate n b)).at s })
+
+pub gives_malloc : (at : Place) (vs : List Value) → Gives IsAddress NoJump (malloc_with at vs)
+gives_malloc at (Integer n ∷ []) = gives_allocate (bits_of U64 n) Unwritten
+gives_malloc at _ = gives_over (Undefined at) tt
+
+pub gives_calloc : (at : Place) (vs : List Value) → Gives IsAddress NoJump (calloc_with at vs)
+gives_calloc at (Integer n ∷ Integer m ∷ []) = gives_allocate (bits_of U64 n * bits_of U64 m) (NumberByte 0)
+gives_calloc at _ = gives_over (Undefined at) tt
+
+pub gives_free : (at : Place) (vs : List Value) → Gives Anything NoJump (free_with at vs)
+gives_free at (Points p ∷ []) = gives_then _ _ (gives_changed at (λ store. freed store p)) (gives_give NoValue tt)
+gives_free at _ = gives_over (Undefined at) tt
+
+-- a call of a function of the library gives a value of its result
+pub gives_library_call : (at : Place) (x : ℕ) (w : List ℕ) (vs : List Value) (g : Signature) → library_function x w ≡ Some g → Gives (IsValueOf g.result) NoJump (library_call at (Some w) vs)
+gives_library_call at x w vs g =
+    by (bytes_eq w (codes "putchar")) (bytes_eq w (codes "getchar")) (bytes_eq w (codes "exit")) (bytes_eq w (codes "malloc")) (bytes_eq w (codes "calloc")) (bytes_eq w (codes "free"))
+  where
+    result_of : (h : Signature) (m : Evaluation Value) → Gives (IsValueOf h.result) NoJump m → Some h ≡ Some g → Gives (IsValueOf g.result) NoJump m
+    result_of h m gives e = let same : h ≡ g = cc in subst (λ (f : Signature). Gives (IsValueOf f.result) NoJump m) same gives
+
+    by : (a b c d e f : Bool) → (if a then Some (of_library x (int_type ∷ []) int_type) else (if b then Some (of_library x [] int_type) else (if c then Some (of_library x (int_type ∷ []) Void)
+        else (if d then Some (of_library x (Int U64 ∷ []) (Ptr Void)) else (if e then Some (of_library x (Int U64 ∷ Int U64 ∷ []) (Ptr Void)) else (if f then Some (of_library x (Ptr Void ∷ []) Void) else None)))))) ≡ Some g
+        → Gives (IsValueOf g.result) NoJump (if a then put_char at vs else (if b then get_char at vs else (if c then exit_with at vs else
+        (if d then malloc_with at vs else (if e then calloc_with at vs else (if f then free_with at vs else stop (Over (Undefined at))))))))
+    by true b c d e f h = result_of _ _ (gives_put_char at vs) h
+    by false true c d e f h = result_of _ _ (gives_get_char at vs) h
+    by false false true d e f h = result_of _ _ (gives_values (IsValueOf Void) _ (gives_exit at vs) (λ v _. tt)) h
+    by false false false true e f h = result_of _ _ (gives_malloc at vs) h
+    by false false false false true f h = result_of _ _ (gives_calloc at vs) h
+    by false false false false false true h = result_of _ _ (gives_free at vs) h
+    by false false false false false false h = absurd cc

@@ -23,7 +23,7 @@ use Rattle.c_model.specs.ExpressionTyping.{no_name, no_type, Sight, Entity, AnOb
 use Rattle.c_model.specs.ExpressionTyping.{is_scalar, is_void, pointed, is_place, decayed, in_type, in_int, decayed_of, literal, text, is_null_word, library_name, named, unary_on, on_integers, both_of, either_of}
 use Rattle.c_model.specs.ExpressionTyping.{choice_type, pointer_choice, choice_of, is_struct, is_step, is_equality, is_difference, where_elements, on_pointers, on_pointer_and_integer, on_integer_and_pointer, binary}
 use Rattle.c_model.specs.ExpressionTyping.{is_null, are_compatible, points_to_void}
-use Rattle.c_model.specs.ExpressionTyping.{is_assigned, assigned_struct, assigned_scalar, compounded, assign, bump, is_cast, cast, index, member, dot, arrow, size_of_type, size_of_expression, of_library}
+use Rattle.c_model.specs.ExpressionTyping.{is_assigned, assigned_struct, assigned_scalar, compounded, assign, bump, is_cast, cast, index, member, dot, arrow, size_of_type, size_of_expression}
 use Rattle.c_model.specs.ExpressionTyping.{or_else, no_function, callee, first_type, rest_types, argument_for, count_of, call, params_of, two, type_in, typed, typed_arguments, typed_type}
 use Rattle.c_model.specs.SmallTypes.{TypesSmall, AllTypesSmall}
 use Rattle.c_model.proofs.TypedParts.{Gives, gives_one, gives_both, gives_given, gives_where, gives_sized, gives_elements, pointed_is}
@@ -31,6 +31,7 @@ use Rattle.c_model.proofs.TypedSoundness.{gives_limited}
 use Rattle.c_model.proofs.TypedDeclarations.{anything}
 use Rattle.c_model.proofs.StableConstants.{Grows}
 use Rattle.c_model.proofs.FirmTypes.{AreFirm, AreSmallStructs, Small, elements_small, typed_firm, limited_small_both}
+use Rattle.c_model.proofs.LibraryFunctions.{each_of_library}
 
 gives_compounded : (s : Sight) (at : Place) (R : Expression → Type 0) (op : BinOp) (x y whole : Expression) → R whole → Gives R (compounded s at op x y whole)
 gives_compounded s at R op x y whole h = by (integer_type (type_of x))
@@ -113,14 +114,7 @@ module _ (new : List StructType)
         by false next i = next i
 
     library_small : (x : ℕ) (w : List ℕ) (f : Signature) → library_function x w ≡ Some f → SmallSignature f
-    library_small x w f i = by (bytes_eq w (codes "putchar")) (bytes_eq w (codes "getchar")) (bytes_eq w (codes "exit")) i
-      where
-        by : (a b c : Bool) → (if a then Some (of_library x (int_type ∷ []) int_type) else (if b then Some (of_library x [] int_type) else (if c then Some (of_library x (int_type ∷ []) Void) else None))) ≡ Some f
-            → SmallSignature f
-        by true b c i = let same : of_library x (int_type ∷ []) int_type ≡ f = cc in subst SmallSignature same (refl, (refl, tt))
-        by false true c i = let same : of_library x [] int_type ≡ f = cc in subst SmallSignature same (refl, tt)
-        by false false true i = let same : of_library x (int_type ∷ []) Void ≡ f = cc in subst SmallSignature same (refl, (refl, tt))
-        by false false false i = absurd cc
+    library_small x w f i = each_of_library SmallSignature f x w (refl, (refl, tt)) (refl, tt) (refl, (refl, tt)) (refl, (refl, tt)) (refl, (refl, (refl, tt))) (refl, (refl, tt)) i
 
     text_small : (offset k : ℕ) (ls : List StringLiteral) → AreSmallTexts ls → (l : ℕ × List ℕ) → literal_at offset k ls ≡ Some l → Small new (Array (Int I8) (Count (length l.1 + 1)))
     text_small offset k [] h l i = absurd cc
@@ -332,7 +326,7 @@ module _ (new : List StructType)
             assigned_small None = by (is_struct (type_of a))
               where
                 by : (z : Bool) → Gives AreTypesSmall (if z then assigned_struct s at a b else assigned_scalar s at a b)
-                by true = gives_where AreTypesSmall (is_place a && same_type (type_of b) (type_of a)) _ _ (λ p. gives_sized AreTypesSmall s at (type_of a) _ (λ k. tt))
+                by true = gives_where AreTypesSmall (is_place a && same_type (type_of b) (type_of a)) _ _ (λ p. gives_sized AreTypesSmall s at (type_of a) _ (λ k. (type_small a v, (v, w))))
                 by false = gives_where AreTypesSmall (is_place a && is_scalar (type_of a) && is_assigned s b (type_of a)) _ _ (λ p.
                     (type_small a v, (v, in_type_small (type_of a) b (type_small a v) w)))
 

@@ -11,7 +11,7 @@ use Rattle.c_syntax.specs.Programs.{StructType}
 use Rattle.c_model.specs.Layouts.{members_of, members_of_struct, member_among}
 use Rattle.c_model.specs.ExpressionTyping.{Sight, HasSize, is_known, sized, most_bytes}
 use Rattle.c_model.specs.TypedTrees.{PointsToElements, HasKnownSize, IsName, OfObject, OfNull, IsText, HasMember, HasMemberBehind, BinaryTypes, OfIntegers, OfPointerAndInteger, OfIntegerAndPointer}
-use Rattle.c_model.specs.TypedTrees.{OfDifference, OfPointers, IndexTypes, OnTheLeft, OnTheRight, CompoundTypes, ToInteger, ToPointer, CastTypes, ToVoid, OfInteger, OfPointer, OfNullConstant, OfArray}
+use Rattle.c_model.specs.TypedTrees.{OfDifference, OfPointers, IndexTypes, OnTheLeft, OnTheRight, Assigns, ToScalar, ToStruct, CompoundTypes, ToInteger, ToPointer, CastTypes, ToVoid, OfInteger, OfPointer, OfNullConstant, OfArray}
 use Rattle.c_model.specs.TypedTrees.{Calls, WellTyped, AreWellTyped, IsValue, IsCondition}
 use Rattle.c_model.proofs.StableConstants.{Grows, size_kept, constant_kept}
 
@@ -76,6 +76,10 @@ module _ (s : Sight) (new : List StructType) (levels tags enums : List ℕ) (g :
     index_kept t u v (OnTheLeft e k i) = OnTheLeft e (known_kept t k) i
     index_kept t u v (OnTheRight i e k) = OnTheRight i e (known_kept t k)
 
+    assigns_kept : (t : PlainType) (b : Expression) → Assigns s t b → Assigns later t b
+    assigns_kept t b (ToScalar i) = ToScalar i
+    assigns_kept t b (ToStruct i k o) = ToStruct i (known_kept t k) o
+
     compound_kept : (op : BinOp) (t u : PlainType) → CompoundTypes s op t u → CompoundTypes later op t u
     compound_kept op t u (ToInteger i j) = ToInteger i j
     compound_kept op t u (ToPointer e p i) = ToPointer e (elements_kept t p) i
@@ -115,7 +119,7 @@ module _ (s : Sight) (new : List StructType) (levels tags enums : List ℕ) (g :
       well_kept (Node at t (Both a b)) w = (well_kept a w.0, well_kept b w.1, w.2, w.3, w.4)
       well_kept (Node at t (Either a b)) w = (well_kept a w.0, well_kept b w.1, w.2, w.3, w.4)
       well_kept (Node at t (Choice a b c)) w = (well_kept a w.0, well_kept b w.1, well_kept c w.2, w.3, w.4, w.5)
-      well_kept (Node at t (Assign None a b)) w = (well_kept a w.0, well_kept b w.1, w.2, w.3, w.4, w.5)
+      well_kept (Node at t (Assign None a b)) w = (well_kept a w.0, well_kept b w.1, w.2, w.3, w.4, assigns_kept t b w.5)
       well_kept (Node at t (Assign (Some op) a b)) w = (well_kept a w.0, well_kept b w.1, w.2, w.3, compound_kept op t (type_of b) w.4)
       well_kept (Node at t (Bump op a)) w = (well_kept a w.0, w.1, w.2, compound_kept operator.Add t int_type w.3)
       well_kept (Node at t (Call f es)) w = (all_well_kept es w.0, calls_kept f t es w.1)

@@ -21,9 +21,10 @@ use Rattle.c_model.specs.ExpressionTyping.{no_type, Sight, HasSize, sized, is_vo
 use Rattle.c_model.specs.ExpressionTyping.{is_zero, is_constant, integer_value, tables_in, constant, is_null, is_null_name, are_compatible, are_integers, is_assigned}
 use Rattle.c_model.specs.ExpressionTyping.{is_step, is_equality, is_difference, on_integers, where_elements, on_pointers, on_pointer_and_integer, on_integer_and_pointer, binary, both_of, either_of}
 use Rattle.c_model.specs.ExpressionTyping.{assigned, assigned_struct, assigned_scalar, compounded, assign, bump, is_cast, cast, index, member, dot, arrow}
-use Rattle.c_model.specs.TypedTrees.{IsPointer, has_object, IsName, OfObject, OfNull, OfPointerAndInteger}
+use Rattle.c_model.specs.ExpressionTyping.{has_object}
+use Rattle.c_model.specs.TypedTrees.{IsPointer, IsName, OfObject, OfNull, OfPointerAndInteger}
 use Rattle.c_model.specs.TypedTrees.{OfIntegerAndPointer, OfDifference, OfPointers, CastTypes, ToVoid, OfInteger, OfPointer, OfNullConstant, OfArray, OnTheLeft, OnTheRight}
-use Rattle.c_model.specs.TypedTrees.{CompoundTypes, ToInteger, ToPointer, HasMember, WellTyped, IsSight}
+use Rattle.c_model.specs.TypedTrees.{ToScalar, ToStruct, CompoundTypes, ToInteger, ToPointer, HasMember, WellTyped, IsSight}
 use Rattle.c_model.proofs.TypedParts.{Gives, gives_one, gives_given, gives_where, gives_sized, gives_elements, and_true, same_type_is, integer_is, pointed_is, scalar_is, there_is, pointer_is, void_is}
 use Rattle.c_model.proofs.TypedOperators.{is_aggregate, Sound, in_type_well, in_type_type, integers_well, or_cases}
 
@@ -205,17 +206,24 @@ module _ (s : Sight) (known : IsSight s)
     scalar_flat (Ptr t) e = refl
     scalar_flat _ e = absurd cc
 
+    struct_aggregate : (t : PlainType) → is_struct t ≡ true → is_aggregate t ≡ true
+    struct_aggregate (Struct n) e = refl
+    struct_aggregate _ e = absurd cc
+
     module _ (at : Place) (a b : Expression) (v : Sound s a) (w : Sound s b)
       where
         assigned_sound : Gives (Sound s) (assigned s at a b)
-        assigned_sound = by (is_struct (type_of a))
+        assigned_sound = by (is_struct (type_of a)) refl
           where
-            by : (z : Bool) → Gives (Sound s) (if z then assigned_struct s at a b else assigned_scalar s at a b)
-            by true = gives_where (Sound s) (is_place a && same_type (type_of b) (type_of a)) _ _ (λ p. gives_sized (Sound s) s at (type_of a) _ (λ k. tt))
-            by false = gives_where (Sound s) (is_place a && is_scalar (type_of a) && is_assigned s b (type_of a)) _ _ (λ p.
+            by : (z : Bool) → is_struct (type_of a) ≡ z → Gives (Sound s) (if z then assigned_struct s at a b else assigned_scalar s at a b)
+            by true i = gives_where (Sound s) (is_place a && same_type (type_of b) (type_of a)) _ _ (λ p. gives_sized (Sound s) s at (type_of a) _ (λ k.
+                let q = and_true (is_place a) (same_type (type_of b) (type_of a)) p in
+                let same = same_type_is (type_of b) (type_of a) q.1 in
+                record { well = (v.well, w.well, q.0, refl, same, ToStruct i k (w.object (ap is_aggregate same ∙ struct_aggregate (type_of a) i))); object = λ c. i }))
+            by false i = gives_where (Sound s) (is_place a && is_scalar (type_of a) && is_assigned s b (type_of a)) _ _ (λ p.
                 let q = and_true (is_place a && is_scalar (type_of a)) (is_assigned s b (type_of a)) p in
                 let r = and_true (is_place a) (is_scalar (type_of a)) q.0 in record {
-                  well = (v.well, in_type_well s (type_of a) b w.well (assigned_casts (type_of a) b w.well q.1), r.0, scalar_is _ r.1, refl, in_type_type (type_of a) b);
+                  well = (v.well, in_type_well s (type_of a) b w.well (assigned_casts (type_of a) b w.well q.1), r.0, refl, in_type_type (type_of a) b, ToScalar (scalar_is _ r.1));
                   object = λ c. absurd (let f = scalar_flat (type_of a) r.1 in cc);
                 })
 

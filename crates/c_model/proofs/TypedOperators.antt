@@ -14,7 +14,8 @@ use Rattle.c_model.specs.Conversions.{promoted, common, is_shift, is_relation}
 use Rattle.c_model.specs.Meaning.{is_array}
 use Rattle.c_model.specs.ExpressionTyping.{Sight, is_void, is_scalar, pointed, same_type, decayed, in_type, in_int, is_place}
 use Rattle.c_model.specs.ExpressionTyping.{literal, unary_on, on_integers}
-use Rattle.c_model.specs.TypedTrees.{IsPromoted, has_object, OfIntegers}
+use Rattle.c_model.specs.ExpressionTyping.{has_object}
+use Rattle.c_model.specs.TypedTrees.{IsPromoted, OfIntegers}
 use Rattle.c_model.specs.TypedTrees.{CastTypes, OfInteger, OfArray, WellTyped}
 use Rattle.c_model.proofs.TypedParts.{Gives, gives_given, gives_where, same_type_is, integer_is, pointed_is, scalar_is}
 

@@ -207,7 +207,8 @@ module _ (s : Sight) (at : Place) (u : PlainType)
         assign_as None = by (is_struct (type_of a))
           where
             by : (z : Bool) → Gives (TypedAs (Node at u (Assign None ra rb))) (if z then assigned_struct s at a b else assigned_scalar s at a b)
-            by true = gives_where _ (is_place a && same_type (type_of b) (type_of a)) _ _ (λ p. gives_sized _ s at (type_of a) _ (λ k. tt))
+            by true = gives_where _ (is_place a && same_type (type_of b) (type_of a)) _ _ (λ p. gives_sized _ s at (type_of a) _ (λ k.
+                form_as at u (type_of a) (Assign None ra rb) (Assign None a b) (a, b, refl, v, w)))
             by false = gives_where _ (is_place a && is_scalar (type_of a) && is_assigned s b (type_of a)) _ _ (λ p.
                 form_as at u (type_of a) (Assign None ra rb) (Assign None a (in_type (type_of a) b)) (a, in_type (type_of a) b, refl, v, in_type_as rb b (type_of a) w))
 

@@ -375,7 +375,8 @@ module _ (s : Sight) (at : Place) (n m : ℕ) (a b : Expression) (h : IsLight n 
     where
       by : (x : Bool) → Gives (IsLight (suc (n + m))) (if x then assigned_struct s at a b else assigned_scalar s at a b)
       by true =
-          gives_if (IsLight (suc (n + m))) (is_place a && same_type (type_of b) (type_of a)) (no_type at) (where_sized s at (type_of a) (faulty (no_type at))) (gives_size (IsLight (suc (n + m))) s at (type_of a) (faulty (no_type at)) tt)
+          gives_if (IsLight (suc (n + m))) (is_place a && same_type (type_of b) (type_of a)) (no_type at) (where_sized s at (type_of a) (Good (Node at (type_of a) (Assign None a b))))
+          (gives_size (IsLight (suc (n + m))) s at (type_of a) (Good (Node at (type_of a) (Assign None a b))) (compound_light None (type_of a)))
       by false =
           gives_if (IsLight (suc (n + m))) (is_place a && is_scalar (type_of a) && is_assigned s b (type_of a)) (no_type at) (Good (Node at (type_of a) (Assign None a (in_type (type_of a) b)))) (stored_light (type_of a))
 

@@ -23,6 +23,7 @@ use Rattle.c_model.proofs.TypedParts.{Gives, gives_of, gives_one, gives_both, gi
 use Rattle.c_model.proofs.TypedOperators.{is_aggregate, Sound, IsSoundValue, decayed_sound, in_type_well, in_type_type, int_cast, literal_sound, unary_sound}
 use Rattle.c_model.proofs.TypedExpressions.{null_casts, compatible_pointers, assigned_casts, binary_sound, both_sound, either_sound, index_sound, comma_sound, assign_sound, bump_sound}
 use Rattle.c_model.proofs.TypedExpressions.{cast_sound, dot_sound, arrow_sound}
+use Rattle.c_model.proofs.LibraryFunctions.{each_of_library}
 
 -- ---- limits
 
@@ -141,17 +142,9 @@ pub record IsNamed (x : ℕ) (f : Signature) : Type 0 where
   flat : is_aggregate f.result ≡ false
 
 pub named_of_library : (x : ℕ) (w : List ℕ) (f : Signature) → library_function x w ≡ Some f → IsNamed x f
-named_of_library x w f e = by (bytes_eq w (codes "putchar")) (bytes_eq w (codes "getchar")) (bytes_eq w (codes "exit")) e
-  where
-    one : (g : Signature) → IsNamed x g → Some g ≡ Some f → IsNamed x f
-    one g is e = let same : g ≡ f = cc in subst (IsNamed x) same is
-
-    by : (a b c : Bool) → (if a then Some (of_library x (int_type ∷ []) int_type) else (if b then Some (of_library x [] int_type) else (if c then Some (of_library x (int_type ∷ []) Void) else None))) ≡ Some f
-        → IsNamed x f
-    by true b c e = one (of_library x (int_type ∷ []) int_type) (record { name = refl; flat = refl }) e
-    by false true c e = one (of_library x [] int_type) (record { name = refl; flat = refl }) e
-    by false false true e = one (of_library x (int_type ∷ []) Void) (record { name = refl; flat = refl }) e
-    by false false false e = absurd cc
+named_of_library x w f e =
+    let flat_named : (params : List PlainType) (result : PlainType) → is_aggregate result ≡ false → IsNamed x (of_library x params result) = λ params result flat. record { name = refl; flat = flat } in
+    each_of_library (IsNamed x) f x w (flat_named _ _ refl) (flat_named _ _ refl) (flat_named _ _ refl) (flat_named _ _ refl) (flat_named _ _ refl) (flat_named _ _ refl) e
 
 scalar_result : (t : PlainType) (k : Scalar) → scalar_of t ≡ Some k → is_aggregate t ≡ false
 scalar_result (Int l) k e = refl

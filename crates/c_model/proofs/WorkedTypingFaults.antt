@@ -228,41 +228,28 @@ typed_unit-assigns_an_array : refusing (typed_unit assigns_an_array) ≡ Some (r
 unfolding library_constant is_library_name
 typed_unit-assigns_an_array = refl
 
---     struct s { int n; } a, b; int main(void) { a = b; return 0; }
-abbrev assigns_a_struct : TranslationUnit
-assigns_a_struct = file (codes "s" ∷ codes "n" ∷ codes "a" ∷ codes "b" ∷ codes "main" ∷ []) [] ((record {
-  place = (place 1 8 7);
-  tag = (Some 0);
-  members = ((record {
-    place = (place 1 16 15);
-    name = 1;
-    ctype = int_type;
-    offset = 0;
-  }) ∷ []);
-  size = 0;
-  align = 0;
-}) ∷ []) [] [] ((record { place = (place 1 21 20); name = 2; named = true; ctype = (Struct 0); init = None }) ∷ (record {
-  place = (place
-      1 24 23);
-  name = 3;
-  named = true;
-  ctype = (Struct 0);
-  init = None;
-}) ∷ []) ((record {
-  place = (place 1 31 30);
-  name = 4;
-  result = int_type;
-  params = [];
-  contract = None;
-  body = Some (Block (place
-      1 42 41) (items_of ((Run (Eval (place 1 44 43) (read (place 1 46 45) (Assign None (read (place 1 44 43) (named 2)) (read (place 1 48 47) (named 3)))))) ∷ (Run (Return (place 1 51 50) (Some (read
-      (place 1 58 57) (Number (pos 0) (Some I32)))))) ∷ [])));
-  close = (place 1 61 60);
-}) ∷ [])
+--     struct s { int n; } a; struct t { int n; } b; int main(void) { a = b; return 0; }
+abbrev assigns_another_struct : TranslationUnit
+assigns_another_struct = file (codes "s" ∷ codes "n" ∷ codes "a" ∷ codes "t" ∷ codes "b" ∷ codes "main" ∷ []) [] (
+    record { place = (place 1 8 7); tag = (Some 0); members = (record { place = (place 1 16 15); name = 1; ctype = int_type; offset = 0 } ∷ []); size = 0; align = 0 } ∷
+    record { place = (place 1 31 30); tag = (Some 3); members = (record { place = (place 1 39 38); name = 1; ctype = int_type; offset = 0 } ∷ []); size = 0; align = 0 } ∷
+    []) [] [] (
+    record { place = (place 1 21 20); name = 2; named = true; ctype = (Struct 0); init = None } ∷ record { place = (place 1 44 43); name = 4; named = true; ctype = (Struct 1); init = None } ∷ []) (record {
+      place = (place 1 51 50);
+      name = 5;
+      result = int_type;
+      params = [];
+      contract = None;
+      body = Some (Block (place 1 62 61) (items_of (
+          Run (Eval (place 1 64 63) (read (place 1 66 65) (Assign None (read (place 1 64 63) (named 2)) (read (place 1 68 67) (named 4))))) ∷
+          Run (Return (place 1 71 70) (Some (read (place 1 78 77) (Number (pos 0) (Some I32))))) ∷
+          [])));
+      close = (place 1 81 80);
+    } ∷ [])
 
-typed_unit-assigns_a_struct : refusing (typed_unit assigns_a_struct) ≡ Some (record { code = 6; place = (place 1 46 45) })
+typed_unit-assigns_another_struct : refusing (typed_unit assigns_another_struct) ≡ Some (record { code = 6; place = (place 1 66 65) })
 unfolding library_constant is_library_name
-typed_unit-assigns_a_struct = refl
+typed_unit-assigns_another_struct = refl
 
 --     struct s *p; int main(void) { *p = *p; return 0; }
 abbrev assigns_an_unknown_struct : TranslationUnit

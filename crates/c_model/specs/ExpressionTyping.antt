@@ -139,12 +139,15 @@ declared_here s x = entity_named x (drop s.innermost s.entities)
 abbrev pub of_library : ℕ → List PlainType → PlainType → Signature
 of_library x params result = record { name = x; decl = 4294967295; defined = true; params = params; result = result }
 
--- the functions of the library that are built (C99 7.19.7.9, 7.19.7.6, 7.20.4.3)
+-- the functions of the library that are built (C99 7.19.7.9, 7.19.7.6, 7.20.4.3, 7.20.3.3, 7.20.3.1, 7.20.3.2)
 abbrev pub library_function : ℕ → List ℕ → Option Signature
 library_function x w =
     if bytes_eq w (codes "putchar") then Some (of_library x (int_type ∷ []) int_type)
     else (if bytes_eq w (codes "getchar") then Some (of_library x [] int_type)
-    else (if bytes_eq w (codes "exit") then Some (of_library x (int_type ∷ []) Void) else None))
+    else (if bytes_eq w (codes "exit") then Some (of_library x (int_type ∷ []) Void)
+    else (if bytes_eq w (codes "malloc") then Some (of_library x (Int U64 ∷ []) (Ptr Void))
+    else (if bytes_eq w (codes "calloc") then Some (of_library x (Int U64 ∷ Int U64 ∷ []) (Ptr Void))
+    else (if bytes_eq w (codes "free") then Some (of_library x (Ptr Void ∷ []) Void) else None)))))
 
 abbrev pub use_as : ℕ → ℕ → Use
 use_as x decl = record { name = x; decl = decl }
@@ -294,6 +297,13 @@ is_place (Node at t (Index a b)) = true
 is_place (Node at t (Dot a m)) = is_place a
 is_place (Node at t (Arrow a m)) = true
 is_place _ = false
+
+-- an expression whose value stands in an object: one that designates an object, a struct that was assigned, or a comma with such a right operand
+abbrev pub has_object : Expression → Bool
+has_object (Node at t (Comma a b)) = has_object b
+has_object (Node at t (Dot a m)) = has_object a
+has_object (Node at t (Assign None a b)) = is_struct t
+has_object e = is_place e
 
 -- ---- constant expressions (C99 6.6): a form, and a value by the meaning of expressions, where nothing is called and no object is there
 
@@ -505,10 +515,11 @@ assigned_scalar s at a b =
     where_so (is_place a && is_scalar (type_of a) && is_assigned s b (type_of a)) (no_type at)
     (Good (Node at (type_of a) (Assign None a (in_type (type_of a) b))))
 
--- a struct goes to the same struct, whose size is needed; it isn't assigned yet
+-- a struct goes to the same struct, whose size is needed
 abbrev pub assigned_struct : Sight → Place → Expression → Expression → Checked Expression
 assigned_struct s at a b =
-    where_so (is_place a && same_type (type_of b) (type_of a)) (no_type at) (where_sized s at (type_of a) (faulty (no_type at)))
+    where_so (is_place a && same_type (type_of b) (type_of a)) (no_type at)
+    (where_sized s at (type_of a) (Good (Node at (type_of a) (Assign None a b))))
 
 abbrev pub assigned : Sight → Place → Expression → Expression → Checked Expression
 assigned s at a b = if is_struct (type_of a) then assigned_struct s at a b else assigned_scalar s at a b

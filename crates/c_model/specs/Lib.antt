@@ -14,6 +14,7 @@ pub mod WordLaws
 pub mod Growth
 pub mod Steps
 pub mod Laws
+pub mod HeapLaws
 pub mod Characters
 pub mod Places
 pub mod Names

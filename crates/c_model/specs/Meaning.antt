@@ -1,5 +1,5 @@
 -- What expressions, statements and whole programs do (C99 6.5, 6.8, 5.1.2.2.3; evaluation goes from left to right).
-use Rattle.std.specs.Prelude.{ℕ, zero, suc, int_lt, int_le, ◌+◌, pos, ℤ, ◌*ℤ◌, ◌-ℤ◌, Bool, true, false, cond, not, ◌&&◌, if◌then◌else◌, nat_eq, List, []}
+use Rattle.std.specs.Prelude.{ℕ, zero, suc, int_lt, int_le, ◌+◌, ◌*◌, pos, ℤ, ◌*ℤ◌, ◌-ℤ◌, Bool, true, false, cond, not, ◌&&◌, if◌then◌else◌, nat_eq, List, []}
 use Rattle.std.specs.Prelude.{◌∷◌, ◌++◌, length, map, replicate, Option, Some, None, option_map, slice_get, codes, bytes_eq}
 use Rattle.std.specs.Ordering.{int_eq}
 use Rattle.c_syntax.specs.declared.place.Place.{Place}
@@ -19,15 +19,16 @@ use Rattle.c_syntax.specs.Statements.{Initialiser, One, Many, Initialisers, NoIn
 use Rattle.c_syntax.specs.Statements.{Do, For, Break, Continue, Return, ElsePart, NoElse, Else, ForFirst, NoFirst, First, BlockItem, Declare, Run, Asserts}
 use Rattle.c_syntax.specs.Statements.{BlockItems, NoItem, Then}
 use Rattle.c_syntax.specs.Programs.{StructType, Function, TranslationUnit}
-use Rattle.c_model.specs.Integers.{convert, integer_type, truth, operate, operate_one, byte_of}
+use Rattle.c_syntax.specs.declared.types.CInt.TheVariants.{U64}
+use Rattle.c_model.specs.Integers.{bits_of, convert, integer_type, truth, operate, operate_one, byte_of}
 use Rattle.c_model.specs.Conversions.{operation_type, is_shift}
 use Rattle.c_model.specs.Operators.{quotient}
 use Rattle.c_model.specs.Layouts.{Scalar, IntegerType, PointerType, scalar_size, scalar_of, size_of, target_of, offset_of, parts_of, scalars_of}
-use Rattle.c_model.specs.Memory.{Pointer, Null, Into, Value, Integer, Points, NoValue, Byte, Number as NumberByte, Block as MemoryBlock, block_of, Store}
-use Rattle.c_model.specs.Memory.{moved, distance, equal_pointers, shifted}
+use Rattle.c_model.specs.Memory.{Pointer, Null, Into, Value, Integer, Points, NoValue, Byte, Unwritten, Number as NumberByte}
+use Rattle.c_model.specs.Memory.{Block as MemoryBlock, block_of, Store, freed, moved, distance, equal_pointers, shifted}
 use Rattle.c_model.specs.State.{Scope, Input, State, Breaks, Continues, Returns, Final, Exits, Undefined, Fault, Spent, Leaves, Over, Outcome, Normal}
 use Rattle.c_model.specs.State.{Stop, Evaluation, ◌>>=◌, ◌>>◌, give, done, stop, defined, step, print, read_byte, computed, as_scalar, find, object, read}
-use Rattle.c_model.specs.State.{read_any, write, write_bytes, copy_object, tested, write_youngest, birth, births, alone, frame, mark, within}
+use Rattle.c_model.specs.State.{read_any, changed, write, write_bytes, copy_object, allocate, tested, write_youngest, birth, births, alone, frame, mark, within}
 use Rattle.c_model.specs.Library.{is_there}
 use Rattle.c_model.specs.Logic.{checks}
 
@@ -412,13 +413,31 @@ exit_with at (Points p ∷ []) = stop (Over (Undefined at))
 exit_with at (Integer z ∷ []) = stop (Over (Exits z))
 exit_with at (v ∷ w ∷ vs) = stop (Over (Undefined at))
 
+-- malloc gives a block whose bytes are unwritten (C99 7.20.3.3)
+abbrev pub malloc_with : Place → List Value → Evaluation Value
+malloc_with at (Integer n ∷ []) = allocate (bits_of U64 n) Unwritten
+malloc_with at vs = stop (Over (Undefined at))
+
+-- calloc gives one of zeros, as long as the unbounded product says (C99 7.20.3.1)
+abbrev pub calloc_with : Place → List Value → Evaluation Value
+calloc_with at (Integer n ∷ Integer m ∷ []) = allocate (bits_of U64 n * bits_of U64 m) (NumberByte 0)
+calloc_with at vs = stop (Over (Undefined at))
+
+-- free ends the life of a block of the heap (C99 7.20.3.2)
+abbrev pub free_with : Place → List Value → Evaluation Value
+free_with at (Points p ∷ []) = changed at (λ store. freed store p) >> give NoValue
+free_with at vs = stop (Over (Undefined at))
+
 -- a call of a library function, by its name
 abbrev pub library_call : Place → Option (List ℕ) → List Value → Evaluation Value
 library_call at None vs = stop (Over (Undefined at))
 library_call at (Some name) vs =
     if bytes_eq name (codes "putchar") then put_char at vs
     else (if bytes_eq name (codes "getchar") then get_char at vs
-    else (if bytes_eq name (codes "exit") then exit_with at vs else stop (Over (Undefined at))))
+    else (if bytes_eq name (codes "exit") then exit_with at vs
+    else (if bytes_eq name (codes "malloc") then malloc_with at vs
+    else (if bytes_eq name (codes "calloc") then calloc_with at vs
+    else (if bytes_eq name (codes "free") then free_with at vs else stop (Over (Undefined at)))))))
 
 -- the definition with this number
 abbrev pub definition_at : ℕ → List Function → Option Function

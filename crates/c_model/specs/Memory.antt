@@ -1,5 +1,5 @@
 -- Memory: numbered blocks of bytes (C99 6.2.4, 6.2.6), with what an access reads and writes.
-use Rattle.std.specs.Prelude.{ℕ, zero, suc, ◌+◌, ◌*◌, ◌/◌, ◌%◌, ℤ, pos, negsuc, ◌+ℤ◌, ◌-ℤ◌, Bool, true, false, not, ◌&&◌, if◌then◌else◌}
+use Rattle.std.specs.Prelude.{ℕ, zero, suc, ◌+◌, ◌*◌, ◌/◌, ◌%◌, ℤ, pos, negsuc, ◌+ℤ◌, ◌-ℤ◌, Bool, true, false, not, ◌&&◌, ◌||◌, if◌then◌else◌}
 use Rattle.std.specs.Prelude.{nat_eq, nat_le, nat_lt, List, [], ◌∷◌, ◌++◌, length, take, drop, replicate, map, Option, Some, None, option_map}
 use Rattle.std.specs.Prelude.{slice_get, slice_set}
 use Rattle.c_syntax.specs.declared.types.BlockKind.{BlockKind}
@@ -29,7 +29,7 @@ pub data Byte : Type 0 where
   Piece : Pointer → ℕ → Byte
   LoosePiece : Byte
 
--- an object (C99 6.2.4): its kind, its size in bytes, whether it lives, its bytes, and the place of a heap block in its segment
+-- an object (C99 6.2.4): its kind, its size in bytes, whether it lives, its bytes, and the first of a heap block's units in its segment
 pub record Block : Type 0 where
   pub kind : BlockKind
   pub size : ℕ
@@ -270,8 +270,11 @@ abbrev pub greatest_number : ℕ
 greatest_number = 4294967295
 
 -- what a block of a size takes of its segment: whole units of 16 bytes, with its one-past address in the last
+abbrev pub units : ℕ → ℕ
+units size = size / 16 + 1
+
 abbrev pub rounded : ℕ → ℕ
-rounded size = 16 * (size / 16 + 1)
+rounded size = 16 * units size
 
 -- what the live stack blocks take
 abbrev pub stack_taken : Store → ℕ
@@ -283,3 +286,59 @@ abbrev pub full_at_stack_birth : Sizes → Store → ℕ → Option Segment
 full_at_stack_birth sizes store size =
     if nat_le greatest_number (length store) then Some segment.Numbers
     else (if nat_lt sizes.stack (stack_taken store + rounded size) then Some segment.Stack else None)
+
+-- ---- the heap (C99 7.20.3)
+
+abbrev pub is_heap : BlockKind → Bool
+is_heap Global = false
+is_heap Literal = false
+is_heap Stack = false
+is_heap Heap = true
+
+-- whether so many units from this one on meet no unit of a block
+abbrev pub is_apart : ℕ → ℕ → Block → Bool
+is_apart unit count b = nat_le (b.place + units b.size) unit || nat_le (unit + count) b.place
+
+-- whether they meet no live block of the heap
+abbrev pub is_free : Store → ℕ → ℕ → Bool
+is_free [] unit count = true
+is_free (b ∷ bs) unit count = (not (b.live && is_heap b.kind) || is_apart unit count b) && is_free bs unit count
+
+-- the least number from u on, of so many, that passes a test
+abbrev pub least : (ℕ → Bool) → ℕ → ℕ → Option ℕ
+least passes zero u = None
+least passes (suc k) u = if passes u then Some u else least passes k (suc u)
+
+-- the place of so many units in a segment of a length: the least from which on they are free and end within the segment
+unfoldable pub heap_place : ℕ → Store → ℕ → Option ℕ
+heap_place length store count = least (λ u. nat_le (u + count) length && is_free store u count) (suc length) 0
+
+-- where a block is born, or what is full
+pub data Room : Type 0 where
+  At : ℕ → Room
+  NoRoom : Segment → Room
+
+abbrev pub room_at : Option ℕ → Room
+room_at None = NoRoom segment.Heap
+room_at (Some place) = At place
+
+-- the room for a heap block of a size; numbers are asked for first
+abbrev pub heap_room : Sizes → Store → ℕ → Room
+heap_room sizes store size =
+    if nat_le greatest_number (length store) then NoRoom segment.Numbers else room_at (heap_place (sizes.heap / 16) store (units size))
+
+-- a new block on the heap that holds these bytes
+abbrev pub heap_block : ℕ → List Byte → Block
+heap_block place bytes = record (block_of Heap bytes) { place = place }
+
+-- a live block of the heap is dead
+abbrev pub freed_block : Option Block → Option Block
+freed_block None = None
+freed_block (Some b) = if b.live && is_heap b.kind then Some (record b { live = false }) else None
+
+-- the store after `free` of a pointer to the start of a live block of the heap; null is let be (C99 7.20.3.2)
+abbrev pub freed : Store → Pointer → Option Store
+freed store Null = Some store
+freed store (Into zero offset) = None
+freed store (Into (suc k) zero) = with_block store k (freed_block (slice_get store k))
+freed store (Into (suc k) (suc offset)) = None

@@ -1,5 +1,5 @@
 -- States of a run, how it ends, and how evaluations go on from one another (C99 5.1.2.3, 6.2.1, 6.8.6).
-use Rattle.std.specs.Prelude.{ℕ, zero, suc, ◌+◌, ◌%◌, ℤ, pos, negsuc, cond, nat_eq, nat_lt, List, [], ◌∷◌, ◌++◌, length, Option, Some, None}
+use Rattle.std.specs.Prelude.{ℕ, zero, suc, ◌+◌, ◌%◌, ℤ, pos, negsuc, cond, nat_eq, nat_lt, List, [], ◌∷◌, ◌++◌, length, replicate, Option, Some, None}
 use Rattle.c_syntax.specs.declared.place.Place.{Place}
 use Rattle.c_syntax.specs.declared.annotation.Kind.{Kind}
 use Rattle.c_syntax.specs.declared.types.How.{How}
@@ -10,8 +10,8 @@ use Rattle.c_syntax.specs.Programs.{StructType}
 use Rattle.c_syntax.specs.Statements.{Declaration}
 use Rattle.c_model.specs.Limits.{most_frames}
 use Rattle.c_model.specs.Layouts.{Scalar, size_of}
-use Rattle.c_model.specs.Memory.{Pointer, Into, Value, Integer, NoValue, Byte, new_block, Store, load, save, save_bytes, copy_all, tested_value, kill_from}
-use Rattle.c_model.specs.Memory.{standard_sizes, full_at_stack_birth}
+use Rattle.c_model.specs.Memory.{Pointer, Null, Into, Value, Integer, Points, NoValue, Byte, new_block, Store, load, save, save_bytes, copy_all, tested_value}
+use Rattle.c_model.specs.Memory.{kill_from, standard_sizes, full_at_stack_birth, Room, At, NoRoom, heap_room, heap_block}
 
 -- the number of the block of each declaration in sight, the innermost first (C99 6.2.1)
 abbrev pub Scope : Type 0
@@ -188,6 +188,15 @@ birth structs d = λ s. birth_of (full_at_stack_birth standard_sizes s.store (si
 abbrev pub births : List StructType → List Declaration → Evaluation (Unit {0})
 births structs [] = done
 births structs (d ∷ ds) = birth structs d >> births structs ds
+
+-- the birth of a heap block that holds these bytes, where there is room
+abbrev pub heap_birth : Room → List Byte → Evaluation Value
+heap_birth (NoRoom full) bytes = stop (Over (Full full))
+heap_birth (At place) bytes = λ s. Normal (Points (Into (length s.store + 1) 0)) (record s { store = s.store ++ heap_block place bytes ∷ [] })
+
+-- so many bytes of the heap, each of them this one: none give null and take no number (C99 7.20.3)
+abbrev pub allocate : ℕ → Byte → Evaluation Value
+allocate n b = cond (nat_eq n 0) (give (Points Null)) (λ s. heap_birth (heap_room standard_sizes s.store n) (replicate n b) s)
 
 -- the value of the youngest block
 abbrev pub write_youngest : Place → Scalar → Value → Evaluation (Unit {0})

@@ -1,7 +1,7 @@
 -- What is known of typed trees (C99 6.3, 6.5, 6.7, 6.8): each use denotes an object in sight of its type, operands have the types that
 -- their operator takes, a value is read where its type is scalar, what is written or pointed to is an object, and values go to objects
 -- of their type. And the law that typing changes nothing but types, casts and constants.
-use Rattle.std.specs.Prelude.{◌≡◌, ℕ, ◌+◌, ℤ, pos, Bool, true, false, cond, List, [], ◌∷◌, length, Option, Some, None, slice_get, codes}
+use Rattle.std.specs.Prelude.{◌≡◌, ℕ, ◌+◌, ℤ, pos, true, false, cond, List, [], ◌∷◌, length, Option, Some, None, slice_get, codes}
 use Rattle.std.specs.Prelude.{bytes_eq, nat_le, nat_eq}
 use Rattle.c_syntax.specs.declared.place.Place.{Place}
 use Rattle.c_syntax.specs.declared.types.CInt.{CInt}
@@ -24,7 +24,8 @@ use Rattle.c_model.specs.Layouts.{Scalar, scalar_of, size_of, members_of, member
 use Rattle.c_model.specs.Meaning.{parts_or_itself, string_in}
 use Rattle.c_model.specs.Library.{is_library_name}
 use Rattle.c_model.specs.ExpressionTyping.{Object, AnObject, Signature, Sight, name_at, or_else, entity_named, function_called, library_function}
-use Rattle.c_model.specs.ExpressionTyping.{HasSize, sized, most_bytes, constant, tables_in, is_step, is_difference, is_place, with_object}
+use Rattle.c_model.specs.ExpressionTyping.{HasSize, sized, most_bytes, constant, tables_in, is_step, is_difference, is_place, has_object, is_struct}
+use Rattle.c_model.specs.ExpressionTyping.{with_object}
 use Rattle.c_model.specs.ExpressionTyping.{inner, declared_here, is_character, Enumerator, AnEnumerator, use_as, typed}
 use Rattle.c_model.specs.Checked.{Good}
 use Rattle.c_model.specs.UnitTyping.{with_parameter, with_parameters}
@@ -67,12 +68,6 @@ pub record HasKnownSize (s : Sight) (t : PlainType) : Type 0 where
   pub small : nat_le (size_of s.structs t) most_bytes ≡ true
 
 -- ---- what designates an object (C99 6.3.2.1)
-
--- an expression whose value stands in an object: one that designates an object, or a comma with such a right operand
-abbrev pub has_object : Expression → Bool
-has_object (Node at t (Comma a b)) = has_object b
-has_object (Node at t (Dot a m)) = has_object a
-has_object e = is_place e
 
 -- a use of an object in sight, whose type this is
 pub record Denotes (s : Sight) (x : Use) (t : PlainType) : Type 0 where
@@ -132,6 +127,11 @@ pub data IndexTypes (s : Sight) (t u v : PlainType) : Type 0 where
   OnTheLeft : u ≡ Ptr t → sized s.structs t ≡ HasSize → IsInteger v → IndexTypes s t u v
   OnTheRight : IsInteger u → v ≡ Ptr t → sized s.structs t ≡ HasSize → IndexTypes s t u v
 
+-- `a = b` of a type: a scalar takes a value, and a struct whose members are known takes what stands in an object (C99 6.5.16.1 p1)
+pub data Assigns (s : Sight) (t : PlainType) (b : Expression) : Type 0 where
+  ToScalar : IsScalar t → Assigns s t b
+  ToStruct : is_struct t ≡ true → sized s.structs t ≡ HasSize → has_object b ≡ true → Assigns s t b
+
 -- `a op= b`, and `++` and `--` where b has the type `int` (C99 6.5.2.4, 6.5.3.1, 6.5.16.2)
 pub data CompoundTypes (s : Sight) (op : BinOp) (t u : PlainType) : Type 0 where
   ToInteger : IsInteger t → IsInteger u → CompoundTypes s op t u
@@ -184,7 +184,7 @@ abbrev mutual
   WellTyped s (Node at t (Choice a b c)) =
       WellTyped s a × WellTyped s b × WellTyped s c × IsScalar (type_of a) × (type_of b ≡ t) × (type_of c ≡ t)
   WellTyped s (Node at t (Assign None a b)) =
-      WellTyped s a × WellTyped s b × (is_place a ≡ true) × IsScalar t × (type_of a ≡ t) × (type_of b ≡ t)
+      WellTyped s a × WellTyped s b × (is_place a ≡ true) × (type_of a ≡ t) × (type_of b ≡ t) × Assigns s t b
   WellTyped s (Node at t (Assign (Some op) a b)) =
       WellTyped s a × WellTyped s b × (is_place a ≡ true) × (type_of a ≡ t) × CompoundTypes s op t (type_of b)
   WellTyped s (Node at t (Bump op a)) = WellTyped s a × (is_place a ≡ true) × (type_of a ≡ t) × CompoundTypes s operator.Add t int_type

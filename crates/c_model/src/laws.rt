@@ -3,6 +3,9 @@
 ghost use Rattle.c_model.specs.Laws.{BitsHoldValues, FittingResultsStand, SignedResultsFit, UnsignedResultsWrap, ResultsFit};
 ghost use Rattle.c_model.specs.Laws.{ConversionsFit, ConversionsKeepValues, OperatorsFit, OperatorsOfOneFit};
 ghost use Rattle.c_model.specs.Laws.{SavedPointersLoad, SavedValuesLoad, SavesKeepBlocks, SavesKeepBytes, SavesKeepWhole, StatementsKeepWhole};
+ghost use Rattle.c_model.specs.HeapLaws.{HeapPlacesFit, HeapPlacesAreLeast, FullHeapsHaveNoPlace, HeapsWithNoPlaceAreFull, NumbersComeFirst};
+ghost use Rattle.c_model.specs.HeapLaws.{AllocatedBlocksAreNew, NoBytesGiveNull, FreedBlocksDie, LiveBlocksCanBeFreed, FreeLetsNullBe, DeadBlocksHaveNoUse};
+ghost use Rattle.c_model.specs.HeapLaws.{StatementsKeepBlocks, StatementsKeepPlaces, ScalarsStandInOrder, AssignedStructsAreCopies, AssignedStructsKeepTheRest};
 ghost use Rattle.c_model.specs.Laws.{FuelIsEnough, StepsFall, LoopsTurn, DoLoopsTurn, ForLoopsTurn, RunsNeedNoFuel, RunsSpendSteps, OutputGrows};
 ghost use Rattle.c_model.specs.Laws.{ProgramsNeverFault, AgreementIsReflexive, AgreementIsTransitive};
 
@@ -28,6 +31,32 @@ pub fn memory()
     ensures bytes { SavesKeepBytes }
     ensures whole { SavesKeepWhole }
     ensures statements { StatementsKeepWhole }
+{}
+
+/// The heap: a block is born at the least place where its units end within the heap and meet no live block of it, and the heap
+/// is full where there is none. What is allocated is a new block; what is freed is dead, and a dead block has no use. Along a run
+/// each block keeps its number, kind, size and place, and the live ones of the heap stay apart.
+pub fn heap()
+    ensures fit { HeapPlacesFit }
+    ensures least { HeapPlacesAreLeast }
+    ensures full { FullHeapsHaveNoPlace }
+    ensures only { HeapsWithNoPlaceAreFull }
+    ensures numbers { NumbersComeFirst }
+    ensures new { AllocatedBlocksAreNew }
+    ensures null { NoBytesGiveNull }
+    ensures freed { FreedBlocksDie }
+    ensures freeable { LiveBlocksCanBeFreed }
+    ensures let_be { FreeLetsNullBe }
+    ensures dead { DeadBlocksHaveNoUse }
+    ensures kept { StatementsKeepBlocks }
+    ensures places { StatementsKeepPlaces }
+{}
+
+/// Struct assignment: each scalar of the target has the bytes, their kinds and the value of the source's, and no other byte changes.
+pub fn struct_assignment()
+    ensures order { ScalarsStandInOrder }
+    ensures copies { AssignedStructsAreCopies }
+    ensures rest { AssignedStructsKeepTheRest }
 {}
 
 /// Runs: more turns and deeper calls than steps change nothing, no step is gained, and the output only grows.
