@@ -24,13 +24,19 @@ use Rattle.mon_syntax.proofs.FlatOperators.{pointed_alike}
 use Rattle.mon_syntax.proofs.FlatNumbers.{number_alike}
 use Rattle.mon_syntax.proofs.FlatFrames.{Answers, enter_alike, leave_alike}
 use Rattle.mon_syntax.proofs.FlatStack.{store_block_alike, delete_block_alike}
+use Rattle.mon_syntax.proofs.FlatHeap.{malloc_alike, calloc_alike, free_alike}
+use Rattle.mon_syntax.proofs.FlatCopies.{copy_alike}
 use Rattle.mon_syntax.proofs.FlatStart.{both_start}
 
 act_alike : (w : World) (f : MemoryCall) (xs : List Value) (ys : List ℤ) (m : Blocks) (n : Flat) → AllKept (Same w) xs ys → Holds w m n
     → Answers w (act_on_blocks f xs m) (act_on_flat f ys n)
 act_alike w call.StoreBlock xs ys m n k h = store_block_alike w xs ys m n k h
 act_alike w call.DeleteBlock xs ys m n k h = delete_block_alike w xs ys m n k h
+act_alike w (call.Copy a) xs ys m n k h = copy_alike w a xs ys m n k h
 act_alike w (call.Number a) xs ys m n k h = number_alike w a xs ys m n k h
+act_alike w call.Malloc xs ys m n k h = malloc_alike w xs ys m n k h
+act_alike w call.Calloc xs ys m n k h = calloc_alike w xs ys m n k h
+act_alike w call.Free xs ys m n k h = free_alike w xs ys m n k h
 
 pub flat_follows_blocks : Follows over_blocks over_flat
 flat_follows_blocks = record {

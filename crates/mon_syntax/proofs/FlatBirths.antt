@@ -4,12 +4,12 @@ use Rattle.std.proofs.Common.{slice_get, refl, sym, ap, ap₂, ◌∙◌, subst,
 use Rattle.std.proofs.lemmas.List.{take-append-le, take_at}
 use Rattle.std.proofs.lemmas.Option.{same_Some, slice_get_within}
 use Rattle.c_syntax.specs.declared.types.BlockKind.{BlockKind}
-use Rattle.c_model.specs.Memory.{Unwritten, Block, is_stack, greatest_number, rounded}
+use Rattle.c_model.specs.Memory.{Unwritten, Block, is_stack, is_heap, greatest_number, rounded}
 use Rattle.shadow_segments.specs.declared.BlockNote.{BlockNote}
 use Rattle.shadow_segments.specs.Shadow as shadow
 use Rattle.shadow_segments.specs.Shadow.{units, filled}
 use Rattle.mon_syntax.specs.declared.spot.RegionName.{RegionName}
-use Rattle.mon_syntax.specs.declared.spot.RegionName.TheVariants.{Stack}
+use Rattle.mon_syntax.specs.declared.spot.RegionName.TheVariants.{Stack, Heap}
 use Rattle.mon_syntax.specs.Flat.{Flat, pointer_to}
 use Rattle.mon_syntax.specs.BlockMemory.{Blocks}
 use Rattle.mon_syntax.proofs.FlatRelation.{region_of, most_bytes, Place, World, Later, PointsTo, SameByte, Head, head_of, heads, is_on_stack, units_taken, note_of, notes_in, marks_in, bytes_in, Apart, Lain, Owner, Laid, Held, Holds}
@@ -22,16 +22,18 @@ use Rattle.mon_syntax.proofs.FlatWorlds.{byte_later}
 abbrev pub place_for : BlockKind → ℕ → ℕ → Place
 place_for k u n = record { name = region_of k; unit = u; size = n }
 
-abbrev pub head_for : BlockKind → ℕ → Head
-head_for k n = record { kind = k; size = n; live = true }
+abbrev pub head_for : BlockKind → ℕ → ℕ → Head
+head_for k n stands = record { kind = k; size = n; live = true; place = stands }
 
--- a block of a kind and a size may be born at a unit: there is a number and room for it, it meets no live block, and on the stack it stands at the top
-pub record MayBeBorn (w : World) (hs : List Head) (f : Flat) (k : BlockKind) (u n : ℕ) : Type 0 where
+-- a block of a kind and a size may be born at a unit: there is a number and room for it, it meets no live block, on the stack it stands at the top,
+-- and on the heap where it says
+pub record MayBeBorn (w : World) (hs : List Head) (f : Flat) (k : BlockKind) (u n stands : ℕ) : Type 0 where
   pub number : length hs < greatest_number
   pub room : u + units n ≤ length (notes_in f (region_of k))
   pub alone : (b : ℕ) (h : Head) (p : Place) → slice_get hs b ≡ Some h → slice_get w b ≡ Some p → h.live ≡ true → p.name ≡ region_of k
       → (p.unit + units p.size ≤ u) ⊎ (u + units n ≤ p.unit)
   pub on_top : is_stack k ≡ true → u ≡ units_taken hs
+  pub placed : is_heap k ≡ true → u ≡ stands
 
 -- the memory after the birth: its units have the record, and all other units and their bytes stay
 pub record IsBorn (f g : Flat) (k : BlockKind) (u n : ℕ) : Type 0 where
@@ -64,12 +66,12 @@ turned p q (inr (inr a)) = inr (inl a)
 
 -- ---- all but the bytes
 
-module _ (w : World) (hs : List Head) (f g : Flat) (k : BlockKind) (u n : ℕ) (l : Laid w hs f) (may : MayBeBorn w hs f k u n) (is : IsBorn f g k u n) where
+module _ (w : World) (hs : List Head) (f g : Flat) (k : BlockKind) (u n stands : ℕ) (l : Laid w hs f) (may : MayBeBorn w hs f k u n stands) (is : IsBorn f g k u n) where
   abbrev place : Place
   place = place_for k u n
 
   abbrev head : Head
-  head = head_for k n
+  head = head_for k n stands
 
   abbrev grown : World
   grown = w ++ place ∷ []
@@ -104,9 +106,9 @@ module _ (w : World) (hs : List Head) (f g : Flat) (k : BlockKind) (u n : ℕ) (
   lain_after : (b : ℕ) (h : Head) (p : Place) → Was b h → slice_get grown b ≡ Some p → h.live ≡ true → Lain p h g
   lain_after b h p (inl at) pl live =
       let o = l.lain b h p at (old_place b h p at pl) live in
-      record { size = o.size; name = o.name; inside = subst (λ z. p.unit + units p.size ≤ z) (sym (long_stays p.name)) o.inside }
+      record { size = o.size; name = o.name; inside = subst (λ z. p.unit + units p.size ≤ z) (sym (long_stays p.name)) o.inside; placed = o.placed }
   lain_after b h p (inr e) pl live =
-      subst (λ z. Lain z h g) (sym (new_place b p e.0 pl)) (subst (λ z. Lain place z g) (sym e.1) (record { size = refl; name = refl; inside = subst (λ z. u + units n ≤ z) (sym (long_stays (region_of k))) may.room }))
+      subst (λ z. Lain z h g) (sym (new_place b p e.0 pl)) (subst (λ z. Lain place z g) (sym e.1) (record { size = refl; name = refl; inside = subst (λ z. u + units n ≤ z) (sym (long_stays (region_of k))) may.room; placed = may.placed }))
 
   tight_after : (b : ℕ) (h : Head) (p : Place) → Was b h → slice_get grown b ≡ Some p → is_on_stack h ≡ true → p.unit ≡ units_taken (take b (hs ++ head ∷ []))
   tight_after b h p (inl at) pl live =
@@ -200,7 +202,7 @@ module _ (w : World) (hs : List Head) (f g : Flat) (k : BlockKind) (u n : ℕ) (
 
 -- ---- the bytes
 
-module _ (w : World) (m : Blocks) (f g : Flat) (k : BlockKind) (u n : ℕ) (h : Holds w m f) (may : MayBeBorn w (heads m.store) f k u n) (is : IsBorn f g k u n) where
+module _ (w : World) (m : Blocks) (f g : Flat) (k : BlockKind) (u n stands : ℕ) (h : Holds w m f) (may : MayBeBorn w (heads m.store) f k u n stands) (is : IsBorn f g k u n) where
   abbrev place_new : Place
   place_new = place_for k u n
 
@@ -215,7 +217,7 @@ module _ (w : World) (m : Blocks) (f g : Flat) (k : BlockKind) (u n : ℕ) (h : 
       let hd = head_at m.store b c at in
       let o = h.held b c p at pl live in
       let lain = (h.laid.lain b (head_of c) p hd pl live).size in
-      let part = apart_new w (heads m.store) f g k u n h.laid may is b (head_of c) p hd pl live in
+      let part = apart_new w (heads m.store) f g k u n stands h.laid may is b (head_of c) p hd pl live in
       record {
         size = o.size;
         bytes = λ i lt.
@@ -228,17 +230,18 @@ module _ (w : World) (m : Blocks) (f g : Flat) (k : BlockKind) (u n : ℕ) (h : 
   held_after : (new : Block) → Held world_new place_new new g → (b : ℕ) (c : Block) (p : Place) → (slice_get m.store b ≡ Some c) ⊎ ((b ≡ length m.store) × (c ≡ new))
       → slice_get world_new b ≡ Some p → c.live ≡ true → Held world_new p c g
   held_after new own b c p (inl at) pl live =
-      held_before b c p at (old_place w (heads m.store) f g k u n h.laid may is b (head_of c) p (head_at m.store b c at) pl) live
+      held_before b c p at (old_place w (heads m.store) f g k u n stands h.laid may is b (head_of c) p (head_at m.store b c at) pl) live
   held_after new own b c p (inr e) pl live =
-      subst (λ z. Held world_new z c g) (sym (new_place w (heads m.store) f g k u n h.laid may is b p (e.0 ∙ sym (length-heads m.store)) pl))
+      subst (λ z. Held world_new z c g) (sym (new_place w (heads m.store) f g k u n stands h.laid may is b p (e.0 ∙ sym (length-heads m.store)) pl))
       (subst (λ z. Held world_new place_new z g) (sym e.1) own)
 
   -- a block is born whose bytes are there
-  pub born : (new : Block) → head_of new ≡ head_for k n → Held world_new place_new new g → Holds world_new (record m { store = m.store ++ new ∷ [] }) g
+  pub born : (new : Block) → head_of new ≡ head_for k n stands → Held world_new place_new new g → Holds world_new (record m { store = m.store ++ new ∷ [] }) g
   born new same own = record {
     frames = h.frames ∙ sym is.frames;
     most = is.most_frames ∙ h.most;
-    stack = long_stays w (heads m.store) f g k u n h.laid may is Stack ∙ h.stack;
-    laid = subst (λ z. Laid world_new z g) (sym (heads_append m.store new ∙ ap (λ z. heads m.store ++ z ∷ []) same)) (laid_born w (heads m.store) f g k u n h.laid may is);
+    stack = long_stays w (heads m.store) f g k u n stands h.laid may is Stack ∙ h.stack;
+    heap = long_stays w (heads m.store) f g k u n stands h.laid may is Heap ∙ h.heap;
+    laid = subst (λ z. Laid world_new z g) (sym (heads_append m.store new ∙ ap (λ z. heads m.store ++ z ∷ []) same)) (laid_born w (heads m.store) f g k u n stands h.laid may is);
     held = λ b c p at pl live. held_after new own b c p (get_last m.store new b c at) pl live;
   }

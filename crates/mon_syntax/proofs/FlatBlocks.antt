@@ -1,6 +1,7 @@
 -- The blocks that live on the stack, the youngest first: what births and deaths do to their list.
-use Rattle.std.proofs.Common.{◌≡◌, ℕ, zero, suc, ◌+◌, ◌<◌, Bool, true, false, if◌then◌else◌, List, [], ◌∷◌, ◌++◌, length, Option, Some, None, slice_get, refl, sym, ap, ◌∙◌, arith}
+use Rattle.std.proofs.Common.{◌≡◌, ℕ, zero, suc, ◌+◌, ◌<◌, Bool, true, false, if◌then◌else◌, List, [], ◌∷◌, ◌++◌, length, Option, Some, None, slice_get, slice_set, refl, sym, ap, ◌∙◌, arith}
 use Rattle.std.proofs.lemmas.Bool.{eqb-true}
+use Rattle.std.proofs.lemmas.Option.{none-some, same_Some}
 use Rattle.c_syntax.specs.declared.types.BlockKind.TheVariants.{Stack}
 use Rattle.c_model.specs.Memory.{Block, Store, new_block, rounded, stack_taken}
 use Rattle.mon_syntax.specs.BlockMemory.{is_live_on_stack, youngest_from, youngest, is_index, dead_at}
@@ -117,3 +118,50 @@ found_index k (Some i) e = ap Some (sym (eqb-true k i e))
 -- where the block with the index k is the youngest live one of the stack
 pub dies : (store : Store) (k : ℕ) → is_index k (youngest store) ≡ true → Dies 0 k store []
 dies store k e = dies_at 0 k store None [] tt (found_index k (youngest store) e ∙ ap Some (omega arith))
+
+-- ---- blocks that don't live on the stack, as those of the heap
+
+live_from-beside : (k : ℕ) (bs : Store) (b : Block) (found : List LiveBlock) → is_live_on_stack b ≡ false → live_from k (bs ++ b ∷ []) found ≡ live_from k bs found
+live_from-beside k [] b found off = ap (λ t. if t then noted (suc k) b ∷ found else found) off
+live_from-beside k (c ∷ bs) b found off = live_from-beside (suc k) bs b (if is_live_on_stack c then noted (suc k) c ∷ found else found) off
+
+live_from-set : (k i : ℕ) (bs : Store) (b c : Block) (found : List LiveBlock) → slice_get bs i ≡ Some b → is_live_on_stack b ≡ false → is_live_on_stack c ≡ false
+    → live_from k (slice_set bs i c) found ≡ live_from k bs found
+live_from-set k i [] b c found at off gone = absurd (none-some b at)
+live_from-set k zero (x ∷ bs) b c found at off gone =
+    let was : is_live_on_stack x ≡ false = ap is_live_on_stack (same_Some x b at) ∙ off in
+    ap (λ t. live_from (suc k) bs (if t then noted (suc k) c ∷ found else found)) gone ∙ sym (ap (λ t. live_from (suc k) bs (if t then noted (suc k) x ∷ found else found)) was)
+live_from-set k (suc i) (x ∷ bs) b c found at off gone = live_from-set (suc k) i bs b c (if is_live_on_stack x then noted (suc k) x ∷ found else found) at off gone
+
+-- their births and deaths leave the list
+pub live-beside : (store : Store) (b : Block) → is_live_on_stack b ≡ false → live_in (store ++ b ∷ []) ≡ live_in store
+live-beside store b off = live_from-beside 0 store b [] off
+
+pub live-set : (store : Store) (i : ℕ) (b c : Block) → slice_get store i ≡ Some b → is_live_on_stack b ≡ false → is_live_on_stack c ≡ false → live_in (slice_set store i c) ≡ live_in store
+live-set store i b c at off gone = live_from-set 0 i store b c [] at off gone
+
+youngest_from-beside : (k : ℕ) (bs : Store) (b : Block) (found : Option ℕ) → is_live_on_stack b ≡ false → youngest_from k (bs ++ b ∷ []) found ≡ youngest_from k bs found
+youngest_from-beside k [] b found off = ap (λ t. if t then Some k else found) off
+youngest_from-beside k (c ∷ bs) b found off = youngest_from-beside (suc k) bs b (if is_live_on_stack c then Some k else found) off
+
+youngest_from-set : (k i : ℕ) (bs : Store) (b c : Block) (found : Option ℕ) → slice_get bs i ≡ Some b → is_live_on_stack b ≡ false → is_live_on_stack c ≡ false
+    → youngest_from k (slice_set bs i c) found ≡ youngest_from k bs found
+youngest_from-set k i [] b c found at off gone = absurd (none-some b at)
+youngest_from-set k zero (x ∷ bs) b c found at off gone =
+    let was : is_live_on_stack x ≡ false = ap is_live_on_stack (same_Some x b at) ∙ off in
+    ap (λ t. youngest_from (suc k) bs (if t then Some k else found)) gone ∙ sym (ap (λ t. youngest_from (suc k) bs (if t then Some k else found)) was)
+youngest_from-set k (suc i) (x ∷ bs) b c found at off gone = youngest_from-set (suc k) i bs b c (if is_live_on_stack x then Some k else found) at off gone
+
+-- and the youngest one of the stack
+pub youngest-beside : (store : Store) (b : Block) → is_live_on_stack b ≡ false → youngest (store ++ b ∷ []) ≡ youngest store
+youngest-beside store b off = youngest_from-beside 0 store b None off
+
+pub youngest-set : (store : Store) (i : ℕ) (b c : Block) → slice_get store i ≡ Some b → is_live_on_stack b ≡ false → is_live_on_stack c ≡ false → youngest (slice_set store i c) ≡ youngest store
+youngest-set store i b c at off gone = youngest_from-set 0 i store b c None at off gone
+
+-- and what the stack takes
+pub taken-beside : (store : Store) (b : Block) → is_live_on_stack b ≡ false → stack_taken (store ++ b ∷ []) ≡ stack_taken store
+taken-beside store b off = sym (taken-live (store ++ b ∷ [])) ∙ ap taken_by (live-beside store b off) ∙ taken-live store
+
+pub taken-set : (store : Store) (i : ℕ) (b c : Block) → slice_get store i ≡ Some b → is_live_on_stack b ≡ false → is_live_on_stack c ≡ false → stack_taken (slice_set store i c) ≡ stack_taken store
+taken-set store i b c at off gone = sym (taken-live (slice_set store i c)) ∙ ap taken_by (live-set store i b c at off gone) ∙ taken-live store

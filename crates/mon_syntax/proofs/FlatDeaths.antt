@@ -8,7 +8,7 @@ use Rattle.shadow_segments.specs.declared.BlockNote.{BlockNote}
 use Rattle.shadow_segments.specs.Shadow as shadow
 use Rattle.shadow_segments.specs.Shadow.{units, filled}
 use Rattle.mon_syntax.specs.declared.spot.RegionName.{RegionName}
-use Rattle.mon_syntax.specs.declared.spot.RegionName.TheVariants.{Stack}
+use Rattle.mon_syntax.specs.declared.spot.RegionName.TheVariants.{Stack, Heap}
 use Rattle.mon_syntax.specs.Flat.{Flat}
 use Rattle.mon_syntax.specs.BlockMemory.{Blocks}
 use Rattle.mon_syntax.proofs.FlatRelation.{most_bytes, Place, World, SameByte, Head, head_of, heads, is_on_stack, units_taken, notes_in, marks_in, bytes_in, Owner, Laid, Held, Holds}
@@ -16,7 +16,7 @@ use Rattle.mon_syntax.proofs.FlatLists.{get_other, get_after_set, head_at, heads
 use Rattle.mon_syntax.proofs.FlatNotes.{Elsewhere, where_is, apart_units, units_stay, note_elsewhere, note_here}
 
 abbrev pub dead_head : Head → Head
-dead_head h = record { kind = h.kind; size = h.size; live = false }
+dead_head h = record { kind = h.kind; size = h.size; live = false; place = h.place }
 
 abbrev pub dead_block : Block → Block
 dead_block k = record k { live = false }
@@ -95,7 +95,7 @@ module _ (w : World) (hs : List Head) (f g : Flat) (l : Laid w hs f) (index : �
     lain = λ a i q x y il.
         let r = lived hs index a h i at x il in
         let o = l.lain a i q r.0 y il in
-        record { size = o.size; name = o.name; inside = subst (λ z. q.unit + units q.size ≤ z) (sym (long_stays q.name)) o.inside };
+        record { size = o.size; name = o.name; inside = subst (λ z. q.unit + units q.size ≤ z) (sym (long_stays q.name)) o.inside; placed = o.placed };
     tight = λ a i q x y on. let r = lived hs index a h i at x (and_parts i.live (is_stack i.kind) on).0 in l.tight a i q r.0 y on ∙ sym (tight.before a i r.0 on r.1);
     noted = λ a i q x y il j lt.
         let r = lived hs index a h i at x il in
@@ -129,6 +129,7 @@ module _ (w : World) (m : Blocks) (f g : Flat) (h : Holds w m f) (index : ℕ) (
     frames = h.frames ∙ sym is.frames;
     most = is.most_frames ∙ h.most;
     stack = long_stays w (heads m.store) f g h.laid index (head_of k) p (head_at m.store index k at) live pl is tight Stack ∙ h.stack;
+    heap = long_stays w (heads m.store) f g h.laid index (head_of k) p (head_at m.store index k at) live pl is tight Heap ∙ h.heap;
     laid = subst (λ z. Laid w z g) (sym (heads_set m.store index (dead_block k))) (laid_died w (heads m.store) f g h.laid index (head_of k) p (head_at m.store index k at) live pl is tight);
     held = λ a c q e aq cl. held_after a c q (get_after_set m.store index a k (dead_block k) c at e) aq cl;
   }

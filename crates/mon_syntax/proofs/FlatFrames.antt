@@ -35,7 +35,7 @@ module _ (w : World) (m : Blocks) (f g : Flat) (regions : (name : RegionName) �
     small = λ name. subst (λ r. 16 * length r.shadow.notes ≤ most_bytes name) (sym (regions name)) (l.small name);
     lain = λ b i p at pl live.
         let o = l.lain b i p at pl live in
-        record { size = o.size; name = o.name; inside = subst (λ r. p.unit + units p.size ≤ length r.shadow.notes) (sym (regions p.name)) o.inside };
+        record { size = o.size; name = o.name; inside = subst (λ r. p.unit + units p.size ≤ length r.shadow.notes) (sym (regions p.name)) o.inside; placed = o.placed };
     tight = l.tight;
     noted = λ b i p at pl live j lt. ap (λ r. get_or r.shadow.notes (p.unit + j) None) (regions p.name) ∙ l.noted b i p at pl live j lt;
     only = λ name u n e. l.only name u n (ap (λ r. get_or r.shadow.notes u None) (sym (regions name)) ∙ e);
@@ -54,6 +54,7 @@ with_frames w m f j k e h = record {
   frames = e;
   most = h.most;
   stack = h.stack;
+  heap = h.heap;
   laid = laid_same w m f (record f { frames = k }) same refl refl h;
   held = held_same w m f (record f { frames = k }) same refl refl h;
 }

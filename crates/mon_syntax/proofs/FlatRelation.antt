@@ -3,7 +3,7 @@ use Rattle.std.proofs.Common.{◌≡◌, ◌≢◌, ℕ, zero, suc, ◌+◌, ◌
 use Rattle.std.proofs.Common.{Option, Some, None, map, take, get_or, slice_get}
 use Rattle.c_syntax.specs.declared.types.BlockKind.{BlockKind}
 use Rattle.c_syntax.specs.declared.types.BlockKind.TheVariants as kind
-use Rattle.c_model.specs.Memory.{Pointer, Null, Into, Value, Integer, Points, NoValue, Byte, Unwritten, Number, Piece, LoosePiece, Block, Store, is_stack, greatest_number}
+use Rattle.c_model.specs.Memory.{Pointer, Null, Into, Value, Integer, Points, NoValue, Byte, Unwritten, Number, Piece, LoosePiece, Block, Store, is_stack, is_heap, greatest_number}
 use Rattle.shadow_segments.specs.declared.BlockNote.{BlockNote}
 use Rattle.shadow_segments.specs.Shadow as shadow
 use Rattle.shadow_segments.specs.Shadow.{Mark, NumberByte, PieceByte, LooseByte, units}
@@ -81,14 +81,15 @@ SameByte w LoosePiece m x = m ≡ LooseByte
 
 -- ---- the relation: first all but the bytes of blocks, which a store doesn't touch
 
--- what is known of a block beside its bytes
+-- what is known of a block beside its bytes; the place is a heap block's
 pub record Head : Type 0 where
   pub kind : BlockKind
   pub size : ℕ
   pub live : Bool
+  pub place : ℕ
 
 abbrev pub head_of : Block → Head
-head_of b = record { kind = b.kind; size = b.size; live = b.live }
+head_of b = record { kind = b.kind; size = b.size; live = b.live; place = b.place }
 
 abbrev pub heads : Store → List Head
 heads s = map head_of s
@@ -123,6 +124,7 @@ pub record Lain (p : Place) (h : Head) (f : Flat) : Type 0 where
   pub size : p.size ≡ h.size
   pub name : p.name ≡ region_of h.kind
   pub inside : p.unit + units p.size ≤ length (notes_in f p.name)
+  pub placed : is_heap h.kind ≡ true → p.unit ≡ h.place
 
 -- the live block of which a record is
 pub record Owner (w : World) (hs : List Head) (name : RegionName) (u : ℕ) (n : BlockNote) : Type 0 where
@@ -166,5 +168,6 @@ pub record Holds (w : World) (m : Blocks) (f : Flat) : Type 0 where
   pub frames : m.frames ≡ f.frames
   pub most : f.most_frames ≡ 65536
   pub stack : length (notes_in f Stack) ≡ 65536
+  pub heap : length (notes_in f Heap) ≡ 1048576
   pub laid : Laid w (heads m.store) f
   pub held : (b : ℕ) (k : Block) (p : Place) → slice_get m.store b ≡ Some k → slice_get w b ≡ Some p → k.live ≡ true → Held w p k f

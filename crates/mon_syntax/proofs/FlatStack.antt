@@ -2,7 +2,7 @@
 use Rattle.std.proofs.Common.{◌≡◌, ◌≢◌, ℕ, zero, suc, ◌+◌, ◌*◌, ◌<◌, ◌≤◌, inl, ℤ, pos, Bool, true, false, ◌&&◌, nat_eq, nat_lt, nat_le, if◌then◌else◌, List, [], ◌∷◌, ◌++◌, length}
 use Rattle.std.proofs.Common.{Some, None, take, get_or, slice_get, refl, sym, ap, ap₂, ◌∙◌, subst, arith}
 use Rattle.std.proofs.lemmas.List.{length-replicate, get_or-replicate}
-use Rattle.std.proofs.lemmas.Bool.{eq-eqb, leb-false, ltb-false, and_from, and_parts}
+use Rattle.std.proofs.lemmas.Bool.{false≢true, eq-eqb, leb-false, ltb-false, and_from, and_parts}
 use Rattle.c_syntax.specs.declared.types.BlockKind.{BlockKind}
 use Rattle.c_syntax.specs.declared.types.BlockKind.TheVariants as kind
 use Rattle.c_syntax.specs.declared.types.Segment.TheVariants as segment
@@ -61,7 +61,7 @@ module _ (w : World) (m : Blocks) (f : Flat) (n : ℕ) (h : Holds w m f) (number
   kind_of_stack kind.Stack e = refl
   kind_of_stack kind.Heap e = absurd cc
 
-  may : MayBeBorn w (heads m.store) f kind.Stack unit n
+  may : MayBeBorn w (heads m.store) f kind.Stack unit n 0
   may = record {
     number = let long = length-heads m.store in omega (arith, long, number);
     room = room_there;
@@ -73,6 +73,7 @@ module _ (w : World) (m : Blocks) (f : Flat) (n : ℕ) (h : Holds w m f) (number
         let size = o.size in
         inl (omega (arith, tight, under, size));
     on_top = λ t. refl;
+    placed = λ no. absurd (false≢true no);
   }
 
   note_is : note_for f kind.Stack f.top n ≡ new_note f kind.Stack unit n
@@ -103,8 +104,8 @@ module _ (w : World) (m : Blocks) (f : Flat) (n : ℕ) (h : Holds w m f) (number
   stack_birth = (
     w ++ at_top ∷ [],
     record { more = at_top ∷ []; is = refl },
-    (pointer_to (f.births + 1) Stack f.top, refl, new_pointer w (heads m.store) f grown kind.Stack unit n h.laid may stack_born (length m.store + 1) f.top (let long = length-heads m.store in omega (arith, long)) top_is),
-    birth.born w m f grown kind.Stack unit n h may stack_born (new_block kind.Stack n) refl unwritten,
+    (pointer_to (f.births + 1) Stack f.top, refl, new_pointer w (heads m.store) f grown kind.Stack unit n 0 h.laid may stack_born (length m.store + 1) f.top (let long = length-heads m.store in omega (arith, long)) top_is),
+    birth.born w m f grown kind.Stack unit n 0 h may stack_born (new_block kind.Stack n) refl unwritten,
   )
 
 -- what each side answers, where no number is left (t), or no room (u)

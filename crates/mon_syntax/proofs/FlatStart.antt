@@ -7,7 +7,7 @@ use Rattle.std.proofs.lemmas.List.{append-nil, append_assoc, length-replicate}
 use Rattle.std.proofs.lemmas.Option.{none-some}
 use Rattle.c_syntax.specs.declared.types.BlockKind.{BlockKind}
 use Rattle.c_model.specs.Limits.{globals_bytes}
-use Rattle.c_model.specs.Memory.{Into, Points, is_stack, rounded}
+use Rattle.c_model.specs.Memory.{Into, Points, is_stack, is_heap, rounded}
 use Rattle.shadow_segments.specs.declared.BlockNote.{BlockNote}
 use Rattle.shadow_segments.specs.Shadow.{Unwritten}
 use Rattle.shadow_segments.specs.Shadow.{units as units_of}
@@ -72,11 +72,12 @@ module _ (g s h most : ℕ) (gu su hu : ℕ) (ag : AreUnits g gu Globals) (as' :
   only Stack u n e = absurd (no_note (s / 16) u n e)
   only Heap u n e = absurd (no_note (h / 16) u n e)
 
-  empty_holds : most ≡ 65536 → su ≡ 65536 → Holds [] nothing empty
-  empty_holds em es = record {
+  empty_holds : most ≡ 65536 → su ≡ 65536 → hu ≡ 1048576 → Holds [] nothing empty
+  empty_holds em es eh = record {
     frames = refl;
     most = em;
     stack = units_in s su Stack as' ∙ es;
+    heap = units_in h hu Heap ah ∙ eh;
     laid = record {
       count = refl;
       births = refl;
@@ -97,7 +98,7 @@ module _ (g s h most : ℕ) (gu su hu : ℕ) (ag : AreUnits g gu Globals) (as' :
 nothing_holds : Holds [] nothing flat_nothing
 nothing_holds =
     empty_holds 1048576 1048576 16777216 65536 65536 65536 1048576 (record { whole = refl; small = omega arith }) (record { whole = refl; small = omega arith }) (record { whole = refl; small = omega arith })
-    refl refl
+    refl refl refl
 
 -- ---- one more global
 
@@ -136,6 +137,10 @@ module _ (w : World) (m : Blocks) (f : Flat) (u : ℕ) (h : HasPlaced w m f u) (
   not_on_stack (Zeros i) = refl
   not_on_stack (Literal bs) = refl
 
+  not_on_heap : (d : PlainContent) → is_heap (kind_of_content d) ≡ false
+  not_on_heap (Zeros i) = refl
+  not_on_heap (Literal bs) = refl
+
   first_fits : (d : PlainContent) → length (first_bytes d) ≤ size_of_content d
   first_fits (Zeros i) = omega arith
   first_fits (Literal bs) = omega arith
@@ -153,43 +158,44 @@ module _ (w : World) (m : Blocks) (f : Flat) (u : ℕ) (h : HasPlaced w m f u) (
   in_marks : 16 * u + 16 * units_of n ≤ length (marks_in f Globals)
   in_marks = let marked = h.holds.laid.marked Globals in let long = h.units in let there = room_there in omega (arith, marked, long, there)
 
-  may : MayBeBorn w (heads m.store) f k u n
+  may : MayBeBorn w (heads m.store) f k u n 0
   may = record {
     number = let few = h.few in let long = length-heads m.store in let there = room_there in omega (arith, few, long, there);
     room = subst (λ z. u + units_of n ≤ length (notes_in f z)) (sym (global_region c)) (let long = h.units in let there = room_there in omega (arith, long, there));
     alone = λ b i p at pl live name. inl (h.under b i p at pl live (name ∙ global_region c));
     on_top = λ on. absurd (false≢true (sym (not_on_stack c) ∙ on));
+    placed = λ on. absurd (false≢true (sym (not_on_heap c) ∙ on));
   }
 
   content_born : IsBorn f next k u n
   content_born = begun_born f k u n (first_bytes c) (global_region c) h.placed (first_fits c) in_bytes in_marks
 
-  content_head : head_of (content_block c) ≡ head_for k n
-  content_head = ap (λ z. record { kind = k; size = z; live = true }) (length-number_bytes (first_bytes c) n (first_fits c))
+  content_head : head_of (content_block c) ≡ head_for k n 0
+  content_head = ap (λ z. record { kind = k; size = z; live = true; place = 0 }) (length-number_bytes (first_bytes c) n (first_fits c))
 
   content_pointer : (number at : ℕ) → number ≡ length m.store + 1 → at ≡ f.placed → Same grown (Points (Into number 0)) (pos (pointer_to (f.births + 1) Globals at))
   content_pointer number at e a = (
     pointer_to (f.births + 1) Globals at,
     refl,
     subst (λ z. PointsTo grown number 0 (pointer_to (f.births + 1) z at)) (global_region c)
-        (new_pointer w (heads m.store) f next k u n h.holds.laid may content_born number at (let long = length-heads m.store in omega (arith, long, e)) (a ∙ h.placed)),
+        (new_pointer w (heads m.store) f next k u n 0 h.holds.laid may content_born number at (let long = length-heads m.store in omega (arith, long, e)) (a ∙ h.placed)),
   )
 
   under_after : (b : ℕ) (i : Head) (p : Place) → (slice_get (heads m.store) b ≡ Some i) ⊎ ((b ≡ length (heads m.store)) × (i ≡ head_of (content_block c))) → slice_get grown b ≡ Some p
       → i.live ≡ true → p.name ≡ Globals → p.unit + units_of p.size ≤ u + units_of n
   under_after b i p (inl at) pl live name =
-      let le = h.under b i p at (old_place w (heads m.store) f next k u n h.holds.laid may content_born b i p at pl) live name in
+      let le = h.under b i p at (old_place w (heads m.store) f next k u n 0 h.holds.laid may content_born b i p at pl) live name in
       omega (arith, le)
   under_after b i p (inr e) pl live name =
-      let same = new_place w (heads m.store) f next k u n h.holds.laid may content_born b p e.0 pl in
+      let same = new_place w (heads m.store) f next k u n 0 h.holds.laid may content_born b p e.0 pl in
       subst (λ z. z.unit + units_of z.size ≤ u + units_of n) (sym same) (omega arith)
 
   content_placed : HasPlaced grown more next (u + units_of n)
   content_placed = record {
-    holds = born w m f next k u n h.holds may content_born (content_block c) content_head (begun_held grown f k u n (first_bytes c) (global_region c) h.placed (first_fits c) (first_small c is) in_bytes in_marks);
+    holds = born w m f next k u n 0 h.holds may content_born (content_block c) content_head (begun_held grown f k u n (first_bytes c) (global_region c) h.placed (first_fits c) (first_small c is) in_bytes in_marks);
     placed = let placed = h.placed in omega (arith, placed);
     few = let few = h.few in let long = length-append m.store (content_block c ∷ []) in omega (arith, few, long);
-    units = subst (λ z. length (notes_in next z) ≡ length (notes_in f z)) (global_region c) (long_stays w (heads m.store) f next k u n h.holds.laid may content_born (region_of k)) ∙ h.units;
+    units = subst (λ z. length (notes_in next z) ≡ length (notes_in f z)) (global_region c) (long_stays w (heads m.store) f next k u n 0 h.holds.laid may content_born (region_of k)) ∙ h.units;
     under = λ b i p at pl live name. under_after b i p (get_last (heads m.store) (head_of (content_block c)) b i (ap (λ z. slice_get z b) (sym (heads_append m.store (content_block c))) ∙ at)) pl live name;
   }
 

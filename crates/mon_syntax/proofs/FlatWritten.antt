@@ -99,7 +99,7 @@ laid_stays w hs f g name at n c l = record {
   small = λ r. subst (λ z. 16 * length z ≤ most_bytes r) (sym (c.notes r)) (l.small r);
   lain = λ b h p at pl live.
       let o = l.lain b h p at pl live in
-      record { size = o.size; name = o.name; inside = subst (λ z. p.unit + units p.size ≤ length z) (sym (c.notes p.name)) o.inside };
+      record { size = o.size; name = o.name; inside = subst (λ z. p.unit + units p.size ≤ length z) (sym (c.notes p.name)) o.inside; placed = o.placed };
   tight = l.tight;
   noted = λ b h p at pl live i lt. ap (λ z. get_or z (p.unit + i) None) (c.notes p.name) ∙ l.noted b h p at pl live i lt;
   only = λ r u x e. l.only r u x (ap (λ z. get_or z u None) (sym (c.notes r)) ∙ e);
@@ -177,6 +177,7 @@ module _ (w : World) (m : Blocks) (f g : Flat) (h : Holds w m f) (index : ℕ) (
     frames = h.frames ∙ sym c.frames;
     most = c.most_frames ∙ h.most;
     stack = ap length (c.notes Stack) ∙ h.stack;
+    heap = ap length (c.notes Heap) ∙ h.heap;
     laid = subst (λ z. Laid w z g) (sym (heads_stay m.store index b (with_bytes b off ys) at refl)) (laid_stays w (heads m.store) f g p.name (16 * p.unit + off) (length ys) c h.laid);
     held = λ a l q al aq ll. held_after a l q (get_after_set m.store index a b (with_bytes b off ys) l at al) aq ll;
   }

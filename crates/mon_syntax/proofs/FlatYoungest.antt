@@ -114,3 +114,23 @@ stays_tight hs b h top at last is = record {
   top_is = is ∙ ap (λ z. 16 * z) (sym (taken-dead hs b h at last));
   before = λ a i there live other. ap units_taken (take-set-le a hs b (dead_head h) (last a i there live));
 }
+
+-- ---- the death of a block that isn't on the stack
+
+taken-off : (hs : List Head) (b : ℕ) (h : Head) → slice_get hs b ≡ Some h → is_on_stack h ≡ false → units_taken (set hs b (dead_head h)) ≡ units_taken hs
+taken-off [] b h at off = refl
+taken-off (x ∷ hs) zero h at off = ap (λ z. (if z then units x.size else 0) + units_taken hs) (sym (ap is_on_stack (same_Some x h at) ∙ off))
+taken-off (x ∷ hs) (suc b) h at off = ap (λ z. (if is_on_stack x then units x.size else 0) + z) (taken-off hs b h at off)
+
+front-off : (hs : List Head) (b a : ℕ) (h : Head) → slice_get hs b ≡ Some h → is_on_stack h ≡ false → units_taken (take a (set hs b (dead_head h))) ≡ units_taken (take a hs)
+front-off hs b zero h at off = refl
+front-off [] b (suc a) h at off = refl
+front-off (x ∷ hs) zero (suc a) h at off = ap (λ z. (if z then units x.size else 0) + units_taken (take a hs)) (sym (ap is_on_stack (same_Some x h at) ∙ off))
+front-off (x ∷ hs) (suc b) (suc a) h at off = ap (λ z. (if is_on_stack x then units x.size else 0) + z) (front-off hs b a h at off)
+
+-- it leaves all blocks of the stack as they stand
+pub off_stays_tight : (hs : List Head) (b : ℕ) (h : Head) (top : ℕ) → slice_get hs b ≡ Some h → is_on_stack h ≡ false → top ≡ 16 * units_taken hs → StaysTight hs b h top
+off_stays_tight hs b h top at off is = record {
+  top_is = is ∙ ap (λ z. 16 * z) (sym (taken-off hs b h at off));
+  before = λ a i there live other. front-off hs b a h at off;
+}

@@ -27,6 +27,10 @@ pub mod FlatLoads
 pub mod FlatValues
 pub mod FlatFinds
 pub mod FlatNumbers
+pub mod FlatPlaces
+pub mod FlatHeap
+pub mod FlatCopies
+pub mod FlatFreed
 pub mod FlatOperators
 pub mod FlatAgreement
 -- the grammar is exact
@@ -53,6 +57,7 @@ pub mod PrintedTexts
 pub mod WorkedRuns
 pub mod WorkedCalls
 mod WorkedMemory
+mod WorkedHeap
 mod WorkedTexts
 -- registers and definitions, while functions are made
 pub mod Indices

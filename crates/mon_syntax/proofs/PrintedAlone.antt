@@ -23,11 +23,13 @@ use Rattle.mon_syntax.specs.declared.tree.MonType.TheVariants.{I8, U8, I16, U16,
 use Rattle.mon_syntax.specs.declared.tree.MemoryCall.{MemoryCall}
 use Rattle.mon_syntax.specs.declared.tree.MemoryCall.TheVariants as memory_call
 use Rattle.mon_syntax.specs.declared.tree.AccessSize.{AccessSize}
+use Rattle.mon_syntax.specs.declared.tree.CopySize.{CopySize}
+use Rattle.mon_syntax.specs.declared.tree.CopySize.TheVariants as copy_size
 use Rattle.mon_syntax.specs.declared.tree.AccessSize.TheVariants.{One, Two, Four, Eight, Sixteen}
 use Rattle.mon_syntax.specs.declared.tree.MonOp.{MonOp}
 use Rattle.mon_syntax.specs.declared.tree.MonOp.TheVariants.{Add, Sub, Mul, Div, Rem, Shl, Shr, And, Or, Xor, Eq, Ne, Lt, Le, Gt, Ge}
 use Rattle.mon_syntax.specs.Names.{type_word, constant_word, IsFreeName}
-use Rattle.mon_syntax.specs.Arithmetic.{least, greatest, fits, is_pointer, byte_count, access_bytes}
+use Rattle.mon_syntax.specs.Arithmetic.{least, greatest, fits, is_pointer, byte_count, access_bytes, copy_bytes}
 use Rattle.mon_syntax.specs.Trees.{MonExpression, Register, Global, Constant, Binary, Minus, Flip, Cast, Load, MonStatement, Set, Store, Step, Assert, PutChar, GetChar, Exit, PrintText, PrintSigned, PrintUnsigned, Act, Call, If, Loop, Labelled, Goto}
 use Rattle.mon_syntax.specs.Trees.{Return}
 use Rattle.mon_syntax.specs.Trees.{MonStatements, NoStatement, Then, MonRegister, MonFunction, PlainContent, Zeros, Literal, MonitoredGlobal, MonitoredProgram}
@@ -90,7 +92,11 @@ constant_is_word Ptr = refl
 memory_is_word : (f : MemoryCall) → is_word (memory_word f) ≡ true
 memory_is_word memory_call.StoreBlock = refl
 memory_is_word memory_call.DeleteBlock = refl
+memory_is_word (memory_call.Copy a) = refl
 memory_is_word (memory_call.Number a) = refl
+memory_is_word memory_call.Malloc = refl
+memory_is_word memory_call.Calloc = refl
+memory_is_word memory_call.Free = refl
 
 kind_bytes : (k : Kind) → AllByRecursion (λ b. b < 256) (kind_word k)
 kind_bytes the_kind.Assert = omega arith
@@ -411,7 +417,11 @@ module _ (ts : Types) (rs : InSight) (named : AreNamed ts rs) where
   size_stop : (f : MemoryCall) (more : Pieces) → Stops in_literal (spelled (size_argument f ++ (right_paren ∷ more)))
   size_stop memory_call.StoreBlock more = refl
   size_stop memory_call.DeleteBlock more = refl
+  size_stop (memory_call.Copy a) more = refl
   size_stop (memory_call.Number a) more = refl
+  size_stop memory_call.Malloc more = refl
+  size_stop memory_call.Calloc more = refl
+  size_stop memory_call.Free more = refl
 
   small_size : (a : AccessSize) → access_bytes a ≤ greatest_literal
   small_size One = omega arith
@@ -420,10 +430,20 @@ module _ (ts : Types) (rs : InSight) (named : AreNamed ts rs) where
   small_size Eight = omega arith
   small_size Sixteen = omega arith
 
+  small_copy : (a : CopySize) → copy_bytes a ≤ greatest_literal
+  small_copy copy_size.One = omega arith
+  small_copy copy_size.Two = omega arith
+  small_copy copy_size.Four = omega arith
+  small_copy copy_size.Eight = omega arith
+
   size_alone : (f : MemoryCall) (more : Pieces) → AreAlone more → AreAlone (size_argument f ++ (right_paren ∷ more))
   size_alone memory_call.StoreBlock more m = (alone_right_paren _, m)
   size_alone memory_call.DeleteBlock more m = (alone_right_paren _, m)
+  size_alone (memory_call.Copy a) more m = (alone_comma _, (refl, ((small_copy a, refl), (alone_right_paren _, m))))
   size_alone (memory_call.Number a) more m = (alone_comma _, (refl, ((small_size a, refl), (alone_right_paren _, m))))
+  size_alone memory_call.Malloc more m = (alone_right_paren _, m)
+  size_alone memory_call.Calloc more m = (alone_right_paren _, m)
+  size_alone memory_call.Free more m = (alone_right_paren _, m)
 
   act_alone : (r : Option ℕ) (f : MemoryCall) (es : List MonExpression) (more : Pieces) → TakesValue ts r (memory_result f)
       → AreArguments count ts es (memory_parameters f) → AreAlone more

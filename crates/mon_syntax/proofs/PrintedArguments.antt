@@ -19,6 +19,8 @@ use Rattle.mon_syntax.specs.declared.tree.MemoryCall.{MemoryCall}
 use Rattle.mon_syntax.specs.declared.tree.MemoryCall.TheVariants as memory_call
 use Rattle.mon_syntax.specs.declared.tree.AccessSize.{AccessSize}
 use Rattle.mon_syntax.specs.declared.tree.AccessSize.TheVariants.{One, Two, Four, Eight, Sixteen}
+use Rattle.mon_syntax.specs.declared.tree.CopySize.{CopySize}
+use Rattle.mon_syntax.specs.declared.tree.CopySize.TheVariants as copy_size
 use Rattle.mon_syntax.specs.declared.word.Runtime.{Runtime}
 use Rattle.mon_syntax.specs.declared.word.Runtime.TheVariants as runtime
 use Rattle.mon_syntax.specs.declared.word.Word.{Word}
@@ -27,13 +29,13 @@ use Rattle.mon_syntax.specs.Words.{word_of}
 use Rattle.mon_syntax.specs.Trees.{MonExpression, MonStatement, Assert, PrintText, Act, Call}
 use Rattle.mon_syntax.specs.Text as text
 use Rattle.mon_syntax.specs.Text.{InSight, expression_pieces, arguments_pieces, assert_arguments, memory_word, size_argument}
-use Rattle.mon_syntax.specs.Arithmetic.{access_bytes}
+use Rattle.mon_syntax.specs.Arithmetic.{access_bytes, copy_bytes}
 use Rattle.mon_syntax.specs.Valid as valid
 use Rattle.mon_syntax.specs.Valid.{Types, IsExpression, AreArguments, Signature, greatest_number, memory_parameters}
 use Rattle.mon_syntax.specs.Parsed as parsed
 use Rattle.mon_syntax.specs.Parsed.{NameUse, ParsedExpression, ParsedArgument, ParsedCall}
 use Rattle.mon_syntax.specs.Grammar.{Vocabulary, kind, first_argument, is_step_word, has_no_argument, arguments, call_of}
-use Rattle.mon_syntax.specs.Checking.{Scope, Header, scope_of, find_function, checked_expression, kind_named, size_named, small_number, bytes_of, value_of_type, one_value, arguments_of, runtime_call, call_of_word}
+use Rattle.mon_syntax.specs.Checking.{Scope, Header, scope_of, find_function, checked_expression, kind_named, size_named, copy_size_named, small_number, bytes_of, value_of_type, one_value, arguments_of, runtime_call, call_of_word}
 use Rattle.mon_syntax.proofs.PrintedPieces.{AreTokens}
 use Rattle.mon_syntax.proofs.PrintedForms.{Pieces, argument_is, arguments_are, sized_is, assert_is}
 use Rattle.mon_syntax.proofs.PrintedExpressions.{AreWords, AreFound, IsReadAs, expression_is, same_types}
@@ -86,13 +88,21 @@ get_word = refl
 abbrev pub memory_runtime : MemoryCall → Runtime
 memory_runtime memory_call.StoreBlock = runtime.StoreBlock
 memory_runtime memory_call.DeleteBlock = runtime.DeleteBlock
+memory_runtime (memory_call.Copy a) = runtime.Copy
 memory_runtime (memory_call.Number a) = runtime.Number
+memory_runtime memory_call.Malloc = runtime.Malloc
+memory_runtime memory_call.Calloc = runtime.Calloc
+memory_runtime memory_call.Free = runtime.Free
 
 pub memory_word_is : (f : MemoryCall) → word_of (memory_word f) ≡ word.Runtime (memory_runtime f)
 unfolding word_of
 memory_word_is memory_call.StoreBlock = refl
 memory_word_is memory_call.DeleteBlock = refl
+memory_word_is (memory_call.Copy a) = refl
 memory_word_is (memory_call.Number a) = refl
+memory_word_is memory_call.Malloc = refl
+memory_word_is memory_call.Calloc = refl
+memory_word_is memory_call.Free = refl
 
 module _ (names : List (List ℕ)) (ws : Vocabulary) (words : AreWords names ws) (functions : List Header) (globals : List ℕ)
     (types : Types) (rs : InSight) (regs : List (ℕ × MonType)) (found : AreFound names types rs globals regs) where
@@ -386,29 +396,44 @@ module _ (names : List (List ℕ)) (ws : Vocabulary) (words : AreWords names ws)
   size_checked at Eight = refl
   size_checked at Sixteen = refl
 
-  sized_checked : (p o : MonExpression) (a : AccessSize) (u : NameUse) (at size_at : Place) (x y : ParsedExpression) → checked_expression scope x ≡ Ok (p, Ptr) → checked_expression scope y ≡ Ok (o, I128)
+  question_checked : (p o : MonExpression) (a : AccessSize) (u : NameUse) (at size_at : Place) (x y : ParsedExpression) → checked_expression scope x ≡ Ok (p, Ptr) → checked_expression scope y ≡ Ok (o, I128)
       → runtime_call scope u at (parsed.Value x ∷ parsed.Value y ∷ parsed.Number size_at (pos (access_bytes a)) ∷ []) runtime.Number ≡ Ok (Act None (memory_call.Number a) (p ∷ o ∷ []))
-  sized_checked p o a u at size_at x y h k = rw (condition_checked p Ptr x h, condition_checked o I128 y k, size_checked size_at a) refl
+  question_checked p o a u at size_at x y h k = rw (condition_checked p Ptr x h, condition_checked o I128 y k, size_checked size_at a) refl
 
-  -- a pointer, an offset and a size
-  sized_call_is : (w : List ℕ) (p o : MonExpression) (a : AccessSize) (more : Pieces) (ts : List PlainToken) → IsExpression count types p Ptr → IsExpression count types o I128
-      → AreTokens names (text.left_paren ∷ (((arguments_pieces rs (p ∷ o ∷ []) ++ size_argument (memory_call.Number a)) ++ (text.right_paren ∷ text.semicolon ∷ [])) ++ more)) ts
-      → IsCallAs w (word.Runtime runtime.Number) (Act None (memory_call.Number a) (p ∷ o ∷ [])) more ts
-  sized_call_is w p o a more ts hp ho g0 =
-      let end : Pieces = text.Mark (codes ",") ∷ text.blank ∷ text.Number (access_bytes a) ∷ text.right_paren ∷ text.semicolon ∷ more in
-      let joined = sized_is rs more (arguments_pieces rs (p ∷ o ∷ [])) (memory_call.Number a) ∙ argument_is rs end p (o ∷ [])
+  copy_size_checked : (at : Place) (a : CopySize) → copy_size_named scope (parsed.Number at (pos (copy_bytes a))) ≡ Ok a
+  copy_size_checked at copy_size.One = refl
+  copy_size_checked at copy_size.Two = refl
+  copy_size_checked at copy_size.Four = refl
+  copy_size_checked at copy_size.Eight = refl
+
+  copy_checked : (p q : MonExpression) (a : CopySize) (u : NameUse) (at size_at : Place) (x y : ParsedExpression) → checked_expression scope x ≡ Ok (p, Ptr) → checked_expression scope y ≡ Ok (q, Ptr)
+      → runtime_call scope u at (parsed.Value x ∷ parsed.Value y ∷ parsed.Number size_at (pos (copy_bytes a)) ∷ []) runtime.Copy ≡ Ok (Act None (memory_call.Copy a) (p ∷ q ∷ []))
+  copy_checked p q a u at size_at x y h k = rw (condition_checked p Ptr x h, condition_checked q Ptr y k, copy_size_checked size_at a) refl
+
+  -- a pointer, a value of a type and a size
+  sized_call_is : (f : MemoryCall) (t : MonType) (bytes : ℕ) (p o : MonExpression) (more : Pieces) (ts : List PlainToken)
+      → size_argument f ≡ text.Mark (codes ",") ∷ text.blank ∷ text.Number bytes ∷ []
+      → ((u : NameUse) (at size_at : Place) (x y : ParsedExpression) → checked_expression scope x ≡ Ok (p, Ptr) → checked_expression scope y ≡ Ok (o, t)
+      → runtime_call scope u at (parsed.Value x ∷ parsed.Value y ∷ parsed.Number size_at (pos bytes) ∷ []) (memory_runtime f) ≡ Ok (Act None f (p ∷ o ∷ [])))
+      → IsExpression count types p Ptr → IsExpression count types o t
+      → AreTokens names (text.left_paren ∷ (((arguments_pieces rs (p ∷ o ∷ []) ++ size_argument f) ++ (text.right_paren ∷ text.semicolon ∷ [])) ++ more)) ts
+      → IsCallAs (memory_word f) (word.Runtime (memory_runtime f)) (Act None f (p ∷ o ∷ [])) more ts
+  sized_call_is f t bytes p o more ts sized checks hp ho g0 =
+      let end : Pieces = text.Mark (codes ",") ∷ text.blank ∷ text.Number bytes ∷ text.right_paren ∷ text.semicolon ∷ more in
+      let joined = sized_is rs more (arguments_pieces rs (p ∷ o ∷ [])) f
+      ∙ ap (λ (l : Pieces). arguments_pieces rs (p ∷ o ∷ []) ++ (l ++ (text.right_paren ∷ text.semicolon ∷ more))) sized ∙ argument_is rs end p (o ∷ [])
       ∙ ap (λ (l : Pieces). expression_pieces rs p ++ (text.Mark (codes ",") ∷ text.blank ∷ l)) (argument_is rs end o []) in
       let g = subst (λ (l : Pieces). AreTokens names (text.left_paren ∷ l) ts) joined g0 in
       let x = whole p Ptr _ g.1 hp g.3 in
-      let y = whole o I128 _ x.after.1 ho x.after.3 in
+      let y = whole o t _ x.after.1 ho x.after.3 in
       let size = y.after.3 in
       let close = size.3 in
       let one : List ParsedArgument = parsed.Value x.tree ∷ [] in
       let two : List ParsedArgument = parsed.Value x.tree ∷ parsed.Value y.tree ∷ [] in
-      let three : List ParsedArgument = parsed.Value x.tree ∷ parsed.Value y.tree ∷ parsed.Number size.0 (pos (access_bytes a)) ∷ [] in
+      let three : List ParsedArgument = parsed.Value x.tree ∷ parsed.Value y.tree ∷ parsed.Number size.0 (pos bytes) ∷ [] in
       let others =
       next_read ws one x.after.2 (value_read ws x.after.1 y.begins y.parsed)
-      ∙ next_read ws two y.after.2 (number_read ws (access_bytes a) size.2)
+      ∙ next_read ws two y.after.2 (number_read ws bytes size.2)
       ∙ no_more_read ws three close.2 in
       let all = arguments_read ws g.1 (x.begins first_argument true refl refl refl) (value_read ws g.1 x.begins x.parsed) others in
       record {
@@ -422,8 +447,8 @@ module _ (names : List (List ℕ)) (ws : Vocabulary) (words : AreWords names ws)
         rest = close.3.1;
         ends = close.3.2;
         after = close.3.3;
-        checked = λ _ at. sized_checked p o a (record { place = at; number = number w }) g.0 size.0 x.tree y.tree x.checked y.checked;
-        step = refl;
+        checked = λ _ at. checks (record { place = at; number = number (memory_word f) }) g.0 size.0 x.tree y.tree x.checked y.checked;
+        step = and_false (is_step_word (word.Runtime (memory_runtime f)));
       }
 
   pub memory_call_is : (f : MemoryCall) (es : List MonExpression) (more : Pieces) (ts : List PlainToken) → AreArguments count types es (memory_parameters f)
@@ -431,10 +456,17 @@ module _ (names : List (List ℕ)) (ws : Vocabulary) (words : AreWords names ws)
       → IsCallAs (memory_word f) (word.Runtime (memory_runtime f)) (Act None f es) more ts
   memory_call_is memory_call.StoreBlock es more ts h a = values_call_is memory_call.StoreBlock es more ts refl refl (λ u at xs k. rw k refl) h a
   memory_call_is memory_call.DeleteBlock es more ts h a = values_call_is memory_call.DeleteBlock es more ts refl refl (λ u at xs k. rw k refl) h a
+  memory_call_is (memory_call.Copy b) [] more ts h a = absurd h
+  memory_call_is (memory_call.Copy b) (p ∷ []) more ts h a = absurd h.1
+  memory_call_is (memory_call.Copy b) (p ∷ q ∷ []) more ts h a = sized_call_is (memory_call.Copy b) Ptr (copy_bytes b) p q more ts refl (copy_checked p q b) h.0 h.1.0 a
+  memory_call_is (memory_call.Copy b) (p ∷ q ∷ e ∷ es) more ts h a = absurd h.1.1
   memory_call_is (memory_call.Number b) [] more ts h a = absurd h
   memory_call_is (memory_call.Number b) (p ∷ []) more ts h a = absurd h.1
-  memory_call_is (memory_call.Number b) (p ∷ o ∷ []) more ts h a = sized_call_is (codes "__e_acsl_number") p o b more ts h.0 h.1.0 a
+  memory_call_is (memory_call.Number b) (p ∷ o ∷ []) more ts h a = sized_call_is (memory_call.Number b) I128 (access_bytes b) p o more ts refl (question_checked p o b) h.0 h.1.0 a
   memory_call_is (memory_call.Number b) (p ∷ o ∷ q ∷ es) more ts h a = absurd h.1.1
+  memory_call_is memory_call.Malloc es more ts h a = values_call_is memory_call.Malloc es more ts refl refl (λ u at xs k. rw k refl) h a
+  memory_call_is memory_call.Calloc es more ts h a = values_call_is memory_call.Calloc es more ts refl refl (λ u at xs k. rw k refl) h a
+  memory_call_is memory_call.Free es more ts h a = values_call_is memory_call.Free es more ts refl refl (λ u at xs k. rw k refl) h a
 
   -- a call of a function of the program
   named_checked : (w : List ℕ) (f : ℕ) (ps : Types) (result : Option MonType) (es : List MonExpression) (at opening : Place) (xs : List ParsedArgument)

@@ -362,7 +362,11 @@ module _ (names : List (List ℕ)) (ws : Vocabulary) (words : AreWords names ws)
       no_step_word : (f : MemoryCall) → form.is_step_word (word.Runtime (memory_runtime f)) ≡ false
       no_step_word memory_call.StoreBlock = refl
       no_step_word memory_call.DeleteBlock = refl
+      no_step_word (memory_call.Copy a) = refl
       no_step_word (memory_call.Number a) = refl
+      no_step_word memory_call.Malloc = refl
+      no_step_word memory_call.Calloc = refl
+      no_step_word memory_call.Free = refl
 
   call_as : (n : ℕ) (r : Option ℕ) (f : ℕ) (es : List MonExpression) (ls : Labels) (more : Pieces) (ts : List PlainToken)
       → IsStatement count gs types result ls (Call r f es) → AreTokens names (statement_pieces called rs 0 (Call r f es) ++ more) ts

@@ -28,16 +28,16 @@ program globals registers body = record {
 }
 
 -- with the registers `ptr p`, `ptr q` and `i32 c`
-abbrev with_globals : List MonitoredGlobal → List MonStatement → MonitoredProgram
+abbrev pub with_globals : List MonitoredGlobal → List MonStatement → MonitoredProgram
 with_globals globals body = program globals (pointer (codes "p") ∷ pointer (codes "q") ∷ register (codes "c") ∷ []) body
 
-abbrev with_memory : List MonStatement → MonitoredProgram
+abbrev pub with_memory : List MonStatement → MonitoredProgram
 with_memory body = with_globals [] body
 
-abbrev p : MonExpression
+abbrev pub p : MonExpression
 p = Register 0
 
-abbrev q : MonExpression
+abbrev pub q : MonExpression
 q = Register 1
 
 -- register c takes the answer to __e_acsl_number(r, o, a)
@@ -45,18 +45,18 @@ abbrev asks : ℕ → ℕ → ℤ → AccessSize → MonStatement
 asks c r o a = Act (Some c) (Number a) (Register r ∷ Constant I128 o ∷ [])
 
 -- a digit is printed
-abbrev shows : MonExpression → MonStatement
+abbrev pub shows : MonExpression → MonStatement
 shows e = PutChar None (Binary Add I32 e (i32 (pos 48)))
 
 -- whether so many bytes at the pointer of a register hold a number
-abbrev shows_number : ℕ → AccessSize → List MonStatement
+abbrev pub shows_number : ℕ → AccessSize → List MonStatement
 shows_number r a = asks 2 r (pos 0) a ∷ shows (Register 2) ∷ []
 
 -- a pointer so many bytes farther
-abbrev farther : MonExpression → ℤ → MonExpression
+abbrev pub farther : MonExpression → ℤ → MonExpression
 farther e d = Binary Add Ptr e (Constant I64 d)
 
-abbrev null : MonExpression
+abbrev pub null : MonExpression
 null = Constant Ptr (pos 0)
 
 -- ---- an annotation about memory
@@ -440,7 +440,7 @@ small_run-gives_null = refl
 
 -- ---- globals and literals
 
-abbrev two_globals : List MonitoredGlobal
+abbrev pub two_globals : List MonitoredGlobal
 two_globals = record { name = codes "g"; content = Zeros 4 } ∷ record { name = codes "h"; content = Literal (codes "hi") } ∷ []
 
 -- the bytes of the literal with the 0 behind them, zeros, and a store into them

@@ -10,6 +10,8 @@ use Rattle.mon_syntax.specs.declared.tree.MonType.{MonType}
 use Rattle.mon_syntax.specs.declared.tree.MonType.TheVariants.{I8, U8, I16, U16, I32, U32, I64, U64, I128, Ptr}
 use Rattle.mon_syntax.specs.declared.tree.AccessSize.{AccessSize}
 use Rattle.mon_syntax.specs.declared.tree.AccessSize.TheVariants.{One, Two, Four, Eight, Sixteen}
+use Rattle.mon_syntax.specs.declared.tree.CopySize.{CopySize}
+use Rattle.mon_syntax.specs.declared.tree.CopySize.TheVariants as copy_size
 use Rattle.mon_syntax.specs.declared.tree.MonOp.{MonOp}
 use Rattle.mon_syntax.specs.declared.tree.MonOp.TheVariants.{Add, Sub, Mul, Div, Rem, Shl, Shr, And, Or, Xor, Eq, Ne, Lt, Le, Gt, Ge}
 
@@ -61,6 +63,13 @@ access_bytes Two = 2
 access_bytes Four = 4
 access_bytes Eight = 8
 access_bytes Sixteen = 16
+
+-- the bytes that a copy takes
+abbrev pub copy_bytes : CopySize → ℕ
+copy_bytes copy_size.One = 1
+copy_bytes copy_size.Two = 2
+copy_bytes copy_size.Four = 4
+copy_bytes copy_size.Eight = 8
 
 abbrev pub is_pointer : MonType → Bool
 is_pointer I8 = false

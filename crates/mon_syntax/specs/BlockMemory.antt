@@ -1,6 +1,6 @@
 -- Ours: blocks are those of C99 6.2.4.
 -- Monitored programs over numbered blocks. Memory is that of annotated C, and a register holds a value as an expression of annotated C has one.
-use Rattle.std.specs.Prelude.{ℕ, zero, suc, ◌+◌, ◌-◌, nat_lt, nat_eq, Bool, false, true, not, ◌&&◌, if◌then◌else◌, ℤ, pos, negsuc, ◌+ℤ◌, int_lt, int_le}
+use Rattle.std.specs.Prelude.{ℕ, zero, suc, ◌+◌, ◌-◌, ◌*◌, nat_lt, nat_eq, Bool, false, true, not, ◌&&◌, if◌then◌else◌, ℤ, pos, negsuc, ◌+ℤ◌, int_lt, int_le}
 use Rattle.std.specs.Prelude.{List, [], ◌∷◌, ◌++◌, length, map, replicate, Option, Some, None, option_map, slice_get, slice_set}
 use Rattle.c_syntax.specs.declared.types.BlockKind.TheVariants.{Stack}
 use Rattle.c_syntax.specs.declared.types.CInt.TheVariants as cint
@@ -9,8 +9,9 @@ use Rattle.c_syntax.specs.declared.types.Segment.TheVariants as segment
 use Rattle.c_model.specs.Integers.{truth}
 use Rattle.c_model.specs.Layouts.{Scalar, IntegerType, PointerType}
 use Rattle.c_model.specs.Limits.{most_frames}
-use Rattle.c_model.specs.Memory.{Pointer, Null, Into, Value, Integer, Points, NoValue, Byte, Number, Block, Store, block_of, new_block, is_stack}
+use Rattle.c_model.specs.Memory.{Pointer, Null, Into, Value, Integer, Points, NoValue, Byte, Unwritten, Number, Block, Store, block_of, new_block, is_stack}
 use Rattle.c_model.specs.Memory.{standard_sizes, full_at_stack_birth, number_of, bytes_of, load_bytes, save_bytes, load, save, moved, distance, equal_pointers}
+use Rattle.c_model.specs.Memory.{copy, Room, At, NoRoom, heap_room, heap_block, freed}
 use Rattle.c_model.specs.State.{Input}
 use Rattle.c_model.specs.Meaning.{Ran}
 use Rattle.mon_syntax.specs.declared.tree.MonType.{MonType}
@@ -18,9 +19,10 @@ use Rattle.mon_syntax.specs.declared.tree.MonType.TheVariants.{I8, U8, I16, U16,
 use Rattle.mon_syntax.specs.declared.tree.MonOp.{MonOp}
 use Rattle.mon_syntax.specs.declared.tree.MonOp.TheVariants.{Add, Sub, Mul, Div, Rem, Shl, Shr, And, Or, Xor, Eq, Ne, Lt, Le, Gt, Ge}
 use Rattle.mon_syntax.specs.declared.tree.AccessSize.{AccessSize}
+use Rattle.mon_syntax.specs.declared.tree.CopySize.{CopySize}
 use Rattle.mon_syntax.specs.declared.tree.MemoryCall.{MemoryCall}
 use Rattle.mon_syntax.specs.declared.tree.MemoryCall.TheVariants as call
-use Rattle.mon_syntax.specs.Arithmetic.{access_bytes, lowest_bits, wrap}
+use Rattle.mon_syntax.specs.Arithmetic.{access_bytes, copy_bytes, lowest_bits, wrap}
 use Rattle.mon_syntax.specs.Trees.{PlainContent, MonitoredGlobal, MonitoredProgram}
 use Rattle.mon_syntax.specs.Globals.{kind_of_content, size_of_content, first_bytes}
 use Rattle.mon_syntax.specs.Memory.{Memory, Reply, Gives, IsFull, Faults}
@@ -173,10 +175,46 @@ delete_block (Points (Into (suc k) zero) ∷ []) b =
     if is_index k (youngest b.store) then Gives (Integer (pos 0)) (record b { store = dead_at k (slice_get b.store k) b.store }) else Faults
 delete_block _ b = Faults
 
+-- ---- the heap (C99 7.20.3) and copies
+
+abbrev pub heap_birth : Room → List Byte → Blocks → Reply Blocks Value
+heap_birth (NoRoom full) bytes b = IsFull full
+heap_birth (At place) bytes b = Gives (Points (Into (length b.store + 1) 0)) (record b { store = b.store ++ heap_block place bytes ∷ [] })
+
+-- so many bytes of the heap, each of them this one; none give null
+abbrev pub allocate : ℕ → Byte → Blocks → Reply Blocks Value
+allocate n byte b = if nat_eq n 0 then Gives (Points Null) b else heap_birth (heap_room standard_sizes b.store n) (replicate n byte) b
+
+abbrev pub malloc_block : List Value → Blocks → Reply Blocks Value
+malloc_block (Integer n ∷ []) b = allocate (lowest_bits U64 n) Unwritten b
+malloc_block _ b = Faults
+
+-- the product is unbounded
+abbrev pub calloc_block : List Value → Blocks → Reply Blocks Value
+calloc_block (Integer n ∷ Integer m ∷ []) b = allocate (lowest_bits U64 n * lowest_bits U64 m) (Number 0) b
+calloc_block _ b = Faults
+
+-- a change that gives no value
+abbrev pub becomes : Blocks → Option Store → Reply Blocks Value
+becomes b None = Faults
+becomes b (Some store) = Gives (Integer (pos 0)) (record b { store = store })
+
+abbrev pub free_block : List Value → Blocks → Reply Blocks Value
+free_block (Points p ∷ []) b = becomes b (freed b.store p)
+free_block _ b = Faults
+
+abbrev pub copy_block : CopySize → List Value → Blocks → Reply Blocks Value
+copy_block a (Points p ∷ Points q ∷ []) b = becomes b (copy b.store p q (copy_bytes a))
+copy_block a _ b = Faults
+
 abbrev pub act_on_blocks : MemoryCall → List Value → Blocks → Reply Blocks Value
 act_on_blocks call.StoreBlock args b = store_block args b
 act_on_blocks call.DeleteBlock args b = delete_block args b
+act_on_blocks (call.Copy a) args b = copy_block a args b
 act_on_blocks (call.Number a) args b = number_question a args b
+act_on_blocks call.Malloc args b = malloc_block args b
+act_on_blocks call.Calloc args b = calloc_block args b
+act_on_blocks call.Free args b = free_block args b
 
 -- ---- globals and literals
 

@@ -14,6 +14,8 @@ use Rattle.mon_syntax.specs.declared.tree.MonType.TheVariants.{I8, U8, I16, U16,
 use Rattle.mon_syntax.specs.declared.tree.MemoryCall.{MemoryCall}
 use Rattle.mon_syntax.specs.declared.tree.MemoryCall.TheVariants as memory_call
 use Rattle.mon_syntax.specs.declared.tree.AccessSize.{AccessSize}
+use Rattle.mon_syntax.specs.declared.tree.CopySize.{CopySize}
+use Rattle.mon_syntax.specs.declared.tree.CopySize.TheVariants as copy_size
 use Rattle.mon_syntax.specs.declared.tree.AccessSize.TheVariants.{One, Two, Four, Eight, Sixteen}
 use Rattle.mon_syntax.specs.declared.word.Runtime.{Runtime}
 use Rattle.mon_syntax.specs.declared.word.Runtime.TheVariants as runtime
@@ -24,7 +26,7 @@ use Rattle.mon_syntax.specs.Trees.{MonExpression, MonStatement, MonStatements, M
 use Rattle.mon_syntax.specs.Parsed.{NameUse, ParsedExpression, Name, Constant, Binary, Minus, Flip, Cast, Load, ParsedArgument, Value, Number, Text, ParsedCall}
 use Rattle.mon_syntax.specs.Parsed.{ParsedStatement, Set, Store, Take, Call, If, Loop, Labelled, Goto, Return, ParsedStatements, NoStatement, Then}
 use Rattle.mon_syntax.specs.Parsed.{ParsedRegister, ParsedFunction, ParsedGlobal, ParsedProgram}
-use Rattle.mon_syntax.specs.Arithmetic.{access_bytes}
+use Rattle.mon_syntax.specs.Arithmetic.{access_bytes, copy_bytes}
 use Rattle.mon_syntax.specs.Valid.{Types, is_arithmetic, is_whole, has_operator, second_type, result_type, has_constant, greatest_number, memory_parameters}
 use Rattle.mon_syntax.specs.Valid.{memory_result}
 use Rattle.mon_syntax.specs.Grammar.{Vocabulary, word_at}
@@ -180,24 +182,32 @@ value_of_type s t (Value e) = of_type s t (place_of e) e
 value_of_type s t (Number at z) = type_fault at
 value_of_type s t (Text at bytes) = type_fault at
 
+-- a NUMBER, and its place
+abbrev pub number_given : Scope → ParsedArgument → Checked (ℕ × Place)
+number_given s (Value e) = checked_expression s e >>= λ x. type_fault (place_of e)
+number_given s (Number at z) = Ok (unsigned_abs z, at)
+number_given s (Text at bytes) = type_fault at
+
 -- a NUMBER of at most 4,294,967,295
 abbrev pub small_number : Scope → ParsedArgument → Checked ℕ
-small_number s (Value e) = checked_expression s e >>= λ x. type_fault (place_of e)
-small_number s (Number at z) = demanded (nat_le (unsigned_abs z) greatest_number) at >> Ok (unsigned_abs z)
-small_number s (Text at bytes) = type_fault at
+small_number s a = number_given s a >>= λ n. demanded (nat_le n.0 greatest_number) n.1 >> Ok n.0
 
--- a number of bytes: 1, 2, 4, 8 or 16
+-- the size of this number of bytes
+abbrev pub size_with : {A : Type 0} → (A → ℕ) → List A → ℕ → Option A
+size_with bytes [] n = None
+size_with bytes (a ∷ more) n = if nat_eq (bytes a) n then Some a else size_with bytes more n
+
 abbrev pub sizes : List AccessSize
 sizes = One ∷ Two ∷ Four ∷ Eight ∷ Sixteen ∷ []
 
-abbrev pub size_of : List AccessSize → ℕ → Option AccessSize
-size_of [] n = None
-size_of (a ∷ more) n = if nat_eq (access_bytes a) n then Some a else size_of more n
-
 abbrev pub size_named : Scope → ParsedArgument → Checked AccessSize
-size_named s (Value e) = checked_expression s e >>= λ x. type_fault (place_of e)
-size_named s (Number at z) = elim (size_of sizes (unsigned_abs z)) [ None ↦ type_fault at | Some a ↦ Ok a ]
-size_named s (Text at bytes) = type_fault at
+size_named s a = number_given s a >>= λ n. elim (size_with access_bytes sizes n.0) [ None ↦ type_fault n.1 | Some a ↦ Ok a ]
+
+abbrev pub copy_sizes : List CopySize
+copy_sizes = copy_size.One ∷ copy_size.Two ∷ copy_size.Four ∷ copy_size.Eight ∷ []
+
+abbrev pub copy_size_named : Scope → ParsedArgument → Checked CopySize
+copy_size_named s a = number_given s a >>= λ n. elim (size_with copy_bytes copy_sizes n.0) [ None ↦ type_fault n.1 | Some a ↦ Ok a ]
 
 abbrev pub string : Scope → ParsedArgument → Checked (List ℕ × Place)
 string s (Value e) = checked_expression s e >>= λ x. type_fault (place_of e)
@@ -261,6 +271,11 @@ number_call s at xs =
     next s at (value_of_type s Ptr) xs (λ p xs1. next s at (value_of_type s I128) xs1 (λ o xs2. next s at (size_named s) xs2 (λ a xs3.
     no_more s at xs3 (tree.Act None (memory_call.Number a) (p ∷ o ∷ [])))))
 
+abbrev pub copy_call : Scope → Place → List ParsedArgument → Checked MonStatement
+copy_call s at xs =
+    next s at (value_of_type s Ptr) xs (λ p xs1. next s at (value_of_type s Ptr) xs1 (λ q xs2. next s at (copy_size_named s) xs2 (λ a xs3.
+    no_more s at xs3 (tree.Act None (memory_call.Copy a) (p ∷ q ∷ [])))))
+
 -- a call of the runtime, whose value is not taken
 abbrev pub runtime_call : Scope → NameUse → Place → List ParsedArgument → Runtime → Checked MonStatement
 runtime_call s f at xs runtime.Step = no_more s at xs tree.Step
@@ -273,7 +288,11 @@ runtime_call s f at xs runtime.PrintSigned = one_value s at I64 xs tree.PrintSig
 runtime_call s f at xs runtime.PrintUnsigned = one_value s at U64 xs tree.PrintUnsigned
 runtime_call s f at xs runtime.StoreBlock = simple_call s at xs memory_call.StoreBlock
 runtime_call s f at xs runtime.DeleteBlock = simple_call s at xs memory_call.DeleteBlock
+runtime_call s f at xs runtime.Copy = copy_call s at xs
 runtime_call s f at xs runtime.Number = number_call s at xs
+runtime_call s f at xs runtime.Malloc = simple_call s at xs memory_call.Malloc
+runtime_call s f at xs runtime.Calloc = simple_call s at xs memory_call.Calloc
+runtime_call s f at xs runtime.Free = simple_call s at xs memory_call.Free
 runtime_call s f at xs runtime.Kept = name_fault f.place
 
 -- a call of a function of the program; `main` isn't called

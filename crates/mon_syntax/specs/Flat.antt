@@ -4,7 +4,7 @@ use Rattle.std.specs.Prelude.{nat_eq, nat_le, nat_lt, if◌then◌else◌, Bool,
 use Rattle.c_syntax.specs.declared.types.BlockKind.{BlockKind}
 use Rattle.c_syntax.specs.declared.types.BlockKind.TheVariants as kind
 use Rattle.c_syntax.specs.declared.types.Segment.TheVariants as segment
-use Rattle.c_model.specs.Memory.{rounded, greatest_number}
+use Rattle.c_model.specs.Memory.{rounded, greatest_number, least}
 use Rattle.shadow_segments.specs.declared.BlockNote.{BlockNote}
 use Rattle.shadow_segments.specs.Shadow.{units}
 use Rattle.mon_syntax.specs.declared.spot.RegionName.{RegionName}
@@ -179,11 +179,6 @@ is_none (Some n) = false
 abbrev pub are_free : List (Option BlockNote) → ℕ → ℕ → Bool
 are_free ns u zero = true
 are_free ns u (suc c) = is_none (get_or ns u None) && are_free ns (suc u) c
-
--- the least number from u on, of so many, that passes a test
-abbrev pub least : (ℕ → Bool) → ℕ → ℕ → Option ℕ
-least passes zero u = None
-least passes (suc k) u = if passes u then Some u else least passes k (suc u)
 
 abbrev pub heap_place : List (Option BlockNote) → ℕ → Option ℕ
 heap_place ns c = least (λ u. nat_le (u + c) (length ns) && are_free ns u c) (suc (length ns)) 0

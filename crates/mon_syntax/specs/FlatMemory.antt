@@ -13,12 +13,12 @@ use Rattle.mon_syntax.specs.declared.tree.MonOp.{MonOp}
 use Rattle.mon_syntax.specs.declared.tree.MonOp.TheVariants.{Add, Sub, Mul, Div, Rem, Shl, Shr, And, Or, Xor, Eq, Ne, Lt, Le, Gt, Ge}
 use Rattle.mon_syntax.specs.declared.tree.MemoryCall.{MemoryCall}
 use Rattle.mon_syntax.specs.declared.tree.MemoryCall.TheVariants as call
-use Rattle.mon_syntax.specs.Arithmetic.{access_bytes, byte_count, is_pointer, lowest_bits, wrap}
+use Rattle.mon_syntax.specs.Arithmetic.{access_bytes, byte_count, copy_bytes, is_pointer, lowest_bits, wrap}
 use Rattle.mon_syntax.specs.Trees.{MonitoredGlobal, MonitoredProgram}
 use Rattle.mon_syntax.specs.Globals.{kind_of_content, size_of_content, first_bytes, size_of_global}
 use Rattle.mon_syntax.specs.Memory.{Memory, Reply, Gives, IsFull, Faults}
 use Rattle.mon_syntax.specs.Flat.{Flat, flat_empty, flat_load, flat_store, flat_enter, flat_leave, flat_store_block, flat_delete_block, flat_begin, flat_number}
-use Rattle.mon_syntax.specs.Flat.{number_in, pointer_to}
+use Rattle.mon_syntax.specs.Flat.{flat_copy, flat_malloc, flat_calloc, flat_free, number_in, pointer_to}
 use Rattle.mon_syntax.specs.Meaning.{run}
 
 -- a value as a pointer: its lowest 64 bits
@@ -82,7 +82,11 @@ changed (Some f) = Gives (pos 0) f
 abbrev pub act_on_flat : MemoryCall → List ℤ → Flat → Reply Flat ℤ
 act_on_flat call.StoreBlock (n ∷ []) f = valued (flat_store_block f (lowest_bits U64 n))
 act_on_flat call.DeleteBlock (p ∷ []) f = changed (flat_delete_block f (pointer_in p))
+act_on_flat (call.Copy a) (p ∷ q ∷ []) f = changed (flat_copy f (pointer_in p) (pointer_in q) (copy_bytes a))
 act_on_flat (call.Number a) (p ∷ o ∷ []) f = Gives (truth (flat_number f (pointer_in p) o (access_bytes a))) f
+act_on_flat call.Malloc (n ∷ []) f = valued (flat_malloc f (lowest_bits U64 n))
+act_on_flat call.Calloc (n ∷ m ∷ []) f = valued (flat_calloc f (lowest_bits U64 n) (lowest_bits U64 m))
+act_on_flat call.Free (p ∷ []) f = changed (flat_free f (pointer_in p))
 act_on_flat f args m = Faults
 
 -- ---- globals and literals

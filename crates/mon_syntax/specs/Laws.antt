@@ -1,16 +1,21 @@
 -- Ours: laws of the definitions of this crate.
--- Laws that the definitions meet: of arithmetic, of runs over one memory, and of runs over two.
-use Rattle.std.specs.Prelude.{◌≡◌, ℕ, ◌*◌, ◌^◌, ◌≤◌, ℤ, pos, ◌+ℤ◌, true, List, [], codes}
+-- Laws that the definitions meet: of arithmetic, of runs over one memory, of runs over two, and of the heap.
+use Rattle.std.specs.Prelude.{◌≡◌, ℕ, ◌*◌, ◌/◌, ◌^◌, ◌≤◌, ℤ, pos, ◌+ℤ◌, true, List, [], get_or, Some, None, codes}
 use Rattle.c_syntax.specs.Programs.{TranslationUnit}
 use Rattle.c_model.specs.State.{Input}
 use Rattle.c_model.specs.Meaning as source
 use Rattle.c_model.specs.Reports.{Agrees}
+use Rattle.shadow_segments.specs.declared.BlockNote.{BlockNote}
+use Rattle.shadow_segments.specs.Shadow.{AreWhole}
+use Rattle.mon_syntax.specs.declared.spot.RegionName.TheVariants.{Heap}
+use Rattle.mon_syntax.specs.declared.spot.Spot.TheVariants.{In}
 use Rattle.mon_syntax.specs.Trees.{MonStatement, Loop, MonStatements, MonFunction, MonitoredProgram}
 use Rattle.mon_syntax.specs.declared.tree.MonType.{MonType}
 use Rattle.mon_syntax.specs.Arithmetic.{bit_count, fits, wrap}
 use Rattle.mon_syntax.specs.Memory.{Memory}
 use Rattle.mon_syntax.specs.Meaning.{State, then_do, at_next, step_from, exec, exec_all, body_runs, level, ran, function_named, run}
 use Rattle.mon_syntax.specs.BlockMemory.{block_run}
+use Rattle.mon_syntax.specs.Flat.{Flat, number_in, spot_of, flat_free}
 use Rattle.mon_syntax.specs.FlatMemory.{flat_run}
 use Rattle.mon_syntax.specs.Valid.{IsValid}
 use Rattle.mon_syntax.specs.Text.{text_of}
@@ -77,6 +82,20 @@ BlocksAgreeWithFlat = (m : MonitoredProgram) → IsValid m → (input : Input) (
 abbrev pub AgreementTranslates : Type 0
 AgreementTranslates = (p : TranslationUnit) (m : MonitoredProgram) → IsValid m → ((input : Input) (n : ℕ) → Agrees (source.run p input n) (block_run m input n))
     → Translates p m
+
+-- ---- the heap
+
+-- a block that was freed: its record stood where the pointer leads to, and stands at no unit of the heap any more
+pub record IsFreed (f g : Flat) (p : ℕ) : Type 0 where
+  pub note : BlockNote
+  pub number : note.number ≡ number_in p
+  pub start : spot_of p ≡ In Heap note.base
+  pub there : get_or f.heap.shadow.notes (note.base / 16) None ≡ Some note
+  pub gone : (u : ℕ) → get_or g.heap.shadow.notes u None ≡ Some note → ⊥
+
+-- what is freed is in no record, where each record stands at the units of its block alone
+abbrev pub FreedBlocksHaveNoRecord : Type 0
+FreedBlocksHaveNoRecord = (f g : Flat) (p : ℕ) → AreWhole f.heap.shadow.notes → (p ≡ 0 → ⊥) → flat_free f p ≡ Some g → IsFreed f g p
 
 -- ---- texts
 

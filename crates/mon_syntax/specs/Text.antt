@@ -14,7 +14,7 @@ use Rattle.mon_syntax.specs.Trees.{MonExpression, Register, Global, Constant, Bi
 use Rattle.mon_syntax.specs.Trees.{PutChar, GetChar, Exit, PlainContent, Zeros, Literal, MonitoredGlobal}
 use Rattle.mon_syntax.specs.Trees.{PrintText, PrintSigned, PrintUnsigned, Act, Call, If, Loop, Labelled, Goto, Return, MonStatements, NoStatement, Then}
 use Rattle.mon_syntax.specs.Trees.{MonRegister, MonFunction, MonitoredProgram}
-use Rattle.mon_syntax.specs.Arithmetic.{access_bytes, byte_count, is_pointer}
+use Rattle.mon_syntax.specs.Arithmetic.{access_bytes, copy_bytes, byte_count, is_pointer}
 use Rattle.mon_syntax.specs.Globals.{size_of_content}
 use Rattle.mon_syntax.specs.Names.{type_word, constant_word}
 
@@ -158,13 +158,21 @@ arguments_pieces rs (e ∷ es) = expression_pieces rs e ++ more_arguments rs es
 abbrev pub memory_word : MemoryCall → List ℕ
 memory_word memory_call.StoreBlock = codes "__e_acsl_store_block"
 memory_word memory_call.DeleteBlock = codes "__e_acsl_delete_block"
+memory_word (memory_call.Copy a) = codes "__e_acsl_copy"
 memory_word (memory_call.Number a) = codes "__e_acsl_number"
+memory_word memory_call.Malloc = codes "__e_acsl_malloc"
+memory_word memory_call.Calloc = codes "__e_acsl_calloc"
+memory_word memory_call.Free = codes "__e_acsl_free"
 
 -- the number after the arguments of such a call
 abbrev pub size_argument : MemoryCall → List Piece
 size_argument memory_call.StoreBlock = []
 size_argument memory_call.DeleteBlock = []
+size_argument (memory_call.Copy a) = comma ++ (Number (copy_bytes a) ∷ [])
 size_argument (memory_call.Number a) = comma ++ (Number (access_bytes a) ∷ [])
+size_argument memory_call.Malloc = []
+size_argument memory_call.Calloc = []
+size_argument memory_call.Free = []
 
 -- the names of functions, by number
 abbrev pub FunctionNames : Type 0

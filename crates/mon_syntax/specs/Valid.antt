@@ -10,7 +10,7 @@ use Rattle.mon_syntax.specs.declared.tree.MonType.TheVariants.{I8, U8, I16, U16,
 use Rattle.mon_syntax.specs.declared.tree.MonOp.{MonOp}
 use Rattle.mon_syntax.specs.declared.tree.MonOp.TheVariants.{Add, Sub, Mul, Div, Rem, Shl, Shr, And, Or, Xor, Eq, Ne, Lt, Le, Gt, Ge}
 use Rattle.mon_syntax.specs.declared.tree.MemoryCall.{MemoryCall}
-use Rattle.mon_syntax.specs.declared.tree.MemoryCall.TheVariants.{StoreBlock, DeleteBlock, Number}
+use Rattle.mon_syntax.specs.declared.tree.MemoryCall.TheVariants.{StoreBlock, DeleteBlock, Copy, Number, Malloc, Calloc, Free}
 use Rattle.mon_syntax.specs.Trees.{MonExpression, Register, Global, Constant, Binary, Minus, Flip, Cast, Load, MonStatement, Set, Store, Step, Assert}
 use Rattle.mon_syntax.specs.Trees.{PutChar, GetChar, Exit, PlainContent, Zeros, Literal, MonitoredGlobal}
 use Rattle.mon_syntax.specs.Trees.{PrintText, PrintSigned, PrintUnsigned, Act, Call, If, Loop, Labelled, Goto, Return, MonStatements, NoStatement, Then}
@@ -163,12 +163,20 @@ TakesValue ts (Some r) (Some t) = slice_get ts r ≡ Some t
 abbrev pub memory_parameters : MemoryCall → Types
 memory_parameters StoreBlock = U64 ∷ []
 memory_parameters DeleteBlock = Ptr ∷ []
+memory_parameters (Copy a) = Ptr ∷ Ptr ∷ []
 memory_parameters (Number a) = Ptr ∷ I128 ∷ []
+memory_parameters Malloc = U64 ∷ []
+memory_parameters Calloc = U64 ∷ U64 ∷ []
+memory_parameters Free = Ptr ∷ []
 
 abbrev pub memory_result : MemoryCall → Option MonType
 memory_result StoreBlock = Some Ptr
 memory_result DeleteBlock = None
+memory_result (Copy a) = None
 memory_result (Number a) = Some I32
+memory_result Malloc = Some Ptr
+memory_result Calloc = Some Ptr
+memory_result Free = None
 
 -- what a function is to its callers
 pub record Signature : Type 0 where

@@ -5,6 +5,7 @@ ghost use Rattle.mon_syntax.specs.FlatMemory.{over_flat};
 ghost use Rattle.mon_syntax.specs.Laws.{WrappedValuesFit, WrappedValuesAreCongruent, FittingValuesStand};
 ghost use Rattle.mon_syntax.specs.Laws.{FuelIsEnough, StepsFall, LoopsTurn, RunsNeedNoFuel, RunsSpendSteps};
 ghost use Rattle.mon_syntax.specs.Laws.{BlocksAgreeWithFlat, AgreementTranslates};
+ghost use Rattle.mon_syntax.specs.Laws.{FreedBlocksHaveNoRecord};
 ghost use Rattle.mon_syntax.specs.Laws.{PrintedProgramsAreRead};
 
 /// Arithmetic: a result wraps to the one value of its type that is congruent to it, modulo 2 to the bits of the type.
@@ -37,6 +38,11 @@ pub fn flat_runs()
 pub fn agreement()
     ensures flat { BlocksAgreeWithFlat }
     ensures translates { AgreementTranslates }
+{}
+
+/// The heap: after the death of a block no unit has its record.
+pub fn freed_blocks()
+    ensures { FreedBlocksHaveNoRecord }
 {}
 
 /// Texts: the text of a valid program spells that program.

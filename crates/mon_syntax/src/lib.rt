@@ -12,8 +12,10 @@ pub mod word;
 pub use registers::{Registers, numbered};
 pub use spot::{RegionName, Spot};
 pub use tree::{
-    AccessSize, GlobalContent, MemoryCall, MonExpr, MonExprKind, MonFunc, MonGlobal, MonOp,
-    MonProgram, MonStmt, MonStmtKind, MonType, Register,
+    AccessSize, CopySize, GlobalContent, MemoryCall, MonExpr, MonExprKind, MonFunc, MonGlobal,
+    MonOp, MonProgram, MonStmt, MonStmtKind, MonType, Register,
 };
-pub use types::{access_bytes, byte_count, is_pointer, result_type, same_type, second_type};
+pub use types::{
+    access_bytes, byte_count, copy_bytes, is_pointer, result_type, same_type, second_type,
+};
 pub use word::{Runtime, Word, kind_word};

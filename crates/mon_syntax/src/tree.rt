@@ -52,6 +52,15 @@ pub enum AccessSize {
     Sixteen,
 }
 
+/// How many bytes a copy takes, and to what they are aligned.
+#[derive(Clone, Copy, PartialEq, Eq, Debug)]
+pub enum CopySize {
+    One,
+    Two,
+    Four,
+    Eight,
+}
+
 /// A call of the runtime that works on the memory.
 #[derive(Clone, Copy, PartialEq, Eq, Debug)]
 pub enum MemoryCall {
@@ -59,8 +68,16 @@ pub enum MemoryCall {
     StoreBlock,
     /// `__e_acsl_delete_block(p)`: the death of the youngest live stack block, whose start this is.
     DeleteBlock,
+    /// `__e_acsl_copy(p, q, A)`: so many bytes are copied from the second pointer to the first, with their marks.
+    Copy(CopySize),
     /// `__e_acsl_number(p, o, A)`: whether so many bytes at an offset from a pointer hold a number.
     Number(AccessSize),
+    /// `__e_acsl_malloc(n)`: the birth of a heap block of so many bytes. It gives the pointer to its start, or null for no bytes.
+    Malloc,
+    /// `__e_acsl_calloc(n, m)`: the birth of a heap block of n times m bytes, all of them 0.
+    Calloc,
+    /// `__e_acsl_free(p)`: the death of the heap block whose start this is; null is let be.
+    Free,
 }
 
 /// An expression. It has no side effect.

@@ -2,11 +2,11 @@
 
 ghost use Rattle.std.specs.Prelude.{◌≡◌};
 ghost use Rattle.mon_syntax.specs.Checking.{same_type};
-ghost use Rattle.mon_syntax.specs.Arithmetic.{access_bytes, byte_count, is_pointer};
+ghost use Rattle.mon_syntax.specs.Arithmetic.{access_bytes, byte_count, copy_bytes, is_pointer};
 ghost use Rattle.mon_syntax.specs.Valid.{is_relation, result_type, second_type};
 ghost use Rattle.raw_seg.specs.Bytes.{IsWidth};
 
-use crate::tree::{AccessSize, MonOp, MonType};
+use crate::tree::{AccessSize, CopySize, MonOp, MonType};
 
 /// Whether it is the same type.
 pub fn same_type(first: MonType, second: MonType) -> bool
@@ -80,5 +80,18 @@ pub fn access_bytes(size: AccessSize) -> usize
         AccessSize::Four => 4,
         AccessSize::Eight => 8,
         AccessSize::Sixteen => 16,
+    }
+}
+
+/// The bytes that a copy takes.
+pub fn copy_bytes(size: CopySize) -> usize
+    ensures exact { result ≡ copy_bytes size }
+    ensures width { IsWidth result }
+{
+    match size {
+        CopySize::One => 1,
+        CopySize::Two => 2,
+        CopySize::Four => 4,
+        CopySize::Eight => 8,
     }
 }

@@ -19,7 +19,11 @@ pub enum Runtime {
     PrintUnsigned,
     StoreBlock,
     DeleteBlock,
+    Copy,
     Number,
+    Malloc,
+    Calloc,
+    Free,
     /// A name that is kept for the runtime and isn't there yet.
     Kept,
 }
