@@ -1,5 +1,5 @@
-// Passes over the numbers of a block on the stack, and births and deaths of blocks there. Each line of input names the work of a pass and a
-// number of passes, as `load 100`.
+// Passes over the numbers of a block on the stack, and births and deaths of blocks there and on the heap. Each line of input names the work
+// of a pass and a number of passes, as `load 100`.
 #![tactic(auto)]
 
 use block_runtime::Runtime;
@@ -10,7 +10,7 @@ use std::io;
 const SIZES: Sizes = Sizes {
     globals: 0,
     stack: 1_048_576,
-    heap: 0,
+    heap: 16_777_216,
     frames: 1,
 };
 
@@ -26,6 +26,14 @@ const WORD: u128 = 0x1_0000_0000_0000_0000;
 const SCALAR: u64 = 4;
 
 const LARGE: u64 = 1_048_000;
+
+// The length of the only block that fills the heap.
+const WHOLE: u64 = 16_777_215;
+
+// How many blocks live on the heap at once.
+const SOME: u64 = 30_000;
+
+const MANY: u64 = 60_000;
 
 /// Loads each number.
 #[inline(never)]
@@ -76,6 +84,49 @@ fn live_and_die(memory: &mut Runtime, size: u64, count: u64) -> u64 {
     ended
 }
 
+/// The birth and the death of a block that fills the heap with zeros.
+#[inline(never)]
+fn fill_the_heap(memory: &mut Runtime) -> u64 {
+    match memory.calloc(WHOLE, 1) {
+        Ok(p) => u64::from(memory.free(p).is_ok()),
+        Err(_) => 0,
+    }
+}
+
+/// So many births on the heap, the deaths of every second block, as many births in their places, and the deaths of all.
+#[inline(never)]
+fn crowd_the_heap(memory: &mut Runtime, blocks: &mut [u64]) -> u64 {
+    for p in blocks.iter_mut() {
+        *p = memory.malloc(16).unwrap_or(0);
+    }
+    for (i, p) in blocks.iter().enumerate() {
+        if i % 2 == 0 {
+            let _died = memory.free(*p);
+        }
+    }
+    for (i, p) in blocks.iter_mut().enumerate() {
+        if i % 2 == 0 {
+            *p = memory.malloc(15).unwrap_or(0);
+        }
+    }
+    let mut ended: u64 = 0;
+    for p in blocks.iter() {
+        if memory.free(*p).is_ok() {
+            ended = ended.wrapping_add(1);
+        }
+    }
+    ended
+}
+
+/// One pass of the work of this name on the heap, which is `calloc`, or with blocks `some` and `many`; else on the stack.
+fn heap_pass(memory: &mut Runtime, blocks: &mut [u64], p: u64, work: &str, value: u64) -> u64 {
+    match work {
+        "calloc" => fill_the_heap(memory),
+        "some" | "many" => crowd_the_heap(memory, blocks),
+        _ => pass(memory, p, work, value),
+    }
+}
+
 /// One pass of the work of this name, which is `store`, `check`, `birth`, `large` or else `load`.
 fn pass(memory: &mut Runtime, p: u64, work: &str, value: u64) -> u64 {
     match work {
@@ -99,8 +150,10 @@ fn run(alloc: Global, work: &str, passes: u64) -> Result<u64, AllocError> {
     if work == "large" {
         let _died = memory.delete_block(p);
     }
+    let count = if work == "many" { MANY } else { SOME };
+    let mut blocks = vec![in alloc; 0u64; count as usize]?;
     for value in 0..passes {
-        folded ^= pass(&mut memory, p, work, value);
+        folded ^= heap_pass(&mut memory, &mut blocks, p, work, value);
     }
     Ok(folded)
 }

@@ -5,15 +5,15 @@ use Rattle.std.proofs.lemmas.Bool.{cases_lt, cases_eq}
 use Rattle.std.proofs.lemmas.List.{get_or_past, length-replicate, get_or-replicate}
 use Rattle.std.proofs.lemmas.List.Elements.{All-contains, All-contains_itself}
 use Rattle.std.proofs.lemmas.Option.{none-some, same_Some}
-use Rattle.seg_heap.specs.declared.list.Live.{Live}
-use Rattle.seg_heap.specs.Placement.{Heap, AreApart, IsLeastPlace, IsStart, end_of, rounded_size, with_block, without_block}
+use Rattle.seg_heap.specs.Placement.{Live, Heap, AreApart, IsLeastPlace, IsStart, end_of, rounded_size, with_block, without_block}
 use Rattle.seg_heap.specs.Placement.{IsFree as FitsAt}
 use Rattle.seg_heap.proofs.Members.{with_block_has, with_block_keeps, with_block_only, without_block_keeps, without_block_only}
 use Rattle.shadow_segments.specs.declared.BlockNote.{BlockNote}
 use Rattle.shadow_segments.specs.Shadow.{IsWhole, IsFree, first_unit, end_unit, units, filled}
 use Rattle.shadow_segments.proofs.Kept.{whole_marked, whole_cleared}
 use Rattle.shadow_segments.proofs.Lists.{length-filled, filled_inside, filled_outside}
-use Rattle.mon_syntax.specs.Flat.{is_none, are_free, least, heap_place}
+use Rattle.c_model.specs.Memory.{least}
+use Rattle.mon_syntax.specs.Flat.{is_none, are_free, heap_place}
 use Rattle.flat_mem.specs.Placed.{IsNoted, IsPlaced}
 
 -- ---- free places

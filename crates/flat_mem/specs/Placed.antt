@@ -1,7 +1,6 @@
 -- Ours: what ties the placer of the heap to the records of the heap's units.
 use Rattle.std.specs.Prelude.{◌≡◌, ℕ, ◌+◌, ◌/◌, ◌<◌, ◌≤◌, List, length, get_or, Option, Some, None, Contains}
-use Rattle.seg_heap.specs.declared.list.Live.{Live}
-use Rattle.seg_heap.specs.Placement.{Heap, AreApart}
+use Rattle.seg_heap.specs.Placement.{Live, Heap, AreApart}
 use Rattle.shadow_segments.specs.declared.BlockNote.{BlockNote}
 use Rattle.shadow_segments.specs.Shadow.{AreWhole, units}
 

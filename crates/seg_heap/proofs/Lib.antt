@@ -1,3 +1,11 @@
-pub mod Gaps
-pub mod Blocks
+pub mod Tree
+pub mod Starts
+pub mod Taken
+pub mod Given
+pub mod Places
+pub mod Writes
+pub mod Kept
+pub mod Taking
+pub mod Giving
+pub mod Empty
 pub mod Members

@@ -2,8 +2,7 @@
 use Rattle.std.proofs.Common.{◌≡◌, ◌≢◌, ℕ, zero, suc, ◌<◌, ◌⊎◌, inl, inr, ⊎_elim, Bool, true, not, nat_lt, ◌==◌, List, [], ◌∷◌, length, get_or, Option, Some, None, IfSome, IfNone, refl, ap, sym, ◌∙◌, subst, arith, Contains, filter}
 use Rattle.std.proofs.lemmas.Bool.{cases_eq, cases_order, cond_both, not_from_true, both_ways, lt-ltb, ne_eqb, eq-eqb, not_from_false}
 use Rattle.std.proofs.lemmas.List.Elements.{All-contains, All-filter, All-contains_itself, filter_passes, Contains-get_or, Contains-append_left, Contains-append_right, Contains-append_cases}
-use Rattle.seg_heap.specs.declared.list.Live.{Live}
-use Rattle.seg_heap.specs.Placement.{Heap, IsStart, blocks_before, blocks_behind, with_block, without_block}
+use Rattle.seg_heap.specs.Placement.{Live, Heap, IsStart, blocks_before, blocks_behind, with_block, without_block}
 
 module _ {X : Type 0} where
   Contains-cons : (y x : X) (ys : List X) → Contains ys x → Contains (y ∷ ys) x

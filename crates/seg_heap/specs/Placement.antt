@@ -1,8 +1,11 @@
 -- Ours: C99 7.20.3 leaves a block's place open.
 -- Where a block may lie in the heap's segment.
-use Rattle.std.specs.Prelude.{◌≡◌, ℕ, ◌+◌, ◌*◌, ◌/◌, ◌%◌, ◌≤◌, ◌⊎◌, not, ◌==◌, nat_lt, List, ◌∷◌, ◌++◌, All, AllPairs, Any, filter, length}
-use Rattle.std.specs.List.{AllWithin}
-use Rattle.seg_heap.specs.declared.list.Live.{Live}
+use Rattle.std.specs.Prelude.{◌≡◌, ℕ, ◌+◌, ◌*◌, ◌/◌, ◌%◌, ◌≤◌, ◌⊎◌, not, ◌==◌, nat_lt, List, ◌∷◌, ◌++◌, All, AllPairs, Any, filter}
+
+-- A live block: where it begins in the segment, and its length, both in bytes.
+pub record Live : Type 0 where
+  pub place : ℕ
+  pub length : ℕ
 
 -- A segment of this many units of 16 bytes, with its live blocks.
 pub record Heap : Type 0 where
@@ -34,12 +37,6 @@ pub record AreApart (heap : Heap) : Type 0 where
   pub aligned : All (λ block. block.place % 16 ≡ 0) heap.live
   pub within : All (λ block. end_of block ≤ 16 * heap.units) heap.live
 
--- What the placer keeps: there is a record's room for each unit, so no block wants memory.
-pub record Keeps (heap : Heap) (capacity : ℕ) : Type 0 where
-  pub apart : AreApart heap
-  pub small : heap.units ≤ 16777216
-  pub room : heap.units ≤ capacity
-
 -- A live block begins here.
 abbrev pub IsStart : Heap → ℕ → Type 0
 IsStart heap place = Any (λ block. block.place ≡ place) heap.live
@@ -62,9 +59,3 @@ with_block heap place length = record {
 -- Without the block that begins here.
 abbrev pub without_block : Heap → ℕ → Heap
 without_block heap place = record { units = heap.units; live = filter (λ block. not (block.place == place)) heap.live }
-
--- A block of this length at this place lies after the first `index` blocks, and the rest after it.
-pub record LiesBehind (live : List Live) (size place index : ℕ) : Type 0 where
-  pub count : index ≤ length live
-  pub before : AllWithin (λ block. end_of block ≤ place) live 0 index
-  pub behind : AllWithin (λ block. place + rounded_size size ≤ block.place) live index (length live)

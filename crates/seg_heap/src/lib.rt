@@ -7,26 +7,32 @@ ghost use Rattle.seg_heap.specs.Placement.{IsFree, IsLeastPlace, AreApart, IsSta
 use std::alloc::{AllocError, Global};
 use std::marker::Model;
 
-pub mod list;
+pub mod gaps;
+pub mod numbers;
 
-use list::{Live, least_gap};
+use gaps::Gaps;
+use numbers::Numbers;
 
-/// The heap's segment: which places are taken, and where the next block goes.
+/// The heap's segment: which places are taken, and where the next block goes. Blocks and gaps cover it, one after the other.
 #[derive(Drop)]
 pub struct Placer {
     units: u32,
-    live: Vec<Live>,
+    // One more than the length of the block that begins at a unit, 0 where none does.
+    starts: Numbers,
+    // The units of the gap that ends where a block begins. It says nothing of other units.
+    before: Numbers,
+    gaps: Gaps,
 }
 
 impl Model for Placer {
-    ghost use Rattle.std.specs.Prelude.{vec_capacity};
-    ghost use Rattle.seg_heap.specs.Placement.{Heap, Keeps};
+    ghost use Rattle.seg_heap.specs.Placement.{Heap};
+    ghost use Rattle.seg_heap.specs.Tiles.{Keeps, heap_of};
 
     ghost Value = { Heap };
 
-    ghost view = { λ p. record { units = p.units; live = p.live.items } };
+    ghost view = { λ p. heap_of p.units p.starts };
 
-    ghost invariant = { λ p. Keeps (record { units = p.units; live = p.live.items }) (vec_capacity p.live) };
+    ghost invariant = { λ p. Keeps p.units p.starts p.before p.gaps };
 }
 
 impl Placer {
@@ -35,8 +41,16 @@ impl Placer {
         requires { units ≤ 16777216 }
         ensures { IfOk result (λ placer. (placer.units ≡ units) × (placer.live ≡ [])) }
     {
-        let live = Vec::with_capacity(alloc, units as usize)?;
-        Ok(Placer { units, live })
+        let starts = Numbers::new(alloc, units)?;
+        let before = Numbers::new(alloc, units)?;
+        let mut gaps = Gaps::new(alloc, units)?;
+        gaps.set(0, units);
+        Ok(Placer {
+            units,
+            starts,
+            before,
+            gaps,
+        })
     }
 
     /// Takes the least place, in bytes, for a block of this length. `None` where no place fits.
@@ -46,13 +60,22 @@ impl Placer {
         ensures full { IfNone result (self.new ≡ self.old) }
         ensures apart { AreApart self.new }
     {
-        let gap = least_gap(&self.live, self.units, length)?;
-        let block = Live {
-            place: gap.place,
-            length: length as u32,
+        let size = 16 * u64::from(self.units);
+        if length >= size {
+            return None;
+        }
+        let count = (length / 16 + 1) as u32;
+        let first = match self.gaps.first(count) {
+            Some(first) => first,
+            None => return None,
         };
-        self.live.insert(gap.index, block).unwrap();
-        Some(gap.place)
+        let rest = self.gaps.at(first) - count;
+        self.gaps.set(first, 0);
+        self.gaps.set(first + count, rest);
+        self.before.set(first, 0);
+        self.before.set(first + count + rest, rest);
+        self.starts.set(first, length as u32 + 1);
+        Some(16 * first)
     }
 
     /// Gives up the block that begins at this place.
@@ -61,6 +84,14 @@ impl Placer {
         ensures given { self.new ≡ without_block self.old place }
         ensures apart { AreApart self.new }
     {
-        self.live.retain(|block| block.place != place);
+        let unit = place / 16;
+        let count = (self.starts.at(unit) - 1) / 16 + 1;
+        let front = self.before.at(unit);
+        let back = self.gaps.at(unit + count);
+        let gap = front + count + back;
+        self.gaps.set(unit + count, 0);
+        self.gaps.set(unit - front, gap);
+        self.before.set(unit - front + gap, gap);
+        self.starts.set(unit, 0);
     }
 }
