@@ -1,45 +1,83 @@
 //! Calls of the runtime on the memory.
 
-ghost use Rattle.std.specs.Prelude.{◌≡◌, ◌<◌, ◌^◌, true};
+ghost use Rattle.std.specs.Prelude.{◌≡◌, ◌<◌, ◌^◌};
 ghost use Rattle.c_machine.specs.Acts.{Acts, ended_by};
 ghost use Rattle.c_machine.specs.Held.{IsFit, Links};
 ghost use Rattle.c_machine.specs.Reading.{Ports};
-ghost use Rattle.c_machine.specs.Replies.{takes_one};
 
 use crate::machine::{Cursor, Machine};
-use crate::memory::act;
+use crate::memory::{act_on_one, act_on_two};
 use crate::stop::Stop;
 use c_lower::Instr;
 use mon_syntax::MemoryCall;
 
 impl Machine {
-    /// `Act` of a call that has one argument.
+    // A call whose one argument is the topmost operand.
+    fn act_on_one(&mut self, f: MemoryCall, stop: &mut Stop) -> bool
+        requires fit { IsFit self.old.cursor self.old }
+        requires place { self.old.cursor.place < 2 ^ 63 }
+        ensures { (links : Links) (ports : Ports) → Acts links (Instr.Act f 1) self.old.cursor self.old self.new.cursor self.new ports ports
+            (ended_by result stop.new) }
+    {
+        let mut cursor = self.cursor;
+        let Some(argument) = cursor.pop(self) else {
+            *stop = Stop::Fault;
+            return false;
+        };
+        match act_on_one(&mut self.memory, f, argument) {
+            Ok(value) => {
+                cursor.give(self, value);
+                self.cursor = cursor;
+                true
+            }
+            Err(end) => {
+                *stop = end;
+                false
+            }
+        }
+    }
+
+    // A call whose two arguments are the topmost operands, the second on top.
+    fn act_on_two(&mut self, f: MemoryCall, stop: &mut Stop) -> bool
+        requires fit { IsFit self.old.cursor self.old }
+        requires place { self.old.cursor.place < 2 ^ 63 }
+        ensures { (links : Links) (ports : Ports) → Acts links (Instr.Act f 2) self.old.cursor self.old self.new.cursor self.new ports ports
+            (ended_by result stop.new) }
+    {
+        let mut cursor = self.cursor;
+        let Some(second) = cursor.pop(self) else {
+            *stop = Stop::Fault;
+            return false;
+        };
+        let Some(first) = cursor.pop(self) else {
+            *stop = Stop::Fault;
+            return false;
+        };
+        match act_on_two(&mut self.memory, f, first, second) {
+            Ok(value) => {
+                cursor.give(self, value);
+                self.cursor = cursor;
+                true
+            }
+            Err(end) => {
+                *stop = end;
+                false
+            }
+        }
+    }
+
+    /// `Act`
     #[inline(never)]
     pub fn act(&mut self, f: MemoryCall, count: usize, stop: &mut Stop) -> bool
-        requires one { takes_one f ≡ true }
         requires fit { IsFit self.old.cursor self.old }
         requires place { self.old.cursor.place < 2 ^ 63 }
         ensures { (links : Links) (ports : Ports) → Acts links (Instr.Act f count) self.old.cursor self.old self.new.cursor self.new ports ports
             (ended_by result stop.new) }
     {
-        if count != 1 {
-            *stop = Stop::Fault;
-            return false;
-        }
-        let mut cursor = self.cursor;
-        match cursor.pop(self) {
-            Some(z) => match act(&mut self.memory, f, z) {
-                Ok(value) => {
-                    cursor.give(self, value);
-                    self.cursor = cursor;
-                    true
-                }
-                Err(end) => {
-                    *stop = end;
-                    false
-                }
-            },
-            None => {
+        match count {
+            1 => self.act_on_one(f, stop),
+            2 => self.act_on_two(f, stop),
+            _ => {
                 *stop = Stop::Fault;
                 false
             }
@@ -65,13 +103,11 @@ impl Cursor {
     {
         match f {
             MemoryCall::Number(size) => self.ask(size, count, machine, stop),
-            MemoryCall::StoreBlock | MemoryCall::DeleteBlock => {
-                self.change(f, count, machine, stop)
-            }
+            _ => self.change(f, count, machine, stop),
         }
     }
 
-    // `Act` of a call that has one argument, out of line.
+    // `Act`, out of line.
     #[inline(always)]
     fn change(
         &mut self,
@@ -80,7 +116,6 @@ impl Cursor {
         machine: &mut Machine,
         stop: &mut Stop,
     ) -> bool
-        requires one { takes_one f ≡ true }
         requires fit { IsFit self.old machine.old }
         requires place { self.old.place < 2 ^ 63 }
         ensures { (links : Links) (ports : Ports) → Acts links (Instr.Act f count) self.old machine.old self.new machine.new ports ports

@@ -21,7 +21,8 @@ use c_model::limits::{GLOBALS_BYTES, HEAP_BYTES, MOST_FRAMES, STACK_BYTES};
 use c_syntax::BlockKind;
 use flat_mem::Sizes;
 use mon_syntax::{
-    AccessSize, GlobalContent, MemoryCall, MonGlobal, MonOp, MonType, access_bytes, byte_count,
+    AccessSize, CopySize, GlobalContent, MemoryCall, MonGlobal, MonOp, MonType, access_bytes,
+    byte_count, copy_bytes,
 };
 use std::alloc::{AllocError, Global};
 
@@ -270,13 +271,79 @@ fn delete_block(memory: &mut Runtime, pointer: i128) -> Result<i128, Stop>
     }
 }
 
+// `__e_acsl_malloc(size)`
+fn malloc(memory: &mut Runtime, size: i128) -> Result<i128, Stop>
+    ensures { Replies (act_on_flat MemoryCall.Malloc (size ∷ []) memory.old) memory.new result }
+{
+    match memory.malloc(lowest_bits(MonType::U64, size) as u64) {
+        Ok(start) => Ok(i128::from(start)),
+        Err(fault) => Err(stop_by(fault)),
+    }
+}
+
+// `__e_acsl_calloc(count, size)`
+fn calloc(memory: &mut Runtime, count: i128, size: i128) -> Result<i128, Stop>
+    ensures { Replies (act_on_flat MemoryCall.Calloc (count ∷ size ∷ []) memory.old) memory.new result }
+{
+    let count = lowest_bits(MonType::U64, count) as u64;
+    let size = lowest_bits(MonType::U64, size) as u64;
+    match memory.calloc(count, size) {
+        Ok(start) => Ok(i128::from(start)),
+        Err(fault) => Err(stop_by(fault)),
+    }
+}
+
+// `__e_acsl_free(pointer)`
+fn free(memory: &mut Runtime, pointer: i128) -> Result<i128, Stop>
+    ensures { Replies (act_on_flat MemoryCall.Free (pointer ∷ []) memory.old) memory.new result }
+{
+    match memory.free(pointer_in(pointer)) {
+        Ok(()) => Ok(0),
+        Err(fault) => Err(stop_by(fault)),
+    }
+}
+
+// `__e_acsl_copy(target, source, size)`
+fn copy(memory: &mut Runtime, size: CopySize, target: i128, source: i128) -> Result<i128, Stop>
+    ensures { Replies (act_on_flat (MemoryCall.Copy size) (target ∷ source ∷ []) memory.old) memory.new result }
+{
+    match memory.copy(
+        pointer_in(target),
+        pointer_in(source),
+        copy_bytes(size) as u64,
+    ) {
+        Ok(()) => Ok(0),
+        Err(fault) => Err(stop_by(fault)),
+    }
+}
+
 /// A call of the runtime with one argument.
-pub fn act(memory: &mut Runtime, f: MemoryCall, argument: i128) -> Result<i128, Stop>
+pub fn act_on_one(memory: &mut Runtime, f: MemoryCall, argument: i128) -> Result<i128, Stop>
     ensures { Replies (act_on_flat f (argument ∷ []) memory.old) memory.new result }
 {
     match f {
         MemoryCall::StoreBlock => store_block(memory, argument),
         MemoryCall::DeleteBlock => delete_block(memory, argument),
-        MemoryCall::Number(_) => Err(Stop::Fault),
+        MemoryCall::Malloc => malloc(memory, argument),
+        MemoryCall::Free => free(memory, argument),
+        MemoryCall::Copy(_) | MemoryCall::Number(_) | MemoryCall::Calloc => Err(Stop::Fault),
+    }
+}
+
+/// A call of the runtime with two arguments.
+pub fn act_on_two(
+    memory: &mut Runtime,
+    f: MemoryCall,
+    first: i128,
+    second: i128,
+) -> Result<i128, Stop>
+    ensures { Replies (act_on_flat f (first ∷ second ∷ []) memory.old) memory.new result }
+{
+    match f {
+        MemoryCall::Copy(size) => copy(memory, size, first, second),
+        MemoryCall::Number(size) => Ok(number(memory, size, first, second)),
+        MemoryCall::Calloc => calloc(memory, first, second),
+        MemoryCall::StoreBlock | MemoryCall::DeleteBlock => Err(Stop::Fault),
+        MemoryCall::Malloc | MemoryCall::Free => Err(Stop::Fault),
     }
 }

@@ -3,7 +3,7 @@
 ghost use Rattle.std.specs.Prelude.{◌≡◌, [], ◌∷◌, ◌++◌, map};
 ghost use Rattle.mon_syntax.specs.Trees.{Act, PutChar, plain_expr};
 ghost use Rattle.mon_syntax.specs.Text.{arguments_pieces, call_pieces, expression_pieces, function_name, more_arguments, name_of, set_or_none, set_pieces};
-ghost use Rattle.mon_syntax.specs.Text.{left_paren, memory_word, size_argument, spelled, statement_pieces, Word};
+ghost use Rattle.mon_syntax.specs.Text.{comma, left_paren, memory_word, size_argument, spelled, statement_pieces, Number, Word};
 ghost use Rattle.c_printer.specs.Printing.{Printed, pipe_of};
 ghost use Rattle.c_printer.specs.Sight.{functions_of, in_sight};
 
@@ -12,7 +12,7 @@ use crate::strings::number;
 use crate::words::memory_word;
 use crate::writer::Writer;
 use ea_ports::Sink;
-use mon_syntax::{MemoryCall, MonExpr, access_bytes};
+use mon_syntax::{MemoryCall, MonExpr, access_bytes, copy_bytes};
 
 /// `R = `
 pub fn set<O: Sink>(r: u32, named: &Named<'_>, to: &mut Writer, out: &mut O)
@@ -126,17 +126,25 @@ pub fn call_with<O: Sink>(
     to.write(out, b");");
 }
 
-// The number after the arguments of a call on the memory, where it has one.
+// The number after the arguments of a call.
+fn last_number<O: Sink>(n: usize, to: &mut Writer, out: &mut O)
+    ensures { Printed (pipe_of (O.told out.old) to.old (O.faults out.old)) (pipe_of (O.told out.new) to.new (O.faults out.new))
+        (spelled (comma ++ (Number n ∷ []))) }
+{
+    to.write(out, b", ");
+    number(n, to, out);
+}
+
+// That of a call on the memory, where it has one.
 fn size_argument<O: Sink>(f: MemoryCall, to: &mut Writer, out: &mut O)
     ensures { Printed (pipe_of (O.told out.old) to.old (O.faults out.old)) (pipe_of (O.told out.new) to.new (O.faults out.new))
         (spelled (size_argument f)) }
 {
     match f {
         MemoryCall::StoreBlock | MemoryCall::DeleteBlock => {}
-        MemoryCall::Number(size) => {
-            to.write(out, b", ");
-            number(access_bytes(size), to, out);
-        }
+        MemoryCall::Copy(size) => last_number(copy_bytes(size), to, out),
+        MemoryCall::Number(size) => last_number(access_bytes(size), to, out),
+        MemoryCall::Malloc | MemoryCall::Calloc | MemoryCall::Free => {}
     }
 }
 

@@ -80,6 +80,10 @@ pub fn memory_word(f: MemoryCall) -> &'static str
     match f {
         MemoryCall::StoreBlock => "__e_acsl_store_block",
         MemoryCall::DeleteBlock => "__e_acsl_delete_block",
+        MemoryCall::Copy(_) => "__e_acsl_copy",
         MemoryCall::Number(_) => "__e_acsl_number",
+        MemoryCall::Malloc => "__e_acsl_malloc",
+        MemoryCall::Calloc => "__e_acsl_calloc",
+        MemoryCall::Free => "__e_acsl_free",
     }
 }

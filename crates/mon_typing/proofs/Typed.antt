@@ -20,7 +20,8 @@ use Rattle.mon_syntax.specs.Valid as valid
 use Rattle.mon_syntax.specs.Valid.{Types, HasType, IsExpression, Labels, TakesValue, AreArguments, Signature, IsStatement, is_arithmetic, is_whole, memory_parameters, has_operator, second_type}
 use Rattle.mon_syntax.specs.Valid.{result_type, has_constant, greatest_number}
 use Rattle.mon_syntax.specs.Checking.{Header, Scope, Typed, Checked, ◌>>=◌, ◌>>◌, demanded, same_type, type_fault, find_register, find_global, find_function, or_fault, function_called, bytes_of, word_bytes, result_of, place_of, checked_expression}
-use Rattle.mon_syntax.specs.Checking.{of_type, value_of_type, small_number, size_named, string, kind_named, others, wrong_number, no_more, next, assert_call, one_value, arguments_of, simple_call, number_call, runtime_call, named_call}
+use Rattle.mon_syntax.specs.Checking.{of_type, value_of_type, small_number, size_named, copy_size_named, string, kind_named, others, wrong_number, no_more, next, assert_call, one_value}
+use Rattle.mon_syntax.specs.Checking.{arguments_of, simple_call, number_call, copy_call, runtime_call, named_call}
 use Rattle.mon_syntax.specs.Checking.{call_of_word, checked_call, taken, returned, global_or_fault, register_or_global, target_or_fault, target_of, register_or_fault}
 use Rattle.mon_typing.specs.Within.{open_parens, HasFewParens, IsArgumentWithin, HasFewParensWhereAny}
 use Rattle.mon_typing.proofs.Headers.{Stands, stands}
@@ -186,8 +187,13 @@ module _ (s : Scope) where
   faulty P (Ok x) at = tt
   faulty P (Err e) at = tt
 
+  faulty_before : {A B : Type 0} (P : A → Type 0) (c : Checked Typed) (at : Place) (go : B → Checked A) → Holds P ((c >>= λ x. type_fault at) >>= go)
+  faulty_before P (Ok x) at go = tt
+  faulty_before P (Err e) at go = tt
+
   number_valid : (a : ParsedArgument) → IsArgumentWithin a → Holds (λ n. n ≤ greatest_number) (small_number s a)
-  number_valid (Value e) w = faulty (λ n. n ≤ greatest_number) (checked_expression s e) (place_of e)
+  number_valid (Value e) w =
+      faulty_before (λ n. n ≤ greatest_number) (checked_expression s e) (place_of e) (λ (n : ℕ × Place). demanded (leb n.0 greatest_number) n.1 >> Ok n.0)
   number_valid (Number at z) w = holds_where (λ n. n ≤ greatest_number) (leb (unsigned_abs z) greatest_number) at (Ok (unsigned_abs z)) (leb-true (unsigned_abs z) greatest_number)
   number_valid (Text at bytes) w = tt
 
@@ -201,6 +207,9 @@ module _ (s : Scope) where
 
   size_valid : (a : ParsedArgument) → IsArgumentWithin a → Holds (λ k. Unit {0}) (size_named s a)
   size_valid a w = holds_all (size_named s a)
+
+  copy_size_valid : (a : ParsedArgument) → IsArgumentWithin a → Holds (λ k. Unit {0}) (copy_size_named s a)
+  copy_size_valid a w = holds_all (copy_size_named s a)
 
   abbrev Within : List ParsedArgument → Type 0
   Within xs = AllByRecursion IsArgumentWithin xs
@@ -265,6 +274,13 @@ module _ (s : Scope) where
         next_valid (λ a. Unit {0}) (IsCall false) at (size_named s) xs2 (λ a xs3. no_more s at xs3 (tree.Act None (memory_call.Number a) (p ∷ o ∷ []))) w2 size_valid (λ a xs3 u w3.
         more_valid (IsCall false) at xs3 (tree.Act None (memory_call.Number a) (p ∷ o ∷ [])) (((q, (r, tt)), tt), refl, refl))))
 
+    copy_call_valid : (at : Place) (xs : List ParsedArgument) → Within xs → Holds (IsCall false) (copy_call s at xs)
+    copy_call_valid at xs w =
+        next_valid (λ e. IsExpression count types e Ptr) (IsCall false) at (value_of_type s Ptr) xs _ w (value_valid Ptr) (λ p xs1 q w1.
+        next_valid (λ e. IsExpression count types e Ptr) (IsCall false) at (value_of_type s Ptr) xs1 _ w1 (value_valid Ptr) (λ o xs2 r w2.
+        next_valid (λ a. Unit {0}) (IsCall false) at (copy_size_named s) xs2 (λ a xs3. no_more s at xs3 (tree.Act None (memory_call.Copy a) (p ∷ o ∷ []))) w2 copy_size_valid (λ a xs3 u w3.
+        more_valid (IsCall false) at xs3 (tree.Act None (memory_call.Copy a) (p ∷ o ∷ [])) (((q, (r, tt)), tt), refl, refl))))
+
     runtime_valid : (f : NameUse) (at : Place) (xs : List ParsedArgument) (r : Runtime) → Within xs → Holds (IsCall (is_step_word (word.Runtime r) && has_no_argument xs)) (runtime_call s f at xs r)
     runtime_valid f at xs runtime.Step w = step_valid at xs
     runtime_valid f at xs runtime.Assert w = assert_valid at xs w
@@ -277,7 +293,11 @@ module _ (s : Scope) where
     runtime_valid f at xs runtime.PrintUnsigned w = one_valid at U64 xs tree.PrintUnsigned w (λ e p. (p, refl, refl))
     runtime_valid f at xs runtime.StoreBlock w = simple_valid at xs memory_call.StoreBlock w
     runtime_valid f at xs runtime.DeleteBlock w = simple_valid at xs memory_call.DeleteBlock w
+    runtime_valid f at xs runtime.Copy w = copy_call_valid at xs w
     runtime_valid f at xs runtime.Number w = number_call_valid at xs w
+    runtime_valid f at xs runtime.Malloc w = simple_valid at xs memory_call.Malloc w
+    runtime_valid f at xs runtime.Calloc w = simple_valid at xs memory_call.Calloc w
+    runtime_valid f at xs runtime.Free w = simple_valid at xs memory_call.Free w
     runtime_valid f at xs runtime.Kept w = tt
 
     called_at : (f : NameUse) (at : Place) (xs : List ParsedArgument) (g : ℕ × Header) (b : Bool) → Within xs → Stands s.functions f.number g → bytes_eq (bytes_of s f.number) (codes "main") ≡ b
@@ -318,17 +338,19 @@ module _ (s : Scope) where
           refl,
         ))
 
+    act_at : (r : ℕ × MonType) (at : Place) (f : MemoryCall) (es : List MonExpression) (o : Option MonType) → slice_get types r.0 ≡ Some r.1 → AreArguments count types es (memory_parameters f) → o ≡ valid.memory_result f
+        → Holds (IsCall false) (elim o [ None ↦ type_fault at | Some t ↦ demanded (same_type t r.1) at >> Ok (tree.Act (Some r.0) f es) ])
+    act_at r at f es None h p e = tt
+    act_at r at f es (Some k) h p e =
+        holds_where (IsCall false) (same_type k r.1) at (Ok (tree.Act (Some r.0) f es)) (λ z. ((p, subst (TakesValue types (Some r.0)) e (h ∙ ap Some (sym (same k r.1 z)))), refl, refl))
+
     result_is : (f : ℕ) (callee : Signature) → slice_get signatures f ≡ Some callee → result_of (slice_get s.functions f) ≡ callee.result
     result_is f callee has = result_at s.names (slice_get s.functions f) callee (sym (slice_get-map (signature_for s.names) s.functions f) ∙ has)
 
     pub taken_valid : (b : Bool) (r : ℕ × MonType) (at : Place) (m : MonStatement) → slice_get types r.0 ≡ Some r.1 → IsCall b m → Holds (IsCall false) (taken s r at m)
     taken_valid b r at (tree.PutChar x e) h p = holds_where (IsCall false) (same_type I32 r.1) at (Ok (tree.PutChar (Some r.0) e)) (λ k. ((h ∙ ap Some (sym (same I32 r.1 k)), p.0.1), refl, refl))
     taken_valid b r at (tree.GetChar x) h p = holds_where (IsCall false) (same_type I32 r.1) at (Ok (tree.GetChar (Some r.0))) (λ k. (h ∙ ap Some (sym (same I32 r.1 k)), refl, refl))
-    taken_valid b r at (tree.Act x memory_call.StoreBlock es) h p =
-        holds_where (IsCall false) (same_type Ptr r.1) at (Ok (tree.Act (Some r.0) memory_call.StoreBlock es)) (λ k. ((p.0.0, h ∙ ap Some (sym (same Ptr r.1 k))), refl, refl))
-    taken_valid b r at (tree.Act x memory_call.DeleteBlock es) h p = tt
-    taken_valid b r at (tree.Act x (memory_call.Number a) es) h p =
-        holds_where (IsCall false) (same_type I32 r.1) at (Ok (tree.Act (Some r.0) (memory_call.Number a) es)) (λ k. ((p.0.0, h ∙ ap Some (sym (same I32 r.1 k))), refl, refl))
+    taken_valid b r at (tree.Act x f es) h p = act_at r at f es (valid.memory_result f) h p.0.0 refl
     taken_valid b r at (tree.Call x f es) h p =
         let c = p.0 in
         given_at r at f es (result_of (slice_get s.functions f)) (record { callee = c.callee; has = c.has; not_main = c.not_main; arguments = c.arguments; takes = tt }) h (result_is f c.callee c.has)

@@ -4,12 +4,14 @@ use Rattle.std.specs.Prelude.{ℕ, List, [], ◌∷◌, None, Ok}
 use Rattle.c_syntax.specs.declared.annotation.Kind.{Kind}
 use Rattle.c_syntax.specs.declared.place.Place.{Place}
 use Rattle.mon_syntax.specs.declared.tree.AccessSize.{AccessSize}
+use Rattle.mon_syntax.specs.declared.tree.CopySize.{CopySize}
 use Rattle.mon_syntax.specs.declared.tree.MemoryCall.TheVariants as memory_call
 use Rattle.mon_syntax.specs.declared.tree.MonType.{MonType}
 use Rattle.mon_syntax.specs.Trees as tree
 use Rattle.mon_syntax.specs.Trees.{MonExpression, MonStatement}
 use Rattle.mon_syntax.specs.Parsed.{ParsedArgument}
-use Rattle.mon_syntax.specs.Checking.{Scope, Checked, ◌>>=◌, value_of_type, small_number, size_named, string, kind_named, no_more, next, arguments_of}
+use Rattle.mon_syntax.specs.Checking.{Scope, Checked, ◌>>=◌, value_of_type, small_number, size_named}
+use Rattle.mon_syntax.specs.Checking.{copy_size_named, string, kind_named, no_more, next, arguments_of}
 
 -- the first argument, and the others
 abbrev pub first_of : {A : Type 0} → Scope → Place → (ParsedArgument → Checked A) → List ParsedArgument → Checked (A × List ParsedArgument)
@@ -31,9 +33,16 @@ only_kind s at xs = next s at (kind_named s) xs (λ k more. no_more s at more k)
 abbrev pub only_size : Scope → Place → List ParsedArgument → Checked AccessSize
 only_size s at xs = next s at (size_named s) xs (λ a more. no_more s at more a)
 
+abbrev pub only_copy_size : Scope → Place → List ParsedArgument → Checked CopySize
+only_copy_size s at xs = next s at (copy_size_named s) xs (λ a more. no_more s at more a)
+
 -- the number of bytes of a question whether they hold a number, after its other arguments
 abbrev pub number_size : Scope → Place → MonExpression → MonExpression → List ParsedArgument → Checked MonStatement
 number_size s at p o xs = next s at (size_named s) xs (λ a more. no_more s at more (tree.Act None (memory_call.Number a) (p ∷ o ∷ [])))
+
+-- that of a copy
+abbrev pub copy_size : Scope → Place → MonExpression → MonExpression → List ParsedArgument → Checked MonStatement
+copy_size s at p q xs = next s at (copy_size_named s) xs (λ a more. no_more s at more (tree.Act None (memory_call.Copy a) (p ∷ q ∷ [])))
 
 -- an assert's kind, after its other arguments
 abbrev pub assert_kind : Scope → Place → MonExpression → MonExpression → ℕ → ℕ → List ParsedArgument → Checked MonStatement

@@ -5,12 +5,15 @@ ghost use Rattle.c_syntax.specs.declared.annotation.Kind.{Kind};
 ghost use Rattle.c_model.specs.Reports.{kind_word};
 ghost use Rattle.mon_syntax.specs.Trees.{plain_expr, MonExpression, MonStatement};
 ghost use Rattle.mon_syntax.specs.Parsed.{ParsedArgument};
+ghost use Rattle.mon_syntax.specs.Arithmetic.{access_bytes, copy_bytes};
 ghost use Rattle.mon_syntax.specs.declared.tree.AccessSize.{AccessSize};
-ghost use Rattle.mon_syntax.specs.Checking.{value_of_type, small_number, sizes, size_of, size_named, string, kinds, kind_of, kind_named, others, wrong_number};
+ghost use Rattle.mon_syntax.specs.declared.tree.CopySize.{CopySize};
+ghost use Rattle.mon_syntax.specs.Checking.{value_of_type, number_given, small_number, size_with, sizes, size_named};
+ghost use Rattle.mon_syntax.specs.Checking.{copy_sizes, copy_size_named, string, kinds, kind_of, kind_named, others, wrong_number};
 ghost use Rattle.mon_syntax.specs.Checking.{no_more, arguments_of};
 ghost use Rattle.mon_parser.specs.ParsedTrees as read;
 ghost use Rattle.mon_typing.specs.Answers.{Fails, Gives};
-ghost use Rattle.mon_typing.specs.Arguments.{first_of, only_kind, only_size, only_value, only_string};
+ghost use Rattle.mon_typing.specs.Arguments.{first_of, only_copy_size, only_kind, only_size, only_value, only_string};
 ghost use Rattle.mon_typing.specs.Scopes.{plain_scope};
 
 use crate::expression::{checked_expression, of_type, place_of};
@@ -18,7 +21,7 @@ use crate::fault::CheckFault;
 use crate::scope::Scope;
 use c_syntax::{Kind, Name, Place};
 use mon_parser::parsed::ParsedArg;
-use mon_syntax::{AccessSize, MonExpr, MonType, kind_word};
+use mon_syntax::{AccessSize, CopySize, MonExpr, MonType, kind_word};
 use std::alloc::Global;
 
 fn value_of_type(
@@ -36,26 +39,37 @@ fn value_of_type(
     }
 }
 
-/// A number of at most 4,294,967,295.
-fn small_number(alloc: Global, scope: &Scope, argument: &ParsedArg) -> Result<u32, CheckFault>
-    ensures { Gives (λ n. n) result (small_number (plain_scope scope.now) (read.plain_arg argument.now)) }
+fn number_given(
+    alloc: Global,
+    scope: &Scope,
+    argument: &ParsedArg,
+) -> Result<(u128, Place), CheckFault>
+    ensures { Gives (λ n. n) result (number_given (plain_scope scope.now) (read.plain_arg argument.now)) }
 {
     match argument {
         ParsedArg::Value(e) => {
             checked_expression(alloc, scope, e)?;
             Err(CheckFault::BadType(place_of(e)))
         }
-        ParsedArg::Number(place, value) => match u32::try_from(value.unsigned_abs()) {
-            Ok(number) => Ok(number),
-            Err(_) => Err(CheckFault::BadType(*place)),
-        },
+        ParsedArg::Number(place, value) => Ok((value.unsigned_abs(), *place)),
         ParsedArg::Text(place, _) => Err(CheckFault::BadType(*place)),
+    }
+}
+
+/// A number of at most 4,294,967,295.
+fn small_number(alloc: Global, scope: &Scope, argument: &ParsedArg) -> Result<u32, CheckFault>
+    ensures { Gives (λ n. n) result (small_number (plain_scope scope.now) (read.plain_arg argument.now)) }
+{
+    let (value, place) = number_given(alloc, scope, argument)?;
+    match u32::try_from(value) {
+        Ok(small) => Ok(small),
+        Err(_) => Err(CheckFault::BadType(place)),
     }
 }
 
 /// A number of bytes of which a question asks.
 fn size_of(number: u128) -> Option<AccessSize>
-    ensures { result ≡ size_of sizes number }
+    ensures { result ≡ size_with access_bytes sizes number }
 {
     match number {
         1 => Some(AccessSize::One),
@@ -67,19 +81,40 @@ fn size_of(number: u128) -> Option<AccessSize>
     }
 }
 
+/// A number of bytes that a copy takes.
+fn copy_size_of(number: u128) -> Option<CopySize>
+    ensures { result ≡ size_with copy_bytes copy_sizes number }
+{
+    match number {
+        1 => Some(CopySize::One),
+        2 => Some(CopySize::Two),
+        4 => Some(CopySize::Four),
+        8 => Some(CopySize::Eight),
+        _ => None,
+    }
+}
+
 fn size_named(alloc: Global, scope: &Scope, argument: &ParsedArg) -> Result<AccessSize, CheckFault>
     ensures { Gives (λ a. a) result (size_named (plain_scope scope.now) (read.plain_arg argument.now)) }
 {
-    match argument {
-        ParsedArg::Value(e) => {
-            checked_expression(alloc, scope, e)?;
-            Err(CheckFault::BadType(place_of(e)))
-        }
-        ParsedArg::Number(place, value) => match size_of(value.unsigned_abs()) {
-            Some(size) => Ok(size),
-            None => Err(CheckFault::BadType(*place)),
-        },
-        ParsedArg::Text(place, _) => Err(CheckFault::BadType(*place)),
+    let (value, place) = number_given(alloc, scope, argument)?;
+    match size_of(value) {
+        Some(size) => Ok(size),
+        None => Err(CheckFault::BadType(place)),
+    }
+}
+
+fn copy_size_named(
+    alloc: Global,
+    scope: &Scope,
+    argument: &ParsedArg,
+) -> Result<CopySize, CheckFault>
+    ensures { Gives (λ a. a) result (copy_size_named (plain_scope scope.now) (read.plain_arg argument.now)) }
+{
+    let (value, place) = number_given(alloc, scope, argument)?;
+    match copy_size_of(value) {
+        Some(size) => Ok(size),
+        None => Err(CheckFault::BadType(place)),
     }
 }
 
@@ -278,6 +313,36 @@ pub fn only_size(
     ensures { Gives (λ a. a) result (only_size (plain_scope scope.now) place (map read.plain_arg arguments.now)) }
 {
     let (size, more) = next_size(alloc, scope, place, arguments)?;
+    no_more(alloc, scope, place, more)?;
+    Ok(size)
+}
+
+/// The first argument, a number of bytes that a copy takes, and the others.
+fn next_copy_size<'a>(
+    alloc: Global,
+    scope: &Scope,
+    place: Place,
+    arguments: &'a [ParsedArg],
+) -> Result<(CopySize, &'a [ParsedArg]), CheckFault>
+    ensures { let s = plain_scope scope.now in Gives {A = CopySize × List ParsedArgument} (λ x. (x.0, map read.plain_arg x.1.now)) result
+        (first_of s place (copy_size_named s) (map read.plain_arg arguments.now)) }
+{
+    match arguments {
+        [] => Err(CheckFault::BadType(place)),
+        [first, more @ ..] => Ok((copy_size_named(alloc, scope, first)?, more)),
+    }
+}
+
+/// One argument, a number of bytes that a copy takes, and no others.
+pub fn only_copy_size(
+    alloc: Global,
+    scope: &Scope,
+    place: Place,
+    arguments: &[ParsedArg],
+) -> Result<CopySize, CheckFault>
+    ensures { Gives (λ a. a) result (only_copy_size (plain_scope scope.now) place (map read.plain_arg arguments.now)) }
+{
+    let (size, more) = next_copy_size(alloc, scope, place, arguments)?;
     no_more(alloc, scope, place, more)?;
     Ok(size)
 }

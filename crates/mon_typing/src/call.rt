@@ -5,16 +5,17 @@ ghost use Rattle.mon_syntax.specs.Trees as tree;
 ghost use Rattle.mon_syntax.specs.Trees.{plain_expr, plain_stmt};
 ghost use Rattle.mon_syntax.specs.declared.tree.MonType.TheVariants.{I32, I64, U64};
 ghost use Rattle.mon_syntax.specs.Valid.{memory_parameters};
-ghost use Rattle.mon_syntax.specs.Checking.{no_more, string, next, one_value, assert_call, simple_call, number_call, runtime_call, named_call, call_of_word};
+ghost use Rattle.mon_syntax.specs.Checking.{no_more, string, next, one_value, assert_call, simple_call, number_call, copy_call};
+ghost use Rattle.mon_syntax.specs.Checking.{runtime_call, named_call, call_of_word};
 ghost use Rattle.mon_syntax.specs.Checking.{checked_call};
 ghost use Rattle.mon_parser.specs.ParsedTrees as read;
 ghost use Rattle.mon_typing.specs.Answers.{Gives};
-ghost use Rattle.mon_typing.specs.Arguments.{assert_kind, assert_numbers, number_size, call_of_number};
+ghost use Rattle.mon_typing.specs.Arguments.{assert_kind, assert_numbers, number_size, copy_size, call_of_number};
 ghost use Rattle.mon_typing.specs.Scopes.{plain_scope};
 
 use crate::argument::{
-    next_number, next_value, no_more, only_kind, only_size, only_string, only_value, values_of,
-    wrong_number,
+    next_number, next_value, no_more, only_copy_size, only_kind, only_size, only_string,
+    only_value, values_of, wrong_number,
 };
 use crate::fault::CheckFault;
 use crate::scope::{Scope, function_called, is_main};
@@ -85,7 +86,11 @@ fn memory_parameters(f: MemoryCall) -> &'static [MonType]
     match f {
         MemoryCall::StoreBlock => &[MonType::U64],
         MemoryCall::DeleteBlock => &[MonType::Ptr],
+        MemoryCall::Copy(_) => &[MonType::Ptr, MonType::Ptr],
         MemoryCall::Number(_) => &[MonType::Ptr, MonType::I128],
+        MemoryCall::Malloc => &[MonType::U64],
+        MemoryCall::Calloc => &[MonType::U64, MonType::U64],
+        MemoryCall::Free => &[MonType::Ptr],
     }
 }
 
@@ -103,21 +108,21 @@ fn simple_call(
     Ok(MonStmt::new(alloc, MonStmtKind::Act(None, f, values))?)
 }
 
-/// Two values, one after the other.
-fn two_values(alloc: Global, first: MonExpr, second: MonExpr) -> Result<Vec<MonExpr>, AllocError>
-    ensures { IfOk result (λ v. map plain_expr v.items ≡ plain_expr first ∷ plain_expr second ∷ []) }
-{
-    let mut values = Vec::new(alloc);
-    values.push(first)?;
-    values.push(second)?;
-    Ok(values)
+/// The two values before the size of a call on the memory.
+#[derive(Drop)]
+struct Pair {
+    first: MonExpr,
+    second: MonExpr,
 }
 
-/// A pointer, and an offset from it.
-#[derive(Drop)]
-struct Access {
-    pointer: MonExpr,
-    offset: MonExpr,
+/// The call on the memory with two values.
+fn act_on_pair(alloc: Global, f: MemoryCall, values: Pair) -> Result<MonStmt, AllocError>
+    ensures { IfOk result (λ a. plain_stmt a ≡ tree.Act None f (plain_expr values.first ∷ plain_expr values.second ∷ [])) }
+{
+    let mut list = Vec::new(alloc);
+    list.push(values.first)?;
+    list.push(values.second)?;
+    MonStmt::new(alloc, MonStmtKind::Act(None, f, list))
 }
 
 /// The number of bytes of a question whether they hold a number, after its other arguments.
@@ -125,18 +130,29 @@ fn number_size(
     alloc: Global,
     scope: &Scope,
     place: Place,
-    access: Access,
+    values: Pair,
     arguments: &[ParsedArg],
 ) -> Result<MonStmt, CheckFault>
-    ensures { Gives plain_stmt result (number_size (plain_scope scope.now) place (plain_expr access.pointer) (plain_expr access.offset)
+    ensures { Gives plain_stmt result (number_size (plain_scope scope.now) place (plain_expr values.first) (plain_expr values.second)
         (map read.plain_arg arguments.now)) }
 {
     let size = only_size(alloc, scope, place, arguments)?;
-    let values = two_values(alloc, access.pointer, access.offset)?;
-    Ok(MonStmt::new(
-        alloc,
-        MonStmtKind::Act(None, MemoryCall::Number(size), values),
-    )?)
+    Ok(act_on_pair(alloc, MemoryCall::Number(size), values)?)
+}
+
+/// The number of bytes of a copy, after its other arguments.
+fn copy_size(
+    alloc: Global,
+    scope: &Scope,
+    place: Place,
+    values: Pair,
+    arguments: &[ParsedArg],
+) -> Result<MonStmt, CheckFault>
+    ensures { Gives plain_stmt result (copy_size (plain_scope scope.now) place (plain_expr values.first) (plain_expr values.second)
+        (map read.plain_arg arguments.now)) }
+{
+    let size = only_copy_size(alloc, scope, place, arguments)?;
+    Ok(act_on_pair(alloc, MemoryCall::Copy(size), values)?)
 }
 
 /// `__e_acsl_number(p, o, A);`
@@ -150,7 +166,29 @@ fn number_call(
 {
     let (pointer, more) = next_value(alloc, scope, place, MonType::Ptr, arguments)?;
     let (offset, more) = next_value(alloc, scope, place, MonType::I128, more)?;
-    number_size(alloc, scope, place, Access { pointer, offset }, more)
+    let values = Pair {
+        first: pointer,
+        second: offset,
+    };
+    number_size(alloc, scope, place, values, more)
+}
+
+/// `__e_acsl_copy(p, q, A);`
+fn copy_call(
+    alloc: Global,
+    scope: &Scope,
+    place: Place,
+    arguments: &[ParsedArg],
+) -> Result<MonStmt, CheckFault>
+    ensures { Gives plain_stmt result (copy_call (plain_scope scope.now) place (map read.plain_arg arguments.now)) }
+{
+    let (target, more) = next_value(alloc, scope, place, MonType::Ptr, arguments)?;
+    let (source, more) = next_value(alloc, scope, place, MonType::Ptr, more)?;
+    let values = Pair {
+        first: target,
+        second: source,
+    };
+    copy_size(alloc, scope, place, values, more)
 }
 
 /// `__e_acsl_step();`
@@ -272,7 +310,11 @@ fn runtime_call(
         Runtime::DeleteBlock => {
             simple_call(alloc, scope, place, arguments, MemoryCall::DeleteBlock)
         }
+        Runtime::Copy => copy_call(alloc, scope, place, arguments),
         Runtime::Number => number_call(alloc, scope, place, arguments),
+        Runtime::Malloc => simple_call(alloc, scope, place, arguments, MemoryCall::Malloc),
+        Runtime::Calloc => simple_call(alloc, scope, place, arguments, MemoryCall::Calloc),
+        Runtime::Free => simple_call(alloc, scope, place, arguments, MemoryCall::Free),
         Runtime::Kept => Err(CheckFault::BadName(callee.place)),
     }
 }

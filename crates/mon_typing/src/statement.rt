@@ -39,7 +39,10 @@ fn memory_result(f: MemoryCall) -> Option<MonType>
     match f {
         MemoryCall::StoreBlock => Some(MonType::Ptr),
         MemoryCall::DeleteBlock => None,
+        MemoryCall::Copy(_) => None,
         MemoryCall::Number(_) => Some(MonType::I32),
+        MemoryCall::Malloc | MemoryCall::Calloc => Some(MonType::Ptr),
+        MemoryCall::Free => None,
     }
 }
 
