@@ -17,8 +17,8 @@ ghost use Rattle.c_declaration_rules.specs.Statics.{pointer_of, stepped, taken_s
 
 use crate::layout::size_of;
 use c_expression_rules::call::{member_among, members_of};
-use c_expression_rules::constant::{constant, is_array};
-use c_expression_rules::conversion::{is_pointer, pointed};
+use c_expression_rules::constant::constant;
+use c_expression_rules::conversion::{is_array, is_pointer, pointed};
 use c_expression_rules::entities::Declared;
 use c_expression_rules::entity::Entity;
 use c_expression_rules::limits::small_size;

@@ -14,10 +14,9 @@ ghost use Rattle.c_declaration_rules.specs.Declarations.{scalar_parameter, seen}
 use crate::initialiser::type_maybe_initialiser;
 use crate::name::{behind, is_declared_in_file, own_name};
 use crate::object::{check_scalar, type_object, type_parameter_type};
-use c_expression_rules::entity::{Entity, Object};
 use c_expression_rules::expression::type_written;
 use c_expression_rules::fault::{TypeFault, both};
-use c_expression_rules::sight::{Sight, declared_here, leave, mark_here, with_object};
+use c_expression_rules::sight::{Sight, declared_here, leave, mark_here, see_object, with_object};
 use c_expression_rules::types::within_limits;
 use c_syntax::copy::copy_type;
 use c_syntax::{CType, Decl, Length, Place};
@@ -56,12 +55,7 @@ fn see(alloc: Global, sight: &mut Sight, left: bool, d: &Decl) -> Result<(), All
     ensures { OnOk result (plain_sight sight.new ≡ with_object (plain_sight sight.old) (seen left (plain_decl d.now))) }
 {
     let ctype = copy_before(alloc, left, &d.ctype)?;
-    sight.entities.push(Entity::AnObject(Object {
-        name: d.name,
-        decl: d.place.offset,
-        ctype,
-    }))?;
-    Ok(())
+    see_object(sight, d, ctype)
 }
 
 /// The type whose objects are initialised by constants, where it is a global's.

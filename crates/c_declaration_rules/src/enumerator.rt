@@ -22,7 +22,7 @@ fn int_value(place: Place, value: Option<i128>) -> Result<i32, TypeFault>
     ensures { Answers (λ z. z) (int_value place value) result }
 {
     match value {
-        Some(z) if -2_147_483_648 <= z && z <= 2_147_483_647 => Ok(z as i32),
+        Some(z) if i128::from(i32::MIN) <= z && z <= i128::from(i32::MAX) => Ok(z as i32),
         _ => Err(no_type(place)),
     }
 }

@@ -24,6 +24,7 @@ use c_expression_rules::expression::type_expr;
 use c_expression_rules::fault::{TypeFault, both, no_type};
 use c_expression_rules::operator::{decay, in_type};
 use c_expression_rules::sight::Sight;
+use c_expression_rules::text::string_in;
 use c_syntax::{CType, Expr, ExprKind, Init, Length, Member, Place};
 use std::alloc::{AllocError, Global};
 use std::mem::replace;
@@ -80,16 +81,6 @@ fn is_text(e: &Expr) -> bool
     ensures { result ≡ is_text (plain_expr e.now) }
 {
     matches!(&*e.kind, ExprKind::Text(_))
-}
-
-/// The number of the string literal that a typed expression is, where it is one.
-fn string_in(e: &Expr) -> Option<u32>
-    ensures { result ≡ string_in (plain_expr e.now) }
-{
-    match &*e.kind {
-        ExprKind::Text(n) => Some(*n),
-        _ => None,
-    }
 }
 
 /// The count of the bytes of a string literal.

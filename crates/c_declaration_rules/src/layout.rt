@@ -9,7 +9,7 @@ ghost use Rattle.c_model.specs.ExpressionTyping.{levels_behind_pointer, levels_o
 ghost use Rattle.c_model.specs.DeclarationTyping.{end_of, greater, placed_from, widest};
 ghost use Rattle.c_declaration_rules.specs.Layouts.{Grows};
 
-use c_expression_rules::limits::small_size;
+use c_expression_rules::limits::{number, small_size};
 use c_expression_rules::sight::number_at;
 use c_syntax::{CInt, CType, Layout, Member};
 use std::alloc::AllocError;
@@ -54,16 +54,6 @@ pub fn align_of(structs: &[Layout], t: &CType) -> u32
         CType::Array(u, _) => align_of(structs, u),
         CType::Struct(n) => align_of_struct(structs, *n),
         CType::Void | CType::Named(_) | CType::StructTag(_) | CType::EnumTag(..) => 1,
-    }
-}
-
-/// A number that a tree holds, where there is room for it.
-fn number(n: u64) -> Result<u32, AllocError>
-    ensures { IfOk result (λ m. m ≡ n) }
-{
-    match u32::try_from(n) {
-        Ok(n) => Ok(n),
-        Err(_) => Err(AllocError),
     }
 }
 
@@ -168,7 +158,7 @@ pub fn levels_of(levels: &[u32], t: &CType) -> Result<u32, AllocError>
     match t {
         CType::Ptr(u) => more(levels_behind_pointer(u)?),
         CType::Array(u, _) => more(levels_of(levels, u)?),
-        CType::Struct(n) => Ok(number_at(levels, *n)),
+        CType::Struct(n) => Ok(number_at(levels, *n as usize)),
         _ => Ok(0),
     }
 }

@@ -3,7 +3,6 @@
 ghost use Rattle.std.specs.Prelude.{◌≡◌, ◌<◌, IfOk, OnOk, length, map, slice_set};
 ghost use Rattle.c_syntax.specs.Ctypes.{plain_type};
 ghost use Rattle.c_syntax.specs.Programs.{plain_layout, plain_member};
-ghost use Rattle.c_model.specs.ExpressionTyping.{number_at};
 ghost use Rattle.c_model.specs.DeclarationTyping.{typed_member_type};
 ghost use Rattle.c_expression_rules.specs.Answers.{Answers};
 ghost use Rattle.c_expression_rules.specs.Sights.{plain_sight};
@@ -14,12 +13,13 @@ use crate::layout::{Grown, greater, grow, levels_of, more};
 use crate::name::behind;
 use c_expression_rules::call::member_among;
 use c_expression_rules::expression::type_written;
-use c_expression_rules::fault::{Fault, TypeFault, both, no_name};
+use c_expression_rules::fault::{TypeFault, both, no_name, too_large};
+use c_expression_rules::limits::MOST_BYTES;
 use c_expression_rules::operator::has_size;
-use c_expression_rules::sight::Sight;
+use c_expression_rules::sight::{Sight, number_at};
 use c_expression_rules::types::within_limits;
 use c_syntax::copy::copy_type;
-use c_syntax::{CType, Layout, Member, Place, code};
+use c_syntax::{CType, Layout, Member, Place};
 use std::alloc::{AllocError, Global};
 
 /// A name that no member of the struct has.
@@ -52,13 +52,10 @@ fn small_layout(place: Place, grown: Grown) -> Result<Grown, TypeFault>
     ensures same { IfOk result (λ g. g ≡ grown) }
     ensures small { IfOk result (λ g. g.size < 4294967296) }
 {
-    if grown.size <= 2_147_483_647 {
+    if grown.size <= u64::from(MOST_BYTES) {
         Ok(grown)
     } else {
-        Err(TypeFault::Refused(Fault {
-            code: code::LIMIT,
-            place,
-        }))
+        Err(too_large(place))
     }
 }
 
@@ -119,16 +116,6 @@ fn add(
     Ok(())
 }
 
-/// How many levels the struct of an index has.
-fn level_at(levels: &[u32], k: usize) -> u32
-    ensures { result ≡ number_at levels.now k }
-{
-    match levels.get(k) {
-        Some(n) => *n,
-        None => 0,
-    }
-}
-
 /// Gives the struct of an index so many levels.
 fn set_level(levels: &mut Vec<u32>, k: usize, level: u32)
     ensures { levels.new.items ≡ slice_set levels.old.items k level }
@@ -152,7 +139,7 @@ fn see_member(
     ensures { OnOk result (GrownTo (plain_sight sight.old) k (plain_member m.now) grown ends (plain_sight sight.new)) }
 {
     let levels = more(levels_of(&sight.levels, &m.ctype)?)?;
-    let level = greater(level_at(&sight.levels, k), levels);
+    let level = greater(number_at(&sight.levels, k), levels);
     add(alloc, &mut sight.structs[k], m, grown, ends)?;
     set_level(&mut sight.levels, k, level);
     Ok(())

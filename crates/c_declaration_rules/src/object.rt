@@ -15,10 +15,10 @@ ghost use Rattle.c_declaration_rules.specs.Objects.{pointed_to_elements, result_
 use c_expression_rules::conversion::{is_character, is_scalar, is_struct, is_void};
 use c_expression_rules::expression::{type_length, type_written};
 use c_expression_rules::fault::{TypeFault, both, no_name, no_type};
-use c_expression_rules::limits::{KnownSize, sized};
+use c_expression_rules::limits::{KnownSize, number, sized};
 use c_expression_rules::operator::has_size;
 use c_expression_rules::sight::Sight;
-use c_expression_rules::text::literal_at;
+use c_expression_rules::text::{count_with_zero, literal_at};
 use c_expression_rules::types::within_limits;
 use c_syntax::{CType, Expr, ExprKind, Init, Length, Place};
 use std::alloc::{AllocError, Global};
@@ -98,16 +98,6 @@ fn text_read(sight: &Sight, init: &Init) -> Option<usize>
     }
 }
 
-/// A number that a tree holds, where there is room for it.
-fn number(n: usize) -> Result<u32, AllocError>
-    ensures { IfOk result (λ m. m ≡ n) }
-{
-    match u32::try_from(n) {
-        Ok(n) => Ok(n),
-        Err(_) => Err(AllocError),
-    }
-}
-
 /// As many elements as an initialiser has: one expression is none that fits.
 fn items_in(init: &Init) -> usize
     ensures { result ≡ items_in (plain_init init.now) }
@@ -123,11 +113,8 @@ fn length_by(sight: &Sight, element: &CType, init: &Init) -> Result<u32, AllocEr
     ensures { IfOk result (λ n. n ≡ length_by (plain_sight sight.now) (plain_type element.now) (plain_init init.now)) }
 {
     match text_read(sight, init) {
-        Some(count) if is_character(element) => match count.checked_add(1) {
-            Some(n) => number(n),
-            None => Err(AllocError),
-        },
-        _ => number(items_in(init)),
+        Some(count) if is_character(element) => count_with_zero(count),
+        _ => number(items_in(init) as u64),
     }
 }
 

@@ -146,7 +146,8 @@ module _ (s : Sight) (at : Place)
 
     assign_small : (op : Option BinOp) (a b : Expression) → Gives (IsSmall s) (plain.assign s at op a b)
     assign_small None a b = gives_if (IsSmall s) (plain.is_struct (type_of a)) (plain.assigned_struct s at a b) (plain.assigned_scalar s at a b)
-        (gives_where (IsSmall s) (plain.is_place a && same_type (type_of b) (type_of a)) (no_type at) (where_sized s at (type_of a) (faulty (no_type at))) (λ e. gives_sized (IsSmall s) s at (type_of a) (faulty (no_type at)) tt))
+        (gives_where (IsSmall s) (plain.is_place a && same_type (type_of b) (type_of a)) (no_type at) (where_sized s at (type_of a) (Good (Node at (type_of a) (Assign None a b))))
+        (λ e. gives_sized (IsSmall s) s at (type_of a) (Good (Node at (type_of a) (Assign None a b))) refl))
         (gives_where (IsSmall s) (plain.is_place a && plain.is_scalar (type_of a) && plain.is_assigned s b (type_of a)) (no_type at) (Good (Node at (type_of a) (Assign None a (in_type (type_of a) b)))) (λ e. refl))
     assign_small (Some op) a b = compounded_small op a b (Node at (type_of a) (Assign (Some op) a b)) refl
 

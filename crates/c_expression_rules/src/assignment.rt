@@ -110,15 +110,24 @@ fn assigned_scalar(
     }
 }
 
-/// A struct goes to the same struct, whose size is needed; it isn't assigned yet.
-fn assigned_struct(sight: &Sight, place: Place, a: &Expr, b: &Expr) -> Result<CType, TypeFault>
+/// `a = b` of a struct that goes to the same struct, whose size is needed (C99 6.5.16.1).
+fn assigned_struct(
+    alloc: Global,
+    sight: &Sight,
+    place: Place,
+    a: &Expr,
+    b: &Expr,
+) -> Result<CType, TypeFault>
     ensures { Answers (λ t. Node place (plain_type t) (Assign None (plain_expr a.now) (plain_expr b.now)))
         (assigned_struct (plain_sight sight.now) place (plain_expr a.now) (plain_expr b.now)) result }
 {
     if is_place(a) && same_type(&b.ctype, &a.ctype) {
         has_size(sight, place, &a.ctype)?;
+        let ctype = copy_type(alloc, &a.ctype)?;
+        Ok(ctype)
+    } else {
+        Err(no_type(place))
     }
-    Err(no_type(place))
 }
 
 /// `a = b` (C99 6.5.16.1).
@@ -134,7 +143,7 @@ fn assigned(
         (assigned (plain_sight sight.now) place (plain_expr a.now) (plain_expr b.old)) result }
 {
     if is_struct(&a.ctype) {
-        assigned_struct(sight, place, a, b)
+        assigned_struct(alloc, sight, place, a, b)
     } else {
         assigned_scalar(alloc, sight, place, a, b)
     }

@@ -1,6 +1,6 @@
 //! Names and calls (C99 6.5.1, 6.5.2.2), and members of structs (C99 6.5.2.3).
 
-ghost use Rattle.std.specs.Prelude.{◌≡◌, IfErr, IfOk, map, option_map};
+ghost use Rattle.std.specs.Prelude.{◌≡◌, ℕ, IfErr, IfOk, map, option_map};
 ghost use Rattle.c_syntax.specs.Ctypes.{Ptr, Void, plain_type};
 ghost use Rattle.c_syntax.specs.Expressions.{Arrow, Call, Dot, Node, plain_expr, plain_exprs, plain_kind};
 ghost use Rattle.c_syntax.specs.Programs.{plain_layout, plain_member};
@@ -102,19 +102,37 @@ pub fn mean(
     }
 }
 
+/// The types of the parameters of a function of the library.
+fn library_params(alloc: Global, f: LibraryFunction) -> Result<Vec<CType>, AllocError>
+    ensures { (x : ℕ) → IfOk result (λ ts. map plain_type ts.items ≡ (signature_of x f).params) }
+{
+    let params = match f {
+        LibraryFunction::Getchar => Vec::new(alloc),
+        LibraryFunction::Putchar | LibraryFunction::Exit => vec![in alloc; CType::Int(CInt::I32)]?,
+        LibraryFunction::Malloc => vec![in alloc; CType::Int(CInt::U64)]?,
+        LibraryFunction::Calloc => vec![in alloc; CType::Int(CInt::U64), CType::Int(CInt::U64)]?,
+        LibraryFunction::Free => vec![in alloc; pointer_to_void(alloc)?]?,
+    };
+    Ok(params)
+}
+
+/// The type of what a function of the library gives.
+fn library_result(alloc: Global, f: LibraryFunction) -> Result<CType, AllocError>
+    ensures { (x : ℕ) → IfOk result (λ t. plain_type t ≡ (signature_of x f).result) }
+{
+    match f {
+        LibraryFunction::Putchar | LibraryFunction::Getchar => Ok(CType::Int(CInt::I32)),
+        LibraryFunction::Exit | LibraryFunction::Free => Ok(CType::Void),
+        LibraryFunction::Malloc | LibraryFunction::Calloc => pointer_to_void(alloc),
+    }
+}
+
 /// What a function of the library tells its callers.
 fn library_signature(alloc: Global, name: u32, f: LibraryFunction) -> Result<Signature, AllocError>
     ensures { IfOk result (λ s. plain_signature s ≡ signature_of name f) }
 {
-    let mut params = Vec::new(alloc);
-    match f {
-        LibraryFunction::Putchar | LibraryFunction::Exit => params.push(CType::Int(CInt::I32))?,
-        LibraryFunction::Getchar => (),
-    }
-    let result = match f {
-        LibraryFunction::Putchar | LibraryFunction::Getchar => CType::Int(CInt::I32),
-        LibraryFunction::Exit => CType::Void,
-    };
+    let result = library_result(alloc, f)?;
+    let params = library_params(alloc, f)?;
     Ok(Signature {
         name,
         decl: Use::LIBRARY,

@@ -5,23 +5,15 @@ ghost use Rattle.c_syntax.specs.Ctypes.{plain_type};
 ghost use Rattle.c_syntax.specs.Expressions.{plain_expr};
 ghost use Rattle.c_syntax.specs.Programs.{plain_layout};
 ghost use Rattle.c_model.specs.Integers.{integer_type};
-ghost use Rattle.c_model.specs.Meaning.{is_array};
 ghost use Rattle.c_model.specs.ExpressionTyping.{constant, is_constant, is_constant_operator, is_null, is_null_name, is_other, is_zero, tables_in};
 ghost use Rattle.c_expression_rules.specs.Constants.{converted_to, folded, from, has_small_sizes, one, size_in, true_of};
 ghost use Rattle.c_expression_rules.specs.Sights.{plain_sight};
 
 use crate::arithmetic::{convert, operate, operate_one, truth};
-use crate::conversion::integer_type;
+use crate::conversion::{integer_type, is_array};
 use crate::limits::small_size;
 use crate::sight::Sight;
 use c_syntax::{CType, Expr, ExprKind, Layout, UnOp, Use};
-
-/// Whether the type is an array's.
-pub fn is_array(t: &CType) -> bool
-    ensures { result ≡ is_array (plain_type t.now) }
-{
-    matches!(t, CType::Array(..))
-}
 
 /// The size of a type, where it is within the limit.
 fn size_in(structs: &[Layout], t: &CType) -> Option<i128>

@@ -4,7 +4,7 @@ ghost use Rattle.std.specs.Prelude.{◌≡◌, option_map};
 ghost use Rattle.c_syntax.specs.Ctypes.{plain_length, plain_type};
 ghost use Rattle.c_model.specs.Integers.{fits, integer_type, is_signed, width};
 ghost use Rattle.c_model.specs.Conversions.{common, is_relation, is_shift, promoted, result_type, wider};
-ghost use Rattle.c_model.specs.Meaning.{is_pointer};
+ghost use Rattle.c_model.specs.Meaning.{is_array, is_pointer};
 ghost use Rattle.c_model.specs.ExpressionTyping.{are_compatible, are_integers, is_character, is_difference, is_equality, is_scalar, is_step, is_struct};
 ghost use Rattle.c_model.specs.ExpressionTyping.{is_void, pointed, points_to_void, same_int, same_length, same_type};
 
@@ -63,6 +63,12 @@ pub fn is_pointer(t: &CType) -> bool
     ensures { result ≡ is_pointer (plain_type t.now) }
 {
     matches!(t, CType::Ptr(_))
+}
+
+pub fn is_array(t: &CType) -> bool
+    ensures { result ≡ is_array (plain_type t.now) }
+{
+    matches!(t, CType::Array(..))
 }
 
 /// Whether strings fill arrays of the type (C99 6.2.5 p15, 6.7.8 p14).
@@ -165,7 +171,7 @@ pub fn promoted(k: CInt) -> CInt
 }
 
 /// The one of two promoted types that both are converted to.
-fn wider(k: CInt, l: CInt) -> CInt
+pub fn wider(k: CInt, l: CInt) -> CInt
     ensures { result ≡ wider k l }
 {
     if width(k) < width(l) {

@@ -1,7 +1,7 @@
 //! Why a tree isn't typed.
 
 ghost use Rattle.std.specs.Prelude.{◌≡◌, IfErr};
-ghost use Rattle.c_syntax.specs.RefusalCodes.{name_code, type_code};
+ghost use Rattle.c_syntax.specs.RefusalCodes.{limit_code, name_code, type_code};
 ghost use Rattle.c_model.specs.Checked.{rank};
 ghost use Rattle.c_expression_rules.specs.declared.fault.TypeFault.TheVariants.{Refused, Memory};
 ghost use Rattle.c_expression_rules.specs.Answers.{IsRefusal, both, first_of, plain_fault};
@@ -56,6 +56,16 @@ pub fn no_type(place: Place) -> TypeFault
 {
     TypeFault::Refused(Fault {
         code: code::TYPE,
+        place,
+    })
+}
+
+/// A limit that is passed (E11).
+pub fn too_large(place: Place) -> TypeFault
+    ensures { result ≡ Refused (record { code = limit_code; place = place }) }
+{
+    TypeFault::Refused(Fault {
+        code: code::LIMIT,
         place,
     })
 }

@@ -99,9 +99,12 @@ pub enum LibraryFunction {
     Putchar,
     Getchar,
     Exit,
+    Malloc,
+    Calloc,
+    Free,
 }
 
-/// The built function of a name, where it is one (C99 7.19.7.9, 7.19.7.6, 7.20.4.3).
+/// The built function of a name, where it is one (C99 7.19.7.9, 7.19.7.6, 7.20.4.3, 7.20.3).
 pub fn library_function(bytes: &[u8]) -> Option<LibraryFunction>
     ensures { (x : ℕ) → library_function x bytes.now ≡ option_map (signature_of x) result }
 {
@@ -111,6 +114,12 @@ pub fn library_function(bytes: &[u8]) -> Option<LibraryFunction>
         Some(LibraryFunction::Getchar)
     } else if bytes == b"exit".as_slice() {
         Some(LibraryFunction::Exit)
+    } else if bytes == b"malloc".as_slice() {
+        Some(LibraryFunction::Malloc)
+    } else if bytes == b"calloc".as_slice() {
+        Some(LibraryFunction::Calloc)
+    } else if bytes == b"free".as_slice() {
+        Some(LibraryFunction::Free)
     } else {
         None
     }

@@ -1,6 +1,6 @@
 //! Whether the size of a type is known (C99 6.2.5 p1), and the limits on types (C99 5.2.4.1).
 
-ghost use Rattle.std.specs.Prelude.{◌≡◌, map, nat_le, slice_get};
+ghost use Rattle.std.specs.Prelude.{◌≡◌, IfOk, map, nat_le, slice_get};
 ghost use Rattle.c_syntax.specs.Ctypes.{plain_length, plain_type};
 ghost use Rattle.c_syntax.specs.Programs.{plain_layout};
 ghost use Rattle.c_model.specs.Layouts.{count_of, size_of, size_of_struct};
@@ -10,6 +10,16 @@ ghost use Rattle.c_expression_rules.specs.Sights.{plain_sight};
 
 use crate::sight::{Sight, number_at};
 use c_syntax::{CInt, CType, Layout, Length};
+use std::alloc::AllocError;
+
+/// How many pointers and arrays may stand around one another in a type.
+pub const MOST_LEVELS: u32 = 100;
+
+/// How many elements an array has at most.
+pub const MOST_ELEMENTS: u32 = 2_147_483_647;
+
+/// How many bytes a type has at most.
+pub const MOST_BYTES: u32 = 2_147_483_647;
 
 /// Whether a type has a size: a struct whose members aren't known yet may have one.
 #[derive(Clone, Copy, PartialEq, Eq, Debug)]
@@ -17,6 +27,16 @@ pub enum KnownSize {
     HasSize,
     HasNoSize,
     NotYet,
+}
+
+/// A number that a tree holds, where there is room for it.
+pub fn number(n: u64) -> Result<u32, AllocError>
+    ensures { IfOk result (λ m. m ≡ n) }
+{
+    match u32::try_from(n) {
+        Ok(n) => Ok(n),
+        Err(_) => Err(AllocError),
+    }
 }
 
 /// Whether the members of a struct are known.
@@ -65,7 +85,7 @@ fn is_shallow(levels: &[u32], t: &CType, most: u32) -> bool
     match t {
         CType::Ptr(t) => most > 0 && is_shallow_behind(t, most - 1),
         CType::Array(t, _) => most > 0 && is_shallow(levels, t, most - 1),
-        CType::Struct(n) => number_at(levels, *n) <= most,
+        CType::Struct(n) => number_at(levels, *n as usize) <= most,
         _ => true,
     }
 }
@@ -74,7 +94,7 @@ fn is_shallow(levels: &[u32], t: &CType, most: u32) -> bool
 fn small(n: u64) -> Option<u32>
     ensures { result ≡ small n }
 {
-    if n <= 2_147_483_647 {
+    if n <= u64::from(MOST_BYTES) {
         Some(n as u32)
     } else {
         None
@@ -145,5 +165,5 @@ pub fn has_small_parts(structs: &[Layout], t: &CType) -> bool
 pub fn is_within_limits(sight: &Sight, t: &CType) -> bool
     ensures { result ≡ is_within_limits (plain_sight sight.now) (plain_type t.now) }
 {
-    is_shallow(&sight.levels, t, 100) && has_small_parts(&sight.structs, t)
+    is_shallow(&sight.levels, t, MOST_LEVELS) && has_small_parts(&sight.structs, t)
 }

@@ -117,13 +117,25 @@ pub fn is_among(tag: u32, tags: &[u32]) -> bool
 }
 
 /// How many levels the struct of a number has.
-pub fn number_at(levels: &[u32], number: u32) -> u32
+pub fn number_at(levels: &[u32], number: usize) -> u32
     ensures { result ≡ number_at levels.now number }
 {
-    match levels.get(number as usize) {
+    match levels.get(number) {
         Some(n) => *n,
         None => 0,
     }
+}
+
+/// Brings a declared object in sight with this type.
+pub fn see_object(sight: &mut Sight, d: &Decl, ctype: CType) -> Result<(), AllocError>
+    ensures { OnOk result (plain_sight sight.new ≡ with_object (plain_sight sight.old) (record (plain_decl d.now) { ctype = plain_type ctype })) }
+{
+    sight.entities.push(Entity::AnObject(Object {
+        name: d.name,
+        decl: d.place.offset,
+        ctype,
+    }))?;
+    Ok(())
 }
 
 /// Brings a declared object in sight.
@@ -131,12 +143,7 @@ pub fn with_object(alloc: Global, sight: &mut Sight, d: &Decl) -> Result<(), All
     ensures { OnOk result (plain_sight sight.new ≡ with_object (plain_sight sight.old) (plain_decl d.now)) }
 {
     let ctype = copy_type(alloc, &d.ctype)?;
-    sight.entities.push(Entity::AnObject(Object {
-        name: d.name,
-        decl: d.place.offset,
-        ctype,
-    }))?;
-    Ok(())
+    see_object(sight, d, ctype)
 }
 
 /// What is around a block that begins here.

@@ -2,17 +2,19 @@
 
 ghost use Rattle.std.specs.Prelude.{◌≡◌, ◌+◌, IfOk, length, map, option_map};
 ghost use Rattle.c_syntax.specs.Ctypes.{Array, Count, Int, plain_type};
-ghost use Rattle.c_syntax.specs.Expressions.{Node, plain_kind};
+ghost use Rattle.c_syntax.specs.Expressions.{Node, plain_expr, plain_kind};
 ghost use Rattle.c_syntax.specs.declared.types.CInt.TheVariants.{I8};
 ghost use Rattle.c_syntax.specs.Programs.{plain_text};
+ghost use Rattle.c_model.specs.Meaning.{string_in};
 ghost use Rattle.c_model.specs.ExpressionTyping.{literal_at, text};
 ghost use Rattle.c_expression_rules.specs.Answers.{Answers};
 ghost use Rattle.c_expression_rules.specs.Sights.{plain_sight};
 
 use crate::fault::{TypeFault, no_type};
+use crate::limits::number;
 use crate::operator::put;
 use crate::sight::Sight;
-use c_syntax::{CInt, CType, ExprKind, Length, Place, Text};
+use c_syntax::{CInt, CType, Expr, ExprKind, Length, Place, Text};
 use std::alloc::{AllocError, Global};
 
 /// The number of the string literal at an offset, and the count of its bytes.
@@ -27,22 +29,22 @@ pub fn literal_at(texts: &[Text], offset: u32) -> Option<(usize, usize)>
     None
 }
 
-/// A number that a tree holds, where there is room for it.
-fn number(n: usize) -> Result<u32, AllocError>
-    ensures { IfOk result (λ m. m ≡ n) }
+/// The number of the string literal that a typed expression is, where it is one.
+pub fn string_in(e: &Expr) -> Option<u32>
+    ensures { result ≡ string_in (plain_expr e.now) }
 {
-    match u32::try_from(n) {
-        Ok(n) => Ok(n),
-        Err(_) => Err(AllocError),
+    match &*e.kind {
+        ExprKind::Text(n) => Some(*n),
+        _ => None,
     }
 }
 
 /// The count of bytes with a 0 after them.
-fn count_with_zero(n: usize) -> Result<u32, AllocError>
+pub fn count_with_zero(n: usize) -> Result<u32, AllocError>
     ensures { IfOk result (λ m. m ≡ n + 1) }
 {
     match n.checked_add(1) {
-        Some(n) => number(n),
+        Some(n) => number(n as u64),
         None => Err(AllocError),
     }
 }
@@ -67,7 +69,7 @@ pub fn text(
     match literal_at(&sight.texts, offset) {
         None => Err(no_type(place)),
         Some((n, count)) => {
-            let n = number(n)?;
+            let n = number(n as u64)?;
             let count = count_with_zero(count)?;
             put(kind, ExprKind::Text(n));
             let ctype = characters(alloc, count)?;

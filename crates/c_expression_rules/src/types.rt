@@ -8,11 +8,11 @@ ghost use Rattle.c_expression_rules.specs.Answers.{Answers, IsRefusal};
 ghost use Rattle.c_expression_rules.specs.Sights.{plain_sight};
 ghost use Rattle.c_expression_rules.specs.Structs.{known_struct, within_limits};
 
-use crate::fault::{Fault, TypeFault, no_name, no_type};
-use crate::limits::is_within_limits;
+use crate::fault::{TypeFault, no_name, no_type, too_large};
+use crate::limits::{MOST_ELEMENTS, is_within_limits};
 use crate::operator::has_size;
 use crate::sight::{Sight, is_among, tagged};
-use c_syntax::{CType, Length, Place, code};
+use c_syntax::{CType, Length, Place};
 
 /// The count of an array: from 1 to 2^31 - 1 (C99 6.7.5.2 p1).
 pub fn counted(place: Place, value: Option<i128>) -> Result<Length, TypeFault>
@@ -20,7 +20,7 @@ pub fn counted(place: Place, value: Option<i128>) -> Result<Length, TypeFault>
     ensures sure { IfErr result IsRefusal }
 {
     match value {
-        Some(n) if 0 < n && n < 2_147_483_648 => Ok(Length::Count(n as u32)),
+        Some(n) if 0 < n && n <= i128::from(MOST_ELEMENTS) => Ok(Length::Count(n as u32)),
         _ => Err(no_type(place)),
     }
 }
@@ -67,9 +67,6 @@ pub fn within_limits(sight: &Sight, place: Place, t: &CType) -> Result<(), TypeF
     if is_within_limits(sight, t) {
         Ok(())
     } else {
-        Err(TypeFault::Refused(Fault {
-            code: code::LIMIT,
-            place,
-        }))
+        Err(too_large(place))
     }
 }

@@ -1,5 +1,5 @@
 -- The items of a file in the order of the text.
-use Rattle.std.proofs.Common.{◌≡◌, ℕ, suc, refl, sym, ap, ◌∙◌, arith, List, [], ◌∷◌, ◌++◌, append_assoc, length, map, Bool, true, false, cond, nat_eq, nat_lt}
+use Rattle.std.proofs.Common.{◌≡◌, ℕ, suc, refl, sym, ap, ◌∙◌, arith, List, [], ◌∷◌, ◌++◌, append_assoc, length, map, Bool, true, false, cond, nat_eq, nat_lt, Option, Some, None}
 use Rattle.std.proofs.lemmas.List.{map-append}
 use Rattle.std.proofs.lemmas.Bool.Decides.{nat_tests}
 use Rattle.std.specs.Ordering.{nat_cmp}
@@ -7,10 +7,15 @@ use Rattle.std.specs.List.Sorted.{IsNonDecreasingBy, IsStableByKey}
 use Rattle.c_syntax.specs.declared.program.Layout.{Layout}
 use Rattle.c_syntax.specs.declared.program.Member as code_member
 use Rattle.c_syntax.specs.Programs.{StructMember, TranslationUnit, plain_layout, plain_member}
-use Rattle.c_model.specs.UnitTyping.{FileItem, StructHead, Member, AnEnum, ATypedef, AGlobal, AFunction, offset_of_item, member_items, struct_items, unknown, inserted, in_order, items_of_file}
+use Rattle.c_model.specs.UnitTyping.{FileItem, StructHead, Member, AnEnum, ATypedef, AGlobal, AFunction, offset_of_item, member_items, struct_items, unknown, inserted, in_order, items_of_file, with_tag}
 use Rattle.c_typing.specs.declared.item.FileItem as code
 use Rattle.c_typing.specs.Files.{bare, head_at, plain_file_item}
 use Rattle.c_typing.proofs.Orders.{ins, by_insertion, sorted_is}
+
+-- a tag that may be there stands before those of the rest
+pub with_tag_then : (tags rest : List ℕ) (tag : Option ℕ) → with_tag tags tag ++ rest ≡ tags ++ elim tag [ None ↦ rest | Some x ↦ x ∷ rest ]
+with_tag_then tags rest None = refl
+with_tag_then tags rest (Some x) = append_assoc tags (x ∷ []) rest
 
 -- the number by which the code sorts
 abbrev pub offset_of : code.FileItem → ℕ

@@ -9,7 +9,7 @@ ghost use Rattle.c_expression_rules.specs.Sights.{plain_sight};
 ghost use Rattle.c_typing.specs.Files.{Finished, all_kept, course_at, first_in, items_in_turn, plain_course, plain_file_item, with_sight, without_sight};
 
 use crate::heading::{Callee, denoted};
-use crate::item::{Course, FileItem, type_item};
+use crate::item::{Course, FileItem, add_tag, type_item};
 use crate::order::{put_items, take_items};
 use c_expression_rules::entities::Entities;
 use c_expression_rules::fault::TypeFault;
@@ -21,15 +21,14 @@ use std::alloc::{AllocError, Global};
 use std::mem::replace;
 
 /// The tags of enums.
+#[tactic(auto, using(crate::proofs::Items::with_tag_then))]
 pub fn tags_of(alloc: Global, enums: &[EnumDef]) -> Result<Vec<u32>, AllocError>
     ensures { IfOk result (λ v. v.items ≡ tags_of (map plain_enum enums.now)) }
 {
     let mut tags = Vec::new(alloc);
     let mut rest = enums;
     'turn: while let [e, after @ ..] = rest {
-        if let Some(x) = e.tag {
-            tags.push(x)?;
-        }
+        add_tag(&mut tags, e.tag)?;
         rest = after;
     }
     Ok(tags)

@@ -77,7 +77,7 @@ fn new_tag(tags: &[u32], place: Place, tag: Option<u32>) -> Result<(), TypeFault
 }
 
 /// Keeps that a tag is defined.
-fn add_tag(tags: &mut Vec<u32>, tag: Option<u32>) -> Result<(), AllocError>
+pub fn add_tag(tags: &mut Vec<u32>, tag: Option<u32>) -> Result<(), AllocError>
     ensures { OnOk result (tags.new.items ≡ with_tag tags.old.items tag) }
 {
     if let Some(x) = tag {
