@@ -1,5 +1,5 @@
 -- The translation of full expressions that are casts.
-use Rattle.std.proofs.Common.{◌≡◌, Bool, true, false, List, refl, ap, sym, subst, ◌∙◌, true≢false}
+use Rattle.std.proofs.Common.{◌≡◌, true, false, List, refl, ap, sym, subst, ◌∙◌, true≢false}
 use Rattle.c_syntax.specs.declared.expression.Expr.{Expr}
 use Rattle.c_syntax.specs.declared.expression.ExprKind as code
 use Rattle.c_syntax.specs.declared.place.Place.{Place}

@@ -1,14 +1,14 @@
 -- Initialisers and the zeros of what they leave out, part by part.
-use Rattle.std.proofs.Common.{◌≡◌, ℕ, zero, suc, ◌+◌, ◌-◌, ◌<◌, ◌≤◌, List, [], ◌∷◌, ◌++◌, length, drop, get_or, slice_get, Option, Some, None, refl, sym, ap, ◌∙◌, arith}
+use Rattle.std.proofs.Common.{◌≡◌, ℕ, zero, suc, ◌+◌, ◌-◌, ◌<◌, List, [], ◌∷◌, ◌++◌, length, drop, get_or, Option, Some, None, refl, sym, ap, ◌∙◌, arith}
 use Rattle.std.specs.Prelude.{pos, not, if◌then◌else◌}
 use Rattle.c_syntax.specs.declared.expression.Expr.{Expr}
 use Rattle.c_syntax.specs.declared.place.Place.{Place}
-use Rattle.c_syntax.specs.Ctypes.{PlainType, Struct}
+use Rattle.c_syntax.specs.Ctypes.{PlainType}
 use Rattle.c_syntax.specs.Expressions.{Expression, plain_expr}
-use Rattle.c_syntax.specs.Programs.{StructType, StructMember}
+use Rattle.c_syntax.specs.Programs.{StructType}
 use Rattle.c_syntax.specs.Statements.{Initialiser, Many, Initialisers, NoInitialiser, Listed}
 use Rattle.c_model.specs.Library.{is_there}
-use Rattle.c_model.specs.Layouts.{Scalar, in_each, in_members, members_of_struct, scalars_from, scalars_of}
+use Rattle.c_model.specs.Layouts.{scalars_of}
 use Rattle.c_model.specs.Meaning.{string_in}
 use Rattle.mon_syntax.specs.declared.tree.MonType.{MonType}
 use Rattle.mon_syntax.specs.declared.tree.MonType.TheVariants.{U8}
@@ -20,7 +20,7 @@ use Rattle.c_effects.specs.Initialisers.{fill_by, fill_first_by, fill_one_by, fi
 use Rattle.c_effects.specs.Named.{full_setup_by, full_value_by, unit_of, with_registers}
 use Rattle.c_effects.proofs.Sequences.{before_assoc}
 
--- ---- bytes and zeros
+-- ---- bytes
 
 -- one more byte of a string
 pub bytes_more : (r k d n : ℕ) (bytes : List ℕ) → 0 < n → bytes_at r k d n bytes ≡ before (stored_at r k d U8 (Constant U8 (pos (get_or bytes 0 0)))) (bytes_at r k (d + 1) (n - 1) (drop 1 bytes))
@@ -34,42 +34,9 @@ bytes_more r k d (suc n) (b ∷ bytes) lt =
     let less : n ≡ suc n - 1 = omega arith in
     λ i. before (stored_at r k d U8 (Constant U8 (pos b))) (bytes_at r k (next i) (less i) bytes)
 
-zeros_behind : (r k d : ℕ) (xs ys : List (ℕ × Scalar)) → zeros_at r k d (xs ++ ys) ≡ before (zeros_at r k d xs) (zeros_at r k d ys)
-zeros_behind r k d [] ys = refl
-zeros_behind r k d (x ∷ xs) ys = ap (before (zeros_at r k d (x ∷ []))) (zeros_behind r k d xs ys)
-
--- the zeros of one more element, and of one more member
-pub each_more : (r k d at size left : ℕ) (inside : ℕ → List (ℕ × Scalar)) → 0 < left
-    → zeros_at r k d (in_each at size left inside) ≡ before (zeros_at r k d (inside at)) (zeros_at r k d (in_each (at + size) size (left - 1) inside))
-each_more r k d at size zero inside lt = absurd (omega arith)
-each_more r k d at size (suc left) inside lt =
-    let less : left ≡ suc left - 1 = omega arith in
-    zeros_behind r k d (inside at) (in_each (at + size) size left inside) ∙ ap (λ n. before (zeros_at r k d (inside at)) (zeros_at r k d (in_each (at + size) size n inside))) less
-
-pub members_more : (r k d offset : ℕ) (m : StructMember) (ms : List StructMember) (inside : PlainType → ℕ → List (ℕ × Scalar))
-    → zeros_at r k d (in_members (m ∷ ms) offset inside) ≡ before (zeros_at r k d (inside m.ctype (offset + m.offset))) (zeros_at r k d (in_members ms offset inside))
-members_more r k d offset m ms inside = zeros_behind r k d (inside m.ctype (offset + m.offset)) (in_members ms offset inside)
-
-pub no_element : (r k d at size left : ℕ) (inside : ℕ → List (ℕ × Scalar)) → left ≤ 0 → zeros_at r k d (in_each at size left inside) ≡ NoStatement
-no_element r k d at size zero inside le = refl
-no_element r k d at size (suc left) inside le = absurd (omega arith)
-
 pub no_byte : (r k d n : ℕ) (bytes : List ℕ) → n ≡ 0 → bytes_at r k d n bytes ≡ NoStatement
 no_byte r k d zero bytes e = refl
 no_byte r k d (suc n) bytes e = absurd (omega arith)
-
--- the scalars of a struct
-pub struct_scalars : (structs : List StructType) (deep n offset : ℕ) (o : Option StructType) → 0 < deep → o ≡ slice_get structs n
-    → in_members (members_of_struct o) offset (scalars_from structs (deep - 1)) ≡ scalars_from structs deep (Struct n) offset
-struct_scalars structs zero n offset o lt is = absurd (omega arith)
-struct_scalars structs (suc deep) n offset o lt is =
-    let less : suc deep - 1 ≡ deep = omega arith in
-    λ i. in_members (members_of_struct (is i)) offset (scalars_from structs (less i))
-
--- no struct may stand in it
-pub no_scalars : (structs : List StructType) (deep n offset : ℕ) → deep ≡ 0 → [] ≡ scalars_from structs deep (Struct n) offset
-no_scalars structs zero n offset e = refl
-no_scalars structs (suc deep) n offset e = absurd (omega arith)
 
 -- ---- parts
 

@@ -1,15 +1,13 @@
--- Members and globals that are found in order.
-use Rattle.std.proofs.Common.{◌≡◌, ℕ, zero, suc, slice_get, ◌+◌, List, [], ◌∷◌, Bool, true, false, length, get_or, ltb, map, nat_eq, refl, ap, subst, sym, ◌∙◌, arith}
+-- Globals that are found in order, and literals.
+use Rattle.std.proofs.Common.{◌≡◌, ℕ, zero, suc, slice_get, List, [], ◌∷◌, Bool, true, false, length, get_or, ltb, map, nat_eq, refl, ap, subst, sym, ◌∙◌}
 use Rattle.std.proofs.Math.Dec.{nltb→le, ltb→lt}
 use Rattle.std.proofs.lemmas.Option.{slice_get_past, slice_get-get_or}
 use Rattle.std.specs.Prelude.{Some, None, if◌then◌else◌, T, not}
 use Rattle.std.proofs.lemmas.Bool.{eqb-true, eq-eqb}
-use Rattle.c_syntax.specs.declared.program.Member.{Member}
 use Rattle.c_syntax.specs.declared.statement.Decl.{Decl}
 use Rattle.c_syntax.specs.declared.program.Text.{Text}
-use Rattle.c_syntax.specs.Programs.{StringLiteral, plain_member, plain_text}
+use Rattle.c_syntax.specs.Programs.{StringLiteral, plain_text}
 use Rattle.c_syntax.specs.Statements.{plain_decl}
-use Rattle.c_model.specs.Layouts.{member_among, member_offset}
 use Rattle.c_model.specs.Meaning.{text_at}
 use Rattle.c_effects.specs.Expressions.{global_index}
 
@@ -20,13 +18,6 @@ differ a b distinct = by (nat_eq a b) refl
     by : (t : Bool) → nat_eq a b ≡ t → t ≡ false
     by true e = absurd (distinct (eqb-true a b e))
     by false e = refl
-
-pub member_here : (name : ℕ) (m : Member) (ms : List Member) → m.name ≡ name → m.offset ≡ member_offset (member_among name (map plain_member (m ∷ ms)))
-member_here name m ms e = sym (ap (λ b. member_offset (if b then Some (plain_member m) else member_among name (map plain_member ms))) (eq-eqb m.name name e))
-
-pub member_later : (name : ℕ) (m : Member) (ms : List Member) → (m.name ≡ name → ⊥)
-    → member_offset (member_among name (map plain_member ms)) ≡ member_offset (member_among name (map plain_member (m ∷ ms)))
-member_later name m ms distinct = sym (ap (λ b. member_offset (if b then Some (plain_member m) else member_among name (map plain_member ms))) (differ m.name name distinct))
 
 pub global_here : (x : ℕ) (d : Decl) (ds : List Decl) → d.place.offset ≡ x → 0 ≡ global_index x (map plain_decl (d ∷ ds))
 global_here x d ds e = sym (ap (λ b. if b then 0 else suc (global_index x (map plain_decl ds))) (eq-eqb d.place.offset x e))

@@ -8,3 +8,4 @@ pub mod Questions
 pub mod Objects
 pub mod Depths
 pub mod InitialiserTrees
+pub mod ScalarTrees

@@ -1,5 +1,5 @@
 -- The translation of a tree at a known variant.
-use Rattle.std.proofs.Common.{◌≡◌, ℕ, List, ◌++◌, length, refl, ap, sym, subst, ◌∙◌}
+use Rattle.std.proofs.Common.{◌≡◌, ℕ, List, ◌++◌, length, ap, sym, ◌∙◌}
 use Rattle.std.specs.Prelude.{Vec, Result, Ok, Err, OnOk}
 use Rattle.std.specs.declared.alloc.Global.{Global}
 use Rattle.c_syntax.specs.declared.expression.BinOp.{BinOp}
@@ -7,20 +7,14 @@ use Rattle.c_syntax.specs.declared.expression.Use.{Use}
 use Rattle.c_syntax.specs.declared.expression.Expr.{Expr}
 use Rattle.c_syntax.specs.declared.expression.ExprKind as code
 use Rattle.c_syntax.specs.declared.place.Place.{Place}
-use Rattle.c_syntax.specs.declared.types.CType.{CType}
 use Rattle.c_syntax.specs.Ctypes.{PlainType, plain_type}
-use Rattle.c_syntax.specs.Expressions.{Expression, Node, Binary, Index, Both, Either, Choice, Call, Cast, plain_expr, plain_exprs, plain_kind, type_of}
-use Rattle.c_syntax.specs.Programs.{TranslationUnit}
+use Rattle.c_syntax.specs.Expressions.{Expression, Node, Binary, Index, Both, Either, Choice, Call, plain_expr, plain_exprs, plain_kind}
 use Rattle.c_syntax.proofs.Rows.{call_is}
-use Rattle.mon_syntax.specs.declared.tree.MonType.{MonType}
-use Rattle.mon_syntax.specs.Registers.{Bindings, Names, next_register}
+use Rattle.mon_syntax.specs.Registers.{Names, next_register}
 use Rattle.mon_syntax.specs.Trees.{MonExpression, MonStatements, If}
-use Rattle.c_effects.specs.Letters.{FullHasLetters}
-use Rattle.c_effects.specs.Parts.{DirectHasLetters, direct_setup, direct_temporaries, direct_value}
-use Rattle.c_effects.specs.Named.{both_set_by, condition_by, direct_setup_by, direct_value_by, either_set_by, full_setup_by, full_value_by, setup_by, unit_of}
+use Rattle.c_effects.specs.Named.{both_set_by, condition_by, either_set_by, setup_by}
 use Rattle.c_effects.specs.Named.{value_by, with_registers}
-use Rattle.c_effects.specs.Effects.{full_setup, full_temporaries, full_value}
-use Rattle.c_effects.specs.Expressions.{before, in_type, one, set, temporaries, value_type}
+use Rattle.c_effects.specs.Expressions.{before, one, set, temporaries}
 use Rattle.c_effects.proofs.Sequences.{before_assoc}
 
 pub on_ok : {A E P : Type 0} (r : Result A E) → P → OnOk r P

@@ -1,8 +1,9 @@
 -- What effects become: calls, assignments, increments and initialisers, the full expressions whose values they take, and the temporary
 -- registers of both. Statements are put before the values that they set up. What is assigned is stored in the block of its variable.
-use Rattle.std.specs.Prelude.{ℕ, zero, suc, ◌+◌, pos, Bool, true, false, not, nat_le, List, [], ◌∷◌, ◌++◌, length, map, Option, Some, None, if◌then◌else◌}
+use Rattle.std.specs.Prelude.{ℕ, zero, suc, ◌+◌, pos, Bool, false, not, nat_le, List, [], ◌∷◌, ◌++◌, length, map, Option, Some, None, if◌then◌else◌}
 use Rattle.std.specs.Prelude.{codes, bytes_eq}
 use Rattle.c_syntax.specs.declared.place.Place.{Place}
+use Rattle.c_syntax.specs.declared.types.CInt.TheVariants as c
 use Rattle.c_syntax.specs.declared.expression.Use.{Use}
 use Rattle.c_syntax.specs.Ctypes.{PlainType, int_type}
 use Rattle.c_syntax.specs.Expressions as source
@@ -10,13 +11,16 @@ use Rattle.c_syntax.specs.Expressions.{Expression, Node, Expressions, NoExpressi
 use Rattle.c_syntax.specs.Statements.{Initialiser, One, Many, Initialisers, NoInitialiser, Listed, Declaration}
 use Rattle.c_syntax.specs.Programs.{StructType, StringLiteral, TranslationUnit}
 use Rattle.c_model.specs.Library.{is_there}
-use Rattle.c_model.specs.Layouts.{Scalar, IntegerType, PointerType, size_of, offset_of, target_of, scalars_of}
+use Rattle.c_model.specs.Layouts.{Scalar, IntegerType, PointerType, scalar_of, size_of, offset_of, target_of, scalars_of}
 use Rattle.c_model.specs.Meaning.{bump_operator, is_member, is_of_library, string_in, text_at, parts_or_itself, tables_of}
 use Rattle.c_model.specs.ExpressionTyping.{name_at}
 use Rattle.c_model.specs.Formed.{number_of}
+use Rattle.mon_syntax.specs.declared.tree.CopySize.{CopySize}
+use Rattle.mon_syntax.specs.declared.tree.CopySize.TheVariants.{One as OneByte, Two, Four, Eight}
+use Rattle.mon_syntax.specs.declared.tree.MemoryCall.TheVariants.{Copy, Malloc, Calloc, Free}
 use Rattle.mon_syntax.specs.declared.tree.MonType.{MonType}
 use Rattle.mon_syntax.specs.declared.tree.MonType.TheVariants.{U8, I32, I64, Ptr}
-use Rattle.mon_syntax.specs.Trees.{MonExpression, Register, Constant, Load, Store, PutChar, GetChar, Exit, Call, MonStatements, NoStatement}
+use Rattle.mon_syntax.specs.Trees.{MonExpression, Register, Constant, Load, Store, PutChar, GetChar, Exit, Act, Call, MonStatements, NoStatement, Then}
 use Rattle.mon_syntax.specs.Registers.{Bindings, register_of}
 pub use Rattle.mon_syntax.specs.Indices.{index_of}
 use Rattle.c_effects.specs.Expressions.{register_type, value_type, converted, compound, farther, global_index, temporaries}
@@ -59,7 +63,10 @@ abbrev pub library_call : Option ℕ → List ℕ → List MonExpression → Mon
 library_call r name args =
     if bytes_eq name (codes "putchar") then one (PutChar r (first_of args))
     else (if bytes_eq name (codes "getchar") then one (GetChar r)
-    else (if bytes_eq name (codes "exit") then one (Exit (first_of args)) else NoStatement))
+    else (if bytes_eq name (codes "exit") then one (Exit (first_of args))
+    else (if bytes_eq name (codes "malloc") then one (Act r Malloc args)
+    else (if bytes_eq name (codes "calloc") then one (Act r Calloc args)
+    else (if bytes_eq name (codes "free") then one (Act r Free args) else NoStatement)))))
 
 -- a call, and the register that takes its value
 abbrev pub call : TranslationUnit → Option ℕ → Use → List MonExpression → MonStatements
@@ -122,13 +129,44 @@ abbrev pub into_object : TranslationUnit → ℕ → ℕ → Expression → Plai
 into_object p r k a t e =
     if is_member a then before (set k (farther (Register r) (offset_in p.structs a))) (store k t (e k)) else store r t (e r)
 
+-- ---- structs that are assigned (C99 6.5.16.1): the scalars in them are copied, in order, and what is between these isn't
+
+-- how many bytes the copy of a scalar takes
+abbrev pub copy_size : Scalar → CopySize
+copy_size (IntegerType c.I8) = OneByte
+copy_size (IntegerType c.U8) = OneByte
+copy_size (IntegerType c.I16) = Two
+copy_size (IntegerType c.U16) = Two
+copy_size (IntegerType c.I32) = Four
+copy_size (IntegerType c.U32) = Four
+copy_size (IntegerType c.I64) = Eight
+copy_size (IntegerType c.U64) = Eight
+copy_size PointerType = Eight
+
+-- scalars of the object that stands e bytes from where the register q points are copied to the object d bytes from where r points
+abbrev pub copies_at : ℕ → ℕ → ℕ → ℕ → List (ℕ × Scalar) → MonStatements
+copies_at r d q e [] = NoStatement
+copies_at r d q e (c ∷ cs) =
+    Then (Act None (Copy (copy_size c.1)) (farther (Register r) (d + c.0) ∷ farther (Register q) (e + c.0) ∷ [])) (copies_at r d q e cs)
+
 -- ---- temporary registers of effects
 
 abbrev pub member_temporaries : Expression → List MonType
 member_temporaries a = if is_member a then Ptr ∷ [] else []
 
+-- those of `a = b`, of a scalar and of a struct
+abbrev pub value_temporaries : TranslationUnit → Expression → Expression → List MonType
+value_temporaries p a b = target_temporaries p a ++ full_temporaries b ++ member_temporaries a
+
+abbrev pub object_temporaries : TranslationUnit → Expression → Expression → List MonType
+object_temporaries p a b = target_temporaries p a ++ target_temporaries p b
+
+abbrev pub assigned_temporaries : TranslationUnit → Option Scalar → Expression → Expression → List MonType
+assigned_temporaries p (Some k) a b = value_temporaries p a b
+assigned_temporaries p None a b = object_temporaries p a b
+
 abbrev pub effect_temporaries : TranslationUnit → Expression → List MonType
-effect_temporaries p (Node at t (source.Assign None a b)) = target_temporaries p a ++ full_temporaries b ++ member_temporaries a
+effect_temporaries p (Node at t (source.Assign None a b)) = assigned_temporaries p (scalar_of t) a b
 effect_temporaries p (Node at t (source.Assign (Some op) a b)) = target_temporaries p a ++ temporaries b ++ member_temporaries a
 effect_temporaries p (Node at t (source.Bump op a)) = target_temporaries p a ++ member_temporaries a
 effect_temporaries p (Node at t (source.Call f es)) = arguments_temporaries es
@@ -209,12 +247,27 @@ module _ (p : TranslationUnit) (bound : Bindings) where
   full_setup rs (Node at t (source.Cast to (Node at2 u (source.Call f es)))) = called rs (Some (length (rs ++ arguments_temporaries es))) f es
   full_setup rs e = setup p bound rs e
 
-  -- an expression for its effects: the place, the value, the store; nothing is left of one that has none
-  abbrev pub effect : List MonType → Expression → MonStatements
-  effect rs (Node at t (source.Assign None a b)) =
+  -- `a = b` of a scalar: the place, the value, the store
+  abbrev pub value_assigned : List MonType → PlainType → Expression → Expression → MonStatements
+  value_assigned rs t a b =
       before (target_setup p bound rs a) (before (full_setup (rs ++ target_temporaries p a) b)
       (into_object p (target p bound rs a) (length (rs ++ target_temporaries p a ++ full_temporaries b)) a t
       (λ r. full_value p bound (rs ++ target_temporaries p a) b)))
+
+  -- of a struct: both places, and the copies
+  abbrev pub object_assigned : List MonType → PlainType → Expression → Expression → MonStatements
+  object_assigned rs t a b =
+      before (target_setup p bound rs a) (before (target_setup p bound (rs ++ target_temporaries p a) b)
+      (copies_at (target p bound rs a) (offset_in p.structs a) (target p bound (rs ++ target_temporaries p a) b) (offset_in p.structs b)
+      (scalars_of p.structs t)))
+
+  abbrev pub assigned : List MonType → Option Scalar → PlainType → Expression → Expression → MonStatements
+  assigned rs (Some k) t a b = value_assigned rs t a b
+  assigned rs None t a b = object_assigned rs t a b
+
+  -- an expression for its effects: the place, the value, the store; nothing is left of one that has none
+  abbrev pub effect : List MonType → Expression → MonStatements
+  effect rs (Node at t (source.Assign None a b)) = assigned rs (scalar_of t) t a b
   effect rs (Node at t (source.Assign (Some op) a b)) =
       before (target_setup p bound rs a) (before (setup p bound (rs ++ target_temporaries p a) b)
       (into_object p (target p bound rs a) (length (rs ++ target_temporaries p a ++ temporaries b)) a t

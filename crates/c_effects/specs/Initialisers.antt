@@ -1,13 +1,12 @@
 -- Initialisers in parts: where a value is stored, the parts of an object that are left, and what is made of one of them.
-use Rattle.std.specs.Prelude.{ℕ, ◌+◌, List, [], ◌∷◌, drop, map, Option, Some, None}
+use Rattle.std.specs.Prelude.{ℕ, ◌+◌, List, [], ◌∷◌, map, Option, Some, None}
 use Rattle.c_syntax.specs.declared.expression.Expr.{Expr}
 use Rattle.c_syntax.specs.declared.place.Place.{Place}
-use Rattle.c_syntax.specs.declared.types.CType.{CType}
 use Rattle.c_syntax.specs.Ctypes.{PlainType, plain_type}
 use Rattle.c_syntax.specs.Expressions.{Expression, plain_expr}
 use Rattle.c_syntax.specs.Programs.{StructType, plain_member}
 use Rattle.c_syntax.specs.Statements.{Initialiser, One, Initialisers}
-use Rattle.c_model.specs.Layouts.{Scalar, scalar_of, parts_of, elements, member_parts}
+use Rattle.c_model.specs.Layouts.{scalar_of, parts_of, elements, member_parts}
 use Rattle.c_model.specs.Meaning.{string_in}
 use Rattle.mon_syntax.specs.declared.tree.MonType.{MonType}
 use Rattle.mon_syntax.specs.Registers.{Names}
@@ -15,7 +14,7 @@ use Rattle.mon_syntax.specs.Trees.{MonExpression, MonStatements, NoStatement}
 use Rattle.c_effects.specs.declared.aggregate.Parts.{Parts}
 use Rattle.c_effects.specs.declared.aggregate.Parts.TheVariants.{Elements, Members}
 use Rattle.c_effects.specs.declared.slot.Slot.{Slot}
-use Rattle.c_effects.specs.Effects.{stored_at, bytes_at, zeros_at, zero_parts, fill, fill_one, fill_parts, initial_temporaries, initialise}
+use Rattle.c_effects.specs.Effects.{stored_at, bytes_at, fill, fill_one, fill_parts, initial_temporaries, initialise}
 use Rattle.c_effects.specs.Named.{unit_of}
 
 -- ---- parts of objects
@@ -39,9 +38,6 @@ stored_in s t e = stored_at s.object s.pointer s.offset t e
 
 abbrev pub bytes_in : Slot → ℕ → List ℕ → MonStatements
 bytes_in s n bytes = bytes_at s.object s.pointer s.offset n bytes
-
-abbrev pub zeros_in : Slot → List (ℕ × Scalar) → MonStatements
-zeros_in s cs = zeros_at s.object s.pointer s.offset cs
 
 -- ---- initialisers, where a function's names are these
 

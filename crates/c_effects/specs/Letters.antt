@@ -6,6 +6,7 @@ use Rattle.c_syntax.specs.Expressions as source
 use Rattle.c_syntax.specs.Expressions.{Expression, Node, Expressions, NoExpression, Following}
 use Rattle.c_syntax.specs.Annotations as logic
 use Rattle.c_syntax.specs.Annotations.{LogicTerm, Predicate, Chain, Links, NoLink, Linked, ClauseBody, Truth, Annotation}
+use Rattle.c_model.specs.Layouts.{Scalar, scalar_of}
 use Rattle.c_syntax.specs.Statements.{Initialiser, One, Many, Initialisers, NoInitialiser, Listed, Declaration}
 
 -- a value of `char`
@@ -46,8 +47,13 @@ FullHasLetters (Node at t (source.Call f es)) = ArgumentsHaveLetters es
 FullHasLetters (Node at t (source.Cast to (Node at2 u (source.Call f es)))) = ArgumentsHaveLetters es
 FullHasLetters e = HasLetters e
 
+-- what is assigned to this scalar, or else to a struct
+abbrev pub AssignedHasLetters : Option Scalar → Expression → Type 0
+AssignedHasLetters (Some k) e = FullHasLetters e
+AssignedHasLetters None e = HasLetters e
+
 abbrev pub EffectHasLetters : Expression → Type 0
-EffectHasLetters (Node at t (source.Assign None a b)) = HasLetters a × FullHasLetters b
+EffectHasLetters (Node at t (source.Assign None a b)) = HasLetters a × AssignedHasLetters (scalar_of t) b
 EffectHasLetters (Node at t (source.Assign (Some op) a b)) = HasLetters a × HasLetters b
 EffectHasLetters (Node at t (source.Bump op a)) = HasLetters a
 EffectHasLetters (Node at t (source.Call f es)) = ArgumentsHaveLetters es

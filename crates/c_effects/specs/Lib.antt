@@ -5,3 +5,4 @@ pub mod Parts
 pub mod Named
 pub mod Objects
 pub mod Initialisers
+pub mod Scalars

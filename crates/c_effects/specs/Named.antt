@@ -12,7 +12,8 @@ use Rattle.mon_syntax.specs.declared.tree.MonType.{MonType}
 use Rattle.mon_syntax.specs.Registers.{Names, next_register, with_kinds, with_table}
 use Rattle.mon_syntax.specs.Trees.{MonExpression, MonStatements}
 use Rattle.c_effects.specs.Expressions.{Reading, value, place, setup, condition_of, questions, assertion, assertions}
-use Rattle.c_effects.specs.Effects.{arguments, arguments_setup, called, full_value, full_setup, effect, effect_if_any, initialise, initialise_all}
+use Rattle.c_effects.specs.Effects.{arguments, arguments_setup, called, full_value, full_setup, value_assigned, object_assigned, effect}
+use Rattle.c_effects.specs.Effects.{effect_if_any, initialise, initialise_all}
 use Rattle.c_effects.specs.Parts.{truth_set, both_set, either_set, direct_setup, direct_value}
 
 -- with further registers of these types
@@ -67,6 +68,12 @@ full_value_by n e = full_value (unit_of n) n.table.bound n.table.kinds e
 
 abbrev pub full_setup_by : Names → Expression → MonStatements
 full_setup_by n e = full_setup (unit_of n) n.table.bound n.table.kinds e
+
+abbrev pub value_assigned_by : Names → PlainType → Expression → Expression → MonStatements
+value_assigned_by n t a b = value_assigned (unit_of n) n.table.bound n.table.kinds t a b
+
+abbrev pub object_assigned_by : Names → PlainType → Expression → Expression → MonStatements
+object_assigned_by n t a b = object_assigned (unit_of n) n.table.bound n.table.kinds t a b
 
 abbrev pub effect_by : Names → Expression → MonStatements
 effect_by n e = effect (unit_of n) n.table.bound n.table.kinds e

@@ -11,7 +11,7 @@ use Rattle.c_model.specs.Meaning.{is_member}
 use Rattle.mon_syntax.specs.Registers.{Names}
 use Rattle.mon_syntax.specs.Trees.{MonExpression, MonStatements, NoStatement, Register}
 use Rattle.c_effects.specs.Expressions.{farther, set}
-use Rattle.c_effects.specs.Effects.{base, offset_in, target, target_setup}
+use Rattle.c_effects.specs.Effects.{base, is_direct, offset_in, target, target_setup, variable_register}
 use Rattle.c_effects.specs.Named.{unit_of}
 
 abbrev pub base_by : Names → Expression → MonExpression
@@ -22,6 +22,10 @@ target_by n e = target (unit_of n) n.table.bound n.table.kinds e
 
 abbrev pub target_setup_by : Names → Expression → MonStatements
 target_setup_by n e = target_setup (unit_of n) n.table.bound n.table.kinds e
+
+-- the register that points to the block of a variable of a function
+abbrev pub direct_register : Names → Expression → Option ℕ
+direct_register n e = if is_direct (unit_of n) e then Some (variable_register n.table.bound e) else None
 
 -- the register that points to what is stored, of that of the object and a further one for a member
 abbrev pub part_register : ℕ → ℕ → Expression → ℕ

@@ -10,11 +10,11 @@ ghost use Rattle.c_effects.specs.Effects.{arguments_temporaries, call, first_of,
 ghost use Rattle.c_effects.specs.Named.{arguments_by, arguments_setup_by, called_by, with_registers};
 
 use crate::expression::expression;
-use crate::name::name_at;
 use crate::operator::constant;
 use crate::part::then;
+use c_expression_rules::sight::name_at;
 use c_syntax::{Expr, Use};
-use mon_syntax::{MonExpr, MonStmt, MonStmtKind, MonType, Registers, numbered};
+use mon_syntax::{MemoryCall, MonExpr, MonStmt, MonStmtKind, MonType, Registers, numbered};
 use std::alloc::{AllocError, Global};
 
 // The first argument, 0 where there is none.
@@ -64,6 +64,12 @@ fn library_call(
         then(alloc, to, MonStmtKind::GetChar(into))
     } else if name == b"exit".as_slice() {
         exit(alloc, args, to)
+    } else if name == b"malloc".as_slice() {
+        then(alloc, to, MonStmtKind::Act(into, MemoryCall::Malloc, args))
+    } else if name == b"calloc".as_slice() {
+        then(alloc, to, MonStmtKind::Act(into, MemoryCall::Calloc, args))
+    } else if name == b"free".as_slice() {
+        then(alloc, to, MonStmtKind::Act(into, MemoryCall::Free, args))
     } else {
         Ok(())
     }

@@ -2,10 +2,10 @@
 
 ghost use Rattle.std.specs.Prelude.{◌≡◌};
 ghost use Rattle.c_syntax.specs.Ctypes.{plain_type};
-ghost use Rattle.c_model.specs.Conversions.{common, is_shift, operation_type, promoted, wider};
-ghost use Rattle.c_model.specs.Integers.{is_signed, width};
+ghost use Rattle.c_model.specs.Conversions.{operation_type};
 ghost use Rattle.c_effects.specs.Expressions.{operand_type, register_type, value_type};
 
+use c_expression_rules::conversion::{common, is_shift, promoted};
 use c_syntax::{BinOp, CInt, CType};
 use mon_syntax::MonType;
 
@@ -50,69 +50,6 @@ pub fn operand_type(t: MonType) -> MonType
         // a pointer is compared as it is
         MonType::Ptr => MonType::Ptr,
     }
-}
-
-// Whether values of the type can be negative.
-fn is_signed(k: CInt) -> bool
-    ensures { result ≡ is_signed k }
-{
-    match k {
-        CInt::I8 | CInt::I16 | CInt::I32 | CInt::I64 => true,
-        CInt::U8 | CInt::U16 | CInt::U32 | CInt::U64 => false,
-    }
-}
-
-// The bits of the type.
-fn width(k: CInt) -> u8
-    ensures { result ≡ width k }
-{
-    match k {
-        CInt::I8 | CInt::U8 => 8,
-        CInt::I16 | CInt::U16 => 16,
-        CInt::I32 | CInt::U32 => 32,
-        CInt::I64 | CInt::U64 => 64,
-    }
-}
-
-// The integer promotions (C99 6.3.1.1 p2).
-fn promoted(k: CInt) -> CInt
-    ensures { result ≡ promoted k }
-{
-    match k {
-        CInt::I8 | CInt::U8 | CInt::I16 | CInt::U16 | CInt::I32 => CInt::I32,
-        CInt::U32 => CInt::U32,
-        CInt::I64 => CInt::I64,
-        CInt::U64 => CInt::U64,
-    }
-}
-
-// The one of two promoted types that both are converted to.
-fn wider(k: CInt, l: CInt) -> CInt
-    ensures { result ≡ wider k l }
-{
-    if width(k) < width(l) {
-        l
-    } else if width(l) < width(k) {
-        k
-    } else if is_signed(k) {
-        l
-    } else {
-        k
-    }
-}
-
-// The usual arithmetic conversions (C99 6.3.1.8).
-fn common(k: CInt, l: CInt) -> CInt
-    ensures { result ≡ common k l }
-{
-    wider(promoted(k), promoted(l))
-}
-
-// `<<` and `>>`, whose operands keep their own types (C99 6.5.7 p3).
-fn is_shift(op: BinOp) -> bool
-    ensures { result ≡ is_shift op }
-{
-    matches!(op, BinOp::Shl | BinOp::Shr)
 }
 
 /// The type in which an operator computes on operands of two types (C99 6.3.1.8, 6.5.7 p3).

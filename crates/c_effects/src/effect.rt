@@ -1,25 +1,72 @@
 //! Assignments, increments and calls (C99 6.5.2.2, 6.5.2.4, 6.5.3.1, 6.5.16) as effects.
 
 ghost use Rattle.std.specs.Prelude.{◌≡◌, None, OnOk, Some, option_map};
+ghost use Rattle.c_syntax.specs.Ctypes.{plain_type};
 ghost use Rattle.c_syntax.specs.Expressions.{plain_expr};
 ghost use Rattle.c_model.specs.Meaning.{bump_operator};
 ghost use Rattle.mon_syntax.specs.Trees.{plain_stmts};
-ghost use Rattle.c_effects.specs.Letters.{Any, EffectHasLetters};
+ghost use Rattle.c_effects.specs.Letters.{Any, EffectHasLetters, FullHasLetters, HasLetters};
 ghost use Rattle.c_effects.specs.Expressions.{before};
-ghost use Rattle.c_effects.specs.Effects.{any_temporaries, effect_temporaries};
-ghost use Rattle.c_effects.specs.Named.{effect_by, effect_if_any_by, unit_of, with_registers};
+ghost use Rattle.c_effects.specs.Effects.{any_temporaries, effect_temporaries, object_temporaries, value_temporaries};
+ghost use Rattle.c_effects.specs.Named.{effect_by, effect_if_any_by, object_assigned_by, unit_of, value_assigned_by, with_registers};
 ghost use Rattle.c_effects.specs.Objects.{assign_of, bump_of};
 
 use crate::call::called;
 use crate::expression::expression;
 use crate::full::full;
-use crate::object::{current, part_in, store, target};
+use crate::object::{current, part_at, part_in, store, target};
 use crate::operator::{compound, constant};
+use crate::scalars::copy_all;
+use c_expression_rules::conversion::is_scalar;
 use c_syntax::{BinOp, BumpOp, CInt, CType, Expr, ExprKind};
 use mon_syntax::{MonStmt, MonType, Registers};
 use std::alloc::{AllocError, Global};
 
-// Gives an object, whose type this is, the value of a full expression.
+// Gives an object of this scalar type the value of a full expression.
+fn assign_value(
+    alloc: Global,
+    left: (&Expr, &CType),
+    e: &Expr,
+    names: &mut Registers<'_>,
+    to: &mut Vec<MonStmt>,
+) -> Result<(), AllocError>
+    ensures code { OnOk result (plain_stmts to.new.items ≡ before (plain_stmts to.old.items)
+        (value_assigned_by names.old (plain_type left.entry.1.now) (plain_expr left.entry.0.now) (plain_expr e.now))) }
+    ensures names { OnOk result (names.new ≡ with_registers
+        (value_temporaries (unit_of names.old) (plain_expr left.entry.0.now) (plain_expr e.now)) names.old) }
+    ensures letters { OnOk result (HasLetters (plain_expr left.entry.0.now) × FullHasLetters (plain_expr e.now)) }
+{
+    let (left, t) = left;
+    let object = target(alloc, left, names, to)?;
+    let value = full(alloc, e, names, to)?;
+    let part = part_in(alloc, object, left, names, to)?;
+    store(alloc, part, t, value, to)
+}
+
+// Copies an object of this type, a struct, to another.
+fn assign_object(
+    alloc: Global,
+    left: (&Expr, &CType),
+    e: &Expr,
+    names: &mut Registers<'_>,
+    to: &mut Vec<MonStmt>,
+) -> Result<(), AllocError>
+    ensures code { OnOk result (plain_stmts to.new.items ≡ before (plain_stmts to.old.items)
+        (object_assigned_by names.old (plain_type left.entry.1.now) (plain_expr left.entry.0.now) (plain_expr e.now))) }
+    ensures names { OnOk result (names.new ≡ with_registers
+        (object_temporaries (unit_of names.old) (plain_expr left.entry.0.now) (plain_expr e.now)) names.old) }
+    ensures letters { OnOk result (HasLetters (plain_expr left.entry.0.now) × HasLetters (plain_expr e.now)) }
+{
+    let (left, t) = left;
+    let place = target(alloc, left, names, to)?;
+    let source = target(alloc, e, names, to)?;
+    let layouts = names.layouts();
+    let first = part_at(layouts, place, left)?;
+    let second = part_at(layouts, source, e)?;
+    copy_all(alloc, t, layouts, (first, second), to)
+}
+
+// `=` with an object, whose type this is, on its left (C99 6.5.16.1).
 fn assign(
     alloc: Global,
     left: (&Expr, &CType),
@@ -33,11 +80,11 @@ fn assign(
         (assign_of None left.entry.1.now left.entry.0.now e.now)) names.old) }
     ensures letters { OnOk result (EffectHasLetters (assign_of None left.entry.1.now left.entry.0.now e.now)) }
 {
-    let (left, t) = left;
-    let object = target(alloc, left, names, to)?;
-    let value = full(alloc, e, names, to)?;
-    let part = part_in(alloc, object, left, names, to)?;
-    store(alloc, part, t, value, to)
+    if is_scalar(left.1) {
+        assign_value(alloc, left, e, names, to)
+    } else {
+        assign_object(alloc, left, e, names, to)
+    }
 }
 
 // Gives an object, whose type this is, what the operator makes of its value and that of an expression.

@@ -18,45 +18,13 @@ use crate::aggregate::{Parts, first, parts_of, rest};
 use crate::conversion::value_type;
 use crate::full::full;
 use crate::object::{block_of, store};
-use crate::slot::{Slot, Structs, bytes_in, farther_by, store_in, text_at, zeros_in};
-use c_syntax::{CType, Decl, Expr, ExprKind, Init};
+use crate::scalars::{Structs, Task, each_scalar};
+use crate::slot::{Part, Slot, bytes_in, farther_by, store_in, text_at};
+use c_expression_rules::text::string_in;
+use c_syntax::{CType, Decl, Expr, Init};
 use mon_syntax::{MonStmt, MonType, Registers};
 use std::alloc::{AllocError, Global};
 use track_scopes::size::size_of;
-
-/// A part of an object: so many bytes from where a register points.
-#[derive(Clone, Copy)]
-struct Part {
-    object: u32,
-    offset: u64,
-}
-
-// The number of the string literal that an expression is.
-fn string_in(e: &Expr) -> Option<u32>
-    ensures { result ≡ string_in (plain_expr e.now) }
-{
-    match &*e.kind {
-        ExprKind::Text(n) => Some(*n),
-        ExprKind::Number(_, _)
-        | ExprKind::Letter(_)
-        | ExprKind::Variable(_)
-        | ExprKind::Unary(_, _)
-        | ExprKind::Binary(_, _, _)
-        | ExprKind::Both(_, _)
-        | ExprKind::Either(_, _)
-        | ExprKind::Choice(_, _, _)
-        | ExprKind::Assign(_, _, _)
-        | ExprKind::Bump(_, _)
-        | ExprKind::Call(_, _)
-        | ExprKind::Cast(_, _)
-        | ExprKind::SizeOfType(_)
-        | ExprKind::SizeOfExpr(_)
-        | ExprKind::Index(_, _)
-        | ExprKind::Dot(_, _)
-        | ExprKind::Arrow(_, _)
-        | ExprKind::Comma(_, _) => None,
-    }
-}
 
 // A part takes the value of an expression, or the bytes of a string.
 fn fill_one(
@@ -122,7 +90,7 @@ fn zero_parts(
             pointer,
             offset,
         };
-        zeros_in(alloc, t, structs, part, 0, to)?;
+        each_scalar(alloc, t, structs, Task::Zero(part), 0, to)?;
         left = rest(left)?;
     }
     Ok(())

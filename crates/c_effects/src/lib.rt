@@ -7,14 +7,14 @@
 // what code is made of
 pub mod conversion;
 pub mod layout;
-pub mod name;
 pub mod operator;
 pub mod part;
+pub mod scalars;
+pub mod slot;
 
 // initialisers
 pub mod aggregate;
 pub mod initialiser;
-pub mod slot;
 
 // expressions and effects
 pub mod call;

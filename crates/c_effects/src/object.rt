@@ -10,15 +10,16 @@ ghost use Rattle.mon_syntax.specs.Registers.{next_register};
 ghost use Rattle.mon_syntax.specs.Trees.{plain_expr as plain_monitored, plain_stmts};
 ghost use Rattle.c_effects.specs.Letters.{HasLetters};
 ghost use Rattle.c_effects.specs.Expressions.{before, set, temporaries};
-ghost use Rattle.c_effects.specs.Effects.{block_of, current, is_direct, member_temporaries, offset_in, store, target_temporaries, variable_register};
+ghost use Rattle.c_effects.specs.Effects.{block_of, current, member_temporaries, offset_in, store, target_temporaries};
 ghost use Rattle.c_effects.specs.Named.{setup_by, unit_of, with_registers};
-ghost use Rattle.c_effects.specs.Objects.{base_by, part_register, part_setup, target_by, target_setup_by};
+ghost use Rattle.c_effects.specs.Objects.{base_by, direct_register, part_register, part_setup, target_by, target_setup_by};
 
 use crate::conversion::value_type;
 use crate::expression::{expression, place};
 use crate::layout::{global_index, offset_in_target, offset_of};
 use crate::operator::{farther, register};
 use crate::part::then;
+use crate::slot::Part;
 use c_syntax::{CType, Expr, ExprKind, Layout};
 use mon_syntax::{MonExpr, MonExprKind, MonStmt, MonStmtKind, MonType, Registers};
 use std::alloc::{AllocError, Global};
@@ -33,14 +34,18 @@ pub fn block_of(names: &Registers<'_>, x: u32) -> u32
     }
 }
 
-// Whether an expression is a variable of a function, to whose block a register points.
-fn is_direct(names: &Registers<'_>, e: &Expr) -> bool
-    ensures { result ≡ is_direct (unit_of names.now) (plain_expr e.now) }
+// The register that points to the block of a variable of a function. No other expression has one.
+fn direct(names: &Registers<'_>, e: &Expr) -> Option<u32>
+    ensures { result ≡ direct_register names.now (plain_expr e.now) }
 {
     match &*e.kind {
         ExprKind::Variable(x) => {
             let globals = names.globals();
-            globals.len() <= global_index(globals, x.decl)
+            if globals.len() <= global_index(globals, x.decl) {
+                Some(block_of(names, x.decl))
+            } else {
+                None
+            }
         }
         ExprKind::Number(_, _)
         | ExprKind::Letter(_)
@@ -59,34 +64,7 @@ fn is_direct(names: &Registers<'_>, e: &Expr) -> bool
         | ExprKind::Index(_, _)
         | ExprKind::Dot(_, _)
         | ExprKind::Arrow(_, _)
-        | ExprKind::Comma(_, _) => false,
-    }
-}
-
-// The register that points to the block of a variable.
-fn variable_register(names: &Registers<'_>, e: &Expr) -> u32
-    ensures { result ≡ variable_register names.now.table.bound (plain_expr e.now) }
-{
-    match &*e.kind {
-        ExprKind::Variable(x) => block_of(names, x.decl),
-        ExprKind::Number(_, _)
-        | ExprKind::Letter(_)
-        | ExprKind::Unary(_, _)
-        | ExprKind::Binary(_, _, _)
-        | ExprKind::Both(_, _)
-        | ExprKind::Either(_, _)
-        | ExprKind::Choice(_, _, _)
-        | ExprKind::Assign(_, _, _)
-        | ExprKind::Bump(_, _)
-        | ExprKind::Call(_, _)
-        | ExprKind::Cast(_, _)
-        | ExprKind::SizeOfType(_)
-        | ExprKind::SizeOfExpr(_)
-        | ExprKind::Text(_)
-        | ExprKind::Index(_, _)
-        | ExprKind::Dot(_, _)
-        | ExprKind::Arrow(_, _)
-        | ExprKind::Comma(_, _) => 0,
+        | ExprKind::Comma(_, _) => None,
     }
 }
 
@@ -217,11 +195,19 @@ pub fn target(
     ensures names { OnOk result (names.new ≡ with_registers (target_temporaries (unit_of names.old) (plain_expr e.now)) names.old) }
     ensures letters { OnOk result (HasLetters (plain_expr e.now)) }
 {
-    if is_direct(names, e) {
-        Ok(variable_register(names, e))
-    } else {
-        pointing(alloc, e, names, to)
+    match direct(names, e) {
+        Some(register) => Ok(register),
+        None => pointing(alloc, e, names, to),
     }
+}
+
+/// What an expression designates, where the register points to the object in which it stands.
+pub fn part_at(structs: &[Layout], object: u32, e: &Expr) -> Result<Part, AllocError>
+    ensures register { IfOk result (λ p. p.object ≡ object) }
+    ensures offset { IfOk result (λ p. p.offset ≡ offset_in (map plain_layout structs.now) (plain_expr e.now)) }
+{
+    let offset = offset_in(structs, e)?;
+    Ok(Part { object, offset })
 }
 
 /// The register that points to what is stored: a further one for a member of the object to which the first one points,

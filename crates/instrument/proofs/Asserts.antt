@@ -3,6 +3,7 @@
 use Rattle.std.proofs.Common.{◌≡◌, ℤ, ℕ, suc, ◌+◌, ◌<◌, ◌≤◌, pos, Bool, true, false, ◌&&◌, List, [], ◌∷◌, ◌++◌, length, Some, refl, sym, ap, ◌∙◌, subst, arith}
 use Rattle.std.proofs.lemmas.List.{append-nil, length-append}
 use Rattle.std.specs.Prelude.{slice_get, slice_set}
+use Rattle.std.proofs.Math.Bool.{and-true}
 use Rattle.c_syntax.specs.declared.types.How.TheVariants as how
 use Rattle.c_syntax.specs.Annotations.{Annotation}
 use Rattle.c_model.specs.Formed.{IsAssert, AreAsserts}
@@ -17,7 +18,7 @@ use Rattle.mon_syntax.specs.declared.tree.MonType.TheVariants.{I32}
 use Rattle.mon_syntax.specs.declared.tree.MonOp.TheVariants.{And}
 use Rattle.mon_syntax.specs.Registers.{Bindings}
 use Rattle.mon_syntax.specs.Arithmetic.{operate, access_bytes}
-use Rattle.mon_syntax.specs.Meaning.{Done, Stops, Next, then_do, at_next, with_value, writes, given_to, replied, number_or_none, eval}
+use Rattle.mon_syntax.specs.Meaning.{Done, Stops, Next, then_do, at_next, with_value, given_to, replied, number_or_none}
 use Rattle.mon_syntax.specs.Meaning.{◌>>=◌ as bind}
 use Rattle.mon_syntax.specs.Meaning as monitored
 use Rattle.mon_syntax.specs.BlockMemory.{integer_of, over_blocks, act_on_blocks, holds_number}
@@ -46,10 +47,6 @@ both_are true false = refl
 both_are false true = refl
 both_are false false = refl
 
-and_true : (b : Bool) → (b && true) ≡ b
-and_true true = refl
-and_true false = refl
-
 module _ (w : Setting) (n : ℕ) (low : ℕ) (bound : Bindings) (s : State) (t : Target) (store_is : t.mem.store ≡ s.store) where
   -- ---- questions
 
@@ -73,7 +70,7 @@ module _ (w : Setting) (n : ℕ) (low : ℕ) (bound : Bindings) (s : State) (t :
   -- the first answer and the others
   with_more : (x : Reading) (xs : List Reading) (r : ℕ) (later : List Value) → slice_get later r ≡ Some (Integer (truth (answer s x))) → HasNumber w later t.mem (all_of (suc r) (length xs)) (truth (answers s xs))
       → HasNumber w later t.mem (all_of r (length (x ∷ xs))) (truth (answers s (x ∷ xs)))
-  with_more x [] r later e h = e ∙ ap (λ b. Some (Integer (truth b))) (sym (and_true (answer s x)))
+  with_more x [] r later e h = e ∙ ap (λ b. Some (Integer (truth b))) (sym (and-true (answer s x)))
   with_more x (y ∷ xs) r later e h =
       operation w later t.mem And I32 (Register r) (all_of (suc r) (length (y ∷ xs))) (truth (answer s x)) (truth (answers s (y ∷ xs))) refl e h
       ∙ ap (number_or_none over_blocks) (both_are (answer s x) (answers s (y ∷ xs)))

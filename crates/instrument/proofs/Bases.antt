@@ -9,8 +9,8 @@ use Rattle.c_model.specs.Layouts.{PointerType, scalar_of, offset_of, target_of}
 use Rattle.c_model.specs.Memory.{Pointer, Null, Into, Value, Points, shifted}
 use Rattle.c_model.specs.State.{State, Normal, Stop, Over, Undefined, on_outcome}
 use Rattle.c_model.specs.Meaning.{Tables, tables_of, place_with, is_member, pointed_to, member}
-use Rattle.c_model.specs.ExpressionTyping.{Sight}
-use Rattle.c_model.specs.TypedTrees.{WellTyped, has_object}
+use Rattle.c_model.specs.ExpressionTyping.{Sight, has_object}
+use Rattle.c_model.specs.TypedTrees.{WellTyped}
 use Rattle.mon_syntax.specs.declared.tree.MonType.{MonType}
 use Rattle.mon_syntax.specs.Registers.{Bindings}
 use Rattle.mon_syntax.specs.Meaning.{Done, Next}
@@ -58,6 +58,10 @@ reached_at w a n i = by (is_member a) refl
     by : (c : Bool) → is_member a ≡ c → (if c then shifted (Into n i) (offset_in w.unit.structs a) else Into n i) ≡ Into n (i + offset_in w.unit.structs a)
     by true m = refl
     by false m = let none = no_offset w.unit.structs a m in let same : i ≡ i + offset_in w.unit.structs a = omega (arith, none) in ap (Into n) same
+
+pub reached_shifted : (w : Setting) (a : Expression) (p : Pointer) → reached_from w a p ≡ shifted p (offset_in w.unit.structs a)
+reached_shifted w a Null = reached_null w a
+reached_shifted w a (Into n i) = reached_at w a n i
 
 module _ (w : Setting) (n : ℕ) (sight : Sight) (knows : Knows w sight) (bound : Bindings) (now : State) (target : Target) (store_is : target.mem.store ≡ now.store) (bounded : Bounded now.store) (low : ℕ) where
   abbrev T : Tables

@@ -1,5 +1,5 @@
 -- Births of variables: what lives, what is in sight and which registers point to it after them, on both sides.
-use Rattle.std.proofs.Common.{◌≡◌, ℕ, zero, suc, ◌+◌, ◌^◌, ◌<◌, ◌≤◌, Bool, true, false, cond, if◌then◌else◌, nat_eq, nat_le, nat_lt, List, [], ◌∷◌, ◌++◌, length, length-append, replicate, Option, Some, None, slice_get, refl, sym, ap, ◌∙◌}
+use Rattle.std.proofs.Common.{◌≡◌, ℕ, suc, ◌+◌, ◌^◌, ◌<◌, ◌≤◌, Bool, true, false, cond, if◌then◌else◌, nat_eq, nat_le, nat_lt, List, [], ◌∷◌, ◌++◌, length, length-append, Option, Some, None, slice_get, refl, sym, ap, ◌∙◌}
 use Rattle.std.proofs.Common.{subst, arith}
 use Rattle.std.proofs.lemmas.Bool.Decides.{nat_tests}
 use Rattle.std.specs.Prelude.{map}
@@ -10,15 +10,16 @@ use Rattle.c_syntax.specs.Programs.{StructType}
 use Rattle.c_syntax.specs.Statements.{Declaration}
 use Rattle.c_model.specs.Layouts.{size_of}
 use Rattle.c_model.specs.Formed.{number_of}
-use Rattle.c_model.specs.Memory.{Into, Value, Points, Unwritten, Block, Store, new_block, full_at_stack_birth, standard_sizes, greatest_number, rounded, stack_taken}
+use Rattle.c_model.specs.Memory.{Into, Value, Points, Unwritten, Store, new_block, full_at_stack_birth, standard_sizes, greatest_number, rounded, stack_taken}
 use Rattle.c_model.specs.State.{State, Scope, Normal, on_outcome, birth_of, births, find}
 use Rattle.mon_syntax.specs.Registers.{Bindings, RegisterTable, register_of, bound_with}
 use Rattle.mon_syntax.specs.LiveBlocks.{LiveBlock, live_in}
 use Rattle.mon_syntax.proofs.FlatBlocks.{live-born}
 use Rattle.track_scopes.specs.Blocks.{with_pointer, entered, with_born}
 use Rattle.track_scopes.specs.Lives.{AreFrom, Point, PointInOrder, PointToBorn, with_variables}
-use Rattle.instrument.proofs.Standing.{Setting, Same, AreBytes, Bounded, Here, Standing, IsAnchored, InRegister, AtGlobal, IsInSight, Anchored}
+use Rattle.instrument.proofs.Standing.{Setting, Same, Bounded, Here, Standing, IsAnchored, InRegister, AtGlobal, IsInSight, Anchored}
 use Rattle.instrument.proofs.Following.{anchored_same}
+use Rattle.instrument.proofs.Bounds.{bounded_append, replicated_bytes}
 use Rattle.instrument.proofs.Own.{AreOwn}
 use Rattle.mon_syntax.specs.declared.tree.MonType.TheVariants.{Ptr}
 use Rattle.instrument.proofs.Registers.{register_of-bound_same, register_of-bound_other}
@@ -136,14 +137,6 @@ pointed_born structs p number (d ∷ ds) regs ps bs there h =
 
 -- ---- bounds
 
-bounded_append : (store : Store) (b : Block) → Bounded store → b.size ≤ 2 ^ 62 → AreBytes b.bytes → Bounded (store ++ b ∷ [])
-bounded_append [] b h le a = (le, a, tt)
-bounded_append (c ∷ cs) b h le a = (h.0, h.1, bounded_append cs b h.2 le a)
-
-unwritten_bytes : (n : ℕ) → AreBytes (replicate n Unwritten)
-unwritten_bytes zero = tt
-unwritten_bytes (suc n) = (tt, unwritten_bytes n)
-
 size_of_born : (store : Store) (size : ℕ) → full_at_stack_birth standard_sizes store size ≡ None → size ≤ 2 ^ 62
 size_of_born store size e = by (nat_le greatest_number (length store)) (nat_lt 1048576 (stack_taken store + rounded size)) refl e
   where
@@ -156,7 +149,7 @@ size_of_born store size e = by (nat_le greatest_number (length store)) (nat_lt 1
 
 -- where there was room
 pub bounded_new : (store : Store) (size : ℕ) → full_at_stack_birth standard_sizes store size ≡ None → Bounded store → Bounded (store ++ new_block Stack size ∷ [])
-bounded_new store size e h = bounded_append store (new_block Stack size) h (size_of_born store size e) (unwritten_bytes size)
+bounded_new store size e h = bounded_append store (new_block Stack size) h (size_of_born store size e) (replicated_bytes size Unwritten tt)
 
 pub bounded_born : (structs : List StructType) (ds : List Declaration) (s to : State) → births structs ds s ≡ Normal tt to → Bounded s.store → Bounded to.store
 bounded_born structs [] s to e h = let same : s ≡ to = cc in subst (λ (x : State). Bounded x.store) same h

@@ -1,16 +1,18 @@
 -- What a bounded store gives: values of the types that are read. It stays bounded where values are saved.
-use Rattle.std.proofs.Common.{◌≡◌, ℕ, zero, suc, ◌+◌, ◌*◌, ◌/◌, ◌<◌, ◌≤◌, ◌^◌, pos, Bool, true, false, ◌&&◌, not, if◌then◌else◌, List, [], ◌∷◌, ◌++◌, length, length-set, take, drop, Option, Some, None, option_map, refl, sym, ap, ◌∙◌, subst, arith}
+use Rattle.std.proofs.Common.{◌≡◌, ℕ, zero, suc, ◌+◌, ◌*◌, ◌/◌, ◌<◌, ◌≤◌, ◌^◌, pos, Bool, true, false, ◌&&◌, not, if◌then◌else◌, nat_lt, List, [], ◌∷◌, ◌++◌, map, length, length-set}
+use Rattle.std.proofs.Common.{take, drop, replicate, Option, Some, None, option_map, refl, sym, ap, ◌∙◌, subst, arith}
 use Rattle.std.proofs.Math.Nat.{mod-eq_of_lt, pow-suc}
 use Rattle.std.specs.Prelude.{slice_get, slice_set}
 use Rattle.c_syntax.specs.declared.types.CInt.{CInt}
 use Rattle.c_model.specs.Integers.{int_size, fits, bits_of, value_of_bits}
 use Rattle.c_model.specs.Layouts.{Scalar, IntegerType, PointerType, scalar_size}
 use Rattle.c_model.specs.Memory.{Pointer, Null, Into, Value, Integer, Points, Byte, Unwritten, Number, Piece, LoosePiece, Block, Store, with_low_byte, number_of, bytes_of, pieces, are_pieces, null_of, pointer_of, value_from, bytes_from}
-use Rattle.c_model.specs.Memory.{is_accessible, is_literal, bytes_in, load_bytes, load, with_bytes, saved_block, with_block, save_bytes, save}
+use Rattle.c_model.specs.Memory.{is_accessible, is_literal, bytes_in, load_bytes, load, with_bytes, saved_block, with_block, save_bytes, save, loosened, shifted, copied, copy, copy_all}
 use Rattle.c_model.specs.Memory.{◌>>=◌ as bind}
 use Rattle.c_model.proofs.Conversions.{fits-convert}
+use Rattle.c_model.proofs.StructCopies.{copied_parts, first_copy}
 use Rattle.mon_syntax.specs.LiveBlocks.{LiveBlock, live_from, live_in}
-use Rattle.instrument.proofs.Standing.{IsSmall, IsOf, AreBytes, Bounded}
+use Rattle.instrument.proofs.Standing.{IsSmall, IsOf, IsByte, AreBytes, Bounded}
 
 -- ---- bytes
 
@@ -36,10 +38,32 @@ piece_bytes : (p : Pointer) (k n : ℕ) → IsSmall p → AreBytes (pieces p k n
 piece_bytes p k zero h = tt
 piece_bytes p k (suc n) h = (h, piece_bytes p (suc k) n h)
 
+pub replicated_bytes : (n : ℕ) (b : Byte) → IsByte b → AreBytes (replicate n b)
+replicated_bytes zero b h = tt
+replicated_bytes (suc n) b h = (h, replicated_bytes n b h)
+
 -- those of a value of the type
 pub value_bytes : (k : Scalar) (v : Value) → IsOf k v → AreBytes (bytes_from k v)
 value_bytes (IntegerType k) v h = subst (λ v. AreBytes (bytes_from (IntegerType k) v)) (sym h.1) (number_bytes (int_size k) (bits_of k h.0))
 value_bytes PointerType v h = subst (λ v. AreBytes (bytes_from PointerType v)) (sym h.1) (piece_bytes h.0 0 8 h.2)
+
+-- those of a copy
+loosened_byte : (b : Byte) → IsByte b → IsByte (loosened b)
+loosened_byte Unwritten h = tt
+loosened_byte (Number n) h = h
+loosened_byte (Piece p k) h = tt
+loosened_byte LoosePiece h = tt
+
+loosened_bytes : (bs : List Byte) → AreBytes bs → AreBytes (map loosened bs)
+loosened_bytes [] h = tt
+loosened_bytes (b ∷ bs) h = (loosened_byte b h.0, loosened_bytes bs h.1)
+
+copied_bytes : (bs : List Byte) → AreBytes bs → AreBytes (copied bs)
+copied_bytes bs h = by (nat_lt (length bs) 8)
+  where
+    by : (t : Bool) → AreBytes (if t then map loosened bs else bs)
+    by true = loosened_bytes bs h
+    by false = h
 
 -- ---- blocks
 
@@ -48,10 +72,14 @@ bounded_at [] k b h e = absurd cc
 bounded_at (c ∷ cs) zero b h e = let same : c ≡ b = cc in subst (λ x. (x.size ≤ 2 ^ 62) × AreBytes x.bytes) same (h.0, h.1)
 bounded_at (c ∷ cs) (suc k) b h e = bounded_at cs k b h.2 e
 
-bounded_set : (store : Store) (k : ℕ) (b : Block) → Bounded store → b.size ≤ 2 ^ 62 → AreBytes b.bytes → Bounded (slice_set store k b)
+pub bounded_set : (store : Store) (k : ℕ) (b : Block) → Bounded store → b.size ≤ 2 ^ 62 → AreBytes b.bytes → Bounded (slice_set store k b)
 bounded_set [] k b h le a = tt
 bounded_set (c ∷ cs) zero b h le a = (le, a, h.2)
 bounded_set (c ∷ cs) (suc k) b h le a = (h.0, h.1, bounded_set cs k b h.2 le a)
+
+pub bounded_append : (store : Store) (b : Block) → Bounded store → b.size ≤ 2 ^ 62 → AreBytes b.bytes → Bounded (store ++ b ∷ [])
+bounded_append [] b h le a = (le, a, tt)
+bounded_append (c ∷ cs) b h le a = (h.0, h.1, bounded_append cs b h.2 le a)
 
 -- ---- loads
 
@@ -167,3 +195,19 @@ saved_bytes store saved (Into (suc j) i) n bytes h a e = of_block (slice_get sto
 
 pub saved_value : (store saved : Store) (p : Pointer) (k : Scalar) (v : Value) → Bounded store → IsOf k v → save store p k v ≡ Some saved → Saved store saved
 saved_value store saved p k v h f e = saved_bytes store saved p (scalar_size k) (bytes_from k v) h (value_bytes k v f) e
+
+-- ---- copies
+
+pub copied_saved : (store saved : Store) (p q : Pointer) (n : ℕ) → Bounded store → copy store p q n ≡ Some saved → Saved store saved
+copied_saved store saved p q n h e =
+    let c = copied_parts store saved p q n e in
+    let b = loaded_bytes store q n c.bytes h c.loaded in
+    saved_bytes store saved p n (copied c.bytes) h (copied_bytes c.bytes (subst AreBytes (sym b.2) (bytes_take n b.0 b.1))) c.saved_as
+
+pub copied_all_saved : (store saved : Store) (p q : Pointer) (cs : List (ℕ × ℕ)) → Bounded store → copy_all store p q cs ≡ Some saved → Saved store saved
+copied_all_saved store saved p q [] h e = let same : store ≡ saved = cc in subst (Saved store) same (record { bounded = h; live = refl; long = refl })
+copied_all_saved store saved p q (c ∷ cs) h e =
+    let f = first_copy store saved p q c cs e in
+    let first = copied_saved store f.next (shifted p c.0) (shifted q c.0) c.1 h f.is in
+    let rest = copied_all_saved f.next saved p q cs first.bounded f.rest in
+    record { bounded = rest.bounded; live = rest.live ∙ first.live; long = rest.long ∙ first.long }

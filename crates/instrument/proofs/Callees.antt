@@ -4,24 +4,24 @@ use Rattle.std.proofs.lemmas.List.{append-nil}
 use Rattle.std.proofs.lemmas.Bool.Decides.{nat_tests}
 use Rattle.std.specs.Prelude.{slice_get, bytes_eq, codes}
 use Rattle.c_syntax.specs.declared.place.Place.{Place}
-use Rattle.c_syntax.specs.declared.types.CInt.TheVariants.{I32}
+use Rattle.c_syntax.specs.declared.types.CInt.TheVariants.{I32, U64}
 use Rattle.c_syntax.specs.declared.expression.Use.{Use}
-use Rattle.c_syntax.specs.Ctypes.{PlainType, Void, int_type}
+use Rattle.c_syntax.specs.Ctypes.{PlainType, Void, Int, Ptr, int_type}
 use Rattle.c_syntax.specs.Expressions.{Expressions}
 use Rattle.c_syntax.specs.Statements.{Declaration}
 use Rattle.c_syntax.specs.Programs.{Function, TranslationUnit}
 use Rattle.c_model.specs.Memory.{Value, Store}
 use Rattle.c_model.specs.State.{State, Spent, Over, Stop, Evaluation, ◌>>◌, on_outcome, step_from, frame, alone, mark, within}
 use Rattle.c_model.specs.Meaning.{Tables, tables_of, is_definition, global_scope, is_of_library, definition_at, call_with, call_of, library_call, parameters, returned_by, body_with}
-use Rattle.c_model.specs.Layouts.{IntegerType}
+use Rattle.c_model.specs.Layouts.{IntegerType, PointerType}
 use Rattle.c_model.specs.ExpressionTyping.{Sight, Signature, name_at, library_function, of_library, inner}
 use Rattle.c_model.specs.UnitTyping.{types_of}
 use Rattle.c_model.specs.TypedTrees.{HaveTypes, Calls, IsScalar}
-use Rattle.mon_syntax.specs.Meaning.{Result, Done, Stops, then_do, eval_all, level, body_runs, with_value}
+use Rattle.mon_syntax.specs.Meaning.{Stops, then_do, level, body_runs, with_value}
 use Rattle.mon_syntax.specs.Meaning as monitored
 use Rattle.mon_syntax.specs.BlockMemory.{over_blocks}
 use Rattle.mon_syntax.specs.LiveBlocks.{LiveBlock}
-use Rattle.mon_syntax.specs.Trees.{MonExpression, MonFunction, MonStatements}
+use Rattle.mon_syntax.specs.Trees.{MonExpression, MonFunction}
 use Rattle.mon_syntax.specs.Trees as tree
 use Rattle.c_effects.specs.Expressions.{one}
 use Rattle.instrument.specs.Translation.{function_of, functions_from, front_temporaries, index_of_main}
@@ -32,7 +32,8 @@ use Rattle.instrument.proofs.Results.{one_is}
 use Rattle.c_model.specs.AcceptedPrograms.{AreScalar}
 use Rattle.instrument.proofs.Calls.{Called, EndsRun, HaveAll, takes, DoesCall, AllDo, IsCalled}
 use Rattle.instrument.proofs.Functions.{setting, call_follows}
-use Rattle.instrument.proofs.Library.{putchar_does, getchar_does, exit_does}
+use Rattle.instrument.proofs.LibraryNames.{IsLibrary, IsPutChar, IsGetChar, IsExit, IsMalloc, IsCalloc, IsFree, library_is}
+use Rattle.instrument.proofs.Library.{putchar_does, getchar_does, exit_does, malloc_does, calloc_does, free_does}
 use Rattle.instrument.proofs.Resolved.{IsResolved, IsFunction, IsOfLibrary}
 use Rattle.instrument.proofs.Programs.{Part, Parts, picked, index_by, IsPicked, is_picked, has_number, definition_is, index_is}
 use Rattle.instrument.proofs.Bodies.{LiteralsStand, first_of, has_body, body_follows, has_room, parameters_are, parameters_own, parameters_scalars}
@@ -53,6 +54,12 @@ parameters_scalar (d ∷ ds) h = (h.0, parameters_scalar ds h.1)
 
 an_int : IsScalar int_type
 an_int = record { scalar = IntegerType I32; is = refl }
+
+a_size : IsScalar (Int U64)
+a_size = record { scalar = IntegerType U64; is = refl }
+
+a_pointer : IsScalar (Ptr Void)
+a_pointer = record { scalar = PointerType; is = refl }
 
 -- the function that a number picks isn't the one that a name picks, where it has another name
 differs : (p : TranslationUnit) (x : ℕ) (fs : List Function) (g : Function) → picked (has_number x) fs ≡ Some g → bytes_eq (name_at p.names g.name) (codes "main") ≡ false → nat_eq (index_by (has_number x) fs) (index_of_main p.names fs) ≡ false
@@ -114,32 +121,22 @@ module _ (p : TranslationUnit) (parts : Parts p p.funcs) (gs : List Value)
     -- calls of the library
     library_called : (k : ℕ) (f : Use) (t : PlainType) (es : Expressions) (callee : Signature) → is_of_library f ≡ true → library_function f.name (name_at p.names f.name) ≡ Some callee → t ≡ callee.result → HaveTypes callee.params es
         → IsCalled (w k) k f t es
-    library_called k f t es callee l e result types = by (bytes_eq name (codes "putchar")) (bytes_eq name (codes "getchar")) (bytes_eq name (codes "exit")) refl refl refl e
+    library_called k f t es callee l e result types = by (library_is f.name name callee e)
       where
         name : List ℕ
         name = name_at p.names f.name
 
-        -- the signature that is found
-        put : Signature
-        put = of_library f.name (int_type ∷ []) int_type
+        called : (g : Signature) → callee ≡ g → AreScalar g.params → AllDo (w k) k f g.result g.params → IsCalled (w k) k f t es
+        called g same scalars does =
+            called_as (w k) k f t es g.params g.result scalars (subst (λ (g : Signature). HaveTypes g.params es) same types) (result ∙ ap (λ (g : Signature). g.result) same) does
 
-        get : Signature
-        get = of_library f.name [] int_type
-
-        leave : Signature
-        leave = of_library f.name (int_type ∷ []) Void
-
-        found : (sig : Signature) → Some sig ≡ Some callee → AreScalar sig.params → AllDo (w k) k f sig.result sig.params → IsCalled (w k) k f t es
-        found sig h scalars does =
-            let same : sig ≡ callee = cc in
-            called_as (w k) k f t es sig.params sig.result scalars (subst (λ (g : Signature). HaveTypes g.params es) (sym same) types) (result ∙ ap (λ (g : Signature). g.result) (sym same)) does
-
-        by : (a b c : Bool) → bytes_eq name (codes "putchar") ≡ a → bytes_eq name (codes "getchar") ≡ b → bytes_eq name (codes "exit") ≡ c → (if a then Some put else (if b then Some get else (if c then Some leave else None))) ≡ Some callee
-            → IsCalled (w k) k f t es
-        by true b c x y z h = found put h (an_int, tt) (putchar_does (w k) k (suc k) refl f l x)
-        by false true c x y z h = found get h tt (getchar_does (w k) k (suc k) refl f l x y)
-        by false false true x y z h = found leave h (an_int, tt) (exit_does (w k) k (suc k) refl f l x y z)
-        by false false false x y z h = absurd cc
+        by : IsLibrary f.name name callee → IsCalled (w k) k f t es
+        by (IsPutChar is same) = called (of_library f.name (int_type ∷ []) int_type) same (an_int, tt) (putchar_does (w k) k (suc k) refl f l is)
+        by (IsGetChar is same) = called (of_library f.name [] int_type) same tt (getchar_does (w k) k (suc k) refl f l is)
+        by (IsExit is same) = called (of_library f.name (int_type ∷ []) Void) same (an_int, tt) (exit_does (w k) k (suc k) refl f l is)
+        by (IsMalloc is same) = called (of_library f.name (Int U64 ∷ []) (Ptr Void)) same (a_size, tt) (malloc_does (w k) k (suc k) refl f l is)
+        by (IsCalloc is same) = called (of_library f.name (Int U64 ∷ Int U64 ∷ []) (Ptr Void)) same (a_size, (a_size, tt)) (calloc_does (w k) k (suc k) refl f l is)
+        by (IsFree is same) = called (of_library f.name (Ptr Void ∷ []) Void) same (a_pointer, tt) (free_does (w k) k (suc k) refl f l is)
 
     -- ---- a call of a function of the program
 

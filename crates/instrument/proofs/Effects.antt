@@ -1,6 +1,5 @@
 -- Effects: assignments to any object, increments, calls, and expressions without effects.
-use Rattle.std.proofs.Common.{◌≡◌, ℕ, suc, ◌<◌, ◌≤◌, Bool, true, false, if◌then◌else◌, pos, List, [], ◌∷◌, ◌++◌, length, Option, Some, None, slice_get, slice_set, refl, sym, ap, ◌∙◌, subst, arith}
-use Rattle.std.proofs.lemmas.Bool.{leb-true}
+use Rattle.std.proofs.Common.{◌≡◌, ℕ, ◌<◌, ◌≤◌, true, if◌then◌else◌, pos, List, [], ◌∷◌, ◌++◌, length, Option, Some, None, slice_get, refl, sym, ap, ◌∙◌, subst, arith, append_assoc}
 use Rattle.std.proofs.lemmas.List.{length-append}
 use Rattle.c_syntax.specs.declared.place.Place.{Place}
 use Rattle.c_syntax.specs.declared.expression.Use.{Use}
@@ -9,42 +8,47 @@ use Rattle.c_syntax.specs.declared.expression.BinOp.TheVariants as operator
 use Rattle.c_syntax.specs.declared.expression.BumpOp.{BumpOp}
 use Rattle.c_syntax.specs.declared.types.CInt.TheVariants.{I32}
 use Rattle.c_syntax.specs.Ctypes.{PlainType, int_type}
-use Rattle.c_syntax.specs.Expressions.{Expression, Node, Variable, Assign, Bump, Call, Expressions, type_of}
-use Rattle.c_model.specs.Layouts.{Scalar, IntegerType, PointerType, scalar_of}
-use Rattle.c_model.specs.Memory.{Pointer, Into, Value, Integer, Points, load}
-use Rattle.c_model.specs.State.{State, Outcome, Normal, Stop, Over, Undefined, Evaluation, on_outcome, ◌>>=◌, ◌>>◌, give, done, defined, start_of, find, write, read, computed, as_scalar}
+use Rattle.c_syntax.specs.Expressions.{Expression, Node, Assign, Bump, Call, Expressions, type_of}
+use Rattle.c_model.specs.Layouts.{Scalar, IntegerType, PointerType, scalar_of, scalars_of}
+use Rattle.c_model.specs.Memory.{Pointer, Value, Integer, NoValue, Points, load, shifted}
+use Rattle.c_model.specs.State.{State, Outcome, Normal, Stop, Over, Undefined, Evaluation, on_outcome, ◌>>=◌, ◌>>◌, give, done, defined, write, read, computed, as_scalar, copy_object}
+use Rattle.c_model.specs.HeapLaws.{sizes_of}
 use Rattle.c_model.specs.Meaning.{Tables, tables_of, eval_with, place_with, assigned, compound, bump_operator, bump_value, is_member}
-use Rattle.c_model.specs.ExpressionTyping.{Sight, is_place}
-use Rattle.c_model.specs.TypedTrees.{WellTyped, AreWellTyped, Calls, IsScalar, CompoundTypes, ToInteger, ToPointer}
+use Rattle.c_model.specs.ExpressionTyping.{Sight, is_place, has_object}
+use Rattle.c_model.specs.TypedTrees.{WellTyped, AreWellTyped, Calls, IsScalar, Assigns, ToScalar, ToStruct, CompoundTypes, ToInteger, ToPointer}
 use Rattle.mon_syntax.specs.declared.tree.MonType.{MonType}
 use Rattle.mon_syntax.specs.declared.tree.MonType.TheVariants as kind
 use Rattle.mon_syntax.specs.Registers.{Bindings}
-use Rattle.mon_syntax.specs.Meaning.{Done, Next, eval}
+use Rattle.mon_syntax.specs.Meaning.{Next, eval}
 use Rattle.mon_syntax.specs.BlockMemory.{over_blocks}
 use Rattle.mon_syntax.specs.Trees.{MonExpression, Load, Register, Constant, MonStatements, NoStatement}
 use Rattle.c_model.specs.Pure.{IsPure, ArePure, IsPureOrCall, IsEffectOrCall}
-use Rattle.c_effects.specs.Letters.{HasLetters, ArgumentsHaveLetters, FullHasLetters, EffectHasLetters}
-use Rattle.c_effects.specs.Expressions.{temporaries, value, before, set, setup}
+use Rattle.c_effects.specs.Letters.{HasLetters, ArgumentsHaveLetters, FullHasLetters, AssignedHasLetters, EffectHasLetters}
+use Rattle.c_effects.specs.Expressions.{temporaries, value, before, setup}
 use Rattle.c_effects.specs.Expressions as spec
-use Rattle.c_effects.specs.Effects.{arguments_temporaries, full_temporaries, full_setup, full_value, called, effect, effect_temporaries, is_direct}
-use Rattle.c_effects.specs.Effects.{variable_register, target_temporaries, target, target_setup, base, into_object, member_temporaries, current, block_of}
+use Rattle.c_effects.specs.Effects.{arguments_temporaries, full_temporaries, full_setup, full_value, called, effect, effect_temporaries}
+use Rattle.c_effects.specs.Effects.{value_temporaries, object_temporaries, assigned_temporaries, value_assigned, object_assigned, copies_at, offset_in}
+use Rattle.c_effects.specs.Effects.{target_temporaries, target, target_setup, into_object, member_temporaries, current}
+use Rattle.c_effects.specs.Effects.{assigned as target_assigned}
 use Rattle.c_effects.proofs.Sequences.{before_none}
 use Rattle.instrument.proofs.Results.{writes_none}
 use Rattle.instrument.proofs.Standing.{Setting, Target, runs, Same, Has, IsOf, Here, Standing, Beside}
-use Rattle.instrument.proofs.Registers.{same_all, same_less, same_trans, same_set, get-set_same, longer}
+use Rattle.instrument.proofs.Registers.{same_less, longer}
 use Rattle.instrument.proofs.Following.{Follows, later_same, stays, onward, undefined_here, follows_value, follows_lower, anchored_same, standing_later}
-use Rattle.instrument.proofs.Anchors.{block_has, block_below}
-use Rattle.instrument.proofs.ExpressionTypes.{place_has_object, bump_types}
-use Rattle.instrument.proofs.Evaluating.{behind_setup, set_runs}
+use Rattle.instrument.proofs.ExpressionTypes.{place_has_object, struct_no_scalar, bump_types}
+use Rattle.instrument.proofs.Evaluating.{behind_setup}
 use Rattle.instrument.proofs.PureValues.{Quiet, Gives, IsUndefined, HasKind, pure_gives}
 use Rattle.instrument.proofs.Bounds.{loaded_is_of}
 use Rattle.instrument.proofs.PointerValues.{value_type_is, load_has}
 use Rattle.instrument.proofs.Compounds.{combined}
 use Rattle.instrument.proofs.Expressions.{evaluates}
+use Rattle.instrument.proofs.FullForms.{object_pure}
 use Rattle.instrument.proofs.Scenes.{Scene}
 use Rattle.instrument.proofs.FullExpressions.{handed_on, follows_called, follows_full}
 use Rattle.instrument.proofs.Stores.{reached_from, into_follows}
-use Rattle.instrument.proofs.Bases.{Based, HasBase, HasNoBase, bases}
+use Rattle.instrument.proofs.Bases.{reached_shifted}
+use Rattle.instrument.proofs.Aims.{Aims, AimsAt, NoAim, aims}
+use Rattle.instrument.proofs.Copies.{copies_follow}
 
 -- a value that is given, and dropped
 given_done : (r : Outcome (Unit {0})) (v : Value) → on_outcome (on_outcome r (λ _. give v)) (λ _. done) ≡ r
@@ -70,49 +74,16 @@ module _ (w : Setting) (n : ℕ) (h : Here) (sight : Sight) (scene : Scene w n s
       (follows_called w n h sight scene Next low bound s t le rs behind regs m b at k f es None (λ _. done) NoStatement (λ r e. absurd cc) pure q c l room
       (λ z v to there o after i like same la be. stays w h low after to there la.bounded be))
 
-  -- ---- the object that is assigned to
+  -- a register points to an object, after these statements
+  abbrev Reached : Expression → MonStatements → ℕ → ℕ → Type 0
+  Reached a code r high = Aims w n h sight scene low bound s t rs behind regs m b a code r high
 
-  -- a register points to it, or to the object of which it is a member, after these statements
-  pub data Aims (a : Expression) (code : MonStatements) (r high : ℕ) : Type 0 where
-    AimsAt : (to : Pointer) → place_with T a w.call s ≡ Normal (reached_from w a to) s → (after : List Value) → Same low regs after → runs w n t code regs ≡ Done (Next after) t [] → slice_get after r ≡ Some (Points to) → r < high
-        → Aims a code r high
-    NoAim : (at : Place) → place_with T a w.call s ≡ Stop (Over (Undefined at)) s → Aims a code r high
+  reaches_place : (a : Expression) → is_place a ≡ true → IsPure a → WellTyped sight a → HasLetters a → length (rs ++ target_temporaries w.unit a) ≤ w.registers
+      → Reached a (target_setup w.unit bound rs a) (target w.unit bound rs a) (length (rs ++ target_temporaries w.unit a))
+  reaches_place a o pa qa la room = aims w n h sight scene low bound s t rs behind regs m b a (place_has_object a o) pa qa la room
 
-  direct : (a : Expression) → is_direct w.unit a ≡ true → Aims a NoStatement (variable_register bound a) (length (rs ++ []))
-  direct (Node at u (Variable x)) d = by (find x.decl s.scope) refl
-    where
-      by : (o : Option ℕ) → find x.decl s.scope ≡ o → Aims (Node at u (Variable x)) NoStatement (block_of bound x.decl) (length (rs ++ []))
-      by None f = NoAim at (ap (λ o. defined at (start_of o) s) f)
-      by (Some number) f =
-          let local = leb-true _ _ d in
-          let below = block_below w low bound regs s.scope x.decl number m.anchored f local in
-          AimsAt (Into number 0) (ap (λ o. defined at (start_of o) s) f) regs (same_all low regs) refl
-          (block_has w low low bound regs regs s.scope x.decl number (omega arith) (same_all low regs) m.anchored f local) (omega (arith, below, behind, longer rs []))
-  direct _ d = absurd cc
-
-  through_base : (a : Expression) → length (rs ++ (temporaries a ++ kind.Ptr ∷ [])) ≤ w.registers → Based w n sight scene.knows bound s t b.store_is m.bounded low a rs regs
-      → Aims a (before (setup w.unit bound rs a) (set (length (rs ++ temporaries a)) (base w.unit bound rs a))) (length (rs ++ temporaries a)) (length (rs ++ (temporaries a ++ kind.Ptr ∷ [])))
-  through_base a room (HasNoBase at x) = NoAim at x
-  through_base a room (HasBase to x after same run has) =
-      let r = length (rs ++ temporaries a) in
-      let long : length (rs ++ (temporaries a ++ kind.Ptr ∷ [])) ≡ suc r =
-      omega (arith, length-append rs (temporaries a ++ kind.Ptr ∷ []), length-append (temporaries a) (kind.Ptr ∷ []), length-append rs (temporaries a)) in
-      AimsAt to x (slice_set after r (Points to))
-      (same_trans low low regs after (slice_set after r (Points to)) (omega arith) (same_less low (length rs) regs after behind same) (same_set low r after (Points to) (omega (arith, behind, longer rs (temporaries a)))))
-      (behind_setup w n t (setup w.unit bound rs a) (set r (base w.unit bound rs a)) regs after run ∙ set_runs w n t r (base w.unit bound rs a) after (Points to) (has after (same_all r after)))
-      (get-set_same after r (Points to) (omega (arith, long, room, same.long, m.registers))) (omega (arith, long))
-
-  pub aims : (a : Expression) → is_place a ≡ true → IsPure a → WellTyped sight a → HasLetters a → length (rs ++ target_temporaries w.unit a) ≤ w.registers
-      → Aims a (target_setup w.unit bound rs a) (target w.unit bound rs a) (length (rs ++ target_temporaries w.unit a))
-  aims a o p q l room = by (is_direct w.unit a) refl room
-    where
-      by : (c : Bool) → is_direct w.unit a ≡ c → length (rs ++ (if c then [] else temporaries a ++ kind.Ptr ∷ [])) ≤ w.registers
-          → Aims a (if c then NoStatement else before (setup w.unit bound rs a) (set (length (rs ++ temporaries a)) (base w.unit bound rs a))) (if c then variable_register bound a else length (rs ++ temporaries a))
-          (length (rs ++ (if c then [] else temporaries a ++ kind.Ptr ∷ [])))
-      by true d room = direct a d
-      by false d room =
-          through_base a room (bases w n sight scene.knows bound s t b.store_is m.bounded low a rs (place_has_object a o) p q l behind regs m.anchored
-          (omega (arith, room, m.registers, length-append rs (temporaries a ++ kind.Ptr ∷ []), length-append (temporaries a) (kind.Ptr ∷ []), length-append rs (temporaries a))))
+  lower : (after : List Value) → Same (length rs) regs after → Same low regs after
+  lower after same = same_less low (length rs) regs after behind same
 
   -- ---- `=`
 
@@ -142,17 +113,17 @@ module _ (w : Setting) (n : ℕ) (h : Here) (sight : Sight) (scene : Scene w n s
         )
 
     pub assignment_follows : is_place a ≡ true → IsPure a → WellTyped sight a → HasLetters a → IsPureOrCall e → WellTyped sight e → type_of e ≡ u → FullHasLetters e
-        → length (rs ++ (target_temporaries w.unit a ++ full_temporaries e ++ member_temporaries a)) ≤ w.registers → Does (Node at u (Assign None a e))
-    assignment_follows o pa qa la pe qe same le2 room = by (aims a o pa qa la (room_of room).0)
+        → length (rs ++ value_temporaries w.unit a e) ≤ w.registers → does_as (Node at u (Assign None a e)) (value_assigned w.unit bound rs u a e)
+    assignment_follows o pa qa la pe qe same le2 room = by (reaches_place a o pa qa la (room_of room).0)
       where
         code : MonStatements
         code = before (target_setup w.unit bound rs a) rest
 
-        by : Aims a (target_setup w.unit bound rs a) (target w.unit bound rs a) (length front) → Does (Node at u (Assign None a e))
+        by : Reached a (target_setup w.unit bound rs a) (target w.unit bound rs a) (length front) → does_as (Node at u (Assign None a e)) (value_assigned w.unit bound rs u a e)
         by (NoAim there x) =
             undefined_here w h low regs Next s ((eval_with T (Node at u (Assign None a e)) w.call >> done) s) (runs w n t code regs) there
             (ap (λ r. on_outcome (on_outcome r (λ p. assigned T.structs at u (scalar_of u) p (eval_with T e w.call) (place_with T e w.call))) (λ _. done)) x)
-        by (AimsAt to x after keeps run points below) =
+        by (AimsAt to x after kept run points below) =
             subst (λ r. Follows w h low regs Next s r (runs w n t code regs)) (sym source)
             (subst (λ q. Follows w h low regs Next s (on_outcome (eval_with T e w.call s) tail) q) (writes_none (runs w n t rest after) ∙ sym (behind_setup w n t (target_setup w.unit bound rs a) rest regs after run))
             (onward w h low regs after Next s s [] (on_outcome (eval_with T e w.call s) tail) (runs w n t rest after) keeps (later_same s m.bounded)
@@ -163,6 +134,9 @@ module _ (w : Setting) (n : ℕ) (h : Here) (sight : Sight) (scene : Scene w n s
             (omega (arith, behind, longer rs (target_temporaries w.unit a), longer front (full_temporaries e)))
             (λ c. omega (arith, (room_of room).2 c, same2.long, keeps.long, m.registers)) f2 (λ y later same3 held. has later same3))))))
           where
+            keeps : Same low regs after
+            keeps = lower after kept
+
             given : Value → Evaluation Value
             given v = write at (reached_from w a to) k v >> give v
 
@@ -174,6 +148,84 @@ module _ (w : Setting) (n : ℕ) (h : Here) (sight : Sight) (scene : Scene w n s
                 ap (λ o. on_outcome (on_outcome (place_with T a w.call s) (λ p. assigned T.structs at u o p (eval_with T e w.call) (place_with T e w.call))) (λ _. done)) is
                 ∙ ap (λ r. on_outcome (on_outcome r (λ p. assigned T.structs at u (Some k) p (eval_with T e w.call) (place_with T e w.call))) (λ _. done)) x
                 ∙ handed_on (eval_with T e w.call s) given (λ _. done)
+
+  -- ---- `=` of structs
+
+  module _ (at : Place) (u : PlainType) (a e : Expression) (is : scalar_of u ≡ None) where
+    abbrev behind_left : List MonType
+    behind_left = rs ++ target_temporaries w.unit a
+
+    abbrev copies : MonStatements
+    copies = copies_at (target w.unit bound rs a) (offset_in T.structs a) (target w.unit bound behind_left e) (offset_in T.structs e) (scalars_of T.structs u)
+
+    abbrev right : MonStatements
+    right = before (target_setup w.unit bound behind_left e) copies
+
+    abbrev struct_at : Place → Outcome Pointer → Outcome (Unit {0})
+    struct_at at r = on_outcome (on_outcome r (λ p. assigned T.structs at u None p (eval_with T e w.call) (place_with T e w.call))) (λ _. done)
+
+    abbrev copied_from : Pointer → Outcome Pointer → Outcome (Unit {0})
+    copied_from p r = on_outcome (on_outcome r (λ y. copy_object at p y (sizes_of (scalars_of T.structs u)) >> give NoValue)) (λ _. done)
+
+    leads : (to : Pointer) → place_with T a w.call s ≡ Normal to s → (eval_with T (Node at u (Assign None a e)) w.call >> done) s ≡ copied_from to (place_with T e w.call s)
+    leads to x =
+        ap (λ o. on_outcome (on_outcome (place_with T a w.call s) (λ p. assigned T.structs at u o p (eval_with T e w.call) (place_with T e w.call))) (λ _. done)) is
+        ∙ ap (struct_at at) x
+
+    object_follows : is_place a ≡ true → IsPure a → WellTyped sight a → HasLetters a → has_object e ≡ true → IsPure e → WellTyped sight e → HasLetters e
+        → length (rs ++ object_temporaries w.unit a e) ≤ w.registers → does_as (Node at u (Assign None a e)) (object_assigned w.unit bound rs u a e)
+    object_follows o pa qa la oe pe qe le2 room = by (reaches_place a o pa qa la (omega (arith, room, more, length-append behind_left (target_temporaries w.unit e))))
+      where
+        more : length (rs ++ object_temporaries w.unit a e) ≡ length (behind_left ++ target_temporaries w.unit e)
+        more = ap length (sym (append_assoc rs (target_temporaries w.unit a) (target_temporaries w.unit e)))
+
+        code : MonStatements
+        code = before (target_setup w.unit bound rs a) right
+
+        this : Evaluation (Unit {0})
+        this = eval_with T (Node at u (Assign None a e)) w.call >> done
+
+        by : Reached a (target_setup w.unit bound rs a) (target w.unit bound rs a) (length behind_left) → Follows w h low regs Next s (this s) (runs w n t code regs)
+        by (NoAim there x) =
+            undefined_here w h low regs Next s (this s) (runs w n t code regs) there
+            (ap (λ o. on_outcome (on_outcome (place_with T a w.call s) (λ p. assigned T.structs at u o p (eval_with T e w.call) (place_with T e w.call))) (λ _. done)) is ∙ ap (struct_at at) x)
+        by (AimsAt to x after kept run points below) =
+            subst (λ r. Follows w h low regs Next s r (runs w n t code regs)) (sym (leads (reached_from w a to) x))
+            (subst (λ q. Follows w h low regs Next s (copied_from (reached_from w a to) (place_with T e w.call s)) q) (writes_none (runs w n t right after) ∙ sym (behind_setup w n t (target_setup w.unit bound rs a) right regs after run))
+            (onward w h low regs after Next s s [] (copied_from (reached_from w a to) (place_with T e w.call s)) (runs w n t right after) (lower after kept) (later_same s m.bounded)
+            (from_right (aims w n h sight scene low bound s t behind_left far after standing b e oe pe qe le2 (omega (arith, room, more))))))
+          where
+            far : low ≤ length behind_left
+            far = omega (arith, behind, longer rs (target_temporaries w.unit a))
+
+            standing : Standing w h low bound after s
+            standing = standing_later w h low bound regs after s s [] (lower after kept) (later_same s m.bounded) m
+
+            from_right : Aims w n h sight scene low bound s t behind_left far after standing b e (target_setup w.unit bound behind_left e) (target w.unit bound behind_left e) (length (behind_left ++ target_temporaries w.unit e))
+                → Follows w h low after Next s (copied_from (reached_from w a to) (place_with T e w.call s)) (runs w n t right after)
+            from_right (NoAim there y) = undefined_here w h low after Next s (copied_from (reached_from w a to) (place_with T e w.call s)) (runs w n t right after) there (ap (copied_from (reached_from w a to)) y)
+            from_right (AimsAt from y after2 kept2 run2 points2 below2) =
+                let p = reached_from w a to in
+                let q = reached_from w e from in
+                let cs = sizes_of (scalars_of T.structs u) in
+                subst (λ r. Follows w h low after Next s r (runs w n t right after)) (sym (ap (copied_from p) y ∙ given_done (copy_object at p q cs s) NoValue))
+                (subst (λ d. Follows w h low after Next s (copy_object at p q cs s) d) (writes_none (runs w n t copies after2) ∙ sym (behind_setup w n t (target_setup w.unit bound behind_left e) copies after after2 run2))
+                (onward w h low after after2 Next s s [] (copy_object at p q cs s) (runs w n t copies after2) (same_less low (length behind_left) after after2 far kept2) (later_same s m.bounded)
+                (subst (λ p. Follows w h low after2 Next s (copy_object at p q cs s) (runs w n t copies after2)) (sym (reached_shifted w a to))
+                (subst (λ q. Follows w h low after2 Next s (copy_object at (shifted to (offset_in T.structs a)) q cs s) (runs w n t copies after2)) (sym (reached_shifted w e from))
+                (copies_follow w n h low at (scalars_of T.structs u) to from (target w.unit bound rs a) (offset_in T.structs a) (target w.unit bound behind_left e) (offset_in T.structs e) s t after2 m.bounded b
+                (kept2.below (target w.unit bound rs a) below ∙ points) points2)))))
+
+  -- of both kinds
+  assigned_follows : (at : Place) (u : PlainType) (a e : Expression) → is_place a ≡ true → IsPure a → WellTyped sight a → HasLetters a → IsPureOrCall e → WellTyped sight e → type_of e ≡ u → Assigns sight u e → AssignedHasLetters (scalar_of u) e
+      → length (rs ++ assigned_temporaries w.unit (scalar_of u) a e) ≤ w.registers → Does (Node at u (Assign None a e))
+  assigned_follows at u a e o pa qa la pe qe same (ToScalar k) le2 room =
+      subst (λ o. does_as (Node at u (Assign None a e)) (target_assigned w.unit bound rs o u a e)) (sym k.is)
+      (assignment_follows at u a e k.scalar k.is o pa qa la pe qe same (subst (λ o. AssignedHasLetters o e) k.is le2) (subst (λ o. length (rs ++ assigned_temporaries w.unit o a e) ≤ w.registers) k.is room))
+  assigned_follows at u a e o pa qa la pe qe same (ToStruct struct known object) le2 room =
+      let is = struct_no_scalar u struct in
+      subst (λ o. does_as (Node at u (Assign None a e)) (target_assigned w.unit bound rs o u a e)) (sym is)
+      (object_follows at u a e is o pa qa la object (object_pure e object pe) qe (subst (λ o. AssignedHasLetters o e) is le2) (subst (λ o. length (rs ++ assigned_temporaries w.unit o a e) ≤ w.registers) is room))
 
   -- ---- `op=`, `++` and `--`
 
@@ -242,7 +294,7 @@ module _ (w : Setting) (n : ℕ) (h : Here) (sight : Sight) (scene : Scene w n s
 
     pub compound_follows : is_place a ≡ true → IsPure a → WellTyped sight a → HasLetters a → IsPure e → WellTyped sight e → HasLetters e
         → length (rs ++ (target_temporaries w.unit a ++ temporaries e ++ member_temporaries a)) ≤ w.registers → Does (Node at u (Assign (Some op) a e))
-    compound_follows o pa qa la pe qe le2 room = by (aims a o pa qa la (place_for room).0)
+    compound_follows o pa qa la pe qe le2 room = by (reaches_place a o pa qa la (place_for room).0)
       where
         code : MonStatements
         code = before (target_setup w.unit bound rs a) others
@@ -250,10 +302,13 @@ module _ (w : Setting) (n : ℕ) (h : Here) (sight : Sight) (scene : Scene w n s
         this : Expression
         this = Node at u (Assign (Some op) a e)
 
-        by : Aims a (target_setup w.unit bound rs a) (target w.unit bound rs a) (length before_it) → Does this
+        by : Reached a (target_setup w.unit bound rs a) (target w.unit bound rs a) (length before_it) → Does this
         by (NoAim there x) = undefined_here w h low regs Next s (at_place (scalar_of u) (place_with T a w.call s)) (runs w n t code regs) there (ap (at_place (scalar_of u)) x)
-        by (AimsAt to x after keeps run points below) = read_first (load s.store (reached_from w a to) k) refl
+        by (AimsAt to x after kept run points below) = read_first (load s.store (reached_from w a to) k) refl
           where
+            keeps : Same low regs after
+            keeps = lower after kept
+
             leads : (o : Option Value) → load s.store (reached_from w a to) k ≡ o → at_place (scalar_of u) (place_with T a w.call s) ≡ at_value (reached_from w a to) (defined at o s)
             leads o loads = ap (λ o. at_place o (place_with T a w.call s)) is ∙ ap (at_place (Some k)) x ∙ ap (λ o. at_value (reached_from w a to) (defined at o s)) loads
 
@@ -299,15 +354,18 @@ module _ (w : Setting) (n : ℕ) (h : Here) (sight : Sight) (scene : Scene w n s
         (omega (arith, room, all, some, few), λ c. let one : length (member_temporaries a) ≡ 1 = ap (λ c. length (if c then kind.Ptr ∷ [] else [])) c in omega (arith, room, all, some, few, one))
 
     pub bump_follows : is_place a ≡ true → IsPure a → WellTyped sight a → HasLetters a → length (rs ++ (target_temporaries w.unit a ++ member_temporaries a)) ≤ w.registers → Does (Node at u (Bump op a))
-    bump_follows o pa qa la room = by (aims a o pa qa la (room_to_bump room).0)
+    bump_follows o pa qa la room = by (reaches_place a o pa qa la (room_to_bump room).0)
       where
         code : MonStatements
         code = before (target_setup w.unit bound rs a) bumps
 
-        by : Aims a (target_setup w.unit bound rs a) (target w.unit bound rs a) (length behind_place) → Does (Node at u (Bump op a))
+        by : Reached a (target_setup w.unit bound rs a) (target w.unit bound rs a) (length behind_place) → Does (Node at u (Bump op a))
         by (NoAim there x) = undefined_here w h low regs Next s (bump_at (scalar_of u) (place_with T a w.call s)) (runs w n t code regs) there (ap (bump_at (scalar_of u)) x)
-        by (AimsAt to x after keeps run points below) = read_first (load s.store (reached_from w a to) k) refl
+        by (AimsAt to x after kept run points below) = read_first (load s.store (reached_from w a to) k) refl
           where
+            keeps : Same low regs after
+            keeps = lower after kept
+
             leads : (o : Option Value) → load s.store (reached_from w a to) k ≡ o → bump_at (scalar_of u) (place_with T a w.call s) ≡ bump_value_at (reached_from w a to) (defined at o s)
             leads o loads = ap (λ o. bump_at o (place_with T a w.call s)) is ∙ ap (bump_at (Some k)) x ∙ ap (λ o. bump_value_at (reached_from w a to) (defined at o s)) loads
 
@@ -336,7 +394,7 @@ module _ (w : Setting) (n : ℕ) (h : Here) (sight : Sight) (scene : Scene w n s
       by (IsUndefined at x) = undefined_here w h low regs Next s ((eval_with T e w.call >> done) s) (runs w n t NoStatement regs) at (ap (λ r. on_outcome r (λ _. done)) x)
 
   pub effect_follows : (e : Expression) → IsEffectOrCall e → WellTyped sight e → EffectHasLetters e → length (rs ++ effect_temporaries w.unit e) ≤ w.registers → Does e
-  effect_follows (Node at u (Assign None a e)) pure q l room = assignment_follows at u a e q.3.scalar q.3.is q.2 pure.0 q.0 l.0 pure.1 q.1 q.5 l.1 room
+  effect_follows (Node at u (Assign None a e)) pure q l room = assigned_follows at u a e q.2 pure.0 q.0 l.0 pure.1 q.1 q.4 q.5 l.1 room
   effect_follows (Node at u (Assign (Some op) a e)) pure q l room =
       let scalars = compound_scalars op u (type_of e) q.4 in
       compound_follows at u op a e scalars.0.scalar scalars.1.scalar scalars.0.is scalars.1.is q.4 q.2 pure.0 q.0 l.0 pure.1 q.1 l.1 room

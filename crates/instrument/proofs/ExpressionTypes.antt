@@ -1,16 +1,16 @@
 -- The types of the parts of typed expressions.
-use Rattle.std.proofs.Common.{◌≡◌, ℤ, true, false, cond, Some, refl, sym, ap, ◌∙◌}
+use Rattle.std.proofs.Common.{◌≡◌, ℤ, true, false, cond, Some, None, refl, sym, ap, ◌∙◌}
 use Rattle.c_syntax.specs.declared.types.CInt.{CInt}
 use Rattle.c_syntax.specs.declared.expression.BinOp.{BinOp}
 use Rattle.c_syntax.specs.declared.expression.BinOp.TheVariants as operator
-use Rattle.c_syntax.specs.Ctypes.{PlainType, Int, int_type}
+use Rattle.c_syntax.specs.Ctypes.{PlainType, Int, Struct, int_type}
 use Rattle.c_syntax.specs.Expressions.{Expression, Node, Number, Letter, Text, Variable, Unary, Binary, Both, Either, Choice, Assign, Bump, Call, Cast, SizeOfType, SizeOfExpr, Index, Dot, Arrow, Comma}
 use Rattle.c_model.specs.Integers.{operate, operate_in}
 use Rattle.c_model.specs.Conversions.{promoted, is_shift, is_relation}
 use Rattle.c_model.specs.Laws.{type_of_result}
 use Rattle.c_model.specs.Layouts.{Scalar, IntegerType, scalar_of}
-use Rattle.c_model.specs.ExpressionTyping.{is_place, Sight}
-use Rattle.c_model.specs.TypedTrees.{OnIntegers, has_object, CompoundTypes, ToInteger, ToPointer}
+use Rattle.c_model.specs.ExpressionTyping.{is_place, has_object, is_struct, Sight}
+use Rattle.c_model.specs.TypedTrees.{OnIntegers, CompoundTypes, ToInteger, ToPointer}
 use Rattle.c_syntax.specs.declared.expression.BumpOp.{BumpOp}
 use Rattle.c_syntax.specs.declared.expression.BumpOp.TheVariants.{PreUp, PreDown, PostUp, PostDown}
 use Rattle.c_model.specs.Meaning.{bump_operator}
@@ -94,7 +94,7 @@ place_has_object (Node at t (Binary op a b)) e = e
 place_has_object (Node at t (Both a b)) e = e
 place_has_object (Node at t (Either a b)) e = e
 place_has_object (Node at t (Choice a b c)) e = e
-place_has_object (Node at t (Assign op a b)) e = e
+place_has_object (Node at t (Assign op a b)) e = absurd cc
 place_has_object (Node at t (Bump op a)) e = e
 place_has_object (Node at t (Call f es)) e = e
 place_has_object (Node at t (Cast to a)) e = e
@@ -109,3 +109,8 @@ bump_types s PreUp t u (ToPointer step p q) = ToPointer refl p q
 bump_types s PreDown t u (ToPointer step p q) = ToPointer refl p q
 bump_types s PostUp t u (ToPointer step p q) = ToPointer refl p q
 bump_types s PostDown t u (ToPointer step p q) = ToPointer refl p q
+
+-- a struct is no scalar
+pub struct_no_scalar : (t : PlainType) → is_struct t ≡ true → scalar_of t ≡ None
+struct_no_scalar (Struct n) e = refl
+struct_no_scalar _ e = absurd cc

@@ -23,7 +23,8 @@ use Rattle.c_model.specs.State.{State, Outcome, Normal, Stop, Evaluation, on_out
 use Rattle.c_model.specs.Meaning.{Tables, tables_of, eval_with, place_with, truth_value, is_zero, operate_value, operate_values, unit_of, converted, value_as, named, is_array, is_of_library, is_member, address, pointed_to, member, literal, choose}
 use Rattle.c_model.specs.Meaning as source
 use Rattle.c_model.specs.ExpressionTyping.{Sight}
-use Rattle.c_model.specs.TypedTrees.{WellTyped, has_object, IsPromoted, IndexTypes, OnTheLeft, OnTheRight}
+use Rattle.c_model.specs.ExpressionTyping.{has_object}
+use Rattle.c_model.specs.TypedTrees.{WellTyped, IsPromoted, IndexTypes, OnTheLeft, OnTheRight}
 use Rattle.c_model.specs.TypedTrees.{BinaryTypes, OfIntegers, OfPointerAndInteger, OfIntegerAndPointer, OfDifference, OfPointers, CastTypes, ToVoid, OfInteger, OfPointer, OfNullConstant, OfArray}
 use Rattle.c_model.proofs.OperatorResults.{fits-operate_in, fits-operate_one_in}
 use Rattle.c_model.proofs.Conversions.{fits-convert}

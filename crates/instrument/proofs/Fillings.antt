@@ -27,12 +27,13 @@ use Rattle.instrument.proofs.Standing.{Setting, Target, runs, Same, Has, IsOf, A
 use Rattle.instrument.proofs.Registers.{same_all, longer}
 use Rattle.instrument.proofs.Results.{before_is}
 use Rattle.instrument.proofs.Following.{Follows, Later, anchored_same, follows_value, follows_then, follows_lower}
+use Rattle.instrument.proofs.Pointers.{shifted_twice}
 use Rattle.instrument.proofs.PointerValues.{scalar_register, value_type_is}
 use Rattle.instrument.proofs.Evaluating.{lower_same}
 use Rattle.instrument.proofs.Expressions.{evaluates}
 use Rattle.instrument.proofs.Stores.{write_follows}
 use Rattle.instrument.proofs.Strings.{bytes_follow}
-use Rattle.instrument.proofs.Zeros.{stored_at_follows, shifted_twice, zero_parts_follow}
+use Rattle.instrument.proofs.Zeros.{stored_at_follows, zero_parts_follow}
 
 -- where an object is filled, to which a register points that stays
 pub record Filling (w : Setting) (bound : Bindings) (low : ℕ) (p : Pointer) (r : ℕ) (regs : List Value) (s : State) (t : Target) : Type 0 where
@@ -145,7 +146,7 @@ module _ (w : Setting) (n : ℕ) (h : Here) (sight : Sight) (knows : Knows w sig
         let others = translation.fill_parts w.unit bound r d (rs ++ here) cs is in
         subst (λ q. Follows w h low regs Next s (fill_parts T at (c ∷ cs) (shifted p d) (Listed i is) w.call s) q) (sym (before_is w.globals first others w.calls n regs t))
         (follows_then w h low regs Next s (fill T at c.1 (shifted (shifted p d) c.0) i w.call s) (runs w n t first regs) (fill_parts T at cs (shifted p d) is w.call) (λ r u. runs w n u others r)
-        (subst (λ q. Follows w h low regs Next s (fill T at c.1 q i w.call s) (runs w n t first regs)) (sym (shifted_twice w n h low p d c.0))
+        (subst (λ q. Follows w h low regs Next s (fill T at c.1 q i w.call s) (runs w n t first regs)) (sym (shifted_twice p d c.0))
         (fill_follows i at c.1 p r (d + c.0) rs regs s t behind pure.0 q.0 l.0 (omega (arith, more, room, longer (rs ++ here) rest)) m))
         (λ to after u o same la be.
         parts_follow is at cs p r d (rs ++ here) after to u (omega (arith, behind, longer rs here)) pure.1 q.1 l.1 (omega (arith, more, room)) (filling_later w bound low p r regs after s to t u o same la be m)))

@@ -11,7 +11,7 @@ use Rattle.c_model.specs.Sizes.{IsSmall}
 use Rattle.c_model.specs.SmallTypes.{TypesSmall}
 use Rattle.c_model.specs.FullExpressions.{EachInitial, EachDeclared, EachIn, EachInElse, EachInFirst, EachInItem, EachInItems}
 use Rattle.c_model.specs.EffectPlaces.{ArePlaced, FirstPlaced, StatementPlaced, ElsePlaced, ItemsPlaced, ItemPlaced}
-use Rattle.instrument.proofs.FormedTrees.{IsFull, IsFullOrCall, IsFullEffect, InitialFormed, AreInitialised, FirstFormed, StatementFormed, ElseFormed, ItemFormed, ItemsFormed}
+use Rattle.instrument.proofs.FormedTrees.{IsFullAs, InitialFormed, AreInitialised, FirstFormed, StatementFormed, ElseFormed, ItemFormed, ItemsFormed}
 
 module _ (structs : List StructType) where
   abbrev Few : Expression → Type 0
@@ -25,17 +25,9 @@ module _ (structs : List StructType) where
   declared_formed [] p h t = tt
   declared_formed (d ∷ ds) p h t = (initial_formed d.init p.0 h.0 t.0, declared_formed ds p.1 h.1 t.1)
 
-  any_full : (o : Option Expression) → WhereAny IsPure o → WhereAny IsSmall o → WhereAny Few o → WhereAny (IsFull structs) o
-  any_full None p h t = tt
-  any_full (Some e) p h t = record { is = p; small = h; types = t }
-
-  any_full_or_call : (o : Option Expression) → WhereAny IsPureOrCall o → WhereAny IsSmall o → WhereAny Few o → WhereAny (IsFullOrCall structs) o
-  any_full_or_call None p h t = tt
-  any_full_or_call (Some e) p h t = record { is = p; small = h; types = t }
-
-  any_full_effect : (o : Option Expression) → WhereAny IsEffect o → WhereAny IsSmall o → WhereAny Few o → WhereAny (IsFullEffect structs) o
-  any_full_effect None p h t = tt
-  any_full_effect (Some e) p h t = record { is = p; small = h; types = t }
+  any_full : (P : Expression → Type 0) (o : Option Expression) → WhereAny P o → WhereAny IsSmall o → WhereAny Few o → WhereAny (IsFullAs structs P) o
+  any_full P None p h t = tt
+  any_full P (Some e) p h t = record { is = p; small = h; types = t }
 
   first_formed : (first : ForFirst) → FirstPlaced first → EachInFirst IsSmall first → EachInFirst Few first → FirstFormed structs first
   first_formed NoFirst p h t = tt
@@ -51,10 +43,10 @@ module _ (structs : List StructType) where
     statement_formed (If at e a b) p h t = (record { is = p.0; small = h.0; types = t.0 }, statement_formed a p.1 h.1 t.1, else_formed b p.2 h.2 t.2)
     statement_formed (While at annots e a) p h t = (p.0, record { is = p.1; small = h.0; types = t.0 }, statement_formed a p.2 h.1 t.1)
     statement_formed (Do at a e) p h t = (statement_formed a p.0 h.0 t.0, record { is = p.1; small = h.1; types = t.1 })
-    statement_formed (For at annots first e step a) p h t = (p.0, first_formed first p.1 h.0 t.0, any_full e p.2 h.1 t.1, any_full_effect step p.3 h.2 t.2, statement_formed a p.4 h.3 t.3)
+    statement_formed (For at annots first e step a) p h t = (p.0, first_formed first p.1 h.0 t.0, any_full IsPure e p.2 h.1 t.1, any_full IsEffect step p.3 h.2 t.2, statement_formed a p.4 h.3 t.3)
     statement_formed (Break at) p h t = tt
     statement_formed (Continue at) p h t = tt
-    statement_formed (Return at e) p h t = any_full_or_call e p h t
+    statement_formed (Return at e) p h t = any_full IsPureOrCall e p h t
 
     else_formed : (b : ElsePart) → ElsePlaced b → EachInElse IsSmall b → EachInElse Few b → ElseFormed structs b
     else_formed NoElse p h t = tt

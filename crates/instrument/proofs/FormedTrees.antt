@@ -14,26 +14,24 @@ use Rattle.c_model.specs.FullExpressions.{EachInitial}
 
 -- among these structs
 module _ (structs : List StructType) where
-  -- expressions that stand in no other: without effects, or besides as calls, with an effect, and besides as calls
-  pub record IsFull (e : Expression) : Type 0 where
-    pub is : IsPure e
+  -- expressions that stand in no other, of this form
+  pub record IsFullAs (P : Expression → Type 0) (e : Expression) : Type 0 where
+    pub is : P e
     pub small : IsSmall e
     pub types : TypesSmall structs e
 
-  pub record IsFullOrCall (e : Expression) : Type 0 where
-    pub is : IsPureOrCall e
-    pub small : IsSmall e
-    pub types : TypesSmall structs e
+  -- without effects, or besides as calls, with an effect, and besides as calls
+  abbrev pub IsFull : Expression → Type 0
+  IsFull e = IsFullAs IsPure e
 
-  pub record IsFullEffect (e : Expression) : Type 0 where
-    pub is : IsEffect e
-    pub small : IsSmall e
-    pub types : TypesSmall structs e
+  abbrev pub IsFullOrCall : Expression → Type 0
+  IsFullOrCall e = IsFullAs IsPureOrCall e
 
-  pub record IsFullEffectOrCall (e : Expression) : Type 0 where
-    pub is : IsEffectOrCall e
-    pub small : IsSmall e
-    pub types : TypesSmall structs e
+  abbrev pub IsFullEffect : Expression → Type 0
+  IsFullEffect e = IsFullAs IsEffect e
+
+  abbrev pub IsFullEffectOrCall : Expression → Type 0
+  IsFullEffectOrCall e = IsFullAs IsEffectOrCall e
 
   -- each expression of an initialiser is a full expression (C99 6.8 p4)
   pub record InitialFormed (o : Option (Place × Initialiser)) : Type 0 where

@@ -12,7 +12,8 @@ use Rattle.c_model.specs.Memory.{Null, Value}
 use Rattle.c_model.specs.State.{State, Outcome, Normal, Stop, Over, Undefined, Evaluation, on_outcome, ◌>>=◌, give}
 use Rattle.c_model.specs.Meaning.{Tables, tables_of, eval_with, evals_with, place_with, address, converted, is_array}
 use Rattle.c_model.specs.ExpressionTyping.{Sight}
-use Rattle.c_model.specs.TypedTrees.{HaveTypes, Calls, WellTyped, AreWellTyped, has_object, CastTypes, ToVoid, OfInteger, OfPointer, OfNullConstant, OfArray}
+use Rattle.c_model.specs.ExpressionTyping.{has_object}
+use Rattle.c_model.specs.TypedTrees.{HaveTypes, Calls, WellTyped, AreWellTyped, CastTypes, ToVoid, OfInteger, OfPointer, OfNullConstant, OfArray}
 use Rattle.c_model.proofs.Agreement.{extends_trans}
 use Rattle.c_model.proofs.Conversions.{fits-convert}
 use Rattle.mon_syntax.specs.declared.tree.MonType.{MonType}

@@ -11,15 +11,16 @@ use Rattle.c_syntax.specs.declared.expression.UnOp.TheVariants as prefix
 use Rattle.c_syntax.specs.declared.expression.BinOp.{BinOp}
 use Rattle.c_syntax.specs.declared.expression.BinOp.TheVariants.{Add, Sub, Mul, Div, Rem, Shl, Shr, BitAnd, BitOr, BitXor, Eq, Ne, Lt, Le, Gt, Ge}
 use Rattle.c_model.specs.Integers as source
-use Rattle.c_model.specs.Integers.{int_size, is_signed, fits, bits_of, convert, result_in, result_of, truth, is_count, is_negative, remainder_in, operate_in, operate_one_in}
+use Rattle.c_model.specs.Integers.{is_signed, fits, convert, result_in, result_of, truth, is_count, is_negative, remainder_in, operate_in, operate_one_in}
 use Rattle.c_model.specs.Operators.{quotient, shift_left, shift_right, complement, floor_quotient}
 use Rattle.c_model.specs.Conversions.{promoted, is_shift}
 use Rattle.c_model.proofs.OperatorResults.{fits-operate_in}
+use Rattle.c_model.proofs.TypedParts.{and_true}
 use Rattle.mon_syntax.specs.declared.tree.MonOp.{MonOp}
 use Rattle.mon_syntax.specs.declared.tree.MonOp.TheVariants as mon
 use Rattle.mon_syntax.specs.declared.tree.MonType.{MonType}
 use Rattle.mon_syntax.specs.declared.tree.MonType.TheVariants as kind
-use Rattle.mon_syntax.specs.Arithmetic.{is_pointer, wrap, operate, lowest_bits, minus, flipped, divided, shift_count}
+use Rattle.mon_syntax.specs.Arithmetic.{is_pointer, wrap, operate, minus, flipped, divided, shift_count}
 use Rattle.mon_syntax.specs.Arithmetic as register
 use Rattle.mon_syntax.specs.Checking.{same_type}
 use Rattle.mon_syntax.specs.Valid.{is_arithmetic, is_relation, is_sum, is_difference, has_operator, second_type, result_type}
@@ -178,10 +179,6 @@ if_true : (t : Bool) (o : Option ℤ) (v : ℤ) → (if t then o else None) ≡ 
 if_true true o v h = (refl, h)
 if_true false o v h = absurd cc
 
-both_true : (s t : Bool) → s && t ≡ true → (s ≡ true) × (t ≡ true)
-both_true true t e = (refl, e)
-both_true false t e = absurd cc
-
 -- ---- division
 
 divides : (k : CInt) (x y v : ℤ) → result_of k (quotient x y) ≡ Some v → divided int_div (register_type k) x y ≡ Some v
@@ -234,7 +231,7 @@ count_is k n l = ap (λ m. n % m) (bits_of_type k) ∙ mod-eq_of_lt l
 shifts_left : (k : CInt) (x y v : ℤ) → operate_in k Shl x y ≡ Some v → operate mon.Shl (register_type k) x y ≡ Some v
 shifts_left k x (pos n) v h =
     let parts = if_true (is_count k (pos n) && not (is_negative x)) (result_of k (shift_left x (pos n))) v h in
-    let small = count_below k n (both_true _ _ parts.0).0 in
+    let small = count_below k n (and_true _ _ parts.0).0 in
     ap (λ c. Some (wrap (register_type k) (x *ℤ pos (2 ^ c)))) (count_is k n small) ∙ ap Some (result_wraps k (x *ℤ pos (2 ^ n)) v parts.1)
 shifts_left k x (negsuc n) v h = absurd cc
 
@@ -246,7 +243,7 @@ shifts_right k x (negsuc n) v h = absurd cc
 
 -- a count where a shift is defined is a value of the left side's type
 pub count_fits : (k : CInt) (op : BinOp) (x y v : ℤ) → is_shift op ≡ true → operate_in k op x y ≡ Some v → fits k y ≡ true
-count_fits k Shl x (pos n) v s h = count_small k n (count_below k n (both_true _ _ (if_true (is_count k (pos n) && not (is_negative x)) (result_of k (shift_left x (pos n))) v h).0).0)
+count_fits k Shl x (pos n) v s h = count_small k n (count_below k n (and_true _ _ (if_true (is_count k (pos n) && not (is_negative x)) (result_of k (shift_left x (pos n))) v h).0).0)
 count_fits k Shl x (negsuc n) v s h = absurd cc
 count_fits k Shr x (pos n) v s h = count_small k n (count_below k n (if_true (is_count k (pos n)) (shift_right x (pos n)) v h).0)
 count_fits k Shr x (negsuc n) v s h = absurd cc

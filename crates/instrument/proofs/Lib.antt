@@ -32,6 +32,8 @@ pub mod Asserts
 -- effects and initialisers
 pub mod Stores
 pub mod Bases
+pub mod Aims
+pub mod Copies
 pub mod Effects
 pub mod Compounds
 pub mod Initialisers
@@ -39,9 +41,10 @@ pub mod Zeros
 pub mod Strings
 pub mod Fillings
 pub mod InitialisedVariables
+pub mod Heap
+pub mod LibraryNames
 pub mod Library
 -- places of the file, and globals
-pub mod FileItems
 pub mod Sights
 pub mod FileNumbers
 pub mod Resolved

@@ -1,31 +1,40 @@
--- Calls of the library: putchar, getchar and exit.
-use Rattle.std.proofs.Common.{◌≡◌, ℕ, zero, suc, ◌%◌, ◌<◌, ℤ, pos, negsuc, Bool, true, false, if◌then◌else◌, List, [], ◌∷◌, ◌++◌, Option, Some, None, refl, sym, ap, ◌∙◌, subst, arith}
-use Rattle.std.proofs.lemmas.List.{append-nil}
+-- Calls of the library: putchar, getchar, exit, malloc, calloc and free.
+use Rattle.std.proofs.Common.{◌≡◌, ℕ, zero, suc, ◌+◌, ◌*◌, ◌%◌, ◌^◌, ◌<◌, ◌≤◌, ℤ, pos, negsuc, Bool, true, false, cond, if◌then◌else◌, nat_eq, List, [], ◌∷◌, ◌++◌, length, replicate, Option, Some, None, refl, sym, ap, ◌∙◌, subst, arith}
+use Rattle.std.proofs.lemmas.List.{append-nil, length-append, length-replicate}
 use Rattle.std.proofs.lemmas.Bool.{lt-ltb}
 use Rattle.std.specs.Prelude.{slice_get, bytes_eq, codes}
 use Rattle.c_syntax.specs.declared.place.Place.{Place}
-use Rattle.c_syntax.specs.declared.types.CInt.TheVariants.{I32}
+use Rattle.c_syntax.specs.declared.types.CInt.TheVariants.{I32, U64 as UnsignedLong}
 use Rattle.c_syntax.specs.declared.expression.Use.{Use}
-use Rattle.c_syntax.specs.Ctypes.{PlainType, Void, int_type}
-use Rattle.c_model.specs.Integers.{fits, byte_of}
-use Rattle.c_model.specs.Memory.{Value, Integer}
-use Rattle.c_model.specs.State.{State, Input, InputTail, EndOfInput, InputFault, Spent, Exits, ReadFault, Undefined, Over, Normal, Stop, Evaluation, stop, read_byte}
-use Rattle.c_model.specs.Meaning.{tables_of, global_scope, put_char, get_char, exit_with, library_call, definition_at, call_with, is_of_library, call_of}
+use Rattle.c_syntax.specs.Ctypes.{PlainType, Void, Int, Ptr, int_type}
+use Rattle.c_model.specs.Integers.{fits, bits_of, byte_of}
+use Rattle.c_model.specs.Memory.{Pointer, Null, Into, Value, Integer, Points, NoValue, Byte, Unwritten, Number, Store, Room, At, NoRoom, heap_room, heap_block, standard_sizes, freed}
+use Rattle.c_model.specs.State.{State, Input, InputTail, EndOfInput, InputFault, Spent, Exits, Full, ReadFault, Over, Outcome, on_outcome, ◌>>=◌, stop, defined, give, put_store, read_byte, allocate, heap_birth}
+use Rattle.c_model.specs.Meaning.{tables_of, global_scope, library_call, definition_at, call_with, is_of_library, call_of}
 use Rattle.c_model.specs.ExpressionTyping.{name_at}
-use Rattle.mon_syntax.specs.Meaning.{Result, Done, Stops, Next, then_do, given_to, got, with_read, with_value, eval, eval_all}
+use Rattle.mon_syntax.specs.declared.tree.MonType.TheVariants.{U64}
+use Rattle.mon_syntax.specs.declared.tree.MemoryCall.{MemoryCall}
+use Rattle.mon_syntax.specs.declared.tree.MemoryCall.TheVariants.{Malloc, Calloc, Free}
+use Rattle.mon_syntax.specs.Arithmetic.{lowest_bits}
+use Rattle.mon_syntax.specs.Meaning.{Result, Done, Stops, Next, then_do, replied, given_to, got, with_read, with_value, eval, eval_all}
 use Rattle.mon_syntax.specs.Meaning.{◌>>=◌ as bind}
-use Rattle.mon_syntax.specs.BlockMemory.{Blocks, integer_of, over_blocks}
-use Rattle.mon_syntax.specs.Trees.{MonExpression, PutChar, GetChar, Exit, Call, MonStatements, NoStatement}
+use Rattle.mon_syntax.specs.BlockMemory.{Blocks, integer_of, over_blocks, act_on_blocks, becomes}
+use Rattle.mon_syntax.specs.BlockMemory as blocks
+use Rattle.mon_syntax.specs.Memory as memory
+use Rattle.mon_syntax.specs.Trees.{MonExpression, PutChar, GetChar, Exit, Act, Call}
 use Rattle.c_effects.specs.Expressions.{one}
 use Rattle.c_effects.specs.Effects as effects
 use Rattle.c_effects.specs.Effects.{index_of, call}
 use Rattle.instrument.proofs.Results.{one_is}
-use Rattle.instrument.proofs.Standing.{Setting, Target, runs, Has, Bounded}
+use Rattle.instrument.proofs.Standing.{Setting, Target, runs, Has, IsSmall, IsByte, AreBytes, Bounded}
+use Rattle.instrument.proofs.Bounds.{replicated_bytes}
+use Rattle.instrument.proofs.Heap.{live_with_heap, bounded_with_heap, room_small, freed_saved}
 use Rattle.instrument.proofs.Following.{later_same}
-use Rattle.instrument.proofs.Calls.{Even, Called, Gives, EndsRun, AreOf, HaveAll, takes, CallDoes, DoesCall, AllDo}
-use Rattle.instrument.proofs.Places.{of_integer}
+use Rattle.instrument.proofs.Calls.{Even, Called, Gives, EndsRun, HasNoMeaning, AreOf, HaveAll, takes, CallDoes, DoesCall, AllDo}
+use Rattle.instrument.proofs.LibraryNames.{name_there}
+use Rattle.instrument.proofs.Places.{of_integer, of_pointer}
 
--- ---- bytes as values of `int`
+-- ---- numbers
 
 byte_fits : (n : ℕ) → n < 256 → fits I32 (pos n) ≡ true
 byte_fits n lt = lt-ltb n 2147483648 (omega (arith, lt))
@@ -34,28 +43,10 @@ byte_below : (z : ℤ) → byte_of z < 256
 byte_below (pos n) = omega arith
 byte_below (negsuc n) = omega arith
 
--- ---- names
-
--- a name of these bytes is in the table
-pub record IsThere (names : List (List ℕ)) (x : ℕ) (w : List ℕ) : Type 0 where
-  pub name : List ℕ
-  pub found : slice_get names x ≡ Some name
-  pub is : bytes_eq name w ≡ true
-
-pub there : (names : List (List ℕ)) (x first : ℕ) (rest : List ℕ) → bytes_eq (name_at names x) (first ∷ rest) ≡ true → IsThere names x (first ∷ rest)
-there names x first rest e = by (slice_get names x) refl e
-  where
-    by : (o : Option (List ℕ)) → slice_get names x ≡ o → bytes_eq (elim o [ None ↦ [] | Some w ↦ w ]) (first ∷ rest) ≡ true → IsThere names x (first ∷ rest)
-    by None f g = absurd cc
-    by (Some w) f g = record { name = w; found = f; is = g }
-
--- what is chosen by the name
-abbrev source_by : Bool → Bool → Bool → Place → List Value → Evaluation Value
-source_by a b c at vs = if a then put_char at vs else (if b then get_char at vs else (if c then exit_with at vs else stop (Over (Undefined at))))
-
-abbrev target_by : Bool → Bool → Bool → Option ℕ → List MonExpression → MonStatements
-target_by a b c into args =
-    if a then one (PutChar into (effects.first_of args)) else (if b then one (GetChar into) else (if c then one (Exit (effects.first_of args)) else NoStatement))
+-- a number of bytes is the same on both sides
+same_bits : (z : ℤ) → fits UnsignedLong z ≡ true → lowest_bits U64 z ≡ bits_of UnsignedLong z
+same_bits (pos n) f = refl
+same_bits (negsuc n) f = absurd cc
 
 -- the one argument
 first_has : (w : Setting) (args : List MonExpression) (regs : List Value) (mem : Blocks) (v : Value) → HaveAll w args regs mem (v ∷ []) → Has w (effects.first_of args) regs mem v
@@ -70,6 +61,69 @@ first_has w (a ∷ args) regs mem v e = by (eval over_blocks w.globals a regs me
     by None g f = absurd cc
     by (Some u) g f = g ∙ ap Some (all u (eval_all over_blocks w.globals args regs mem) f)
 
+-- ---- what the runtime does on the heap
+
+-- what a call of the runtime answers in a state
+abbrev Answers : Target → MemoryCall → List Value → Result Target Value
+Answers t f vs = replied over_blocks (act_on_blocks f vs t.mem) t
+
+module _ (s : State) (t : Target) (even : Even s t) (bounded : Bounded s.store) where
+  -- a birth, where there is room for so many bytes
+  born : (room : Room) (bytes : List Byte) → ((place : ℕ) → room ≡ At place → length bytes ≤ 2 ^ 62) → AreBytes bytes
+      → Called s (Ptr Void) (heap_birth room bytes s) (replied over_blocks (blocks.heap_birth room bytes t.mem) t)
+  born (NoRoom full) bytes small are = EndsRun (Full full) s [] (λ h. absurd cc) refl (sym (append-nil s.output)) (ap (λ k. Stops (Full full) k []) even.steps)
+  born (At place) bytes small are =
+      let v = Points (Into (length s.store + 1) 0) in
+      let to : State = record s { store = s.store ++ heap_block place bytes ∷ [] } in
+      let there : Target = record t { mem = record t.mem { store = t.mem.store ++ heap_block place bytes ∷ [] } } in
+      Gives (Some v) v to there [] (Into (length s.store + 1) 0, refl, omega arith) refl
+      (record {
+        scope = refl;
+        calls = refl;
+        live = live_with_heap s.store place bytes;
+        longer = omega (arith, length-append s.store (heap_block place bytes ∷ []));
+        bounded = bounded_with_heap s.store place bytes bounded (small place refl) are;
+        spent = omega arith;
+        output = sym (append-nil s.output);
+      })
+      (record { store_is = ap (λ store. store ++ heap_block place bytes ∷ []) even.store_is; frames = even.frames; steps = even.steps; input = even.input })
+      refl (ap (λ (store : Store). Done (Points (Into (length store + 1) 0)) there []) even.store_is)
+
+  allocated : (n : ℕ) (b : Byte) → IsByte b → Called s (Ptr Void) (allocate n b s) (replied over_blocks (blocks.allocate n b t.mem) t)
+  allocated n b is = by (nat_eq n 0)
+    where
+      room : Store → Room
+      room store = heap_room standard_sizes store n
+
+      small : (place : ℕ) → room s.store ≡ At place → length (replicate n b) ≤ 2 ^ 62
+      small place e = omega (arith, room_small s.store n place e, length-replicate n b)
+
+      by : (zero : Bool)
+          → Called s (Ptr Void) (cond zero (give (Points Null)) (λ s. heap_birth (room s.store) (replicate n b) s) s)
+          (replied over_blocks (if zero then memory.Gives (Points Null) t.mem else blocks.heap_birth (room t.mem.store) (replicate n b) t.mem) t)
+      by true = Gives (Some (Points Null)) (Points Null) s t [] (Null, refl, tt) refl (later_same s bounded) even refl refl
+      by false =
+          subst (λ store. Called s (Ptr Void) (heap_birth (room s.store) (replicate n b) s) (replied over_blocks (blocks.heap_birth (room store) (replicate n b) t.mem) t)) (sym even.store_is)
+          (born (room s.store) (replicate n b) small (replicated_bytes n b is))
+
+  ended : (p : Pointer) (at : Place) → Called s Void (library_call at (Some (codes "free")) (Points p ∷ []) s) (replied over_blocks (becomes t.mem (freed t.mem.store p)) t)
+  ended p at =
+      subst (λ store. Called s Void (after (freed s.store p)) (replied over_blocks (becomes t.mem (freed store p)) t)) (sym even.store_is) (by (freed s.store p) refl)
+    where
+      after : Option Store → Outcome Value
+      after o = on_outcome ((defined at o >>= put_store) s) (λ _. give NoValue)
+
+      by : (o : Option Store) → freed s.store p ≡ o → Called s Void (after o) (replied over_blocks (becomes t.mem o) t)
+      by None e = HasNoMeaning at s [] refl (sym (append-nil s.output)) (record { rest = []; is = refl })
+      by (Some store) e =
+          let kept = freed_saved s.store store p bounded e in
+          Gives None (Integer (pos 0)) (record s { store = store }) (record t { mem = record t.mem { store = store } }) [] tt tt
+          (record { scope = refl; calls = refl; live = kept.live; longer = omega (arith, kept.long); bounded = kept.bounded; spent = omega arith; output = sym (append-nil s.output) })
+          (record { store_is = refl; frames = even.frames; steps = even.steps; input = even.input })
+          refl refl
+
+-- ---- calls by name
+
 -- a call of the library in the source, and its statements
 module _ (w : Setting) (n depth : ℕ) (calls : w.call ≡ call_of w.unit depth) (f : Use) (library : is_of_library f ≡ true) where
   abbrev names : List (List ℕ)
@@ -77,10 +131,6 @@ module _ (w : Setting) (n depth : ℕ) (calls : w.call ≡ call_of w.unit depth)
 
   abbrev name : List ℕ
   name = name_at names f.name
-
-  -- the name of this place in the table
-  named : (y : List ℕ) → slice_get names f.name ≡ Some y → name ≡ y
-  named y e = ap (λ o. elim o as (λ _. List ℕ) [ None ↦ [] | Some w ↦ w ]) e
 
   source_is : (at : Place) (vs : List Value) (s : State) → w.call at f vs s ≡ library_call at (slice_get names f.name) vs s
   source_is at vs s = ap (λ c. c at f vs s) calls ∙ by depth
@@ -92,45 +142,46 @@ module _ (w : Setting) (n depth : ℕ) (calls : w.call ≡ call_of w.unit depth)
   code_is : (into : Option ℕ) (args : List MonExpression) → call w.unit into f args ≡ effects.library_call into name args
   code_is into args = ap (λ b. if b then effects.library_call into name args else one (Call into (index_of f.decl w.unit.funcs) args)) library
 
-  -- what the call does with these values, over what is known of the name
-  abbrev CallsWith : List Value → PlainType → Type 0
-  CallsWith vs result = (s : State) (t : Target) → Even s t → Bounded s.store → (at : Place) (into : Option ℕ) (regs : List Value) (args : List MonExpression) → HaveAll w args regs t.mem vs
-      → CallDoes s result (library_call at (slice_get names f.name) vs s) into regs (runs w n t (effects.library_call into name args) regs)
+  -- what a call of the function y does with these values
+  abbrev CallsWith : List ℕ → List Value → PlainType → Type 0
+  CallsWith y vs result = (s : State) (t : Target) → Even s t → Bounded s.store → (at : Place) (into : Option ℕ) (regs : List Value) (args : List MonExpression) → HaveAll w args regs t.mem vs
+      → CallDoes s result (library_call at (Some y) vs s) into regs (runs w n t (effects.library_call into y args) regs)
 
-  from_names : (types : List PlainType) (result : PlainType) → ((vs : List Value) → AreOf types vs → CallsWith vs result) → AllDo w n f result types
-  from_names types result h vs are s t even bounded le at into regs args has =
-      subst (λ r. CallDoes s result r into regs (runs w n t (call w.unit into f args) regs)) (sym (source_is at vs s))
-      (subst (λ a. CallDoes s result (library_call at (slice_get names f.name) vs s) into regs (runs w n t a regs)) (sym (code_is into args))
+  by_name : (y : List ℕ) (types : List PlainType) (result : PlainType) → bytes_eq y [] ≡ false → name ≡ y → ((vs : List Value) → AreOf types vs → CallsWith y vs result) → AllDo w n f result types
+  by_name y types result some is h vs are s t even bounded le at into regs args has =
+      subst (λ r. CallDoes s result r into regs (runs w n t (call w.unit into f args) regs)) (sym (source_is at vs s ∙ ap (λ o. library_call at o vs s) (name_there names f.name y some is)))
+      (subst (λ a. CallDoes s result (library_call at (Some y) vs s) into regs (runs w n t a regs)) (sym (code_is into args ∙ ap (λ x. effects.library_call into x args) is))
       (h vs are s t even bounded at into regs args has))
 
-  -- one integer
-  from_one : (result : PlainType) → ((z : ℤ) → CallsWith (Integer z ∷ []) result) → (vs : List Value) → AreOf (int_type ∷ []) vs → CallsWith vs result
-  from_one result h [] are = absurd are
-  from_one result h (v ∷ []) are = of_integer I32 (λ v. CallsWith (v ∷ []) result) v are.0 (λ z f. h z)
-  from_one result h (v ∷ u ∷ vs) are = absurd are.1
+  -- one argument, and two
+  with_one : (y : List ℕ) (u result : PlainType) → ((v : Value) → AreOf (u ∷ []) (v ∷ []) → CallsWith y (v ∷ []) result) → (vs : List Value) → AreOf (u ∷ []) vs → CallsWith y vs result
+  with_one y u result h [] are = absurd are
+  with_one y u result h (v ∷ []) are = h v are
+  with_one y u result h (v ∷ x ∷ vs) are = absurd are.1
+
+  with_two : (y : List ℕ) (u1 u2 result : PlainType) → ((v x : Value) → AreOf (u1 ∷ u2 ∷ []) (v ∷ x ∷ []) → CallsWith y (v ∷ x ∷ []) result) → (vs : List Value) → AreOf (u1 ∷ u2 ∷ []) vs → CallsWith y vs result
+  with_two y u1 u2 result h [] are = absurd are
+  with_two y u1 u2 result h (v ∷ []) are = absurd are.1
+  with_two y u1 u2 result h (v ∷ x ∷ []) are = h v x are
+  with_two y u1 u2 result h (v ∷ x ∷ z ∷ vs) are = absurd are.1.1
 
   -- ---- putchar
 
-  pub putchar_does : bytes_eq name (codes "putchar") ≡ true → AllDo w n f int_type (int_type ∷ [])
-  putchar_does e = from_names (int_type ∷ []) int_type (from_one int_type prints)
+  pub putchar_does : name ≡ codes "putchar" → AllDo w n f int_type (int_type ∷ [])
+  putchar_does is = by_name (codes "putchar") (int_type ∷ []) int_type refl is (with_one (codes "putchar") int_type int_type (λ v are. of_integer I32 (λ v. CallsWith (codes "putchar") (v ∷ []) int_type) v are.0 (λ z f. prints z)))
     where
-      prints : (z : ℤ) → CallsWith (Integer z ∷ []) int_type
+      prints : (z : ℤ) → CallsWith (codes "putchar") (Integer z ∷ []) int_type
       prints z s t even bounded at into regs args has =
-          let x = there names f.name 112 (117 ∷ 116 ∷ 99 ∷ 104 ∷ 97 ∷ 114 ∷ []) e in
           let byte = byte_of z in
           let v = Integer (pos byte) in
           let to : State = record s { output = s.output ++ byte ∷ [] } in
-          let source : library_call at (slice_get names f.name) (Integer z ∷ []) s ≡ Normal v to =
-          ap (λ o. library_call at o (Integer z ∷ []) s) x.found
-          ∙ ap (λ a. source_by a (bytes_eq x.name (codes "getchar")) (bytes_eq x.name (codes "exit")) at (Integer z ∷ []) s) x.is in
           DoesCall (Done v t (byte ∷ []))
-          (ap (λ a. runs w n t (target_by a (bytes_eq name (codes "getchar")) (bytes_eq name (codes "exit")) into args) regs) e
-          ∙ one_is w.globals (PutChar into (effects.first_of args)) w.calls n regs t
+          (one_is w.globals (PutChar into (effects.first_of args)) w.calls n regs t
           ∙ ap (λ o. with_value (bind o integer_of) t.steps (λ i. Done (Next (given_to into (Integer (pos (byte_of i))) regs)) t (byte_of i ∷ []))) (first_has w args regs t.mem (Integer z) has))
           (Gives (Some v) v to t (byte ∷ []) (pos byte, refl, byte_fits byte (byte_below z)) refl
           (record { scope = refl; calls = refl; live = refl; longer = omega arith; bounded = bounded; spent = omega arith; output = refl })
           (record { store_is = even.store_is; frames = even.frames; steps = even.steps; input = even.input })
-          source refl)
+          refl refl)
 
   -- ---- getchar
 
@@ -154,46 +205,68 @@ module _ (w : Setting) (n depth : ℕ) (calls : w.call ≡ call_of w.unit depth)
   read_runs None t into regs = refl
   read_runs (Some (z, input)) t into regs = refl
 
-  pub getchar_does : bytes_eq name (codes "putchar") ≡ false → bytes_eq name (codes "getchar") ≡ true → AllDo w n f int_type []
-  getchar_does e1 e2 = from_names [] int_type by
+  pub getchar_does : name ≡ codes "getchar" → AllDo w n f int_type []
+  getchar_does is = by_name (codes "getchar") [] int_type refl is by
     where
-      by : (vs : List Value) → AreOf [] vs → CallsWith vs int_type
+      by : (vs : List Value) → AreOf [] vs → CallsWith (codes "getchar") vs int_type
       by (v ∷ vs) are = absurd are
       by [] are = λ s t even bounded at into regs args has.
-          let x = there names f.name 103 (101 ∷ 116 ∷ 99 ∷ 104 ∷ 97 ∷ 114 ∷ []) e2 in
-          let same = named x.name x.found in
-          let source : library_call at (slice_get names f.name) [] s ≡ read_byte s.input.bytes s.input.tail s =
-          ap (λ o. library_call at o [] s) x.found
-          ∙ ap (λ a. source_by a (bytes_eq x.name (codes "getchar")) (bytes_eq x.name (codes "exit")) at [] s) (ap (λ y. bytes_eq y (codes "putchar")) (sym same) ∙ e1)
-          ∙ ap (λ b. source_by false b (bytes_eq x.name (codes "exit")) at [] s) x.is in
-          let is : runs w n t (effects.library_call into name args) regs ≡ then_do (reads s.input.bytes s.input.tail t) (takes into regs) =
-          ap (λ a. runs w n t (target_by a (bytes_eq name (codes "getchar")) (bytes_eq name (codes "exit")) into args) regs) e1
-          ∙ ap (λ b. runs w n t (target_by false b (bytes_eq name (codes "exit")) into args) regs) e2
-          ∙ one_is w.globals (GetChar into) w.calls n regs t
+          DoesCall (reads s.input.bytes s.input.tail t)
+          (one_is w.globals (GetChar into) w.calls n regs t
           ∙ ap (λ (i : Input). with_read (got i.bytes i.tail) t.steps (λ z input. Done (Next (given_to into (Integer z) regs)) (record t { input = input }) [])) even.input
-          ∙ read_runs (got s.input.bytes s.input.tail) t into regs in
-          DoesCall (reads s.input.bytes s.input.tail t) is
-          (subst (λ r. Called s int_type r (reads s.input.bytes s.input.tail t)) (sym source) (read_follows s.input.bytes s.input.tail s t even bounded refl))
+          ∙ read_runs (got s.input.bytes s.input.tail) t into regs)
+          (read_follows s.input.bytes s.input.tail s t even bounded refl)
 
   -- ---- exit
 
-  pub exit_does : bytes_eq name (codes "putchar") ≡ false → bytes_eq name (codes "getchar") ≡ false → bytes_eq name (codes "exit") ≡ true → AllDo w n f Void (int_type ∷ [])
-  exit_does e1 e2 e3 = from_names (int_type ∷ []) Void (from_one Void exits)
+  pub exit_does : name ≡ codes "exit" → AllDo w n f Void (int_type ∷ [])
+  exit_does is = by_name (codes "exit") (int_type ∷ []) Void refl is (with_one (codes "exit") int_type Void (λ v are. of_integer I32 (λ v. CallsWith (codes "exit") (v ∷ []) Void) v are.0 (λ z f. exits z)))
     where
-      exits : (z : ℤ) → CallsWith (Integer z ∷ []) Void
+      exits : (z : ℤ) → CallsWith (codes "exit") (Integer z ∷ []) Void
       exits z s t even bounded at into regs args has =
-          let x = there names f.name 101 (120 ∷ 105 ∷ 116 ∷ []) e3 in
-          let same = named x.name x.found in
-          let vs = Integer z ∷ [] in
-          let source : library_call at (slice_get names f.name) vs s ≡ Stop (Over (Exits z)) s =
-          ap (λ o. library_call at o vs s) x.found
-          ∙ ap (λ a. source_by a (bytes_eq x.name (codes "getchar")) (bytes_eq x.name (codes "exit")) at vs s) (ap (λ y. bytes_eq y (codes "putchar")) (sym same) ∙ e1)
-          ∙ ap (λ b. source_by false b (bytes_eq x.name (codes "exit")) at vs s) (ap (λ y. bytes_eq y (codes "getchar")) (sym same) ∙ e2)
-          ∙ ap (λ c. source_by false false c at vs s) x.is in
           DoesCall (Stops (Exits z) t.steps [])
-          (ap (λ a. runs w n t (target_by a (bytes_eq name (codes "getchar")) (bytes_eq name (codes "exit")) into args) regs) e1
-          ∙ ap (λ b. runs w n t (target_by false b (bytes_eq name (codes "exit")) into args) regs) e2
-          ∙ ap (λ c. runs w n t (target_by false false c into args) regs) e3
-          ∙ one_is w.globals (Exit (effects.first_of args)) w.calls n regs t
+          (one_is w.globals (Exit (effects.first_of args)) w.calls n regs t
           ∙ ap (λ o. with_value (bind o integer_of) t.steps (λ i. Stops (Exits i) t.steps [])) (first_has w args regs t.mem (Integer z) has))
-          (EndsRun (Exits z) s [] (λ h. absurd cc) source (sym (append-nil s.output)) (ap (λ k. Stops (Exits z) k []) even.steps))
+          (EndsRun (Exits z) s [] (λ h. absurd cc) refl (sym (append-nil s.output)) (ap (λ k. Stops (Exits z) k []) even.steps))
+
+  -- ---- malloc, calloc and free
+
+  -- a call of the runtime, whose arguments have these values
+  acts : (g : MemoryCall) (into : Option ℕ) (args : List MonExpression) (vs : List Value) (t : Target) (regs : List Value) → HaveAll w args regs t.mem vs → runs w n t (one (Act into g args)) regs ≡ then_do (Answers t g vs) (takes into regs)
+  acts g into args vs t regs has =
+      one_is w.globals (Act into g args) w.calls n regs t
+      ∙ ap (λ o. with_value o t.steps (λ vs. then_do (Answers t g vs) (takes into regs))) has
+
+  pub malloc_does : name ≡ codes "malloc" → AllDo w n f (Ptr Void) (Int UnsignedLong ∷ [])
+  malloc_does is =
+      by_name (codes "malloc") (Int UnsignedLong ∷ []) (Ptr Void) refl is
+      (with_one (codes "malloc") (Int UnsignedLong) (Ptr Void) (λ v are. of_integer UnsignedLong (λ v. CallsWith (codes "malloc") (v ∷ []) (Ptr Void)) v are.0 by))
+    where
+      by : (z : ℤ) → fits UnsignedLong z ≡ true → CallsWith (codes "malloc") (Integer z ∷ []) (Ptr Void)
+      by z fit s t even bounded at into regs args has =
+          DoesCall (Answers t Malloc (Integer z ∷ [])) (acts Malloc into args (Integer z ∷ []) t regs has)
+          (subst (λ size. Called s (Ptr Void) (allocate (bits_of UnsignedLong z) Unwritten s) (replied over_blocks (blocks.allocate size Unwritten t.mem) t)) (sym (same_bits z fit))
+          (allocated s t even bounded (bits_of UnsignedLong z) Unwritten tt))
+
+  pub calloc_does : name ≡ codes "calloc" → AllDo w n f (Ptr Void) (Int UnsignedLong ∷ Int UnsignedLong ∷ [])
+  calloc_does is =
+      by_name (codes "calloc") (Int UnsignedLong ∷ Int UnsignedLong ∷ []) (Ptr Void) refl is
+      (with_two (codes "calloc") (Int UnsignedLong) (Int UnsignedLong) (Ptr Void) (λ v x are.
+      of_integer UnsignedLong (λ v. CallsWith (codes "calloc") (v ∷ x ∷ []) (Ptr Void)) v are.0 (λ i f. of_integer UnsignedLong (λ x. CallsWith (codes "calloc") (Integer i ∷ x ∷ []) (Ptr Void)) x are.1.0 (λ j g. by i j f g))))
+    where
+      by : (i j : ℤ) → fits UnsignedLong i ≡ true → fits UnsignedLong j ≡ true → CallsWith (codes "calloc") (Integer i ∷ Integer j ∷ []) (Ptr Void)
+      by i j f g s t even bounded at into regs args has =
+          let size = bits_of UnsignedLong i * bits_of UnsignedLong j in
+          let same : lowest_bits U64 i * lowest_bits U64 j ≡ size = ap (λ a. a * lowest_bits U64 j) (same_bits i f) ∙ ap (λ b. bits_of UnsignedLong i * b) (same_bits j g) in
+          DoesCall (Answers t Calloc (Integer i ∷ Integer j ∷ [])) (acts Calloc into args (Integer i ∷ Integer j ∷ []) t regs has)
+          (subst (λ k. Called s (Ptr Void) (allocate size (Number 0) s) (replied over_blocks (blocks.allocate k (Number 0) t.mem) t)) (sym same)
+          (allocated s t even bounded size (Number 0) (omega arith)))
+
+  pub free_does : name ≡ codes "free" → AllDo w n f Void (Ptr Void ∷ [])
+  free_does is =
+      by_name (codes "free") (Ptr Void ∷ []) Void refl is
+      (with_one (codes "free") (Ptr Void) Void (λ v are. of_pointer (λ v. CallsWith (codes "free") (v ∷ []) Void) v are.0 by))
+    where
+      by : (p : Pointer) → IsSmall p → CallsWith (codes "free") (Points p ∷ []) Void
+      by p small s t even bounded at into regs args has =
+          DoesCall (Answers t Free (Points p ∷ [])) (acts Free into args (Points p ∷ []) t regs has) (ended s t even bounded p at)

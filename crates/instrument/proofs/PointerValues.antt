@@ -1,5 +1,5 @@
 -- Expressions of the target on pointers have the values of the source's operators, where these are defined.
-use Rattle.std.proofs.Common.{◌≡◌, ℕ, ◌+◌, ℤ, pos, ◌-ℤ◌, ◌*ℤ◌, Bool, true, false, not, ◌&&◌, if◌then◌else◌, List, Option, Some, None, option_map, refl, sym, ap, ◌∙◌, subst}
+use Rattle.std.proofs.Common.{◌≡◌, ℕ, ◌+◌, ℤ, pos, ◌-ℤ◌, ◌*ℤ◌, Bool, true, false, not, ◌&&◌, if◌then◌else◌, List, Option, Some, None, option_map, slice_get, refl, sym, ap, ◌∙◌, subst}
 use Rattle.std.specs.Ordering.{int_eq}
 use Rattle.c_syntax.specs.declared.types.CInt.{CInt}
 use Rattle.c_syntax.specs.declared.types.CInt.TheVariants.{I8, U8, I16, U16, I32, U32, I64, U64}
@@ -9,8 +9,8 @@ use Rattle.c_syntax.specs.Ctypes.{PlainType, Int, Ptr}
 use Rattle.c_model.specs.Integers.{fits, convert, truth}
 use Rattle.c_model.specs.Conversions.{is_relation}
 use Rattle.c_model.specs.Layouts.{Scalar, IntegerType, PointerType, scalar_of}
-use Rattle.c_model.specs.Memory.{Pointer, Null, Into, Value, Integer, Points, load, moved, equal_pointers, is_usable, same_pointer, is_some_place, tested_value}
-use Rattle.c_model.specs.Meaning.{is_zero, elements_between}
+use Rattle.c_model.specs.Memory.{Pointer, Null, Into, Value, Integer, Points, load, moved, equal_pointers, is_usable, same_pointer, is_some_place, tested_value, shifted}
+use Rattle.c_model.specs.Meaning.{is_zero}
 use Rattle.c_model.specs.Meaning as source
 use Rattle.mon_syntax.specs.declared.tree.MonType.{MonType}
 use Rattle.mon_syntax.specs.declared.tree.MonType.TheVariants as kind
@@ -20,8 +20,8 @@ use Rattle.mon_syntax.specs.Arithmetic.{minus}
 use Rattle.mon_syntax.specs.Meaning.{eval}
 use Rattle.mon_syntax.specs.Meaning.{◌>>=◌ as bind}
 use Rattle.mon_syntax.specs.BlockMemory.{Blocks, integer_of, scalar_type, load_scalar, load_block, pointed_block, over_blocks}
-use Rattle.mon_syntax.specs.Trees.{MonExpression, Binary, Minus, Constant, Load}
-use Rattle.c_effects.specs.Expressions.{register_type, value_type, in_type, farther, scaled, element, element_back, pointer_and_integer, two_pointers, operator_of, condition, compared}
+use Rattle.mon_syntax.specs.Trees.{MonExpression, Register, Binary, Minus, Constant, Load}
+use Rattle.c_effects.specs.Expressions.{register_type, value_type, in_type, farther, scaled, element, element_back, two_pointers, condition, compared}
 use Rattle.c_effects.specs.Expressions as target
 use Rattle.instrument.proofs.Standing.{Setting, Has, IsSmall, IsOf, Bounded}
 use Rattle.instrument.proofs.Integers.{convert_is}
@@ -90,6 +90,11 @@ module _ (w : Setting) (regs : List Value) (mem : Blocks) where
   farther_has e n i d h inside =
       ap (λ q. bind q (λ x. pointed_block mon.Add x (Integer (pos d)) mem)) h
       ∙ ap (option_map Points) (moved_inside mem.store n i d inside)
+
+  -- so many bytes farther than a register points
+  pub reaches : (r : ℕ) (p : Pointer) (d : ℕ) → slice_get regs r ≡ Some (Points p) → IsInside mem.store (shifted p d) → HasPointer (farther (Register r) d) (shifted p d)
+  reaches r Null d points inside = let no : Null ≡ Into inside.block inside.offset = inside.is in absurd cc
+  reaches r (Into n i) d points inside = farther_has (Register r) n i d points inside
 
   scaled_has : (unit : ℕ) (k : CInt) (e : MonExpression) (z : ℤ) → fits k z ≡ true → HasNumber w regs mem e z → HasNumber w regs mem (scaled unit (register_type k) e) (convert I64 (convert I64 z *ℤ pos unit))
   scaled_has unit k e z f h =

@@ -6,9 +6,12 @@ use Rattle.std.specs.Prelude.{slice_get}
 use Rattle.c_syntax.specs.declared.types.CInt.TheVariants.{I64}
 use Rattle.c_model.specs.Integers.{fits, convert}
 use Rattle.c_model.specs.Layouts.{Scalar, scalar_size}
-use Rattle.c_model.specs.Memory.{Pointer, Null, Into, Value, Byte, Block, Store, block_at, live_size, is_accessible, is_literal, bytes_in, load, value_from, with_bytes, saved_block, with_block, save_bytes, moved, offset_in}
+use Rattle.c_model.specs.Memory.{Pointer, Null, Into, Value, Byte, Block, Store, block_at, live_size, is_accessible, is_literal, bytes_in, load_bytes, load, value_from, copied}
+use Rattle.c_model.specs.Memory.{copy, shifted, with_bytes, saved_block, with_block, save_bytes, moved, offset_in}
 use Rattle.c_model.specs.Memory.{◌>>=◌ as bind}
 use Rattle.c_model.proofs.Cells.{value_of_bits-bits_of}
+use Rattle.c_model.proofs.StructCopies.{copied_parts}
+use Rattle.c_model.proofs.TypedParts.{and_true}
 use Rattle.instrument.proofs.Standing.{IsSmall, Bounded}
 use Rattle.instrument.proofs.Bounds.{bounded_at}
 
@@ -23,14 +26,10 @@ pub record IsInside (store : Store) (p : Pointer) : Type 0 where
   pub live : live_size (block_at store block) ≡ Some size
   pub within : offset ≤ size
 
-both_true : (x y : Bool) → (x && y) ≡ true → (x ≡ true) × (y ≡ true)
-both_true true y e = (refl, e)
-both_true false y e = absurd cc
-
 accessible_inside : (store : Store) (n i size : ℕ) (b : Block) → block_at store n ≡ Some b → is_accessible b i size ≡ true → IsInside store (Into n i)
 accessible_inside store n i size b found a =
-    let parts = both_true b.live _ a in
-    let fits = leb-true _ _ (both_true (nat_le (i + size) b.size) _ parts.1).0 in
+    let parts = and_true b.live _ a in
+    let fits = leb-true _ _ (and_true (nat_le (i + size) b.size) _ parts.1).0 in
     record {
       block = n;
       offset = i;
@@ -41,17 +40,24 @@ accessible_inside store n i size b found a =
     }
 
 -- what is read or written is inside
-pub loaded_inside : (store : Store) (p : Pointer) (k : Scalar) (v : Value) → load store p k ≡ Some v → IsInside store p
-loaded_inside store Null k v e = absurd cc
-loaded_inside store (Into n i) k v e = of_block (block_at store n) refl e
+pub bytes_inside : (store : Store) (p : Pointer) (n : ℕ) (bytes : List Byte) → load_bytes store p n ≡ Some bytes → IsInside store p
+bytes_inside store Null n bytes e = absurd cc
+bytes_inside store (Into m i) n bytes e = of_block (block_at store m) refl e
   where
-    of_block : (o : Option Block) → block_at store n ≡ o → bind (bytes_in o i (scalar_size k)) (value_from k) ≡ Some v → IsInside store (Into n i)
+    of_block : (o : Option Block) → block_at store m ≡ o → bytes_in o i n ≡ Some bytes → IsInside store (Into m i)
     of_block None found f = absurd cc
-    of_block (Some b) found f = by (is_accessible b i (scalar_size k)) refl f
+    of_block (Some b) found f = by (is_accessible b i n) refl f
       where
-        by : (t : Bool) → is_accessible b i (scalar_size k) ≡ t → bind (if t then Some (take (scalar_size k) (drop i b.bytes)) else None) (value_from k) ≡ Some v → IsInside store (Into n i)
-        by true a g = accessible_inside store n i (scalar_size k) b found a
+        by : (t : Bool) → is_accessible b i n ≡ t → (if t then Some (take n (drop i b.bytes)) else None) ≡ Some bytes → IsInside store (Into m i)
+        by true a g = accessible_inside store m i n b found a
         by false a g = absurd cc
+
+pub loaded_inside : (store : Store) (p : Pointer) (k : Scalar) (v : Value) → load store p k ≡ Some v → IsInside store p
+loaded_inside store p k v e = by (load_bytes store p (scalar_size k)) refl e
+  where
+    by : (o : Option (List Byte)) → load_bytes store p (scalar_size k) ≡ o → bind o (value_from k) ≡ Some v → IsInside store p
+    by None f g = absurd cc
+    by (Some bytes) f g = bytes_inside store p (scalar_size k) bytes f
 
 pub saved_inside : (store saved : Store) (p : Pointer) (n : ℕ) (bytes : List Byte) → save_bytes store p n bytes ≡ Some saved → IsInside store p
 saved_inside store saved Null n bytes e = absurd cc
@@ -65,6 +71,16 @@ saved_inside store saved (Into (suc b) i) n bytes e = of_block (slice_get store 
         by : (x y : Bool) → is_accessible c i n ≡ x → with_block store b (if x && y then Some (with_bytes c i bytes) else None) ≡ Some saved → IsInside store (Into (suc b) i)
         by true y a g = accessible_inside store (suc b) i n c found a
         by false y a g = absurd cc
+
+-- both ends of a copy are
+pub copied_inside : (store saved : Store) (p q : Pointer) (n : ℕ) → copy store p q n ≡ Some saved → IsInside store p × IsInside store q
+copied_inside store saved p q n e =
+    let c = copied_parts store saved p q n e in
+    (saved_inside store saved p n (copied c.bytes) c.saved_as, bytes_inside store q n c.bytes c.loaded)
+
+pub shifted_twice : (p : Pointer) (d c : ℕ) → shifted (shifted p d) c ≡ shifted p (d + c)
+shifted_twice Null d c = refl
+shifted_twice (Into m i) d c = let same : (i + d) + c ≡ i + (d + c) = omega arith in ap (Into m) same
 
 -- a pointer that is moved forward to a place inside
 pub moved_inside : (store : Store) (n i d : ℕ) → IsInside store (Into n (i + d)) → moved store (Into n i) (pos d) ≡ Some (Into n (i + d))

@@ -1,8 +1,8 @@
 -- What a call calls: a definition of the program, or a function of the library.
-use Rattle.std.proofs.Common.{◌≡◌, ℕ, Bool, true, false, if◌then◌else◌, nat_eq, List, [], ◌∷◌, Option, Some, None, refl, sym, ap, ◌∙◌}
-use Rattle.std.specs.Prelude.{bytes_eq, codes}
+use Rattle.std.proofs.Common.{◌≡◌, ℕ, true, false, nat_eq, List, [], ◌∷◌, Option, Some, None, refl, sym, ap, ◌∙◌}
 use Rattle.c_syntax.specs.declared.expression.Use.{Use}
-use Rattle.c_syntax.specs.Ctypes.{PlainType, Void, int_type}
+use Rattle.c_syntax.specs.declared.types.CInt.TheVariants.{U64}
+use Rattle.c_syntax.specs.Ctypes.{PlainType, Void, Int, Ptr, int_type}
 use Rattle.c_syntax.specs.Expressions.{Expressions}
 use Rattle.c_syntax.specs.Programs.{Function, TranslationUnit}
 use Rattle.c_model.specs.Meaning.{is_of_library, definition_at}
@@ -10,6 +10,7 @@ use Rattle.c_model.specs.ExpressionTyping.{Sight, Signature, name_at, or_else, f
 use Rattle.c_model.specs.UnitTyping.{types_of}
 use Rattle.c_model.specs.TypedTrees.{Calls}
 use Rattle.c_model.specs.AcceptedPrograms.{AreDefined}
+use Rattle.instrument.proofs.LibraryNames.{IsLibrary, IsPutChar, IsGetChar, IsExit, IsMalloc, IsCalloc, IsFree, library_is}
 
 -- the function that a call calls, by its signature: a definition, or a function of the library
 pub data IsResolved (p : TranslationUnit) (f : Use) (t : PlainType) (callee : Signature) : Type 0 where
@@ -18,16 +19,18 @@ pub data IsResolved (p : TranslationUnit) (f : Use) (t : PlainType) (callee : Si
 
 -- functions of the library have its number
 pub library_number : (x : ℕ) (w : List ℕ) (g : Signature) → library_function x w ≡ Some g → nat_eq g.decl 4294967295 ≡ true
-library_number x w g e = by (bytes_eq w (codes "putchar")) (bytes_eq w (codes "getchar")) (bytes_eq w (codes "exit")) e
+library_number x w g e = by (library_is x w g e)
   where
-    number : (h : Signature) → nat_eq h.decl 4294967295 ≡ true → Some h ≡ Some g → nat_eq g.decl 4294967295 ≡ true
-    number h is e = let same : h ≡ g = cc in ap (λ (i : Signature). nat_eq i.decl 4294967295) (sym same) ∙ is
+    number : (h : Signature) → nat_eq h.decl 4294967295 ≡ true → g ≡ h → nat_eq g.decl 4294967295 ≡ true
+    number h is same = ap (λ (i : Signature). nat_eq i.decl 4294967295) same ∙ is
 
-    by : (a b d : Bool) → (if a then Some (of_library x (int_type ∷ []) int_type) else (if b then Some (of_library x [] int_type) else (if d then Some (of_library x (int_type ∷ []) Void) else None))) ≡ Some g → nat_eq g.decl 4294967295 ≡ true
-    by true b d e = number (of_library x (int_type ∷ []) int_type) refl e
-    by false true d e = number (of_library x [] int_type) refl e
-    by false false true e = number (of_library x (int_type ∷ []) Void) refl e
-    by false false false e = absurd cc
+    by : IsLibrary x w g → nat_eq g.decl 4294967295 ≡ true
+    by (IsPutChar named same) = number (of_library x (int_type ∷ []) int_type) refl same
+    by (IsGetChar named same) = number (of_library x [] int_type) refl same
+    by (IsExit named same) = number (of_library x (int_type ∷ []) Void) refl same
+    by (IsMalloc named same) = number (of_library x (Int U64 ∷ []) (Ptr Void)) refl same
+    by (IsCalloc named same) = number (of_library x (Int U64 ∷ Int U64 ∷ []) (Ptr Void)) refl same
+    by (IsFree named same) = number (of_library x (Ptr Void ∷ []) Void) refl same
 
 -- a call is resolved where functions are in sight that are defined so
 pub resolved : (p : TranslationUnit) (s : Sight) → s.names ≡ p.names → AreDefined p s.functions → (u : Use) (t : PlainType) (es : Expressions) (c : Calls s u t es) → IsResolved p u t c.callee

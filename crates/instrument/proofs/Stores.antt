@@ -5,7 +5,7 @@ use Rattle.c_syntax.specs.declared.place.Place.{Place}
 use Rattle.c_syntax.specs.Ctypes.{PlainType}
 use Rattle.c_syntax.specs.Expressions.{Expression}
 use Rattle.c_model.specs.Layouts.{Scalar, IntegerType, PointerType, scalar_size, scalar_of}
-use Rattle.c_model.specs.Memory.{Pointer, Null, Into, Value, Points, Store, save, bytes_from, shifted}
+use Rattle.c_model.specs.Memory.{Pointer, Value, Points, Store, save, bytes_from, shifted}
 use Rattle.c_model.specs.State.{State, defined, ◌>>=◌, put_store, write}
 use Rattle.c_model.specs.Meaning.{is_member}
 use Rattle.mon_syntax.specs.Meaning.{Done, Next, with_value, eval}
@@ -21,7 +21,7 @@ use Rattle.instrument.proofs.Registers.{same_all, same_set, get-set_same}
 use Rattle.instrument.proofs.Following.{Follows, GoesOn, later_same, onward, undefined_here}
 use Rattle.instrument.proofs.Bounds.{saved_value}
 use Rattle.instrument.proofs.Pointers.{IsInside, saved_inside}
-use Rattle.instrument.proofs.PointerValues.{scalar_register, value_type_is, scalar_is, farther_has}
+use Rattle.instrument.proofs.PointerValues.{scalar_register, value_type_is, scalar_is, reaches}
 use Rattle.instrument.proofs.Evaluating.{behind_setup, set_runs}
 use Rattle.instrument.proofs.Places.{of_integer, of_pointer}
 
@@ -83,16 +83,12 @@ module _ (w : Setting) (n : ℕ) (h : Here) (low : ℕ) where
         code : MonStatements
         code = before (set j (farther (Register r) d)) (one (tree.Store j (scalar_register k) (e j)))
 
-        inside : (q : Pointer) → to ≡ q → IsInside t.mem.store (shifted q d) → Has w (farther (Register r) d) regs t.mem (Points (shifted q d))
-        inside Null same i = let no : Null ≡ Into i.block i.offset = i.is in absurd cc
-        inside (Into m o) same i = farther_has w regs t.mem (Register r) m o d (points ∙ ap (λ p. Some (Points p)) same) i
-
         by : (o : Option Store) → save s.store p k v ≡ o → WrittenTo p code
         by None saves = undefined_here w h low regs Next s (write at p k v s) (runs w n t code regs) at (ap (λ o. (defined at o >>= put_store) s) saves)
         by (Some saved) saves =
             let there : IsInside t.mem.store p = subst (λ store. IsInside store p) (sym b.store_is) (saved_inside s.store saved p (scalar_size k) (bytes_from k v) saves) in
             let reached : Has w (farther (Register r) d) regs t.mem (Points p) =
-            subst (λ z. Has w (farther (Register r) d) regs t.mem (Points z)) (sym is_shifted) (inside to refl (subst (IsInside t.mem.store) is_shifted there)) in
+            subst (λ z. Has w (farther (Register r) d) regs t.mem (Points z)) (sym is_shifted) (reaches w regs t.mem r to d points (subst (IsInside t.mem.store) is_shifted there)) in
             let after = slice_set regs j (Points p) in
             let same : Same j regs after = same_set j j regs (Points p) (omega arith) in
             let held : slice_get after j ≡ Some (Points p) = get-set_same regs j (Points p) long in

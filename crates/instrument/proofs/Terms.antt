@@ -3,6 +3,7 @@
 use Rattle.std.proofs.Common.{◌≡◌, ℕ, ◌+◌, ◌*◌, ◌<◌, ◌≤◌, ℤ, pos, negsuc, ◌+ℤ◌, ◌-ℤ◌, neg_ℤ, ◌≤ℤ◌, Bool, true, false, ◌&&◌, int_le, List, [], ◌∷◌, ◌++◌, Option, Some, None, option_map, refl, sym, ap, ◌∙◌, subst, arith}
 use Rattle.std.proofs.lemmas.Bool.{ltb-true}
 use Rattle.std.proofs.lemmas.Int.{ints}
+use Rattle.std.proofs.Math.Bool.{and-true}
 use Rattle.c_syntax.specs.declared.place.Place.{Place}
 use Rattle.c_syntax.specs.declared.types.CInt.{CInt}
 use Rattle.c_syntax.specs.declared.types.CInt.TheVariants as c
@@ -299,15 +300,11 @@ module _ (w : Setting) (sight : Sight) (low : ℕ) (bound : Bindings) (now : Sta
     related_none r None n = refl
     related_none r (Some a) n = refl
 
-    and_true : (b : Bool) → (b && true) ≡ b
-    and_true true = refl
-    and_true false = refl
-
     -- what one relation reads
     answers_of_two : (a b : LogicTerm) → answers now (readings_of_term a ++ (readings_of_term b ++ [])) ≡ (answers now (readings_of_term a) && answers now (readings_of_term b))
     answers_of_two a b =
         answers-append now (readings_of_term a) (readings_of_term b ++ [])
-        ∙ ap (λ u. answers now (readings_of_term a) && u) (answers-append now (readings_of_term b) [] ∙ and_true (answers now (readings_of_term b)))
+        ∙ ap (λ u. answers now (readings_of_term a) && u) (answers-append now (readings_of_term b) [] ∙ and-true (answers now (readings_of_term b)))
 
     relation_follows : (at at2 : Place) (r : Relation) (a b : LogicTerm) → TermFollows a → TermFollows b → ClauseFollows (Truth (Chain at a (Linked at2 r b NoLink)))
     relation_follows at at2 r a b (HasMeaning p x) (HasMeaning q y) =

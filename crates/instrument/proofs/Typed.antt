@@ -15,7 +15,7 @@ use Rattle.c_syntax.specs.declared.expression.UnOp.TheVariants as prefix
 use Rattle.c_syntax.specs.declared.expression.BinOp.{BinOp}
 use Rattle.c_syntax.specs.declared.expression.BinOp.TheVariants as operator
 use Rattle.c_syntax.specs.Ctypes as source_type
-use Rattle.c_syntax.specs.Ctypes.{PlainType, Void, Int, Array, Struct, PlainLength, Left, Written, Count, int_type}
+use Rattle.c_syntax.specs.Ctypes.{PlainType, Void, Int, Array, Struct, Count, int_type}
 use Rattle.c_syntax.specs.Expressions.{Expression, Node, Number, Letter, Variable, Unary, Binary, Both, Either, Choice, Assign, Bump, Call, Cast, SizeOfType, SizeOfExpr, Text, Index, Dot, Arrow, Comma, type_of}
 use Rattle.c_syntax.specs.Programs.{StructType, TranslationUnit}
 use Rattle.c_model.specs.Integers.{fits, width, is_signed}
@@ -24,7 +24,7 @@ use Rattle.c_model.specs.Meaning.{is_array, is_of_library, unit_of}
 use Rattle.c_model.specs.Conversions as convert
 use Rattle.c_model.specs.Conversions.{promoted, operation_type, is_shift, common, wider}
 use Rattle.c_model.specs.Formed.{IsLogicNumber}
-use Rattle.c_model.specs.ExpressionTyping.{Object, Entity, AnObject, Sight, entity_named, has_small_parts, is_difference, is_place}
+use Rattle.c_model.specs.ExpressionTyping.{Object, Entity, AnObject, Sight, entity_named, has_small_parts, is_difference}
 use Rattle.mon_syntax.specs.declared.tree.MonType.{MonType}
 use Rattle.mon_syntax.specs.declared.tree.MonType.TheVariants.{I8, U8, I16, U16, I32, U32, I64, U64, I128, Ptr}
 use Rattle.mon_syntax.specs.declared.tree.MonOp.{MonOp}
@@ -40,10 +40,12 @@ use Rattle.c_model.specs.Pure.{IsPure}
 use Rattle.c_model.specs.Sizes.{weight_of, most_weight}
 use Rattle.c_model.specs.SmallTypes.{TypesSmall}
 use Rattle.c_model.specs.TypedTrees.{IsScalar, HasKnownSize, IsInteger, IsPromoted, Denotes, IsName, OfObject, OfNull, OnIntegers, BinaryTypes, OfIntegers, OfPointerAndInteger, OfIntegerAndPointer, OfDifference, OfPointers}
-use Rattle.c_model.specs.TypedTrees.{IndexTypes, OnTheLeft, OnTheRight, CompoundTypes, ToInteger, ToPointer, CastTypes, ToVoid, OfInteger, OfPointer, OfNullConstant, OfArray, has_object, WellTyped}
+use Rattle.c_model.specs.ExpressionTyping.{has_object}
+use Rattle.c_model.specs.TypedTrees.{IndexTypes, OnTheLeft, OnTheRight, CompoundTypes, ToInteger, ToPointer, CastTypes, ToVoid, OfInteger, OfPointer, OfNullConstant, OfArray, WellTyped}
 use Rattle.c_effects.specs.Expressions.{register_type, value_type, operand_type, operator_of, in_type, compared, condition, truth, binary, temporaries, scaled, farther, element, pointer_and_integer}
 use Rattle.c_effects.specs.Expressions.{two_pointers, operated, indexed, converted, compound, global_index, pointer_of, pointer_to, loaded, value, place, truth_of, condition_of}
 use Rattle.c_effects.specs.Effects.{block_register, block_of, current}
+use Rattle.instrument.proofs.ExpressionTypes.{place_has_object}
 use Rattle.instrument.proofs.Parts.{StructsFit, near}
 use Rattle.instrument.proofs.Integers.{operand_is, is_number, number_result, number_second, number_operator}
 use Rattle.instrument.proofs.Registers.{get-below, get-end}
@@ -533,27 +535,6 @@ module _ (g : ℕ) (ts : Types) where
       subst (λ l. Begins l ts) (sym (append_assoc rs (temporaries x ++ temporaries y ++ temporaries z) (t ∷ [])) ∙ ap (λ l. l ++ t ∷ []) (sym (append_assoc rs (temporaries x ++ temporaries y) (temporaries z)) ∙ ap (λ l. l ++ temporaries z)
       (sym (append_assoc rs (temporaries x) (temporaries y))))) h
 
-pub place_object : (a : Expression) → is_place a ≡ true → has_object a ≡ true
-place_object (Node at t (Dot a m)) e = place_object a e
-place_object (Node at t (Comma a b)) e = absurd cc
-place_object (Node at t (Number z k)) e = e
-place_object (Node at t (Letter z)) e = e
-place_object (Node at t (Text n)) e = e
-place_object (Node at t (Variable x)) e = e
-place_object (Node at t (Unary op a)) e = e
-place_object (Node at t (Binary op a b)) e = e
-place_object (Node at t (Both a b)) e = e
-place_object (Node at t (Either a b)) e = e
-place_object (Node at t (Choice a b c)) e = e
-place_object (Node at t (Assign op a b)) e = e
-place_object (Node at t (Bump op a)) e = e
-place_object (Node at t (Call f es)) e = e
-place_object (Node at t (Cast to a)) e = e
-place_object (Node at t (SizeOfType u)) e = e
-place_object (Node at t (SizeOfExpr a)) e = e
-place_object (Node at t (Index a b)) e = e
-place_object (Node at t (Arrow a m)) e = e
-
 module _ (s : Sight) where
   pub operands_scalar : (op : BinOp) (t u v : PlainType) → BinaryTypes s op t u v → IsScalar u × IsScalar v
   operands_scalar op t u v (OfIntegers h) = (promoted_scalar u h.left, promoted_scalar v h.right)
@@ -623,7 +604,7 @@ module _ (p : TranslationUnit) (ts : Types) (bound : Bindings) (s : Sight) (know
     typed (Node at t (Unary prefix.Deref a)) rs h u q parts l b =
         loaded_typed (count_of_globals p) ts t (value p bound rs a) h (subst (λ x. Typed (value p bound rs a) (value_type x)) q.1 (typed a rs (pointer_scalar (type_of a) t q.1) u q.0 parts.1 l b))
     typed (Node at t (Unary prefix.Address a)) rs h u q parts l b =
-        subst (λ x. Typed (place p bound rs a) (value_type x)) (sym q.2) (placed a rs (place_object a q.1) u q.0 parts.1 l b)
+        subst (λ x. Typed (place p bound rs a) (value_type x)) (sym q.2) (placed a rs (place_has_object a q.1) u q.0 parts.1 l b)
     typed (Node at t (Unary prefix.Plus a)) rs h u q parts l b =
         subst (λ x. Typed (value p bound rs a) (value_type x)) (sym q.2) (typed a rs (promoted_scalar (type_of a) q.1) u q.0 parts.1 l b)
     typed (Node at t (Unary prefix.Minus a)) rs h u q parts l b =
@@ -686,6 +667,7 @@ module _ (p : TranslationUnit) (ts : Types) (bound : Bindings) (s : Sight) (know
         farther_typed (count_of_globals p) ts (value p bound rs a) d (near p.structs knows.fits (target_of (type_of a)) m)
         (subst (λ x. Typed (value p bound rs a) (value_type x)) q.1.is (typed a rs (pointer_scalar (type_of a) q.1.target q.1.is) u q.0 parts.1 l b))
     placed (Node at t (Comma a e)) rs h u q parts l b = absurd u
+    placed (Node at t (Assign op a e)) rs h u q parts l b = absurd u
     placed _ rs h u q parts l b = absurd cc
 
   -- ---- within the limit

@@ -14,7 +14,8 @@ use Rattle.c_effects.specs.Letters.{HasLetters}
 use Rattle.c_model.specs.Pure.{IsPure}
 use Rattle.c_model.specs.SmallTypes.{TypesSmall}
 use Rattle.c_model.specs.Sizes.{weight_of, most_weight}
-use Rattle.c_model.specs.TypedTrees.{HasMember, has_object, WellTyped}
+use Rattle.c_model.specs.ExpressionTyping.{has_object}
+use Rattle.c_model.specs.TypedTrees.{HasMember, WellTyped}
 use Rattle.c_effects.specs.Expressions.{value_type, farther, value, temporaries}
 use Rattle.c_effects.specs.Effects.{base, offset_in, member_temporaries}
 use Rattle.instrument.proofs.Parts.{member_inside, struct_small}
@@ -34,7 +35,7 @@ module _ (p : TranslationUnit) (ts : Types) (bound : Bindings) (s : Sight) (know
   is_small u m t h = subst (λ x. size_of p.structs x ≤ 2147483647) (sym h.is) (struct_small p.structs knows.fits h.struct)
 
   -- an expression of a small type ends within the limit from the start of the object that it is in
-  ends : (e : Expression) → size_of p.structs (type_of e) ≤ 2147483647 → WellTyped s e → offset_in p.structs e + size_of p.structs (type_of e) ≤ 2147483647
+  pub ends : (e : Expression) → size_of p.structs (type_of e) ≤ 2147483647 → WellTyped s e → offset_in p.structs e + size_of p.structs (type_of e) ≤ 2147483647
   ends (Node at t (Dot a m)) small q =
       let before = ends a (is_small (type_of a) m t q.2) q.0 in
       let here = struct_ends (type_of a) m t q.2 in

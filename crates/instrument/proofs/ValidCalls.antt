@@ -1,11 +1,13 @@
 -- Calls in translated programs are valid: the callee is a function of the program that isn't `main`, or one of the library.
-use Rattle.c_model.specs.AcceptedPrograms.{IsDefined, AreDefined}
+use Rattle.c_model.specs.AcceptedPrograms.{IsDefined, AreDefined, AreScalar}
 use Rattle.instrument.proofs.Resolved.{library_number}
+use Rattle.instrument.proofs.LibraryNames.{IsLibrary, IsPutChar, IsGetChar, IsExit, IsMalloc, IsCalloc, IsFree, library_is}
 use Rattle.std.proofs.Common.{◌≡◌, ℕ, zero, suc, ◌+◌, Bool, true, false, ◌&&◌, if◌then◌else◌, nat_eq, List, [], ◌∷◌, map, Option, Some, None, option_map, slice_get, refl, sym, ap, ◌∙◌, subst, arith}
 use Rattle.std.specs.Prelude.{bytes_eq, codes}
 use Rattle.std.proofs.lemmas.Bool.Decides.{nat_tests}
 use Rattle.c_syntax.specs.declared.expression.Use.{Use}
-use Rattle.c_syntax.specs.Ctypes.{PlainType, Void, int_type}
+use Rattle.c_syntax.specs.declared.types.CInt.TheVariants as c
+use Rattle.c_syntax.specs.Ctypes.{PlainType, Void, Int, Ptr, int_type}
 use Rattle.c_syntax.specs.Expressions.{Expressions}
 use Rattle.c_syntax.specs.Statements.{Declaration}
 use Rattle.c_syntax.specs.Programs.{Function, TranslationUnit}
@@ -15,10 +17,11 @@ use Rattle.c_model.specs.ExpressionTyping.{Signature as Known, Sight, or_else, l
 use Rattle.c_model.specs.ExpressionTyping as typing
 use Rattle.mon_syntax.specs.declared.tree.MonType.{MonType}
 use Rattle.mon_syntax.specs.declared.tree.MonType.TheVariants.{I32}
-use Rattle.mon_syntax.specs.Trees.{MonExpression, MonFunction, NoStatement}
+use Rattle.mon_syntax.specs.Trees.{MonExpression, MonFunction}
 use Rattle.mon_syntax.specs.Trees as tree
 use Rattle.mon_syntax.specs.Valid.{Types, Labels, Signature, TakesValue, AreArguments, IsExpression, IsCall, AreStatements, signature_of, types_of}
-use Rattle.c_model.specs.TypedTrees.{HaveTypes, Calls}
+use Rattle.c_model.specs.Layouts.{IntegerType, PointerType}
+use Rattle.c_model.specs.TypedTrees.{HaveTypes, Calls, IsScalar}
 use Rattle.c_effects.specs.Expressions.{value_type, one}
 use Rattle.instrument.specs.Translation.{function_name, index_of_main, result_of, value_types, arguments_from, function_of, functions_from, translated}
 use Rattle.c_effects.specs.Effects.{index_of, first_of, library_call, call}
@@ -133,70 +136,45 @@ module _ (p : TranslationUnit) where
     first_valid [] h = absurd h
     first_valid (e ∷ args) h = h.0
 
-    -- a call of the library, by what its name is
-    abbrev Chosen : Option MonType → Labels → Option ℕ → List MonExpression → Bool → Bool → Bool → Type 0
-    Chosen result ls into args x y z =
-        AreStatements (count_of_globals p) (signatures p) ts result ls (if x then one (tree.PutChar into (first_of args)) else (if y then one (tree.GetChar into) else (if z then one (tree.Exit (first_of args)) else NoStatement)))
-
-    chosen : (f : Use) (result : Option MonType) (ls : Labels) (into : Option ℕ) (args : List MonExpression) → is_of_library f ≡ true
-        → Chosen result ls into args (bytes_eq (name_at p.names f.name) (codes "putchar")) (bytes_eq (name_at p.names f.name) (codes "getchar")) (bytes_eq (name_at p.names f.name) (codes "exit"))
-        → AreStatements (count_of_globals p) (signatures p) ts result ls (call p into f args)
-    chosen f result ls into args own h = subst (λ b. AreStatements (count_of_globals p) (signatures p) ts result ls (if b then library_call into (name_at p.names f.name) args else one (tree.Call into (index_of f.decl p.funcs) args))) (sym own) h
-
     library_called : (f : Use) (t : PlainType) (es : Expressions) (callee : Known) → is_of_library f ≡ true → library_function f.name (name_at p.names f.name) ≡ Some callee → t ≡ callee.result → HaveTypes callee.params es
         → CallValid p (signatures p) ts f t es
-    library_called f t es callee own found result types = by (bytes_eq name (codes "putchar")) (bytes_eq name (codes "getchar")) (bytes_eq name (codes "exit")) refl refl refl found
+    library_called f t es callee own found result types = by (library_is f.name name callee found)
       where
         name : List ℕ
         name = name_at p.names f.name
 
-        put : Known
-        put = of_library f.name (int_type ∷ []) int_type
+        -- statements that stand for a call with these arguments, whose value this register takes, are valid
+        Valid : Known → List ℕ → Type 0
+        Valid g y = (r : Option MonType) (ls : Labels) (into : Option ℕ) (args : List MonExpression) → TakesValue ts into (result_of g.result) → AreArguments (count_of_globals p) ts args (map value_type g.params)
+            → AreStatements (count_of_globals p) (signatures p) ts r ls (library_call into y args)
 
-        get : Known
-        get = of_library f.name [] int_type
-
-        leave : Known
-        leave = of_library f.name (int_type ∷ []) Void
-
-        params : (sig : Known) → Some sig ≡ Some callee → HaveTypes sig.params es
-        params sig h = let same : sig ≡ callee = cc in subst (λ (g : Known). HaveTypes g.params es) (sym same) types
-
-        results : (sig : Known) → Some sig ≡ Some callee → t ≡ sig.result
-        results sig h = let same : sig ≡ callee = cc in result ∙ ap (λ (g : Known). g.result) (sym same)
-
-        by : (x y z : Bool) → bytes_eq name (codes "putchar") ≡ x → bytes_eq name (codes "getchar") ≡ y → bytes_eq name (codes "exit") ≡ z → (if x then Some put else (if y then Some get else (if z then Some leave else None))) ≡ Some callee
-            → CallValid p (signatures p) ts f t es
-        by true y z ex ey ez h = record {
-          types = int_type ∷ [];
-          scalar = (record { scalar = _; is = refl }, tt);
-          arguments = params put h;
+        called : (g : Known) (y : List ℕ) → callee ≡ g → name ≡ y → AreScalar g.params → Valid g y → CallValid p (signatures p) ts f t es
+        called g y same is scalars valid = record {
+          types = g.params;
+          scalar = scalars;
+          arguments = subst (λ (g : Known). HaveTypes g.params es) same types;
           valid = λ r ls into args takes given.
-              chosen f r ls into args own
-              (subst (λ x. Chosen r ls into args x (bytes_eq name (codes "getchar")) (bytes_eq name (codes "exit"))) (sym ex)
-              ((subst (λ u. TakesValue ts into (result_of u)) (results put h) takes, first_valid args given), tt));
+              subst (λ b. AreStatements (count_of_globals p) (signatures p) ts r ls (if b then library_call into name args else one (tree.Call into (index_of f.decl p.funcs) args))) (sym own)
+              (subst (λ y. AreStatements (count_of_globals p) (signatures p) ts r ls (library_call into y args)) (sym is)
+              (valid r ls into args (subst (λ u. TakesValue ts into (result_of u)) (result ∙ ap (λ (g : Known). g.result) same) takes) given));
         }
-        by false true z ex ey ez h = record {
-          types = [];
-          scalar = tt;
-          arguments = params get h;
-          valid = λ r ls into args takes given.
-              chosen f r ls into args own
-              (subst (λ x. Chosen r ls into args x (bytes_eq name (codes "getchar")) (bytes_eq name (codes "exit"))) (sym ex)
-              (subst (λ y. Chosen r ls into args false y (bytes_eq name (codes "exit"))) (sym ey)
-              (subst (λ u. TakesValue ts into (result_of u)) (results get h) takes, tt)));
-        }
-        by false false true ex ey ez h = record {
-          types = int_type ∷ [];
-          scalar = (record { scalar = _; is = refl }, tt);
-          arguments = params leave h;
-          valid = λ r ls into args takes given.
-              chosen f r ls into args own
-              (subst (λ x. Chosen r ls into args x (bytes_eq name (codes "getchar")) (bytes_eq name (codes "exit"))) (sym ex)
-              (subst (λ y. Chosen r ls into args false y (bytes_eq name (codes "exit"))) (sym ey)
-              (subst (λ z. Chosen r ls into args false false z) (sym ez) (first_valid args given, tt))));
-        }
-        by false false false ex ey ez h = absurd cc
+
+        an_int : IsScalar int_type
+        an_int = record { scalar = IntegerType c.I32; is = refl }
+
+        a_size : IsScalar (Int c.U64)
+        a_size = record { scalar = IntegerType c.U64; is = refl }
+
+        a_pointer : IsScalar (Ptr Void)
+        a_pointer = record { scalar = PointerType; is = refl }
+
+        by : IsLibrary f.name name callee → CallValid p (signatures p) ts f t es
+        by (IsPutChar is same) = called (of_library f.name (int_type ∷ []) int_type) (codes "putchar") same is (an_int, tt) (λ r ls into args takes given. ((takes, first_valid args given), tt))
+        by (IsGetChar is same) = called (of_library f.name [] int_type) (codes "getchar") same is tt (λ r ls into args takes given. (takes, tt))
+        by (IsExit is same) = called (of_library f.name (int_type ∷ []) Void) (codes "exit") same is (an_int, tt) (λ r ls into args takes given. (first_valid args given, tt))
+        by (IsMalloc is same) = called (of_library f.name (Int c.U64 ∷ []) (Ptr Void)) (codes "malloc") same is (a_size, tt) (λ r ls into args takes given. ((given, takes), tt))
+        by (IsCalloc is same) = called (of_library f.name (Int c.U64 ∷ Int c.U64 ∷ []) (Ptr Void)) (codes "calloc") same is (a_size, (a_size, tt)) (λ r ls into args takes given. ((given, takes), tt))
+        by (IsFree is same) = called (of_library f.name (Ptr Void ∷ []) Void) (codes "free") same is (a_pointer, tt) (λ r ls into args takes given. ((given, takes), tt))
 
     chosen_callee : (s : Sight) (f : Use) (t : PlainType) (es : Expressions) (o : Option Known) → typing.function_called f.name s.functions ≡ o → s.names ≡ p.names → AreDefined p s.functions → (k : Calls s f t es)
         → or_else o (library_function f.name (typing.name_at s.names f.name)) ≡ Some k.callee → CallValid p (signatures p) ts f t es

@@ -5,44 +5,59 @@ use Rattle.std.proofs.lemmas.Bool.Decides.{nat_tests}
 use Rattle.c_syntax.specs.declared.expression.BinOp.TheVariants as operator
 use Rattle.c_syntax.specs.declared.expression.BumpOp.{BumpOp}
 use Rattle.c_syntax.specs.declared.expression.Use.{Use}
-use Rattle.c_syntax.specs.Ctypes.{PlainType, int_type}
+use Rattle.c_syntax.specs.Ctypes.{PlainType, Struct, int_type}
 use Rattle.c_syntax.specs.Expressions.{Expression, Node, Variable, Assign, Bump, Call, Cast, Expressions, NoExpression, Following, type_of}
 use Rattle.c_syntax.specs.Programs.{TranslationUnit}
 use Rattle.c_model.specs.Meaning.{bump_operator, is_array, is_member, is_of_library}
 use Rattle.c_model.specs.ExpressionTyping.{name_at}
-use Rattle.c_model.specs.ExpressionTyping.{Sight, is_place, has_small_parts}
+use Rattle.c_model.specs.ExpressionTyping.{Sight, is_place, has_object, is_struct, has_small_parts}
+use Rattle.c_model.specs.Layouts.{Scalar, scalar_of, size_of, scalars_of}
 use Rattle.mon_syntax.specs.declared.tree.MonType.{MonType}
 use Rattle.mon_syntax.specs.declared.tree.MonType.TheVariants.{I32, Ptr}
+use Rattle.mon_syntax.specs.declared.tree.MemoryCall.TheVariants.{Copy, Malloc, Calloc, Free}
 use Rattle.mon_syntax.specs.Trees.{MonExpression, MonStatement, MonStatements, NoStatement}
 use Rattle.mon_syntax.specs.Registers.{Bindings, register_of}
 use Rattle.mon_syntax.specs.Trees as tree
 use Rattle.mon_syntax.specs.Valid.{Types, Labels, Signature, HasType, TakesValue, AreArguments, IsExpression, AreStatements, has_no_step, depth, depth_of_all}
-use Rattle.c_effects.specs.Letters.{HasLetters, ArgumentsHaveLetters, FullHasLetters, EffectHasLetters}
+use Rattle.c_effects.specs.Letters.{HasLetters, ArgumentsHaveLetters, FullHasLetters, AssignedHasLetters, EffectHasLetters}
 use Rattle.c_model.specs.Pure.{IsPure, ArePure, IsPureOrCall, IsEffectOrCall}
 use Rattle.c_model.specs.AcceptedPrograms.{AreScalar}
 use Rattle.c_model.specs.SmallTypes.{TypesSmall, AllTypesSmall}
 use Rattle.c_model.specs.Sizes.{forms_of, forms_of_all, weight_of, weight_of_all, most_weight}
-use Rattle.c_model.specs.TypedTrees.{IsScalar, HaveTypes, Calls, IsName, OfObject, OfNull, CompoundTypes, WellTyped, AreWellTyped}
+use Rattle.c_model.specs.TypedTrees.{IsScalar, HaveTypes, Calls, IsName, OfObject, OfNull, Assigns, ToScalar, ToStruct, CompoundTypes, WellTyped, AreWellTyped}
 use Rattle.c_effects.specs.Expressions.{value_type, converted, compound, farther, global_index, before, one, set, setup, value, temporaries}
 use Rattle.c_effects.specs.Effects.{arguments_temporaries, full_temporaries, effect_temporaries, is_direct, block_register, block_of, variable_register, target_temporaries, target, target_setup, base, offset_in, member_temporaries, into_object}
+use Rattle.c_effects.specs.Effects.{value_temporaries, object_temporaries, assigned_temporaries, value_assigned, object_assigned, assigned, copy_size, copies_at}
 use Rattle.c_effects.specs.Effects.{arguments_setup, arguments, full_value, first_of, library_call, call, current, store, index_of, called, full_setup, effect}
 use Rattle.instrument.specs.Translation.{result_of}
 use Rattle.instrument.proofs.Typed.{Begins, begins_left, begins_right, register_at, Reaches, Aim, is_global, Knows, count_of_globals, scalar_is, seen, expression_valid, compound_valid, compound_typed, converted_typed}
-use Rattle.instrument.proofs.Typed.{parens_compound_of, parens_converted, place_object, compound_scalar}
-use Rattle.instrument.proofs.ValidBases.{base_valid, member_valid, member_register}
+use Rattle.instrument.proofs.Typed.{parens_compound_of, parens_converted, compound_scalar, bytes_constant}
+use Rattle.instrument.proofs.ValidBases.{ends, base_valid, member_valid, member_register}
+use Rattle.instrument.proofs.Parts.{ScalarsInside, struct_small, all_scalars_inside}
+use Rattle.instrument.proofs.FullForms.{object_pure}
 use Rattle.instrument.proofs.ValidSetups.{no_step_before, no_step_setup, deep_before, deep_one, deep_set, deep_setup, some_forms, before_valid, set_valid, IsEvaluated, HasValue, HasObject, evaluated_scalar, operand_evaluated, setup_valid}
-use Rattle.instrument.proofs.ExpressionTypes.{bump_types}
+use Rattle.instrument.proofs.ExpressionTypes.{place_has_object, struct_no_scalar, bump_types}
+
+-- what holds of the statements of each function of the library holds of those of whichever has a name
+either : (P : MonStatements → Type 0) (b : Bool) (a others : MonStatements) → P a → P others → P (if b then a else others)
+either P true a others h k = h
+either P false a others h k = k
+
+by_name : (P : MonStatements → Type 0) (r : Option ℕ) (name : List ℕ) (args : List MonExpression) → P (one (tree.PutChar r (first_of args))) → P (one (tree.GetChar r)) → P (one (tree.Exit (first_of args))) → P (one (tree.Act r Malloc args))
+    → P (one (tree.Act r Calloc args)) → P (one (tree.Act r Free args)) → P NoStatement → P (library_call r name args)
+by_name P r name args put got ended born cleared dead none =
+    either P (bytes_eq name (codes "putchar")) _ _ put (
+    either P (bytes_eq name (codes "getchar")) _ _ got (
+    either P (bytes_eq name (codes "exit")) _ _ ended (
+    either P (bytes_eq name (codes "malloc")) _ _ born (
+    either P (bytes_eq name (codes "calloc")) _ _ cleared (
+    either P (bytes_eq name (codes "free")) _ _ dead none)))))
 
 -- ---- no step stands there
 
 no_step_library : (r : Option ℕ) (name : List ℕ) (args : List MonExpression) → has_no_step (library_call r name args) ≡ true
-no_step_library r name args = by (bytes_eq name (codes "putchar")) (bytes_eq name (codes "getchar")) (bytes_eq name (codes "exit"))
-  where
-    by : (x y z : Bool) → has_no_step (if x then one (tree.PutChar r (first_of args)) else (if y then one (tree.GetChar r) else (if z then one (tree.Exit (first_of args)) else NoStatement))) ≡ true
-    by true y z = refl
-    by false true z = refl
-    by false false true = refl
-    by false false false = refl
+no_step_library r name args =
+    by_name (λ a. has_no_step a ≡ true) r name args refl refl refl refl refl refl refl
 
 no_step_call : (p : TranslationUnit) (r : Option ℕ) (f : Use) (args : List MonExpression) → has_no_step (call p r f args) ≡ true
 no_step_call p r f args = by (is_of_library f)
@@ -78,13 +93,25 @@ module _ (p : TranslationUnit) (bound : Bindings) where
       by true = refl
       by false = refl
 
-  pub no_step_effect : (rs : List MonType) (e : Expression) → has_no_step (effect p bound rs e) ≡ true
-  no_step_effect rs (Node at t (Assign None a b)) =
+  no_step_copies : (r d q e : ℕ) (cs : List (ℕ × Scalar)) → has_no_step (copies_at r d q e cs) ≡ true
+  no_step_copies r d q e [] = refl
+  no_step_copies r d q e (c ∷ cs) = no_step_copies r d q e cs
+
+  no_step_assigned : (rs : List MonType) (o : Option Scalar) (t : PlainType) (a b : Expression) → has_no_step (assigned p bound rs o t a b) ≡ true
+  no_step_assigned rs (Some scalar) t a b =
       let r = rs ++ target_temporaries p a in
       let k = length (r ++ full_temporaries b) in
       let e : ℕ → MonExpression = λ n. full_value p bound r b in
       no_step_before (target_setup p bound rs a) (before (full_setup p bound r b) (into_object p (target p bound rs a) k a t e)) (no_step_target rs a)
       (no_step_before (full_setup p bound r b) (into_object p (target p bound rs a) k a t e) (no_step_full r b) (no_step_into (target p bound rs a) k a t e))
+  no_step_assigned rs None t a b =
+      let r = rs ++ target_temporaries p a in
+      let copies = copies_at (target p bound rs a) (offset_in p.structs a) (target p bound r b) (offset_in p.structs b) (scalars_of p.structs t) in
+      no_step_before (target_setup p bound rs a) (before (target_setup p bound r b) copies) (no_step_target rs a)
+      (no_step_before (target_setup p bound r b) copies (no_step_target r b) (no_step_copies (target p bound rs a) (offset_in p.structs a) (target p bound r b) (offset_in p.structs b) (scalars_of p.structs t)))
+
+  pub no_step_effect : (rs : List MonType) (e : Expression) → has_no_step (effect p bound rs e) ≡ true
+  no_step_effect rs (Node at t (Assign None a b)) = no_step_assigned rs (scalar_of t) t a b
   no_step_effect rs (Node at t (Assign (Some op) a b)) =
       let r = rs ++ target_temporaries p a in
       let k = length (r ++ temporaries b) in
@@ -101,13 +128,8 @@ module _ (p : TranslationUnit) (bound : Bindings) where
 -- ---- how deep they stand
 
 deep_library : (r : Option ℕ) (name : List ℕ) (args : List MonExpression) → depth_of_all (library_call r name args) ≤ 1
-deep_library r name args = by (bytes_eq name (codes "putchar")) (bytes_eq name (codes "getchar")) (bytes_eq name (codes "exit"))
-  where
-    by : (x y z : Bool) → depth_of_all (if x then one (tree.PutChar r (first_of args)) else (if y then one (tree.GetChar r) else (if z then one (tree.Exit (first_of args)) else NoStatement))) ≤ 1
-    by true y z = omega arith
-    by false true z = omega arith
-    by false false true = omega arith
-    by false false false = omega arith
+deep_library r name args =
+    by_name (λ a. depth_of_all a ≤ 1) r name args (omega arith) (omega arith) (omega arith) (omega arith) (omega arith) (omega arith) (omega arith)
 
 deep_call : (p : TranslationUnit) (r : Option ℕ) (f : Use) (args : List MonExpression) → depth_of_all (call p r f args) ≤ 1
 deep_call p r f args = by (is_of_library f)
@@ -153,8 +175,14 @@ module _ (p : TranslationUnit) (bound : Bindings) where
       by true = omega arith
       by false = omega arith
 
-  pub deep_effect : (rs : List MonType) (e : Expression) → depth_of_all (effect p bound rs e) ≤ forms_of e
-  deep_effect rs (Node at t (Assign None a b)) =
+  deep_copies : (r d q e : ℕ) (cs : List (ℕ × Scalar)) → depth_of_all (copies_at r d q e cs) ≤ 1
+  deep_copies r d q e [] = omega arith
+  deep_copies r d q e (c ∷ cs) =
+      let copy = tree.Act None (Copy (copy_size c.1)) (farther (tree.Register r) (d + c.0) ∷ farther (tree.Register q) (e + c.0) ∷ []) in
+      deep_before (one copy) (copies_at r d q e cs) 1 (deep_one copy 1 (omega arith)) (deep_copies r d q e cs)
+
+  deep_assigned : (rs : List MonType) (o : Option Scalar) (t : PlainType) (a b : Expression) → depth_of_all (assigned p bound rs o t a b) ≤ suc (forms_of a + forms_of b)
+  deep_assigned rs (Some scalar) t a b =
       let r = rs ++ target_temporaries p a in
       let k = length (r ++ full_temporaries b) in
       let e : ℕ → MonExpression = λ n. full_value p bound r b in
@@ -164,6 +192,17 @@ module _ (p : TranslationUnit) (bound : Bindings) where
       let n = suc (forms_of a + forms_of b) in
       deep_before (target_setup p bound rs a) (before (full_setup p bound r b) (into_object p (target p bound rs a) k a t e)) n (omega (arith, x))
       (deep_before (full_setup p bound r b) (into_object p (target p bound rs a) k a t e) n (omega (arith, y)) (omega (arith, z)))
+  deep_assigned rs None t a b =
+      let r = rs ++ target_temporaries p a in
+      let copies = copies_at (target p bound rs a) (offset_in p.structs a) (target p bound r b) (offset_in p.structs b) (scalars_of p.structs t) in
+      let x = deep_target rs a in
+      let y = deep_target r b in
+      let z = deep_copies (target p bound rs a) (offset_in p.structs a) (target p bound r b) (offset_in p.structs b) (scalars_of p.structs t) in
+      let n = suc (forms_of a + forms_of b) in
+      deep_before (target_setup p bound rs a) (before (target_setup p bound r b) copies) n (omega (arith, x)) (deep_before (target_setup p bound r b) copies n (omega (arith, y)) (omega (arith, z)))
+
+  pub deep_effect : (rs : List MonType) (e : Expression) → depth_of_all (effect p bound rs e) ≤ forms_of e
+  deep_effect rs (Node at t (Assign None a b)) = deep_assigned rs (scalar_of t) t a b
   deep_effect rs (Node at t (Assign (Some op) a b)) =
       let r = rs ++ target_temporaries p a in
       let k = length (r ++ temporaries b) in
@@ -296,12 +335,12 @@ module _ (p : TranslationUnit) (gs : List Signature) (ts : Types) (result : Opti
   name_points x t own (OfObject d) e = reached x.decl (seen p ts bound s knows x t d).has e
   name_points x t own (OfNull library is) e = let k : not (is_of_library x) ≡ false = ap (λ n. not (nat_eq n 4294967295)) library in absurd cc
 
-  direct_points : (a : Expression) → is_direct p a ≡ true → is_place a ≡ true → WellTyped s a → slice_get ts (variable_register bound a) ≡ Some Ptr
+  direct_points : (a : Expression) → is_direct p a ≡ true → has_object a ≡ true → WellTyped s a → slice_get ts (variable_register bound a) ≡ Some Ptr
   direct_points (Node at t (Variable x)) e h q = name_points x t h q e
   direct_points _ e h q = absurd cc
 
   -- a register points to what is assigned to
-  pub target_valid : (a : Expression) (rs : Types) → is_place a ≡ true → IsPure a → WellTyped s a → TypesSmall p.structs a → HasLetters a → weight_of a ≤ most_weight → Begins (rs ++ target_temporaries p a) ts
+  pub target_valid : (a : Expression) (rs : Types) → has_object a ≡ true → IsPure a → WellTyped s a → TypesSmall p.structs a → HasLetters a → weight_of a ≤ most_weight → Begins (rs ++ target_temporaries p a) ts
       → Are (target_setup p bound rs a) × (slice_get ts (target p bound rs a) ≡ Some Ptr)
   target_valid a rs h pure q parts l light b = by (is_direct p a) refl b
     where
@@ -310,10 +349,9 @@ module _ (p : TranslationUnit) (gs : List Signature) (ts : Types) (result : Opti
       by true e b = (tt, direct_points a e h q)
       by false e b =
           let here = begins_left rs (temporaries a) (Ptr ∷ []) ts b in
-          let points = register_at (rs ++ temporaries a) ts Ptr (begins_right rs (temporaries a) (Ptr ∷ []) ts b) in
-          let object = place_object a h in (
-            behind (setup p bound rs a) (set (length (rs ++ temporaries a)) (base p bound rs a)) (setup_of a rs (HasObject object) pure q parts l light here)
-                (set_valid G gs ts result ls (length (rs ++ temporaries a)) (base p bound rs a) Ptr points (base_valid p ts bound s knows a rs object pure q parts l light here)),
+          let points = register_at (rs ++ temporaries a) ts Ptr (begins_right rs (temporaries a) (Ptr ∷ []) ts b) in (
+            behind (setup p bound rs a) (set (length (rs ++ temporaries a)) (base p bound rs a)) (setup_of a rs (HasObject h) pure q parts l light here)
+                (set_valid G gs ts result ls (length (rs ++ temporaries a)) (base p bound rs a) Ptr points (base_valid p ts bound s knows a rs h pure q parts l light here)),
             points,
           )
 
@@ -343,20 +381,71 @@ module _ (p : TranslationUnit) (gs : List Signature) (ts : Types) (result : Opti
   last_begins : (rs a b c : Types) → Begins (rs ++ (a ++ b ++ c)) ts → Begins (rs ++ a ++ b ++ c) ts
   last_begins rs a b c h = subst (λ l. Begins (l ++ c) ts) (sym (append_assoc rs a b)) (begins_right rs (a ++ b) c ts h)
 
-  pub effect_valid : (e : Expression) (rs : Types) → IsEffectOrCall e → WellTyped s e → TypesSmall p.structs e → EffectHasLetters e → weight_of e ≤ most_weight → Begins (rs ++ effect_temporaries p e) ts → Are (effect p bound rs e)
-  effect_valid (Node at t (Assign None a y)) rs pure q parts l light b =
+  -- `a = y` of a scalar
+  value_assigned_valid : (t : PlainType) (a y : Expression) (rs : Types) → IsScalar t → type_of y ≡ t → is_place a ≡ true → IsPure a → WellTyped s a → TypesSmall p.structs a → HasLetters a → IsPureOrCall y → WellTyped s y → TypesSmall p.structs y
+      → FullHasLetters y → suc (weight_of a + weight_of y) ≤ most_weight → Begins (rs ++ value_temporaries p a y) ts → Are (value_assigned p bound rs t a y)
+  value_assigned_valid t a y rs scalar same place pa qa sa la py qy sy ly light b =
       let ta = target_temporaries p a in
       let tb = full_temporaries y in
       let r = rs ++ ta in
       let k = length (r ++ tb) in
       let e : ℕ → MonExpression = λ n. full_value p bound r y in
       let both = begins_left rs (ta ++ tb) (member_temporaries a) ts b in
-      let v = target_valid a rs q.2 pure.0 q.0 parts.1.0 l.0 (omega (arith, light)) (begins_left rs ta tb ts both) in
-      let w = full_valid y r (subst IsScalar (sym q.5) q.3) pure.1 q.1 parts.1.1 l.1 (omega (arith, light)) (begins_right rs ta tb ts both) in
-      let typed = subst (λ u. IsExpression G ts (full_value p bound r y) (value_type u)) q.5 w.1 in
+      let v = target_valid a rs (place_has_object a place) pa qa sa la (omega (arith, light)) (begins_left rs ta tb ts both) in
+      let w = full_valid y r (subst IsScalar (sym same) scalar) py qy sy ly (omega (arith, light)) (begins_right rs ta tb ts both) in
+      let typed = subst (λ u. IsExpression G ts (full_value p bound r y) (value_type u)) same w.1 in
       behind (target_setup p bound rs a) (before (full_setup p bound r y) (into_object p (target p bound rs a) k a t e)) v.0
       (behind (full_setup p bound r y) (into_object p (target p bound rs a) k a t e) w.0
-      (into_valid (target p bound rs a) k a t e q.0 v.1 (member_register p ts bound s knows a (r ++ tb) (last_begins rs ta tb (member_temporaries a) b)) (λ n h. typed)))
+      (into_valid (target p bound rs a) k a t e qa v.1 (member_register p ts bound s knows a (r ++ tb) (last_begins rs ta tb (member_temporaries a) b)) (λ n h. typed)))
+
+  -- ---- of a struct
+
+  whole_ends : (t : PlainType) (a : Expression) → type_of a ≡ t → size_of p.structs t ≤ 2147483647 → WellTyped s a → offset_in p.structs a + size_of p.structs t ≤ 2147483647
+  whole_ends t a same small q =
+      subst (λ u. offset_in p.structs a + size_of p.structs u ≤ 2147483647) same (ends p ts bound s knows a (subst (λ u. size_of p.structs u ≤ 2147483647) (sym same) small) q)
+
+  struct_is_small : (t : PlainType) → is_struct t ≡ true → size_of p.structs t ≤ 2147483647
+  struct_is_small (Struct n) h = struct_small p.structs knows.fits n
+  struct_is_small _ h = absurd cc
+
+  copies_valid : (r d q e most : ℕ) (cs : List (ℕ × Scalar)) → slice_get ts r ≡ Some Ptr → slice_get ts q ≡ Some Ptr → d + most ≤ 2147483647 → e + most ≤ 2147483647 → ScalarsInside most cs → Are (copies_at r d q e cs)
+  copies_valid r d q e most [] points others left right inside = tt
+  copies_valid r d q e most (x ∷ cs) points others left right inside =
+      let ends = inside.0 in
+      let to : IsExpression G ts (farther (tree.Register r) (d + x.0)) Ptr = record { typed = (refl, refl, points, (refl, bytes_constant (d + x.0) (omega (arith, left, ends)))); within = omega arith } in
+      let from : IsExpression G ts (farther (tree.Register q) (e + x.0)) Ptr = record { typed = (refl, refl, others, (refl, bytes_constant (e + x.0) (omega (arith, right, ends)))); within = omega arith } in
+      (((to, (from, tt)), tt), copies_valid r d q e most cs points others left right inside.1)
+
+  object_assigned_valid : (t : PlainType) (a y : Expression) (rs : Types) → is_struct t ≡ true → type_of a ≡ t → type_of y ≡ t → is_place a ≡ true → IsPure a → WellTyped s a → TypesSmall p.structs a → HasLetters a → has_object y ≡ true → IsPure y
+      → WellTyped s y → TypesSmall p.structs y → HasLetters y → suc (weight_of a + weight_of y) ≤ most_weight → Begins (rs ++ object_temporaries p a y) ts → Are (object_assigned p bound rs t a y)
+  object_assigned_valid t a y rs struct left right place pa qa sa la object py qy sy ly light b =
+      let ta = target_temporaries p a in
+      let tb = target_temporaries p y in
+      let r = rs ++ ta in
+      let v = target_valid a rs (place_has_object a place) pa qa sa la (omega (arith, light)) (begins_left rs ta tb ts b) in
+      let w = target_valid y r object py qy sy ly (omega (arith, light)) (begins_right rs ta tb ts b) in
+      let small = struct_is_small t struct in
+      let copies = copies_at (target p bound rs a) (offset_in p.structs a) (target p bound r y) (offset_in p.structs y) (scalars_of p.structs t) in
+      behind (target_setup p bound rs a) (before (target_setup p bound r y) copies) v.0
+      (behind (target_setup p bound r y) copies w.0
+      (copies_valid (target p bound rs a) (offset_in p.structs a) (target p bound r y) (offset_in p.structs y) (size_of p.structs t) (scalars_of p.structs t) v.1 w.1 (whole_ends t a left small qa) (whole_ends t y right small qy)
+      (all_scalars_inside p.structs t knows.fits)))
+
+  -- ---- both
+
+  any_assigned_valid : (t : PlainType) (a y : Expression) (rs : Types) → Assigns s t y → type_of a ≡ t → type_of y ≡ t → is_place a ≡ true → IsPure a → WellTyped s a → TypesSmall p.structs a → HasLetters a → IsPureOrCall y → WellTyped s y
+      → TypesSmall p.structs y → AssignedHasLetters (scalar_of t) y → suc (weight_of a + weight_of y) ≤ most_weight → Begins (rs ++ assigned_temporaries p (scalar_of t) a y) ts → Are (assigned p bound rs (scalar_of t) t a y)
+  any_assigned_valid t a y rs (ToScalar k) left right place pa qa sa la py qy sy ly light b =
+      subst (λ o. Are (assigned p bound rs o t a y)) (sym k.is)
+      (value_assigned_valid t a y rs k right place pa qa sa la py qy sy (subst (λ o. AssignedHasLetters o y) k.is ly) light (subst (λ o. Begins (rs ++ assigned_temporaries p o a y) ts) k.is b))
+  any_assigned_valid t a y rs (ToStruct struct known object) left right place pa qa sa la py qy sy ly light b =
+      let is = struct_no_scalar t struct in
+      subst (λ o. Are (assigned p bound rs o t a y)) (sym is)
+      (object_assigned_valid t a y rs struct left right place pa qa sa la object (object_pure y object py) qy sy (subst (λ o. AssignedHasLetters o y) is ly) light (subst (λ o. Begins (rs ++ assigned_temporaries p o a y) ts) is b))
+
+  pub effect_valid : (e : Expression) (rs : Types) → IsEffectOrCall e → WellTyped s e → TypesSmall p.structs e → EffectHasLetters e → weight_of e ≤ most_weight → Begins (rs ++ effect_temporaries p e) ts → Are (effect p bound rs e)
+  effect_valid (Node at t (Assign None a y)) rs pure q parts l light b =
+      any_assigned_valid t a y rs q.5 q.3 q.4 q.2 pure.0 q.0 parts.1.0 l.0 pure.1 q.1 parts.1.1 l.1 (omega (arith, light)) b
   effect_valid (Node at t (Assign (Some op) a y)) rs pure q parts l light b =
       let ta = target_temporaries p a in
       let tb = temporaries y in
@@ -364,7 +453,7 @@ module _ (p : TranslationUnit) (gs : List Signature) (ts : Types) (result : Opti
       let k = length (r ++ tb) in
       let e : ℕ → MonExpression = λ n. compound p.structs op t (type_of y) (current n t) (value p bound r y) in
       let both = begins_left rs (ta ++ tb) (member_temporaries a) ts b in
-      let v = target_valid a rs q.2 pure.0 q.0 parts.1.0 l.0 (omega (arith, light)) (begins_left rs ta tb ts both) in
+      let v = target_valid a rs (place_has_object a q.2) pure.0 q.0 parts.1.0 l.0 (omega (arith, light)) (begins_left rs ta tb ts both) in
       let here = begins_right rs ta tb ts both in
       behind (target_setup p bound rs a) (before (setup p bound r y) (into_object p (target p bound rs a) k a t e)) v.0
       (behind (setup p bound r y) (into_object p (target p bound rs a) k a t e) (setup_of y r (HasValue (compound_scalar s op t (type_of y) q.4)) pure.1 q.1 parts.1.1 l.1 (omega (arith, light)) here)
@@ -374,7 +463,7 @@ module _ (p : TranslationUnit) (gs : List Signature) (ts : Types) (result : Opti
       let ta = target_temporaries p a in
       let k = length (rs ++ ta) in
       let e : ℕ → MonExpression = λ n. compound p.structs (bump_operator op) t int_type (current n t) (tree.Constant I32 (pos 1)) in
-      let v = target_valid a rs q.1 pure q.0 parts.1 l (omega (arith, light)) (begins_left rs ta (member_temporaries a) ts b) in
+      let v = target_valid a rs (place_has_object a q.1) pure q.0 parts.1 l (omega (arith, light)) (begins_left rs ta (member_temporaries a) ts b) in
       behind (target_setup p bound rs a) (into_object p (target p bound rs a) k a t e) v.0
       (into_valid (target p bound rs a) k a t e q.0 v.1 (member_register p ts bound s knows a (rs ++ ta) (begins_right rs ta (member_temporaries a) ts b)) (λ n h. bumped_valid op t n q.3 parts.0 h))
   effect_valid (Node at t (Call f es)) rs pure q parts l light b = called_valid f t es None rs pure q.0 q.1 parts.1 l (omega (arith, light)) b tt

@@ -22,7 +22,7 @@ use Rattle.c_model.specs.UnitTyping.{no_main, has_no_parameters, main_fault, roo
 use Rattle.mon_syntax.specs.declared.tree.MonType.{MonType}
 use Rattle.mon_syntax.specs.declared.tree.MonType.TheVariants.{I32, Ptr}
 use Rattle.mon_syntax.specs.Registers.{RegisterTable, with_kinds, no_registers, next_register}
-use Rattle.mon_syntax.specs.Trees.{MonStatements, NoStatement, MonFunction, MonitoredGlobal}
+use Rattle.mon_syntax.specs.Trees.{MonStatements, MonitoredGlobal}
 use Rattle.mon_syntax.specs.Globals.{globals_taken}
 use Rattle.mon_syntax.specs.Trees as tree
 use Rattle.mon_syntax.specs.Valid.{Types, Labels, Signature, IsExpression, AreStatements, IsFunction, AreFunctions, IsValid, has_label, depth_of_all, types_of}
@@ -48,7 +48,8 @@ use Rattle.instrument.proofs.ValidInitialisers.{initialise_valid, deep_initialis
 use Rattle.instrument.proofs.ValidBlocks.{Sees, AreSmall, sees_one, sees_later, deep_deaths, birth_valid, deaths_valid, alive_valid}
 use Rattle.instrument.proofs.Depths.{deep}
 use Rattle.instrument.proofs.ValidStatements.{items_small, items_valid}
-use Rattle.instrument.proofs.ValidRegisters.{AllOf, all_of, not_among, kinds, front_begins, values_begin, function_types, registers_valid, all_globals_valid, room_is, count_is}
+use Rattle.instrument.proofs.ValidRegisters.{AllOf, all_of, not_among, kinds, front_begins, values_begin, function_types, registers_valid, all_globals_valid, room_is}
+use Rattle.instrument.proofs.Starts.{monitored_long}
 use Rattle.instrument.proofs.Own.{AreOwn}
 use Rattle.instrument.proofs.Programs.{no_parameters}
 
@@ -286,7 +287,7 @@ module _ (p : TranslationUnit) (q : IsTypedProgram p) where
       record {
         name = name_free f part.named k few b;
         registers = registers_valid p fr f part.named (omega (arith, small));
-        body = subst (λ n. AreStatements n gs (types_of (arguments_from p.names 0 f.params ++ registers_of p fr f)) (result_of f.result) [] (before (front p b f.params) (code_of p fr f))) (sym (count_is p))
+        body = subst (λ n. AreStatements n gs (types_of (arguments_from p.names 0 f.params ++ registers_of p fr f)) (result_of f.result) [] (before (front p b f.params) (code_of p fr f))) (sym (monitored_long p))
             (subst (λ ts. AreStatements (count_of_globals p) gs ts (result_of f.result) [] (before (front p b f.params) (code_of p fr f))) (sym (function_types p fr f)) (whole_valid f b part));
         within = omega (arith, deep);
       }
@@ -384,7 +385,7 @@ few_globals : (p : TranslationUnit) → room_fault p ≡ None → length p.globa
 few_globals p e =
     let r = room_is p e in
     let t = taken_of_globals (monitored_globals p) in
-    let c = count_is p in
+    let c = monitored_long p in
     omega (arith, r, t, c)
 
 -- ---- the translation

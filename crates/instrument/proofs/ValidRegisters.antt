@@ -22,7 +22,7 @@ use Rattle.c_effects.specs.Expressions.{value_type}
 use Rattle.instrument.specs.Translation.{register_name, name_of_register, own_name, value_types, arguments_from, registers_from, registers_of, registers_of_body, after_body, global_name, text_name, globals_from, texts_from, monitored_globals}
 use Rattle.instrument.proofs.Names.{IsNumber, AllParts, register_is_free, registers_differ, named_free, named_differ, named_no_value, global_is_free}
 use Rattle.instrument.proofs.Names.{globals_differ, text_is_free, texts_differ, text_no_global, register_no_global, register_no_text, named_no_global, named_no_text}
-use Rattle.instrument.proofs.Typed.{Begins, begins_front, count_of_globals}
+use Rattle.instrument.proofs.Typed.{Begins, begins_front}
 use Rattle.c_model.specs.ReadTree.{TextsAreBytes}
 use Rattle.instrument.proofs.Tables.{begins_itself, begins_then, entered_begins, statement_begins}
 
@@ -164,17 +164,6 @@ globals_valid p k (d ∷ ds) before few small named bytes h =
 
 pub all_globals_valid : (p : TranslationUnit) → IsNumber (length p.globals) → IsNumber (length p.texts) → AreNamed p.names p.globals → TextsAreBytes p.texts → AreGlobals [] (monitored_globals p)
 all_globals_valid p few small named bytes = globals_valid p 0 p.globals [] (omega (arith, few)) small named bytes tt
-
-pub count_is : (p : TranslationUnit) → length (monitored_globals p) ≡ count_of_globals p
-count_is p = length-append (globals_from p 0 p.globals) (texts_from 0 p.texts) ∙ ap (λ n. n + length (texts_from 0 p.texts)) (count_globals 0 p.globals) ∙ ap (λ n. length p.globals + n) (count_texts 0 p.texts)
-  where
-    count_globals : (k : ℕ) (ds : List Declaration) → length (globals_from p k ds) ≡ length ds
-    count_globals k [] = refl
-    count_globals k (d ∷ ds) = ap suc (count_globals (suc k) ds)
-
-    count_texts : (k : ℕ) (xs : List StringLiteral) → length (texts_from k xs) ≡ length xs
-    count_texts k [] = refl
-    count_texts k (x ∷ xs) = ap suc (count_texts (suc k) xs)
 
 -- ---- their room (C99 5.2.4.1)
 

@@ -17,9 +17,11 @@ use Rattle.c_effects.specs.Letters.{HasLetters}
 use Rattle.c_model.specs.Pure.{IsPure}
 use Rattle.c_model.specs.SmallTypes.{TypesSmall}
 use Rattle.c_model.specs.Sizes.{forms_of, weight_of, most_weight}
-use Rattle.c_model.specs.TypedTrees.{IsScalar, CastTypes, ToVoid, OfInteger, OfPointer, OfNullConstant, OfArray, has_object, WellTyped}
+use Rattle.c_model.specs.ExpressionTyping.{has_object}
+use Rattle.c_model.specs.TypedTrees.{IsScalar, CastTypes, ToVoid, OfInteger, OfPointer, OfNullConstant, OfArray, WellTyped}
 use Rattle.c_effects.specs.Expressions.{value_type, before, one, set, setup, value, temporaries, truth_of, condition_of}
-use Rattle.instrument.proofs.Typed.{Begins, begins_left, begins_right, begins_front, register_at, Knows, count_of_globals, both_begin, choice_begins, pointer_scalar, promoted_scalar, integer_scalar, operands_scalar, index_scalar, place_object}
+use Rattle.instrument.proofs.Typed.{Begins, begins_left, begins_right, begins_front, register_at, Knows, count_of_globals, both_begin, choice_begins, pointer_scalar, promoted_scalar, integer_scalar, operands_scalar, index_scalar}
+use Rattle.instrument.proofs.ExpressionTypes.{place_has_object}
 use Rattle.instrument.proofs.Typed.{expression_valid, condition_valid, truth_valid}
 
 -- ---- no step stands there
@@ -202,7 +204,7 @@ module _ (unit : TranslationUnit) (gs : List Signature) (ts : Types) (result : O
 
   pub setup_valid : (e : Expression) (rs : Types) → IsEvaluated e → IsPure e → WellTyped s e → TypesSmall unit.structs e → HasLetters e → weight_of e ≤ most_weight → Begins (rs ++ temporaries e) ts → Are (setup unit bound rs e)
   setup_valid (Node at t (Unary prefix.Deref a)) rs h u q parts l light b = setup_valid a rs (HasValue (pointer_scalar (type_of a) t q.1)) u q.0 parts.1 l (omega (arith, light)) b
-  setup_valid (Node at t (Unary prefix.Address a)) rs h u q parts l light b = setup_valid a rs (HasObject (place_object a q.1)) u q.0 parts.1 l (omega (arith, light)) b
+  setup_valid (Node at t (Unary prefix.Address a)) rs h u q parts l light b = setup_valid a rs (HasObject (place_has_object a q.1)) u q.0 parts.1 l (omega (arith, light)) b
   setup_valid (Node at t (Unary prefix.Plus a)) rs h u q parts l light b = setup_valid a rs (HasValue (promoted_scalar (type_of a) q.1)) u q.0 parts.1 l (omega (arith, light)) b
   setup_valid (Node at t (Unary prefix.Minus a)) rs h u q parts l light b = setup_valid a rs (HasValue (promoted_scalar (type_of a) q.1)) u q.0 parts.1 l (omega (arith, light)) b
   setup_valid (Node at t (Unary prefix.Flip a)) rs h u q parts l light b = setup_valid a rs (HasValue (promoted_scalar (type_of a) q.1)) u q.0 parts.1 l (omega (arith, light)) b

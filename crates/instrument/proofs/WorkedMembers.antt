@@ -1,16 +1,19 @@
--- Stores into members and what they become, by computation.
+-- Stores into members, structs that are assigned, and what they become, by computation.
 use Rattle.std.proofs.Common.{◌≡◌, ℕ, pos, [], ◌∷◌, Some, None, refl}
 use Rattle.c_syntax.specs.declared.place.Place.{Place}
 use Rattle.c_syntax.specs.declared.types.CInt.TheVariants as c
 use Rattle.c_syntax.specs.declared.expression.BumpOp.TheVariants.{PostUp}
+use Rattle.c_syntax.specs.declared.expression.UnOp.TheVariants as prefix
 use Rattle.c_syntax.specs.Ctypes.{Ptr, Struct, int_type}
 use Rattle.c_syntax.specs.Expressions as source
 use Rattle.c_syntax.specs.Expressions.{Expression, Node}
 use Rattle.c_syntax.specs.Programs.{StructMember, TranslationUnit}
 use Rattle.mon_syntax.specs.declared.tree.MonOp.TheVariants as mon
 use Rattle.mon_syntax.specs.declared.tree.MonType.TheVariants as kind
+use Rattle.mon_syntax.specs.declared.tree.CopySize.TheVariants.{Four}
+use Rattle.mon_syntax.specs.declared.tree.MemoryCall.TheVariants.{Copy}
 use Rattle.mon_syntax.specs.Registers.{Bindings}
-use Rattle.mon_syntax.specs.Trees.{Register, Constant, Binary, Load, Set, Store, Then, NoStatement}
+use Rattle.mon_syntax.specs.Trees.{MonExpression, Register, Constant, Binary, Load, Set, Store, Act, Then, NoStatement}
 use Rattle.c_effects.specs.Effects.{effect, effect_temporaries}
 
 abbrev here : Place
@@ -58,3 +61,21 @@ bumped_is : effect program bound (kind.Ptr ∷ []) (Node here int_type (source.B
     ≡ Then (Set 1 (Load kind.Ptr (Register 0))) (Then (Set 2 (Binary mon.Add kind.Ptr (Register 1) (Constant kind.I64 (pos 4))))
     (Then (Store 2 kind.I32 (Binary mon.Add kind.I32 (Load kind.I32 (Register 2)) (Constant kind.I32 (pos 1)))) NoStatement))
 bumped_is = refl
+
+-- the struct that a pointer points to, and a variable with one, to whose block register 1 points
+abbrev target : Expression
+target = Node here (Struct 0) (source.Unary prefix.Deref pointer)
+
+abbrev whole : Expression
+whole = Node here (Struct 0) (source.Variable (record { name = 2; decl = 2 }))
+
+abbrev offset : ℕ → ℕ → MonExpression
+offset r d = Binary mon.Add kind.Ptr (Register r) (Constant kind.I64 (pos d))
+
+-- `*p = x`: the pointer, and then the two members
+copied_is : effect program ((1, 0) ∷ (2, 1) ∷ []) (kind.Ptr ∷ kind.Ptr ∷ []) (Node here (Struct 0) (source.Assign None target whole))
+    ≡ Then (Set 2 (Load kind.Ptr (Register 0))) (Then (Act None (Copy Four) (offset 2 0 ∷ offset 1 0 ∷ [])) (Then (Act None (Copy Four) (offset 2 4 ∷ offset 1 4 ∷ [])) NoStatement))
+copied_is = refl
+
+copied_registers : effect_temporaries program (Node here (Struct 0) (source.Assign None target whole)) ≡ kind.Ptr ∷ []
+copied_registers = refl

@@ -1,20 +1,23 @@
--- Small expressions with pointers and what they become, by computation, and how many parentheses these have open.
+-- Small expressions with pointers and calls of the heap and what they become, by computation, and how many parentheses these have open.
 use Rattle.std.proofs.Common.{◌≡◌, ℕ, pos, true, [], ◌∷◌, Some, None, refl}
 use Rattle.c_syntax.specs.declared.place.Place.{Place}
 use Rattle.c_syntax.specs.declared.types.CInt.TheVariants as c
 use Rattle.c_syntax.specs.declared.expression.UnOp.TheVariants as prefix
 use Rattle.c_syntax.specs.declared.expression.BinOp.TheVariants as operator
-use Rattle.c_syntax.specs.Ctypes.{PlainType, Ptr, Array, Count, int_type}
+use Rattle.c_syntax.specs.Ctypes.{PlainType, Void, Int, Ptr, Array, Count, int_type}
 use Rattle.c_syntax.specs.Expressions as source
 use Rattle.c_syntax.specs.Expressions.{Expression, Node}
 use Rattle.c_syntax.specs.Statements.{Declaration}
 use Rattle.c_syntax.specs.Programs.{TranslationUnit}
+use Rattle.std.specs.Prelude.{codes}
+use Rattle.mon_syntax.specs.declared.tree.MemoryCall.TheVariants.{Malloc, Free}
 use Rattle.mon_syntax.specs.declared.tree.MonOp.TheVariants as mon
 use Rattle.mon_syntax.specs.declared.tree.MonType.TheVariants as kind
 use Rattle.mon_syntax.specs.Registers.{Bindings}
-use Rattle.mon_syntax.specs.Trees.{Register, Global, Constant, Binary, Minus, Cast, Load}
+use Rattle.mon_syntax.specs.Trees.{Register, Global, Constant, Binary, Minus, Cast, Load, Store, Act, Then, NoStatement}
 use Rattle.mon_syntax.specs.Valid.{open_parens}
 use Rattle.c_effects.specs.Expressions.{value}
+use Rattle.c_effects.specs.Effects.{effect}
 use Rattle.c_model.specs.Sizes.{weight_of}
 
 abbrev here : Place
@@ -79,3 +82,21 @@ back_parens = refl
 
 back_weight : weight_of back ≡ 10
 back_weight = refl
+
+-- ---- the heap, by the names `malloc` and `free`
+
+abbrev heap_program : TranslationUnit
+heap_program = record program { names = codes "malloc" ∷ codes "free" ∷ [] }
+
+abbrev library : ℕ → PlainType → Expression → Expression
+library x t e = Node here t (source.Call (record { name = x; decl = 4294967295 }) (source.Following e source.NoExpression))
+
+-- `p = malloc(8)`
+malloc_is : effect heap_program bound (kind.Ptr ∷ kind.Ptr ∷ [])
+    (Node here (Ptr Void) (source.Assign None (variable (Ptr Void) 1) (library 0 (Ptr Void) (Node here (Int c.U64) (source.Number (pos 8) (Some c.U64))))))
+    ≡ Then (Act (Some 2) Malloc (Constant kind.U64 (pos 8) ∷ [])) (Then (Store 0 kind.Ptr (Register 2)) NoStatement)
+malloc_is = refl
+
+-- `free(p)`
+free_is : effect heap_program bound [] (library 1 Void (variable (Ptr Void) 1)) ≡ Then (Act None Free (Load kind.Ptr (Register 0) ∷ [])) NoStatement
+free_is = refl

@@ -7,7 +7,7 @@ use Rattle.c_syntax.specs.Ctypes.{PlainType}
 use Rattle.c_syntax.specs.Programs.{StructType}
 use Rattle.c_model.specs.Integers.{fits}
 use Rattle.c_model.specs.Layouts.{Scalar, IntegerType, PointerType, scalar_size, scalars_of}
-use Rattle.c_model.specs.Memory.{Pointer, Null, Into, Value, Integer, Points, Store, save, bytes_from, shifted}
+use Rattle.c_model.specs.Memory.{Pointer, Value, Integer, Points, Store, save, bytes_from, shifted}
 use Rattle.c_model.specs.State.{State, defined, ◌>>=◌, put_store, write, write_bytes}
 use Rattle.c_model.specs.Meaning.{zeros, zero_scalars, zero_parts}
 use Rattle.mon_syntax.specs.Meaning.{Next}
@@ -22,8 +22,8 @@ use Rattle.instrument.proofs.Results.{writes_none, before_is}
 use Rattle.instrument.proofs.Standing.{Setting, Target, runs, Same, Has, IsOf, Bounded, Here, Beside}
 use Rattle.instrument.proofs.Registers.{same_set, get-set_same}
 use Rattle.instrument.proofs.Following.{Follows, later_same, onward, undefined_here, stays, follows_then}
-use Rattle.instrument.proofs.Pointers.{IsInside, saved_inside}
-use Rattle.instrument.proofs.PointerValues.{scalar_register, farther_has}
+use Rattle.instrument.proofs.Pointers.{IsInside, saved_inside, shifted_twice}
+use Rattle.instrument.proofs.PointerValues.{scalar_register, reaches}
 use Rattle.instrument.proofs.Evaluating.{behind_setup, set_runs}
 use Rattle.instrument.proofs.Stores.{write_follows}
 
@@ -37,10 +37,6 @@ module _ (w : Setting) (n : ℕ) (h : Here) (low : ℕ) where
       code : MonStatements
       code = stored_at r j d (scalar_register k) e
 
-      inside : (q : Pointer) → p ≡ q → IsInside t.mem.store (shifted q d) → Has w (farther (Register r) d) regs t.mem (Points (shifted q d))
-      inside Null same i = let no : Null ≡ Into i.block i.offset = i.is in absurd cc
-      inside (Into m o) same i = farther_has w regs t.mem (Register r) m o d (points ∙ ap (λ p. Some (Points p)) same) i
-
       by : (o : Option Store) → save s.store (shifted p d) k v ≡ o → Follows w h low regs Next s (write at (shifted p d) k v s) (runs w n t code regs)
       by None saves = undefined_here w h low regs Next s (write at (shifted p d) k v s) (runs w n t code regs) at (ap (λ o. (defined at o >>= put_store) s) saves)
       by (Some saved) saves =
@@ -48,7 +44,7 @@ module _ (w : Setting) (n : ℕ) (h : Here) (low : ℕ) where
           let after = slice_set regs j (Points (shifted p d)) in
           subst (λ q. Follows w h low regs Next s (write at (shifted p d) k v s) q)
           (writes_none (runs w n t (one (tree.Store j (scalar_register k) e)) after)
-          ∙ sym (behind_setup w n t (set j (farther (Register r) d)) (one (tree.Store j (scalar_register k) e)) regs after (set_runs w n t j (farther (Register r) d) regs (Points (shifted p d)) (inside p refl there))))
+          ∙ sym (behind_setup w n t (set j (farther (Register r) d)) (one (tree.Store j (scalar_register k) e)) regs after (set_runs w n t j (farther (Register r) d) regs (Points (shifted p d)) (reaches w regs t.mem r p d points there))))
           (onward w h low regs after Next s s [] (write at (shifted p d) k v s) (runs w n t (one (tree.Store j (scalar_register k) e)) after) (same_set low j regs (Points (shifted p d)) above) (later_same s bounded)
           (write_follows w n h low at k (shifted p d) j v s t after e bounded b (get-set_same regs j (Points (shifted p d)) room) f (has after (same_set j j regs (Points (shifted p d)) (omega arith)))))
 
@@ -81,10 +77,6 @@ module _ (w : Setting) (n : ℕ) (h : Here) (low : ℕ) where
   zero_type_is : (k : Scalar) → zero_type k ≡ register_type (zero_int k)
   zero_type_is (IntegerType k) = refl
   zero_type_is PointerType = refl
-
-  pub shifted_twice : (p : Pointer) (d c : ℕ) → shifted (shifted p d) c ≡ shifted p (d + c)
-  shifted_twice Null d c = refl
-  shifted_twice (Into m i) d c = let same : (i + d) + c ≡ i + (d + c) = omega arith in ap (Into m) same
 
   -- zeros in one scalar, by the register `low`, and in scalars in order
   zero_follows : (at : Place) (p : Pointer) (r d : ℕ) (k : Scalar) (s : State) (t : Target) (regs : List Value) → Bounded s.store → Beside w s.store s t → slice_get regs r ≡ Some (Points p) → low < length regs

@@ -14,8 +14,8 @@ ghost use Rattle.instrument.specs.Translation.{all_global_temporaries, global_te
 use crate::block::one_more;
 use crate::name::{global_name, text_name};
 use c_effects::initialiser::initialise;
-use c_effects::name::name_at;
 use c_effects::part::then;
+use c_expression_rules::sight::name_at;
 use c_syntax::{Decl, Name, Program, Text};
 use mon_syntax::{
     GlobalContent, MonExpr, MonExprKind, MonGlobal, MonStmt, MonStmtKind, MonType, Registers,

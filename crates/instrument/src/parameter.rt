@@ -13,9 +13,9 @@ ghost use Rattle.instrument.specs.Translation.{arguments_from, own_name, paramet
 use crate::block::{between, enter, one_more};
 use crate::name::register_name;
 use c_effects::conversion::value_type;
-use c_effects::name::name_at;
 use c_effects::operator::register;
 use c_effects::part::then;
+use c_expression_rules::sight::name_at;
 use c_syntax::{Decl, Name};
 use mon_syntax::{MonStmt, MonStmtKind, Register, Registers};
 use std::alloc::{AllocError, Global};

@@ -1,4 +1,4 @@
-use Rattle.std.proofs.Common.{◌≡◌, ◌∙◌, ap, map}
+use Rattle.std.proofs.Common.{◌∙◌, ap, map}
 use Rattle.c_syntax.specs.Programs.{plain_layout}
 use Rattle.mon_syntax.specs.Registers.{Names}
 use Rattle.c_effects.specs.Expressions.{compound}

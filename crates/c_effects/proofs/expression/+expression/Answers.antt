@@ -1,11 +1,8 @@
-use Rattle.std.proofs.Common.{◌≡◌, ap, ◌∙◌, sym, subst, arith}
-use Rattle.std.specs.Prelude.{IfOk}
-use Rattle.mon_syntax.specs.declared.tree.MonExpr.{MonExpr}
-use Rattle.c_effects.specs.Named.{value_by}
+use Rattle.std.proofs.Common.{ap, ◌∙◌, sym, arith}
 use Rattle.c_syntax.specs.Ctypes.{plain_type}
 use Rattle.c_syntax.specs.Expressions.{plain_expr}
 use Rattle.mon_syntax.specs.Trees.{plain_expr as plain_monitored}
-use Rattle.mon_syntax.specs.Trees.{If, MonExpression, plain_stmts}
+use Rattle.mon_syntax.specs.Trees.{If, plain_stmts}
 use Rattle.mon_syntax.proofs.Rows.{if_is}
 use Rattle.c_effects.specs.Expressions.{before, one, set}
 use Rattle.c_effects.proofs.Trees.{on_ok, of_binary, of_element, of_both, of_either, of_choice}

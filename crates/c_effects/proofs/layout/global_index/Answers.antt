@@ -1,4 +1,4 @@
-use Rattle.std.proofs.Common.{◌+◌, drop, map, refl, ap, sym, ◌∙◌, arith}
+use Rattle.std.proofs.Common.{◌+◌, drop, map, refl, arith}
 use Rattle.c_syntax.specs.Statements.{plain_decl}
 use Rattle.c_effects.specs.Expressions.{global_index}
 use Rattle.c_effects.proofs.Sequences.{left_at, none_left}
