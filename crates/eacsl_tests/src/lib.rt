@@ -1,4 +1,4 @@
-//! Tests of public calls of the layers, of what no text shows that `tests/run` gives to the program.
+//! Tests of public calls of the layers, of what no text shows that `tests/run` gives to the program, and a few texts through the top call.
 //!
 //! A test is proved before it runs, and each `assert_eq!` in it costs seconds. So a module has few of them, in functions that its
 //! tests call with plain values.
@@ -33,6 +33,10 @@ mod numbers;
 mod host;
 #[cfg(test)]
 mod ports;
+
+// the whole
+#[cfg(test)]
+mod program;
 
 // what the tests compare with
 #[cfg(test)]
