@@ -1,9 +1,9 @@
 #!/bin/bash
 # Prints what the machine takes: of a loop of 5,000,000 turns with a sum and an assert each, of fib(27) with its 635,621
-# calls, of 1,000 elements that are summed 5,000 times, of a bubble sort of 1,000 elements that stand backwards, and from the start
-# of the process to the verdict of a program of 8 lines; all but the last beside the plain program as gcc -O0 compiles it. Seconds
-# are the least of some runs. Where valgrind is there, it counts the processor's instructions of a turn, a call and an access. It
-# measures through ./eacsl.
+# calls, of 1,000 elements that are summed 5,000 times, of a bubble sort of 1,000 elements that stand backwards, of calls until all
+# 65,536 frames are taken, and from the start of the process to the verdict of a program of 8 lines; all but the last two beside the
+# plain program as gcc -O0 compiles it. Seconds are the least of some runs. Where valgrind is there, it counts the processor's
+# instructions of a turn, a call and an access. It measures through ./eacsl.
 set -euo pipefail
 
 top=$(cd -- "$(dirname -- "${BASH_SOURCE[0]}")/.." && pwd)
@@ -80,6 +80,18 @@ int main(void) {
 C
 }
 
+# calls that have no end, so that they take all frames
+deep() {
+  cat <<'C'
+int f(int n) {
+  return f(n);
+}
+int main(void) {
+  return f(0);
+}
+C
+}
+
 # a program of 8 lines
 least() {
   cat <<'C'
@@ -133,6 +145,7 @@ loop_of 5000000 >"$scratch/loop.c"
 fib_of 27 >"$scratch/fib.c"
 sum_of 5000 >"$scratch/sum.c"
 sort_of 1000 >"$scratch/sort.c"
+deep >"$scratch/deep.c"
 
 printf '%-34s %10s %12s %10s\n' what 'ms' 'peak (KiB)' 'ns each'
 line 'a program of 8 lines, eacsl run' 20 0 "$top/eacsl" run "$scratch/least.c"
@@ -141,6 +154,7 @@ line 'a loop of 5,000,000 turns' 5 5000000 "$top/eacsl" run "$scratch/loop.c"
 line 'fib(27), 635,621 calls' 5 635621 "$top/eacsl" run "$scratch/fib.c"
 line '1,000 elements summed 5,000 times' 3 5000000 "$top/eacsl" run "$scratch/sum.c"
 line 'a bubble sort of 1,000 elements' 3 499500 "$top/eacsl" run "$scratch/sort.c"
+line 'calls that take all 65,536 frames' 5 65536 "$top/eacsl" run "$scratch/deep.c"
 
 if command -v gcc >/dev/null; then
   gcc -O0 -o "$scratch/loop" "$scratch/loop.c"

@@ -1,7 +1,7 @@
 #!/bin/bash
-# Prints the time of reading annotated texts of 0.25 to 1 MiB, of statements and of declarations with initialisers, in all and for
-# each token, and that of reading texts in monitored C of 0.5 to 4 MiB, in all and for each byte, with the peak memory. A text returns
-# before its statements, so that they are read and translated, and not run. It measures through ./eacsl.
+# Prints the time of reading annotated texts of 0.25 to 1 MiB, of statements, of declarations with initialisers, and of one struct with
+# many members, in all and for each token, and that of reading texts in monitored C of 0.5 to 4 MiB, in all and for each byte, with the
+# peak memory. A text returns before its statements, so that they are read and translated, and not run. It measures through ./eacsl.
 set -euo pipefail
 
 top=$(cd -- "$(dirname -- "${BASH_SOURCE[0]}")/.." && pwd)
@@ -75,6 +75,21 @@ def declared(size):
     return f"{size >> 10} KiB", count * D_TOKENS + 10, text
 
 
+M_LINE = "  int member{0};\n"
+M_TOKENS = 3
+
+
+def membered(size):
+    """A text of one struct of so many members that it has at most so many bytes, with the number of its tokens."""
+    text, count = "struct wide {\n", 0
+    while len(text) + len(M_LINE.format(count)) + 80 <= size and (count + 1) * M_TOKENS < 200_000:
+        text += M_LINE.format(count)
+        count += 1
+    text += "};\nint main(void) { struct wide w; w.member0 = 0; return w.member0; }\n"
+    text += " " * (size - len(text))
+    return f"{size >> 10} KiB", count * M_TOKENS + 28, text
+
+
 HEAD = "#include <e_acsl.h>\ni32 main(void) {\n  i32 x;\n  return I32(0);\n"
 LINE = "  x = (x + I32(1));\n"
 
@@ -88,6 +103,8 @@ def monitored(size):
 table("run", "int main(void) { return 0; }\n", "token", map(annotated, (1 << 18, 1 << 19, 1 << 20)))
 print()
 table("run", "int main(void) { return 0; }\n", "token", map(declared, (1 << 18, 1 << 19, 1 << 20)))
+print()
+table("run", "int main(void) { return 0; }\n", "token", map(membered, (1 << 18, 1 << 19, 1 << 20)))
 print()
 table("exec", HEAD + "}\n", "byte", map(monitored, (1 << 19, 1 << 20, 1 << 21, 1 << 22)))
 P
