@@ -46,48 +46,40 @@ def table(command, least, unit, texts):
     print(f"the start of the program takes {start:.3f} s, which each figure a {unit} leaves out")
 
 
-C_HEAD = "int main(void) {\n  unsigned int total = 0, count = 1;\n  /*@ assert total < count; */\n  return 0;\n"
-C_LINE = "  total = (unsigned char)(total * 3 + 0x1f) ^ count << 2; // the next one of them\n"
-HEAD_TOKENS = 27
-LINE_TOKENS = 18
+MOST_TOKENS = 200_000
+
+
+def filled(size, head, line, tail, outer, inner):
+    """A text of so many bytes with as many lines as fit, each with its number, between a head and a tail, and the number of its tokens,
+    of which head and tail have some and each line some."""
+    lines, left = [], size - len(head) - len(tail)
+    while outer + (len(lines) + 1) * inner <= MOST_TOKENS:
+        numbered = line.format(len(lines))
+        left -= len(numbered)
+        if left < 0:
+            break
+        lines.append(numbered)
+    text = head + "".join(lines) + tail
+    return f"{size >> 10} KiB", outer + len(lines) * inner, text + " " * (size - len(text))
 
 
 def annotated(size):
-    """A text of at most so many bytes, and nearly as many, with the number of its tokens."""
-    lines = min((size - len(C_HEAD) - 2) // len(C_LINE), (200_000 - HEAD_TOKENS) // LINE_TOKENS)
-    text = C_HEAD + C_LINE * lines + "}\n"
-    text += " " * (size - len(text))
-    return f"{size >> 10} KiB", HEAD_TOKENS + lines * LINE_TOKENS, text
-
-
-D_LINES = "int table{0}[4] = {{1, {0}, 3}};\nstruct pair{0} {{ char *name; long value; }};\ntypedef struct pair{0} *link{0};\nlink{0} last{0} = 0;\n"
-D_TOKENS = 37
+    """A text of statements and an assert."""
+    head = "int main(void) {\n  unsigned int total = 0, count = 1;\n  /*@ assert total < count; */\n  return 0;\n"
+    line = "  total = (unsigned char)(total * 3 + 0x1f) ^ count << 2; // the next one of them\n"
+    return filled(size, head, line, "}\n", 27, 18)
 
 
 def declared(size):
-    """A text of declarations at file scope of at most so many bytes, with the number of its tokens."""
-    text, count = "", 0
-    while len(text) + len(D_LINES.format(count)) + 40 <= size and (count + 1) * D_TOKENS < 200_000:
-        text += D_LINES.format(count)
-        count += 1
-    text += "int main(void) { return 0; }\n"
-    text += " " * (size - len(text))
-    return f"{size >> 10} KiB", count * D_TOKENS + 10, text
-
-
-M_LINE = "  int member{0};\n"
-M_TOKENS = 3
+    """A text of declarations at file scope."""
+    lines = "int table{0}[4] = {{1, {0}, 3}};\nstruct pair{0} {{ char *name; long value; }};\ntypedef struct pair{0} *link{0};\nlink{0} last{0} = 0;\n"
+    return filled(size, "", lines, "int main(void) { return 0; }\n", 10, 37)
 
 
 def membered(size):
-    """A text of one struct of so many members that it has at most so many bytes, with the number of its tokens."""
-    text, count = "struct wide {\n", 0
-    while len(text) + len(M_LINE.format(count)) + 80 <= size and (count + 1) * M_TOKENS < 200_000:
-        text += M_LINE.format(count)
-        count += 1
-    text += "};\nint main(void) { struct wide w; w.member0 = 0; return w.member0; }\n"
-    text += " " * (size - len(text))
-    return f"{size >> 10} KiB", count * M_TOKENS + 28, text
+    """A text of one struct with many members."""
+    tail = "};\nint main(void) { struct wide w; w.member0 = 0; return w.member0; }\n"
+    return filled(size, "struct wide {\n", "  int member{0};\n", tail, 28, 3)
 
 
 HEAD = "#include <e_acsl.h>\ni32 main(void) {\n  i32 x;\n  return I32(0);\n"
