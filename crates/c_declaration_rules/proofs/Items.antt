@@ -6,11 +6,11 @@ use Rattle.c_syntax.specs.declared.statement.Init.{Init}
 use Rattle.c_syntax.specs.Ctypes.{PlainType, Void, Int, Ptr, Array, Struct, Named, StructTag, EnumTag}
 use Rattle.c_syntax.specs.Expressions.{Expression}
 use Rattle.c_syntax.specs.Programs.{StructMember, StructType}
-use Rattle.c_model.specs.Layouts.{members_of_struct}
+use Rattle.c_syntax.specs.Layouts.{count_of, members_of_struct}
 use Rattle.c_syntax.specs.Statements.{Initialiser, Initialisers, NoInitialiser, Listed, plain_init, plain_inits}
 use Rattle.c_model.specs.Checked.{Checked, Good, Bad, both_parts, faulty}
 use Rattle.c_model.specs.ExpressionTyping.{Sight, no_type}
-use Rattle.c_model.specs.DeclarationTyping.{Slots, Each, Members, elements_in, member_types, next_slot, place_of_initialiser, slots_of, typed_initialiser, typed_items}
+use Rattle.c_model.specs.DeclarationTyping.{Slots, Each, Members, member_types, next_slot, place_of_initialiser, slots_of, typed_initialiser, typed_items}
 use Rattle.c_expression_rules.specs.declared.fault.TypeFault.{TypeFault}
 use Rattle.c_expression_rules.specs.Answers.{Answers, both, first_of}
 use Rattle.c_expression_rules.proofs.Least.{both_refused}
@@ -20,7 +20,7 @@ use Rattle.c_declaration_rules.specs.Initialisers.{slot, type_at}
 
 -- those behind as many items
 abbrev pub slots_at : Sight → PlainType → ℕ → Slots
-slots_at s (Array t n) k = Each t (elements_in n - k)
+slots_at s (Array t n) k = Each t (count_of n - k)
 slots_at s (Struct n) k = Members (drop k (member_types (slice_get s.structs n)))
 slots_at s t k = Each t (1 - k)
 
@@ -52,7 +52,7 @@ typed_at None k = refl
 typed_at (Some s) k = slice_get-map (λ (m : StructMember). m.ctype) s.members k
 
 pub slot_is : (s : Sight) (t : PlainType) (k : ℕ) → next_slot (slots_at s t k) ≡ option_map (λ u. (u, slots_at s t (suc k))) (slot s t k)
-slot_is s (Array t n) k = each_at t (elements_in n) k
+slot_is s (Array t n) k = each_at t (count_of n) k
 slot_is s (Struct n) k = members_at (member_types (slice_get s.structs n)) k ∙ ap (λ o. option_map (λ u. (u, Members (drop (suc k) (member_types (slice_get s.structs n))))) o) (typed_at (slice_get s.structs n) k)
 slot_is s Void k = one_at Void k
 slot_is s (Int i) k = one_at (Int i) k

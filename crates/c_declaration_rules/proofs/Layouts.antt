@@ -2,7 +2,7 @@
 use Rattle.std.proofs.Common.{◌≡◌, ℕ, ◌+◌, ◌≤◌, ◌<◌, List, [], ◌∷◌, ◌++◌, refl, sym, ap, ◌∙◌, Bool, true, false, nat_lt, if◌then◌else◌, arith}
 use Rattle.std.proofs.lemmas.Bool.Decides.{nat_tests}
 use Rattle.c_syntax.specs.Programs.{StructMember, StructType}
-use Rattle.c_model.specs.Layouts.{align_of, aligned, size_of}
+use Rattle.c_syntax.specs.Layouts.{align_of, aligned, size_of}
 use Rattle.c_model.specs.DeclarationTyping.{end_of, greater, laid_out, placed_from, widest}
 use Rattle.c_declaration_rules.specs.Layouts.{Grows}
 

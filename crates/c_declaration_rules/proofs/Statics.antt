@@ -10,8 +10,8 @@ use Rattle.c_syntax.specs.declared.expression.BinOp.TheVariants as operator
 use Rattle.c_syntax.specs.Ctypes.{PlainType, Void, Int, Ptr, Array, Struct, Named, StructTag, EnumTag}
 use Rattle.c_syntax.specs.Expressions.{Expression, Node, Number, Letter, Text, Variable, Unary, Binary, Both, Either, Choice, Assign, Bump, Call, Cast, SizeOfType, SizeOfExpr, Index, Dot, Arrow, Comma, place_of, type_of}
 use Rattle.c_syntax.specs.Programs.{StructType}
+use Rattle.c_syntax.specs.Layouts.{offset_of, size_of, target_of}
 use Rattle.c_model.specs.Library.{is_there}
-use Rattle.c_model.specs.Layouts.{offset_of, size_of, target_of}
 use Rattle.c_model.specs.Memory as memory
 use Rattle.c_model.specs.Memory.{Pointer, Into, Value, Integer, Points, Block, Store, block_at, live_size, moved}
 use Rattle.c_model.specs.State.{End, State, Outcome, Normal, Stop, Evaluation, ◌>>=◌, on_outcome, give, defined, computed, find, start_of, stop, Over, Undefined}

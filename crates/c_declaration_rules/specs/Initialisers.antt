@@ -6,11 +6,11 @@ use Rattle.c_syntax.specs.Ctypes.{PlainType, Array, Struct}
 use Rattle.c_syntax.specs.Expressions.{Expression}
 use Rattle.c_syntax.specs.Statements.{Initialiser, One, Many, Initialisers, NoInitialiser, Listed}
 use Rattle.c_syntax.specs.Programs.{StructMember}
-use Rattle.c_model.specs.Layouts.{members_of_struct}
+use Rattle.c_syntax.specs.Layouts.{count_of, members_of_struct}
 use Rattle.c_model.specs.Library.{is_there}
 use Rattle.c_model.specs.Checked.{Checked, Good, where_so}
 use Rattle.c_model.specs.ExpressionTyping.{Sight, Entity, AnObject, AnEnumerator, constant, in_type, is_assigned, is_scalar, no_type}
-use Rattle.c_model.specs.DeclarationTyping.{elements_in, is_address, is_anything, is_static, is_text}
+use Rattle.c_model.specs.DeclarationTyping.{is_address, is_anything, is_static, is_text}
 
 -- ---- which expressions may initialise
 
@@ -45,7 +45,7 @@ type_at ms k = option_map (λ (m : StructMember). m.ctype) (slice_get ms k)
 
 -- the type of the object that the item of an index initialises
 abbrev pub slot : Sight → PlainType → ℕ → Option PlainType
-slot s (Array t n) k = cond (nat_lt k (elements_in n)) (Some t) None
+slot s (Array t n) k = cond (nat_lt k (count_of n)) (Some t) None
 slot s (Struct n) k = type_at (members_of_struct (slice_get s.structs n)) k
 slot s t k = cond (nat_eq k 0) (Some t) None
 

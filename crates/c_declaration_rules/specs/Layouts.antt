@@ -3,7 +3,7 @@
 use Rattle.std.specs.Prelude.{◌≡◌, ℕ, ◌+◌, List}
 use Rattle.c_syntax.specs.Ctypes.{PlainType}
 use Rattle.c_syntax.specs.Programs.{StructMember, StructType}
-use Rattle.c_model.specs.Layouts.{align_of, aligned, size_of}
+use Rattle.c_syntax.specs.Layouts.{align_of, aligned, size_of}
 use Rattle.c_model.specs.DeclarationTyping.{end_of, greater, placed_from, widest}
 
 -- the offset of a member of this type behind the others, and the alignment and the size of the struct with it

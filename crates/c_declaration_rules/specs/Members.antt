@@ -4,8 +4,8 @@ use Rattle.std.specs.Prelude.{◌≡◌, ℕ, suc, not, nat_le, if◌then◌else
 use Rattle.c_syntax.specs.declared.place.Place.{Place}
 use Rattle.c_syntax.specs.Ctypes.{PlainType}
 use Rattle.c_syntax.specs.Programs.{StructMember, StructType}
+use Rattle.c_syntax.specs.Layouts.{member_among}
 use Rattle.c_model.specs.Library.{is_there}
-use Rattle.c_model.specs.Layouts.{member_among}
 use Rattle.c_model.specs.Checked.{Checked, Good, both_parts, one_part, where_so}
 use Rattle.c_model.specs.ExpressionTyping.{Sight, levels_of, limited, most_bytes, no_name, number_at, too_large, typed_type}
 use Rattle.c_model.specs.DeclarationTyping.{greater, object_type, typed_member, typed_member_type, with_struct}

@@ -6,7 +6,7 @@ use Rattle.c_syntax.specs.declared.expression.UnOp.TheVariants as unary
 use Rattle.c_syntax.specs.declared.expression.BinOp.TheVariants as operator
 use Rattle.c_syntax.specs.Expressions.{Expression, Node, Variable, Unary, Binary, Cast, Index, Dot, Arrow, type_of}
 use Rattle.c_syntax.specs.Programs.{StructType}
-use Rattle.c_model.specs.Layouts.{offset_of, size_of, target_of}
+use Rattle.c_syntax.specs.Layouts.{offset_of, size_of, target_of}
 use Rattle.c_model.specs.Meaning.{is_array, is_member, is_of_library, is_pointer, unit_of}
 use Rattle.c_model.specs.ExpressionTyping.{Sight, Entity, AnObject, AnEnumerator, constant}
 use Rattle.c_declaration_rules.specs.declared.constant.Spot.{Spot}

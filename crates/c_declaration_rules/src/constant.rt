@@ -4,7 +4,6 @@ ghost use Rattle.std.specs.Prelude.{◌≡◌, IfOk, Some, map};
 ghost use Rattle.c_syntax.specs.Ctypes.{plain_type};
 ghost use Rattle.c_syntax.specs.Expressions.{plain_expr};
 ghost use Rattle.c_syntax.specs.Programs.{plain_layout};
-ghost use Rattle.c_model.specs.Layouts.{offset_of, target_of};
 ghost use Rattle.c_model.specs.Meaning.{is_member, unit_of};
 ghost use Rattle.c_model.specs.ExpressionTyping.{constant};
 ghost use Rattle.c_model.specs.DeclarationTyping.{is_address};
@@ -16,13 +15,13 @@ ghost use Rattle.c_declaration_rules.specs.Statics.{address_spot, difference_of,
 ghost use Rattle.c_declaration_rules.specs.Statics.{pointer_of, stepped, taken_spot};
 
 use crate::layout::size_of;
-use c_expression_rules::call::{member_among, members_of};
 use c_expression_rules::constant::constant;
 use c_expression_rules::conversion::{is_array, is_pointer, pointed};
 use c_expression_rules::entities::Declared;
 use c_expression_rules::entity::Entity;
 use c_expression_rules::limits::small_size;
 use c_expression_rules::sight::Sight;
+use c_syntax::layout::{offset_in_target, offset_of_member};
 use c_syntax::{BinOp, CType, Expr, ExprKind, Layout, UnOp, Use};
 use std::alloc::AllocError;
 
@@ -141,26 +140,6 @@ fn member(offset: u32, p: Option<Spot>) -> Result<Option<Spot>, AllocError>
     }
 }
 
-/// The offset of a member of this name in a struct type.
-fn offset_of(structs: &[Layout], t: &CType, name: u32) -> u32
-    ensures { result ≡ offset_of (map plain_layout structs.now) (plain_type t.now) name }
-{
-    match member_among(members_of(structs, t), name) {
-        None => 0,
-        Some(m) => m.offset,
-    }
-}
-
-/// The same in the struct type that is pointed to.
-fn offset_behind(structs: &[Layout], t: &CType, name: u32) -> u32
-    ensures { result ≡ offset_of (map plain_layout structs.now) (target_of (plain_type t.now)) name }
-{
-    match pointed(t) {
-        None => 0,
-        Some(u) => offset_of(structs, u, name),
-    }
-}
-
 /// The size of what is pointed to, on either side.
 fn unit_of(structs: &[Layout], t: &CType, u: &CType) -> Result<u32, AllocError>
     ensures { IfOk result (λ n. n ≡ unit_of (map plain_layout structs.now) (plain_type t.now) (plain_type u.now)) }
@@ -269,11 +248,11 @@ fn place(sight: &Sight, own: &CType, e: &Expr) -> Result<Option<Spot>, AllocErro
         ExprKind::Index(a, b) => element(sight, own, a, b),
         ExprKind::Dot(a, m) => {
             let p = place(sight, own, a)?;
-            member(offset_of(&sight.structs, &a.ctype, *m), p)
+            member(offset_of_member(&sight.structs, &a.ctype, *m), p)
         }
         ExprKind::Arrow(a, m) => {
             let p = address(sight, own, a)?;
-            member(offset_behind(&sight.structs, &a.ctype, *m), p)
+            member(offset_in_target(&sight.structs, &a.ctype, *m), p)
         }
         _ => Ok(None),
     }

@@ -1,14 +1,14 @@
 //! Initialisers (C99 6.7.8).
 
 ghost use Rattle.std.specs.Prelude.{◌≡◌, IfOk, drop, map, option_map, true};
-ghost use Rattle.c_syntax.specs.Ctypes.{plain_length, plain_type};
+ghost use Rattle.c_syntax.specs.Ctypes.{plain_type};
 ghost use Rattle.c_syntax.specs.Expressions.{Expression, place_of, plain_expr};
 ghost use Rattle.c_syntax.specs.Programs.{plain_member};
 ghost use Rattle.c_syntax.specs.Statements.{Initialisers, Listed, One, plain_init, plain_inits};
 ghost use Rattle.c_model.specs.Checked.{one_part};
 ghost use Rattle.c_model.specs.ExpressionTyping.{typed};
 ghost use Rattle.c_model.specs.Meaning.{string_in};
-ghost use Rattle.c_model.specs.DeclarationTyping.{bytes_of_text, elements_in, initial_value, is_text, is_text_array, no_more, place_of_initialiser};
+ghost use Rattle.c_model.specs.DeclarationTyping.{bytes_of_text, initial_value, is_text, is_text_array, no_more, place_of_initialiser};
 ghost use Rattle.c_model.specs.DeclarationTyping.{slots_of, takes_text, typed_alone, typed_initialiser, typed_items, typed_maybe_initialiser};
 ghost use Rattle.c_expression_rules.specs.Answers.{Answers};
 ghost use Rattle.c_expression_rules.specs.Constants.{has_small_sizes};
@@ -18,14 +18,14 @@ ghost use Rattle.c_declaration_rules.specs.Initialisers.{allowed, allowed_where,
 
 use crate::constant::is_static;
 use c_expression_rules::assignment::is_assigned;
-use c_expression_rules::call::members_of;
 use c_expression_rules::conversion::{is_character, is_scalar};
 use c_expression_rules::expression::type_expr;
 use c_expression_rules::fault::{TypeFault, both, no_type};
 use c_expression_rules::operator::{decay, in_type};
 use c_expression_rules::sight::Sight;
 use c_expression_rules::text::string_in;
-use c_syntax::{CType, Expr, ExprKind, Init, Length, Member, Place};
+use c_syntax::layout::{count_of, members_of};
+use c_syntax::{CType, Expr, ExprKind, Init, Member, Place};
 use std::alloc::{AllocError, Global};
 use std::mem::replace;
 
@@ -36,16 +36,6 @@ fn place_of(init: &Init) -> Place
     match init {
         Init::One(e) => e.place,
         Init::Many(place, _) => *place,
-    }
-}
-
-/// As many elements as an array has.
-fn elements_in(n: &Length) -> u32
-    ensures { result ≡ elements_in (plain_length n.now) }
-{
-    match n {
-        Length::Count(n) => *n,
-        Length::Left | Length::Written(_) => 0,
     }
 }
 
@@ -65,7 +55,7 @@ fn slot<'a>(sight: &'a Sight, t: &'a CType, k: usize) -> Option<&'a CType>
 {
     match t {
         CType::Array(u, n) => {
-            if k < elements_in(n) as usize {
+            if k < count_of(n) as usize {
                 Some(u)
             } else {
                 None
@@ -99,7 +89,7 @@ fn takes_text(sight: &Sight, t: &CType, e: &Expr) -> bool
 {
     match (t, string_in(e)) {
         (CType::Array(u, n), Some(k)) => {
-            is_character(u) && bytes_of_text(sight, k) <= elements_in(n) as usize
+            is_character(u) && bytes_of_text(sight, k) <= count_of(n) as usize
         }
         _ => false,
     }

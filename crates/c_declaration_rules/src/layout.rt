@@ -3,15 +3,15 @@
 ghost use Rattle.std.specs.Prelude.{◌≡◌, ◌<◌, ◌+◌, IfOk, map, slice_get, suc};
 ghost use Rattle.c_syntax.specs.Ctypes.{plain_type};
 ghost use Rattle.c_syntax.specs.Programs.{plain_layout, plain_member};
-ghost use Rattle.c_model.specs.Integers.{int_size};
-ghost use Rattle.c_model.specs.Layouts.{align_of, align_of_struct, aligned, size_of};
+ghost use Rattle.c_syntax.specs.Layouts.{align_of, align_of_struct, aligned, size_of};
 ghost use Rattle.c_model.specs.ExpressionTyping.{levels_behind_pointer, levels_of};
 ghost use Rattle.c_model.specs.DeclarationTyping.{end_of, greater, placed_from, widest};
 ghost use Rattle.c_declaration_rules.specs.Layouts.{Grows};
 
 use c_expression_rules::limits::{number, small_size};
 use c_expression_rules::sight::number_at;
-use c_syntax::{CInt, CType, Layout, Member};
+use c_syntax::layout::int_size;
+use c_syntax::{CType, Layout, Member};
 use std::alloc::AllocError;
 
 /// What a struct is with one more member: the offset of the member, and its own size and alignment, in bytes.
@@ -20,18 +20,6 @@ pub struct Grown {
     pub offset: u32,
     pub size: u64,
     pub align: u32,
-}
-
-/// The size of an integer type.
-fn int_size(k: CInt) -> u32
-    ensures { result ≡ int_size k }
-{
-    match k {
-        CInt::I8 | CInt::U8 => 1,
-        CInt::I16 | CInt::U16 => 2,
-        CInt::I32 | CInt::U32 => 4,
-        CInt::I64 | CInt::U64 => 8,
-    }
 }
 
 /// The alignment of the struct of a number, 1 where there is none.

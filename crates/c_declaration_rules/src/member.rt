@@ -11,7 +11,6 @@ ghost use Rattle.c_declaration_rules.specs.Members.{new_member, object_member, s
 
 use crate::layout::{Grown, greater, grow, levels_of, more};
 use crate::name::behind;
-use c_expression_rules::call::member_among;
 use c_expression_rules::expression::type_written;
 use c_expression_rules::fault::{TypeFault, both, no_name, too_large};
 use c_expression_rules::limits::MOST_BYTES;
@@ -19,6 +18,7 @@ use c_expression_rules::operator::has_size;
 use c_expression_rules::sight::{Sight, number_at};
 use c_expression_rules::types::within_limits;
 use c_syntax::copy::copy_type;
+use c_syntax::layout::member_among;
 use c_syntax::{CType, Layout, Member, Place};
 use std::alloc::{AllocError, Global};
 

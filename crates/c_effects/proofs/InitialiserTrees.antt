@@ -7,8 +7,8 @@ use Rattle.c_syntax.specs.Ctypes.{PlainType}
 use Rattle.c_syntax.specs.Expressions.{Expression, plain_expr}
 use Rattle.c_syntax.specs.Programs.{StructType}
 use Rattle.c_syntax.specs.Statements.{Initialiser, Many, Initialisers, NoInitialiser, Listed}
+use Rattle.c_syntax.specs.Layouts.{scalars_of}
 use Rattle.c_model.specs.Library.{is_there}
-use Rattle.c_model.specs.Layouts.{scalars_of}
 use Rattle.c_model.specs.Meaning.{string_in}
 use Rattle.mon_syntax.specs.declared.tree.MonType.{MonType}
 use Rattle.mon_syntax.specs.declared.tree.MonType.TheVariants.{U8}

@@ -7,8 +7,8 @@ use Rattle.c_syntax.specs.declared.place.Place.{Place}
 use Rattle.c_syntax.specs.Ctypes.{PlainType, int_type}
 use Rattle.c_syntax.specs.Expressions.{Expression, Node, Variable, Assign, Bump, type_of}
 use Rattle.c_syntax.specs.Programs.{TranslationUnit}
+use Rattle.c_syntax.specs.Layouts.{Scalar, scalar_of, scalars_of}
 use Rattle.c_model.specs.ExpressionTyping.{is_scalar}
-use Rattle.c_model.specs.Layouts.{Scalar, scalar_of, scalars_of}
 use Rattle.c_model.specs.Library.{is_there}
 use Rattle.c_model.specs.Meaning.{bump_operator, is_member}
 use Rattle.mon_syntax.specs.declared.tree.MonType.{MonType}

@@ -2,7 +2,7 @@
 use Rattle.std.proofs.Common.{◌≡◌, ℕ, zero, suc, ◌+◌, ◌-◌, ◌<◌, ◌≤◌, List, [], ◌∷◌, ◌++◌, slice_get, Option, refl, ap, ◌∙◌, arith}
 use Rattle.c_syntax.specs.Ctypes.{PlainType, Struct}
 use Rattle.c_syntax.specs.Programs.{StructType, StructMember}
-use Rattle.c_model.specs.Layouts.{Scalar, in_each, in_members, members_of_struct, scalars_from}
+use Rattle.c_syntax.specs.Layouts.{Scalar, in_each, in_members, members_of_struct, scalars_from}
 use Rattle.mon_syntax.specs.Trees.{MonStatements, NoStatement}
 use Rattle.c_effects.specs.Expressions.{before}
 use Rattle.c_effects.specs.Effects.{copies_at, zeros_at}

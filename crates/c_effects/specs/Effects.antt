@@ -10,8 +10,8 @@ use Rattle.c_syntax.specs.Expressions as source
 use Rattle.c_syntax.specs.Expressions.{Expression, Node, Expressions, NoExpression, Following, type_of}
 use Rattle.c_syntax.specs.Statements.{Initialiser, One, Many, Initialisers, NoInitialiser, Listed, Declaration}
 use Rattle.c_syntax.specs.Programs.{StructType, StringLiteral, TranslationUnit}
+use Rattle.c_syntax.specs.Layouts.{Scalar, IntegerType, PointerType, scalar_of, size_of, offset_of, target_of, scalars_of}
 use Rattle.c_model.specs.Library.{is_there}
-use Rattle.c_model.specs.Layouts.{Scalar, IntegerType, PointerType, scalar_of, size_of, offset_of, target_of, scalars_of}
 use Rattle.c_model.specs.Meaning.{bump_operator, is_member, is_of_library, string_in, text_at, parts_or_itself, tables_of}
 use Rattle.c_model.specs.ExpressionTyping.{name_at}
 use Rattle.c_model.specs.Formed.{number_of}

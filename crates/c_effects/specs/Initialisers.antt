@@ -6,7 +6,7 @@ use Rattle.c_syntax.specs.Ctypes.{PlainType, plain_type}
 use Rattle.c_syntax.specs.Expressions.{Expression, plain_expr}
 use Rattle.c_syntax.specs.Programs.{StructType, plain_member}
 use Rattle.c_syntax.specs.Statements.{Initialiser, One, Initialisers}
-use Rattle.c_model.specs.Layouts.{scalar_of, parts_of, elements, member_parts}
+use Rattle.c_syntax.specs.Layouts.{scalar_of, parts_of, elements, member_parts}
 use Rattle.c_model.specs.Meaning.{string_in}
 use Rattle.mon_syntax.specs.declared.tree.MonType.{MonType}
 use Rattle.mon_syntax.specs.Registers.{Names}

@@ -6,7 +6,7 @@ use Rattle.c_syntax.specs.Expressions as source
 use Rattle.c_syntax.specs.Expressions.{Expression, Node, Expressions, NoExpression, Following}
 use Rattle.c_syntax.specs.Annotations as logic
 use Rattle.c_syntax.specs.Annotations.{LogicTerm, Predicate, Chain, Links, NoLink, Linked, ClauseBody, Truth, Annotation}
-use Rattle.c_model.specs.Layouts.{Scalar, scalar_of}
+use Rattle.c_syntax.specs.Layouts.{Scalar, scalar_of}
 use Rattle.c_syntax.specs.Statements.{Initialiser, One, Many, Initialisers, NoInitialiser, Listed, Declaration}
 
 -- a value of `char`

@@ -1,6 +1,6 @@
 -- What is done to scalars in order, each at its offset in an object.
 use Rattle.std.specs.Prelude.{ℕ, List}
-use Rattle.c_model.specs.Layouts.{Scalar, IntegerType, PointerType}
+use Rattle.c_syntax.specs.Layouts.{Scalar, IntegerType, PointerType}
 use Rattle.mon_syntax.specs.Trees.{MonStatements}
 use Rattle.c_effects.specs.declared.scalars.ScalarType.{ScalarType}
 use Rattle.c_effects.specs.declared.scalars.ScalarType.TheVariants.{Integer, Pointer}

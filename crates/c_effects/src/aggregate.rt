@@ -7,6 +7,7 @@ ghost use Rattle.c_syntax.specs.Programs.{plain_layout};
 ghost use Rattle.c_effects.specs.Initialisers.{first_part, parts_in, plain_parts};
 
 use crate::slot::farther_by;
+use c_syntax::layout::members_of;
 use c_syntax::{CType, Layout, Length, Member};
 use std::alloc::AllocError;
 use track_scopes::size::size_of;
@@ -29,10 +30,7 @@ pub fn parts_of<'a>(structs: &'a [Layout], t: &'a CType) -> Result<Parts<'a>, Al
             let size = size_of(structs, element)?;
             Ok(Parts::Elements(0, size, *n, element))
         }
-        CType::Struct(n) => match structs.get(*n as usize) {
-            Some(layout) => Ok(Parts::Members(&layout.members)),
-            None => Ok(Parts::Members(&[])),
-        },
+        CType::Struct(_) => Ok(Parts::Members(members_of(structs, t))),
         CType::Array(_, Length::Left | Length::Written(_))
         | CType::Void
         | CType::Named(_)

@@ -11,12 +11,13 @@ ghost use Rattle.c_effects.specs.Named.{both_set_by, condition_by, either_set_by
 ghost use Rattle.c_effects.specs.Parts.{arrow_of, binary_of, both_of, cast_of, choice_of, dot_of, either_of, index_of, named_value, unary_of};
 
 use crate::conversion::value_type;
-use crate::layout::{global_index, offset_in_target, offset_of};
+use crate::layout::global_index;
 use crate::operator::{
     condition, constant, converted, farther, indexed, loaded, operated, register, truth, unary,
 };
 use crate::part::{alone, choose, then};
 use c_expression_rules::conversion::is_array;
+use c_syntax::layout::{offset_in_target, offset_of_member};
 use c_syntax::{BinOp, CType, Expr, ExprKind, UnOp, Use};
 use mon_syntax::{MonExpr, MonExprKind, MonStmt, MonStmtKind, MonType, Registers, numbered};
 use std::alloc::{AllocError, Global};
@@ -273,7 +274,7 @@ fn member(
     ensures letters { OnOk result (HasLetters (plain_expr a.now)) }
 {
     let object = place(alloc, a, names, to)?;
-    let distance = offset_of(names.layouts(), &a.ctype, m);
+    let distance = offset_of_member(names.layouts(), &a.ctype, m);
     farther(alloc, object, u64::from(distance))
 }
 

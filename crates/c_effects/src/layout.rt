@@ -4,11 +4,10 @@ ghost use Rattle.std.specs.Prelude.{◌≡◌, ◌≤◌, IfOk, length, map};
 ghost use Rattle.c_syntax.specs.Ctypes.{plain_type};
 ghost use Rattle.c_syntax.specs.Programs.{plain_layout};
 ghost use Rattle.c_syntax.specs.Statements.{plain_decl};
-ghost use Rattle.c_model.specs.Layouts.{offset_of, size_of, target_of};
+ghost use Rattle.c_syntax.specs.Layouts.{size_of, target_of};
 ghost use Rattle.c_model.specs.Meaning.{unit_of};
 ghost use Rattle.c_effects.specs.Expressions.{global_index};
 
-use c_expression_rules::call::{member_among, members_of};
 use c_syntax::{CType, Decl, Layout};
 use std::alloc::AllocError;
 use track_scopes::size::size_of;
@@ -30,26 +29,6 @@ pub fn unit_of(structs: &[Layout], t: &CType, u: &CType) -> Result<u64, AllocErr
     match t {
         CType::Ptr(_) => target_size(structs, t),
         _ => target_size(structs, u),
-    }
-}
-
-/// The offset of a member of this name in a type, 0 where there is none.
-pub fn offset_of(structs: &[Layout], t: &CType, name: u32) -> u32
-    ensures { result ≡ offset_of (map plain_layout structs.now) (plain_type t.now) name }
-{
-    match member_among(members_of(structs, t), name) {
-        Some(m) => m.offset,
-        None => 0,
-    }
-}
-
-/// The same in the type that a pointer points to.
-pub fn offset_in_target(structs: &[Layout], t: &CType, name: u32) -> u32
-    ensures { result ≡ offset_of (map plain_layout structs.now) (target_of (plain_type t.now)) name }
-{
-    match t {
-        CType::Ptr(target) => offset_of(structs, target, name),
-        _ => 0,
     }
 }
 

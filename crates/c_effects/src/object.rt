@@ -16,10 +16,11 @@ ghost use Rattle.c_effects.specs.Objects.{base_by, direct_register, part_registe
 
 use crate::conversion::value_type;
 use crate::expression::{expression, place};
-use crate::layout::{global_index, offset_in_target, offset_of};
+use crate::layout::global_index;
 use crate::operator::{farther, register};
 use crate::part::then;
 use crate::slot::Part;
+use c_syntax::layout::{offset_in_target, offset_of_member};
 use c_syntax::{CType, Expr, ExprKind, Layout};
 use mon_syntax::{MonExpr, MonExprKind, MonStmt, MonStmtKind, MonType, Registers};
 use std::alloc::{AllocError, Global};
@@ -135,7 +136,7 @@ fn offset_in(structs: &[Layout], e: &Expr) -> Result<u64, AllocError>
 {
     match &*e.kind {
         ExprKind::Dot(a, m) => {
-            let distance = u64::from(offset_of(structs, &a.ctype, *m));
+            let distance = u64::from(offset_of_member(structs, &a.ctype, *m));
             offset_in(structs, a)?
                 .checked_add(distance)
                 .ok_or(AllocError)

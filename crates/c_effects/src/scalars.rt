@@ -3,7 +3,7 @@
 ghost use Rattle.std.specs.Prelude.{◌≡◌, ◌+◌, ◌∷◌, [], IfOk, OnOk, map};
 ghost use Rattle.c_syntax.specs.Ctypes.{Struct, plain_type};
 ghost use Rattle.c_syntax.specs.Programs.{plain_layout, plain_member};
-ghost use Rattle.c_model.specs.Layouts.{IntegerType, in_each, in_members, scalars_from, scalars_of, size_of};
+ghost use Rattle.c_syntax.specs.Layouts.{IntegerType, in_each, in_members, scalars_from, scalars_of, size_of};
 ghost use Rattle.mon_syntax.specs.Trees.{Register, plain_expr, plain_stmts};
 ghost use Rattle.c_effects.specs.Expressions.{before, farther};
 ghost use Rattle.c_effects.specs.Effects.{copies_at, copy_size, zero_type};

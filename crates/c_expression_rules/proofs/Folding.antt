@@ -4,8 +4,8 @@ use Rattle.c_syntax.specs.declared.place.Place.{Place}
 use Rattle.c_syntax.specs.declared.expression.UnOp.TheVariants as unary
 use Rattle.c_syntax.specs.Ctypes.{PlainType, Void, Int, Ptr, Array, Struct, Named, StructTag, EnumTag}
 use Rattle.c_syntax.specs.Expressions.{Expression, Node, Number, Letter, Text, Variable, Unary, Binary, Both, Either, Choice, Assign, Bump, Call, Cast, SizeOfType, SizeOfExpr, Index, Dot, Arrow, Comma, place_of, type_of}
+use Rattle.c_syntax.specs.Layouts.{size_of}
 use Rattle.c_model.specs.Integers.{integer_type, operate, operate_one}
-use Rattle.c_model.specs.Layouts.{size_of}
 use Rattle.c_model.specs.Library.{is_there}
 use Rattle.c_model.specs.Memory.{Value, Integer}
 use Rattle.c_model.specs.State.{End, Outcome, Normal, Stop, Evaluation, ◌>>=◌, on_outcome, give, defined, tested}

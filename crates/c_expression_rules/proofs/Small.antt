@@ -5,8 +5,7 @@ use Rattle.c_syntax.specs.declared.types.CInt.TheVariants.{I8, U8, I16, U16, I32
 use Rattle.c_syntax.specs.Ctypes.{PlainType, Void, Int, Ptr, Array, Struct, Named, StructTag, EnumTag}
 use Rattle.c_syntax.specs.Expressions.{Expression, Node}
 use Rattle.c_syntax.specs.Programs.{StructType}
-use Rattle.c_model.specs.Integers.{int_size}
-use Rattle.c_model.specs.Layouts.{size_of}
+use Rattle.c_syntax.specs.Layouts.{int_size, size_of}
 use Rattle.c_model.specs.ExpressionTyping.{decayed, has_small_parts, most_bytes}
 use Rattle.c_expression_rules.specs.Constants.{has_small_sizes}
 

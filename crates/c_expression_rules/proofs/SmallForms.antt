@@ -9,8 +9,8 @@ use Rattle.c_syntax.specs.declared.expression.BinOp.{BinOp}
 use Rattle.c_syntax.specs.declared.expression.BinOp.TheVariants as operator
 use Rattle.c_syntax.specs.Ctypes.{PlainType, Void, Int, Ptr, Array, Count, int_type}
 use Rattle.c_syntax.specs.Expressions.{Expression, Node, Number, Letter, Text, Variable, Unary, Binary, Both, Either, Choice, Assign, Bump, Call, Cast, SizeOfType, SizeOfExpr, Index, Dot, Arrow, Comma, Expressions, place_of, type_of}
+use Rattle.c_syntax.specs.Layouts.{size_of}
 use Rattle.c_model.specs.Integers.{fits, integer_type}
-use Rattle.c_model.specs.Layouts.{size_of}
 use Rattle.c_model.specs.Conversions.{common, is_relation, is_shift, promoted, result_type}
 use Rattle.c_model.specs.Library.{is_there, library_constant}
 use Rattle.c_model.specs.Checked.{Fault, Checked, Good, Bad, faulty, one_part, both_parts, given, where_so}

@@ -7,8 +7,8 @@ use Rattle.c_syntax.specs.Ctypes.{PlainType}
 use Rattle.c_syntax.specs.Expressions.{Expression, Node, Number, Letter, Unary, Binary, Both, Either, Choice, Cast, SizeOfType, SizeOfExpr, Comma}
 use Rattle.c_syntax.specs.Expressions.{type_of}
 use Rattle.c_syntax.specs.Programs.{StructType}
+use Rattle.c_syntax.specs.Layouts.{size_of}
 use Rattle.c_model.specs.Integers.{convert, integer_type, operate, operate_one, truth}
-use Rattle.c_model.specs.Layouts.{size_of}
 use Rattle.c_model.specs.Meaning.{is_array}
 use Rattle.c_model.specs.ExpressionTyping.{most_bytes}
 use Rattle.c_expression_rules.specs.Limits.{small}

@@ -1,5 +1,5 @@
 -- Ours: sizes as the code has them, where they are within the limit (C99 5.2.4.1).
-use Rattle.std.specs.Prelude.{ℕ, zero, suc, ◌*◌, nat_le, cond, Option, Some, None}
+use Rattle.std.specs.Prelude.{ℕ, nat_le, cond, Option, Some, None}
 use Rattle.c_model.specs.ExpressionTyping as plain
 use Rattle.c_model.specs.ExpressionTyping.{most_bytes}
 use Rattle.c_expression_rules.specs.declared.limits.KnownSize.{KnownSize}
@@ -13,9 +13,3 @@ plain_sized code.NotYet = plain.NotYet
 -- a size within the limit
 abbrev pub small : ℕ → Option ℕ
 small n = cond (nat_le n most_bytes) (Some n) None
-
--- so many times a size
-abbrev pub times : ℕ → Option ℕ → Option ℕ
-times zero size = Some 0
-times (suc n) None = None
-times (suc n) (Some size) = small (suc n * size)

@@ -2,7 +2,8 @@
 
 ghost use Rattle.std.specs.Prelude.{◌≡◌, ℕ, ◌^◌, Some, ◌+ℤ◌, ◌-ℤ◌, ◌*ℤ◌, suc, ◌-◌, ◌*◌, ◌<◌, pos, negsuc, nat_le, if◌then◌else◌};
 ghost use Rattle.c_syntax.specs.Ctypes.{plain_type};
-ghost use Rattle.c_model.specs.Integers.{bits_of, convert, int_size, operate, operate_in};
+ghost use Rattle.c_syntax.specs.Layouts.{int_size};
+ghost use Rattle.c_model.specs.Integers.{bits_of, convert, operate, operate_in};
 ghost use Rattle.c_model.specs.Integers.{operate_one, operate_one_in, remainder_in, result_in, result_of, truth};
 ghost use Rattle.c_model.specs.Operators.{quotient};
 ghost use Rattle.c_expression_rules.specs.Shifts.{shift_count, shifted_left, shifted_right};

@@ -1,11 +1,9 @@
 //! Names and calls (C99 6.5.1, 6.5.2.2), and members of structs (C99 6.5.2.3).
 
-ghost use Rattle.std.specs.Prelude.{◌≡◌, ℕ, IfErr, IfOk, map, option_map};
+ghost use Rattle.std.specs.Prelude.{◌≡◌, ℕ, IfErr, IfOk, map};
 ghost use Rattle.c_syntax.specs.Ctypes.{Ptr, Void, plain_type};
 ghost use Rattle.c_syntax.specs.Expressions.{Arrow, Call, Dot, Node, plain_expr, plain_exprs, plain_kind};
-ghost use Rattle.c_syntax.specs.Programs.{plain_layout, plain_member};
 ghost use Rattle.c_model.specs.Checked.{one_part};
-ghost use Rattle.c_model.specs.Layouts.{member_among, members_of};
 ghost use Rattle.c_model.specs.ExpressionTyping.{arrow, call, callee, dot, is_null_word, library_name, member, named, no_function, use_as};
 ghost use Rattle.c_expression_rules.specs.Answers.{Answers, IsRefusal};
 ghost use Rattle.c_expression_rules.specs.Callees.{callable, known_params, library_callee};
@@ -21,7 +19,8 @@ use crate::operator::{has_size, put};
 use crate::sight::{Sight, name_at};
 use crate::signature::{Signature, copy_signature};
 use c_syntax::copy::copy_type;
-use c_syntax::{CInt, CType, Expr, ExprKind, Layout, Member, Place, Use};
+use c_syntax::layout::{member_among, members_of};
+use c_syntax::{CInt, CType, Expr, ExprKind, Place, Use};
 use std::alloc::{AllocError, Global};
 
 /// Whether the name is `NULL`.
@@ -210,33 +209,6 @@ pub fn known_params(callee: &Result<Signature, TypeFault>) -> &[CType]
         Ok(f) => &f.params,
         Err(_) => &[],
     }
-}
-
-/// The members of a struct.
-pub fn members_of<'a>(structs: &'a [Layout], t: &CType) -> &'a [Member]
-    ensures { map plain_member result.now ≡ members_of (map plain_layout structs.now) (plain_type t.now) }
-{
-    match t {
-        CType::Struct(n) => match structs.get(*n as usize) {
-            Some(layout) => &layout.members,
-            None => &[],
-        },
-        _ => &[],
-    }
-}
-
-/// The member of a name.
-pub fn member_among(members: &[Member], name: u32) -> Option<&Member>
-    ensures { option_map (λ m. plain_member m.now) result ≡ member_among name (map plain_member members.now) }
-{
-    let mut rest = members;
-    'turn: while let [m, after @ ..] = rest {
-        if m.name == name {
-            return Some(m);
-        }
-        rest = after;
-    }
-    None
 }
 
 /// The type of a member of a struct whose members are known (C99 6.5.2.3).

@@ -1,15 +1,16 @@
 //! Whether the size of a type is known (C99 6.2.5 p1), and the limits on types (C99 5.2.4.1).
 
 ghost use Rattle.std.specs.Prelude.{◌≡◌, IfOk, map, nat_le, slice_get};
-ghost use Rattle.c_syntax.specs.Ctypes.{plain_length, plain_type};
+ghost use Rattle.c_syntax.specs.Ctypes.{plain_type};
 ghost use Rattle.c_syntax.specs.Programs.{plain_layout};
-ghost use Rattle.c_model.specs.Layouts.{count_of, size_of, size_of_struct};
+ghost use Rattle.c_syntax.specs.Layouts.{size_of};
 ghost use Rattle.c_model.specs.ExpressionTyping.{has_small_parts, is_known, is_within_limits, levels_behind_pointer, levels_of, sized};
-ghost use Rattle.c_expression_rules.specs.Limits.{plain_sized, small, times};
+ghost use Rattle.c_expression_rules.specs.Limits.{plain_sized, small};
 ghost use Rattle.c_expression_rules.specs.Sights.{plain_sight};
 
 use crate::sight::{Sight, number_at};
-use c_syntax::{CInt, CType, Layout, Length};
+use c_syntax::layout::checked_size;
+use c_syntax::{CType, Layout, Length};
 use std::alloc::AllocError;
 
 /// How many pointers and arrays may stand around one another in a type.
@@ -91,62 +92,17 @@ fn is_shallow(levels: &[u32], t: &CType, most: u32) -> bool
 }
 
 /// A size, where it is within the limit.
-fn small(n: u64) -> Option<u32>
+fn small(n: u32) -> Option<u32>
     ensures { result ≡ small n }
 {
-    if n <= u64::from(MOST_BYTES) {
-        Some(n as u32)
-    } else {
-        None
-    }
-}
-
-/// The count of an array, where it is there.
-fn count_of(n: &Length) -> u32
-    ensures { result ≡ count_of (plain_length n.now) }
-{
-    match n {
-        Length::Count(n) => *n,
-        Length::Left | Length::Written(_) => 0,
-    }
-}
-
-/// The size of a struct, 0 where there is none of this number.
-fn size_of_struct(structs: &[Layout], n: u32) -> u32
-    ensures { result ≡ size_of_struct (slice_get (map plain_layout structs.now) n) }
-{
-    match structs.get(n as usize) {
-        Some(layout) => layout.size,
-        None => 0,
-    }
-}
-
-/// So many times a size, where that is within the limit.
-fn times(count: u32, size: Option<u32>) -> Option<u32>
-    ensures { result ≡ times count size }
-{
-    if count == 0 {
-        return Some(0);
-    }
-    match size {
-        None => None,
-        Some(size) => small(u64::from(count) * u64::from(size)),
-    }
+    if n <= MOST_BYTES { Some(n) } else { None }
 }
 
 /// The size of a type, where it is within the limit.
 pub fn small_size(structs: &[Layout], t: &CType) -> Option<u32>
     ensures { result ≡ small (size_of (map plain_layout structs.now) (plain_type t.now)) }
 {
-    match t {
-        CType::Int(CInt::I8 | CInt::U8) => Some(1),
-        CType::Int(CInt::I16 | CInt::U16) => Some(2),
-        CType::Int(CInt::I32 | CInt::U32) => Some(4),
-        CType::Int(CInt::I64 | CInt::U64) | CType::Ptr(_) => Some(8),
-        CType::Array(t, n) => times(count_of(n), small_size(structs, t)),
-        CType::Struct(n) => small(u64::from(size_of_struct(structs, *n))),
-        CType::Void | CType::Named(_) | CType::StructTag(_) | CType::EnumTag(_, _) => Some(0),
-    }
+    small(checked_size(structs, t)?)
 }
 
 /// Whether a type and the types in it have few enough bytes.

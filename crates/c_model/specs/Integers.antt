@@ -9,18 +9,8 @@ use Rattle.c_syntax.specs.declared.expression.UnOp.TheVariants.{Plus, Minus, Not
 use Rattle.c_syntax.specs.declared.expression.BinOp.{BinOp}
 use Rattle.c_syntax.specs.declared.expression.BinOp.TheVariants.{Add, Sub, Mul, Div, Rem, Shl, Shr, BitAnd, BitOr, BitXor, Eq, Ne, Lt, Le, Gt, Ge}
 use Rattle.c_syntax.specs.Ctypes.{PlainType, Void, Int, Ptr, Array, Struct, Named, StructTag, EnumTag}
+use Rattle.c_syntax.specs.Layouts.{int_size}
 use Rattle.c_model.specs.Operators.{quotient, remainder, shift_left, shift_right, complement, bitwise_and, bitwise_or, bitwise_xor}
-
--- the bytes of an integer type
-abbrev pub int_size : CInt → ℕ
-int_size I8 = 1
-int_size U8 = 1
-int_size I16 = 2
-int_size U16 = 2
-int_size I32 = 4
-int_size U32 = 4
-int_size I64 = 8
-int_size U64 = 8
 
 abbrev pub is_signed : CInt → Bool
 is_signed I8 = true

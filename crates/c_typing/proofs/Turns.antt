@@ -5,7 +5,7 @@ use Rattle.c_syntax.specs.Ctypes.{PlainType}
 use Rattle.c_syntax.specs.Expressions.{Expression}
 use Rattle.c_syntax.specs.Statements.{Declaration}
 use Rattle.c_syntax.specs.Programs.{StructMember, StructType, EnumConstant, EnumType, Function, TranslationUnit}
-use Rattle.c_model.specs.Layouts.{member_among}
+use Rattle.c_syntax.specs.Layouts.{member_among}
 use Rattle.c_model.specs.Library.{is_there}
 use Rattle.c_model.specs.Checked.{Checked, Good, Bad, one_part, both_parts, where_so}
 use Rattle.c_model.specs.ExpressionTyping.{no_name, Sight, with_object}

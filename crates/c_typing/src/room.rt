@@ -5,7 +5,7 @@ ghost use Rattle.c_syntax.specs.RefusalCodes.{globals_code};
 ghost use Rattle.c_syntax.specs.declared.place.Place.{Place};
 ghost use Rattle.c_syntax.specs.Programs.{plain_layout, plain_program, plain_text};
 ghost use Rattle.c_syntax.specs.Statements.{plain_decl};
-ghost use Rattle.c_model.specs.Layouts.{size_of};
+ghost use Rattle.c_syntax.specs.Layouts.{size_of};
 ghost use Rattle.c_model.specs.Limits.{globals_bytes};
 ghost use Rattle.c_model.specs.UnitTyping.{room_fault, room_fault_from};
 ghost use Rattle.c_expression_rules.specs.Answers.{plain_fault};

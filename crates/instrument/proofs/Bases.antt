@@ -5,7 +5,7 @@ use Rattle.c_syntax.specs.declared.expression.UnOp.TheVariants as prefix
 use Rattle.c_syntax.specs.Ctypes.{PlainType}
 use Rattle.c_syntax.specs.Programs.{StructType}
 use Rattle.c_syntax.specs.Expressions.{Expression, Node, Number, Letter, Variable, Unary, Binary, Both, Either, Choice, Assign, Bump, Call, Cast, SizeOfType, SizeOfExpr, Text, Index, Dot, Arrow, Comma, type_of}
-use Rattle.c_model.specs.Layouts.{PointerType, scalar_of, offset_of, target_of}
+use Rattle.c_syntax.specs.Layouts.{PointerType, scalar_of, offset_of, target_of}
 use Rattle.c_model.specs.Memory.{Pointer, Null, Into, Value, Points, shifted}
 use Rattle.c_model.specs.State.{State, Normal, Stop, Over, Undefined, on_outcome}
 use Rattle.c_model.specs.Meaning.{Tables, tables_of, place_with, is_member, pointed_to, member}

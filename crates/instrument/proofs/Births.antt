@@ -8,7 +8,7 @@ use Rattle.c_syntax.specs.declared.types.Segment.{Segment}
 use Rattle.c_syntax.specs.declared.types.Segment.TheVariants as segment
 use Rattle.c_syntax.specs.Programs.{StructType}
 use Rattle.c_syntax.specs.Statements.{Declaration}
-use Rattle.c_model.specs.Layouts.{size_of}
+use Rattle.c_syntax.specs.Layouts.{size_of}
 use Rattle.c_model.specs.Formed.{number_of}
 use Rattle.c_model.specs.Memory.{Into, Value, Points, Unwritten, Store, new_block, full_at_stack_birth, standard_sizes, greatest_number, rounded, stack_taken}
 use Rattle.c_model.specs.State.{State, Scope, Normal, on_outcome, birth_of, births, find}

@@ -9,8 +9,8 @@ use Rattle.c_syntax.specs.Expressions.{Expressions}
 use Rattle.c_syntax.specs.Statements.{Declaration, Statement, Empty, Eval, Block, If, While, Do, For, Break, Continue, Return, BlockItems}
 use Rattle.c_syntax.specs.Programs.{Function, StringLiteral, TranslationUnit}
 use Rattle.c_syntax.specs.declared.types.CInt.TheVariants.{U64}
+use Rattle.c_syntax.specs.Layouts.{size_of}
 use Rattle.c_model.specs.Integers.{fits}
-use Rattle.c_model.specs.Layouts.{size_of}
 use Rattle.c_model.specs.Memory.{Value, Points, Into, Store}
 use Rattle.c_model.specs.State.{State}
 use Rattle.c_model.specs.Meaning.{text_at, Callee, Tables, tables_of, global_scope, items_with, body_with, declared_in, is_definition}

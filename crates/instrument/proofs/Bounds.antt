@@ -4,8 +4,8 @@ use Rattle.std.proofs.Common.{take, drop, replicate, Option, Some, None, option_
 use Rattle.std.proofs.Math.Nat.{mod-eq_of_lt, pow-suc}
 use Rattle.std.specs.Prelude.{slice_get, slice_set}
 use Rattle.c_syntax.specs.declared.types.CInt.{CInt}
-use Rattle.c_model.specs.Integers.{int_size, fits, bits_of, value_of_bits}
-use Rattle.c_model.specs.Layouts.{Scalar, IntegerType, PointerType, scalar_size}
+use Rattle.c_syntax.specs.Layouts.{int_size, Scalar, IntegerType, PointerType, scalar_size}
+use Rattle.c_model.specs.Integers.{fits, bits_of, value_of_bits}
 use Rattle.c_model.specs.Memory.{Pointer, Null, Into, Value, Integer, Points, Byte, Unwritten, Number, Piece, LoosePiece, Block, Store, with_low_byte, number_of, bytes_of, pieces, are_pieces, null_of, pointer_of, value_from, bytes_from}
 use Rattle.c_model.specs.Memory.{is_accessible, is_literal, bytes_in, load_bytes, load, with_bytes, saved_block, with_block, save_bytes, save, loosened, shifted, copied, copy, copy_all}
 use Rattle.c_model.specs.Memory.{◌>>=◌ as bind}

@@ -10,10 +10,10 @@ use Rattle.c_syntax.specs.Ctypes.{PlainType, Void, Int, Ptr, int_type}
 use Rattle.c_syntax.specs.Expressions.{Expressions}
 use Rattle.c_syntax.specs.Statements.{Declaration}
 use Rattle.c_syntax.specs.Programs.{Function, TranslationUnit}
+use Rattle.c_syntax.specs.Layouts.{IntegerType, PointerType}
 use Rattle.c_model.specs.Memory.{Value, Store}
 use Rattle.c_model.specs.State.{State, Spent, Over, Stop, Evaluation, ◌>>◌, on_outcome, step_from, frame, alone, mark, within}
 use Rattle.c_model.specs.Meaning.{Tables, tables_of, is_definition, global_scope, is_of_library, definition_at, call_with, call_of, library_call, parameters, returned_by, body_with}
-use Rattle.c_model.specs.Layouts.{IntegerType, PointerType}
 use Rattle.c_model.specs.ExpressionTyping.{Sight, Signature, name_at, library_function, of_library, inner}
 use Rattle.c_model.specs.UnitTyping.{types_of}
 use Rattle.c_model.specs.TypedTrees.{HaveTypes, Calls, IsScalar}

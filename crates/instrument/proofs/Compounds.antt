@@ -5,9 +5,9 @@ use Rattle.c_syntax.specs.declared.types.CInt.{CInt}
 use Rattle.c_syntax.specs.declared.expression.BinOp.{BinOp}
 use Rattle.c_syntax.specs.Ctypes.{PlainType, Int, Ptr}
 use Rattle.c_syntax.specs.Programs.{StructType}
+use Rattle.c_syntax.specs.Layouts.{Scalar, IntegerType, PointerType, scalar_of, size_of}
 use Rattle.c_model.specs.Integers.{fits, convert, operate_in}
 use Rattle.c_model.specs.Conversions.{operation_type, is_shift}
-use Rattle.c_model.specs.Layouts.{Scalar, IntegerType, PointerType, scalar_of, size_of}
 use Rattle.c_model.specs.Memory.{Value, Integer, Store}
 use Rattle.c_model.specs.State.{State, Normal, Stop, Over, Undefined, defined, computed}
 use Rattle.c_model.specs.Meaning.{compound, converted, operate_values}

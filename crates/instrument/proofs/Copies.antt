@@ -3,7 +3,7 @@ use Rattle.std.proofs.Common.{◌≡◌, ℕ, ◌+◌, List, [], ◌∷◌, Opti
 use Rattle.std.proofs.lemmas.List.{append-nil}
 use Rattle.c_syntax.specs.declared.place.Place.{Place}
 use Rattle.c_syntax.specs.declared.types.CInt.TheVariants.{I8, U8, I16, U16, I32, U32, I64, U64}
-use Rattle.c_model.specs.Layouts.{Scalar, IntegerType, PointerType, scalar_size}
+use Rattle.c_syntax.specs.Layouts.{Scalar, IntegerType, PointerType, scalar_size}
 use Rattle.c_model.specs.Memory.{Pointer, Value, Points, Store, copy, copy_all, shifted}
 use Rattle.c_model.specs.HeapLaws.{sizes_of}
 use Rattle.c_model.proofs.StructCopies.{first_copy}

@@ -9,7 +9,7 @@ use Rattle.c_syntax.specs.declared.expression.BumpOp.{BumpOp}
 use Rattle.c_syntax.specs.declared.types.CInt.TheVariants.{I32}
 use Rattle.c_syntax.specs.Ctypes.{PlainType, int_type}
 use Rattle.c_syntax.specs.Expressions.{Expression, Node, Assign, Bump, Call, Expressions, type_of}
-use Rattle.c_model.specs.Layouts.{Scalar, IntegerType, PointerType, scalar_of, scalars_of}
+use Rattle.c_syntax.specs.Layouts.{Scalar, IntegerType, PointerType, scalar_of, scalars_of}
 use Rattle.c_model.specs.Memory.{Pointer, Value, Integer, NoValue, Points, load, shifted}
 use Rattle.c_model.specs.State.{State, Outcome, Normal, Stop, Over, Undefined, Evaluation, on_outcome, ◌>>=◌, ◌>>◌, give, done, defined, write, read, computed, as_scalar, copy_object}
 use Rattle.c_model.specs.HeapLaws.{sizes_of}

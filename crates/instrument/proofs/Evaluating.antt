@@ -4,7 +4,7 @@ use Rattle.std.proofs.Common.{◌≡◌, ℕ, suc, ◌<◌, ◌≤◌, ℤ, pos,
 use Rattle.std.specs.Ordering.{int_eq}
 use Rattle.std.specs.Prelude.{slice_set}
 use Rattle.c_syntax.specs.declared.place.Place.{Place}
-use Rattle.c_model.specs.Layouts.{Scalar}
+use Rattle.c_syntax.specs.Layouts.{Scalar}
 use Rattle.c_model.specs.Memory.{Pointer, Value, Integer, Points}
 use Rattle.c_model.specs.State.{State, Outcome, Normal, Stop, Over, Undefined, Evaluation, on_outcome, ◌>>=◌}
 use Rattle.c_model.specs.Meaning.{choose, is_zero}

@@ -8,11 +8,11 @@ use Rattle.c_syntax.specs.Expressions.{Expression, Node, Number, Letter, Text, V
 use Rattle.c_model.specs.Integers.{operate, operate_in}
 use Rattle.c_model.specs.Conversions.{promoted, is_shift, is_relation}
 use Rattle.c_model.specs.Laws.{type_of_result}
-use Rattle.c_model.specs.Layouts.{Scalar, IntegerType, scalar_of}
 use Rattle.c_model.specs.ExpressionTyping.{is_place, has_object, is_struct, Sight}
 use Rattle.c_model.specs.TypedTrees.{OnIntegers, CompoundTypes, ToInteger, ToPointer}
 use Rattle.c_syntax.specs.declared.expression.BumpOp.{BumpOp}
 use Rattle.c_syntax.specs.declared.expression.BumpOp.TheVariants.{PreUp, PreDown, PostUp, PostDown}
+use Rattle.c_syntax.specs.Layouts.{Scalar, IntegerType, scalar_of}
 use Rattle.c_model.specs.Meaning.{bump_operator}
 
 pub same_int_type : (k l : CInt) → Int k ≡ Int l → k ≡ l

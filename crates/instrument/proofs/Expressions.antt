@@ -14,10 +14,10 @@ use Rattle.c_syntax.specs.declared.expression.BinOp.{BinOp}
 use Rattle.c_syntax.specs.declared.expression.BinOp.TheVariants as operator
 use Rattle.c_syntax.specs.Ctypes.{PlainType, Int, Ptr, Array}
 use Rattle.c_syntax.specs.Expressions.{Expression, Node, Number, Letter, Variable, Unary, Binary, Both, Either, Choice, Assign, Bump, Call, Cast, SizeOfType, SizeOfExpr, Text, Index, Dot, Arrow, Comma, place_of, type_of}
+use Rattle.c_syntax.specs.Layouts.{Scalar, IntegerType, PointerType, scalar_of, size_of, offset_of, target_of}
 use Rattle.c_model.specs.Integers.{fits, convert, truth, operate, operate_one}
 use Rattle.c_model.specs.Conversions.{promoted}
 use Rattle.c_model.specs.Laws.{type_of_result}
-use Rattle.c_model.specs.Layouts.{Scalar, IntegerType, PointerType, scalar_of, size_of, offset_of, target_of}
 use Rattle.c_model.specs.Memory.{Null, Into, Value, Integer, Points}
 use Rattle.c_model.specs.State.{State, Outcome, Normal, Stop, Evaluation, on_outcome, ◌>>=◌, give, defined, computed, object, start_of, read_any, find}
 use Rattle.c_model.specs.Meaning.{Tables, tables_of, eval_with, place_with, truth_value, is_zero, operate_value, operate_values, unit_of, converted, value_as, named, is_array, is_of_library, is_member, address, pointed_to, member, literal, choose}

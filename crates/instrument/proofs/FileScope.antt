@@ -7,8 +7,8 @@ use Rattle.c_syntax.specs.declared.place.Place.{Place}
 use Rattle.c_syntax.specs.declared.types.CInt.TheVariants.{U64}
 use Rattle.c_syntax.specs.Statements.{Declaration}
 use Rattle.c_syntax.specs.Programs.{StructType, StringLiteral, TranslationUnit}
+use Rattle.c_syntax.specs.Layouts.{size_of}
 use Rattle.c_model.specs.Integers.{fits}
-use Rattle.c_model.specs.Layouts.{size_of}
 use Rattle.c_model.specs.Limits.{globals_bytes}
 use Rattle.c_model.specs.Memory.{rounded}
 use Rattle.c_model.specs.Memory.{Number as NumberByte}

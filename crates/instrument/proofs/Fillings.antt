@@ -5,8 +5,8 @@ use Rattle.c_syntax.specs.declared.place.Place.{Place}
 use Rattle.c_syntax.specs.Ctypes.{PlainType}
 use Rattle.c_syntax.specs.Expressions.{Expression, Node, Call, Cast, type_of}
 use Rattle.c_syntax.specs.Statements.{Initialiser, One, Many, Initialisers, NoInitialiser, Listed}
+use Rattle.c_syntax.specs.Layouts.{Scalar, scalar_of, size_of}
 use Rattle.c_model.specs.Library.{is_there}
-use Rattle.c_model.specs.Layouts.{Scalar, scalar_of, size_of}
 use Rattle.c_model.specs.Memory.{Pointer, Into, Value, Points, shifted}
 use Rattle.c_model.specs.State.{State, Evaluation, on_outcome, as_scalar, write}
 use Rattle.c_model.specs.Meaning.{Tables, tables_of, eval_with, string_in, text_at, padded, write_each, zero_parts, parts_or_itself, fill, fill_one, fill_parts}

@@ -4,7 +4,7 @@ use Rattle.std.proofs.lemmas.List.{append-nil}
 use Rattle.std.specs.Ordering.{int_eq}
 use Rattle.c_syntax.specs.declared.place.Place.{Place}
 use Rattle.c_syntax.specs.Ctypes.{PlainType}
-use Rattle.c_model.specs.Layouts.{Scalar, scalar_of}
+use Rattle.c_syntax.specs.Layouts.{Scalar, scalar_of}
 use Rattle.c_model.specs.Memory.{Pointer, Value, Integer, Points, kill_from}
 use Rattle.c_model.specs.State.{State, Scope, Final, Fault, Undefined, Leaves, Over, Outcome, Normal, Stop, Evaluation, on_outcome, find}
 use Rattle.c_model.specs.State as source

@@ -6,8 +6,8 @@ use Rattle.c_syntax.specs.declared.types.CInt.{CInt}
 use Rattle.c_syntax.specs.declared.expression.Use.{Use}
 use Rattle.c_syntax.specs.Ctypes.{PlainType, Int, Ptr}
 use Rattle.c_syntax.specs.Expressions.{Expression, Node, Call, Cast, Expressions, NoExpression, Following, type_of}
+use Rattle.c_syntax.specs.Layouts.{Scalar, IntegerType, PointerType, scalar_of}
 use Rattle.c_model.specs.Integers.{convert}
-use Rattle.c_model.specs.Layouts.{Scalar, IntegerType, PointerType, scalar_of}
 use Rattle.c_model.specs.Memory.{Null, Value}
 use Rattle.c_model.specs.State.{State, Outcome, Normal, Stop, Over, Undefined, Evaluation, on_outcome, ◌>>=◌, give}
 use Rattle.c_model.specs.Meaning.{Tables, tables_of, eval_with, evals_with, place_with, address, converted, is_array}

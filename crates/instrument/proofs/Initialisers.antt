@@ -4,8 +4,8 @@ use Rattle.c_syntax.specs.declared.place.Place.{Place}
 use Rattle.c_syntax.specs.Ctypes.{PlainType}
 use Rattle.c_syntax.specs.Expressions.{Expression, type_of}
 use Rattle.c_syntax.specs.Statements.{Declaration, One}
+use Rattle.c_syntax.specs.Layouts.{Scalar, scalar_of}
 use Rattle.c_model.specs.Library.{is_there}
-use Rattle.c_model.specs.Layouts.{Scalar, scalar_of}
 use Rattle.c_model.specs.Memory.{Pointer, Into, Value, Points}
 use Rattle.c_model.specs.State.{State, on_outcome, as_scalar, write, defined, start_of, find}
 use Rattle.c_model.specs.Meaning.{Tables, tables_of, eval_with, string_in, fill, fill_one, initialise}

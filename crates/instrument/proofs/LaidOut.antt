@@ -2,7 +2,7 @@
 use Rattle.std.proofs.Common.{◌≡◌, ℕ, ◌+◌, ◌≤◌, true, nat_le, List, [], ◌∷◌, sym, subst, arith}
 use Rattle.std.proofs.lemmas.Bool.Decides.{nat_tests}
 use Rattle.c_syntax.specs.Programs.{StructMember, StructType}
-use Rattle.c_model.specs.Layouts.{aligned, size_of, align_of}
+use Rattle.c_syntax.specs.Layouts.{aligned, size_of, align_of}
 use Rattle.c_model.specs.DeclarationTyping.{placed_from, end_of, widest, laid_out}
 use Rattle.c_model.specs.TypedPrograms.{IsLaidOut, AreLaidOut}
 use Rattle.c_model.proofs.ScalarOrder.{aligned_above, widest_some, laid_at, align_some}

@@ -6,7 +6,7 @@ use Rattle.std.proofs.lemmas.Bool.Decides.{nat_tests}
 use Rattle.c_syntax.specs.Ctypes.{PlainType}
 use Rattle.c_syntax.specs.Programs.{StructType, TranslationUnit}
 use Rattle.c_syntax.specs.Statements.{Declaration, Statement, Empty, Eval, Block, If, While, Do, For, Break, Continue, Return, ElsePart, NoElse, Else, ForFirst, NoFirst, First, Declare, Run, Asserts, BlockItems, NoItem, Then}
-use Rattle.c_model.specs.Layouts.{size_of}
+use Rattle.c_syntax.specs.Layouts.{size_of}
 use Rattle.c_model.specs.Meaning.{global_scope, declared_in, declared_first}
 use Rattle.c_model.specs.Formed.{number_of, declared_within, declared_in_else, declared_in_first, declared_in_items}
 use Rattle.c_model.specs.ExpressionTyping.{Sight, inner, with_object, with_objects}

@@ -8,7 +8,7 @@ use Rattle.c_syntax.specs.declared.types.Segment.{Segment}
 use Rattle.c_syntax.specs.Ctypes.{PlainType, Int, Ptr as PointerTo}
 use Rattle.c_syntax.specs.Programs.{StructType}
 use Rattle.c_syntax.specs.Statements.{Declaration}
-use Rattle.c_model.specs.Layouts.{Scalar, scalar_of, size_of}
+use Rattle.c_syntax.specs.Layouts.{Scalar, scalar_of, size_of}
 use Rattle.c_model.specs.TypedTrees.{IsScalar}
 use Rattle.c_model.specs.Formed.{number_of}
 use Rattle.c_model.specs.Memory.{Value, Points, Into, Store, save}

@@ -3,7 +3,7 @@ use Rattle.std.proofs.Common.{◌≡◌, ℕ, zero, suc, ◌+◌, ◌*◌, ◌�
 use Rattle.c_syntax.specs.Ctypes as source_type
 use Rattle.c_syntax.specs.Ctypes.{PlainType, Void, Int, Array, Struct}
 use Rattle.c_syntax.specs.Programs.{StructMember, StructType}
-use Rattle.c_model.specs.Layouts.{Scalar, scalar_size, size_of, count_of, offset_of, member_among, member_offset, members_of, members_of_struct, size_of_struct, elements, member_parts, in_each, in_members, scalars_from, scalars_of}
+use Rattle.c_syntax.specs.Layouts.{Scalar, scalar_size, size_of, count_of, offset_of, member_among, member_offset, members_of, members_of_struct, size_of_struct, elements, member_parts, in_each, in_members, scalars_from, scalars_of}
 use Rattle.c_model.specs.Meaning.{Tables, parts_or_itself}
 
 -- ---- structs

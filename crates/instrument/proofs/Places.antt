@@ -8,10 +8,10 @@ use Rattle.c_syntax.specs.declared.expression.BinOp.TheVariants as operator
 use Rattle.c_syntax.specs.Ctypes.{PlainType}
 use Rattle.c_syntax.specs.Expressions.{Expression, place_of}
 use Rattle.c_syntax.specs.Programs.{StructType}
+use Rattle.c_syntax.specs.Layouts.{Scalar, IntegerType, PointerType, scalar_of}
 use Rattle.c_model.specs.Integers.{fits, truth}
 use Rattle.c_model.specs.Operators.{quotient}
 use Rattle.c_model.specs.Conversions.{is_relation}
-use Rattle.c_model.specs.Layouts.{Scalar, IntegerType, PointerType, scalar_of}
 use Rattle.c_model.specs.Memory.{Pointer, Null, Into, Value, Integer, Points, load, moved, distance, apart, live_size, block_at, equal_pointers, tested_value}
 use Rattle.c_model.specs.State.{State, Outcome, Normal, Stop, Evaluation, on_outcome, give, defined, computed, read, read_any, tested}
 use Rattle.c_model.specs.Meaning.{pointed_to, member, address, is_member, unit_of, is_zero, operate_values, elements_between}

@@ -6,9 +6,9 @@ use Rattle.c_syntax.specs.declared.types.CInt.TheVariants.{I8, U8, I16, U16, I32
 use Rattle.c_syntax.specs.declared.expression.BinOp.{BinOp}
 use Rattle.c_syntax.specs.declared.expression.BinOp.TheVariants as operator
 use Rattle.c_syntax.specs.Ctypes.{PlainType, Int, Ptr}
+use Rattle.c_syntax.specs.Layouts.{Scalar, IntegerType, PointerType, scalar_of}
 use Rattle.c_model.specs.Integers.{fits, convert, truth}
 use Rattle.c_model.specs.Conversions.{is_relation}
-use Rattle.c_model.specs.Layouts.{Scalar, IntegerType, PointerType, scalar_of}
 use Rattle.c_model.specs.Memory.{Pointer, Null, Into, Value, Integer, Points, load, moved, equal_pointers, is_usable, same_pointer, is_some_place, tested_value, shifted}
 use Rattle.c_model.specs.Meaning.{is_zero}
 use Rattle.c_model.specs.Meaning as source

@@ -4,8 +4,8 @@ use Rattle.std.proofs.lemmas.Bool.{lt-ltb, le-leb, leb-true}
 use Rattle.std.proofs.lemmas.Bool.Decides.{nat_tests}
 use Rattle.std.specs.Prelude.{slice_get}
 use Rattle.c_syntax.specs.declared.types.CInt.TheVariants.{I64}
+use Rattle.c_syntax.specs.Layouts.{Scalar, scalar_size}
 use Rattle.c_model.specs.Integers.{fits, convert}
-use Rattle.c_model.specs.Layouts.{Scalar, scalar_size}
 use Rattle.c_model.specs.Memory.{Pointer, Null, Into, Value, Byte, Block, Store, block_at, live_size, is_accessible, is_literal, bytes_in, load_bytes, load, value_from, copied}
 use Rattle.c_model.specs.Memory.{copy, shifted, with_bytes, saved_block, with_block, save_bytes, moved, offset_in}
 use Rattle.c_model.specs.Memory.{◌>>=◌ as bind}

@@ -10,9 +10,9 @@ use Rattle.c_syntax.specs.declared.types.CInt.{CInt}
 use Rattle.c_syntax.specs.declared.types.CInt.TheVariants.{I32, I64, U64}
 use Rattle.c_syntax.specs.Ctypes.{PlainType, Int, Ptr, Array, Void, int_type}
 use Rattle.c_syntax.specs.Expressions.{Expression, Node, Number, Letter, Variable, Unary, Binary, Both, Either, Choice, Assign, Bump, Call, Cast, SizeOfType, SizeOfExpr, Text, Index, Dot, Arrow, Comma, place_of, type_of}
+use Rattle.c_syntax.specs.Layouts.{Scalar, IntegerType, PointerType, scalar_of, scalar_size, offset_of, target_of}
 use Rattle.c_model.specs.Conversions.{is_relation}
 use Rattle.c_model.specs.Integers.{operate, operate_one, truth, value_of_bits}
-use Rattle.c_model.specs.Layouts.{Scalar, IntegerType, PointerType, scalar_of, scalar_size, offset_of, target_of}
 use Rattle.c_model.specs.Memory.{◌>>=◌ as memory_then, Store, Byte, Pointer, Null, Into, Value, Integer, Points, NoValue, load, load_bytes, value_from, pointer_of, number_of, moved, tested_value, distance, equal_pointers}
 use Rattle.c_model.specs.State.{State, Outcome, Normal, Stop, Over, Undefined, Evaluation, on_outcome, ◌>>=◌, give, stop, defined, computed, tested, read_any, find, start_of}
 use Rattle.c_model.specs.Meaning.{Tables, Callee, eval_with, place_with, condition_of, is_zero, choose, truth_value, operate_value, operate_values}

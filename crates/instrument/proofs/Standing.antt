@@ -3,8 +3,8 @@ use Rattle.std.proofs.Common.{◌≡◌, ℕ, ◌+◌, ◌^◌, ◌<◌, ◌≤�
 use Rattle.c_syntax.specs.Ctypes.{PlainType}
 use Rattle.c_syntax.specs.Programs.{StringLiteral, TranslationUnit}
 use Rattle.c_syntax.specs.declared.types.CInt.TheVariants.{U64}
+use Rattle.c_syntax.specs.Layouts.{Scalar, IntegerType, PointerType, size_of}
 use Rattle.c_model.specs.Integers.{fits}
-use Rattle.c_model.specs.Layouts.{Scalar, IntegerType, PointerType, size_of}
 use Rattle.c_model.specs.Memory.{Pointer, Null, Into, Value, Integer, Points, Byte, Unwritten, Number, Piece, LoosePiece, Store}
 use Rattle.c_model.specs.State.{State, Scope, find}
 use Rattle.c_model.specs.Meaning.{Callee, tables_of, text_at}

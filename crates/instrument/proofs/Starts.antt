@@ -5,8 +5,8 @@ use Rattle.std.proofs.lemmas.List.{length-append}
 use Rattle.c_syntax.specs.declared.types.BlockKind.TheVariants as block
 use Rattle.c_syntax.specs.Statements.{Declaration}
 use Rattle.c_syntax.specs.Programs.{StringLiteral, TranslationUnit}
+use Rattle.c_syntax.specs.Layouts.{size_of}
 use Rattle.c_model.specs.Formed.{number_of}
-use Rattle.c_model.specs.Layouts.{size_of}
 use Rattle.c_model.specs.Memory.{Into, Value, Points, block_of}
 use Rattle.c_model.specs.Memory.{Number as NumberByte}
 use Rattle.c_model.specs.State.{find}

@@ -6,7 +6,7 @@ use Rattle.c_syntax.specs.Annotations.{Annotation}
 use Rattle.c_syntax.specs.Expressions.{Expression, type_of}
 use Rattle.c_syntax.specs.Statements.{Declaration, Statement, Empty, Eval, Block, If, While, Do, For, Break, Continue, Return, ElsePart, NoElse, Else, ForFirst, NoFirst, First, Declare, Run, Asserts, BlockItems, NoItem, Then}
 use Rattle.c_syntax.specs.Programs.{TranslationUnit}
-use Rattle.c_model.specs.Layouts.{Scalar, scalar_of}
+use Rattle.c_syntax.specs.Layouts.{Scalar, scalar_of}
 use Rattle.c_model.specs.Memory.{Value, kill_from}
 use Rattle.c_model.specs.State.{State, Leaves, Returns, Outcome, Normal, Stop, Evaluation, on_outcome, ◌>>◌, stop, births, within, restored, tested}
 use Rattle.c_model.specs.State as state

@@ -4,7 +4,7 @@ use Rattle.std.proofs.lemmas.List.{append-nil}
 use Rattle.c_syntax.specs.declared.place.Place.{Place}
 use Rattle.c_syntax.specs.Ctypes.{PlainType}
 use Rattle.c_syntax.specs.Expressions.{Expression}
-use Rattle.c_model.specs.Layouts.{Scalar, IntegerType, PointerType, scalar_size, scalar_of}
+use Rattle.c_syntax.specs.Layouts.{Scalar, IntegerType, PointerType, scalar_size, scalar_of}
 use Rattle.c_model.specs.Memory.{Pointer, Value, Points, Store, save, bytes_from, shifted}
 use Rattle.c_model.specs.State.{State, defined, ◌>>=◌, put_store, write}
 use Rattle.c_model.specs.Meaning.{is_member}

@@ -3,8 +3,8 @@ use Rattle.std.proofs.Common.{◌≡◌, ℕ, zero, suc, ◌+◌, ◌%◌, ◌^�
 use Rattle.std.proofs.lemmas.Bool.{lt-ltb}
 use Rattle.c_syntax.specs.declared.place.Place.{Place}
 use Rattle.c_syntax.specs.declared.types.CInt.TheVariants.{U8}
+use Rattle.c_syntax.specs.Layouts.{IntegerType}
 use Rattle.c_model.specs.Integers.{fits}
-use Rattle.c_model.specs.Layouts.{IntegerType}
 use Rattle.c_model.specs.Memory.{Pointer, Null, Into, Value, Integer, Points, shifted}
 use Rattle.c_model.specs.Memory.{Number as NumberByte}
 use Rattle.c_model.specs.State.{State, write, write_bytes}

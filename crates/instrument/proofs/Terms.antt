@@ -15,8 +15,8 @@ use Rattle.c_syntax.specs.declared.annotation.Relation.{Relation}
 use Rattle.c_syntax.specs.declared.annotation.Relation.TheVariants as relation
 use Rattle.c_syntax.specs.Ctypes.{PlainType, Int}
 use Rattle.c_syntax.specs.Annotations.{LogicTerm, Number, Letter, Variable, Binary, Links, Chain, NoLink, Linked, ClauseBody, Truth}
-use Rattle.c_model.specs.Integers.{int_size, fits, truth, value_of_bits}
-use Rattle.c_model.specs.Layouts.{IntegerType}
+use Rattle.c_syntax.specs.Layouts.{int_size, IntegerType}
+use Rattle.c_model.specs.Integers.{fits, truth, value_of_bits}
 use Rattle.c_model.specs.Memory.{Into, Value, Integer, Byte, Store, number_of, value_from, load, load_bytes}
 use Rattle.c_model.specs.Memory.{◌>>=◌ as bind_loaded}
 use Rattle.c_model.specs.State.{State, Scope, find, start_of}

@@ -5,7 +5,7 @@ use Rattle.c_syntax.specs.declared.place.Place.{Place}
 use Rattle.c_syntax.specs.Statements.{Initialiser, Declaration, Block}
 use Rattle.c_syntax.specs.Statements.{BlockItems}
 use Rattle.c_syntax.specs.Programs.{Function, TranslationUnit}
-use Rattle.c_model.specs.Layouts.{size_of}
+use Rattle.c_syntax.specs.Layouts.{size_of}
 use Rattle.c_model.specs.Formed as form
 use Rattle.c_model.specs.Formed.{number_of, AreNamed, FunctionNamed}
 use Rattle.c_model.specs.Meaning.{is_definition}

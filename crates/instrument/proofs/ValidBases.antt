@@ -3,7 +3,7 @@ use Rattle.std.proofs.Common.{◌≡◌, ℕ, ◌+◌, ◌≤◌, Bool, true, if
 use Rattle.c_syntax.specs.Ctypes.{PlainType, Struct}
 use Rattle.c_syntax.specs.Expressions.{Expression, Node, Dot, Arrow, type_of}
 use Rattle.c_syntax.specs.Programs.{TranslationUnit}
-use Rattle.c_model.specs.Layouts.{size_of, offset_of, target_of, members_of, member_among}
+use Rattle.c_syntax.specs.Layouts.{size_of, offset_of, target_of, members_of, member_among}
 use Rattle.c_model.specs.Meaning.{is_member}
 use Rattle.c_model.specs.ExpressionTyping.{Sight}
 use Rattle.mon_syntax.specs.declared.tree.MonType.TheVariants.{Ptr}

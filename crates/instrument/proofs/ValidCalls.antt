@@ -11,6 +11,7 @@ use Rattle.c_syntax.specs.Ctypes.{PlainType, Void, Int, Ptr, int_type}
 use Rattle.c_syntax.specs.Expressions.{Expressions}
 use Rattle.c_syntax.specs.Statements.{Declaration}
 use Rattle.c_syntax.specs.Programs.{Function, TranslationUnit}
+use Rattle.c_syntax.specs.Layouts.{IntegerType, PointerType}
 use Rattle.c_model.specs.Meaning.{is_definition, is_of_library, definition_at}
 use Rattle.c_model.specs.ExpressionTyping.{name_at}
 use Rattle.c_model.specs.ExpressionTyping.{Signature as Known, Sight, or_else, library_function, of_library}
@@ -20,7 +21,6 @@ use Rattle.mon_syntax.specs.declared.tree.MonType.TheVariants.{I32}
 use Rattle.mon_syntax.specs.Trees.{MonExpression, MonFunction}
 use Rattle.mon_syntax.specs.Trees as tree
 use Rattle.mon_syntax.specs.Valid.{Types, Labels, Signature, TakesValue, AreArguments, IsExpression, IsCall, AreStatements, signature_of, types_of}
-use Rattle.c_model.specs.Layouts.{IntegerType, PointerType}
 use Rattle.c_model.specs.TypedTrees.{HaveTypes, Calls, IsScalar}
 use Rattle.c_effects.specs.Expressions.{value_type, one}
 use Rattle.instrument.specs.Translation.{function_name, index_of_main, result_of, value_types, arguments_from, function_of, functions_from, translated}

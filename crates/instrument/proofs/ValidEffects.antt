@@ -8,10 +8,10 @@ use Rattle.c_syntax.specs.declared.expression.Use.{Use}
 use Rattle.c_syntax.specs.Ctypes.{PlainType, Struct, int_type}
 use Rattle.c_syntax.specs.Expressions.{Expression, Node, Variable, Assign, Bump, Call, Cast, Expressions, NoExpression, Following, type_of}
 use Rattle.c_syntax.specs.Programs.{TranslationUnit}
+use Rattle.c_syntax.specs.Layouts.{Scalar, scalar_of, size_of, scalars_of}
 use Rattle.c_model.specs.Meaning.{bump_operator, is_array, is_member, is_of_library}
 use Rattle.c_model.specs.ExpressionTyping.{name_at}
 use Rattle.c_model.specs.ExpressionTyping.{Sight, is_place, has_object, is_struct, has_small_parts}
-use Rattle.c_model.specs.Layouts.{Scalar, scalar_of, size_of, scalars_of}
 use Rattle.mon_syntax.specs.declared.tree.MonType.{MonType}
 use Rattle.mon_syntax.specs.declared.tree.MonType.TheVariants.{I32, Ptr}
 use Rattle.mon_syntax.specs.declared.tree.MemoryCall.TheVariants.{Copy, Malloc, Calloc, Free}

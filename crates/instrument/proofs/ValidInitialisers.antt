@@ -8,8 +8,8 @@ use Rattle.c_syntax.specs.Ctypes.{PlainType}
 use Rattle.c_syntax.specs.Expressions.{Expression}
 use Rattle.c_syntax.specs.Statements.{Initialiser, One, Many, Initialisers, NoInitialiser, Listed}
 use Rattle.c_syntax.specs.Programs.{StructType, StringLiteral, TranslationUnit}
+use Rattle.c_syntax.specs.Layouts.{Scalar, IntegerType, PointerType, size_of, scalars_of}
 use Rattle.c_model.specs.Library.{is_there}
-use Rattle.c_model.specs.Layouts.{Scalar, IntegerType, PointerType, size_of, scalars_of}
 use Rattle.c_model.specs.Meaning.{string_in, text_at, parts_or_itself, tables_of}
 use Rattle.c_model.specs.ExpressionTyping.{Sight, tables_in}
 use Rattle.mon_syntax.specs.declared.tree.MonType.{MonType}

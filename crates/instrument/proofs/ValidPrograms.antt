@@ -12,7 +12,7 @@ use Rattle.c_syntax.specs.declared.types.CInt.TheVariants as c
 use Rattle.c_syntax.specs.Ctypes.{PlainType, Int, int_type}
 use Rattle.c_syntax.specs.Statements.{Initialiser, Declaration, Block}
 use Rattle.c_syntax.specs.Programs.{Function, TranslationUnit}
-use Rattle.c_model.specs.Layouts.{size_of}
+use Rattle.c_syntax.specs.Layouts.{size_of}
 use Rattle.c_model.specs.Formed.{FunctionNamed}
 use Rattle.c_model.specs.Meaning.{is_definition, declared_in}
 use Rattle.c_model.specs.ExpressionTyping.{name_at}

@@ -5,10 +5,10 @@ use Rattle.std.proofs.lemmas.List.{length-append, length-map, map-append}
 use Rattle.std.specs.Prelude.{bytes_eq}
 use Rattle.c_syntax.specs.Statements.{Declaration, Statement}
 use Rattle.c_syntax.specs.Programs.{StringLiteral, Function, TranslationUnit}
+use Rattle.c_syntax.specs.Layouts.{size_of}
 use Rattle.c_model.specs.ExpressionTyping.{name_at}
 use Rattle.std.proofs.lemmas.Bool.Decides.{nat_tests}
 use Rattle.c_model.specs.Limits.{globals_bytes}
-use Rattle.c_model.specs.Layouts.{size_of}
 use Rattle.c_model.specs.Memory.{rounded}
 use Rattle.c_model.specs.Checked.{Fault}
 use Rattle.c_model.specs.UnitTyping.{room_fault, room_fault_from}

@@ -5,8 +5,8 @@ use Rattle.c_syntax.specs.declared.types.CInt.{CInt}
 use Rattle.c_syntax.specs.declared.types.CInt.TheVariants.{I8, U8, I16, U16, I32, U32, I64, U64}
 use Rattle.c_syntax.specs.Ctypes.{PlainType}
 use Rattle.c_syntax.specs.Programs.{StructType}
+use Rattle.c_syntax.specs.Layouts.{Scalar, IntegerType, PointerType, scalar_size, scalars_of}
 use Rattle.c_model.specs.Integers.{fits}
-use Rattle.c_model.specs.Layouts.{Scalar, IntegerType, PointerType, scalar_size, scalars_of}
 use Rattle.c_model.specs.Memory.{Pointer, Value, Integer, Points, Store, save, bytes_from, shifted}
 use Rattle.c_model.specs.State.{State, defined, ◌>>=◌, put_store, write, write_bytes}
 use Rattle.c_model.specs.Meaning.{zeros, zero_scalars, zero_parts}

@@ -11,7 +11,7 @@ use Rattle.c_syntax.specs.Statements as source_statement
 use Rattle.c_syntax.specs.Statements.{Declaration, Statement, ElsePart, NoElse, Else, ForFirst, NoFirst, First, BlockItem, Declare, Run, Asserts, BlockItems}
 use Rattle.c_syntax.specs.Statements.{NoItem, Initialiser}
 use Rattle.c_syntax.specs.Programs.{StringLiteral, Function, TranslationUnit}
-use Rattle.c_model.specs.Layouts.{size_of}
+use Rattle.c_syntax.specs.Layouts.{size_of}
 use Rattle.c_model.specs.Meaning.{declared_in, declared_first, is_definition}
 use Rattle.c_model.specs.ExpressionTyping.{name_at}
 use Rattle.mon_syntax.specs.declared.tree.MonType.{MonType}

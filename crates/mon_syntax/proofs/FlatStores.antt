@@ -5,7 +5,8 @@ use Rattle.std.proofs.lemmas.Bool.{and_parts}
 use Rattle.std.proofs.Math.Nat.{mod-lt}
 use Rattle.c_syntax.specs.declared.types.CInt.{CInt}
 use Rattle.c_syntax.specs.declared.types.CInt.TheVariants as cint
-use Rattle.c_model.specs.Integers.{int_size, bits_of}
+use Rattle.c_syntax.specs.Layouts.{int_size}
+use Rattle.c_model.specs.Integers.{bits_of}
 use Rattle.c_model.specs.Memory.{bytes_of, pieces, Pointer, Null, Into, Value, Integer, Points, NoValue, Byte, Unwritten, Block, is_accessible, is_literal, with_bytes, saved_block, with_block, save_bytes}
 use Rattle.shadow_segments.specs.Shadow as shadow
 use Rattle.shadow_segments.specs.Shadow.{Mark, NumberByte, PieceByte}

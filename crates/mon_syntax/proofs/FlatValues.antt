@@ -5,8 +5,8 @@ use Rattle.std.proofs.Math.Nat.{mod-eq_of_lt}
 use Rattle.std.proofs.lemmas.Bool.{and_parts, eqb-true, leb-true, leb-false, lt-ltb, le-ltb}
 use Rattle.c_syntax.specs.declared.types.CInt.{CInt}
 use Rattle.c_syntax.specs.declared.types.CInt.TheVariants as cint
-use Rattle.c_model.specs.Integers.{int_size, value_of_bits}
-use Rattle.c_model.specs.Layouts.{IntegerType, PointerType}
+use Rattle.c_syntax.specs.Layouts.{int_size, IntegerType, PointerType}
+use Rattle.c_model.specs.Integers.{value_of_bits}
 use Rattle.c_model.specs.Memory as model
 use Rattle.c_model.specs.Memory.{Pointer, Null, Into, Value, Integer, Points, NoValue, Byte, Unwritten, Number, Piece, LoosePiece, load_bytes, number_of, same_pointer, are_pieces, null_of, pointer_of, value_from}
 use Rattle.raw_seg.specs.Bytes as raw

@@ -6,8 +6,8 @@ use Rattle.c_syntax.specs.declared.types.BlockKind.TheVariants.{Stack}
 use Rattle.c_syntax.specs.declared.types.CInt.TheVariants as cint
 use Rattle.c_syntax.specs.declared.types.Segment.{Segment}
 use Rattle.c_syntax.specs.declared.types.Segment.TheVariants as segment
+use Rattle.c_syntax.specs.Layouts.{Scalar, IntegerType, PointerType}
 use Rattle.c_model.specs.Integers.{truth}
-use Rattle.c_model.specs.Layouts.{Scalar, IntegerType, PointerType}
 use Rattle.c_model.specs.Limits.{most_frames}
 use Rattle.c_model.specs.Memory.{Pointer, Null, Into, Value, Integer, Points, NoValue, Byte, Unwritten, Number, Block, Store, block_of, new_block, is_stack}
 use Rattle.c_model.specs.Memory.{standard_sizes, full_at_stack_birth, number_of, bytes_of, load_bytes, save_bytes, load, save, moved, distance, equal_pointers}

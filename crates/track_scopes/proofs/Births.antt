@@ -6,8 +6,8 @@ use Rattle.c_syntax.specs.declared.types.BlockKind.TheVariants.{Stack}
 use Rattle.c_syntax.specs.declared.types.Segment.{Segment}
 use Rattle.c_syntax.specs.Programs.{StructType}
 use Rattle.c_syntax.specs.Statements.{Declaration}
+use Rattle.c_syntax.specs.Layouts.{size_of}
 use Rattle.c_model.specs.Formed.{number_of}
-use Rattle.c_model.specs.Layouts.{size_of}
 use Rattle.c_model.specs.Memory.{Into, Value, Points, new_block, full_at_stack_birth, standard_sizes}
 use Rattle.c_model.specs.State.{State, on_outcome, birth_of, births}
 use Rattle.c_model.proofs.Blocks.{slice_get-slice_set_other}

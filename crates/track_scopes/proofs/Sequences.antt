@@ -5,12 +5,12 @@ use Rattle.std.proofs.Math.Seq.{drop-cons}
 use Rattle.c_syntax.specs.declared.statement.Decl.{Decl}
 use Rattle.c_syntax.specs.Programs.{StructType}
 use Rattle.c_syntax.specs.Statements.{Declaration, plain_decl}
+use Rattle.c_syntax.specs.Layouts.{size_of}
 use Rattle.mon_syntax.specs.declared.tree.MonStmt.{MonStmt}
 use Rattle.mon_syntax.specs.declared.tree.MonType.TheVariants.{Ptr}
 use Rattle.mon_syntax.specs.Registers.{Names, next_register, with_table}
 use Rattle.mon_syntax.specs.Trees.{MonStatement, Then, plain_stmt, plain_stmts}
 use Rattle.track_scopes.specs.Blocks.{AreSmall, birth, births, death, deaths, entered, with_pointer}
-use Rattle.c_model.specs.Layouts.{size_of}
 
 -- ---- births
 

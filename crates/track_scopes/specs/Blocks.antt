@@ -4,7 +4,7 @@
 use Rattle.std.specs.Prelude.{ℕ, suc, ◌<◌, ◌^◌, pos, List, [], ◌∷◌, ◌++◌, length, Some, None}
 use Rattle.c_syntax.specs.Programs.{StructType}
 use Rattle.c_syntax.specs.Statements.{Declaration}
-use Rattle.c_model.specs.Layouts.{size_of}
+use Rattle.c_syntax.specs.Layouts.{size_of}
 use Rattle.c_model.specs.Formed.{number_of}
 use Rattle.mon_syntax.specs.declared.tree.MonType.TheVariants.{U64, Ptr}
 use Rattle.mon_syntax.specs.declared.tree.MemoryCall.TheVariants.{StoreBlock, DeleteBlock}

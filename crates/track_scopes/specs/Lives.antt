@@ -5,7 +5,7 @@ use Rattle.c_syntax.specs.declared.types.Segment.{Segment}
 use Rattle.c_syntax.specs.declared.types.BlockKind.TheVariants.{Stack}
 use Rattle.c_syntax.specs.Programs.{StructType}
 use Rattle.c_syntax.specs.Statements.{Declaration}
-use Rattle.c_model.specs.Layouts.{size_of}
+use Rattle.c_syntax.specs.Layouts.{size_of}
 use Rattle.c_model.specs.Formed.{number_of}
 use Rattle.c_model.specs.Memory.{Store, Into, Value, Points, new_block, kill_from}
 use Rattle.c_model.specs.State.{State, Full, Over, Normal, Stop, births}

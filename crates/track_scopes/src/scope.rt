@@ -3,9 +3,9 @@
 ghost use Rattle.std.specs.Prelude.{◌≡◌, ◌<◌, ◌^◌, IfOk, OnOk, map};
 ghost use Rattle.c_syntax.specs.Programs.{plain_layout};
 ghost use Rattle.c_syntax.specs.Statements.{plain_decl};
+ghost use Rattle.c_syntax.specs.Layouts.{size_of};
 ghost use Rattle.mon_syntax.specs.Registers.{next_register, with_table};
 ghost use Rattle.mon_syntax.specs.Trees.{plain_stmt, plain_stmts};
-ghost use Rattle.c_model.specs.Layouts.{size_of};
 ghost use Rattle.track_scopes.specs.Blocks.{AreSmall, birth, births, death, deaths, entered, with_pointer};
 ghost use Rattle.track_scopes.specs.Lives.{Enters, Leaves};
 

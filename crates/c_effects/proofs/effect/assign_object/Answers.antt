@@ -2,7 +2,7 @@ use Rattle.std.proofs.Common.{◌∙◌, ap, map}
 use Rattle.c_syntax.specs.Ctypes.{plain_type}
 use Rattle.c_syntax.specs.Expressions.{plain_expr}
 use Rattle.c_syntax.specs.Programs.{plain_layout}
-use Rattle.c_model.specs.Layouts.{scalars_of}
+use Rattle.c_syntax.specs.Layouts.{scalars_of}
 use Rattle.mon_syntax.specs.Registers.{Names}
 use Rattle.mon_syntax.specs.Trees.{plain_stmts}
 use Rattle.c_effects.specs.Expressions.{before}

@@ -2,7 +2,7 @@ use Rattle.std.proofs.Common.{◌≡◌, ◌+◌, drop, map, length, ap, sym, �
 use Rattle.std.proofs.lemmas.List.{length-map}
 use Rattle.c_syntax.specs.Ctypes.{plain_type}
 use Rattle.c_syntax.specs.Programs.{plain_layout}
-use Rattle.c_model.specs.Layouts.{scalars_from, scalars_of}
+use Rattle.c_syntax.specs.Layouts.{scalars_from, scalars_of}
 use Rattle.mon_syntax.specs.Trees.{plain_stmts}
 use Rattle.c_effects.specs.Expressions.{before}
 use Rattle.c_effects.specs.Effects.{zeros_at, zero_parts}

@@ -2,7 +2,7 @@ use Rattle.std.proofs.Common.{◌≡◌, ◌+◌, ◌*◌, drop, map}
 use Rattle.c_syntax.specs.declared.types.CType.{size-CType}
 use Rattle.c_syntax.specs.Ctypes.{plain_type}
 use Rattle.c_syntax.specs.Programs.{plain_layout, plain_member}
-use Rattle.c_model.specs.Layouts.{in_each, in_members, scalars_from}
+use Rattle.c_syntax.specs.Layouts.{in_each, in_members, scalars_from}
 use Rattle.mon_syntax.specs.Trees.{plain_stmts}
 use Rattle.c_effects.specs.Expressions.{before}
 use Rattle.c_effects.specs.Scalars.{done_to}

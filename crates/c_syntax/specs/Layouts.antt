@@ -1,10 +1,21 @@
 -- The layout of types (C99 6.2.5, 6.2.6, 6.7.2.1): sizes, alignments, members, and the scalars that a type is made of.
-use Rattle.std.specs.Prelude.{ℕ, zero, suc, ◌+◌, ◌*◌, ◌-◌, ◌/◌, nat_eq, List, [], ◌∷◌, ◌++◌, length, Option, Some, None, if◌then◌else◌}
-use Rattle.std.specs.Prelude.{slice_get}
+use Rattle.std.specs.Prelude.{ℕ, zero, suc, ◌+◌, ◌*◌, ◌-◌, ◌/◌, nat_eq, nat_lt, ◌^◌, List, [], ◌∷◌, ◌++◌, length, Option, Some, None, if◌then◌else◌}
+use Rattle.std.specs.Prelude.{option_map, slice_get}
 use Rattle.c_syntax.specs.declared.types.CInt.{CInt}
+use Rattle.c_syntax.specs.declared.types.CInt.TheVariants.{I8, U8, I16, U16, I32, U32, I64, U64}
 use Rattle.c_syntax.specs.Ctypes.{PlainType, Void, Int, Ptr, Array, Struct, Named, StructTag, EnumTag, PlainLength, Left, Written, Count}
 use Rattle.c_syntax.specs.Programs.{StructMember, StructType}
-use Rattle.c_model.specs.Integers.{int_size}
+
+-- the bytes of an integer type
+abbrev pub int_size : CInt → ℕ
+int_size I8 = 1
+int_size U8 = 1
+int_size I16 = 2
+int_size U16 = 2
+int_size I32 = 4
+int_size U32 = 4
+int_size I64 = 8
+int_size U64 = 8
 
 -- a type whose values are read and written as a whole (C99 6.2.5 p21)
 pub data Scalar : Type 0 where
@@ -50,6 +61,10 @@ size_of structs (Named x) = 0
 size_of structs (StructTag x) = 0
 size_of structs (EnumTag x at) = 0
 
+-- Ours: a number, where 32 bits hold it
+abbrev pub in_word : ℕ → Option ℕ
+in_word n = if nat_lt n (2 ^ 32) then Some n else None
+
 abbrev pub align_of : List StructType → PlainType → ℕ
 align_of structs (Int k) = int_size k
 align_of structs (Ptr t) = 8
@@ -92,6 +107,10 @@ member_offset (Some m) = m.offset
 -- the offset of a member of this name in a struct type
 abbrev pub offset_of : List StructType → PlainType → ℕ → ℕ
 offset_of structs t name = member_offset (member_among name (members_of structs t))
+
+-- the same, where there is such a member
+abbrev pub offset_among : List StructType → PlainType → ℕ → Option ℕ
+offset_among structs t name = option_map (λ m. m.offset) (member_among name (members_of structs t))
 
 -- the type that a pointer points to
 abbrev pub target_of : PlainType → PlainType
