@@ -73,6 +73,7 @@ impl Runtime {
     }
 
     /// `__e_acsl_number(P, O, A)`
+    #[inline(always)]
     pub fn number(&self, p: u64, o: i128, a: u64) -> Result<i32, RunFault>
         requires { IsWidth a }
         ensures { result ≡ Ok (truth (flat_number self.now p o a)) }

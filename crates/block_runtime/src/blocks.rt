@@ -17,6 +17,7 @@ use mon_syntax::{RegionName, Spot};
 
 impl Runtime {
     /// `__e_acsl_store_block(n)`
+    #[inline(always)]
     pub fn store_block(&mut self, n: u64) -> Result<u64, RunFault>
         ensures { Answers (flat_store_block self.old n) self.old self.new result }
     {
@@ -27,6 +28,7 @@ impl Runtime {
     }
 
     /// `__e_acsl_delete_block(P)`
+    #[inline(always)]
     pub fn delete_block(&mut self, p: u64) -> Result<(), RunFault>
         ensures { Changes (flat_delete_block self.old p) self.old self.new result }
     {

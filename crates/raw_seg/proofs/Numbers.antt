@@ -3,7 +3,7 @@ use Rattle.std.proofs.Common.{rules, ◌≡◌, ℕ, zero, suc, ◌+◌, ◌*◌
 use Rattle.std.proofs.Math.Nat.{div-div-eq-div-mul, div-add-mod, mod-lt, mod-eq_of_lt}
 use Rattle.std.proofs.lemmas.Nat.{mod-mul-add}
 use Rattle.std.proofs.lemmas.List.{places, same_lists, drop-drop, drop-take, take-append-drop, take-take, take_at, drop_at, length-take-le, length-replicate, replicate-append-replicate, ext_get_or, get_or-take, get_or-drop}
-use Rattle.std.specs.Int.{w128, byte_at, bytes_low_first, to_le_bytes}
+use Rattle.std.specs.Int.{w64, w128, byte_at, bytes_low_first, to_le_bytes}
 use Rattle.raw_seg.specs.Bytes.{number_of, bytes_of, bytes_at, with_bytes}
 
 pub number_of-append : (xs ys : List ℕ) → number_of (xs ++ ys) ≡ number_of xs + 256 ^ length xs * number_of ys
@@ -65,6 +65,9 @@ low_first i (suc k) n =
     first : (i n : ℕ) → byte_at i n ≡ n / 256 ^ i % 256
     first zero n = let whole : n / 1 ≡ n = omega arith in ap (λ m. m % 256) (sym whole)
     first (suc i) n = refl
+
+pub le_bytes_8 : (n : ℕ) → to_le_bytes w64 n ≡ bytes_of 8 n
+le_bytes_8 n = let whole : n / 1 ≡ n = omega arith in low_first 0 8 n ∙ ap (bytes_of 8) whole
 
 pub le_bytes_16 : (n : ℕ) → to_le_bytes w128 n ≡ bytes_of 16 n
 le_bytes_16 n = let whole : n / 1 ≡ n = omega arith in low_first 0 16 n ∙ ap (bytes_of 16) whole

@@ -46,7 +46,7 @@ impl Seg {
     }
 
     /// The number in `width` bytes, the lowest first.
-    #[inline]
+    #[inline(always)]
     pub fn load(&self, at: usize, width: usize) -> u128
         requires width { IsWidth width }
         requires aligned { at % width ≡ 0 }
@@ -119,7 +119,7 @@ impl Seg {
     }
 
     /// The eight bytes from a place on as a number, which is one step of work.
-    #[inline]
+    #[inline(always)]
     pub fn word<L: Ledger>(&self, at: usize, steps: &mut Steps<L>) -> u64
         requires aligned { at % 8 ≡ 0 }
         requires inside { at + 8 ≤ length self.now }
@@ -171,7 +171,7 @@ impl Seg {
         self.bytes[at]
     }
 
-    #[inline]
+    #[inline(always)]
     fn load_2(&self, at: usize) -> u16
         requires { at + 2 ≤ length self.now }
         ensures value { result ≡ number_of (bytes_at self.now at 2) }
@@ -182,29 +182,27 @@ impl Seg {
         u16::from_le_bytes([self.byte(at), self.byte(at + 1)])
     }
 
-    #[inline]
+    #[inline(always)]
     fn load_4(&self, at: usize) -> u32
         requires { at + 4 ≤ length self.now }
         ensures value { result ≡ number_of (bytes_at self.now at 4) }
         ensures bytes { bytes_of 4 result ≡ bytes_at self.now at 4 }
         ensures small { result < 4294967296 }
     {
-        let _ = &self.bytes;
-        u32::from(self.load_2(at)) + u32::from(self.load_2(at + 2)) * 65536
+        number_of_4(&self.bytes[at..at + 4])
     }
 
-    #[inline]
+    #[inline(always)]
     fn load_8(&self, at: usize) -> u64
         requires { at + 8 ≤ length self.now }
         ensures value { result ≡ number_of (bytes_at self.now at 8) }
         ensures bytes { bytes_of 8 result ≡ bytes_at self.now at 8 }
         ensures small { result < 18446744073709551616 }
     {
-        let _ = &self.bytes;
-        u64::from(self.load_4(at)) + u64::from(self.load_4(at + 4)) * 4294967296
+        number_of_8(&self.bytes[at..at + 8])
     }
 
-    #[inline]
+    #[inline(always)]
     fn load_16(&self, at: usize) -> u128
         requires { at + 16 ≤ length self.now }
         ensures value { result ≡ number_of (bytes_at self.now at 16) }
@@ -213,4 +211,30 @@ impl Seg {
         let _ = &self.bytes;
         u128::from(self.load_8(at)) + u128::from(self.load_8(at + 8)) * 18446744073709551616
     }
+}
+
+// The number in four bytes. They are taken at once: a sum of them isn't always compiled to one load.
+#[inline(always)]
+fn number_of_4(bytes: &[u8]) -> u32
+    requires { length bytes.now ≡ 4 }
+    ensures value { result ≡ number_of bytes.now }
+    ensures bytes { bytes_of 4 result ≡ bytes.now }
+    ensures small { result < 4294967296 }
+{
+    let mut taken = [0u8; 4];
+    taken.copy_from_slice(bytes);
+    u32::from_le_bytes(taken)
+}
+
+// The number in eight bytes.
+#[inline(always)]
+fn number_of_8(bytes: &[u8]) -> u64
+    requires { length bytes.now ≡ 8 }
+    ensures value { result ≡ number_of bytes.now }
+    ensures bytes { bytes_of 8 result ≡ bytes.now }
+    ensures small { result < 18446744073709551616 }
+{
+    let mut taken = [0u8; 8];
+    taken.copy_from_slice(bytes);
+    u64::from_le_bytes(taken)
 }
