@@ -18,3 +18,11 @@ pub mod Kept
 pub mod Measure
 pub mod Courses
 pub mod Finished
+-- runs that are done at once
+pub mod Pieces
+pub mod Leaping
+pub mod Found
+pub mod Sequence
+pub mod Valued
+pub mod Ends
+pub mod Alone

@@ -6,3 +6,7 @@ pub mod Held
 pub mod Acts
 pub mod Whole
 pub mod Runs
+pub mod Fast
+pub mod Forms
+pub mod Table
+pub mod Sequences

@@ -17,8 +17,19 @@ mod reading;
 mod turn;
 mod writing;
 
+// runs of instructions at once
+mod elements;
+mod fast;
+mod forms;
+mod found_alone;
+mod leaps;
+mod recognised;
+mod sequences;
+mod singles;
+mod statements;
+
 // runs
 mod whole;
 
 pub use stop::{Ran, Stop};
-pub use whole::run;
+pub use whole::{run, run_plainly};

@@ -11,7 +11,7 @@ ghost use Rattle.mon_syntax.specs.FlatMemory.{act_on_flat, begun_with, farther, 
 ghost use Rattle.mon_syntax.specs.Globals.{globals_taken, size_of_global};
 ghost use Rattle.mon_syntax.specs.Memory.{Gives};
 ghost use Rattle.mon_syntax.specs.Trees.{plain_global};
-ghost use Rattle.c_machine.specs.Replies.{Replies, Stores, stop_by};
+ghost use Rattle.c_machine.specs.Replies.{Replies, Yields, Stores, stop_by};
 
 use crate::arithmetic::wrap;
 use crate::stop::Stop;
@@ -345,5 +345,29 @@ pub fn act_on_two(
         MemoryCall::Calloc => calloc(memory, first, second),
         MemoryCall::StoreBlock | MemoryCall::DeleteBlock => Err(Stop::Fault),
         MemoryCall::Malloc | MemoryCall::Free => Err(Stop::Fault),
+    }
+}
+
+// ---- the same within the loop over instructions, where a block is seldom refused
+
+/// `__e_acsl_store_block(size)`. None where it is refused, and then the memory stays.
+#[inline(always)]
+pub fn born(memory: &mut Runtime, size: i128) -> Option<i128>
+    ensures { Yields (act_on_flat MemoryCall.StoreBlock (size ∷ []) memory.old) memory.old memory.new result }
+{
+    match memory.store_block(lowest_bits(MonType::U64, size) as u64) {
+        Ok(start) => Some(i128::from(start)),
+        Err(_) => None,
+    }
+}
+
+/// `__e_acsl_delete_block(pointer)`. None where it is refused, and then the memory stays.
+#[inline(always)]
+pub fn dead(memory: &mut Runtime, pointer: i128) -> Option<i128>
+    ensures { Yields (act_on_flat MemoryCall.DeleteBlock (pointer ∷ []) memory.old) memory.old memory.new result }
+{
+    match memory.delete_block(pointer_in(pointer)) {
+        Ok(()) => Some(0),
+        Err(_) => None,
     }
 }

@@ -3,7 +3,7 @@
 use c_syntax::{How, Kind, Segment};
 
 /// How a run ends.
-#[derive(Clone, Copy)]
+#[derive(Clone, Copy, PartialEq, Eq)]
 pub enum Stop {
     /// With this value of `main`, or of the call of `exit`.
     Exit(i128),
@@ -29,7 +29,7 @@ pub enum Stop {
 }
 
 /// What a run came to.
-#[derive(Clone, Copy)]
+#[derive(Clone, Copy, PartialEq, Eq)]
 pub struct Ran {
     pub stop: Stop,
     /// The steps left.
