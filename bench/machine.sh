@@ -1,9 +1,10 @@
 #!/bin/bash
-# Prints what the machine takes: of a loop of 5,000,000 turns with a sum and an assert each, of fib(27) with its 635,621
-# calls, of 1,000 elements that are summed 5,000 times, of a bubble sort of 1,000 elements that stand backwards, of calls until all
-# 65,536 frames are taken, and from the start of the process to the verdict of a program of 8 lines; all but the last two beside the
-# plain program as gcc -O0 compiles it. Seconds are the least of some runs. Where valgrind is there, it counts the processor's
-# instructions of a turn, a call and an access. It measures through ./eacsl.
+# Prints what the machine takes: of a loop of 5,000,000 turns with a sum and an assert each, of fib(27) with its 635,621 calls, of
+# 1,000 elements that are summed 20,000 times, of a bubble sort of 2,000 elements that stand backwards, and of 120,000 blocks that are
+# born and freed; each by forms, instruction by instruction, and as gcc -O0 compiles the program without its annotations. And what it
+# takes of calls until all 65,536 frames are taken, from the start of the process to the verdict of a program of 8 lines, and to find
+# the forms of a text of 200,000 tokens. Seconds are the least of some runs. Where valgrind is there, it counts the processor's
+# instructions of a turn, a call, an access and a block both ways. It measures through ./eacsl and crates/bench_c_machine.
 set -euo pipefail
 
 top=$(cd -- "$(dirname -- "${BASH_SOURCE[0]}")/.." && pwd)
@@ -80,6 +81,34 @@ int main(void) {
 C
 }
 
+# so many blocks on the heap, each freed before the next is born
+heap_of() {
+  cat <<C
+#include <stdlib.h>
+int main(void) {
+  for (int i = 0; i < $1; i++) {
+    int *block = malloc(16);
+    if (block == 0)
+      return 1;
+    *block = i;
+    free(block);
+  }
+  return 0;
+}
+C
+}
+
+# a text of nearly 200,000 tokens, whose statements come after its end
+long_of() {
+  echo 'int main(void) {'
+  echo '  int x = 0;'
+  echo '  if (x == 0)'
+  echo '    return 0;'
+  awk 'BEGIN { for (i = 0; i < 33300; i++) print "  x = x + 1;" }'
+  echo '  return 0;'
+  echo '}'
+}
+
 # calls that have no end, so that they take all frames
 deep() {
   cat <<'C'
@@ -109,78 +138,111 @@ C
 cat >"$scratch/measure.py" <<'P'
 import os, subprocess, sys, time
 
-runs, *command = sys.argv[1:]
+runs, given, *command = sys.argv[1:]
 best = None
 for _ in range(int(runs)):
     begun = time.perf_counter()
-    run = subprocess.Popen(command, stdin=subprocess.DEVNULL, stdout=subprocess.DEVNULL, stderr=subprocess.DEVNULL)
+    run = subprocess.Popen(command, stdin=open(given), stdout=subprocess.DEVNULL, stderr=subprocess.DEVNULL)
     _, status, usage = os.wait4(run.pid, 0)
     took = time.perf_counter() - begun
     best = took if best is None else min(best, took)
 print(f"{best * 1000:.1f} {usage.ru_maxrss}")
 P
 
-# a line of figures: what, milliseconds, KiB, and nanoseconds for each of so many units
+# the least milliseconds and the greatest KiB of so many runs of a command on this input
+measured() {
+  python3 "$scratch/measure.py" "$@"
+}
+
+# a line of figures: what, milliseconds and KiB
 line() {
-  local name=$1 runs=$2 units=$3
-  shift 3
-  python3 "$scratch/measure.py" "$runs" "$@" | awk -v name="$name" -v units="$units" '{ printf "%-34s %10.1f %12d", name, $1, $2; if (units > 0) printf " %10.1f", $1 * 1e6 / units; print "" }'
+  local name=$1 runs=$2
+  shift 2
+  measured "$runs" /dev/null "$@" | awk -v name="$name" '{ printf "%-34s %10.1f %12d\n", name, $1, $2 }'
 }
 
-# the processor's instructions of a run
+# the input of the program that runs both ways: a way, and a text of this workload and size
+input_of() {
+  local way=$1 times=$2 workload=$3 size=$4
+  echo "$way 1000000000 $times"
+  "${workload}_of" "$size"
+}
+
+# the milliseconds of a workload one way
+way_takes() {
+  input_of "$1" 1 "$2" "$3" >"$scratch/input"
+  measured "$4" "$scratch/input" "$both" | cut -d' ' -f1
+}
+
+# a line of figures of a workload: what, milliseconds by forms, without, and of gcc's program, and by how much forms are faster
+beside() {
+  local name=$1 workload=$2 size=$3 runs=$4 fused plain compiled=0
+  fused=$(way_takes fused "$workload" "$size" "$runs")
+  plain=$(way_takes plain "$workload" "$size" "$runs")
+  if command -v gcc >/dev/null; then
+    "${workload}_of" "$size" >"$scratch/compiled.c"
+    gcc -O0 -o "$scratch/compiled" "$scratch/compiled.c"
+    compiled=$(measured "$runs" /dev/null "$scratch/compiled" | cut -d' ' -f1)
+  fi
+  awk -v name="$name" -v f="$fused" -v p="$plain" -v c="$compiled" 'BEGIN { printf "%-34s %10.1f %10.1f %10.1f %10.2f\n", name, f, p, c, p / f }'
+}
+
+# the processor's instructions of a run on an input
 instructions_of() {
-  valgrind --tool=callgrind --callgrind-out-file=/dev/null "$@" 2>&1 >/dev/null | sed -n 's/.*Collected : \([0-9]*\).*/\1/p'
+  valgrind --tool=callgrind --callgrind-out-file=/dev/null "$both" <"$scratch/input" 2>&1 >/dev/null | sed -n 's/.*Collected : \([0-9]*\).*/\1/p'
 }
 
-# the processor's instructions that so many more units take, each
+# the processor's instructions of one unit one way, by two sizes that are so many units apart
+unit_takes() {
+  local way=$1 workload=$2 less=$3 more=$4 units=$5 few many
+  input_of "$way" 1 "$workload" "$less" >"$scratch/input"
+  few=$(instructions_of)
+  input_of "$way" 1 "$workload" "$more" >"$scratch/input"
+  many=$(instructions_of)
+  awk -v units="$units" -v a="$few" -v b="$many" 'BEGIN { printf "%.1f", (b - a) / units }'
+}
+
+# a line of figures: what, and the processor's instructions of one unit by forms and without
 each() {
-  local name=$1 units=$2 less=$3 more=$4
-  awk -v name="$name" -v units="$units" -v a="$(instructions_of "$top/crates/eacsl/out/eacsl" run "$less")" -v b="$(instructions_of "$top/crates/eacsl/out/eacsl" run "$more")" 'BEGIN { printf "%-34s %10.1f\n", name, (b - a) / units }'
+  local name=$1
+  shift
+  awk -v name="$name" -v f="$(unit_takes fused "$@")" -v p="$(unit_takes plain "$@")" 'BEGIN { printf "%-34s %10.1f %10.1f %10.2f\n", name, f, p, p / f }'
 }
 
-# builds the proved program where that is due, so that no figure is of an unproved one
+# the milliseconds of so many runs of the long text one way
+long_takes() {
+  input_of "$1" "$2" long 0 >"$scratch/input"
+  measured 3 "$scratch/input" "$both" | cut -d' ' -f1
+}
+
+# builds the proved programs where that is due, so that no figure is of an unproved one
 least >"$scratch/least.c"
 "$top/eacsl" --build >&2
-loop_of 5000000 >"$scratch/loop.c"
-fib_of 27 >"$scratch/fib.c"
-sum_of 5000 >"$scratch/sum.c"
-sort_of 1000 >"$scratch/sort.c"
+(cd "$top/crates/bench_c_machine" && rt run <stdin >/dev/null 2>&1)
+both=$top/crates/bench_c_machine/out/bench_c_machine
 deep >"$scratch/deep.c"
 
-printf '%-34s %10s %12s %10s\n' what 'ms' 'peak (KiB)' 'ns each'
-line 'a program of 8 lines, eacsl run' 20 0 "$top/eacsl" run "$scratch/least.c"
-line 'the same without the launcher' 20 0 "$top/crates/eacsl/out/eacsl" run "$scratch/least.c"
-line 'a loop of 5,000,000 turns' 5 5000000 "$top/eacsl" run "$scratch/loop.c"
-line 'fib(27), 635,621 calls' 5 635621 "$top/eacsl" run "$scratch/fib.c"
-line '1,000 elements summed 5,000 times' 3 5000000 "$top/eacsl" run "$scratch/sum.c"
-line 'a bubble sort of 1,000 elements' 3 499500 "$top/eacsl" run "$scratch/sort.c"
-line 'calls that take all 65,536 frames' 5 65536 "$top/eacsl" run "$scratch/deep.c"
+printf '%-34s %10s %12s\n' what ms 'peak (KiB)'
+line 'a program of 8 lines, eacsl run' 20 "$top/eacsl" run "$scratch/least.c"
+line 'the same without the launcher' 20 "$top/crates/eacsl/out/eacsl" run "$scratch/least.c"
+line 'calls that take all 65,536 frames' 5 "$top/eacsl" run "$scratch/deep.c"
 
-if command -v gcc >/dev/null; then
-  gcc -O0 -o "$scratch/loop" "$scratch/loop.c"
-  gcc -O0 -o "$scratch/fib" "$scratch/fib.c"
-  gcc -O0 -o "$scratch/sum" "$scratch/sum.c"
-  gcc -O0 -o "$scratch/sort" "$scratch/sort.c"
-  line 'the loop, gcc -O0, unchecked' 5 5000000 "$scratch/loop"
-  line 'fib(27), gcc -O0' 5 635621 "$scratch/fib"
-  line 'the sums, gcc -O0' 5 5000000 "$scratch/sum"
-  line 'the bubble sort, gcc -O0' 5 499500 "$scratch/sort"
-else
-  echo 'gcc is not on the path, so there is no plain program to compare with'
-fi
+printf '%-34s %10s %10s %10s %10s\n' milliseconds 'by forms' without 'gcc -O0' faster
+beside 'a loop of 5,000,000 turns' loop 5000000 5
+beside 'fib(27), 635,621 calls' fib 27 5
+beside '1,000 elements summed 20,000 times' sum 20000 2
+beside 'a bubble sort of 2,000 elements' sort 2000 2
+beside '120,000 blocks of the heap' heap 120000 5
+
+# a run ends at once, so what it takes more by forms is to find them
+awk -v one="$(long_takes fused 1)" -v some="$(long_takes fused 21)" -v none="$(long_takes plain 1)" -v plain="$(long_takes plain 21)" \
+  'BEGIN { printf "%-34s %10.1f\n", "the forms of 200,000 tokens, ms", (some - one - plain + none) / 20 }'
 
 if command -v valgrind >/dev/null; then
-  loop_of 1000 >"$scratch/loop1.c"
-  loop_of 101000 >"$scratch/loop2.c"
-  fib_of 10 >"$scratch/fib1.c"
-  fib_of 20 >"$scratch/fib2.c"
-  sum_of 1 >"$scratch/sum1.c"
-  sum_of 101 >"$scratch/sum2.c"
-  sort_of 10 >"$scratch/sort1.c"
-  sort_of 300 >"$scratch/sort2.c"
-  printf '%-34s %10s\n' "the processor's instructions" each
-  each 'a turn of the loop' 100000 "$scratch/loop1.c" "$scratch/loop2.c"
-  each 'a call of fib' 21714 "$scratch/fib1.c" "$scratch/fib2.c"
-  each 'an element of a sum' 100000 "$scratch/sum1.c" "$scratch/sum2.c"
-  each 'a comparison of the sort' 44805 "$scratch/sort1.c" "$scratch/sort2.c"
+  printf '%-34s %10s %10s %10s\n' "the processor's instructions" 'by forms' without fewer
+  each 'a turn of the loop' loop 1000 101000 100000
+  each 'a call of fib' fib 10 20 21714
+  each 'an element of a sum' sum 1 101 100000
+  each 'a comparison of the sort' sort 10 300 44805
+  each 'a block of the heap' heap 100 10100 10000
 fi
