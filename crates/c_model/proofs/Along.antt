@@ -18,8 +18,8 @@ use Rattle.c_syntax.specs.Statements.{Initialiser, One, Many, Initialisers, NoIn
 use Rattle.c_syntax.specs.Statements.{Declare, Run, Asserts, BlockItems, NoItem, Then}
 use Rattle.c_syntax.specs.Programs.{StructType, Function, TranslationUnit}
 use Rattle.c_syntax.specs.declared.types.CInt.TheVariants.{U64}
+use Rattle.c_syntax.specs.Layouts.{Scalar, scalar_size, scalar_of, size_of}
 use Rattle.c_model.specs.Integers.{bits_of, truth, byte_of}
-use Rattle.c_model.specs.Layouts.{Scalar, scalar_size, scalar_of, size_of}
 use Rattle.c_model.specs.Memory.{Pointer, Null, Into, Value, Integer, Points, NoValue, Byte, new_block, Store, load, bytes_from, save_bytes, copy_all, moved, shifted, standard_sizes, full_at_stack_birth}
 use Rattle.c_model.specs.Memory.{Unwritten, Number as NumberByte, Room, At, NoRoom, heap_room, heap_block, freed}
 use Rattle.c_model.specs.State.{Scope, Mark, Input, InputTail, EndOfInput, InputFault, ReadFault, Exits, print, read_byte, State, Breaks, Continues, Returns, End, Leaves, Over, Undefined, Fault, Spent, Full, Outcome, Normal, Stop, Evaluation}

@@ -6,8 +6,8 @@ use Rattle.std.proofs.lemmas.List.{take_at, length-take-le, length-append, lengt
 use Rattle.std.proofs.Math.Seq.{drop-append_seam}
 use Rattle.c_syntax.specs.declared.types.CInt.{CInt}
 use Rattle.c_syntax.specs.declared.types.BlockKind.{BlockKind}
-use Rattle.c_model.specs.Integers.{int_size, fits}
-use Rattle.c_model.specs.Layouts.{Scalar, IntegerType, PointerType, scalar_size}
+use Rattle.c_syntax.specs.Layouts.{int_size, Scalar, IntegerType, PointerType, scalar_size}
+use Rattle.c_model.specs.Integers.{fits}
 use Rattle.c_model.specs.Memory.{Pointer, Null, Into, Value, Integer, Points, Byte, Unwritten, Block, Store, block_at, new_block, bytes_from, loosened, copied, is_accessible, is_literal, bytes_in, load_bytes, load, with_bytes}
 use Rattle.c_model.specs.Memory.{saved_block, with_block, save_bytes, save, shifted, ◌>>=◌, copy, copy_all, is_heap, freed_block, freed, kill_from}
 use Rattle.c_model.specs.Laws.{AreWhole, SameButAt}

@@ -4,7 +4,8 @@ use Rattle.std.proofs.lemmas.Bool.{lt-ltb}
 use Rattle.std.proofs.lemmas.Bool.Decides.{nat_tests}
 use Rattle.c_syntax.specs.declared.types.CInt.{CInt}
 use Rattle.c_syntax.specs.declared.types.CInt.TheVariants.{I8, U8, I16, U16, I32, U32, I64, U64}
-use Rattle.c_model.specs.Integers.{int_size, fits, bits_of, value_of_bits, convert}
+use Rattle.c_syntax.specs.Layouts.{int_size}
+use Rattle.c_model.specs.Integers.{fits, bits_of, value_of_bits, convert}
 use Rattle.c_model.proofs.Cells.{bits_of-below}
 
 -- a test of a choice between two numbers

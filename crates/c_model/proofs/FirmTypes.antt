@@ -5,7 +5,7 @@ use Rattle.c_syntax.specs.declared.place.Place.{Place}
 use Rattle.c_syntax.specs.Ctypes.{PlainType, Void, Int, Ptr, Array, Struct, Named, StructTag, EnumTag, PlainLength, Left, Written, Count}
 use Rattle.c_syntax.specs.Statements.{Initialiser, Declaration}
 use Rattle.c_syntax.specs.Programs.{StructType}
-use Rattle.c_model.specs.Layouts.{size_of, count_of, size_of_struct}
+use Rattle.c_syntax.specs.Layouts.{size_of, count_of, size_of_struct}
 use Rattle.c_model.specs.Library.{is_there}
 use Rattle.c_model.specs.Checked.{Checked, Good, Bad, faulty, one_part, both_parts}
 use Rattle.c_model.specs.ExpressionTyping.{no_name, no_type, too_large, Sight, TypeName, type_named, tagged, is_among, is_void, is_scalar, is_struct, Sized, HasSize, HasNoSize, NotYet, sized, most_bytes, most_levels}

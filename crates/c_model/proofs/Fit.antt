@@ -11,8 +11,8 @@ use Rattle.c_syntax.specs.Expressions.{type_of}
 use Rattle.c_syntax.specs.Statements.{Initialiser, One, Many, Initialisers, NoInitialiser, Listed, Declaration, Statement, Empty, Eval, Block, If, While, Do, For, Break, Continue, Return, ElsePart, NoElse, Else, ForFirst, NoFirst, First, BlockItem}
 use Rattle.c_syntax.specs.Statements.{Declare, Run, Asserts, BlockItems, NoItem, Then}
 use Rattle.c_syntax.specs.Programs.{StructType, Function, TranslationUnit}
+use Rattle.c_syntax.specs.Layouts.{Scalar, scalar_of}
 use Rattle.c_model.specs.Integers.{truth}
-use Rattle.c_model.specs.Layouts.{Scalar, scalar_of}
 use Rattle.c_model.specs.Memory.{Pointer, Value, Integer, Points, NoValue, Byte, Store, shifted}
 use Rattle.c_model.specs.State.{Scope, Input, State, Breaks, Continues, Returns, End, Leaves, Over, Undefined, Fault, Outcome, Normal, Stop, Evaluation}
 use Rattle.c_model.specs.State.{on_outcome, ◌>>=◌, ◌>>◌, give, done, stop, defined, computed, as_scalar, step_from, step, find, object, read, read_any, write, write_bytes, copy_object, tested, birth, births}

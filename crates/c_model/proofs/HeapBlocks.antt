@@ -7,7 +7,7 @@ use Rattle.std.proofs.lemmas.Bool.Decides.{nat_tests}
 use Rattle.std.proofs.lemmas.List.{length-replicate}
 use Rattle.c_syntax.specs.declared.types.BlockKind.TheVariants.{Heap}
 use Rattle.c_syntax.specs.declared.types.Segment.TheVariants as segment
-use Rattle.c_model.specs.Layouts.{Scalar, scalar_size}
+use Rattle.c_syntax.specs.Layouts.{Scalar, scalar_size}
 use Rattle.c_model.specs.Memory.{Pointer, Null, Into, Value, Points, Byte, bytes_from, Block, Store, block_at, is_accessible, is_literal, load, save, saved_block, with_block, moved, offset_in, live_size, apart, distance, equal_pointers, is_usable}
 use Rattle.c_model.specs.Memory.{same_pointer, tested_value}
 use Rattle.c_model.specs.Memory.{standard_sizes, greatest_number, units, is_heap, Room, At, NoRoom, heap_room, heap_block, freed_block, freed}

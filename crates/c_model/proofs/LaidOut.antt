@@ -2,7 +2,7 @@
 use Rattle.std.proofs.Common.{◌≡◌, ℕ, ◌+◌, refl, sym, ap, ◌∙◌, List, [], ◌∷◌}
 use Rattle.c_syntax.specs.Ctypes.{PlainType, Int, Ptr, Array, Struct, Count}
 use Rattle.c_syntax.specs.Programs.{StructMember, StructType}
-use Rattle.c_model.specs.Layouts.{size_of, align_of, align_of_struct, aligned}
+use Rattle.c_syntax.specs.Layouts.{size_of, align_of, align_of_struct, aligned}
 use Rattle.c_model.specs.ExpressionTyping.{HasSize, sized}
 use Rattle.c_model.specs.DeclarationTyping.{greater, placed_from, end_of, widest, laid_out}
 use Rattle.c_model.specs.TypedPrograms.{IsLaidOut}

@@ -28,6 +28,7 @@ pub mod TypedDeclarations
 pub mod TypedStatements
 pub mod TypedFunctions
 pub mod NotedTrees
+pub mod PredicateTrees
 pub mod ReadStatements
 pub mod TypedUnits
 pub mod TextTypingLaws
@@ -48,6 +49,7 @@ pub mod StableConstants
 pub mod StableTrees
 pub mod StableStatements
 pub mod GrownStructs
+pub mod RangedTrees
 pub mod TypedBelow
 pub mod LaidOut
 pub mod EndedMembers
@@ -96,12 +98,14 @@ pub mod CListLaws
 mod MonitoredTexts
 mod CTexts
 mod WorkedTrees
+mod WorkedAnnotationGrammar
 mod WorkedExpressionTyping
 mod WorkedStructTyping
 mod WorkedDeclarationTyping
 mod WorkedTypingFaults
 mod WorkedDeclarationFaults
 mod WorkedAnnotationTyping
+mod WorkedPredicateTyping
 mod WorkedOperators
 mod WorkedMemory
 mod WorkedHeap

@@ -11,9 +11,9 @@ use Rattle.c_syntax.specs.Expressions.{Expression, Node, Number, Letter, Variabl
 use Rattle.c_syntax.specs.Expressions.{Cast, SizeOfType, SizeOfExpr, Text, Index, Dot, Arrow, Comma, Expressions, NoExpression, Following, place_of, type_of}
 use Rattle.c_syntax.specs.Statements.{Initialiser, One, Many, Initialisers, NoInitialiser, Listed, Declaration}
 use Rattle.c_syntax.specs.Programs.{StructType, TranslationUnit}
+use Rattle.c_syntax.specs.Layouts.{Scalar, scalars_of, size_of, offset_of, target_of}
 use Rattle.c_model.specs.Integers.{truth}
 use Rattle.c_model.specs.Conversions.{promoted}
-use Rattle.c_model.specs.Layouts.{Scalar, scalars_of, size_of, offset_of, target_of}
 use Rattle.c_model.specs.Memory.{Pointer, Value, Integer, NoValue, Byte, shifted}
 use Rattle.c_model.specs.State.{Leave, Undefined, ◌>>=◌, give, defined, find, tested, computed}
 use Rattle.c_model.specs.Meaning.{Callee, Tables, operate_value, bump_operator, bump_value, is_zero, truth_value, size_value, eval_with, place_with, evals_with, unit_of, indexed}

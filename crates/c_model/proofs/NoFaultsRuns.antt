@@ -8,8 +8,8 @@ use Rattle.c_syntax.specs.Ctypes.{PlainType, Void, Int, Ptr, int_type}
 use Rattle.c_syntax.specs.Annotations.{Annotation}
 use Rattle.c_syntax.specs.Statements.{Declaration}
 use Rattle.c_syntax.specs.Programs.{StructType}
+use Rattle.c_syntax.specs.Layouts.{Scalar, size_of}
 use Rattle.c_model.specs.Integers.{bits_of, byte_of}
-use Rattle.c_model.specs.Layouts.{Scalar, size_of}
 use Rattle.c_model.specs.Memory.{Pointer, Null, Into, Value, Integer, Points, NoValue, Byte, Unwritten, Number as NumberByte, Store, save, tested_value}
 use Rattle.c_model.specs.Memory.{standard_sizes, full_at_stack_birth, Room, At, NoRoom, heap_room, freed}
 use Rattle.c_model.specs.State.{InputTail, EndOfInput, InputFault, State, Leave, Breaks, Continues, Returns, Final, Undefined, Fault, Spent, Full}

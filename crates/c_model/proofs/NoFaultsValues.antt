@@ -13,7 +13,6 @@ use Rattle.c_syntax.specs.Ctypes.{PlainType, Void, Int, Ptr, Array, Struct, Name
 use Rattle.c_syntax.specs.Expressions.{Expression, place_of, type_of}
 use Rattle.c_syntax.specs.Programs.{StructType}
 use Rattle.c_model.specs.Integers.{value_of_bits, operate, operate_one}
-use Rattle.c_model.specs.Layouts.{Scalar, IntegerType, PointerType, scalar_size, scalar_of, scalars_of, size_of, target_of}
 use Rattle.c_model.specs.Conversions.{operation_type, is_shift, is_relation, promoted}
 use Rattle.c_model.specs.Memory.{Pointer, Null, Into, Value, Integer, Points, NoValue, Byte, Store, number_of, pointer_of, value_from, load_bytes, load, moved, distance, equal_pointers}
 use Rattle.c_model.specs.Memory as memory
@@ -25,6 +24,7 @@ use Rattle.c_model.specs.ExpressionTyping.{Sight}
 use Rattle.c_model.specs.TypedTrees.{WhereAny, IsScalar, IsInteger, BinaryTypes, OfIntegers, OfPointerAndInteger, OfIntegerAndPointer, OfDifference, OfPointers, CompoundTypes, ToInteger, ToPointer}
 use Rattle.c_model.specs.TypedTrees.{CastTypes, ToVoid, OfInteger, OfPointer, OfNullConstant, OfArray}
 use Rattle.c_syntax.specs.declared.expression.Use.{Use}
+use Rattle.c_syntax.specs.Layouts.{Scalar, IntegerType, PointerType, scalar_size, scalar_of, scalars_of, size_of, target_of}
 use Rattle.c_model.proofs.NoFaultsRuns.{Anything, IsNumber, IsAddress, IsValueOf, EndsWell, Gives, gives_bind, gives_then}
 use Rattle.c_model.proofs.NoFaultsRuns.{gives_give, gives_over, gives_values, gives_cond, gives_computed, gives_changed, gives_written}
 

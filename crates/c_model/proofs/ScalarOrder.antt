@@ -6,7 +6,7 @@ use Rattle.std.proofs.lemmas.Bool.Decides.{nat_tests}
 use Rattle.c_syntax.specs.declared.types.CInt.TheVariants.{I8, U8, I16, U16, I32, U32, I64, U64}
 use Rattle.c_syntax.specs.Ctypes.{PlainType, Void, Int, Ptr, Array, Struct, Named, StructTag, EnumTag}
 use Rattle.c_syntax.specs.Programs.{StructMember, StructType}
-use Rattle.c_model.specs.Layouts.{Scalar, scalar_size, aligned, count_of, size_of, size_of_struct, align_of, align_of_struct, members_of_struct, in_each, in_members, scalars_from, scalars_of}
+use Rattle.c_syntax.specs.Layouts.{Scalar, scalar_size, aligned, count_of, size_of, size_of_struct, align_of, align_of_struct, members_of_struct, in_each, in_members, scalars_from, scalars_of}
 use Rattle.c_model.specs.DeclarationTyping.{placed_from, end_of, widest}
 use Rattle.c_model.specs.TypedPrograms.{IsLaidOut, AreLaidOut}
 use Rattle.c_model.specs.HeapLaws.{StandInOrder}

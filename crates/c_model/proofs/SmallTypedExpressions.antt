@@ -13,9 +13,9 @@ use Rattle.c_syntax.specs.Ctypes.{PlainType, Void, Int, Ptr, Array, Struct, Name
 use Rattle.c_syntax.specs.Expressions.{Expression, Node, Number, Letter, Text, Variable, Unary, Binary, Both, Either, Choice, Assign, Bump, Call, Cast, SizeOfType, SizeOfExpr, Index, Dot, Arrow, Comma, Expressions}
 use Rattle.c_syntax.specs.Expressions.{NoExpression, Following, place_of, type_of}
 use Rattle.c_syntax.specs.Programs.{StructMember, StructType, StringLiteral}
+use Rattle.c_syntax.specs.Layouts.{members_of, members_of_struct, member_among}
 use Rattle.c_model.specs.Integers.{fits, integer_type}
 use Rattle.c_model.specs.Conversions.{promoted, common, is_shift, is_relation, result_type}
-use Rattle.c_model.specs.Layouts.{members_of, members_of_struct, member_among}
 use Rattle.c_model.specs.Library.{library_constant, is_there}
 use Rattle.c_model.specs.Meaning.{is_pointer}
 use Rattle.c_model.specs.Checked.{Checked, Good, Bad, faulty, one_part, both_parts, given, where_so}

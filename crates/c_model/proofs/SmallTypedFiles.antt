@@ -7,8 +7,8 @@ use Rattle.c_syntax.specs.RefusalCodes.{globals_code}
 use Rattle.c_syntax.specs.Ctypes.{PlainType}
 use Rattle.c_syntax.specs.Statements.{Declaration}
 use Rattle.c_syntax.specs.Programs.{StructMember, StructType, StringLiteral, EnumConstant, Function, TranslationUnit}
+use Rattle.c_syntax.specs.Layouts.{size_of, align_of, aligned, member_among}
 use Rattle.c_model.specs.Limits.{globals_bytes}
-use Rattle.c_model.specs.Layouts.{size_of, align_of, aligned, member_among}
 use Rattle.c_model.specs.Memory.{rounded}
 use Rattle.c_model.specs.Library.{is_there}
 use Rattle.c_model.specs.Checked.{Checked, Good, Bad, one_part, both_parts, where_so}

@@ -11,7 +11,7 @@ use Rattle.c_model.specs.Library.{is_there}
 use Rattle.c_model.specs.Checked.{Checked, Good, faulty, one_part, both_parts, where_so}
 use Rattle.c_model.specs.ExpressionTyping.{no_name, no_type, Sight, Entity, AnObject, AnEnumerator, Object, Signature, with_object, with_objects, inner, is_void, is_scalar, decayed, in_type, is_assigned, decayed_of, typed}
 use Rattle.c_model.specs.ExpressionTyping.{declared_here}
-use Rattle.c_model.specs.DeclarationTyping.{Slots, Each, Members, next_slot, slots_of, elements_in, member_types, takes_text, is_text_array, no_more, initial_value, typed_alone, typed_initialiser, typed_text}
+use Rattle.c_model.specs.DeclarationTyping.{Slots, Each, Members, next_slot, slots_of, member_types, takes_text, is_text_array, no_more, initial_value, typed_alone, typed_initialiser, typed_text}
 use Rattle.c_model.specs.DeclarationTyping.{place_of_initialiser, typed_maybe_initialiser, is_anything, is_static, own_name, typed_object_type, typed_variable, typed_global, is_declared_in_file, typed_result, typed_parameter}
 use Rattle.c_model.specs.DeclarationTyping as declaration
 use Rattle.c_model.specs.StatementTyping.{Around, in_loop, behind, behind_first, condition, typed_condition, typed_maybe, returned, typed_declarations, typed_statement, typed_else, typed_first, typed_item, typed_items}

@@ -8,9 +8,9 @@ use Rattle.c_syntax.specs.declared.expression.BinOp.{BinOp}
 use Rattle.c_syntax.specs.Ctypes.{PlainType, Int, Ptr, Array, Struct, Count, int_type}
 use Rattle.c_syntax.specs.Expressions.{Expression, Node, Number, Letter, Unary, Binary, Both, Either, Choice, Cast, SizeOfType, SizeOfExpr, Comma, place_of, type_of}
 use Rattle.c_syntax.specs.Programs.{StructType}
+use Rattle.c_syntax.specs.Layouts.{size_of, size_of_struct}
 use Rattle.c_model.specs.Integers.{integer_type}
 use Rattle.c_model.specs.Conversions.{promoted, is_relation}
-use Rattle.c_model.specs.Layouts.{size_of, size_of_struct}
 use Rattle.c_model.specs.Integers.{truth}
 use Rattle.c_model.specs.Memory.{Integer}
 use Rattle.c_model.specs.State.{◌>>=◌, ◌>>◌, give, defined, computed, tested}

@@ -6,7 +6,7 @@ use Rattle.c_syntax.specs.Expressions.{Expression}
 use Rattle.c_syntax.specs.Statements.{Initialiser, One, Many, Initialisers, NoInitialiser, Listed, Declaration, Statement, Empty, Eval, Block, If, While, Do, For, Break, Continue, Return}
 use Rattle.c_syntax.specs.Statements.{ElsePart, NoElse, Else, ForFirst, NoFirst, First, BlockItem, Declare, Run, Asserts, BlockItems, NoItem, Then}
 use Rattle.c_syntax.specs.Programs.{StructMember, StructType, Function}
-use Rattle.c_model.specs.Layouts.{size_of, elements, member_parts, members_of_struct}
+use Rattle.c_syntax.specs.Layouts.{size_of, elements, member_parts, members_of_struct}
 use Rattle.c_model.specs.Meaning.{parts_or_itself}
 use Rattle.c_model.specs.ExpressionTyping.{Sight, HasSize, is_known, sized, tables_in, with_object, with_objects, inner}
 use Rattle.c_model.specs.StatementTyping.{Around, in_loop, behind, behind_first}

@@ -8,7 +8,7 @@ use Rattle.c_syntax.specs.Ctypes.{PlainType, Struct, int_type}
 use Rattle.c_syntax.specs.Expressions.{Expression, Node, Number, Letter, Text, Variable, Unary, Binary, Both, Either, Choice, Assign, Bump, Call, Cast, SizeOfType, SizeOfExpr, Index, Dot, Arrow, Comma, Expressions, NoExpression}
 use Rattle.c_syntax.specs.Expressions.{Following, type_of}
 use Rattle.c_syntax.specs.Programs.{StructType}
-use Rattle.c_model.specs.Layouts.{members_of, members_of_struct, member_among}
+use Rattle.c_syntax.specs.Layouts.{members_of, members_of_struct, member_among}
 use Rattle.c_model.specs.ExpressionTyping.{Sight, HasSize, is_known, sized, most_bytes}
 use Rattle.c_model.specs.TypedTrees.{PointsToElements, HasKnownSize, IsName, OfObject, OfNull, IsText, HasMember, HasMemberBehind, BinaryTypes, OfIntegers, OfPointerAndInteger, OfIntegerAndPointer}
 use Rattle.c_model.specs.TypedTrees.{OfDifference, OfPointers, IndexTypes, OnTheLeft, OnTheRight, Assigns, ToScalar, ToStruct, CompoundTypes, ToInteger, ToPointer, CastTypes, ToVoid, OfInteger, OfPointer, OfNullConstant, OfArray}

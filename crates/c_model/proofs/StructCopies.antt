@@ -3,10 +3,10 @@ use Rattle.std.proofs.Common.{◌≡◌, ℕ, zero, suc, ◌+◌, ◌-◌, ◌�
 use Rattle.std.proofs.Common.{arith}
 use Rattle.std.proofs.lemmas.List.{drop-take, take-take, drop-drop}
 use Rattle.c_syntax.specs.declared.types.CInt.{CInt}
-use Rattle.c_model.specs.Integers.{int_size, value_of_bits}
+use Rattle.c_model.specs.Integers.{value_of_bits}
 use Rattle.c_syntax.specs.Ctypes.{PlainType}
 use Rattle.c_syntax.specs.Programs.{StructType}
-use Rattle.c_model.specs.Layouts.{Scalar, IntegerType, PointerType, scalar_size, size_of, scalars_of}
+use Rattle.c_syntax.specs.Layouts.{int_size, Scalar, IntegerType, PointerType, scalar_size, size_of, scalars_of}
 use Rattle.c_model.specs.TypedPrograms.{AreLaidOut}
 use Rattle.c_model.specs.Memory.{Pointer, Null, Into, Value, Integer, Points, Byte, Unwritten, Number, Piece, LoosePiece, with_low_byte, number_of, pointer_of, value_from, loosened, copied, Block, Store, block_at, is_accessible, bytes_in, load_bytes}
 use Rattle.c_model.specs.Memory.{with_bytes}

@@ -11,9 +11,9 @@ use Rattle.c_syntax.specs.declared.expression.BumpOp.{BumpOp}
 use Rattle.c_syntax.specs.Ctypes.{PlainType, Void, Int, Ptr, Struct, int_type}
 use Rattle.c_syntax.specs.Expressions.{Expression, Node, Number, Variable, Binary, Assign, Bump, Index, Comma, type_of}
 use Rattle.c_syntax.specs.Programs.{StructMember}
+use Rattle.c_syntax.specs.Layouts.{members_of, member_among}
 use Rattle.c_model.specs.Integers.{integer_type}
 use Rattle.c_model.specs.Conversions.{is_relation}
-use Rattle.c_model.specs.Layouts.{members_of, member_among}
 use Rattle.c_model.specs.Meaning.{is_array, is_pointer}
 use Rattle.c_model.specs.Library.{is_there}
 use Rattle.c_model.specs.Checked.{Good, given, where_so}

@@ -5,7 +5,7 @@ use Rattle.c_syntax.specs.Ctypes.{PlainType, Int, Ptr, Array, Struct, Count}
 use Rattle.c_syntax.specs.Expressions.{Expression, Node, Text, place_of, type_of}
 use Rattle.c_syntax.specs.Statements.{Initialiser, One, Many, Initialisers, NoInitialiser, Listed}
 use Rattle.c_syntax.specs.Programs.{StructMember, StructType}
-use Rattle.c_model.specs.Layouts.{size_of, elements, member_parts, members_of_struct}
+use Rattle.c_syntax.specs.Layouts.{size_of, elements, member_parts, members_of_struct}
 use Rattle.c_model.specs.Meaning.{parts_or_itself, string_in}
 use Rattle.c_model.specs.Checked.{Good, faulty, one_part, both_parts, where_so}
 use Rattle.c_model.specs.ExpressionTyping.{no_type, Sight, HasSize, sized, is_scalar, is_character, decayed, in_type, tables_in, is_assigned, typed}

@@ -2,7 +2,7 @@
 use Rattle.std.proofs.Common.{◌≡◌, ℕ, zero, suc, ◌&&◌, ◌||◌, pos, refl, sym, ap, ◌∙◌, subst, List, [], ◌∷◌, ◌++◌, map, Option, Some, None, Bool, true, false, not, if◌then◌else◌, nat_eq, nat_le, slice_get, slice_set}
 use Rattle.c_syntax.specs.Ctypes.{PlainType}
 use Rattle.c_syntax.specs.Programs.{StructMember, StructType, EnumConstant, TranslationUnit}
-use Rattle.c_model.specs.Layouts.{member_among}
+use Rattle.c_syntax.specs.Layouts.{member_among}
 use Rattle.c_model.specs.Library.{is_there}
 use Rattle.c_model.specs.Checked.{Good, one_part, where_so}
 use Rattle.c_model.specs.ExpressionTyping.{no_name, too_large, Sight, HasSize, sized, is_among, most_bytes, limited, typed_type}

@@ -5,8 +5,8 @@ use Rattle.c_syntax.specs.declared.place.Place.{Place}
 use Rattle.c_syntax.specs.declared.types.CInt.{CInt}
 use Rattle.c_syntax.specs.declared.types.CInt.TheVariants.{I8, U8, I16, U16, I32, U32, I64, U64}
 use Rattle.c_syntax.specs.Ctypes.{PlainType, Void, Int, Ptr, Array, Struct, PlainLength, Count}
+use Rattle.c_syntax.specs.Layouts.{IntegerType, PointerType}
 use Rattle.c_model.specs.Integers.{integer_type}
-use Rattle.c_model.specs.Layouts.{IntegerType, PointerType}
 use Rattle.c_model.specs.Library.{is_there}
 use Rattle.c_model.specs.Meaning.{is_pointer}
 use Rattle.c_model.specs.Checked.{Fault, Checked, Good, Bad, faulty, one_part, both_parts, given, where_so}

@@ -7,9 +7,9 @@ use Rattle.c_syntax.specs.declared.types.CInt.TheVariants.{I8, U8, I16, U16, I32
 use Rattle.c_syntax.specs.Ctypes.{PlainType, Void, Int, Ptr, Array, Struct, Count, int_type}
 use Rattle.c_syntax.specs.Expressions.{Expression, Node, Number, Letter, Text, Variable, Unary, Binary, Both, Either, Choice, Assign, Bump, Call, Cast, SizeOfType, SizeOfExpr, Index, Dot, Arrow, Comma, Expressions, NoExpression, Following, type_of}
 use Rattle.c_syntax.specs.Programs.{StructType, StringLiteral}
+use Rattle.c_syntax.specs.Layouts.{Scalar, scalar_of, size_of}
 use Rattle.c_model.specs.Integers.{fits, integer_type}
 use Rattle.c_model.specs.Conversions.{common}
-use Rattle.c_model.specs.Layouts.{Scalar, scalar_of, size_of}
 use Rattle.c_model.specs.Meaning.{is_pointer}
 use Rattle.c_model.specs.Library.{Constants, constants, constant_in, library_constant, is_there}
 use Rattle.c_model.specs.Checked.{Fault, Checked, Good, Bad, faulty, one_part, both_parts, where_so}

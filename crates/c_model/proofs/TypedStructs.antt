@@ -3,7 +3,7 @@ use Rattle.std.proofs.Common.{◌≡◌, ℕ, zero, suc, ◌+◌, pos, refl, sym
 use Rattle.std.proofs.Common.{false, not, if◌then◌else◌, nat_eq, slice_get, slice_set, append_assoc, append-nil, arith}
 use Rattle.c_syntax.specs.Ctypes.{PlainType}
 use Rattle.c_syntax.specs.Programs.{StructMember, StructType, EnumConstant, TranslationUnit}
-use Rattle.c_model.specs.Layouts.{size_of, align_of, aligned, member_among}
+use Rattle.c_syntax.specs.Layouts.{size_of, align_of, aligned, member_among}
 use Rattle.c_model.specs.Library.{is_there}
 use Rattle.c_model.specs.Checked.{Good, one_part, where_so}
 use Rattle.c_model.specs.ExpressionTyping.{no_name, Sight}

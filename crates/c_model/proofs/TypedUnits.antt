@@ -6,8 +6,8 @@ use Rattle.c_syntax.specs.Ctypes.{PlainType}
 use Rattle.c_syntax.specs.Expressions.{Expression}
 use Rattle.c_syntax.specs.Statements.{Declaration}
 use Rattle.c_syntax.specs.Programs.{StructMember, StructType, EnumConstant, TranslationUnit}
+use Rattle.c_syntax.specs.Layouts.{size_of, align_of, aligned, member_among}
 use Rattle.c_model.specs.Integers.{fits}
-use Rattle.c_model.specs.Layouts.{size_of, align_of, aligned, member_among}
 use Rattle.c_model.specs.Library.{is_there}
 use Rattle.c_model.specs.Checked.{Checked, Good, Bad, one_part, both_parts, where_so}
 use Rattle.c_model.specs.ExpressionTyping.{no_name, too_large, AnEnumerator, Sight, most_bytes, limited, constant, decayed_of, typed, typed_type}

@@ -10,7 +10,7 @@ use Rattle.c_syntax.specs.Ctypes.{PlainType, Void, Int, Ptr, Struct, int_type}
 use Rattle.c_syntax.specs.Expressions.{Expression, Node, Variable, Unary, Assign, Cast, Dot, place_of}
 use Rattle.c_syntax.specs.Statements.{Statement, Eval, Block, If, NoElse, Return, BlockItem, Declare, Run}
 use Rattle.c_syntax.specs.Programs.{TranslationUnit}
-use Rattle.c_model.specs.Layouts.{PointerType}
+use Rattle.c_syntax.specs.Layouts.{PointerType}
 use Rattle.c_model.specs.Memory.{Null, Into, Integer, Points, Unwritten, Number as NumberByte, LoosePiece, Store, block_of, new_block, bytes_of, pieces, load_bytes, load, ◌>>=◌, copy, copy_all}
 use Rattle.c_model.specs.Memory.{standard_sizes, greatest_number, kill_from, At, NoRoom, room_at, heap_room, heap_block, freed}
 use Rattle.c_model.specs.Integers.{bits_of}

@@ -40,6 +40,10 @@ both_parts (Good a) (Bad g gs) k = Bad g gs
 both_parts (Bad f fs) (Good b) k = Bad f fs
 both_parts (Bad f fs) (Bad g gs) k = Bad f (fs ++ g ∷ gs)
 
+-- two parts as one
+abbrev pub pair_of : {A B : Type 0} → Checked A → Checked B → Checked (A × B)
+pair_of a b = both_parts a b (λ a b. Good (a, b))
+
 -- a demand that has to give a value
 abbrev pub given : {A B : Type 0} → Option A → Fault → (A → Checked B) → Checked B
 given None f k = faulty f

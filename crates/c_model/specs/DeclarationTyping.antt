@@ -7,12 +7,12 @@ use Rattle.c_syntax.specs.declared.types.CInt.TheVariants.{I32}
 use Rattle.c_syntax.specs.declared.types.BlockKind.TheVariants as block
 use Rattle.c_syntax.specs.declared.expression.UnOp.TheVariants as unary
 use Rattle.c_syntax.specs.declared.expression.BinOp.TheVariants as operator
-use Rattle.c_syntax.specs.Ctypes.{PlainType, Ptr, Array, Struct, PlainLength, Left, Count}
+use Rattle.c_syntax.specs.Ctypes.{PlainType, Ptr, Array, Struct, Left, Count}
 use Rattle.c_syntax.specs.Expressions.{Expression, Node, Text, Variable, Unary, Binary, Cast, Index, Dot, Arrow, place_of, type_of}
 use Rattle.c_syntax.specs.Statements.{Initialiser, One, Many, Initialisers, NoInitialiser, Listed, Declaration}
 use Rattle.c_syntax.specs.Programs.{StructMember, StructType, EnumConstant}
+use Rattle.c_syntax.specs.Layouts.{count_of, size_of, align_of, aligned, member_among}
 use Rattle.c_model.specs.Integers.{fits}
-use Rattle.c_model.specs.Layouts.{size_of, align_of, aligned, member_among}
 use Rattle.c_model.specs.Memory.{Value, Block, block_of}
 use Rattle.c_model.specs.State.{Scope, State, Outcome, Normal, Stop}
 use Rattle.c_model.specs.Meaning.{eval_with, zeros, string_in, is_array, is_pointer, is_of_library}
@@ -148,12 +148,8 @@ abbrev pub member_types : Option StructType → List PlainType
 member_types None = []
 member_types (Some s) = map (λ (m : StructMember). m.ctype) s.members
 
-abbrev pub elements_in : PlainLength → ℕ
-elements_in (Count n) = n
-elements_in _ = 0
-
 abbrev pub slots_of : Sight → PlainType → Slots
-slots_of s (Array t n) = Each t (elements_in n)
+slots_of s (Array t n) = Each t (count_of n)
 slots_of s (Struct n) = Members (member_types (slice_get s.structs n))
 slots_of s t = Each t 1
 
@@ -162,7 +158,7 @@ bytes_of_text s k = elim (slice_get s.texts k) [ None ↦ 0 | Some l ↦ length 
 
 -- an array of characters takes a string, whose last 0 may be left out (C99 6.7.8 p14)
 abbrev pub takes_text : Sight → PlainType → Option ℕ → Bool
-takes_text s (Array t n) (Some k) = is_character t && nat_le (bytes_of_text s k) (elements_in n)
+takes_text s (Array t n) (Some k) = is_character t && nat_le (bytes_of_text s k) (count_of n)
 takes_text s _ _ = false
 
 abbrev pub is_text_array : PlainType → Initialisers → Bool

@@ -129,7 +129,7 @@ word_kind (word.Keyword k) = keyword_kind k
 word_kind (word.TypeName t) = type_name_kind
 word_kind word.Assert = name_kind
 word_kind word.Integer = name_kind
-word_kind word.Logic = logic_kind
+word_kind (word.Logic w) = logic_kind
 word_kind word.Name = name_kind
 
 abbrev pub token_kind : Vocabulary → PlainTokenKind → ℕ

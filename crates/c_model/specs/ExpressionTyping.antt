@@ -19,8 +19,8 @@ use Rattle.c_syntax.specs.Expressions.{Expression, Node, Number, Letter, Text, V
 use Rattle.c_syntax.specs.Expressions.{SizeOfType, SizeOfExpr, Index, Dot, Arrow, Comma, Expressions, NoExpression, Following, place_of, type_of}
 use Rattle.c_syntax.specs.Statements.{Declaration}
 use Rattle.c_syntax.specs.Programs.{StructType, StringLiteral}
+use Rattle.c_syntax.specs.Layouts.{scalar_of, size_of, members_of, member_among}
 use Rattle.c_model.specs.Integers.{fits, integer_type}
-use Rattle.c_model.specs.Layouts.{scalar_of, size_of, members_of, member_among}
 use Rattle.c_model.specs.Conversions.{promoted, common, is_shift, is_relation, result_type}
 use Rattle.c_model.specs.Memory.{Value, Integer}
 use Rattle.c_model.specs.State.{EndOfInput, State, Outcome, Normal, Over, Fault as FaultEnd, stop}

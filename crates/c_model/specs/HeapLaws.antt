@@ -5,8 +5,8 @@ use Rattle.c_syntax.specs.declared.types.Segment.TheVariants as segment
 use Rattle.c_syntax.specs.Statements.{Statement}
 use Rattle.c_syntax.specs.Ctypes.{PlainType}
 use Rattle.c_syntax.specs.Programs.{StructType, TranslationUnit}
+use Rattle.c_syntax.specs.Layouts.{Scalar, scalar_size, size_of, scalars_of}
 use Rattle.c_model.specs.Limits.{heap_bytes}
-use Rattle.c_model.specs.Layouts.{Scalar, scalar_size, size_of, scalars_of}
 use Rattle.c_model.specs.Memory.{Pointer, Null, Into, Value, Points, Byte, copied, Block, Store, block_at, load_bytes, load, save, shifted, copy_all, moved}
 use Rattle.c_model.specs.Memory.{distance, equal_pointers, tested_value, Sizes, standard_sizes, greatest_number, units, At, NoRoom, heap_room, freed}
 use Rattle.c_model.specs.State.{State, Outcome, Normal, Evaluation, allocate}

@@ -10,9 +10,9 @@ use Rattle.c_syntax.specs.Expressions.{Expression}
 use Rattle.c_syntax.specs.Annotations.{Annotation}
 use Rattle.c_syntax.specs.Statements.{Statement, While, Do}
 use Rattle.c_syntax.specs.Programs.{TranslationUnit}
+use Rattle.c_syntax.specs.Layouts.{Scalar, IntegerType, PointerType, scalar_size}
 use Rattle.c_model.specs.Integers.{fits, is_signed, value_bits, bits_of, value_of_bits, convert, result_in, operate_in, operate_one_in}
 use Rattle.c_model.specs.Conversions.{is_shift, is_relation}
-use Rattle.c_model.specs.Layouts.{Scalar, IntegerType, PointerType, scalar_size}
 use Rattle.c_model.specs.Memory.{Pointer, Into, Value, Integer, Points, Block, Store, block_at, load, save}
 use Rattle.c_model.specs.State.{Input, State, Fault, Outcome, Normal, Stop, Evaluation, ◌>>=◌, ◌>>◌, done, step}
 use Rattle.c_model.specs.Meaning.{choose, after_body, turns, condition_with, effect_with, call_of, tables_of, condition, exec, whole, start, ran}

@@ -1,10 +1,10 @@
 pub mod Operators
 pub mod Integers
 pub mod Conversions
-pub mod Layouts
 pub mod Memory
 pub mod State
 pub mod Logic
+pub mod Predicates
 pub mod Meaning
 pub mod Statuses
 pub mod Reports
@@ -24,6 +24,7 @@ pub mod Vocabulary
 pub mod ExpressionGrammar
 pub mod DeclarationGrammar
 pub mod ProgramGrammar
+pub mod AnnotationGrammar
 pub mod Checked
 pub mod Library
 pub mod ExpressionTyping
@@ -60,4 +61,8 @@ pub mod CTokenLaws
 pub mod TokenWords
 pub mod Phases
 pub mod Ranges
+pub mod TermRanges
+pub mod PredicateTyping
+pub mod TypedPredicates
+pub mod Unranged
 pub mod Limits

@@ -20,10 +20,10 @@ use Rattle.c_syntax.specs.Statements.{Do, For, Break, Continue, Return, ElsePart
 use Rattle.c_syntax.specs.Statements.{BlockItems, NoItem, Then}
 use Rattle.c_syntax.specs.Programs.{StructType, Function, TranslationUnit}
 use Rattle.c_syntax.specs.declared.types.CInt.TheVariants.{U64}
+use Rattle.c_syntax.specs.Layouts.{Scalar, IntegerType, PointerType, scalar_size, scalar_of, size_of, target_of, offset_of, parts_of, scalars_of}
 use Rattle.c_model.specs.Integers.{bits_of, convert, integer_type, truth, operate, operate_one, byte_of}
 use Rattle.c_model.specs.Conversions.{operation_type, is_shift}
 use Rattle.c_model.specs.Operators.{quotient}
-use Rattle.c_model.specs.Layouts.{Scalar, IntegerType, PointerType, scalar_size, scalar_of, size_of, target_of, offset_of, parts_of, scalars_of}
 use Rattle.c_model.specs.Memory.{Pointer, Null, Into, Value, Integer, Points, NoValue, Byte, Unwritten, Number as NumberByte}
 use Rattle.c_model.specs.Memory.{Block as MemoryBlock, block_of, Store, freed, moved, distance, equal_pointers, shifted}
 use Rattle.c_model.specs.State.{Scope, Input, State, Breaks, Continues, Returns, Final, Exits, Undefined, Fault, Spent, Leaves, Over, Outcome, Normal}

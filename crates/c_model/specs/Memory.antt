@@ -6,9 +6,9 @@ use Rattle.c_syntax.specs.declared.types.BlockKind.{BlockKind}
 use Rattle.c_syntax.specs.declared.types.BlockKind.TheVariants.{Global, Literal, Stack, Heap}
 use Rattle.c_syntax.specs.declared.types.Segment.{Segment}
 use Rattle.c_syntax.specs.declared.types.Segment.TheVariants as segment
+use Rattle.c_syntax.specs.Layouts.{int_size, Scalar, IntegerType, PointerType, scalar_size}
 use Rattle.c_model.specs.Limits.{globals_bytes, stack_bytes, heap_bytes}
-use Rattle.c_model.specs.Integers.{bits_of, value_of_bits, int_size, truth}
-use Rattle.c_model.specs.Layouts.{Scalar, IntegerType, PointerType, scalar_size}
+use Rattle.c_model.specs.Integers.{bits_of, value_of_bits, truth}
 
 -- null, or a place in a block: its number, from 1, and the offset in bytes
 pub data Pointer : Type 0 where

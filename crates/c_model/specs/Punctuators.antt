@@ -135,3 +135,14 @@ left_brace = 43
 
 abbrev pub right_brace : ℕ
 right_brace = 44
+
+-- ---- those of annotations alone (ACSL 2.2)
+
+abbrev pub equivalent : ℕ
+equivalent = 45
+
+abbrev pub implies : ℕ
+implies = 46
+
+abbrev pub caret_caret : ℕ
+caret_caret = 47

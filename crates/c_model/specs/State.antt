@@ -8,8 +8,8 @@ use Rattle.c_syntax.specs.declared.types.Segment.TheVariants.{Frames}
 use Rattle.c_syntax.specs.declared.types.BlockKind.TheVariants as block
 use Rattle.c_syntax.specs.Programs.{StructType}
 use Rattle.c_syntax.specs.Statements.{Declaration}
+use Rattle.c_syntax.specs.Layouts.{Scalar, size_of}
 use Rattle.c_model.specs.Limits.{most_frames}
-use Rattle.c_model.specs.Layouts.{Scalar, size_of}
 use Rattle.c_model.specs.Memory.{Pointer, Null, Into, Value, Integer, Points, NoValue, Byte, new_block, Store, load, save, save_bytes, copy_all, tested_value}
 use Rattle.c_model.specs.Memory.{kill_from, standard_sizes, full_at_stack_birth, Room, At, NoRoom, heap_room, heap_block}
 

@@ -18,9 +18,9 @@ use Rattle.c_syntax.specs.Statements.{Initialiser, One, Many, Initialisers, NoIn
 use Rattle.c_syntax.specs.Statements.{For, Break, Continue, Return, ElsePart, NoElse, Else, ForFirst, NoFirst, First, BlockItem, Declare, Run, Asserts}
 use Rattle.c_syntax.specs.Statements.{BlockItems, NoItem, Then}
 use Rattle.c_syntax.specs.Programs.{StructMember, StringLiteral, Function}
+use Rattle.c_syntax.specs.Layouts.{Scalar, scalar_of, size_of, members_of, member_among}
 use Rattle.c_model.specs.Integers.{fits}
 use Rattle.c_model.specs.Conversions.{promoted, is_shift, is_relation}
-use Rattle.c_model.specs.Layouts.{Scalar, scalar_of, size_of, members_of, member_among}
 use Rattle.c_model.specs.Meaning.{parts_or_itself, string_in}
 use Rattle.c_model.specs.Library.{is_library_name}
 use Rattle.c_model.specs.ExpressionTyping.{Object, AnObject, Signature, Sight, name_at, or_else, entity_named, function_called, library_function}

@@ -8,8 +8,8 @@ use Rattle.c_syntax.specs.Ctypes.{PlainType, int_type}
 use Rattle.c_syntax.specs.Expressions.{Expression}
 use Rattle.c_syntax.specs.Statements.{Declaration, Statement, Block}
 use Rattle.c_syntax.specs.Programs.{StructMember, StructType, EnumConstant, EnumType, StringLiteral, Function, TranslationUnit}
+use Rattle.c_syntax.specs.Layouts.{size_of}
 use Rattle.c_model.specs.Limits.{globals_bytes}
-use Rattle.c_model.specs.Layouts.{size_of}
 use Rattle.c_model.specs.Memory.{rounded}
 use Rattle.c_model.specs.Places.{first_place}
 use Rattle.c_model.specs.Meaning.{is_definition}

@@ -1,11 +1,13 @@
 -- What the words of C are (C99 6.4.1, 6.7.2, 7.17).
-use Rattle.std.specs.Prelude.{ℕ, List, [], ◌∷◌, Option, Some, None, option_map, if◌then◌else◌, nat_eq, slice_get, codes}
+use Rattle.std.specs.Prelude.{ℕ, List, [], ◌∷◌, Bool, true, false, Option, Some, None, option_map, if◌then◌else◌, nat_eq, slice_get, codes}
 use Rattle.c_syntax.specs.declared.types.CInt.{CInt}
 use Rattle.c_syntax.specs.declared.types.CInt.TheVariants.{I8, U8, I16, U16, I32, U32, I64, U64}
 use Rattle.c_model.specs.declared.vocabulary.Keyword.{Keyword}
 use Rattle.c_model.specs.declared.vocabulary.Keyword.TheVariants.{Char, Short, Int, Long, Signed, Unsigned, Void, Const, Static, If, Else, While, Do, For}
 use Rattle.c_model.specs.declared.vocabulary.Keyword.TheVariants.{Break, Continue, Return, Sizeof, Struct, Enum, Typedef, Kept}
 use Rattle.c_model.specs.declared.vocabulary.TypeName.TheVariants.{Library}
+use Rattle.c_model.specs.declared.vocabulary.LogicWord.{LogicWord}
+use Rattle.c_model.specs.declared.vocabulary.LogicWord.TheVariants as logic
 use Rattle.c_model.specs.declared.vocabulary.Word.{Word}
 use Rattle.c_model.specs.declared.vocabulary.Word.TheVariants as word
 use Rattle.c_model.specs.declared.vocabulary.SignWords.{SignWords}
@@ -43,10 +45,14 @@ other_words =
     (codes "size_t", word.TypeName (Library U64)) ∷ (codes "ptrdiff_t", word.TypeName (Library I64)) ∷ (codes "assert", word.Assert)
     ∷ (codes "integer", word.Integer) ∷ []
 
+-- the words that begin with `\`, by what stands after it (ACSL 2.2)
+abbrev pub logic_words : List (List ℕ × LogicWord)
+logic_words = (codes "true", logic.Truth true) ∷ (codes "false", logic.Truth false) ∷ []
+
 -- a word that begins with `\` stands in annotations alone
 abbrev pub name_or_logic : List ℕ → Word
 name_or_logic [] = word.Name
-name_or_logic (b ∷ bs) = if nat_eq b 92 then word.Logic else word.Name
+name_or_logic (b ∷ bs) = if nat_eq b 92 then word.Logic (found_in logic_words bs logic.Kept) else word.Name
 
 -- what a word is: one of these, or a name
 unfoldable pub word_of : List ℕ → Word

@@ -1,5 +1,6 @@
 //! The laws that the definitions meet, one function for each subject. None of them has anything to do.
 
+ghost use Rattle.c_model.specs.Unranged.{RangingKeepsAnnotations, RangingKeepsPredicates, RangingKeepsTerms, RangesKeepAnswers, RangesKeepValues};
 ghost use Rattle.c_model.specs.Laws.{BitsHoldValues, FittingResultsStand, SignedResultsFit, UnsignedResultsWrap, ResultsFit};
 ghost use Rattle.c_model.specs.Laws.{ConversionsFit, ConversionsKeepValues, OperatorsFit, OperatorsOfOneFit};
 ghost use Rattle.c_model.specs.Laws.{SavedPointersLoad, SavedValuesLoad, SavesKeepBlocks, SavesKeepBytes, SavesKeepWhole, StatementsKeepWhole};
@@ -7,6 +8,7 @@ ghost use Rattle.c_model.specs.HeapLaws.{HeapPlacesFit, HeapPlacesAreLeast, Full
 ghost use Rattle.c_model.specs.HeapLaws.{AllocatedBlocksAreNew, NoBytesGiveNull, FreedBlocksDie, LiveBlocksCanBeFreed, FreeLetsNullBe, DeadBlocksHaveNoUse};
 ghost use Rattle.c_model.specs.HeapLaws.{StatementsKeepBlocks, StatementsKeepPlaces, ScalarsStandInOrder, AssignedStructsAreCopies, AssignedStructsKeepTheRest};
 ghost use Rattle.c_model.specs.Laws.{FuelIsEnough, StepsFall, LoopsTurn, DoLoopsTurn, ForLoopsTurn, RunsNeedNoFuel, RunsSpendSteps, OutputGrows};
+ghost use Rattle.c_model.specs.TypedPredicates.{TypedAnnotationsAreKnown};
 ghost use Rattle.c_model.specs.Laws.{ProgramsNeverFault, AgreementIsReflexive, AgreementIsTransitive};
 
 /// Integers: a value is the value of its bits, a result that fits stands, one that does not is undefined in a signed
@@ -76,8 +78,22 @@ pub fn programs()
     ensures faultless { ProgramsNeverFault }
 {}
 
+/// Annotations: what typing makes of those that are read is well typed.
+pub fn annotations()
+    ensures typed { TypedAnnotationsAreKnown }
+{}
+
 /// Agreement of runs: each agrees with itself, and what agrees with a run in two steps agrees with it.
 pub fn agreement()
     ensures reflexive { AgreementIsReflexive }
     ensures transitive { AgreementIsTransitive }
+{}
+
+/// Ranges: a term or predicate with ranges is the same but for its ranges, each of which is that of its form, and it means the same.
+pub fn ranging()
+    ensures terms { RangingKeepsTerms }
+    ensures predicates { RangingKeepsPredicates }
+    ensures annotations { RangingKeepsAnnotations }
+    ensures values { RangesKeepValues }
+    ensures answers { RangesKeepAnswers }
 {}

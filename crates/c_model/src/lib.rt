@@ -13,6 +13,7 @@ pub mod vocabulary;
 
 // programs
 pub mod declarations;
+pub mod formulas;
 pub mod laws;
 pub mod operands;
 

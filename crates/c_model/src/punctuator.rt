@@ -138,7 +138,16 @@ pub const RIGHT_BRACE: u8 = 44;
 /// How many there are; those of annotations alone follow.
 pub const COUNT: u8 = 45;
 
-/// How they are spelled.
+/// `<==>`
+pub const EQUIVALENT: u8 = 45;
+
+/// `==>`
+pub const IMPLIES: u8 = 46;
+
+/// `^^`
+pub const CARET_CARET: u8 = 47;
+
+/// How those of C are spelled.
 pub const SPELLINGS: &[&[u8]] = &[
     b"<<=", b">>=", b"++", b"--", b"->", b"<<", b">>", b"<=", b">=", b"==", b"!=", b"&&", b"||",
     b"+=", b"-=", b"*=", b"/=", b"%=", b"&=", b"|=", b"^=", b"+", b"-", b"*", b"/", b"%", b"<",

@@ -39,6 +39,15 @@ pub enum TypeName {
     Declared,
 }
 
+/// A word that begins with `\` (ACSL 2.2).
+#[derive(Clone, Copy, PartialEq, Eq, Debug)]
+pub enum LogicWord {
+    /// `\true` or `\false`.
+    Truth(bool),
+    /// A word that stands in no form yet, or in none at all.
+    Kept,
+}
+
 /// What a word is.
 #[derive(Clone, Copy, PartialEq, Eq, Debug)]
 pub enum Word {
@@ -49,7 +58,7 @@ pub enum Word {
     /// `integer`, which is a name of C and a type of annotations.
     Integer,
     /// A word of annotations that begins with `\`.
-    Logic,
+    Logic(LogicWord),
     Name,
 }
 

@@ -2,7 +2,10 @@ pub mod Trees
 pub mod Ctypes
 pub mod Expressions
 pub mod Annotations
+pub mod Formulas
+pub mod Logic
 pub mod Statements
 pub mod Programs
+pub mod Layouts
 pub mod Tokens
 pub mod RefusalCodes

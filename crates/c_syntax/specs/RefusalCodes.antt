@@ -25,6 +25,14 @@ name_code = 5
 abbrev pub type_code : ℕ
 type_code = 6
 
+-- an annotation where none of its kind may stand
+abbrev pub misplaced_code : ℕ
+misplaced_code = 7
+
+-- a term whose values may pass signed 128 bits
+abbrev pub range_code : ℕ
+range_code = 10
+
 -- a limit that is passed
 abbrev pub limit_code : ℕ
 limit_code = 11

@@ -18,6 +18,12 @@ pub const NAME: u8 = 5;
 /// A demand on types that isn't met.
 pub const TYPE: u8 = 6;
 
+/// An annotation where none of its kind may stand.
+pub const MISPLACED: u8 = 7;
+
+/// A term whose values may pass signed 128 bits.
+pub const RANGE: u8 = 10;
+
 /// A limit that is passed.
 pub const LIMIT: u8 = 11;
 

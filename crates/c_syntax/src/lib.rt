@@ -8,6 +8,8 @@ pub mod code;
 pub mod copy;
 pub mod expression;
 pub mod fault;
+pub mod layout;
+pub mod logic;
 pub mod name;
 pub mod place;
 pub mod program;

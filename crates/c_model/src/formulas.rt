@@ -1,0 +1,28 @@
+//! What is read of the forms of annotations (ACSL 2.2).
+
+use c_syntax::BinOp;
+use c_syntax::logic::Connective;
+
+/// What joins two forms.
+#[derive(Clone, Copy, PartialEq, Eq, Debug)]
+pub enum FormulaOperator {
+    /// An operator of terms.
+    Term(BinOp),
+    /// A connective of predicates.
+    Predicate(Connective),
+}
+
+/// How a chain of relations goes on, by those that were read.
+#[derive(Clone, Copy, PartialEq, Eq, Debug)]
+pub enum ChainDirection {
+    /// No relation yet.
+    Start,
+    /// Only `==`.
+    Equal,
+    /// `<` or `<=`, and maybe `==`.
+    Up,
+    /// `>` or `>=`, and maybe `==`.
+    Down,
+    /// `!=`, which stands alone.
+    Ended,
+}

@@ -1,0 +1,65 @@
+-- The plain form of what is read of annotations (ACSL 2.2, 2.3), before typing tells terms from predicates: without boxes.
+use Rattle.std.specs.Prelude.{ℤ, Bool}
+use Rattle.c_syntax.specs.declared.place.Place.{Place}
+use Rattle.c_syntax.specs.declared.expression.Use.{Use}
+use Rattle.c_syntax.specs.declared.expression.BinOp.{BinOp}
+use Rattle.c_syntax.specs.declared.expression.UnOp.{UnOp}
+use Rattle.c_syntax.specs.declared.annotation.Relation.{Relation}
+use Rattle.c_syntax.specs.declared.logic.Connective.{Connective}
+use Rattle.c_syntax.specs.declared.logic.Formula.{Formula}
+use Rattle.c_syntax.specs.declared.logic.FormulaKind.{FormulaKind}
+use Rattle.c_syntax.specs.declared.logic.FormulaKind as code
+use Rattle.c_syntax.specs.declared.logic.FormulaLinks.{FormulaLinks}
+use Rattle.c_syntax.specs.declared.logic.FormulaLinks as links
+use Rattle.c_syntax.specs.declared.logic.LogicType.{LogicType}
+use Rattle.c_syntax.specs.declared.logic.LogicType.TheVariants as logic_type
+use Rattle.c_syntax.specs.Ctypes.{PlainType, plain_type}
+
+-- the type that a cast names
+pub data CastType : Type 0 where
+  Integers : CastType
+  OfC : PlainType → CastType
+
+abbrev pub plain_cast_type : LogicType → CastType
+plain_cast_type logic_type.Integer = Integers
+plain_cast_type (logic_type.Of t) = OfC (plain_type t)
+
+mutual
+  pub data Form : Type 0 where
+    Number : Place → ℤ → Form
+    Letter : Place → ℤ → Form
+    Truth : Place → Bool → Form
+    Name : Place → Use → Form
+    Unary : Place → UnOp → Form → Form
+    Binary : Place → BinOp → Form → Form → Form
+    Cast : Place → CastType → Form → Form
+    SizeOf : Place → PlainType → Form
+    Chain : Place → Form → FormLinks → Form
+    Connected : Place → Connective → Form → Form → Form
+    Choice : Place → Form → Form → Form → Form
+
+  -- the relations of a chain, each with its place and the form after it
+  pub data FormLinks : Type 0 where
+    NoLink : FormLinks
+    Linked : Place → Relation → Form → FormLinks → FormLinks
+
+abbrev mutual
+  pub plain_form_kind : Place → FormulaKind → Form
+  plain_form_kind at (code.Number n) = Number at n
+  plain_form_kind at (code.Letter n) = Letter at n
+  plain_form_kind at (code.Truth b) = Truth at b
+  plain_form_kind at (code.Name x) = Name at x
+  plain_form_kind at (code.Unary' op pa p a) = Unary at op (plain_form_kind pa a)
+  plain_form_kind at (code.Binary' op pa p a pb q b) = Binary at op (plain_form_kind pa a) (plain_form_kind pb b)
+  plain_form_kind at (code.Cast' to pa p a) = Cast at (plain_cast_type to) (plain_form_kind pa a)
+  plain_form_kind at (code.SizeOf t) = SizeOf at (plain_type t)
+  plain_form_kind at (code.Chain' pa p a ls) = Chain at (plain_form_kind pa a) (plain_form_links ls)
+  plain_form_kind at (code.Connected' c pa p a pb q b) = Connected at c (plain_form_kind pa a) (plain_form_kind pb b)
+  plain_form_kind at (code.Choice' pa p a pb q b pc r c) = Choice at (plain_form_kind pa a) (plain_form_kind pb b) (plain_form_kind pc c)
+
+  pub plain_form_links : FormulaLinks → FormLinks
+  plain_form_links links.End = NoLink
+  plain_form_links (links.Link' at r pa p a q rest) = Linked at r (plain_form_kind pa a) (plain_form_links rest)
+
+abbrev pub plain_form : Formula → Form
+plain_form f = plain_form_kind f.place f.kind.value

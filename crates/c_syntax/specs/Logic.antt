@@ -1,0 +1,103 @@
+-- The plain form of annotations (ACSL 2.2, 2.3): their variants, numbers, places and parts, without boxes.
+use Rattle.std.specs.Prelude.{ℕ, ℤ, Bool, Option, option_map}
+use Rattle.c_syntax.specs.declared.place.Place.{Place}
+use Rattle.c_syntax.specs.declared.expression.Use.{Use}
+use Rattle.c_syntax.specs.declared.expression.BinOp.{BinOp}
+use Rattle.c_syntax.specs.declared.expression.UnOp.{UnOp}
+use Rattle.c_syntax.specs.declared.annotation.Kind.{Kind}
+use Rattle.c_syntax.specs.declared.annotation.Range.{Range}
+use Rattle.c_syntax.specs.declared.annotation.Relation.{Relation}
+use Rattle.c_syntax.specs.declared.logic.Annot.{Annot}
+use Rattle.c_syntax.specs.declared.logic.Body.{Body}
+use Rattle.c_syntax.specs.declared.logic.Body.TheVariants as body
+use Rattle.c_syntax.specs.declared.logic.Connective.{Connective}
+use Rattle.c_syntax.specs.declared.logic.Links as code_links
+use Rattle.c_syntax.specs.declared.logic.Pred.{Pred}
+use Rattle.c_syntax.specs.declared.logic.PredKind.{PredKind}
+use Rattle.c_syntax.specs.declared.logic.PredKind as pred
+use Rattle.c_syntax.specs.declared.logic.Term.{Term}
+use Rattle.c_syntax.specs.declared.logic.TermKind.{TermKind}
+use Rattle.c_syntax.specs.declared.logic.TermKind as term
+use Rattle.c_syntax.specs.Ctypes.{PlainType, plain_type}
+use Rattle.c_syntax.specs.Formulas.{CastType, plain_cast_type, Form, plain_form}
+
+mutual
+  -- each with its place, its C type where it reads a place, and its range
+  pub data LogicTerm : Type 0 where
+    Number : Place → Option PlainType → Range → ℤ → LogicTerm
+    Letter : Place → Option PlainType → Range → ℤ → LogicTerm
+    Variable : Place → Option PlainType → Range → Use → LogicTerm
+    Unary : Place → Option PlainType → Range → UnOp → LogicTerm → LogicTerm
+    Binary : Place → Option PlainType → Range → BinOp → LogicTerm → LogicTerm → LogicTerm
+    Cast : Place → Option PlainType → Range → CastType → LogicTerm → LogicTerm
+    Choice : Place → Option PlainType → Range → Predicate → LogicTerm → LogicTerm → LogicTerm
+
+  -- the relations of a chain, each with its place and the term after it
+  pub data Links : Type 0 where
+    NoLink : Links
+    Linked : Place → Relation → LogicTerm → Links → Links
+
+  pub data Predicate : Type 0 where
+    Truth : Place → Bool → Predicate
+    NonZero : Place → LogicTerm → Predicate
+    Chain : Place → LogicTerm → Links → Predicate
+    Not : Place → Predicate → Predicate
+    Connected : Place → Connective → Predicate → Predicate → Predicate
+    Branch : Place → Predicate → Predicate → Predicate → Predicate
+
+pub data ClauseBody : Type 0 where
+  Raw : Form → ClauseBody
+  Holds : Predicate → ClauseBody
+
+pub record Annotation : Type 0 where
+  pub number : ℕ
+  pub kind : Kind
+  pub place : Place
+  pub body : ClauseBody
+
+-- the range that a term keeps
+abbrev pub range_of : LogicTerm → Range
+range_of (Number at t r n) = r
+range_of (Letter at t r n) = r
+range_of (Variable at t r x) = r
+range_of (Unary at t r op a) = r
+range_of (Binary at t r op a b) = r
+range_of (Cast at t r to a) = r
+range_of (Choice at t r c a b) = r
+
+abbrev mutual
+  pub plain_term_kind : Place → TermKind → Option PlainType → Range → LogicTerm
+  plain_term_kind at (term.Number n) t r = Number at t r n
+  plain_term_kind at (term.Letter n) t r = Letter at t r n
+  plain_term_kind at (term.Variable x) t r = Variable at t r x
+  plain_term_kind at (term.Unary' op pa p a ta ra) t r = Unary at t r op (plain_term_kind pa a (option_map plain_type ta) ra)
+  plain_term_kind at (term.Binary' op pa p a ta ra pb q b tb rb) t r = Binary at t r op (plain_term_kind pa a (option_map plain_type ta) ra)
+      (plain_term_kind pb b (option_map plain_type tb) rb)
+  plain_term_kind at (term.Cast' to pa p a ta ra) t r = Cast at t r (plain_cast_type to) (plain_term_kind pa a (option_map plain_type ta) ra)
+  plain_term_kind at (term.Choice' pc o c pa p a ta ra pb q b tb rb) t r = Choice at t r (plain_pred_kind pc c)
+      (plain_term_kind pa a (option_map plain_type ta) ra) (plain_term_kind pb b (option_map plain_type tb) rb)
+
+  pub plain_links : code_links.Links → Links
+  plain_links code_links.End = NoLink
+  plain_links (code_links.Link' at r pa p a ta ra q rest) = Linked at r (plain_term_kind pa a (option_map plain_type ta) ra) (plain_links rest)
+
+  pub plain_pred_kind : Place → PredKind → Predicate
+  plain_pred_kind at (pred.Truth b) = Truth at b
+  plain_pred_kind at (pred.NonZero' pa p a ta ra) = NonZero at (plain_term_kind pa a (option_map plain_type ta) ra)
+  plain_pred_kind at (pred.Chain' pa p a ta ra ls) = Chain at (plain_term_kind pa a (option_map plain_type ta) ra) (plain_links ls)
+  plain_pred_kind at (pred.Not' pa p a) = Not at (plain_pred_kind pa a)
+  plain_pred_kind at (pred.Connected' c pa p a pb q b) = Connected at c (plain_pred_kind pa a) (plain_pred_kind pb b)
+  plain_pred_kind at (pred.Choice' pc o c pa p a pb q b) = Branch at (plain_pred_kind pc c) (plain_pred_kind pa a) (plain_pred_kind pb b)
+
+abbrev pub plain_term : Term → LogicTerm
+plain_term t = plain_term_kind t.place t.kind.value (option_map plain_type t.ctype) t.range
+
+abbrev pub plain_pred : Pred → Predicate
+plain_pred p = plain_pred_kind p.place p.kind.value
+
+abbrev pub plain_body : Body → ClauseBody
+plain_body (body.Raw f) = Raw (plain_form f)
+plain_body (body.Truth p) = Holds (plain_pred p)
+
+abbrev pub plain_annot : Annot → Annotation
+plain_annot a = record { number = a.number; kind = a.kind; place = a.place; body = plain_body a.body }

@@ -1,0 +1,149 @@
+//! Annotations (ACSL 2.2, 2.3): forms as they are read, terms of unbounded integers, predicates, and the clauses that they stand in.
+//!
+//! The place of a form is that of an expression of the same form: an operator's token for a binary one and for `?:`, the first
+//! token of a prefix operator or a cast, the first relation of a chain, and else its token.
+
+use crate::annotation::{Kind, Range, Relation};
+use crate::expression::{BinOp, UnOp, Use};
+use crate::place::Place;
+use crate::types::CType;
+
+/// The type that a cast of annotations names (ACSL 2.2.3).
+#[derive(Drop)]
+pub enum LogicType {
+    /// The unbounded integers.
+    Integer,
+    /// A type of C.
+    Of(CType),
+}
+
+/// A connective of predicates (ACSL 2.2, table 2.1).
+#[derive(Clone, Copy, PartialEq, Eq, Debug)]
+pub enum Connective {
+    /// `&&`
+    And,
+    /// `^^`
+    Xor,
+    /// `||`
+    Or,
+    /// `==>`
+    Implies,
+    /// `<==>`
+    Iff,
+}
+
+/// A form of annotations as it is read. Typing tells terms from predicates.
+#[derive(Drop)]
+#[cycle(formula)]
+pub struct Formula {
+    pub place: Place,
+    pub kind: Box<FormulaKind>,
+}
+
+#[derive(Drop)]
+#[cycle(formula)]
+pub enum FormulaKind {
+    Number(i128),
+    /// A character literal, by its value as a `char`.
+    Letter(i8),
+    /// `\true` or `\false`.
+    Truth(bool),
+    Name(Use),
+    Unary(UnOp, Formula),
+    Binary(BinOp, Formula, Formula),
+    Cast(LogicType, Formula),
+    /// `sizeof (type)`
+    SizeOf(CType),
+    /// `f0 r1 f1 .. rn fn`, with at least one relation.
+    Chain(Formula, FormulaLinks),
+    Connected(Connective, Formula, Formula),
+    /// `condition ? first : second`
+    Choice(Formula, Formula, Formula),
+}
+
+/// The relations of a chain, each with its token's place and the form after it.
+#[derive(Drop)]
+#[cycle(formula)]
+pub enum FormulaLinks {
+    End,
+    Link(Place, Relation, Formula, Box<FormulaLinks>),
+}
+
+/// A term.
+#[derive(Drop)]
+#[cycle(logic)]
+pub struct Term {
+    pub place: Place,
+    pub kind: Box<TermKind>,
+    /// The C type of a term that reads a place; none for a mathematical integer.
+    pub ctype: Option<CType>,
+    /// The range of its values, by the inference of ranges; both bounds are 0 until then.
+    pub range: Range,
+}
+
+#[derive(Drop)]
+#[cycle(logic)]
+pub enum TermKind {
+    Number(i128),
+    /// A character literal, by its value as a `char`.
+    Letter(i8),
+    Variable(Use),
+    /// `+`, `-` or `~`.
+    Unary(UnOp, Term),
+    Binary(BinOp, Term, Term),
+    /// `(type) term`
+    Cast(LogicType, Term),
+    /// `condition ? first : second`
+    Choice(Pred, Term, Term),
+}
+
+/// The relations of a chain, each with its token's place and the term after it.
+#[derive(Drop)]
+#[cycle(logic)]
+pub enum Links {
+    End,
+    Link(Place, Relation, Term, Box<Links>),
+}
+
+/// A predicate.
+#[derive(Drop)]
+#[cycle(logic)]
+pub struct Pred {
+    pub place: Place,
+    pub kind: Box<PredKind>,
+}
+
+#[derive(Drop)]
+#[cycle(logic)]
+pub enum PredKind {
+    /// `\true` or `\false`.
+    Truth(bool),
+    /// A term where a predicate is wanted: it isn't 0.
+    NonZero(Term),
+    /// `t0 r1 t1 .. rn tn`: the conjunction of its neighbours.
+    Chain(Term, Links),
+    Not(Pred),
+    Connected(Connective, Pred, Pred),
+    /// `condition ? first : second`
+    Choice(Pred, Pred, Pred),
+}
+
+/// What a clause says.
+#[derive(Drop)]
+pub enum Body {
+    /// As it is read.
+    Raw(Formula),
+    /// A predicate, by typing.
+    Truth(Pred),
+}
+
+/// A clause of an annotation.
+#[derive(Drop)]
+pub struct Annot {
+    /// Its number in text order over the whole file, from 1.
+    pub number: u32,
+    pub kind: Kind,
+    /// The place of its first word.
+    pub place: Place,
+    pub body: Body,
+}
