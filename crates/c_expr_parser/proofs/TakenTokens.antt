@@ -86,7 +86,7 @@ word_small (word.Keyword k) = keyword_small k
 word_small (word.TypeName t) = omega arith
 word_small word.Assert = omega arith
 word_small word.Integer = omega arith
-word_small word.Logic = omega arith
+word_small (word.Logic w) = omega arith
 word_small word.Name = omega arith
 
 -- no word has the kind of a literal
@@ -95,7 +95,7 @@ no_literal (word.Keyword n) k l g h = let e = eqb-true (keyword_kind n) k h in l
 no_literal (word.TypeName t) k l g h = let e = eqb-true 4 k h in omega (arith, e)
 no_literal word.Assert k l g h = let e = eqb-true 0 k h in omega (arith, e)
 no_literal word.Integer k l g h = let e = eqb-true 0 k h in omega (arith, e)
-no_literal word.Logic k l g h = let e = eqb-true 5 k h in omega (arith, e)
+no_literal (word.Logic w) k l g h = let e = eqb-true 5 k h in omega (arith, e)
 no_literal word.Name k l g h = let e = eqb-true 0 k h in omega (arith, e)
 
 -- the only kind of a set of one
@@ -272,7 +272,7 @@ module _ (ws : Vocabulary) where
       by_word (word.TypeName c) g r = absurd (let l = r.0 in omega (arith, l))
       by_word word.Assert g r = absurd (let l = r.0 in omega (arith, l))
       by_word word.Integer g r = absurd (let l = r.0 in omega (arith, l))
-      by_word word.Logic g r = absurd (let l = r.0 in omega (arith, l))
+      by_word (word.Logic w) g r = absurd (let l = r.0 in omega (arith, l))
       by_word word.Name g r = absurd (let l = r.0 in omega (arith, l))
 
       by : (k : PlainTokenKind) → among (token_kind ws k) (words_behind x) ≡ true → (10 ≤ token_kind ws k) × (token_kind ws k ≤ 15) → (y : IntegerWords) × (next_words ws x k ≡ Some y)

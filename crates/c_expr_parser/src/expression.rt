@@ -174,7 +174,7 @@ fn written_brackets<'a>(
 /// The type of a cast or of `sizeof`.
 #[tactic(auto, unfolding(c_model::specs::ExpressionGrammar::type_name))]
 #[cycle(expression)]
-fn type_name<'a>(
+pub fn type_name<'a>(
     alloc: Global,
     words: &[Word],
     tokens: &'a [Token],

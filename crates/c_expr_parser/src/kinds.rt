@@ -161,7 +161,7 @@ pub fn word_kind(word: Word) -> u32
     match word {
         Word::Keyword(keyword) => keyword_kind(keyword),
         Word::TypeName(_) => TYPE_NAME,
-        Word::Logic => LOGIC,
+        Word::Logic(_) => LOGIC,
         Word::Assert | Word::Integer | Word::Name => NAME,
     }
 }

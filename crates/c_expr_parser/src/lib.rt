@@ -26,4 +26,5 @@ pub mod lengths;
 pub mod full;
 mod read;
 
+pub use expression::type_name;
 pub use read::{one_expression, read_expr};

@@ -1,10 +1,11 @@
 //! What the names of a text are (C99 6.4.1, 7.17).
 
 ghost use Rattle.std.specs.Prelude.{◌≡◌, map, IfOk};
-ghost use Rattle.c_model.specs.Vocabulary.{keywords, kept_keywords, other_words, name_or_logic, word_of};
+ghost use Rattle.c_model.specs.Vocabulary.{keywords, kept_keywords, other_words, logic_words, name_or_logic, word_of};
+ghost use Rattle.c_model.specs.declared.vocabulary.LogicWord.TheVariants.{Kept};
 ghost use Rattle.c_model.specs.Terminals.{found_in};
 
-use c_model::vocabulary::{Keyword, TypeName, Word};
+use c_model::vocabulary::{Keyword, LogicWord, TypeName, Word};
 use c_syntax::{CInt, Name};
 use std::alloc::{AllocError, Global};
 use token_reader::words::found_in;
@@ -83,12 +84,26 @@ fn other_word(bytes: &[u8], other: Word) -> Word
     )
 }
 
+/// The word of annotations that begins with `\`, after which these bytes stand.
+fn logic_word(bytes: &[u8]) -> LogicWord
+    ensures { result ≡ found_in logic_words bytes.now Kept }
+{
+    found_in(
+        &[
+            (b"true", LogicWord::Truth(true)),
+            (b"false", LogicWord::Truth(false)),
+        ],
+        bytes,
+        LogicWord::Kept,
+    )
+}
+
 /// A word of annotations alone, which begins with `\`, or a name.
 fn name_or_logic(bytes: &[u8]) -> Word
     ensures { result ≡ name_or_logic bytes.now }
 {
     match bytes {
-        [92, ..] => Word::Logic,
+        [92, rest @ ..] => Word::Logic(logic_word(rest)),
         _ => Word::Name,
     }
 }

@@ -19,7 +19,8 @@ use Rattle.c_model.specs.DeclarationGrammar.{storage_word, more_storage}
 use Rattle.token_reader.specs.Reading.{plain_list, Fails}
 use Rattle.c_expr_parser.proofs.ExactExpressions.{more_expression}
 use Rattle.c_parser.specs.Reading.{other_declared, other_parameters, other_members}
-use Rattle.c_parser.proofs.Turns.{shorter, one_turn, turn_stops, no_turn}
+use Rattle.token_reader.proofs.Shorter.{shorter}
+use Rattle.c_parser.proofs.Turns.{one_turn, turn_stops, no_turn}
 use Rattle.c_parser.proofs.ExactDeclarations.{more_dtor, more_initialised, more_parameter, more_constant, items_fit, item_once_good, item_of_list_good, list_in_good, next_declared_good, next_parameter_good}
 use Rattle.c_parser.proofs.ExactDeclarations.{next_member_good, constant_good, member_good}
 use Rattle.c_parser.proofs.ExactDeclarations.{braces_in_good, storage_word_good, storage_fit}

@@ -11,7 +11,8 @@ use Rattle.c_model.specs.ExpressionGrammar.{mark_kind, kind}
 use Rattle.c_model.specs.ProgramGrammar.{FileParts, next_typedef, external, any_kind, more_external}
 use Rattle.token_reader.specs.Reading.{plain_list, Fails}
 use Rattle.c_parser.specs.Reading.{other_typedefs}
-use Rattle.c_parser.proofs.Turns.{shorter, one_turn, turn_stops, no_turn}
+use Rattle.token_reader.proofs.Shorter.{shorter}
+use Rattle.c_parser.proofs.Turns.{one_turn, turn_stops, no_turn}
 use Rattle.c_parser.proofs.ExactDeclarations.{more_dtor}
 use Rattle.c_parser.proofs.ExactPrograms.{any, next_typedef_good, external_good}
 

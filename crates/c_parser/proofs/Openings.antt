@@ -48,7 +48,7 @@ word_small (word.Keyword k) = keyword_small k
 word_small (word.TypeName t) = omega arith
 word_small word.Assert = omega arith
 word_small word.Integer = omega arith
-word_small word.Logic = omega arith
+word_small (word.Logic w) = omega arith
 word_small word.Name = omega arith
 
 keyword_large : (k : Keyword) → 10 ≤ keyword_kind k
@@ -81,7 +81,7 @@ no_literal (word.Keyword n) k l g h = let e = eqb-true (keyword_kind n) k h in l
 no_literal (word.TypeName t) k l g h = let e = eqb-true 4 k h in omega (arith, e)
 no_literal word.Assert k l g h = let e = eqb-true 0 k h in omega (arith, e)
 no_literal word.Integer k l g h = let e = eqb-true 0 k h in omega (arith, e)
-no_literal word.Logic k l g h = let e = eqb-true 5 k h in omega (arith, e)
+no_literal (word.Logic w) k l g h = let e = eqb-true 5 k h in omega (arith, e)
 no_literal word.Name k l g h = let e = eqb-true 0 k h in omega (arith, e)
 
 -- what is among the kinds of a table is the kind of one of its punctuators

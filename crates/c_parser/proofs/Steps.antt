@@ -16,7 +16,7 @@ use Rattle.token_reader.proofs.Faults.{again}
 use Rattle.c_expr_parser.proofs.ExactTokens.{IsRead}
 use Rattle.c_parser.specs.Reading.{more_terms}
 use Rattle.c_parser.proofs.ExactStatements.{sum_good, sum_once_good, items_once_good}
-use Rattle.c_parser.proofs.Turns.{shorter}
+use Rattle.token_reader.proofs.Shorter.{shorter}
 use Rattle.c_parser.proofs.ExactPrograms.{statement_good}
 
 -- ---- limits

@@ -53,7 +53,7 @@ pub fn term_name<'a>(
         [token, rest @ ..] => match &token.kind {
             TokenKind::Word(number) => match word_at(words, *number) {
                 Word::Assert | Word::Name => Ok((*number, token.place, rest)),
-                Word::Keyword(_) | Word::TypeName(_) | Word::Integer | Word::Logic => {
+                Word::Keyword(_) | Word::TypeName(_) | Word::Integer | Word::Logic(_) => {
                     Err(ReadFault::At(left(tokens)))
                 }
             },

@@ -2,3 +2,4 @@
 pub mod Faults
 -- the tokens at which a text is refused
 pub mod Refusals
+pub mod Shorter

@@ -1,0 +1,6 @@
+pub mod FormulaTokens
+pub mod ExactForms
+pub mod UnlimitedForms
+pub mod ExactAnnotations
+pub mod Clauses
+pub mod Turns

@@ -1,0 +1,17 @@
+//! From tokens to annotations of C (ACSL 2.2, 2.4.1).
+//!
+//! A function for each production of the grammar reads the tokens.
+#![tactic(auto)]
+
+// What single tokens stand for.
+mod tables;
+mod terminals;
+
+// Forms, inside others.
+mod atoms;
+mod formula;
+
+// Clauses within the limit of their tokens, and the public call.
+mod annotation;
+
+pub use annotation::annotations;

@@ -1,0 +1,166 @@
+//! Single tokens of annotations, and tests of the next one.
+
+ghost use Rattle.std.specs.Prelude.{◌≡◌, ◌<◌, length, IfOk, IfErr, [], ◌∷◌};
+ghost use Rattle.grammar.specs.Syntax.{sees, one};
+ghost use Rattle.c_syntax.specs.Tokens.{plain_token};
+ghost use Rattle.c_model.specs.Terminals.{placed};
+ghost use Rattle.c_model.specs.ExpressionGrammar.{first_type, kinds_of};
+ghost use Rattle.c_model.specs.AnnotationGrammar.{formula_kind, formula_word_kind, formula_name_of, truth_word, truth_of, integer_word, assert_word};
+ghost use Rattle.token_reader.specs.Reading.{Gives, TakesNoMemory, plain_list};
+
+use c_expr_parser::kinds::{NAME, kind, word_at, word_kind};
+use c_expr_parser::terminals as c_terminals;
+use c_model::vocabulary::{LogicWord, Word};
+use c_syntax::fault::ReadFault;
+use c_syntax::{Place, Token, TokenKind};
+use token_reader::terminals::left;
+
+/// The kind of the word `integer` in annotations.
+pub const INTEGER: u32 = 9;
+
+fn formula_word_kind(word: Word) -> u32
+    ensures { result ≡ formula_word_kind word }
+{
+    match word {
+        Word::Integer => INTEGER,
+        Word::Keyword(_) | Word::TypeName(_) | Word::Assert | Word::Logic(_) | Word::Name => {
+            word_kind(word)
+        }
+    }
+}
+
+/// The kind of a token of an annotation.
+fn formula_kind(words: &[Word], token: &Token) -> u32
+    ensures { result ≡ formula_kind words.now (plain_token token.now) }
+{
+    match &token.kind {
+        TokenKind::Word(number) => formula_word_kind(word_at(words, *number)),
+        TokenKind::Number(_, _)
+        | TokenKind::Letter(_)
+        | TokenKind::Chars(_)
+        | TokenKind::Mark(_)
+        | TokenKind::AnnotOpen
+        | TokenKind::AnnotClose
+        | TokenKind::Head(_, _) => kind(words, token),
+    }
+}
+
+pub fn next_is(words: &[Word], wanted: u32, tokens: &[Token]) -> bool
+    ensures { result ≡ sees (formula_kind words.now) (wanted ∷ []) (plain_list tokens.now) }
+{
+    match tokens {
+        [] => false,
+        [token, ..] => formula_kind(words, token) == wanted,
+    }
+}
+
+/// Whether a punctuator of the table comes next.
+#[tactic(auto, using(crate::proofs::FormulaTokens::sees_marks))]
+pub fn next_is_marked<T: Copy>(words: &[Word], table: &[(u8, T)], tokens: &[Token]) -> bool
+    ensures { result ≡ sees (formula_kind words.now) (kinds_of table.now) (plain_list tokens.now) }
+{
+    c_terminals::next_is_marked(words, table, tokens)
+}
+
+#[tactic(auto, using(crate::proofs::FormulaTokens::sees_type))]
+pub fn next_begins_type(words: &[Word], tokens: &[Token]) -> bool
+    ensures { result ≡ sees (formula_kind words.now) first_type (plain_list tokens.now) }
+{
+    c_terminals::next_begins_type(words, tokens)
+}
+
+/// A name, by its number.
+pub fn formula_name<'a>(
+    words: &[Word],
+    tokens: &'a [Token],
+) -> Result<(u32, Place, &'a [Token]), ReadFault>
+    ensures read { Gives (λ x. ((x.0, x.1), plain_list x.2.now)) result ((one (placed (formula_name_of words.now))).parse (plain_list tokens.now)) }
+    ensures shorter { IfOk result (λ x. length x.2.now < length tokens.now) }
+    ensures sure { IfErr result TakesNoMemory }
+{
+    match tokens {
+        [] => Err(ReadFault::At(0)),
+        [token, rest @ ..] => match &token.kind {
+            TokenKind::Word(number) => {
+                if formula_word_kind(word_at(words, *number)) == NAME {
+                    Ok((*number, token.place, rest))
+                } else {
+                    Err(ReadFault::At(left(tokens)))
+                }
+            }
+            _ => Err(ReadFault::At(left(tokens))),
+        },
+    }
+}
+
+fn truth_word(word: Word) -> Option<bool>
+    ensures { result ≡ truth_word word }
+{
+    match word {
+        Word::Logic(LogicWord::Truth(value)) => Some(value),
+        _ => None,
+    }
+}
+
+/// `\true` or `\false`.
+pub fn truth<'a>(
+    words: &[Word],
+    tokens: &'a [Token],
+) -> Result<(bool, Place, &'a [Token]), ReadFault>
+    ensures read { Gives (λ x. ((x.0, x.1), plain_list x.2.now)) result ((one (placed (truth_of words.now))).parse (plain_list tokens.now)) }
+    ensures shorter { IfOk result (λ x. length x.2.now < length tokens.now) }
+    ensures sure { IfErr result TakesNoMemory }
+{
+    match tokens {
+        [] => Err(ReadFault::At(0)),
+        [token, rest @ ..] => match &token.kind {
+            TokenKind::Word(number) => match truth_word(word_at(words, *number)) {
+                Some(value) => Ok((value, token.place, rest)),
+                None => Err(ReadFault::At(left(tokens))),
+            },
+            _ => Err(ReadFault::At(left(tokens))),
+        },
+    }
+}
+
+/// The word `integer`, by its place.
+pub fn integer_word<'a>(
+    words: &[Word],
+    tokens: &'a [Token],
+) -> Result<(Place, &'a [Token]), ReadFault>
+    ensures read { Gives (λ x. (x.0, plain_list x.1.now)) result ((integer_word words.now).parse (plain_list tokens.now)) }
+    ensures shorter { IfOk result (λ x. length x.1.now < length tokens.now) }
+    ensures sure { IfErr result TakesNoMemory }
+{
+    match tokens {
+        [] => Err(ReadFault::At(0)),
+        [token, rest @ ..] => {
+            if formula_kind(words, token) == INTEGER {
+                Ok((token.place, rest))
+            } else {
+                Err(ReadFault::At(left(tokens)))
+            }
+        }
+    }
+}
+
+/// The word `assert`, by its place.
+pub fn assert_word<'a>(
+    words: &[Word],
+    tokens: &'a [Token],
+) -> Result<(Place, &'a [Token]), ReadFault>
+    ensures read { Gives (λ x. ((tt, x.0), plain_list x.1.now)) result ((one (placed (assert_word words.now))).parse (plain_list tokens.now)) }
+    ensures shorter { IfOk result (λ x. length x.1.now < length tokens.now) }
+    ensures sure { IfErr result TakesNoMemory }
+{
+    match tokens {
+        [] => Err(ReadFault::At(0)),
+        [token, rest @ ..] => match &token.kind {
+            TokenKind::Word(number) => match word_at(words, *number) {
+                Word::Assert => Ok((token.place, rest)),
+                _ => Err(ReadFault::At(left(tokens))),
+            },
+            _ => Err(ReadFault::At(left(tokens))),
+        },
+    }
+}
