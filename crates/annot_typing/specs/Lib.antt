@@ -1,0 +1,4 @@
+pub mod Joined
+pub mod Limits
+pub mod Relations
+pub mod Sorts

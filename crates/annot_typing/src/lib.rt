@@ -1,0 +1,16 @@
+//! Sorts, names and types of annotations (ACSL 2.2, 2.3), whose C is typed: from the forms that are read to terms and predicates whose uses have
+//! their declarations.
+//!
+//! A function for each form gives what it is, or of all faults of its smallest faulty parts the first in the text.
+#![tactic(auto)]
+
+mod cast;
+mod chain;
+pub mod clause;
+mod demand;
+mod form;
+mod joined;
+mod name;
+pub mod sorted;
+
+pub use clause::type_clauses;
