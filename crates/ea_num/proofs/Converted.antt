@@ -5,7 +5,8 @@ use Rattle.std.proofs.Math.Nat.{mod-add-div, mod-lt}
 use Rattle.std.proofs.lemmas.Int.{ints}
 use Rattle.c_syntax.specs.declared.annotation.Range.{Range}
 use Rattle.c_syntax.specs.declared.types.CInt.{CInt}
-use Rattle.c_model.specs.Integers.{int_size, is_signed, value_bits, bits_of, value_of_bits}
+use Rattle.c_syntax.specs.Layouts.{int_size}
+use Rattle.c_model.specs.Integers.{is_signed, value_bits, bits_of, value_of_bits}
 use Rattle.c_model.specs.Ranges.{LiesIn, range_in_bits, width_of_range}
 use Rattle.c_model.proofs.Cells.{value_of_bits-bits_of, bits_of-below}
 use Rattle.c_model.proofs.Conversions.{fits-convert}

@@ -92,7 +92,7 @@ nothing_left n k h p =
     let l : n < 2 ^ k = omega arith in
     div-eq_of_lt l ∙ sym (div-eq_of_lt h)
 
-high_shift : (x : ℤ) (k : ℕ) → mag x < 2 ^ 127 → 127 ≤ k → floor_quotient x (2 ^ k) ≡ floor_quotient x (2 ^ 127)
+pub high_shift : (x : ℤ) (k : ℕ) → mag x < 2 ^ 127 → 127 ≤ k → floor_quotient x (2 ^ k) ≡ floor_quotient x (2 ^ 127)
 high_shift (pos n) k h p = ap pos (nothing_left n k h p)
 high_shift (negsuc n) k h p = ap negsuc (nothing_left n k h p)
 

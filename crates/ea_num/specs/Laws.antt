@@ -7,7 +7,8 @@ use Rattle.c_syntax.specs.declared.annotation.Range.{Range}
 use Rattle.c_syntax.specs.declared.types.CInt.{CInt}
 use Rattle.c_syntax.specs.declared.types.Width.{Width}
 use Rattle.c_syntax.specs.declared.types.Width.TheVariants.{W32, W64, W128}
-use Rattle.c_model.specs.Integers.{int_size, fits}
+use Rattle.c_syntax.specs.Layouts.{int_size}
+use Rattle.c_model.specs.Integers.{fits}
 use Rattle.c_model.specs.Operators.{complement, quotient, remainder, shift_left, shift_right, bit_of, bitwise_and, bitwise_or, bitwise_xor}
 use Rattle.c_model.specs.Ranges.{IsRange, LiesIn, IsWithin128, sum_range, difference_range, negation_range, complement_range, product_range, quotient_range}
 use Rattle.c_model.specs.Ranges.{remainder_range, shift_left_range, shift_right_range, bitwise_and_range, bitwise_or_range, bitwise_xor_range, width_of_range}

@@ -75,7 +75,7 @@ fn bits_of_both(a: Range, b: Range) -> u32
 }
 
 // The number, or its complement where it is negative.
-fn magnitude(x: i128) -> u128
+pub(crate) fn magnitude(x: i128) -> u128
     ensures { result ≡ mag x }
 {
     if x < 0 { !x as u128 } else { x as u128 }

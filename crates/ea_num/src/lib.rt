@@ -14,6 +14,6 @@ mod shifts;
 
 pub use arithmetic::{add, flip, neg, sub};
 pub use bits::{bit_and, bit_or, bit_xor};
-pub use conversions::{width_of, wrap};
+pub use conversions::{is_inside, type_range, width_of, wrap};
 pub use products::{div, mul, rem};
 pub use shifts::{shl, shr};

@@ -1,0 +1,5 @@
+pub mod Sound
+mod Ranged
+mod Rows
+-- examples, by computation
+mod WorkedRanges
