@@ -1,0 +1,15 @@
+pub mod Steps
+pub mod Parts
+pub mod Exact
+pub mod Quiet
+pub mod Conversions
+pub mod Variables
+pub mod Grows
+pub mod Connected
+pub mod Terms
+pub mod Theorem
+pub mod Typed
+pub mod Prefixes
+pub mod ValidParts
+pub mod ValidCode
+pub mod Rust

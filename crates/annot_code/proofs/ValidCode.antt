@@ -1,0 +1,421 @@
+-- The code of every predicate is valid.
+use Rattle.std.proofs.Common.{◌≡◌, ℕ, suc, ◌+◌, ◌-◌, ◌*◌, ◌≤◌, ℤ, pos, Bool, true, false, if◌then◌else◌, max, List, [], ◌∷◌, ◌++◌, length, Option, Some, None, slice_get, refl, sym, ap, ◌∙◌, subst, arith}
+use Rattle.std.proofs.lemmas.Int.{ints}
+use Rattle.std.proofs.Math.Nat.{max-le}
+use Rattle.std.specs.Ordering.{int_eq}
+use Rattle.c_syntax.specs.declared.annotation.Range.{Range}
+use Rattle.c_syntax.specs.declared.annotation.Relation.{Relation}
+use Rattle.c_syntax.specs.declared.expression.BinOp.{BinOp}
+use Rattle.c_syntax.specs.declared.expression.UnOp.{UnOp}
+use Rattle.c_syntax.specs.declared.expression.Use.{Use}
+use Rattle.c_syntax.specs.declared.logic.Connective.TheVariants.{And}
+use Rattle.c_syntax.specs.declared.place.Place.{Place}
+use Rattle.c_syntax.specs.declared.types.Width.{Width}
+use Rattle.c_syntax.specs.declared.types.Width.TheVariants.{W32, W64, W128}
+use Rattle.c_syntax.specs.Ctypes.{PlainType}
+use Rattle.c_syntax.specs.Formulas.{CastType, Integers, OfC}
+use Rattle.c_syntax.specs.Logic.{LogicTerm, Links, NoLink, Linked, Predicate, range_of}
+use Rattle.c_syntax.specs.Logic as logic
+use Rattle.c_syntax.specs.Programs.{TranslationUnit}
+use Rattle.c_model.specs.Integers.{integer_type}
+use Rattle.c_model.specs.Ranges.{LiesIn, IsWithin128, width_of_range, from_to, bounded, range_in_bits, least_i128}
+use Rattle.c_model.specs.TermRanges.{TermRanged, LinksRanged, PredicateRanged, type_range, is_inside}
+use Rattle.ea_num.proofs.Bounded.{in_bits_from_test}
+use Rattle.ea_num.proofs.Converted.{widths_fit}
+use Rattle.mon_syntax.specs.declared.tree.MonType.{MonType}
+use Rattle.mon_syntax.specs.declared.tree.MonType.TheVariants.{I32, Ptr}
+use Rattle.mon_syntax.specs.declared.tree.MonOp.TheVariants as mon
+use Rattle.mon_syntax.specs.Arithmetic.{fits}
+use Rattle.mon_syntax.specs.Registers.{Bindings, register_of}
+use Rattle.mon_syntax.specs.Trees.{MonExpression, Register, Global, Constant, Binary, Minus, Flip, Cast, Load, If, MonStatements}
+use Rattle.mon_syntax.specs.Valid.{Types, HasType, AreStatements, Labels, Signature, open_parens, is_whole, depth_of_all}
+use Rattle.c_effects.specs.Expressions.{before, one, set, in_type, term_type, register_type, pointer_of, pointer_to, global_index, Reading}
+use Rattle.term_guards.specs.Guards.{guard}
+use Rattle.annot_code.specs.Code.{Code, with_value, type_of_width, type_of, width_of, wider, working, is_total, binary_value, unary_value, relation_value, relation_code, cast_value, converted_to, operated, sure_code, variable_code, is_known}
+use Rattle.annot_code.specs.Code.{two_code, take, take_none, guarded, conjunction}
+use Rattle.annot_code.specs.Code.{term_code, chain_code, pred_code, sure_readings, sure_readings_of_term, known_at_right, judged_by, judged_anew, judged_with}
+use Rattle.annot_code.specs.Validity.{nodes_of_term, nodes_of_links, nodes, TermWritable, LinksWritable, PredicateWritable, Begins, IsValidCode, CodeIsValid}
+use Rattle.annot_code.proofs.Exact.{Fits, signed_within}
+use Rattle.annot_code.proofs.Terms.{CastTo, cast_to}
+use Rattle.annot_code.proofs.Variables.{IsInteger, integer_of_range, some_same}
+use Rattle.annot_code.proofs.Typed.{begins_front, type_at, first_type, second_type_at, whole_width, whole_register, width_constant, zero_constant, in_type_typed, to_width, relation_typed, guard_typed, binary_typed, unary_typed, related_typed}
+use Rattle.annot_code.proofs.Typed.{in_type_parens, guard_parens, value_parens, unary_parens, related_parens, binary_less}
+use Rattle.annot_code.proofs.Prefixes.{operated_begins, connected_begins, term_begins, chain_begins, pred_begins}
+use Rattle.annot_code.proofs.ValidParts.{flag_more, before_valid, expression, set_valid, number_valid, register_valid, FlagValid, Valid, flag_both, guarded_valid, take_valid, take_none_valid, deep_before, deep_if, deep_guarded, deep_take, two_valid}
+use Rattle.annot_code.proofs.ValidParts.{changed_valid, branch_valid, truth_valid, connected_valid}
+
+-- ---- numbers
+
+fits_width : (w : Width) (z : ℤ) → Fits w z → fits (type_of_width w) z ≡ true
+fits_width W32 z f = signed_within 2147483647 z f.sfits
+fits_width W64 z f = signed_within 9223372036854775807 z f.sfits
+fits_width W128 z f = signed_within 170141183460469231731687303715884105727 z f.sfits
+
+-- the range of one number, within 128 bits
+record OneRange (r : Range) (z : ℤ) : Type 0 where
+  lies : LiesIn r z
+  within : IsWithin128 r
+
+one_range : (r : Range) (z : ℤ) → bounded (from_to z z) ≡ Some r → OneRange r z
+one_range r z e = by (range_in_bits 127 (from_to z z)) refl e
+  where
+    by : (t : Bool) → range_in_bits 127 (from_to z z) ≡ t → (if t then Some (from_to z z) else None) ≡ Some r → OneRange r z
+    by true p q =
+        let bits = in_bits_from_test 127 (from_to z z) p in
+        subst (λ r. OneRange r z) (some_same (from_to z z) r q)
+        (record { lies = record { above = omega (arith, ints); below = omega (arith, ints) }; within = record { lo_fits = record { sfits = bits.lo_in }; hi_fits = record { sfits = bits.hi_in } } })
+    by false p q = absurd cc
+
+-- ---- counts
+
+some_term : (t : LogicTerm) → 1 ≤ nodes_of_term t
+some_term (logic.Number at t r n) = omega arith
+some_term (logic.Letter at t r n) = omega arith
+some_term (logic.Variable at t r x) = omega arith
+some_term (logic.Unary at t r op a) = omega arith
+some_term (logic.Binary at t r op a b) = omega arith
+some_term (logic.Cast at t r to a) = omega arith
+some_term (logic.Choice at t r c a b) = omega arith
+
+some_nodes : (p : Predicate) → 1 ≤ nodes p
+some_nodes (logic.Truth at b) = omega arith
+some_nodes (logic.NonZero at t) = some_term t
+some_nodes (logic.Chain at t links) = omega (arith, some_term t)
+some_nodes (logic.Not at p) = omega arith
+some_nodes (logic.Connected at c p q) = omega arith
+some_nodes (logic.Branch at c p q) = omega arith
+
+pointer_parens : (p : TranslationUnit) (bound : Bindings) (x : ℕ) → open_parens (pointer_to p bound x) ≤ 0
+pointer_parens p bound x = by (register_of bound x)
+  where
+    by : (o : Option ℕ) → open_parens (pointer_of o (global_index x p.globals)) ≤ 0
+    by None = omega arith
+    by (Some r) = omega arith
+
+module _ (p : TranslationUnit) (bound : Bindings) (g : ℕ) (gs : List Signature) (ts : Types) (result : Option MonType) (ls : Labels) where
+  abbrev IsCode : Code → MonType → ℕ → ℕ → Type 0
+  IsCode c t n s = Valid g gs ts result ls c t n s
+
+  -- ---- leaves
+
+  number_code : (r : Range) (z : ℤ) (rs : Types) → bounded (from_to z z) ≡ Some r → int_eq z least_i128 ≡ false → IsCode (sure_code (Constant (type_of_width (width_of_range r)) z) rs) (type_of_width (width_of_range r)) 1 1
+  number_code r z rs e least =
+      let one = one_range r z e in record {
+        statements = tt;
+        deep = omega arith;
+        flag = tt;
+        typed = (refl, width_constant (width_of_range r) z (fits_width (width_of_range r) z (widths_fit r z one.within one.lies)) least);
+        parens = omega arith;
+      }
+
+  variable_is_code : (b : Bool) (r : Range) (t : Option PlainType) (x : Use) (rs : Types) → IsInteger t r → HasType g ts (pointer_to p bound x.decl) Ptr
+      → Begins (variable_code p bound b (type_of_width (width_of_range r)) (record { decl = x.decl; kind = term_type t }) rs).used ts
+      → IsCode (variable_code p bound b (type_of_width (width_of_range r)) (record { decl = x.decl; kind = term_type t }) rs) (type_of_width (width_of_range r)) 1 1
+  variable_is_code b r t x rs i pointer = by b
+    where
+      w : MonType
+      w = type_of_width (width_of_range r)
+
+      whole : is_whole (term_type t) ≡ true
+      whole = ap (λ t. is_whole (term_type t)) i.is ∙ whole_register i.int
+
+      load : MonExpression
+      load = Load (term_type t) (pointer_to p bound x.decl)
+
+      typed : HasType g ts (in_type (term_type t) (type_of_width (width_of_range r)) (Load (term_type t) (pointer_to p bound x.decl))) (type_of_width (width_of_range r))
+      typed = in_type_typed g ts (term_type t) (type_of_width (width_of_range r)) (Load (term_type t) (pointer_to p bound x.decl)) whole (whole_width (width_of_range r)) (refl, pointer)
+
+      less : max 1 (open_parens (pointer_to p bound x.decl)) ≤ 1
+      less = max-le (omega arith) (let h = pointer_parens p bound x.decl in omega (arith, h))
+
+      parens : open_parens (in_type (term_type t) (type_of_width (width_of_range r)) (Load (term_type t) (pointer_to p bound x.decl))) ≤ 3
+      parens = in_type_parens (term_type t) (type_of_width (width_of_range r)) (Load (term_type t) (pointer_to p bound x.decl)) 2 (omega arith) (omega (arith, less))
+
+      by : (b : Bool) → Begins (variable_code p bound b (type_of_width (width_of_range r)) (record { decl = x.decl; kind = term_type t }) rs).used ts
+          → IsCode (variable_code p bound b (type_of_width (width_of_range r)) (record { decl = x.decl; kind = term_type t }) rs) (type_of_width (width_of_range r)) 1 1
+      by true h = record { statements = tt; deep = omega arith; flag = tt; typed = typed; parens = omega (arith, parens) }
+      by false h =
+          let at = type_at rs ts I32 h in
+          let zero_p = pointer_parens p bound x.decl in record {
+            statements = (((record { typed = pointer; within = omega (arith, zero_p) }, (record { typed = (refl, refl); within = omega arith }, tt)), at), tt);
+            deep = omega arith;
+            flag = (at, omega arith);
+            typed = typed;
+            parens = omega (arith, parens);
+          }
+
+  -- ---- operators
+
+  unary_is_code : (at : Place) (t : Option PlainType) (r : Range) (op : UnOp) (a : LogicTerm) → TermRanged (logic.Unary at t r op a) → (c : Code) → IsCode c (type_of a) (nodes_of_term a) 1
+      → IsCode (with_value (unary_value op (type_of_width (width_of_range r)) (type_of_width (wider (width_of_range r) (width_of a))) (type_of a) c.value) c) (type_of_width (width_of_range r)) (suc (nodes_of_term a)) 1
+  unary_is_code at t r op a q c v =
+      let e = unary_value op (type_of_width (width_of_range r)) (type_of_width (wider (width_of_range r) (width_of a))) (type_of a) c.value in
+      let few = unary_parens op (range_of a) r (type_of_width (width_of_range r)) (type_of_width (wider (width_of_range r) (width_of a))) (type_of a) c.value (4 * nodes_of_term a) q.0 (omega (arith, some_term a)) (omega (arith, v.parens)) in
+      changed_valid g gs ts result ls c e (type_of a) (type_of_width (width_of_range r)) (nodes_of_term a) 1 (suc (nodes_of_term a)) 1 v (omega arith)
+      (unary_typed g ts op (width_of_range r) (width_of a) (range_of a) r c.value q.0 v.typed) (omega (arith, few))
+
+  cast_is_code : (at : Place) (t : Option PlainType) (r : Range) (to : CastType) (a : LogicTerm) → TermRanged (logic.Cast at t r to a) → (c : Code) → IsCode c (type_of a) (nodes_of_term a) 1
+      → IsCode (with_value (cast_value to (range_of a) (type_of_width (width_of_range r)) (type_of a) c.value) c) (type_of_width (width_of_range r)) (suc (nodes_of_term a)) 1
+  cast_is_code at t r Integers a q c v =
+      let same : range_of a ≡ r = some_same (range_of a) r q.0 in
+      changed_valid g gs ts result ls c c.value (type_of a) (type_of_width (width_of_range r)) (nodes_of_term a) 1 (suc (nodes_of_term a)) 1 v (omega arith)
+      (subst (λ r. HasType g ts c.value (type_of_width (width_of_range r))) same v.typed) (omega (arith, v.parens))
+  cast_is_code at t r (OfC to) a q c v =
+      changed_valid g gs ts result ls c (converted_to (integer_type to) (range_of a) (type_of_width (width_of_range r)) (type_of a) c.value) (type_of a) (type_of_width (width_of_range r)) (nodes_of_term a) 1 (suc (nodes_of_term a)) 1 v (omega arith)
+      (subst (λ i. HasType g ts (converted_to i (range_of a) (type_of_width (width_of_range r)) (type_of a) c.value) (type_of_width (width_of_range r))) (sym i.is) (typed (is_inside (range_of a) (type_range i.int)) i.range_is))
+      (subst (λ i. open_parens (converted_to i (range_of a) (type_of_width (width_of_range r)) (type_of a) c.value) + 1 ≤ 4 * suc (nodes_of_term a)) (sym i.is) (parens (is_inside (range_of a) (type_range i.int))))
+    where
+      i : CastTo to (range_of a) r
+      i = cast_to to (range_of a) r q.0
+
+      whole : HasType g ts (Cast (register_type i.int) c.value) (register_type i.int)
+      whole = (refl, whole_register i.int, (type_of a, whole_width (width_of a), v.typed))
+
+      typed : (s : Bool) → (if s then range_of a else type_range i.int) ≡ r
+          → HasType g ts (if s then c.value else in_type (register_type i.int) (type_of_width (width_of_range r)) (Cast (register_type i.int) c.value)) (type_of_width (width_of_range r))
+      typed true e = subst (λ r. HasType g ts c.value (type_of_width (width_of_range r))) e v.typed
+      typed false e = in_type_typed g ts (register_type i.int) (type_of_width (width_of_range r)) (Cast (register_type i.int) c.value) (whole_register i.int) (whole_width (width_of_range r)) whole
+
+      parens : (s : Bool) → open_parens (if s then c.value else in_type (register_type i.int) (type_of_width (width_of_range r)) (Cast (register_type i.int) c.value)) + 1 ≤ 4 * suc (nodes_of_term a)
+      parens true = omega (arith, v.parens)
+      parens false =
+          let m : max 1 (open_parens c.value) ≤ 4 * nodes_of_term a = max-le (omega (arith, some_term a)) (omega (arith, v.parens)) in
+          let l = in_type_parens (register_type i.int) (type_of_width (width_of_range r)) (Cast (register_type i.int) c.value) (suc (4 * nodes_of_term a)) (omega arith) (omega (arith, m)) in
+          omega (arith, l)
+
+  module _ (at : Place) (t : Option PlainType) (r : Range) (op : BinOp) (a b : LogicTerm) (q : TermRanged (logic.Binary at t r op a b)) (x y : Code) (vx : IsCode x (type_of a) (nodes_of_term a) 1) (vy : IsCode y (type_of b) (nodes_of_term b) 1) where
+    abbrev wr : MonType
+    wr = type_of_width (width_of_range r)
+
+    abbrev k : MonType
+    k = type_of_width (working op (width_of_range r) (width_of a) (width_of b))
+
+    abbrev made : MonExpression
+    made = binary_value op wr k (type_of a) (type_of b) (range_of b) x.value y.value
+
+    abbrev all : ℕ
+    all = suc (nodes_of_term a + nodes_of_term b)
+
+    made_typed : HasType g ts made wr
+    made_typed = binary_typed g ts op (width_of_range r) (width_of a) (width_of b) (range_of a) (range_of b) r x.value y.value q.0 vx.typed vy.typed
+
+    made_parens : open_parens made + 1 ≤ 4 * all
+    made_parens =
+        let l = value_parens op wr k (type_of a) (type_of b) (range_of b) x.value y.value (4 * nodes_of_term a) (4 * nodes_of_term b) (omega (arith, some_term a)) (omega (arith, some_term b)) (omega (arith, vx.parens)) (omega (arith, vy.parens)) in
+        let m : max (3 + 4 * nodes_of_term a) (7 + 4 * nodes_of_term b) + 1 ≤ 4 * all = most (max-le (omega (arith, some_term b)) (omega (arith, some_term a))) in
+        omega (arith, l, m)
+      where
+        most : max (3 + 4 * nodes_of_term a) (7 + 4 * nodes_of_term b) ≤ 3 + 4 * (nodes_of_term a + nodes_of_term b) → max (3 + 4 * nodes_of_term a) (7 + 4 * nodes_of_term b) + 1 ≤ 4 * all
+        most h = omega (arith, h)
+
+    binary_is_code : all ≤ 400 → Begins (operated (is_total op (range_of b)) op wr k (type_of b) x y made).used ts → IsCode (operated (is_total op (range_of b)) op wr k (type_of b) x y made) wr all 1
+    binary_is_code few = by (is_total op (range_of b))
+      where
+        total : IsCode (two_code x y made) wr all 1
+        total = two_valid g gs ts result ls x y made (type_of a) (type_of b) wr (nodes_of_term a) (nodes_of_term b) 1 1 all 1 vx vy (omega (arith, some_term b)) (omega (arith, some_term a)) made_typed made_parens
+
+        test : MonExpression
+        test = guard k op (in_type (type_of b) k y.value)
+
+        operand_typed : HasType g ts (in_type (type_of b) k y.value) k
+        operand_typed = in_type_typed g ts (type_of b) k y.value (whole_width (width_of b)) (whole_width (working op (width_of_range r) (width_of a) (width_of b))) vy.typed
+
+        test_parens : open_parens (guard k op (in_type (type_of b) k y.value)) ≤ suc (suc (4 * nodes_of_term b))
+        test_parens = guard_parens op k (in_type (type_of b) k y.value) (suc (4 * nodes_of_term b)) (omega arith) (in_type_parens (type_of b) k y.value (4 * nodes_of_term b) (omega (arith, some_term b)) (omega (arith, vy.parens)))
+
+        partial : Begins (y.used ++ I32 ∷ wr ∷ []) ts → IsCode (operated false op wr k (type_of b) x y made) wr all 1
+        partial h =
+            let reg = length y.used in
+            let at1 = first_type y.used ts I32 wr h in
+            let at2 = second_type_at y.used ts I32 wr h in
+            let flag = conjunction x.flag y.flag in
+            let test = guard k op (in_type (type_of b) k y.value) in
+            let inner = take (Some test) made reg in
+            let both = before x.stmts y.stmts in record {
+              statements =
+                  before_valid g gs ts result ls both (guarded flag inner (take_none reg)) (before_valid g gs ts result ls x.stmts y.stmts vx.statements vy.statements)
+                  (guarded_valid g gs ts result ls flag inner (take_none reg) all (omega (arith, few))
+                  (flag_both g gs ts result ls x.flag y.flag (nodes_of_term a) (nodes_of_term b) all (omega (arith, some_term b)) (omega (arith, some_term a)) vx.flag vy.flag)
+                  (take_valid g gs ts result ls (Some test) made wr reg (4 * all) (omega (arith, few))
+                  (guard_typed g ts op (working op (width_of_range r) (width_of a) (width_of b)) (in_type (type_of b) k y.value) operand_typed, omega (arith, test_parens))
+                  (expression g gs ts result ls made wr (4 * all) made_typed (omega (arith, made_parens)) (omega (arith, few))) at1 at2)
+                  (take_none_valid g gs ts result ls reg at1));
+              deep =
+                  deep_before g gs ts result ls both (guarded flag inner (take_none reg)) (all + all)
+                  (deep_before g gs ts result ls x.stmts y.stmts (all + all) (omega (arith, vx.deep)) (omega (arith, vy.deep)))
+                  (let d = deep_guarded g gs ts result ls flag inner (take_none reg) 2 (deep_take g gs ts result ls (Some test) made reg) (omega arith) in omega (arith, d, some_term a, some_term b));
+              flag = (at1, omega arith);
+              typed = at2;
+              parens = omega arith;
+            }
+
+        by : (s : Bool) → Begins (operated s op wr k (type_of b) x y made).used ts → IsCode (operated s op wr k (type_of b) x y made) wr all 1
+        by true h = total
+        by false h = partial h
+
+  relation_is_code : (r : Relation) (t u : LogicTerm) (x y : Code) (m n k : ℕ) → IsCode x (type_of t) m 1 → IsCode y (type_of u) n 1 → 1 ≤ m → 1 ≤ n → m + suc n ≤ k → IsCode (relation_code r t u x y) I32 k 0
+  relation_is_code r t u x y m n k vx vy lm ln le =
+      let e = relation_value r (type_of_width (wider (width_of t) (width_of u))) (type_of t) (type_of u) x.value y.value in
+      let l = related_parens r (type_of_width (wider (width_of t) (width_of u))) (type_of t) (type_of u) x.value y.value (4 * m + 4 * n) (omega (arith, lm)) (omega (arith, vx.parens)) (omega (arith, vy.parens)) in
+      two_valid g gs ts result ls x y e (type_of t) (type_of u) I32 m n 1 1 k 0 vx vy (omega (arith, ln, le)) (omega (arith, lm, le)) (related_typed g ts r (width_of t) (width_of u) x.value y.value vx.typed vy.typed) (omega (arith, l, le))
+
+  -- a side of a choice in the type of the whole
+  side_is_code : (a : LogicTerm) (r : Range) (c : Code) (n : ℕ) → 1 ≤ n → IsCode c (type_of a) n 1 → IsCode (with_value (in_type (type_of a) (type_of_width (width_of_range r)) c.value) c) (type_of_width (width_of_range r)) n 0
+  side_is_code a r c n some v =
+      let l = in_type_parens (type_of a) (type_of_width (width_of_range r)) c.value (4 * n - 1) (omega (arith, some)) (omega (arith, v.parens)) in
+      changed_valid g gs ts result ls c (in_type (type_of a) (type_of_width (width_of_range r)) c.value) (type_of a) (type_of_width (width_of_range r)) n 1 n 0 v (omega arith) (to_width g ts (width_of a) (width_of_range r) c.value v.typed)
+      (omega (arith, l, some))
+
+  nonzero_is_code : (t : LogicTerm) (c : Code) → IsCode c (type_of t) (nodes_of_term t) 1 → IsCode (with_value (Binary mon.Ne (type_of t) c.value (Constant (type_of t) (pos 0))) c) I32 (nodes_of_term t) 0
+  nonzero_is_code t c v =
+      let l = binary_less mon.Ne (type_of t) c.value (Constant (type_of t) (pos 0)) (4 * nodes_of_term t) (omega (arith, v.parens)) (omega (arith, some_term t)) in
+      changed_valid g gs ts result ls c (Binary mon.Ne (type_of t) c.value (Constant (type_of t) (pos 0))) (type_of t) I32 (nodes_of_term t) 1 (nodes_of_term t) 0 v (omega arith)
+      (relation_typed g ts mon.Ne (width_of t) c.value (Constant (type_of t) (pos 0)) refl v.typed (refl, zero_constant (width_of t))) (omega (arith, l))
+
+  not_is_code : (c : Code) (n : ℕ) → IsCode c I32 n 0 → IsCode (with_value (Binary mon.Eq I32 c.value (Constant I32 (pos 0))) c) I32 (suc n) 0
+  not_is_code c n v =
+      let l = binary_less mon.Eq I32 c.value (Constant I32 (pos 0)) (4 * suc n) (omega (arith, v.parens)) (omega arith) in
+      changed_valid g gs ts result ls c (Binary mon.Eq I32 c.value (Constant I32 (pos 0))) I32 I32 n 0 (suc n) 0 v (omega arith)
+      (relation_typed g ts mon.Eq W32 c.value (Constant I32 (pos 0)) refl v.typed (refl, refl)) (omega (arith, l))
+
+  -- a term that was computed already
+  again_is_code : (u : LogicTerm) (y : Code) → IsCode y (type_of u) (nodes_of_term u) 1 → IsCode (sure_code y.value y.used) (type_of u) (nodes_of_term u) 1
+  again_is_code u y v = record { statements = tt; deep = omega arith; flag = tt; typed = v.typed; parens = v.parens }
+
+  more_code : (c : Code) (t : MonType) (m n s : ℕ) → m ≤ n → IsCode c t m s → IsCode c t n s
+  more_code c t m n s le v = record { statements = v.statements; deep = omega (arith, v.deep, le); flag = flag_more g gs ts result ls c.flag m n le v.flag; typed = v.typed; parens = omega (arith, v.parens, le) }
+
+  -- ---- everything
+
+  mutual
+    term_valid : (t : LogicTerm) → TermRanged t → TermWritable p bound g ts t → (known : List Reading) (rs : Types) → nodes_of_term t ≤ 400 → Begins (term_code p bound t known rs).used ts
+        → IsCode (term_code p bound t known rs) (type_of t) (nodes_of_term t) 1
+    term_valid (logic.Number at t r n) q f known rs few h = number_code r n rs q f
+    term_valid (logic.Letter at t r n) q f known rs few h = number_code r n rs q f
+    term_valid (logic.Variable at t r x) q f known rs few h = variable_is_code (is_known known (record { decl = x.decl; kind = term_type t })) r t x rs (integer_of_range t r q) f h
+    term_valid (logic.Unary at t r op a) q f known rs few h = unary_is_code at t r op a q (term_code p bound a known rs) (term_valid a q.1 f known rs (omega (arith, few)) h)
+    term_valid (logic.Binary at t r op a b) q f known rs few h =
+        let x = term_code p bound a known rs in
+        let y = term_code p bound b known x.used in
+        let k = type_of_width (working op (width_of_range r) (width_of a) (width_of b)) in
+        let hy = operated_begins ts (is_total op (range_of b)) op (type_of_width (width_of_range r)) k (type_of b) x y (binary_value op (type_of_width (width_of_range r)) k (type_of a) (type_of b) (range_of b) x.value y.value) h in
+        let hx = term_begins ts p bound b known x.used hy in
+        binary_is_code at t r op a b q x y (term_valid a q.1 f.0 known rs (omega (arith, few)) hx) (term_valid b q.2 f.1 known x.used (omega (arith, few)) hy) few h
+    term_valid (logic.Cast at t r to a) q f known rs few h = cast_is_code at t r to a q (term_code p bound a known rs) (term_valid a q.1 f known rs (omega (arith, few)) h)
+    term_valid (logic.Choice at t r c a b) q f known rs few h =
+        let more = known ++ sure_readings c in
+        let w = type_of_width (width_of_range r) in
+        let z = pred_code p bound c known rs in
+        let x = term_code p bound a more z.used in
+        let y = term_code p bound b more x.used in
+        let hy = begins_front y.used (I32 ∷ w ∷ []) ts h in
+        let hx = term_begins ts p bound b more x.used hy in
+        let hz = term_begins ts p bound a more z.used hx in
+        branch_valid g gs ts result ls w z (with_value (in_type (type_of a) w x.value) x) (with_value (in_type (type_of b) w y.value) y) (nodes c) (nodes_of_term a) (nodes_of_term b) 0 0 0 (suc (nodes c + nodes_of_term a + nodes_of_term b)) 1
+        (pred_valid c q.1 f.0 known rs (omega (arith, few)) hz) (side_is_code a r x (nodes_of_term a) (some_term a) (term_valid a q.2 f.1 more z.used (omega (arith, few)) hx))
+        (side_is_code b r y (nodes_of_term b) (some_term b) (term_valid b q.3 f.2 more x.used (omega (arith, few)) hy)) (omega (arith, some_term a)) (omega arith) (omega arith) (some_term a) few (omega arith) h
+
+    chain_valid : (t : LogicTerm) (x : Code) (l : Links) (m : ℕ) → LinksRanged l → LinksWritable p bound g ts l → (known : List Reading) → 1 ≤ m → m + nodes_of_links l ≤ 400 → IsCode x (type_of t) m 1 → Begins (chain_code p bound t x l known).used ts
+        → IsCode (chain_code p bound t x l known) I32 (m + nodes_of_links l) 0
+    chain_valid t x NoLink m q f known some few v h =
+        record { statements = v.statements; deep = omega (arith, v.deep); flag = tt; typed = (refl, refl); parens = omega (arith, some) }
+    chain_valid t x (Linked at r u NoLink) m q f known some few v h =
+        relation_is_code r t u x (term_code p bound u known x.used) m (nodes_of_term u) (m + suc (nodes_of_term u + 0)) v (term_valid u q.0 f.0 known x.used (omega (arith, few)) h) some (some_term u) (omega arith)
+    chain_valid t x (Linked at r u (Linked at2 r2 v rest)) m q f known some few vx h =
+        let y = term_code p bound u known x.used in
+        let more = known ++ (sure_readings_of_term t ++ sure_readings_of_term u) in
+        let start = sure_code y.value y.used in
+        let n = nodes_of_term u in
+        let z = relation_code r t u x y in
+        let d = chain_code p bound u start (Linked at2 r2 v rest) more in
+        let hd = connected_begins ts And z d h in
+        let hy = chain_begins ts p bound u start (Linked at2 r2 v rest) more hd in
+        let vy = term_valid u q.0 f.0 known x.used (omega (arith, few)) hy in
+        let l = nodes_of_links (Linked at2 r2 v rest) in
+        connected_valid g gs ts result ls And z d (m + suc n) (n + l) (m + suc (n + l)) (relation_is_code r t u x y m n (m + suc n) vx vy some (some_term u) (omega arith))
+        (chain_valid u start (Linked at2 r2 v rest) n q.1 f.1 more (some_term u) (omega (arith, few)) (again_is_code u y vy) hd) (omega (arith, some_term v)) (omega (arith, some)) (omega (arith, some_term u)) few h
+
+    pred_valid : (q : Predicate) → PredicateRanged q → PredicateWritable p bound g ts q → (known : List Reading) (rs : Types) → nodes q ≤ 400 → Begins (pred_code p bound q known rs).used ts → IsCode (pred_code p bound q known rs) I32 (nodes q) 0
+    pred_valid (logic.Truth at b) q f known rs few h = truth_valid g gs ts result ls b rs 0 (omega arith)
+    pred_valid (logic.NonZero at t) q f known rs few h = nonzero_is_code t (term_code p bound t known rs) (term_valid t q f known rs few h)
+    pred_valid (logic.Chain at t links) q f known rs few h =
+        let x = term_code p bound t known rs in
+        chain_valid t x links (nodes_of_term t) q.1 f.1 known (some_term t) few (term_valid t q.0 f.0 known rs (omega (arith, few)) (chain_begins ts p bound t x links known h)) h
+    pred_valid (logic.Not at a) q f known rs few h = not_is_code (pred_code p bound a known rs) (nodes a) (pred_valid a q f known rs (omega (arith, few)) h)
+    pred_valid (logic.Connected at c a b) q f known rs few h =
+        let x = pred_code p bound a known rs in
+        let ks = known_at_right c known a in
+        let y = pred_code p bound b ks x.used in
+        let hy = connected_begins ts c x y h in
+        let hx = pred_begins ts p bound b ks x.used hy in
+        connected_valid g gs ts result ls c x y (nodes a) (nodes b) (suc (nodes a + nodes b)) (pred_valid a q.0 f.0 known rs (omega (arith, few)) hx) (pred_valid b q.1 f.1 ks x.used (omega (arith, few)) hy) (omega arith) (omega arith)
+        (some_nodes b) few h
+    pred_valid (logic.Branch at c a b) q f known rs few h =
+        let more = known ++ sure_readings c in
+        let z = pred_code p bound c known rs in
+        let x = pred_code p bound a more z.used in
+        let y = pred_code p bound b more x.used in
+        let hy = begins_front y.used (I32 ∷ I32 ∷ []) ts h in
+        let hx = pred_begins ts p bound b more x.used hy in
+        let hz = pred_begins ts p bound a more z.used hx in
+        branch_valid g gs ts result ls I32 z x y (nodes c) (nodes a) (nodes b) 0 0 0 (suc (nodes c + nodes a + nodes b)) 0 (pred_valid c q.0 f.0 known rs (omega (arith, few)) hz) (pred_valid a q.1 f.1 more z.used (omega (arith, few)) hx)
+        (pred_valid b q.2 f.2 more x.used (omega (arith, few)) hy) (omega (arith, some_nodes a)) (omega arith) (omega arith) (some_nodes a) few (omega arith) h
+
+  -- ---- the flag and the truth in registers
+
+  by_valid : (a : MonStatements) (f : ℕ) (e : MonExpression) (rs : Types) (n : ℕ) → n ≤ 2000 → AreStatements g gs ts result ls a → depth_of_all a ≤ 1300 → slice_get ts f ≡ Some I32 → HasType g ts e I32 → open_parens e ≤ n → Begins (rs ++ I32 ∷ []) ts
+      → IsValidCode g gs ts result ls (judged_by a f e rs)
+  by_valid a f e rs n few h d at typed parens b =
+      let at2 = type_at rs ts I32 b in
+      let on = set (length rs) e in
+      let off = set (length rs) (Constant I32 (pos 0)) in record {
+        statements =
+            before_valid g gs ts result ls a (one (If (Register f) on off)) h (
+              (
+                register_valid g gs ts result ls f I32 at,
+                set_valid g gs ts result ls (length rs) e I32 at2 (expression g gs ts result ls e I32 n typed parens few),
+                set_valid g gs ts result ls (length rs) (Constant I32 (pos 0)) I32 at2 (number_valid g gs ts result ls (pos 0) (refl, refl)),
+              ),
+              tt,
+            );
+        deep = deep_before g gs ts result ls a (one (If (Register f) on off)) 1300 d (let l = deep_if g gs ts result ls (Register f) on off 1 (omega arith) (omega arith) in omega (arith, l));
+        flag_type = at;
+        truth_type = at2;
+      }
+
+  module _ (c : Code) (n : ℕ) (few : n ≤ 400) (v : IsCode c I32 n 0) where
+    anew_valid : (e : MonExpression) → HasType g ts e I32 → open_parens e ≤ 2000 → Begins ((c.used ++ I32 ∷ []) ++ I32 ∷ []) ts → IsValidCode g gs ts result ls (judged_anew e c)
+    anew_valid e typed parens b =
+        let first = begins_front (c.used ++ I32 ∷ []) (I32 ∷ []) ts b in
+        let at = type_at c.used ts I32 first in
+        by_valid (before c.stmts (set (length c.used) e)) (length c.used) c.value (c.used ++ I32 ∷ []) (4 * n) (omega (arith, few))
+        (before_valid g gs ts result ls c.stmts (set (length c.used) e) v.statements (set_valid g gs ts result ls (length c.used) e I32 at (expression g gs ts result ls e I32 2000 typed parens (omega arith))))
+        (deep_before g gs ts result ls c.stmts (set (length c.used) e) 1300 (omega (arith, v.deep, few)) (omega arith)) at v.typed (omega (arith, v.parens)) b
+
+    flagged : (f : Option MonExpression) → FlagValid g gs ts result ls f n → Begins (judged_with f c).used ts → IsValidCode g gs ts result ls (judged_with f c)
+    flagged None h b = anew_valid (Constant I32 (pos 1)) (refl, refl) (omega arith) b
+    flagged (Some (Register f)) h b = by_valid c.stmts f c.value c.used (4 * n) (omega (arith, few)) v.statements (omega (arith, v.deep, few)) h.0 v.typed (omega (arith, v.parens)) b
+    flagged (Some (Global x)) h b = let l = h.1 in anew_valid (Global x) h.0 (omega (arith, few, l)) b
+    flagged (Some (Constant t z)) h b = let l = h.1 in anew_valid (Constant t z) h.0 (omega (arith, few, l)) b
+    flagged (Some (Binary op t x y)) h b = let l = h.1 in anew_valid (Binary op t x y) h.0 (omega (arith, few, l)) b
+    flagged (Some (Minus t x)) h b = let l = h.1 in anew_valid (Minus t x) h.0 (omega (arith, few, l)) b
+    flagged (Some (Flip t x)) h b = let l = h.1 in anew_valid (Flip t x) h.0 (omega (arith, few, l)) b
+    flagged (Some (Cast t x)) h b = let l = h.1 in anew_valid (Cast t x) h.0 (omega (arith, few, l)) b
+    flagged (Some (Load t x)) h b = let l = h.1 in anew_valid (Load t x) h.0 (omega (arith, few, l)) b
+
+judged_begins : (ts : Types) (f : Option MonExpression) (c : Code) → Begins (judged_with f c).used ts → Begins c.used ts
+judged_begins ts None c b = begins_front c.used (I32 ∷ []) ts (begins_front (c.used ++ I32 ∷ []) (I32 ∷ []) ts b)
+judged_begins ts (Some (Register f)) c b = begins_front c.used (I32 ∷ []) ts b
+judged_begins ts (Some (Global x)) c b = begins_front c.used (I32 ∷ []) ts (begins_front (c.used ++ I32 ∷ []) (I32 ∷ []) ts b)
+judged_begins ts (Some (Constant t z)) c b = begins_front c.used (I32 ∷ []) ts (begins_front (c.used ++ I32 ∷ []) (I32 ∷ []) ts b)
+judged_begins ts (Some (Binary op t x y)) c b = begins_front c.used (I32 ∷ []) ts (begins_front (c.used ++ I32 ∷ []) (I32 ∷ []) ts b)
+judged_begins ts (Some (Minus t x)) c b = begins_front c.used (I32 ∷ []) ts (begins_front (c.used ++ I32 ∷ []) (I32 ∷ []) ts b)
+judged_begins ts (Some (Flip t x)) c b = begins_front c.used (I32 ∷ []) ts (begins_front (c.used ++ I32 ∷ []) (I32 ∷ []) ts b)
+judged_begins ts (Some (Cast t x)) c b = begins_front c.used (I32 ∷ []) ts (begins_front (c.used ++ I32 ∷ []) (I32 ∷ []) ts b)
+judged_begins ts (Some (Load t x)) c b = begins_front c.used (I32 ∷ []) ts (begins_front (c.used ++ I32 ∷ []) (I32 ∷ []) ts b)
+
+pub code_is_valid : CodeIsValid
+code_is_valid p bound g gs ts result ls q rs ranged writable few b =
+    let c = pred_code p bound q [] rs in
+    let v = pred_valid p bound g gs ts result ls q ranged writable [] rs few (judged_begins ts c.flag c b) in
+    flagged p bound g gs ts result ls c (nodes q) few v c.flag v.flag b

@@ -1,0 +1,5 @@
+use Rattle.annot_code.proofs.Theorem.{code_judges}
+use Rattle.annot_code.proofs.laws.code.Goals as goal
+
+pub returns : goal.returns
+returns c = record { judges = code_judges }

@@ -1,0 +1,5 @@
+use Rattle.annot_code.proofs.ValidCode.{code_is_valid}
+use Rattle.annot_code.proofs.laws.validity.Goals as goal
+
+pub returns : goal.returns
+returns c = record { valid = code_is_valid }

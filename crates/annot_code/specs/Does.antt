@@ -1,0 +1,108 @@
+-- What the code of a predicate does, over the blocks of the source's store: its flag register says whether the predicate says something, and its truth
+-- register whether that is true.
+use Rattle.std.specs.Prelude.{◌≡◌, ℕ, ◌<◌, ◌≤◌, ℤ, Bool, false, List, [], length, Option, Some, None, slice_get}
+use Rattle.c_syntax.specs.Logic.{LogicTerm, Links, NoLink, Linked, Predicate, range_of}
+use Rattle.c_syntax.specs.Logic as logic
+use Rattle.c_syntax.specs.Programs.{TranslationUnit}
+use Rattle.c_model.specs.Integers.{truth}
+use Rattle.c_model.specs.Memory.{Into, Value, Integer, Points}
+use Rattle.c_model.specs.Logic.{Mathematical, Answer, Says, SaysNothing}
+use Rattle.c_model.specs.Predicates.{term, pred}
+use Rattle.c_model.specs.Ranges.{LiesIn, IsWithin128}
+use Rattle.c_model.specs.State.{State, Scope, find}
+use Rattle.c_model.specs.TermRanges.{TermRanged, PredicateRanged}
+use Rattle.mon_syntax.specs.declared.tree.MonType.{MonType}
+use Rattle.mon_syntax.specs.BlockMemory.{Blocks, over_blocks, is_some}
+use Rattle.mon_syntax.specs.Meaning.{Result, Done, Flow, Next, eval, exec_all}
+use Rattle.mon_syntax.specs.Meaning as monitored
+use Rattle.mon_syntax.specs.Registers.{Bindings}
+use Rattle.mon_syntax.specs.Trees.{MonStatements}
+use Rattle.c_effects.specs.Expressions.{pointer_to}
+use Rattle.annot_code.specs.Code.{Judgement, judgement}
+
+-- the same registers below n
+pub record Same (n : ℕ) (regs after : List Value) : Type 0 where
+  pub long : length after ≡ length regs
+  pub below : (j : ℕ) → j < n → slice_get after j ≡ slice_get regs j
+
+abbrev pub Target : Type 0
+Target = monitored.State Blocks
+
+abbrev pub Did : Type 0
+Did = Result Target (Flow Value)
+
+-- where code runs: the program, the registers bound to its variables, all of them below `low`, the pointers to globals, what calls do and how many turns
+-- loops make, the states of the source and of the target, and the registers
+pub record Setting : Type 0 where
+  pub unit : TranslationUnit
+  pub bound : Bindings
+  pub low : ℕ
+  pub globals : List Value
+  pub calls : monitored.Calls over_blocks
+  pub turns : ℕ
+  pub now : State
+  pub target : Target
+  pub regs : List Value
+
+-- what statements do there
+abbrev pub runs : Setting → MonStatements → List Value → Did
+runs w a regs = exec_all over_blocks w.globals a w.calls w.turns regs w.target
+
+-- the target has the source's blocks, and points to those of the variables in sight
+pub record Stands (w : Setting) : Type 0 where
+  pub store_is : w.target.mem.store ≡ w.now.store
+  pub points : (x number : ℕ) → find x w.now.scope ≡ Some number → (later : List Value) → Same w.low w.regs later
+      → eval over_blocks w.globals (pointer_to w.unit w.bound x) later w.target.mem ≡ Some (Points (Into number 0))
+
+-- the variables that are read are in sight
+abbrev mutual
+  pub TermFound : Scope → LogicTerm → Type 0
+  TermFound scope (logic.Number at t r n) = Unit {0}
+  TermFound scope (logic.Letter at t r n) = Unit {0}
+  TermFound scope (logic.Variable at t r x) = (number : ℕ) × (find x.decl scope ≡ Some number)
+  TermFound scope (logic.Unary at t r op a) = TermFound scope a
+  TermFound scope (logic.Binary at t r op a b) = TermFound scope a × TermFound scope b
+  TermFound scope (logic.Cast at t r to a) = TermFound scope a
+  TermFound scope (logic.Choice at t r c a b) = PredicateFound scope c × TermFound scope a × TermFound scope b
+
+  pub LinksFound : Scope → Links → Type 0
+  LinksFound scope NoLink = Unit {0}
+  LinksFound scope (Linked at r t rest) = TermFound scope t × LinksFound scope rest
+
+  pub PredicateFound : Scope → Predicate → Type 0
+  PredicateFound scope (logic.Truth at b) = Unit {0}
+  PredicateFound scope (logic.NonZero at t) = TermFound scope t
+  PredicateFound scope (logic.Chain at t links) = TermFound scope t × LinksFound scope links
+  PredicateFound scope (logic.Not at p) = PredicateFound scope p
+  PredicateFound scope (logic.Connected at c p q) = PredicateFound scope p × PredicateFound scope q
+  PredicateFound scope (logic.Branch at c p q) = PredicateFound scope c × PredicateFound scope p × PredicateFound scope q
+
+-- terms that keep their ranges have their values there
+pub record RangesHold (s : State) : Type 0 where
+  pub lies : (t : LogicTerm) → TermRanged t → (z : ℤ) → term t s ≡ Some (Mathematical z) → LiesIn (range_of t) z
+  pub within : (t : LogicTerm) → TermRanged t → IsWithin128 (range_of t)
+
+-- what a predicate says that takes no step
+abbrev pub said : Option Bool → ℕ → Answer
+said None n = SaysNothing n
+said (Some b) n = Says b n
+
+abbrev pub is_true : Option Bool → Bool
+is_true None = false
+is_true (Some b) = b
+
+-- the statements of a predicate come to their end, and leave memory, steps, input and output as they were, and each register that was taken before
+pub record Judges (w : Setting) (p : Predicate) (rs : List MonType) (j : Judgement) : Type 0 where
+  pub after : List Value
+  pub same : Same (length rs) w.regs after
+  pub is : runs w j.stmts w.regs ≡ Done (Next after) w.target []
+  pub says : Option Bool
+  pub means : (n : ℕ) → pred p w.now n ≡ said says n
+  pub flag_is : slice_get after j.flag ≡ Some (Integer (truth (is_some says)))
+  pub truth_is : slice_get after j.truth ≡ Some (Integer (truth (is_true says)))
+
+-- so it is for each predicate that keeps its ranges, where there are registers enough
+abbrev pub CodeJudges : Type 0
+CodeJudges =
+    (w : Setting) (p : Predicate) (rs : List MonType) → Stands w → RangesHold w.now → PredicateRanged p → PredicateFound w.now.scope p
+    → w.low ≤ length rs → length (judgement w.unit w.bound p rs).used ≤ length w.regs → Judges w p rs (judgement w.unit w.bound p rs)

@@ -1,0 +1,4 @@
+pub mod Code
+pub mod Does
+pub mod Validity
+pub mod Plain

@@ -1,0 +1,144 @@
+//! Variables that are read, and those of which it is known that they hold numbers.
+
+ghost use Rattle.std.specs.Prelude.{◌≡◌, ◌++◌, OnOk, IfOk, option_map};
+ghost use Rattle.c_syntax.specs.Ctypes.{plain_type};
+ghost use Rattle.c_syntax.specs.Logic.{plain_links, plain_pred, plain_term};
+ghost use Rattle.annot_code.specs.Code.{is_known, is_same_reading, known_at_right, sure_readings, sure_readings_of_links, sure_readings_of_term};
+ghost use Rattle.c_effects.specs.Expressions.{term_type};
+ghost use Rattle.annot_code.specs.Plain.{plain_reading, plain_readings};
+
+use c_effects::conversion::value_type;
+use c_syntax::CType;
+use c_syntax::logic::{Connective, Links, Pred, PredKind, Term, TermKind};
+use mon_syntax::{MonType, same_type};
+use std::alloc::{AllocError, Global};
+
+/// A variable, and the type of its value.
+#[derive(Clone, Copy)]
+pub struct Reading {
+    pub decl: u32,
+    pub kind: MonType,
+}
+
+/// The type of a term that is the value of an object.
+pub fn term_type(t: &Option<CType>) -> MonType
+    ensures { result ≡ term_type (option_map plain_type t.now) }
+{
+    match t {
+        Some(t) => value_type(t),
+        None => MonType::I32,
+    }
+}
+
+fn is_same(x: Reading, y: Reading) -> bool
+    ensures { result ≡ is_same_reading (plain_reading x) (plain_reading y) }
+{
+    x.decl == y.decl && same_type(x.kind, y.kind)
+}
+
+/// Whether it is known that a variable holds a number.
+pub fn is_known(known: &[Reading], x: Reading) -> bool
+    ensures { result ≡ is_known (plain_readings known.now) (plain_reading x) }
+{
+    match known {
+        [] => false,
+        [first, rest @ ..] => is_same(x, *first) || is_known(rest, x),
+    }
+}
+
+// What is read wherever a term has a value.
+fn read_in_term(t: &Term, to: &mut Vec<Reading>) -> Result<(), AllocError>
+    ensures { OnOk result (plain_readings to.new.items ≡ plain_readings to.old.items ++ sure_readings_of_term (plain_term t.now)) }
+{
+    match &*t.kind {
+        TermKind::Number(_) | TermKind::Letter(_) | TermKind::Choice(_, _, _) => Ok(()),
+        TermKind::Variable(x) => {
+            to.push(Reading {
+                decl: x.decl,
+                kind: term_type(&t.ctype),
+            })?;
+            Ok(())
+        }
+        TermKind::Unary(_, a) | TermKind::Cast(_, a) => read_in_term(a, to),
+        TermKind::Binary(_, a, b) => {
+            read_in_term(a, to)?;
+            read_in_term(b, to)
+        }
+    }
+}
+
+/// What is read by both terms of a relation.
+pub fn read_in_relation(t: &Term, u: &Term, to: &mut Vec<Reading>) -> Result<(), AllocError>
+    ensures { OnOk result (plain_readings to.new.items ≡ plain_readings to.old.items
+        ++ (sure_readings_of_term (plain_term t.now) ++ sure_readings_of_term (plain_term u.now))) }
+{
+    read_in_term(t, to)?;
+    read_in_term(u, to)
+}
+
+/// What is read wherever a predicate says something.
+pub fn read_in(p: &Pred, to: &mut Vec<Reading>) -> Result<(), AllocError>
+    ensures { OnOk result (plain_readings to.new.items ≡ plain_readings to.old.items ++ sure_readings (plain_pred p.now)) }
+{
+    match &*p.kind {
+        PredKind::Truth(_) => Ok(()),
+        PredKind::NonZero(t) => read_in_term(t, to),
+        PredKind::Chain(_, Links::End) => Ok(()),
+        PredKind::Chain(t, Links::Link(_, _, u, _)) => read_in_relation(t, u, to),
+        PredKind::Not(q) => read_in(q, to),
+        PredKind::Connected(Connective::And | Connective::Or | Connective::Implies, a, _) => {
+            read_in(a, to)
+        }
+        PredKind::Connected(Connective::Iff | Connective::Xor, a, b) => {
+            read_in(a, to)?;
+            read_in(b, to)
+        }
+        PredKind::Choice(c, _, _) => read_in(c, to),
+    }
+}
+
+// A copy of what is known.
+fn copied(alloc: Global, known: &[Reading]) -> Result<Vec<Reading>, AllocError>
+    ensures { IfOk result (λ v. plain_readings v.items ≡ plain_readings known.now) }
+{
+    known.to_vec(alloc)
+}
+
+/// What is known after a predicate that says something.
+pub fn known_after(alloc: Global, known: &[Reading], p: &Pred) -> Result<Vec<Reading>, AllocError>
+    ensures { IfOk result (λ v. plain_readings v.items ≡ plain_readings known.now ++ sure_readings (plain_pred p.now)) }
+{
+    let mut more = copied(alloc, known)?;
+    read_in(p, &mut more)?;
+    Ok(more)
+}
+
+/// What is known after a relation that says something.
+pub fn known_after_relation(
+    alloc: Global,
+    known: &[Reading],
+    t: &Term,
+    u: &Term,
+) -> Result<Vec<Reading>, AllocError>
+    ensures { IfOk result (λ v. plain_readings v.items ≡ plain_readings known.now
+        ++ (sure_readings_of_term (plain_term t.now) ++ sure_readings_of_term (plain_term u.now))) }
+{
+    let mut more = copied(alloc, known)?;
+    read_in_relation(t, u, &mut more)?;
+    Ok(more)
+}
+
+/// What is known where the right side of a connective is asked.
+pub fn known_at_right(
+    alloc: Global,
+    connective: Connective,
+    known: &[Reading],
+    left: &Pred,
+) -> Result<Vec<Reading>, AllocError>
+    ensures { IfOk result (λ v. plain_readings v.items ≡ known_at_right connective (plain_readings known.now) (plain_pred left.now)) }
+{
+    match connective {
+        Connective::And | Connective::Or | Connective::Implies => known_after(alloc, known, left),
+        Connective::Iff | Connective::Xor => copied(alloc, known),
+    }
+}
