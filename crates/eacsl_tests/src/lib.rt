@@ -6,6 +6,10 @@
 
 // texts and grammars
 #[cfg(test)]
+mod annotations;
+#[cfg(test)]
+mod layouts;
+#[cfg(test)]
 mod monitored;
 #[cfg(test)]
 mod printing;
@@ -13,6 +17,8 @@ mod printing;
 mod reading;
 
 // code and the machine
+#[cfg(test)]
+mod forms;
 #[cfg(test)]
 mod lowering;
 #[cfg(test)]

@@ -8,7 +8,7 @@ use c_syntax::{FrontFault, TokenKind, Tokens};
 use std::process::Abort;
 
 /// The tokens of a C text that has no fault in them.
-fn tokens_of(rt: &(impl Abort + AllocGlobal), text: &str) -> Tokens {
+pub fn tokens_of(rt: &(impl Abort + AllocGlobal), text: &str) -> Tokens {
     if text.len() >= 4_294_967_295 {
         panic!(rt; "the text is too long");
     }

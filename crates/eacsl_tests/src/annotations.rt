@@ -1,0 +1,170 @@
+//! Annotations from their tokens to the ranges of their terms, and the guard of an operator.
+
+use crate::monitored::constant;
+use crate::reading::tokens_of;
+use crate::same::{made, same_number, same_numbers};
+use acsl_parser::annotations;
+use annot_typing::type_clauses;
+use c_expr_parser::vocabulary::vocabulary;
+use c_expression_rules::TypeFault;
+use c_expression_rules::entities::Entities;
+use c_expression_rules::sight::Sight;
+use c_expression_rules::signature::Functions;
+use c_syntax::fault::ReadFault;
+use c_syntax::logic::{Annot, Body, Pred, PredKind};
+use c_syntax::{BinOp, Name, Range, Tokens, code};
+use interval_infer::ranges;
+use mon_syntax::MonType;
+use std::process::Abort;
+use term_guards::guard;
+
+/// Compares how many asserts an annotation has, with the number of the next one, and the tokens that are left.
+fn reads(rt: &(impl Abort + AllocGlobal), text: &str, wanted: (i128, i128), left: u128) {
+    let tokens = tokens_of(rt, text);
+    let words = made(rt, vocabulary(rt.alloc(), &tokens.names));
+    match annotations(rt.alloc(), &words, 1, &tokens.list) {
+        Ok((all, next, rest)) => {
+            let found = (all.len() as i128, i128::from(next));
+            let behind = rest.len() as u128;
+            drop(all);
+            same_numbers(rt, found, wanted);
+            same_number(rt, behind, left);
+        }
+        Err(_) => panic!(rt; "it isn't read"),
+    }
+}
+
+/// Compares how many tokens are left where an annotation can't go on.
+fn breaks(rt: &(impl Abort + AllocGlobal), text: &str, wanted: u128) {
+    let tokens = tokens_of(rt, text);
+    let words = made(rt, vocabulary(rt.alloc(), &tokens.names));
+    match annotations(rt.alloc(), &words, 1, &tokens.list) {
+        Err(ReadFault::At(left)) => same_number(rt, left as u128, wanted),
+        _ => panic!(rt; "it has no such fault"),
+    }
+}
+
+#[test]
+fn asserts_are_read(rt: HostRuntime) {
+    let text =
+        "/*@ assert 0 <= 1 + 2 * 3 && (7 / 2 == 3 ==> \\true); assert -7 % 2 == -1; */ return 0;";
+    reads(&rt, text, (2, 3), 3);
+    breaks(&rt, "/*@ assert 1 < 2 > 3; */", 4);
+}
+
+/// The asserts of a text, whose names have no declarations, and what is in sight of them.
+fn read(rt: &(impl Abort + AllocGlobal), text: &str) -> (Vec<Annot>, Sight) {
+    let Tokens { list, names, .. } = tokens_of(rt, text);
+    let words = made(rt, vocabulary(rt.alloc(), &names));
+    match annotations(rt.alloc(), &words, 1, &list) {
+        Ok((all, _, _)) => (all, sight_of(rt, names)),
+        Err(_) => panic!(rt; "it isn't read"),
+    }
+}
+
+/// Names without declarations.
+fn sight_of(rt: &impl AllocGlobal, names: Vec<Name>) -> Sight {
+    let alloc = rt.alloc();
+    Sight {
+        names,
+        texts: Vec::new(alloc),
+        functions: Functions::new(alloc),
+        entities: Entities::new(alloc),
+        innermost: 0,
+        types: Vec::new(alloc),
+        structs: Vec::new(alloc),
+        levels: Vec::new(alloc),
+        enum_tags: Vec::new(alloc),
+        enums: Vec::new(alloc),
+    }
+}
+
+/// Compares the code and the offset of a refusal.
+fn refuses(rt: &impl Abort, found: Result<(), TypeFault>, code: u8, offset: i128) {
+    match found {
+        Err(TypeFault::Refused(fault)) => {
+            let place = i128::from(fault.place.offset);
+            same_numbers(
+                rt,
+                (i128::from(fault.code), place),
+                (i128::from(code), offset),
+            );
+        }
+        _ => panic!(rt; "it isn't refused"),
+    }
+}
+
+/// Compares the refusal by typing.
+fn has_no_type(rt: &(impl Abort + AllocGlobal), text: &str, code: u8, offset: i128) {
+    let (mut all, sight) = read(rt, text);
+    let found = type_clauses(rt.alloc(), &sight, &mut all);
+    refuses(rt, found, code, offset);
+}
+
+#[test]
+fn names_and_sorts_are_refused(rt: HostRuntime) {
+    has_no_type(&rt, "/*@ assert 0 < unknown; */", code::NAME, 15);
+    has_no_type(&rt, "/*@ assert (1 < 2) + 1 == 0; */", code::TYPE, 19);
+}
+
+/// The typed asserts of a text.
+fn typed(rt: &(impl Abort + AllocGlobal), text: &str) -> Vec<Annot> {
+    let (mut all, sight) = read(rt, text);
+    made(rt, type_clauses(rt.alloc(), &sight, &mut all));
+    all
+}
+
+/// The range of the first term of a chain.
+fn range_in(rt: &impl Abort, p: &Pred) -> Range {
+    match &*p.kind {
+        PredKind::Chain(t, _) => t.range,
+        _ => panic!(rt; "it is no chain"),
+    }
+}
+
+/// The range of the first term of the one assert.
+fn first_range(rt: &impl Abort, all: &[Annot]) -> Range {
+    match all {
+        [
+            Annot {
+                body: Body::Truth(p),
+                ..
+            },
+        ] => range_in(rt, p),
+        _ => panic!(rt; "it isn't one typed assert"),
+    }
+}
+
+/// Compares the bounds of the first term of an assert.
+fn has_range(rt: &(impl Abort + AllocGlobal), text: &str, wanted: (i128, i128)) {
+    let mut all = typed(rt, text);
+    made(rt, ranges(&mut all));
+    let found = first_range(rt, &all);
+    same_numbers(rt, (found.lo, found.hi), wanted);
+}
+
+/// Compares the offset of the first term that has no range.
+fn has_no_range(rt: &(impl Abort + AllocGlobal), text: &str, offset: i128) {
+    let mut all = typed(rt, text);
+    let found = ranges(&mut all);
+    refuses(rt, found, code::RANGE, offset);
+}
+
+#[test]
+fn terms_have_ranges(rt: HostRuntime) {
+    has_range(&rt, "/*@ assert 1 + 2 * 3 < 8; */", (7, 7));
+    has_range(&rt, "/*@ assert (char) 300 < 8; */", (-128, 127));
+    has_no_range(&rt, "/*@ assert 1 << 127 == 0; */", 13);
+    has_no_range(
+        &rt,
+        "/*@ assert 170141183460469231731687303715884105727 + 1 == 0; */",
+        51,
+    );
+}
+
+#[test]
+fn a_division_has_a_guard(rt: HostRuntime) {
+    let divisor = constant(&rt, MonType::I32, 5);
+    let guarding = made(&rt, guard(rt.alloc(), MonType::I32, BinOp::Div, divisor));
+    drop(guarding);
+}
