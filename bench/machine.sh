@@ -218,8 +218,10 @@ long_takes() {
 # builds the proved programs where that is due, so that no figure is of an unproved one
 least >"$scratch/least.c"
 "$top/eacsl" --build >&2
-(cd "$top/crates/bench_c_machine" && rt run <stdin >/dev/null 2>&1)
 both=$top/crates/bench_c_machine/out/bench_c_machine
+if [[ ! -x $both || -n $(find "$top/crates.txt" "$top"/crates/*/{src,specs,proofs} -newer "$both" -print -quit) ]]; then
+  (cd "$top/crates/bench_c_machine" && rt run <stdin >/dev/null 2>&1)
+fi
 deep >"$scratch/deep.c"
 
 printf '%-34s %10s %12s\n' what ms 'peak (KiB)'
