@@ -13,3 +13,6 @@ pub mod Prefixes
 pub mod ValidParts
 pub mod ValidCode
 pub mod Rust
+pub mod Arms
+pub mod Forms
+pub mod Judged

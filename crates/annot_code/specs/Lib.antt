@@ -2,3 +2,4 @@ pub mod Code
 pub mod Does
 pub mod Validity
 pub mod Plain
+pub mod Judged

@@ -2,8 +2,11 @@
 #![tactic(auto)]
 
 mod copy;
+mod join;
+pub mod judge;
 pub mod laws;
 mod piece;
+mod predicate;
 mod reading;
 mod term;
 mod value;

@@ -1,11 +1,10 @@
 //! Code that is made of the code of parts, or of none.
 
-ghost use Rattle.std.specs.Prelude.{◌≡◌, IfOk, List, OnOk, false, pos};
+ghost use Rattle.std.specs.Prelude.{◌≡◌, [], IfOk, OnOk, false, pos};
 ghost use Rattle.c_syntax.specs.Formulas.{plain_cast_type};
 ghost use Rattle.c_effects.specs.Expressions.{access_of, question};
 ghost use Rattle.c_effects.specs.Named.{unit_of};
 ghost use Rattle.mon_syntax.specs.declared.tree.MonOp.TheVariants.{Eq, Ne};
-ghost use Rattle.mon_syntax.specs.declared.tree.MonType.{MonType};
 ghost use Rattle.mon_syntax.specs.declared.tree.MonType.TheVariants.{I32};
 ghost use Rattle.mon_syntax.specs.Trees.{Binary, Constant, plain_expr, plain_stmt_kind};
 ghost use Rattle.annot_code.specs.Code.{cast_value, is_known, sure_code, truth_code, type_of_width, unary_value};
@@ -29,7 +28,7 @@ use std::alloc::{AllocError, Global};
 
 /// A number in the type of its width.
 pub fn number_code(alloc: Global, w: Width, n: i128) -> Result<Code, AllocError>
-    ensures { IfOk result (λ c. (rs : List MonType) → code_of c rs ≡ sure_code (Constant (type_of_width w) n) rs) }
+    ensures { IfOk result (λ c. code_of c [] ≡ sure_code (Constant (type_of_width w) n) []) }
 {
     let value = constant(alloc, type_of_width(w), n)?;
     Ok(Code {
@@ -41,7 +40,7 @@ pub fn number_code(alloc: Global, w: Width, n: i128) -> Result<Code, AllocError>
 
 /// `\true` or `\false`.
 pub fn truth_code(alloc: Global, b: bool) -> Result<Code, AllocError>
-    ensures { IfOk result (λ c. (rs : List MonType) → code_of c rs ≡ truth_code b rs) }
+    ensures { IfOk result (λ c. code_of c [] ≡ truth_code b []) }
 {
     let value = constant(alloc, MonType::I32, i128::from(b))?;
     Ok(Code {
@@ -154,8 +153,8 @@ pub fn unary_code(
     operand: Width,
     x: Code,
 ) -> Result<Code, AllocError>
-    ensures { IfOk result (λ c. (rs : List MonType) → code_of c rs
-        ≡ with_value (unary_value op (type_of_width whole) (type_of_width (wider whole operand)) (type_of_width operand) (plain_expr x.value)) (code_of x rs)) }
+    ensures { IfOk result (λ c. code_of c []
+        ≡ with_value (unary_value op (type_of_width whole) (type_of_width (wider whole operand)) (type_of_width operand) (plain_expr x.value)) (code_of x [])) }
 {
     let working = type_of_width(wider(whole, operand));
     let value = unary_value(
@@ -182,8 +181,8 @@ pub fn cast_code(
     operand: Width,
     x: Code,
 ) -> Result<Code, AllocError>
-    ensures { IfOk result (λ c. (rs : List MonType) → code_of c rs
-        ≡ with_value (cast_value (plain_cast_type to.now) a (type_of_width whole) (type_of_width operand) (plain_expr x.value)) (code_of x rs)) }
+    ensures { IfOk result (λ c. code_of c []
+        ≡ with_value (cast_value (plain_cast_type to.now) a (type_of_width whole) (type_of_width operand) (plain_expr x.value)) (code_of x [])) }
 {
     let value = cast_value(
         alloc,
@@ -202,7 +201,7 @@ pub fn cast_code(
 
 // A value compared with 0.
 fn compared_code(alloc: Global, op: MonOp, t: MonType, x: Code) -> Result<Code, AllocError>
-    ensures { IfOk result (λ c. (rs : List MonType) → code_of c rs ≡ with_value (Binary op t (plain_expr x.value) (Constant t (pos 0))) (code_of x rs)) }
+    ensures { IfOk result (λ c. code_of c [] ≡ with_value (Binary op t (plain_expr x.value) (Constant t (pos 0))) (code_of x [])) }
 {
     let zero = constant(alloc, t, 0)?;
     let value = operation(alloc, op, t, x.value, zero)?;
@@ -215,14 +214,14 @@ fn compared_code(alloc: Global, op: MonOp, t: MonType, x: Code) -> Result<Code, 
 
 /// A term that is wanted as a predicate.
 pub fn nonzero_code(alloc: Global, t: MonType, x: Code) -> Result<Code, AllocError>
-    ensures { IfOk result (λ c. (rs : List MonType) → code_of c rs ≡ with_value (Binary Ne t (plain_expr x.value) (Constant t (pos 0))) (code_of x rs)) }
+    ensures { IfOk result (λ c. code_of c [] ≡ with_value (Binary Ne t (plain_expr x.value) (Constant t (pos 0))) (code_of x [])) }
 {
     compared_code(alloc, MonOp::Ne, t, x)
 }
 
 /// The opposite of a predicate.
 pub fn denied_code(alloc: Global, x: Code) -> Result<Code, AllocError>
-    ensures { IfOk result (λ c. (rs : List MonType) → code_of c rs ≡ with_value (Binary Eq I32 (plain_expr x.value) (Constant I32 (pos 0))) (code_of x rs)) }
+    ensures { IfOk result (λ c. code_of c [] ≡ with_value (Binary Eq I32 (plain_expr x.value) (Constant I32 (pos 0))) (code_of x [])) }
 {
     compared_code(alloc, MonOp::Eq, MonType::I32, x)
 }

@@ -1,0 +1,45 @@
+-- What is proved of the code of predicates, where it is made after a function's names.
+use Rattle.std.proofs.Common.{◌≡◌, ◌≤◌, List, [], length, option_map, Result, IfOk, sym, ◌∙◌, subst}
+use Rattle.std.proofs.lemmas.Result.{IfOk-weaker}
+use Rattle.c_syntax.specs.Logic.{Predicate}
+use Rattle.mon_syntax.specs.declared.tree.MonType.{MonType}
+use Rattle.mon_syntax.specs.Registers.{Names}
+use Rattle.mon_syntax.specs.Trees.{plain_expr}
+use Rattle.c_effects.specs.Expressions.{Reading}
+use Rattle.c_effects.specs.Named.{unit_of}
+use Rattle.annot_code.specs.declared.judge.Judged as code
+use Rattle.annot_code.specs.declared.piece.Code as declared
+use Rattle.annot_code.specs.Code.{Judgement, judged_with, judgement}
+use Rattle.annot_code.specs.Does.{Judges}
+use Rattle.annot_code.specs.Judged.{IsValidIn, JudgesIn}
+use Rattle.annot_code.specs.Plain.{code_of, judgement_of, pred_by}
+use Rattle.annot_code.proofs.Theorem.{code_judges}
+use Rattle.annot_code.proofs.ValidCode.{code_is_valid}
+
+abbrev judgement_by : Names → Predicate → Judgement
+judgement_by n q = judgement (unit_of n) n.table.bound q n.table.kinds
+
+judges_in : (n : Names) (q : Predicate) → JudgesIn n q (judgement_by n q)
+judges_in n q w unit bound stands holds ranged found low few =
+    let same : judgement w.unit w.bound q n.table.kinds ≡ judgement_by n q = λ i. judgement (unit i) (bound i) q n.table.kinds in
+    subst (λ z. length z.used ≤ length w.regs → Judges w q n.table.kinds z) same (code_judges w q n.table.kinds stands holds ranged found low) few
+
+valid_in : (n : Names) (q : Predicate) → IsValidIn n q (judgement_by n q)
+valid_in n q globals gs ts result ls ranged writable few begins =
+    code_is_valid (unit_of n) n.table.bound globals gs ts result ls q n.table.kinds ranged writable few begins
+
+module _ {E : Type 0} (r : Result code.Judged E) (ks : List MonType) (n : Names) (q : Predicate) where
+  pub of_judgement :
+      (x : declared.Code) (k1 : List MonType) (known : List Reading) → known ≡ [] → code_of x k1 ≡ pred_by n q known
+      → IfOk r (λ j. judgement_of j ks ≡ judged_with (option_map plain_expr x.flag) (code_of x k1)) → IfOk r (λ j. judgement_of j ks ≡ judgement_by n q)
+  of_judgement x k1 known none part made =
+      IfOk-weaker r (λ j. judgement_of j ks ≡ judged_with (option_map plain_expr x.flag) (code_of x k1)) (λ j. judgement_of j ks ≡ judgement_by n q)
+      (λ j h. h ∙ (λ i. judged_with (part i).flag (part i)) ∙ (λ i. judged_with (pred_by n q (none i)).flag (pred_by n q (none i)))) made
+
+  pub of_judges : IfOk r (λ j. judgement_of j ks ≡ judgement_by n q) → IfOk r (λ j. JudgesIn n q (judgement_of j ks))
+  of_judges made =
+      IfOk-weaker r (λ j. judgement_of j ks ≡ judgement_by n q) (λ j. JudgesIn n q (judgement_of j ks)) (λ j h. subst (JudgesIn n q) (sym h) (judges_in n q)) made
+
+  pub of_valid : IfOk r (λ j. judgement_of j ks ≡ judgement_by n q) → IfOk r (λ j. IsValidIn n q (judgement_of j ks))
+  of_valid made =
+      IfOk-weaker r (λ j. judgement_of j ks ≡ judgement_by n q) (λ j. IsValidIn n q (judgement_of j ks)) (λ j h. subst (IsValidIn n q) (sym h) (valid_in n q)) made
