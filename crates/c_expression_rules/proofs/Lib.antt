@@ -1,5 +1,7 @@
 pub mod InPlace
 pub mod Least
+pub mod Lists
+pub mod BlockItems
 pub mod Names
 pub mod Newest
 pub mod Gives

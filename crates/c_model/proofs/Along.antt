@@ -10,8 +10,11 @@ use Rattle.c_syntax.specs.declared.types.BlockKind.TheVariants as block
 use Rattle.c_syntax.specs.declared.expression.Use.{Use}
 use Rattle.c_syntax.specs.declared.expression.UnOp.TheVariants as unary
 use Rattle.c_syntax.specs.declared.annotation.Relation.{Relation}
+use Rattle.c_syntax.specs.declared.annotation.Relation.TheVariants.{Ne}
+use Rattle.c_syntax.specs.declared.logic.Connective.{Connective}
+use Rattle.c_syntax.specs.declared.logic.Connective.TheVariants.{And, Xor, Or, Implies, Iff}
 use Rattle.c_syntax.specs.Ctypes.{PlainType, int_type}
-use Rattle.c_syntax.specs.Annotations.{Annotation, ClauseBody, Truth, Chain, Links, NoLink, Linked}
+use Rattle.c_syntax.specs.Logic.{Links, NoLink, Linked, Predicate, Truth, NonZero, Chain, Not, Connected, Branch, ClauseBody, Raw, Holds, Annotation}
 use Rattle.c_syntax.specs.Expressions.{Expression, Node, Number, Letter, Text, Variable, Unary, Binary, Both, Either, Choice, Assign, Bump, Call, Cast, SizeOfType, SizeOfExpr, Index, Dot, Arrow, Comma, Expressions, NoExpression, Following, place_of}
 use Rattle.c_syntax.specs.Expressions.{type_of}
 use Rattle.c_syntax.specs.Statements.{Initialiser, One, Many, Initialisers, NoInitialiser, Listed, Declaration, Statement, Empty, Eval, Block, If, While, Do, For, Break, Continue, Return, ElsePart, NoElse, Else, ForFirst, NoFirst, First, BlockItem}
@@ -26,7 +29,8 @@ use Rattle.c_model.specs.State.{Scope, Mark, Input, InputTail, EndOfInput, Input
 use Rattle.c_model.specs.State.{on_outcome, ◌>>=◌, ◌>>◌, give, done, stop, defined, computed, as_scalar, step_from, step, find, start_of, object, read, read_any, put_store, changed, write, write_bytes, copy_object, tested, birth_of, birth, births}
 use Rattle.c_model.specs.State.{heap_birth, allocate}
 use Rattle.c_model.specs.State.{write_youngest, alone, frame, mark, back_to, restored, within}
-use Rattle.c_model.specs.Logic.{TermValue, Mathematical, Answer, Says, SaysNothing, OutOfSteps, lazily, related, term, chain, clause, judged, check, checks}
+use Rattle.c_model.specs.Logic.{TermValue, Mathematical, Answer, Says, SaysNothing, OutOfSteps, lazily, related, judged}
+use Rattle.c_model.specs.Predicates.{denied, connected, term, chain, pred, clause, check, checks}
 use Rattle.c_model.specs.Meaning.{Tables, literal, Callee, is_zero, choose, truth_value, size_value, converted, is_of_library, is_pointer, named, is_member, address, is_array, pointed_to, member, assigned, compound, bump_operator, bump_value}
 use Rattle.c_model.specs.Meaning.{eval_with, place_with}
 use Rattle.c_model.specs.Meaning.{evals_with, after_body, turns, do_turns, declared_in, declared_first, zero_scalars, zero_parts, string_in, write_each, fill_one, parts_or_itself, fill, fill_parts, initialise, initialise_all, condition_with}
@@ -60,8 +64,27 @@ steps_chain NoLink a s n = omega arith
 steps_chain (Linked at r t rest) a s n =
     steps_lazily n (related r a (term t s) n) _ _ (steps_related r a (term t s) n) (λ j. steps_chain rest (term t s) s j) (λ j. omega arith)
 
+steps_denied : (k : ℕ) (a : Answer) → steps_of a ≤ k → steps_of (denied a) ≤ k
+steps_denied k a h = steps_lazily k a _ _ h (λ n. omega arith) (λ n. omega arith)
+
+steps_connected : (c : Connective) (k : ℕ) (a : Answer) (b : ℕ → Answer) → steps_of a ≤ k → ((n : ℕ) → steps_of (b n) ≤ n) → steps_of (connected c a b) ≤ k
+steps_connected And k a b h g = steps_lazily k a _ _ h g (λ n. omega arith)
+steps_connected Or k a b h g = steps_lazily k a _ _ h (λ n. omega arith) g
+steps_connected Implies k a b h g = steps_lazily k a _ _ h g (λ n. omega arith)
+steps_connected Iff k a b h g = steps_lazily k a _ _ h g (λ n. steps_denied n (b n) (g n))
+steps_connected Xor k a b h g = steps_lazily k a _ _ h (λ n. steps_denied n (b n) (g n)) g
+
+steps_pred : (p : Predicate) (s : State) (n : ℕ) → steps_of (pred p s n) ≤ n
+steps_pred (Truth at b) s n = omega arith
+steps_pred (NonZero at t) s n = steps_related Ne (term t s) _ n
+steps_pred (Chain at t links) s n = steps_chain links (term t s) s n
+steps_pred (Not at p) s n = steps_denied n (pred p s n) (steps_pred p s n)
+steps_pred (Connected at c p q) s n = steps_connected c n (pred p s n) (pred q s) (steps_pred p s n) (steps_pred q s)
+steps_pred (Branch at c p q) s n = steps_lazily n (pred c s n) (pred p s) (pred q s) (steps_pred c s n) (steps_pred p s) (steps_pred q s)
+
 pub steps_clause : (body : ClauseBody) (s : State) (n : ℕ) → steps_of (clause body s n) ≤ n
-steps_clause (Truth (Chain at t links)) s n = steps_chain links (term t s) s n
+steps_clause (Raw f) s n = omega arith
+steps_clause (Holds p) s n = steps_pred p s n
 
 -- the state at an outcome
 abbrev pub state_after : {A : Type 0} → Outcome A → State

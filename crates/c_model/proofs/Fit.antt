@@ -5,7 +5,7 @@ use Rattle.c_syntax.specs.declared.place.Place.{Place}
 use Rattle.c_syntax.specs.declared.expression.Use.{Use}
 use Rattle.c_syntax.specs.declared.expression.UnOp.TheVariants as unary
 use Rattle.c_syntax.specs.Ctypes.{PlainType, int_type}
-use Rattle.c_syntax.specs.Annotations.{Annotation}
+use Rattle.c_syntax.specs.Logic.{Annotation}
 use Rattle.c_syntax.specs.Expressions.{Expression, Node, Number, Letter, Text, Variable, Unary, Binary, Both, Either, Choice, Assign, Bump, Call, Cast, SizeOfType, SizeOfExpr, Index, Dot, Arrow, Comma, Expressions, NoExpression, Following, place_of}
 use Rattle.c_syntax.specs.Expressions.{type_of}
 use Rattle.c_syntax.specs.Statements.{Initialiser, One, Many, Initialisers, NoInitialiser, Listed, Declaration, Statement, Empty, Eval, Block, If, While, Do, For, Break, Continue, Return, ElsePart, NoElse, Else, ForFirst, NoFirst, First, BlockItem}
@@ -17,7 +17,7 @@ use Rattle.c_model.specs.Memory.{Pointer, Value, Integer, Points, NoValue, Byte,
 use Rattle.c_model.specs.State.{Scope, Input, State, Breaks, Continues, Returns, End, Leaves, Over, Undefined, Fault, Outcome, Normal, Stop, Evaluation}
 use Rattle.c_model.specs.State.{on_outcome, ◌>>=◌, ◌>>◌, give, done, stop, defined, computed, as_scalar, step_from, step, find, object, read, read_any, write, write_bytes, copy_object, tested, birth, births}
 use Rattle.c_model.specs.State.{write_youngest, alone, frame, mark, restored, within}
-use Rattle.c_model.specs.Logic.{checks}
+use Rattle.c_model.specs.Predicates.{checks}
 use Rattle.c_model.specs.Meaning.{Tables, literal, Callee, is_zero, choose, truth_value, size_value, converted, is_of_library, named, address, is_array, pointed_to, member, assigned, compound, bump_operator, bump_value, eval_with}
 use Rattle.c_model.specs.Meaning.{place_with}
 use Rattle.c_model.specs.Meaning.{evals_with, after_body, turns, do_turns, declared_in, declared_first, zero_scalars, zero_parts, string_in, write_each, fill_one, parts_or_itself, fill, fill_parts, initialise, initialise_all, condition_with}

@@ -13,6 +13,7 @@ use Rattle.c_model.specs.PlacedTrees.{FilePlaced}
 use Rattle.c_model.specs.Pure.{HasBareCall}
 use Rattle.c_model.specs.FullExpressions.{EachInDeclaration, EachDeclared, EachInBody, EachInFunctions}
 use Rattle.c_model.specs.TextOrder.{globals_among, functions_among}
+use Rattle.c_model.specs.Formed.{AreReadAsserts}
 use Rattle.c_model.specs.ReadTree.{FunctionRead, FunctionsRead, AreInitialisers, ReadTree}
 use Rattle.c_model.proofs.TypedParts.{Gives, gives_of, gives_one}
 use Rattle.c_model.proofs.TypedDeclarations.{anything}
@@ -27,7 +28,7 @@ IsReadItem (Member k m ends) = Unit {0}
 IsReadItem (AnEnum e) = Unit {0}
 IsReadItem (ATypedef d) = Unit {0}
 IsReadItem (AGlobal d) = IsInitialised d × EachInDeclaration HasBareCall d
-IsReadItem (AFunction f) = FunctionRead f × EachInBody HasBareCall f.body
+IsReadItem (AFunction f) = FunctionRead AreReadAsserts f × EachInBody HasBareCall f.body
 
 abbrev AreReadItems : List FileItem → Type 0
 AreReadItems [] = Unit {0}
@@ -35,7 +36,7 @@ AreReadItems (i ∷ is) = IsReadItem i × AreReadItems is
 
 -- of functions and of globals
 record AreForms (fs : List Function) (ds : List Declaration) : Type 0 where
-  read : FunctionsRead fs
+  read : FunctionsRead AreReadAsserts fs
   bare : EachInFunctions HasBareCall fs
   initialised : AreInitialisers ds
   bare_initials : EachDeclared HasBareCall ds
@@ -53,7 +54,7 @@ read_items (AFunction f ∷ is) h = ((h.read.0, h.bare.0), read_items is (record
 -- ---- what is typed so far
 
 record SoFar (r : Progress) : Type 0 where
-  functions : FunctionsRead r.funcs
+  functions : FunctionsRead AreReadAsserts r.funcs
   globals : AreInitialisers r.globals
 
 one_more : {A : Type 0} (P : A → Type 0) (xs : List A) (x : A) → AllByRecursion P xs → P x → AllByRecursion P (xs ++ x ∷ [])
@@ -93,8 +94,8 @@ item_kept p r w (AGlobal d) q h =
     gives_one IsInitialised SoFar (typed_global r.sight d) (λ d. Good (record r { sight = with_object r.sight d; globals = r.globals ++ d ∷ [] })) (global_kept r.sight w.known.results d q.0 q.1) (λ d k.
     record { functions = h.functions; globals = one_more IsInitialised r.globals d h.globals k })
 item_kept p r w (AFunction f) q h =
-    gives_one FunctionRead SoFar (typed_function p r.sight r.funcs f) (λ f. Good (record r { sight = with_function p r.sight f; funcs = r.funcs ++ f ∷ [] })) (function_kept p r.sight w r.funcs f q.0 q.1) (λ f k.
-    record { functions = one_more FunctionRead r.funcs f h.functions k; globals = h.globals })
+    gives_one (FunctionRead AreReadAsserts) SoFar (typed_function p r.sight r.funcs f) (λ f. Good (record r { sight = with_function p r.sight f; funcs = r.funcs ++ f ∷ [] })) (function_kept p r.sight w r.funcs f q.0 q.1) (λ f k.
+    record { functions = one_more (FunctionRead AreReadAsserts) r.funcs f h.functions k; globals = h.globals })
 
 items_kept : (p : TranslationUnit) (r : Progress) → IsWholeSight r.sight → (is : List FileItem) → FilePlaced is → AreReadItems is → SoFar r → Gives SoFar (typed_items_of_file p r is)
 items_kept p r w [] o q h = h
@@ -108,7 +109,7 @@ items_kept p r w (i ∷ is) o q h =
 
 -- the forms of a typed file
 pub record HasForms (q : TranslationUnit) : Type 0 where
-  pub functions : FunctionsRead q.funcs
+  pub functions : FunctionsRead AreReadAsserts q.funcs
   pub globals : AreInitialisers q.globals
 
 pub forms_kept : (p q : TranslationUnit) → ReadTree p → typed_unit p ≡ Good q → HasForms q
@@ -119,7 +120,7 @@ forms_kept p q t is = gives_of HasForms (typed_unit p) q
   where
     forms : AreForms (functions_among (items_of_file p)) (globals_among (items_of_file p))
     forms = record {
-      read = subst FunctionsRead (sym t.order.functions) t.functions;
+      read = subst (FunctionsRead AreReadAsserts) (sym t.order.functions) t.functions;
       bare = subst (EachInFunctions HasBareCall) (sym t.order.functions) t.functions_bare;
       initialised = subst AreInitialisers (sym t.order.globals) t.globals;
       bare_initials = subst (EachDeclared HasBareCall) (sym t.order.globals) t.globals_bare;

@@ -17,7 +17,7 @@ use Rattle.c_model.specs.UnitTyping.{with_function, with_parameter, with_paramet
 use Rattle.c_model.specs.TypedTrees.{WhereAny, IsResult}
 use Rattle.c_model.specs.TypedReadings.{InBraces, WithoutBraces, InitialiserTypedAs, InitialisersTypedAs, AloneTypedAs, MaybeInitialiserTypedAs}
 use Rattle.c_model.specs.TextTypingLaws.{IsWholeSight}
-use Rattle.c_model.specs.Formed.{depth, depth_of_else, depth_of_item, depth_of_items}
+use Rattle.c_model.specs.Formed.{AreReadAsserts, depth, depth_of_else, depth_of_item, depth_of_items}
 use Rattle.c_model.specs.Pure.{IsPure, IsPureOrCall, IsEffect, IsEffectOrCall, IsPureInitialiser, ArePureInitialisers, IsInitialiser, HasBareCall}
 use Rattle.c_model.specs.FullExpressions.{EachInitial, EachInDeclaration, EachDeclared, EachIn, EachInElse, EachInFirst, EachInItem, EachInItems, EachInBody}
 use Rattle.c_model.specs.EffectPlaces.{ArePlaced, FirstPlaced, StatementPlaced, ElsePlaced, ItemPlaced, ItemsPlaced}
@@ -128,27 +128,27 @@ maybe_kept : (P Q R : Expression → Type 0) (check : Expression → Checked Exp
 maybe_kept P Q R check f None p h = tt
 maybe_kept P Q R check f (Some e) p h = gives_one R (WhereAny R) (check e) (λ e. Good (Some e)) (f e p h) (λ x g. g)
 
-returned_kept : (s : Sight) (at : Place) (t : PlainType) (o : Option Expression) → WhereAny IsBare o → Gives (λ a. StatementPlaced a × (depth a ≡ 1)) (returned s at t o)
-returned_kept s at t None h = gives_where (λ a. StatementPlaced a × (depth a ≡ 1)) (is_void t) _ _ (λ e. (tt, refl))
-returned_kept s at t (Some e) h = gives_where (λ a. StatementPlaced a × (depth a ≡ 1)) (not (is_void t) && is_assigned s e t) _ _ (λ c. (bare_in_type t e h, refl))
+returned_kept : (s : Sight) (at : Place) (t : PlainType) (o : Option Expression) → WhereAny IsBare o → Gives (λ a. StatementPlaced AreReadAsserts a × (depth a ≡ 1)) (returned s at t o)
+returned_kept s at t None h = gives_where (λ a. StatementPlaced AreReadAsserts a × (depth a ≡ 1)) (is_void t) _ _ (λ e. (tt, refl))
+returned_kept s at t (Some e) h = gives_where (λ a. StatementPlaced AreReadAsserts a × (depth a ≡ 1)) (not (is_void t) && is_assigned s e t) _ _ (λ c. (bare_in_type t e h, refl))
 
 -- ---- statements
 
 -- b has the form of a
 record IsKept (a b : Statement) : Type 0 where
-  placed : StatementPlaced b
+  placed : StatementPlaced AreReadAsserts b
   deep : depth b ≡ depth a
 
 record IsElseKept (a b : ElsePart) : Type 0 where
-  placed : ElsePlaced b
+  placed : ElsePlaced AreReadAsserts b
   deep : depth_of_else b ≡ depth_of_else a
 
 record IsItemKept (a b : BlockItem) : Type 0 where
-  placed : ItemPlaced b
+  placed : ItemPlaced AreReadAsserts b
   deep : depth_of_item b ≡ depth_of_item a
 
 record AreKept (a b : BlockItems) : Type 0 where
-  placed : ItemsPlaced b
+  placed : ItemsPlaced AreReadAsserts b
   deep : depth_of_items b ≡ depth_of_items a
 
 first_kept : (s : Sight) → SeesResults s → (r : Around) (first : ForFirst) → FirstPlaced first → EachInFirst HasBareCall first → Gives FirstPlaced (typed_first s r first)
@@ -163,7 +163,7 @@ first_kept s known r (First (Declare ds)) p h =
 first_kept s known r _ p h = absurd p
 
 mutual
-  statement_kept : (s : Sight) → SeesResults s → (r : Around) (a : Statement) → StatementPlaced a → EachIn HasBareCall a → Gives (IsKept a) (typed_statement s r a)
+  statement_kept : (s : Sight) → SeesResults s → (r : Around) (a : Statement) → StatementPlaced AreReadAsserts a → EachIn HasBareCall a → Gives (IsKept a) (typed_statement s r a)
   statement_kept s known r (Empty at) p h = record { placed = tt; deep = refl }
   statement_kept s known r (Eval at e) p h = gives_one IsEffectOrCall (IsKept (Eval at e)) (typed s e) (λ e. Good (Eval at e)) (effect_or_call_kept s known e p h) (λ x k. record { placed = k; deep = refl })
   statement_kept s known r (Block at items) p h =
@@ -199,20 +199,20 @@ mutual
       gives_one (WhereAny IsBare) (IsKept (Return at e)) (typed_maybe (λ e. decayed_of (typed s e)) e) (returned s at r.result)
       (maybe_kept IsPureOrCall HasBareCall IsBare (λ e. decayed_of (typed s e)) (λ x q b. value_bare s known x (bare_read x q b)) e p h) (λ o f. by (returned s at r.result o) (returned_kept s at r.result o f))
     where
-      by : (c : Checked Statement) → Gives (λ a. StatementPlaced a × (depth a ≡ 1)) c → Gives (IsKept (Return at e)) c
+      by : (c : Checked Statement) → Gives (λ a. StatementPlaced AreReadAsserts a × (depth a ≡ 1)) c → Gives (IsKept (Return at e)) c
       by (Good a) k = record { placed = k.0; deep = k.1 }
       by (Bad f fs) k = tt
 
-  else_kept : (s : Sight) → SeesResults s → (r : Around) (b : ElsePart) → ElsePlaced b → EachInElse HasBareCall b → Gives (IsElseKept b) (typed_else s r b)
+  else_kept : (s : Sight) → SeesResults s → (r : Around) (b : ElsePart) → ElsePlaced AreReadAsserts b → EachInElse HasBareCall b → Gives (IsElseKept b) (typed_else s r b)
   else_kept s known r NoElse p h = record { placed = tt; deep = refl }
   else_kept s known r (Else a) p h = gives_one (IsKept a) (IsElseKept (Else a)) (typed_statement s r a) (λ a. Good (Else a)) (statement_kept s known r a p h) (λ x k. record { placed = k.placed; deep = k.deep })
 
-  item_kept : (s : Sight) → SeesResults s → (r : Around) (i : BlockItem) → ItemPlaced i → EachInItem HasBareCall i → Gives (IsItemKept i) (typed_item s r i)
+  item_kept : (s : Sight) → SeesResults s → (r : Around) (i : BlockItem) → ItemPlaced AreReadAsserts i → EachInItem HasBareCall i → Gives (IsItemKept i) (typed_item s r i)
   item_kept s known r (Declare ds) p h = gives_one ArePlaced (IsItemKept (Declare ds)) (typed_declarations s ds) (λ ds. Good (Declare ds)) (declarations_kept s known ds p h) (λ xs k. record { placed = k; deep = refl })
   item_kept s known r (Run a) p h = gives_one (IsKept a) (IsItemKept (Run a)) (typed_statement s r a) (λ a. Good (Run a)) (statement_kept s known r a p h) (λ x k. record { placed = k.placed; deep = k.deep })
   item_kept s known r (Asserts annots) p h = record { placed = p; deep = refl }
 
-  items_kept : (s : Sight) → SeesResults s → (r : Around) (is : BlockItems) → ItemsPlaced is → EachInItems HasBareCall is → Gives (AreKept is) (typed_items s r is)
+  items_kept : (s : Sight) → SeesResults s → (r : Around) (is : BlockItems) → ItemsPlaced AreReadAsserts is → EachInItems HasBareCall is → Gives (AreKept is) (typed_items s r is)
   items_kept s known r NoItem p h = record { placed = tt; deep = refl }
   items_kept s known r (Then i rest) p h =
       gives_one (IsItemKept i) (AreKept (Then i rest)) (typed_item s r i) (λ i. one_part (typed_items (behind s i) r rest) (λ rest. Good (Then i rest))) (item_kept s known r i p.0 h.0) (λ x f.
@@ -221,10 +221,10 @@ mutual
 
 -- ---- functions
 
-body_kept : (s : Sight) → SeesResults s → (t : PlainType) (b : Option Statement) → BodyRead b → EachInBody HasBareCall b → Gives BodyRead (typed_body s t b)
+body_kept : (s : Sight) → SeesResults s → (t : PlainType) (b : Option Statement) → BodyRead AreReadAsserts b → EachInBody HasBareCall b → Gives (BodyRead AreReadAsserts) (typed_body s t b)
 body_kept s known t None p h = tt
 body_kept s known t (Some (Block at items)) p h =
-    gives_one (AreKept items) BodyRead (typed_items s (record { result = t; loops = false }) items) (λ items. Good (Some (Block at items))) (items_kept s known (record { result = t; loops = false }) items p.0 h)
+    gives_one (AreKept items) (BodyRead AreReadAsserts) (typed_items s (record { result = t; loops = false }) items) (λ items. Good (Some (Block at items))) (items_kept s known (record { result = t; loops = false }) items p.0 h)
     (λ x k. (k.placed, subst (λ n. 1 + n ≤ suc most_nested) (sym k.deep) p.1))
 body_kept s known t (Some _) p h = absurd p
 
@@ -240,11 +240,12 @@ heading_kept s before f =
     (result_is s (is_definition f) f.place f.result) (anything (typed_parameters (inner s) (is_definition f) f.params)) (λ t ds i u. record { result = i; body = refl; contract = refl }))
     (λ n g u k. gives_where (IsHeading f) (is_compatible_with_all before g) (no_name g.place) (Good g) (λ e. k))
 
-pub function_kept : (p : TranslationUnit) (s : Sight) → IsWholeSight s → (before : List Function) (f : Function) → FunctionRead f → EachInBody HasBareCall f.body → Gives FunctionRead (typed_function p s before f)
+pub function_kept : (p : TranslationUnit) (s : Sight) → IsWholeSight s → (before : List Function) (f : Function) → FunctionRead AreReadAsserts f → EachInBody HasBareCall f.body → Gives (FunctionRead AreReadAsserts) (typed_function p s before f)
 function_kept p s w before f q h =
-    gives_one (IsHeading f) FunctionRead (typed_heading s before f) (λ f. one_part (typed_body (with_parameters (inner (with_function p s f)) f.params) f.result f.body) (λ b. Good (record f { body = b }))) (heading_kept s before f) (λ g k.
+    gives_one (IsHeading f) (FunctionRead AreReadAsserts) (typed_heading s before f)
+    (λ f. one_part (typed_body (with_parameters (inner (with_function p s f)) f.params) f.result f.body) (λ b. Good (record f { body = b }))) (heading_kept s before f) (λ g k.
     let inside = with_parameters (inner (with_function p s g)) g.params in
     let known : SeesResults (with_function p s g) = (after_function p s w g k.result).known.results in
-    gives_one BodyRead FunctionRead (typed_body inside g.result g.body) (λ b. Good (record g { body = b }))
-    (body_kept inside (results_of_parameters (inner (with_function p s g)) g.params known) g.result g.body (subst BodyRead (sym k.body) q.body) (subst (EachInBody HasBareCall) (sym k.body) h))
+    gives_one (BodyRead AreReadAsserts) (FunctionRead AreReadAsserts) (typed_body inside g.result g.body) (λ b. Good (record g { body = b }))
+    (body_kept inside (results_of_parameters (inner (with_function p s g)) g.params known) g.result g.body (subst (BodyRead AreReadAsserts) (sym k.body) q.body) (subst (EachInBody HasBareCall) (sym k.body) h))
     (λ b r. record { no_contract = k.contract ∙ q.no_contract; body = r }))

@@ -50,6 +50,13 @@ pub mod StableTrees
 pub mod StableStatements
 pub mod GrownStructs
 pub mod RangedTrees
+pub mod UnrangedTerms
+pub mod UnrangedStatements
+pub mod RangedStatements
+pub mod UnrangedFunctions
+pub mod UnrangedFiles
+pub mod RangedPrograms
+pub mod UnrangedRuns
 pub mod TypedBelow
 pub mod LaidOut
 pub mod EndedMembers

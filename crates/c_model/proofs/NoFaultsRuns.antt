@@ -5,7 +5,7 @@ use Rattle.c_syntax.specs.declared.types.Segment.{Segment}
 use Rattle.c_syntax.specs.declared.types.Segment.TheVariants.{Frames}
 use Rattle.c_syntax.specs.declared.types.CInt.TheVariants.{U64}
 use Rattle.c_syntax.specs.Ctypes.{PlainType, Void, Int, Ptr, int_type}
-use Rattle.c_syntax.specs.Annotations.{Annotation}
+use Rattle.c_syntax.specs.Logic.{Annotation}
 use Rattle.c_syntax.specs.Statements.{Declaration}
 use Rattle.c_syntax.specs.Programs.{StructType}
 use Rattle.c_syntax.specs.Layouts.{Scalar, size_of}
@@ -20,7 +20,8 @@ use Rattle.c_model.specs.State.{frame, mark, restored, within}
 use Rattle.c_model.specs.StatementTyping.{Around, in_loop}
 use Rattle.c_model.specs.ExpressionTyping.{Signature, of_library, library_function}
 use Rattle.c_model.specs.TypedTrees.{WhereAny}
-use Rattle.c_model.specs.Logic.{Answer, Says, SaysNothing, OutOfSteps, clause, judged, check, checks}
+use Rattle.c_model.specs.Logic.{Answer, Says, SaysNothing, OutOfSteps, judged}
+use Rattle.c_model.specs.Predicates.{clause, check, checks}
 use Rattle.c_model.specs.Meaning.{is_zero, choose}
 use Rattle.c_model.specs.Meaning.{after_body, turns, do_turns}
 use Rattle.c_model.specs.Meaning.{put_char, get_char, exit_with, malloc_with, calloc_with, free_with, library_call}

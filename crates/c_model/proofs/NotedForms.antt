@@ -8,8 +8,9 @@ use Rattle.c_model.specs.Integers.{fits}
 use Rattle.c_syntax.specs.declared.types.CInt.TheVariants.{I32}
 use Rattle.c_model.specs.StatementTyping.{behind, behind_first}
 use Rattle.c_model.specs.UnitTyping.{with_parameter, with_parameters}
-use Rattle.c_model.specs.AnnotationTyping.{typed_annotations, noted_statement, noted_else, noted_item, noted_items, noted_body}
-use Rattle.c_model.specs.Formed.{depth, depth_of_else, depth_of_item, depth_of_items, declared_within, declared_in_else, declared_in_first, declared_in_item, declared_in_items, declared_in_body}
+use Rattle.c_model.specs.PredicateTyping.{typed_annotations}
+use Rattle.c_model.specs.AnnotationTyping.{noted_statement, noted_else, noted_item, noted_items, noted_body}
+use Rattle.c_model.specs.Formed.{AreAsserts, AreReadAsserts, depth, depth_of_else, depth_of_item, depth_of_items, declared_within, declared_in_else, declared_in_first, declared_in_item, declared_in_items, declared_in_body}
 use Rattle.c_model.specs.FullExpressions.{EachIn, EachInElse, EachInItem, EachInItems, EachInBody}
 use Rattle.c_model.specs.EffectPlaces.{StatementPlaced, ElsePlaced, ItemPlaced, ItemsPlaced}
 use Rattle.c_model.specs.ExpressionGrammar.{most_nested}
@@ -60,26 +61,26 @@ module _ (P : Expression → Type 0) where
     deep : depth b ≡ depth a
     declares : declared_within b ≡ declared_within a
     each : EachIn P a → EachIn P b
-    placed : SeesValues s → StatementPlaced a → StatementPlaced b
+    placed : SeesValues s → StatementPlaced AreReadAsserts a → StatementPlaced AreAsserts b
 
   record IsElseKept (s : Sight) (a b : ElsePart) : Type 0 where
     deep : depth_of_else b ≡ depth_of_else a
     declares : declared_in_else b ≡ declared_in_else a
     each : EachInElse P a → EachInElse P b
-    placed : SeesValues s → ElsePlaced a → ElsePlaced b
+    placed : SeesValues s → ElsePlaced AreReadAsserts a → ElsePlaced AreAsserts b
 
   record IsItemKept (s : Sight) (a b : BlockItem) : Type 0 where
     deep : depth_of_item b ≡ depth_of_item a
     declares : declared_in_item b ≡ declared_in_item a
     each : EachInItem P a → EachInItem P b
-    placed : SeesValues s → ItemPlaced a → ItemPlaced b
+    placed : SeesValues s → ItemPlaced AreReadAsserts a → ItemPlaced AreAsserts b
     sight : behind s b ≡ behind s a
 
   record AreKept (s : Sight) (a b : BlockItems) : Type 0 where
     deep : depth_of_items b ≡ depth_of_items a
     declares : declared_in_items b ≡ declared_in_items a
     each : EachInItems P a → EachInItems P b
-    placed : SeesValues s → ItemsPlaced a → ItemsPlaced b
+    placed : SeesValues s → ItemsPlaced AreReadAsserts a → ItemsPlaced AreAsserts b
 
   mutual
     statement_kept : (s : Sight) (a : Statement) → Gives (IsKept s a) (noted_statement s a)
@@ -146,7 +147,7 @@ module _ (P : Expression → Type 0) where
   pub record IsBodyKept (s : Sight) (a b : Option Statement) : Type 0 where
     pub declares : declared_in_body b ≡ declared_in_body a
     pub each : EachInBody P a → EachInBody P b
-    pub read : SeesValues s → BodyRead a → BodyRead b
+    pub read : SeesValues s → BodyRead AreReadAsserts a → BodyRead AreAsserts b
 
   pub body_kept : (s : Sight) (b : Option Statement) → Gives (IsBodyKept s b) (noted_body s b)
   body_kept s None = record { declares = refl; each = λ h. h; read = λ k h. h }

@@ -3,6 +3,7 @@ use Rattle.std.proofs.Common.{◌≡◌, ℕ, suc, ◌<◌, ◌^◌, List, [], �
 use Rattle.std.specs.Prelude.{bytes_eq, codes}
 use Rattle.c_syntax.specs.Expressions.{Expression}
 use Rattle.c_syntax.specs.Ctypes.{int_type}
+use Rattle.c_syntax.specs.Logic.{Annotation}
 use Rattle.c_syntax.specs.Statements.{Statement, Block}
 use Rattle.c_syntax.specs.Programs.{Function, TranslationUnit}
 use Rattle.c_model.specs.Checked.{Checked, Good, Bad, one_part}
@@ -15,7 +16,7 @@ use Rattle.c_model.specs.AnnotationTyping.{noted_items, noted_body, noted_functi
 use Rattle.c_model.specs.TypedTrees.{FunctionTyped}
 use Rattle.c_model.specs.TypedPrograms.{ItemsTyped, ProgramTyped}
 use Rattle.c_model.specs.TypedAnnotations.{FunctionNoted}
-use Rattle.c_model.specs.Formed.{IsName, number_of, numbers_of, declared_in_body, AreNamed, AreNamedParameters, FunctionNamed, FunctionsNamed}
+use Rattle.c_model.specs.Formed.{AreAsserts, AreReadAsserts, IsName, number_of, numbers_of, declared_in_body, AreNamed, AreNamedParameters, FunctionNamed, FunctionsNamed}
 use Rattle.c_model.specs.FullExpressions.{EachInFunctions}
 use Rattle.c_model.specs.TextOrder.{Between, numbers_of_item, numbers_of_items, functions_among}
 use Rattle.c_model.specs.ReadTree.{FunctionRead, FunctionsRead}
@@ -107,17 +108,17 @@ module _ (P : Expression → Type 0) where
     same_behind : (s : Sight) (f g : Function) → HasOtherBody f g → with_function noted s g ≡ with_function q s f
     same_behind s f g h = ap (λ x. record s { functions = s.functions ++ x ∷ [] }) (same_signature_of q.funcs fs f g a h)
 
-    asserts_typed : (s : Sight) (is : List FileItem) (gs : List Function) → AreKept q s is gs → FileNoted noted s (with_functions is gs)
-    asserts_typed s [] gs h = tt
-    asserts_typed s (AFunction f ∷ is) [] h = absurd h
-    asserts_typed s (AFunction f ∷ is) (g ∷ gs) h =
+    asserts_typed : (s : Sight) (is : List FileItem) (gs : List Function) → AreKept q s is gs → FunctionsRead AreReadAsserts (functions_among is) → FileNoted noted s (with_functions is gs)
+    asserts_typed s [] gs h r = tt
+    asserts_typed s (AFunction f ∷ is) [] h r = absurd h
+    asserts_typed s (AFunction f ∷ is) (g ∷ gs) h r =
         let same = same_behind s f g h.0.other in
-        (subst (λ s. FunctionNoted s g) (sym same) h.0.typed.noted, subst (λ s. FileNoted noted s (with_functions is gs)) (sym same) (asserts_typed (behind_item q s (AFunction f)) is gs h.1))
-    asserts_typed s (StructHead k x ∷ is) gs h = (tt, asserts_typed s is gs h)
-    asserts_typed s (Member k m ends ∷ is) gs h = (tt, asserts_typed s is gs h)
-    asserts_typed s (AnEnum e ∷ is) gs h = (tt, asserts_typed (behind_item q s (AnEnum e)) is gs h)
-    asserts_typed s (ATypedef d ∷ is) gs h = (tt, asserts_typed (behind_item q s (ATypedef d)) is gs h)
-    asserts_typed s (AGlobal d ∷ is) gs h = (tt, asserts_typed (behind_item q s (AGlobal d)) is gs h)
+        (subst (λ s. FunctionNoted s g) (sym same) (h.0.typed.noted r.0), subst (λ s. FileNoted noted s (with_functions is gs)) (sym same) (asserts_typed (behind_item q s (AFunction f)) is gs h.1 r.1))
+    asserts_typed s (StructHead k x ∷ is) gs h r = (tt, asserts_typed s is gs h r)
+    asserts_typed s (Member k m ends ∷ is) gs h r = (tt, asserts_typed s is gs h r)
+    asserts_typed s (AnEnum e ∷ is) gs h r = (tt, asserts_typed (behind_item q s (AnEnum e)) is gs h r)
+    asserts_typed s (ATypedef d ∷ is) gs h r = (tt, asserts_typed (behind_item q s (ATypedef d)) is gs h r)
+    asserts_typed s (AGlobal d ∷ is) gs h r = (tt, asserts_typed (behind_item q s (AGlobal d)) is gs h r)
 
     items_typed : (s : Sight) (is : List FileItem) (gs : List Function) → AreKept q s is gs → ItemsTyped q s is → ItemsTyped noted s (with_functions is gs)
     items_typed s [] gs h t = tt
@@ -157,20 +158,20 @@ module _ (P : Expression → Type 0) where
     body = subst (AreNamed names) (sym h.body.declares) n.body;
   }
 
-  function_read : (p : TranslationUnit) (s : Sight) (f g : Function) → SeesValues s → IsFunctionKept (with_function p s f) f g → FunctionRead f → FunctionRead g
+  function_read : (p : TranslationUnit) (s : Sight) (f g : Function) → SeesValues s → IsFunctionKept (with_function p s f) f g → FunctionRead AreReadAsserts f → FunctionRead AreAsserts g
   function_read p s f g k h r = record {
     no_contract = ap (λ (x : Function). x.contract) h.other.is ∙ r.no_contract;
     body = h.body.read (after_parameters (inner (with_function p s f)) f.params k) r.body;
   }
 
-  -- of functions that are named, read, and of which each full expression is so
-  record AreForms (names : List (List ℕ)) (fs : List Function) : Type 0 where
+  -- of functions that are named, read, their annotations being so, and of which each full expression is P
+  record AreForms (AreSo : List Annotation → Type 0) (names : List (List ℕ)) (fs : List Function) : Type 0 where
     named : FunctionsNamed names fs
-    read : FunctionsRead fs
+    read : FunctionsRead AreSo fs
     each : EachInFunctions P fs
 
-  forms_kept : (names : List (List ℕ)) (p : TranslationUnit) (s : Sight) (is : List FileItem) (gs : List Function) → AreKept p s is gs → FileSeesValues p s is → AreForms names (functions_among is) → AreForms names gs
-  forms_kept names p s [] [] h k r = r
+  forms_kept : (names : List (List ℕ)) (p : TranslationUnit) (s : Sight) (is : List FileItem) (gs : List Function) → AreKept p s is gs → FileSeesValues p s is → AreForms AreReadAsserts names (functions_among is) → AreForms AreAsserts names gs
+  forms_kept names p s [] [] h k r = record { named = tt; read = tt; each = tt }
   forms_kept names p s [] (g ∷ gs) h k r = absurd h
   forms_kept names p s (AFunction f ∷ is) [] h k r = absurd h
   forms_kept names p s (AFunction f ∷ is) (g ∷ gs) h k r =
@@ -238,7 +239,7 @@ pub record IsTypedFile (P : Expression → Type 0) (q : TranslationUnit) : Type 
   pub functions : functions_among (items_of_file q) ≡ q.funcs
   pub numbered : Between 0 (numbers_of_items (items_of_file q)) 4294967295
   pub named : FunctionsNamed q.names q.funcs
-  pub effects : FunctionsRead q.funcs
+  pub effects : FunctionsRead AreReadAsserts q.funcs
   pub each : EachInFunctions P q.funcs
   pub few : length q.funcs < 2 ^ 32
   pub main : main_fault q.names q.funcs ≡ None
@@ -252,7 +253,7 @@ pub record IsNotedFile (P : Expression → Type 0) (q r : TranslationUnit) : Typ
   pub functions : functions_among (items_of_file r) ≡ r.funcs
   pub numbered : Between 0 (numbers_of_items (items_of_file r)) 4294967295
   pub named : FunctionsNamed r.names r.funcs
-  pub effects : FunctionsRead r.funcs
+  pub effects : FunctionsRead AreAsserts r.funcs
   pub each : EachInFunctions P r.funcs
   pub few : length r.funcs < 2 ^ 32
   pub main : main_fault r.names r.funcs ≡ None
@@ -262,7 +263,7 @@ module _ (P : Expression → Type 0) (q : TranslationUnit) (t : IsTypedFile P q)
   with_asserts fs h = record {
     is = refl;
     typed = whole;
-    noted = subst (FileNoted r sight) (sym items) (asserts_typed P q fs bodies sight (items_of_file q) fs h);
+    noted = subst (FileNoted r sight) (sym items) (asserts_typed P q fs bodies sight (items_of_file q) fs h (subst (FunctionsRead AreReadAsserts) (sym t.functions) t.effects));
     resolved = file_resolved r whole (same_compatible [] [] q.funcs fs tt bodies t.compatible) numbers among;
     functions = among;
     numbered = numbers;
@@ -297,8 +298,8 @@ module _ (P : Expression → Type 0) (q : TranslationUnit) (t : IsTypedFile P q)
       numbers : Between 0 (numbers_of_items (items_of_file r)) 4294967295
       numbers = subst (λ ns. Between 0 ns 4294967295) (sym (ap numbers_of_items items ∙ items_numbers P q sight (items_of_file q) fs h)) t.numbered
 
-      forms : AreForms P q.names fs
-      forms = forms_kept P q.names q sight (items_of_file q) fs h t.values (subst (AreForms P q.names) (sym t.functions) (record { named = t.named; read = t.effects; each = t.each }))
+      forms : AreForms P AreAsserts q.names fs
+      forms = forms_kept P q.names q sight (items_of_file q) fs h t.values (subst (AreForms P AreReadAsserts q.names) (sym t.functions) (record { named = t.named; read = t.effects; each = t.each }))
 
 -- a typed file stays one when its asserts are typed
 pub noted_file : (P : Expression → Type 0) (q r : TranslationUnit) → noted_unit q ≡ Good r → IsTypedFile P q → IsNotedFile P q r

@@ -1,5 +1,5 @@
--- Typing the names of asserts keeps their form: sums of literals and names, one relation.
-use Rattle.std.proofs.Common.{◌≡◌, ℕ, ◌+◌, ◌-◌, ◌^◌, ◌≤◌, ◌<◌, ℤ, pos, negsuc, ◌≤ℤ◌, Bool, true, false, if◌then◌else◌, leb, List, [], ◌∷◌, Option, Some, None, refl, sym, subst, arith}
+-- Typing annotations keeps how many forms they have, and no number in them is below the least value of 64 bits.
+use Rattle.std.proofs.Common.{◌≡◌, ℕ, suc, ◌+◌, ◌-◌, ◌^◌, ◌≤◌, ◌<◌, ℤ, pos, negsuc, ◌≤ℤ◌, Bool, true, false, if◌then◌else◌, leb, List, [], ◌∷◌, Option, Some, None, refl, ap, subst, sym, arith}
 use Rattle.std.proofs.lemmas.Bool.{leb-true}
 use Rattle.std.proofs.lemmas.Bool.Decides.{nat_tests}
 use Rattle.std.proofs.lemmas.Int.{ints}
@@ -8,80 +8,81 @@ use Rattle.std.specs.List.{AllByRecursion}
 use Rattle.c_syntax.specs.declared.place.Place.{Place}
 use Rattle.c_syntax.specs.declared.types.CInt.{CInt}
 use Rattle.c_syntax.specs.declared.types.CInt.TheVariants.{I32}
-use Rattle.c_syntax.specs.declared.annotation.Range.{Range}
-use Rattle.c_syntax.specs.declared.expression.Use.{Use}
+use Rattle.c_syntax.specs.declared.expression.UnOp.{UnOp}
+use Rattle.c_syntax.specs.declared.expression.UnOp.TheVariants as unary
+use Rattle.c_syntax.specs.declared.expression.BinOp.{BinOp}
+use Rattle.c_syntax.specs.declared.logic.Connective.{Connective}
 use Rattle.c_syntax.specs.Ctypes.{PlainType}
-use Rattle.c_syntax.specs.Annotations.{LogicTerm, Number, Letter, Variable, Binary, Predicate, Chain, Links, NoLink, Linked, ClauseBody, Truth, Annotation}
+use Rattle.c_syntax.specs.Formulas as read
+use Rattle.c_syntax.specs.Formulas.{CastType, Integers, OfC, Form, FormLinks}
+use Rattle.c_syntax.specs.Logic.{LogicTerm, Links, Linked, Predicate, ClauseBody, Raw, Holds, Annotation}
 use Rattle.c_model.specs.Integers.{fits, integer_type}
-use Rattle.c_model.specs.Checked.{Checked, Good, Bad, given}
+use Rattle.c_model.specs.Checked.{Checked, Good, Bad, given, one_part, pair_of}
 use Rattle.c_model.specs.Library.{Constants, constants, constant_in, library_constant, is_there}
-use Rattle.c_model.specs.ExpressionTyping.{no_name, no_type, Entity, AnObject, AnEnumerator, Sight, name_at, entity_named, use_as}
-use Rattle.c_model.specs.AnnotationTyping.{object_term, term_named, typed_term, typed_links, typed_predicate, typed_clause, typed_annotations}
-use Rattle.c_model.specs.Formed.{IsLogicNumber, IsSumTerm, leaves_of_term, IsShortTerm, IsRelation, AreAsserts}
+use Rattle.c_model.specs.ExpressionTyping.{no_name, no_type, Entity, AnObject, AnEnumerator, Sight, name_at, entity_named, typed_type}
+use Rattle.c_model.specs.PredicateTyping.{Sorted, ATerm, APredicate, as_term, as_predicate, object_term, number, named, on_integer, unary_on, on_integers, cast_as, cast, size_in, connected, choice}
+use Rattle.c_model.specs.PredicateTyping.{is_predicate, right_side, chain, typed, typed_links, typed_clause, typed_annotations}
+use Rattle.c_model.specs.Formed.{nodes_of_term, nodes_of_links, nodes_of_predicate, IsLogicNumber, TermNumbered, LinksNumbered, PredicateNumbered, IsShortClause, AreAsserts}
+use Rattle.c_model.specs.Formed.{nodes_of_form, nodes_of_form_links, FormNumbered, FormLinksNumbered, IsShortReading, AreReadAsserts}
 use Rattle.c_model.specs.FileItems.{SeesValues}
-use Rattle.c_model.proofs.TypedParts.{Gives, gives_one, gives_both, gives_given, gives_where}
+use Rattle.c_model.proofs.TypedParts.{Gives, gives_one, gives_both, gives_given, gives_where, gives_sized, gives_if}
+use Rattle.c_model.proofs.PredicateTrees.{gives_pair, gives_limited, Any, anything}
 
 -- ---- numbers that asserts may have
 
-negative_below : (m n : ℕ) → negsuc m ≤ℤ pos n
-negative_below m n = omega (arith, ints)
-
-naturals_in_order : (n b : ℕ) → leb n b ≡ true → pos n ≤ℤ pos b
-naturals_in_order n b h = omega (arith, ints, leb-true n b h)
+natural : (n : ℕ) → IsLogicNumber (pos n)
+natural n = record { low = omega (arith, ints) }
 
 negatives_in_order : (n b : ℕ) → leb n b ≡ true → negsuc b ≤ℤ negsuc n
 negatives_in_order n b h = omega (arith, ints, leb-true n b h)
 
-natural : (n : ℕ) → leb n (2 ^ 64 - 1) ≡ true → IsLogicNumber (pos n)
-natural n h = record { low = negative_below (2 ^ 63 - 1) n; high = naturals_in_order n (2 ^ 64 - 1) h }
-
 negative : (n : ℕ) → leb n (2 ^ 63 - 1) ≡ true → IsLogicNumber (negsuc n)
-negative n h = record { low = negatives_in_order n (2 ^ 63 - 1) h; high = negative_below n (2 ^ 64 - 1) }
+negative n h = record { low = negatives_in_order n (2 ^ 63 - 1) h }
 
 -- a value of `int`
 value_is : (z : ℤ) → fits I32 z ≡ true → IsLogicNumber z
-value_is (pos n) e = let h : n < 2 ^ 31 = grind (arith, nat_tests) in record { low = negative_below (2 ^ 63 - 1) n; high = omega (arith, ints, h) }
-value_is (negsuc n) e = let h : n < 2 ^ 31 = grind (arith, nat_tests) in record { low = omega (arith, ints, h); high = negative_below n (2 ^ 64 - 1) }
+value_is (pos n) e = natural n
+value_is (negsuc n) e = let h : n < 2 ^ 31 = grind (arith, nat_tests) in record { low = omega (arith, ints, h) }
 
 -- the constants of the library
 constants_are : AllByRecursion (λ (x : List ℕ × (CInt × ℤ)). IsLogicNumber x.1.1) constants
 constants_are = (
   negative 0 refl,
   (
-    natural 0 refl,
+    natural 0,
     (
-      natural 1 refl,
+      natural 1,
       (
-        natural 8 refl,
+        natural 8,
         (
           negative 127 refl,
           (
-            natural 127 refl,
+            natural 127,
             (
               negative 127 refl,
               (
-                natural 127 refl,
+                natural 127,
                 (
-                  natural 255 refl,
+                  natural 255,
                   (
                     negative 32767 refl,
                     (
-                      natural 32767 refl,
+                      natural 32767,
                       (
-                        natural 65535 refl,
+                        natural 65535,
                         (
                           negative 2147483647 refl,
                           (
-                            natural 2147483647 refl,
+                            natural 2147483647,
                             (
-                              natural 4294967295 refl,
+                              natural 4294967295,
                               (
                                 negative 9223372036854775807 refl,
                                 (
-                                  natural 9223372036854775807 refl,
+                                  natural 9223372036854775807,
                                   (
-                                    natural 18446744073709551615 refl,
-                                    (negative 9223372036854775807 refl, (natural 9223372036854775807 refl, (natural 18446744073709551615 refl, tt))),
+                                    natural 18446744073709551615,
+                                    (negative 9223372036854775807 refl, (natural 9223372036854775807, (natural 18446744073709551615, tt))),
                                   ),
                                 ),
                               ),
@@ -113,68 +114,156 @@ library_constant_is : (w : List ℕ) (c : CInt × ℤ) → library_constant w �
 unfolding library_constant
 library_constant_is w c e = constant_is constants w c constants_are e
 
--- ---- terms and clauses
+-- ---- terms and predicates of so many forms, with numbers that they may have
 
--- what is kept of a term, where these are in sight
-record IsSameTerm (s : Sight) (t u : LogicTerm) : Type 0 where
-  is : SeesValues s → IsSumTerm t → IsSumTerm u
-  few : leaves_of_term u ≡ leaves_of_term t
+abbrev TermKept : ℕ → LogicTerm → Type 0
+TermKept n t = TermNumbered t × (nodes_of_term t ≡ n)
 
-name_kept : (s : Sight) (at : Place) (t : Option PlainType) (r : Range) (x : Use) → Gives (IsSameTerm s (Variable at t r x)) (term_named s at r x.name)
-name_kept s at t r x = by (entity_named x.name s.entities) refl
+abbrev LinksKept : ℕ → Links → Type 0
+LinksKept n l = LinksNumbered l × (nodes_of_links l ≡ n)
+
+abbrev PredicateKept : ℕ → Predicate → Type 0
+PredicateKept n p = PredicateNumbered p × (nodes_of_predicate p ≡ n)
+
+abbrev SortedKept : ℕ → Sorted → Type 0
+SortedKept n (ATerm t) = TermKept n t
+SortedKept n (APredicate p) = PredicateKept n p
+
+term_kept : (at : Place) (n : ℕ) (a : Sorted) → SortedKept n a → Gives (TermKept n) (as_term at a)
+term_kept at n (ATerm t) w = w
+term_kept at n (APredicate p) w = tt
+
+predicate_kept : (n : ℕ) (a : Sorted) → SortedKept n a → PredicateKept n (as_predicate a)
+predicate_kept n (ATerm t) w = w
+predicate_kept n (APredicate p) w = w
+
+name_kept : (s : Sight) → SeesValues s → (at : Place) (x : ℕ) → Gives (SortedKept 1) (named s at x)
+name_kept s k at x = by (entity_named x s.entities) refl
   where
-    by : (o : Option Entity) → entity_named x.name s.entities ≡ o → Gives (IsSameTerm s (Variable at t r x)) (elim o [
-      | Some e ↦ elim e [ AnObject b ↦ object_term at r x.name b | AnEnumerator c ↦ Good (Number at None r c.value) ]
-      | None ↦ given (library_constant (name_at s.names x.name)) (no_name at) (λ c. Good (Number at None r c.1))
+    by : (o : Option Entity) → entity_named x s.entities ≡ o → Gives (SortedKept 1) (elim o [
+      | Some e ↦ elim e [ AnObject b ↦ object_term at x b | AnEnumerator c ↦ Good (number at c.value) ]
+      | None ↦ given (library_constant (name_at s.names x)) (no_name at) (λ c. Good (number at c.1))
     ])
-    by (Some (AnObject b)) e = gives_where (IsSameTerm s (Variable at t r x)) (is_there (integer_type b.ctype)) (no_type at) (Good (Variable at (Some b.ctype) r (use_as x.name b.decl))) (λ t. record { is = λ k h. tt; few = refl })
-    by (Some (AnEnumerator c)) e = record { is = λ k h. value_is c.value (k x.name c e); few = refl }
-    by None e = gives_given (IsSameTerm s (Variable at t r x)) (library_constant (name_at s.names x.name)) (no_name at) (λ c. Good (Number at None r c.1)) (λ c e. record { is = λ k h. library_constant_is (name_at s.names x.name) c e; few = refl })
+    by (Some (AnObject b)) e = gives_where (SortedKept 1) (is_there (integer_type b.ctype)) (no_type at) _ (λ t. (tt, refl))
+    by (Some (AnEnumerator c)) e = (value_is c.value (k x c e), refl)
+    by None e = gives_given (SortedKept 1) (library_constant (name_at s.names x)) (no_name at) (λ c. Good (number at c.1)) (λ c f. (library_constant_is (name_at s.names x) c f, refl))
 
-term_kept : (s : Sight) (t : LogicTerm) → Gives (IsSameTerm s t) (typed_term s t)
-term_kept s (Number at t r z) = record { is = λ k h. h; few = refl }
-term_kept s (Letter at t r z) = record { is = λ k h. h; few = refl }
-term_kept s (Variable at t r x) = name_kept s at t r x
-term_kept s (Binary at t r op a b) =
-    gives_both (IsSameTerm s a) (IsSameTerm s b) (IsSameTerm s (Binary at t r op a b)) (typed_term s a) (typed_term s b) (λ a b. Good (Binary at t r op a b)) (term_kept s a) (term_kept s b)
-    (λ x y p q. record { is = λ k h. (h.0, p.is k h.1, q.is k h.2); few = λ i. p.few i + q.few i })
+integer_kept : (at : Place) (op : UnOp) (n : ℕ) (a : Sorted) → SortedKept n a → Gives (SortedKept (suc n)) (on_integer at op a)
+integer_kept at op n a w = gives_one (TermKept n) (SortedKept (suc n)) (as_term at a) _ (term_kept at n a w) (λ t v. (v.0, ap suc v.1))
 
--- what holds of a typed tree, where it holds of the one that is read and these are in sight
-abbrev Keeps : {A : Type 0} → Sight → (A → Type 0) → A → A → Type 0
-Keeps s P a b = SeesValues s → P a → P b
+unary_kept : (at : Place) (op : UnOp) (n : ℕ) (a : Sorted) → SortedKept n a → Gives (SortedKept (suc n)) (unary_on at op a)
+unary_kept at unary.Plus n a w = integer_kept at unary.Plus n a w
+unary_kept at unary.Minus n a w = integer_kept at unary.Minus n a w
+unary_kept at unary.Flip n a w = integer_kept at unary.Flip n a w
+unary_kept at unary.Not n a w = let p = predicate_kept n a w in (p.0, ap suc p.1)
+unary_kept at unary.Deref n a w = tt
+unary_kept at unary.Address n a w = tt
 
-always : {A : Type 0} (P : A → Type 0) (c : Checked A) → ((a : A) → P a) → Gives P c
-always P (Good a) h = h a
-always P (Bad f fs) h = tt
+integers_kept : (at : Place) (op : BinOp) (m n : ℕ) (a b : Sorted) → SortedKept m a → SortedKept n b → Gives (SortedKept (suc (m + n))) (on_integers at op a b)
+integers_kept at op m n a b v w =
+    gives_one (TermKept m) (SortedKept (suc (m + n))) (as_term at a) _ (term_kept at m a v) (λ t x.
+    gives_one (TermKept n) (SortedKept (suc (m + n))) (as_term at b) _ (term_kept at n b w) (λ u y. ((x.0, y.0), λ i. suc (x.1 i + y.1 i))))
 
-short_kept : (s : Sight) (t : LogicTerm) → Gives (Keeps s IsShortTerm t) (typed_term s t)
-short_kept s t = by (typed_term s t) (term_kept s t)
-  where
-    by : (c : Checked LogicTerm) → Gives (IsSameTerm s t) c → Gives (Keeps s IsShortTerm t) c
-    by (Good u) p = λ k h. record { is = p.is k h.is; short = subst (λ n. n ≤ 400) (sym p.few) h.short }
-    by (Bad f fs) p = tt
+cast_as_kept : (at : Place) (to : CastType) (n : ℕ) (a : Sorted) → SortedKept n a → Gives (SortedKept (suc n)) (cast_as at to a)
+cast_as_kept at to n a w = gives_one (TermKept n) (SortedKept (suc n)) (as_term at a) _ (term_kept at n a w) (λ t v. (v.0, ap suc v.1))
 
-clause_kept : (s : Sight) (b : ClauseBody) → Gives (Keeps s IsRelation b) (typed_clause s b)
-clause_kept s (Truth (Chain at t (Linked at2 r u NoLink))) =
-    gives_one (λ (p : Predicate). SeesValues s → IsShortTerm t × IsShortTerm u → IsRelation (Truth p)) (Keeps s IsRelation (Truth (Chain at t (Linked at2 r u NoLink)))) (typed_predicate s (Chain at t (Linked at2 r u NoLink))) (λ p. Good (Truth p))
-    (gives_both (Keeps s IsShortTerm t) (λ (l : Links). SeesValues s → IsShortTerm u → (x : LogicTerm) → IsShortTerm x → IsRelation (Truth (Chain at x l))) (λ (p : Predicate). SeesValues s → IsShortTerm t × IsShortTerm u → IsRelation (Truth p))
-    (typed_term s t) (typed_links s (Linked at2 r u NoLink)) (λ x l. Good (Chain at x l)) (short_kept s t)
-    (gives_both (Keeps s IsShortTerm u) (λ (l : Links). l ≡ NoLink) (λ (l : Links). SeesValues s → IsShortTerm u → (x : LogicTerm) → IsShortTerm x → IsRelation (Truth (Chain at x l))) (typed_term s u) (typed_links s NoLink)
-    (λ y l. Good (Linked at2 r y l)) (short_kept s u) refl
-    (λ y l p e k h x q. subst (λ (m : Links). IsRelation (Truth (Chain at x (Linked at2 r y m)))) (sym e) (q, p k h)))
-    (λ x l p f k h. f k h.1 x (p k h.0))) (λ p q. q)
-clause_kept s (Truth (Chain at t NoLink)) = always (Keeps s IsRelation (Truth (Chain at t NoLink))) (typed_clause s (Truth (Chain at t NoLink))) (λ b k h. absurd h)
-clause_kept s (Truth (Chain at t (Linked at2 r u (Linked at3 r3 v rest)))) =
-    always (Keeps s IsRelation (Truth (Chain at t (Linked at2 r u (Linked at3 r3 v rest))))) (typed_clause s (Truth (Chain at t (Linked at2 r u (Linked at3 r3 v rest))))) (λ b k h. absurd h)
+cast_kept : (at : Place) (to : PlainType) (n : ℕ) (a : Sorted) → SortedKept n a → Gives (SortedKept (suc n)) (cast at to a)
+cast_kept at to n a w = gives_where (SortedKept (suc n)) (is_there (integer_type to)) (no_type at) (cast_as at (OfC to) a) (λ t. cast_as_kept at (OfC to) n a w)
+
+connected_kept : (at : Place) (c : Connective) (m n : ℕ) (a b : Sorted) → SortedKept m a → SortedKept n b → SortedKept (suc (m + n)) (connected at c a b)
+connected_kept at c m n a b v w = let p = predicate_kept m a v in let q = predicate_kept n b w in ((p.0, q.0), λ i. suc (p.1 i + q.1 i))
+
+choice_kept : (at : Place) (k m n : ℕ) (c a b : Sorted) → SortedKept k c → SortedKept m a → SortedKept n b → SortedKept (suc (k + m + n)) (choice at c a b)
+choice_kept at k m n c (ATerm a) (ATerm b) u v w = let p = predicate_kept k c u in ((p.0, v.0, w.0), λ i. suc (p.1 i + v.1 i + w.1 i))
+choice_kept at k m n c (ATerm a) (APredicate b) u v w = let p = predicate_kept k c u in ((p.0, v.0, w.0), λ i. suc (p.1 i + v.1 i + w.1 i))
+choice_kept at k m n c (APredicate a) b u v w =
+    let p = predicate_kept k c u in
+    let q = predicate_kept n b w in
+    ((p.0, v.0, q.0), λ i. suc (p.1 i + v.1 i + q.1 i))
+
+right_kept : (at : Place) (left : Bool) (n : ℕ) (a : Sorted) → SortedKept n a → Gives (TermKept n) (right_side at left a)
+right_kept at true n a w = tt
+right_kept at false n a w = term_kept at n a w
+
+chain_kept : (at : Place) (m n : ℕ) (a : Sorted) (links : Links) → SortedKept m a → LinksKept n links → Gives (SortedKept (m + n)) (chain at a links)
+chain_kept at m n a links v w = gives_one (TermKept m) (SortedKept (m + n)) (as_term at a) _ (term_kept at m a v) (λ t x. ((x.0, w.0), λ i. x.1 i + w.1 i))
+
+-- ---- forms
+
+mutual
+  form_kept : (s : Sight) → SeesValues s → (f : Form) → FormNumbered f → Gives (SortedKept (nodes_of_form f)) (typed s f)
+  form_kept s k (read.Number at n) h = (h, refl)
+  form_kept s k (read.Letter at n) h = (h, refl)
+  form_kept s k (read.Truth at b) h = (tt, refl)
+  form_kept s k (read.Name at x) h = name_kept s k at x.name
+  form_kept s k (read.Unary at op a) h =
+      let n = nodes_of_form a in
+      gives_one (SortedKept n) (SortedKept (suc n)) (typed s a) (unary_on at op) (form_kept s k a h) (unary_kept at op n)
+  form_kept s k (read.Binary at op a b) h =
+      let m = nodes_of_form a in
+      let n = nodes_of_form b in
+      gives_pair (SortedKept m) (SortedKept n) (SortedKept (suc (m + n))) (typed s a) (typed s b) (λ p. on_integers at op p.0 p.1) (form_kept s k a h.0) (form_kept s k b h.1) (integers_kept at op m n)
+  form_kept s k (read.Cast at Integers a) h =
+      let n = nodes_of_form a in
+      gives_one (SortedKept n) (SortedKept (suc n)) (typed s a) (cast_as at Integers) (form_kept s k a h) (cast_as_kept at Integers n)
+  form_kept s k (read.Cast at (OfC to) a) h =
+      let n = nodes_of_form a in
+      gives_limited (SortedKept (suc n)) s at (typed_type s at to) _ (gives_pair Any (SortedKept n) (SortedKept (suc n)) (typed_type s at to) (typed s a) (λ p. cast at p.0 p.1) (anything (typed_type s at to)) (form_kept s k a h)
+      (λ t x v w. cast_kept at t n x w))
+  form_kept s k (read.SizeOf at u) h =
+      gives_limited (SortedKept 1) s at (typed_type s at u) _ (gives_one Any (SortedKept 1) (typed_type s at u) (size_in s at) (anything (typed_type s at u)) (λ t v. gives_sized (SortedKept 1) s at t _ (λ e. (natural _, refl))))
+  form_kept s k (read.Chain at a links) h =
+      let m = nodes_of_form a in
+      let n = nodes_of_form_links links in
+      gives_pair (SortedKept m) (LinksKept n) (SortedKept (m + n)) (typed s a) (typed_links s (is_predicate (typed s a)) links) (λ p. chain at p.0 p.1) (form_kept s k a h.0) (links_kept s k (is_predicate (typed s a)) links h.1)
+      (chain_kept at m n)
+  form_kept s k (read.Connected at c a b) h =
+      let m = nodes_of_form a in
+      let n = nodes_of_form b in
+      gives_pair (SortedKept m) (SortedKept n) (SortedKept (suc (m + n))) (typed s a) (typed s b) (λ p. Good (connected at c p.0 p.1)) (form_kept s k a h.0) (form_kept s k b h.1) (connected_kept at c m n)
+  form_kept s k (read.Choice at c a b) h =
+      let l = nodes_of_form c in
+      let m = nodes_of_form a in
+      let n = nodes_of_form b in
+      gives_pair (SortedKept l) (λ (p : Sorted × Sorted). SortedKept m p.0 × SortedKept n p.1) (SortedKept (suc (l + m + n))) (typed s c) (pair_of (typed s a) (typed s b)) (λ p. Good (choice at p.0 (p.1).0 (p.1).1)) (form_kept s k c h.0)
+      (gives_both (SortedKept m) (SortedKept n) (λ (p : Sorted × Sorted). SortedKept m p.0 × SortedKept n p.1) (typed s a) (typed s b) (λ a b. Good (a, b)) (form_kept s k a h.1) (form_kept s k b h.2) (λ a b v w. (v, w)))
+      (λ x p u w. choice_kept at l m n x p.0 p.1 u w.0 w.1)
+
+  links_kept : (s : Sight) → SeesValues s → (left : Bool) (links : FormLinks) → FormLinksNumbered links → Gives (LinksKept (nodes_of_form_links links)) (typed_links s left links)
+  links_kept s k left read.NoLink h = (tt, refl)
+  links_kept s k left (read.Linked at r b rest) h =
+      let m = nodes_of_form b in
+      let n = nodes_of_form_links rest in
+      gives_pair (TermKept m) (LinksKept n) (LinksKept (suc (m + n))) (one_part (typed s b) (right_side at left)) (typed_links s (is_predicate (typed s b)) rest) (λ p. Good (Linked at r p.0 p.1))
+      (gives_one (SortedKept m) (TermKept m) (typed s b) (right_side at left) (form_kept s k b h.0) (right_kept at left m)) (links_kept s k (is_predicate (typed s b)) rest h.1) (λ t rest v w. ((v.0, w.0), λ i. suc (v.1 i + w.1 i)))
+
+-- ---- clauses
+
+clause_kept : (s : Sight) → SeesValues s → (b : ClauseBody) → IsShortReading b → Gives IsShortClause (typed_clause s b)
+clause_kept s k (Raw f) h = gives_one (SortedKept (nodes_of_form f)) IsShortClause (typed s f) (λ a. Good (Holds (as_predicate a))) (form_kept s k f h.numbered) (λ a w.
+    let p = predicate_kept (nodes_of_form f) a w in
+    record { numbered = p.0; short = subst (λ n. n ≤ 400) (sym p.1) h.short })
+clause_kept s k (Holds p) h = absurd h
+
+asserts_kept : (s : Sight) → SeesValues s → (annots : List Annotation) → AreReadAsserts annots → Gives AreAsserts (typed_annotations s annots)
+asserts_kept s k [] h = tt
+asserts_kept s k (a ∷ rest) h =
+    gives_one IsShortClause AreAsserts (typed_clause s a.body) (λ b. one_part (typed_annotations s rest) (λ rest. Good (record a { body = b } ∷ rest))) (clause_kept s k a.body h.0.body) (λ b v.
+    gives_one AreAsserts AreAsserts (typed_annotations s rest) (λ rest. Good (record a { body = b } ∷ rest)) (asserts_kept s k rest h.1) (λ rest w. (record { kind = h.0.kind; body = v }, w)))
+
+none_kept : (s : Sight) (annots : List Annotation) → annots ≡ [] → Gives (λ b. b ≡ []) (typed_annotations s annots)
+none_kept s annots e = subst (λ a. Gives (λ b. b ≡ []) (typed_annotations s a)) (sym e) refl
 
 -- what is kept of annotations
 pub record AreSameNotes (s : Sight) (a b : List Annotation) : Type 0 where
-  pub asserts : SeesValues s → AreAsserts a → AreAsserts b
+  pub asserts : SeesValues s → AreReadAsserts a → AreAsserts b
   pub none : a ≡ [] → b ≡ []
 
 pub annotations_kept : (s : Sight) (annots : List Annotation) → Gives (AreSameNotes s annots) (typed_annotations s annots)
-annotations_kept s [] = record { asserts = λ k h. h; none = λ e. refl }
-annotations_kept s (a ∷ rest) =
-    gives_one (Keeps s IsRelation a.body) (AreSameNotes s (a ∷ rest)) (typed_clause s a.body) _ (clause_kept s a.body) (λ b p.
-    gives_one (AreSameNotes s rest) (AreSameNotes s (a ∷ rest)) (typed_annotations s rest) (λ xs. Good (record a { body = b } ∷ xs)) (annotations_kept s rest) (λ xs q.
-    record { asserts = λ k h. (record { kind = h.0.kind; body = p k h.0.body }, q.asserts k h.1); none = λ e. absurd cc }))
+annotations_kept s annots =
+    by (typed_annotations s annots) (gives_if (SeesValues s × AreReadAsserts annots) AreAsserts (typed_annotations s annots) (λ h. asserts_kept s h.0 annots h.1))
+    (gives_if (annots ≡ []) (λ b. b ≡ []) (typed_annotations s annots) (none_kept s annots))
+  where
+    by : (c : Checked (List Annotation)) → Gives (λ b. SeesValues s × AreReadAsserts annots → AreAsserts b) c → Gives (λ b. annots ≡ [] → b ≡ []) c → Gives (AreSameNotes s annots) c
+    by (Good b) f g = record { asserts = λ k h. f (k, h); none = g }
+    by (Bad x xs) f g = tt

@@ -1,166 +1,151 @@
--- Asserts that are typed are well typed, and a statement, a body or a function that was typed stays so when its asserts are typed.
-use Rattle.std.proofs.Common.{◌≡◌, ℕ, refl, sym, subst, List, [], ◌∷◌, Option, Some, None}
-use Rattle.c_syntax.specs.declared.place.Place.{Place}
-use Rattle.c_syntax.specs.declared.annotation.Range.{Range}
+-- Asserts that are typed are well typed where each was read and not typed before, and a statement, a body or a function that was typed stays so
+-- when its asserts are typed.
+use Rattle.std.proofs.Common.{◌≡◌, refl, sym, subst, List, [], ◌∷◌, Option, Some, None}
 use Rattle.c_syntax.specs.Ctypes.{PlainType}
-use Rattle.c_syntax.specs.Annotations.{LogicTerm, Number, Letter, Variable, Binary, Predicate, Chain, Links, NoLink, Linked, ClauseBody, Truth, Annotation}
+use Rattle.c_syntax.specs.Logic.{ClauseBody, Raw, Holds, Annotation}
 use Rattle.c_syntax.specs.Statements.{Statement, Empty, Eval, Block, If, While, Do, For, Break, Continue, Return, ElsePart, NoElse, Else, BlockItem, Declare, Run, Asserts, BlockItems, NoItem, Then}
 use Rattle.c_syntax.specs.Programs.{Function, TranslationUnit}
-use Rattle.c_model.specs.Integers.{integer_type}
-use Rattle.c_model.specs.Library.{library_constant, is_there}
-use Rattle.c_model.specs.Checked.{Good, given, one_part}
-use Rattle.c_model.specs.ExpressionTyping.{no_name, no_type, Entity, AnObject, AnEnumerator, Sight, name_at, entity_named, inner}
+use Rattle.c_model.specs.Checked.{Good, one_part}
+use Rattle.c_model.specs.ExpressionTyping.{Sight, inner}
 use Rattle.c_model.specs.StatementTyping.{Around, in_loop, behind, behind_first}
 use Rattle.c_model.specs.UnitTyping.{FileItem, StructHead, Member, AnEnum, ATypedef, AGlobal, AFunction, items_of_file, sight_with, with_function, with_parameters, behind_item}
-use Rattle.c_model.specs.AnnotationTyping.{object_term, term_named, typed_term, typed_links, typed_predicate, typed_clause, typed_annotations}
+use Rattle.c_model.specs.PredicateTyping.{typed_annotations}
 use Rattle.c_model.specs.AnnotationTyping.{noted_statement, noted_else, noted_item, noted_items, noted_body, noted_function, noted_functions, noted_unit}
 use Rattle.c_model.specs.TypedTrees.{StatementTyped, ElseTyped, ItemTyped, ItemsTyped, around_body, BodyTyped, FunctionTyped}
-use Rattle.c_model.specs.TypedAnnotations.{TermTyped, LinksTyped, PredicateTyped, ClauseTyped, AnnotationsTyped, StatementNoted, ElseNoted, ItemNoted, ItemsNoted, BodyNoted, FunctionNoted, FunctionsNoted}
-use Rattle.c_model.proofs.TypedParts.{Gives, gives_of, gives_one, gives_both, gives_given, gives_where, there_is}
+use Rattle.c_model.specs.TypedPredicates.{AnnotationsTyped, IsRead, AreRead}
+use Rattle.c_model.specs.TypedAnnotations.{StatementNoted, ElseNoted, ItemNoted, ItemsNoted, BodyNoted, FunctionNoted, FunctionsNoted}
+use Rattle.c_model.specs.Formed.{IsShortReading, AreReadAsserts}
+use Rattle.c_model.specs.EffectPlaces.{StatementPlaced, ElsePlaced, ItemPlaced, ItemsPlaced}
+use Rattle.c_model.specs.ReadTree.{BodyRead, FunctionRead, FunctionsRead, functions_among}
+use Rattle.c_model.proofs.TypedParts.{Gives, gives_of, gives_one, gives_if}
+use Rattle.c_model.proofs.PredicateTrees.{annotations_well}
 
 -- ---- annotations
 
-named_well : (s : Sight) (at : Place) (r : Range) (x : ℕ) → Gives (TermTyped s) (term_named s at r x)
-named_well s at r x = by (entity_named x s.entities) refl
-  where
-    by : (o : Option Entity) → entity_named x s.entities ≡ o → Gives (TermTyped s) (elim o [
-      | Some e ↦ elim e [ AnObject b ↦ object_term at r x b | AnEnumerator c ↦ Good (Number at None r c.value) ]
-      | None ↦ given (library_constant (name_at s.names x)) (no_name at) (λ c. Good (Number at None r c.1))
-    ])
-    by (Some (AnObject b)) e = gives_where (TermTyped s) (is_there (integer_type b.ctype)) (no_type at) _ (λ t. record {
-      ctype = b.ctype;
-      is = refl;
-      int = there_is b.ctype t;
-      denotes = record { object = b; found = e; decl = refl; ctype = refl };
-    })
-    by (Some (AnEnumerator c)) e = tt
-    by None e = gives_given (TermTyped s) (library_constant (name_at s.names x)) (no_name at) (λ c. Good (Number at None r c.1)) (λ c e. tt)
+is_read : (b : ClauseBody) → IsShortReading b → IsRead b
+is_read (Raw f) h = tt
+is_read (Holds p) h = absurd h
 
-term_well : (s : Sight) (t : LogicTerm) → Gives (TermTyped s) (typed_term s t)
-term_well s (Number at c r n) = tt
-term_well s (Letter at c r n) = tt
-term_well s (Variable at c r x) = named_well s at r x.name
-term_well s (Binary at c r op a b) = gives_both (TermTyped s) (TermTyped s) (TermTyped s) (typed_term s a) (typed_term s b) (λ a b. Good (Binary at c r op a b)) (term_well s a) (term_well s b) (λ a b v w. (v, w))
+are_read : (annots : List Annotation) → AreReadAsserts annots → AreRead annots
+are_read [] h = tt
+are_read (a ∷ rest) h = (is_read a.body h.0.body, are_read rest h.1)
 
-links_well : (s : Sight) (links : Links) → Gives (LinksTyped s) (typed_links s links)
-links_well s NoLink = tt
-links_well s (Linked at r t rest) = gives_both (TermTyped s) (LinksTyped s) (LinksTyped s) (typed_term s t) (typed_links s rest) (λ t rest. Good (Linked at r t rest)) (term_well s t) (links_well s rest) (λ t rest v w. (v, w))
+none_read : (annots : List Annotation) → annots ≡ [] → AreRead annots
+none_read annots e = subst AreRead (sym e) tt
 
-predicate_well : (s : Sight) (p : Predicate) → Gives (PredicateTyped s) (typed_predicate s p)
-predicate_well s (Chain at t links) = gives_both (TermTyped s) (LinksTyped s) (PredicateTyped s) (typed_term s t) (typed_links s links) (λ t links. Good (Chain at t links)) (term_well s t) (links_well s links) (λ t links v w. (v, w))
+-- those that were read are well typed
+abbrev WellNoted : Sight → List Annotation → List Annotation → Type 0
+WellNoted s a b = AreRead a → AnnotationsTyped s b
 
-clause_well : (s : Sight) (b : ClauseBody) → Gives (ClauseTyped s) (typed_clause s b)
-clause_well s (Truth p) = gives_one (PredicateTyped s) (ClauseTyped s) (typed_predicate s p) (λ p. Good (Truth p)) (predicate_well s p) (λ p w. w)
-
-pub annotations_well : (s : Sight) (annots : List Annotation) → Gives (AnnotationsTyped s) (typed_annotations s annots)
-annotations_well s [] = tt
-annotations_well s (a ∷ rest) =
-    gives_one (ClauseTyped s) (AnnotationsTyped s) (typed_clause s a.body) (λ b. one_part (typed_annotations s rest) (λ rest. Good (record a { body = b } ∷ rest))) (clause_well s a.body) (λ b v.
-    gives_one (AnnotationsTyped s) (AnnotationsTyped s) (typed_annotations s rest) (λ rest. Good (record a { body = b } ∷ rest)) (annotations_well s rest) (λ rest w. (v, w)))
+annotations_noted : (s : Sight) (annots : List Annotation) → Gives (WellNoted s annots) (typed_annotations s annots)
+annotations_noted s annots = gives_if (AreRead annots) (AnnotationsTyped s) (typed_annotations s annots) (annotations_well s annots)
 
 -- ---- statements whose annotations are typed
 
 -- b is a with typed annotations
 record IsNoted (s : Sight) (a b : Statement) : Type 0 where
-  noted : StatementNoted s b
+  noted : StatementPlaced AreReadAsserts a → StatementNoted s b
   kept : (r : Around) → StatementTyped s r a → StatementTyped s r b
 
 record IsElseNoted (s : Sight) (a b : ElsePart) : Type 0 where
-  noted : ElseNoted s b
+  noted : ElsePlaced AreReadAsserts a → ElseNoted s b
   kept : (r : Around) → ElseTyped s r a → ElseTyped s r b
 
 record IsItemNoted (s : Sight) (a b : BlockItem) : Type 0 where
-  noted : ItemNoted s b
+  noted : ItemPlaced AreReadAsserts a → ItemNoted s b
   kept : (r : Around) → ItemTyped s r a → ItemTyped s r b
   sight : behind s b ≡ behind s a
 
 record AreNoted (s : Sight) (a b : BlockItems) : Type 0 where
-  noted : ItemsNoted s b
+  noted : ItemsPlaced AreReadAsserts a → ItemsNoted s b
   kept : (r : Around) → ItemsTyped s r a → ItemsTyped s r b
 
 mutual
   statement_noted : (s : Sight) (a : Statement) → Gives (IsNoted s a) (noted_statement s a)
-  statement_noted s (Empty at) = record { noted = tt; kept = λ r w. w }
-  statement_noted s (Eval at e) = record { noted = tt; kept = λ r w. w }
+  statement_noted s (Empty at) = record { noted = λ p. tt; kept = λ r w. w }
+  statement_noted s (Eval at e) = record { noted = λ p. tt; kept = λ r w. w }
   statement_noted s (Block at items) =
       gives_one (AreNoted (inner s) items) (IsNoted s (Block at items)) (noted_items (inner s) items) (λ items. Good (Block at items)) (items_noted (inner s) items) (λ b w. record { noted = w.noted; kept = w.kept })
   statement_noted s (If at e a b) =
       gives_one (IsNoted s a) (IsNoted s (If at e a b)) (noted_statement s a) (λ a. one_part (noted_else s b) (λ b. Good (If at e a b))) (statement_noted s a) (λ c v.
       gives_one (IsElseNoted s b) (IsNoted s (If at e a b)) (noted_else s b) (λ b. Good (If at e c b)) (else_noted s b) (λ d w.
-      record { noted = (v.noted, w.noted); kept = λ r h. (h.0, v.kept r h.1, w.kept r h.2) }))
+      record { noted = λ p. (v.noted p.1, w.noted p.2); kept = λ r h. (h.0, v.kept r h.1, w.kept r h.2) }))
   statement_noted s (While at annots e a) =
-      gives_one (AnnotationsTyped s) (IsNoted s (While at annots e a)) (typed_annotations s annots) (λ annots. one_part (noted_statement s a) (λ a. Good (While at annots e a))) (annotations_well s annots) (λ n v.
+      gives_one (WellNoted s annots) (IsNoted s (While at annots e a)) (typed_annotations s annots) (λ annots. one_part (noted_statement s a) (λ a. Good (While at annots e a))) (annotations_noted s annots) (λ n v.
       gives_one (IsNoted s a) (IsNoted s (While at annots e a)) (noted_statement s a) (λ a. Good (While at n e a)) (statement_noted s a) (λ c w.
-      record { noted = (v, w.noted); kept = λ r h. (h.0, w.kept (in_loop r) h.1) }))
+      record { noted = λ p. (v (none_read annots p.0), w.noted p.2); kept = λ r h. (h.0, w.kept (in_loop r) h.1) }))
   statement_noted s (Do at a e) =
       gives_one (IsNoted s a) (IsNoted s (Do at a e)) (noted_statement s a) (λ a. Good (Do at a e)) (statement_noted s a) (λ c w.
-      record { noted = w.noted; kept = λ r h. (w.kept (in_loop r) h.0, h.1) })
+      record { noted = λ p. w.noted p.0; kept = λ r h. (w.kept (in_loop r) h.0, h.1) })
   statement_noted s (For at annots first e step a) =
-      gives_one (AnnotationsTyped s) (IsNoted s (For at annots first e step a)) (typed_annotations s annots)
-      (λ annots. one_part (noted_statement (behind_first (inner s) first) a) (λ a. Good (For at annots first e step a))) (annotations_well s annots) (λ n v.
+      gives_one (WellNoted s annots) (IsNoted s (For at annots first e step a)) (typed_annotations s annots)
+      (λ annots. one_part (noted_statement (behind_first (inner s) first) a) (λ a. Good (For at annots first e step a))) (annotations_noted s annots) (λ n v.
       gives_one (IsNoted (behind_first (inner s) first) a) (IsNoted s (For at annots first e step a)) (noted_statement (behind_first (inner s) first) a) (λ a. Good (For at n first e step a)) (statement_noted (behind_first (inner s) first) a) (λ c w.
-      record { noted = (v, w.noted); kept = λ r h. (h.0, h.1, h.2, w.kept (in_loop r) h.3) }))
-  statement_noted s (Break at) = record { noted = tt; kept = λ r w. w }
-  statement_noted s (Continue at) = record { noted = tt; kept = λ r w. w }
-  statement_noted s (Return at e) = record { noted = tt; kept = λ r w. w }
+      record { noted = λ p. (v (none_read annots p.0), w.noted p.4); kept = λ r h. (h.0, h.1, h.2, w.kept (in_loop r) h.3) }))
+  statement_noted s (Break at) = record { noted = λ p. tt; kept = λ r w. w }
+  statement_noted s (Continue at) = record { noted = λ p. tt; kept = λ r w. w }
+  statement_noted s (Return at e) = record { noted = λ p. tt; kept = λ r w. w }
 
   else_noted : (s : Sight) (b : ElsePart) → Gives (IsElseNoted s b) (noted_else s b)
-  else_noted s NoElse = record { noted = tt; kept = λ r w. w }
+  else_noted s NoElse = record { noted = λ p. tt; kept = λ r w. w }
   else_noted s (Else a) = gives_one (IsNoted s a) (IsElseNoted s (Else a)) (noted_statement s a) (λ a. Good (Else a)) (statement_noted s a) (λ c w. record { noted = w.noted; kept = w.kept })
 
   item_noted : (s : Sight) (i : BlockItem) → Gives (IsItemNoted s i) (noted_item s i)
-  item_noted s (Declare ds) = record { noted = tt; kept = λ r w. w; sight = refl }
+  item_noted s (Declare ds) = record { noted = λ p. tt; kept = λ r w. w; sight = refl }
   item_noted s (Run a) = gives_one (IsNoted s a) (IsItemNoted s (Run a)) (noted_statement s a) (λ a. Good (Run a)) (statement_noted s a) (λ c w. record { noted = w.noted; kept = w.kept; sight = refl })
-  item_noted s (Asserts annots) = gives_one (AnnotationsTyped s) (IsItemNoted s (Asserts annots)) (typed_annotations s annots) (λ annots. Good (Asserts annots)) (annotations_well s annots) (λ n w. record { noted = w; kept = λ r h. tt; sight = refl })
+  item_noted s (Asserts annots) =
+      gives_one (WellNoted s annots) (IsItemNoted s (Asserts annots)) (typed_annotations s annots) (λ annots. Good (Asserts annots)) (annotations_noted s annots) (λ n w.
+      record { noted = λ p. w (are_read annots p); kept = λ r h. tt; sight = refl })
 
   items_noted : (s : Sight) (items : BlockItems) → Gives (AreNoted s items) (noted_items s items)
-  items_noted s NoItem = record { noted = tt; kept = λ r w. w }
+  items_noted s NoItem = record { noted = λ p. tt; kept = λ r w. w }
   items_noted s (Then i rest) =
       gives_one (IsItemNoted s i) (AreNoted s (Then i rest)) (noted_item s i) (λ i. one_part (noted_items (behind s i) rest) (λ rest. Good (Then i rest))) (item_noted s i) (λ j v.
       gives_one (AreNoted (behind s j) rest) (AreNoted s (Then i rest)) (noted_items (behind s j) rest) (λ rest. Good (Then j rest)) (items_noted (behind s j) rest) (λ more w.
-      record { noted = (v.noted, w.noted); kept = λ r h. (v.kept r h.0, w.kept r (subst (λ t. ItemsTyped t r rest) (sym v.sight) h.1)) }))
+      record { noted = λ p. (v.noted p.0, w.noted p.1); kept = λ r h. (v.kept r h.0, w.kept r (subst (λ t. ItemsTyped t r rest) (sym v.sight) h.1)) }))
 
 -- ---- functions
 
 record IsBodyNoted (s : Sight) (t : PlainType) (a b : Option Statement) : Type 0 where
-  noted : BodyNoted s b
+  noted : BodyRead AreReadAsserts a → BodyNoted s b
   kept : BodyTyped s t a → BodyTyped s t b
 
 body_noted : (s : Sight) (t : PlainType) (b : Option Statement) → Gives (IsBodyNoted s t b) (noted_body s b)
-body_noted s t None = record { noted = tt; kept = λ h. h }
+body_noted s t None = record { noted = λ p. tt; kept = λ h. h }
 body_noted s t (Some (Block at items)) =
     gives_one (AreNoted s items) (IsBodyNoted s t (Some (Block at items))) (noted_items s items) (λ items. Good (Some (Block at items))) (items_noted s items) (λ b w.
-    record { noted = w.noted; kept = w.kept (around_body t) })
-body_noted s t (Some _) = record { noted = tt; kept = λ h. h }
+    record { noted = λ p. w.noted p.0; kept = w.kept (around_body t) })
+body_noted s t (Some _) = record { noted = λ p. tt; kept = λ h. h }
 
 -- a function whose asserts are typed
 pub record IsFunctionNoted (s : Sight) (f g : Function) : Type 0 where
-  pub noted : FunctionNoted s g
+  pub noted : FunctionRead AreReadAsserts f → FunctionNoted s g
   pub kept : FunctionTyped s f → FunctionTyped s g
 
 pub function_noted : (s : Sight) (f : Function) → Gives (IsFunctionNoted s f) (noted_function s f)
 function_noted s f =
     gives_one (IsBodyNoted (with_parameters (inner s) f.params) f.result f.body) (IsFunctionNoted s f) (noted_body (with_parameters (inner s) f.params) f.body) (λ b. Good (record f { body = b }))
     (body_noted (with_parameters (inner s) f.params) f.result f.body) (λ b w. record {
-      noted = w.noted;
+      noted = λ p. w.noted p.body;
       kept = λ h. record { own_name = h.own_name; result = h.result; params = h.params; body = w.kept h.body };
     })
 
-functions_noted : (p : TranslationUnit) (s : Sight) (is : List FileItem) → Gives (FunctionsNoted p s is) (noted_functions p s is)
-functions_noted p s [] = refl
-functions_noted p s (AFunction f ∷ is) =
+functions_noted : (p : TranslationUnit) (s : Sight) (is : List FileItem) → FunctionsRead AreReadAsserts (functions_among is) → Gives (FunctionsNoted p s is) (noted_functions p s is)
+functions_noted p s [] r = refl
+functions_noted p s (AFunction f ∷ is) r =
     gives_one (IsFunctionNoted (with_function p s f) f) (FunctionsNoted p s (AFunction f ∷ is)) (noted_function (with_function p s f) f)
     (λ g. one_part (noted_functions p (behind_item p s (AFunction f)) is) (λ fs. Good (g ∷ fs))) (function_noted (with_function p s f) f) (λ g v.
     gives_one (FunctionsNoted p (behind_item p s (AFunction f)) is) (FunctionsNoted p s (AFunction f ∷ is)) (noted_functions p (behind_item p s (AFunction f)) is) (λ fs. Good (g ∷ fs))
-    (functions_noted p (behind_item p s (AFunction f)) is) (λ fs w. (g, fs, refl, v.noted, w)))
-functions_noted p s (StructHead k x ∷ is) = functions_noted p s is
-functions_noted p s (Member k m ends ∷ is) = functions_noted p s is
-functions_noted p s (AnEnum e ∷ is) = functions_noted p (behind_item p s (AnEnum e)) is
-functions_noted p s (ATypedef d ∷ is) = functions_noted p (behind_item p s (ATypedef d)) is
-functions_noted p s (AGlobal d ∷ is) = functions_noted p (behind_item p s (AGlobal d)) is
+    (functions_noted p (behind_item p s (AFunction f)) is r.1) (λ fs w. (g, fs, refl, v.noted r.0, w)))
+functions_noted p s (StructHead k x ∷ is) r = functions_noted p s is r
+functions_noted p s (Member k m ends ∷ is) r = functions_noted p s is r
+functions_noted p s (AnEnum e ∷ is) r = functions_noted p (behind_item p s (AnEnum e)) is r
+functions_noted p s (ATypedef d ∷ is) r = functions_noted p (behind_item p s (ATypedef d)) is r
+functions_noted p s (AGlobal d ∷ is) r = functions_noted p (behind_item p s (AGlobal d)) is r
 
 -- the functions of a text whose asserts are typed
-pub unit_noted : (p q : TranslationUnit) → noted_unit p ≡ Good q → FunctionsNoted p (sight_with p p.structs) (items_of_file p) q.funcs
-unit_noted p q is = gives_of (λ (q : TranslationUnit). FunctionsNoted p (sight_with p p.structs) (items_of_file p) q.funcs) (noted_unit p) q
+pub unit_noted : (p q : TranslationUnit) → FunctionsRead AreReadAsserts (functions_among (items_of_file p)) → noted_unit p ≡ Good q
+    → FunctionsNoted p (sight_with p p.structs) (items_of_file p) q.funcs
+unit_noted p q r is = gives_of (λ (q : TranslationUnit). FunctionsNoted p (sight_with p p.structs) (items_of_file p) q.funcs) (noted_unit p) q
     (gives_one (FunctionsNoted p (sight_with p p.structs) (items_of_file p)) (λ (q : TranslationUnit). FunctionsNoted p (sight_with p p.structs) (items_of_file p) q.funcs)
-    (noted_functions p (sight_with p p.structs) (items_of_file p)) (λ fs. Good (record p { funcs = fs })) (functions_noted p (sight_with p p.structs) (items_of_file p)) (λ fs w. w)) is
+    (noted_functions p (sight_with p p.structs) (items_of_file p)) (λ fs. Good (record p { funcs = fs })) (functions_noted p (sight_with p p.structs) (items_of_file p) r) (λ fs w. w)) is

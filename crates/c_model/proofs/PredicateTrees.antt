@@ -7,10 +7,10 @@ use Rattle.c_syntax.specs.declared.expression.BinOp.{BinOp}
 use Rattle.c_syntax.specs.Ctypes.{PlainType}
 use Rattle.c_syntax.specs.Formulas as read
 use Rattle.c_syntax.specs.Formulas.{CastType, Integers, OfC, Form, FormLinks}
-use Rattle.c_syntax.specs.Logic.{LogicTerm, Links, Linked, Predicate, ClauseBody, Raw, Holds, Annotation}
+use Rattle.c_syntax.specs.Logic.{Links, Linked, ClauseBody, Raw, Holds, Annotation}
 use Rattle.c_model.specs.Integers.{integer_type}
 use Rattle.c_model.specs.Library.{library_constant, is_there}
-use Rattle.c_model.specs.Checked.{Fault, Checked, Good, Bad, given, where_so, one_part, both_parts, pair_of}
+use Rattle.c_model.specs.Checked.{Fault, Checked, Good, Bad, given, one_part, pair_of}
 use Rattle.c_model.specs.ExpressionTyping.{no_name, no_type, Entity, AnObject, AnEnumerator, Sight, name_at, entity_named, besides, is_within_limits, too_large, limited, typed_type}
 use Rattle.c_model.specs.PredicateTyping.{Sorted, ATerm, APredicate, as_term, as_predicate, object_term, number, named, on_integer, unary_on, on_integers, cast_as, cast, size_in, connected, choice}
 use Rattle.c_model.specs.PredicateTyping.{is_predicate, right_side, chain, typed, typed_links, typed_clause, typed_annotations}
@@ -84,27 +84,27 @@ chain_well s at a links v w = gives_one (TermTyped s) (SortedTyped s) (as_term a
 
 -- ---- parts
 
-gives_pair : {A B C : Type 0} (P : A → Type 0) (Q : B → Type 0) (R : C → Type 0) (m : Checked A) (n : Checked B) (k : (A × B) → Checked C)
+pub gives_pair : {A B C : Type 0} (P : A → Type 0) (Q : B → Type 0) (R : C → Type 0) (m : Checked A) (n : Checked B) (k : (A × B) → Checked C)
     → Gives P m → Gives Q n → ((a : A) (b : B) → P a → Q b → Gives R (k (a, b))) → Gives R (one_part (pair_of m n) k)
 gives_pair P Q R (Good a) (Good b) k p q h = h a b p q
 gives_pair P Q R (Good a) (Bad g gs) k p q h = tt
 gives_pair P Q R (Bad f fs) (Good b) k p q h = tt
 gives_pair P Q R (Bad f fs) (Bad g gs) k p q h = tt
 
-gives_besides : {A : Type 0} (P : A → Type 0) (t : Bool) (f : Fault) (c : Checked A) → Gives P c → Gives P (besides t f c)
+pub gives_besides : {A : Type 0} (P : A → Type 0) (t : Bool) (f : Fault) (c : Checked A) → Gives P c → Gives P (besides t f c)
 gives_besides P true f c w = w
 gives_besides P false f (Good a) w = tt
 gives_besides P false f (Bad g gs) w = tt
 
-gives_limited : {A : Type 0} (P : A → Type 0) (s : Sight) (at : Place) (m : Checked PlainType) (c : Checked A) → Gives P c → Gives P (limited s at m c)
+pub gives_limited : {A : Type 0} (P : A → Type 0) (s : Sight) (at : Place) (m : Checked PlainType) (c : Checked A) → Gives P c → Gives P (limited s at m c)
 gives_limited P s at (Good t) c w = gives_besides P (is_within_limits s t) (too_large at) c w
 gives_limited P s at (Bad f fs) c w = w
 
-anything : {A : Type 0} (c : Checked A) → Gives (λ (a : A). Unit {0}) c
+pub anything : {A : Type 0} (c : Checked A) → Gives (λ (a : A). Unit {0}) c
 anything (Good a) = tt
 anything (Bad f fs) = tt
 
-abbrev Any : PlainType → Type 0
+abbrev pub Any : PlainType → Type 0
 Any t = Unit {0}
 
 -- ---- forms

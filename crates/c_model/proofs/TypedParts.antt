@@ -41,6 +41,11 @@ pub gives_where : {B : Type 0} (R : B → Type 0) (t : Bool) (f : Fault) (c : Ch
 gives_where R true f c h = h refl
 gives_where R false f c h = tt
 
+-- the same under a hypothesis
+pub gives_if : {A : Type 0} (H : Type 0) (P : A → Type 0) (c : Checked A) → (H → Gives P c) → Gives (λ a. H → P a) c
+gives_if H P (Good a) h = h
+gives_if H P (Bad f fs) h = tt
+
 -- the value itself
 pub gives_self : {A : Type 0} (P : A → Type 0) (c : Checked A) → Gives P c → Gives (λ a. P a × (c ≡ Good a)) c
 gives_self P (Good a) g = (g, refl)

@@ -19,7 +19,7 @@ use Rattle.c_model.specs.Punctuators.{shift_left, less_equal, equal, not_equal, 
 use Rattle.c_model.specs.Punctuators.{bar, question, colon, semicolon, left_paren, right_paren, equivalent, implies, caret_caret}
 use Rattle.c_model.specs.ExpressionGrammar.{use_of, integer_words, integer_word, untagged_base, base, consts, type_words, star_words, brackets, type_name, closed}
 use Rattle.c_model.specs.AnnotationGrammar.{named_form, literal_form, sized_form, atom, cast_behind, cast_to_type, cast_to_integer, parenthesised, behind_parenthesis, prefixed, prefix_of, prefix, joined_once, joined_more, joined, linked}
-use Rattle.c_model.specs.AnnotationGrammar.{links_of, links, chain_of, implied, implication_of, choice_behind, product, sum, shift, chain, bit_and, bit_xor, bit_or, conjunction, exclusion, disjunction, implication, equivalence, form_of, form}
+use Rattle.c_model.specs.AnnotationGrammar.{links_of, links, chain_of, implied, implication_of, choice_behind, implication, form_of, form}
 use Rattle.c_model.specs.AnnotationGrammar.{assertion, assert_clause, full_clause, next_assert, asserts, annotations}
 
 -- a place in a text of one line in which each token has one column

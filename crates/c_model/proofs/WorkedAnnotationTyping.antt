@@ -3,13 +3,13 @@ use Rattle.std.proofs.Common.{◌≡◌, ℕ, true, List, [], ◌∷◌, Some, N
 use Rattle.c_syntax.specs.declared.types.CInt.TheVariants.{I8}
 use Rattle.c_syntax.specs.declared.annotation.Relation.TheVariants as relation
 use Rattle.c_syntax.specs.Ctypes.{PlainType, Int, Ptr, Array, Struct, Count, int_type}
-use Rattle.c_syntax.specs.Annotations.{LogicTerm, Variable, Chain, NoLink, Linked}
+use Rattle.c_syntax.specs.Logic.{LogicTerm, Variable, ClauseBody, Raw, Holds}
 use Rattle.c_syntax.specs.Statements.{Declaration, BlockItem, Declare, Asserts}
 use Rattle.c_syntax.specs.Programs.{StructType, TranslationUnit}
 use Rattle.c_model.specs.Library.{library_constant}
 use Rattle.c_model.specs.Checked.{Good, refusing}
 use Rattle.c_model.specs.AnnotationTyping.{noted_unit}
-use Rattle.c_model.proofs.WorkedTrees.{place, no_range, literal, literal_term, variable_term, read_term, assertion, definition}
+use Rattle.c_model.proofs.WorkedTrees.{place, no_range, literal, literal_term, variable_term, related_terms, literal_form, name_form, related_forms, asserted, definition}
 use Rattle.c_model.proofs.WorkedDeclarationTyping.{file}
 
 abbrev variable_of : PlainType → ℕ → ℕ → ℕ → ℕ → Declaration
@@ -24,7 +24,7 @@ a_struct = record {
   align = 4;
 }
 
--- what is typed of this file, with an assert of a name behind some declarations:
+-- what is typed of this file, with an assert behind some declarations:
 --
 --     struct s { int m; };
 --     enum { N = 3 };
@@ -37,8 +37,8 @@ a_struct = record {
 --       //@ assert X == 1;
 --     }
 --     int late;
-abbrev asserts : List BlockItem → LogicTerm → TranslationUnit
-asserts items t = file
+abbrev asserts : List BlockItem → ClauseBody → TranslationUnit
+asserts items clause = file
     (codes "N" ∷ codes "p" ∷ codes "n" ∷ codes "a" ∷ codes "v" ∷ codes "main" ∷ codes "m" ∷ codes "s" ∷ codes "INT_MAX" ∷ codes "late" ∷ codes "c" ∷ codes "NULL" ∷ [])
     [] (a_struct ∷ [])
     (record { place = place 2 1 21; tag = None; items = record { place = place 2 8 28; name = 0; value = Some (literal (place 2 12 32) 3) } ∷ [] } ∷ [])
@@ -47,32 +47,38 @@ asserts items t = file
     (definition int_type (place 8 5 86) 5 [] (place 8 16 97) (place 10 1 120) (behind items) ∷ [])
   where
     behind : List BlockItem → List BlockItem
-    behind [] = Asserts (assertion 1 (place 9 7 105) (Chain (place 9 16 114) t (Linked (place 9 16 114) relation.Eq (literal_term (place 9 19 117) 1) NoLink)) ∷ []) ∷ []
+    behind [] = Asserts (asserted 1 (place 9 7 105) clause ∷ []) ∷ []
     behind (i ∷ is) = i ∷ behind is
 
--- the name X of the assert
+-- `X == 1` with this name as it is read, and with this term
+abbrev name_read : ℕ → ClauseBody
+name_read name = Raw (related_forms (place 9 16 114) relation.Eq (name_form (place 9 14 112) name) (literal_form (place 9 19 117) 1))
+
+abbrev term_typed : LogicTerm → ClauseBody
+term_typed t = Holds (related_terms (place 9 16 114) relation.Eq t (literal_term (place 9 19 117) 1))
+
 abbrev asserts_of : ℕ → TranslationUnit
-asserts_of name = asserts [] (read_term (place 9 14 112) name)
+asserts_of name = asserts [] (name_read name)
 
 -- an object
-noted_unit-asserts_of_n : noted_unit (asserts_of 2) ≡ Good (asserts [] (variable_term (place 9 14 112) 2 49))
+noted_unit-asserts_of_n : noted_unit (asserts_of 2) ≡ Good (asserts [] (term_typed (variable_term (place 9 14 112) 2 49)))
 noted_unit-asserts_of_n = refl
 
-noted_unit-asserts_of_c : noted_unit (asserts_of 10) ≡ Good (asserts [] (Variable (place 9 14 112) (Some (Int I8)) no_range (record { name = 10; decl = 79 })))
+noted_unit-asserts_of_c : noted_unit (asserts_of 10) ≡ Good (asserts [] (term_typed (Variable (place 9 14 112) (Some (Int I8)) no_range (record { name = 10; decl = 79 }))))
 noted_unit-asserts_of_c = refl
 
 -- an enumerator, in whose place its value stands
-noted_unit-asserts_of_an_enumerator : noted_unit (asserts_of 0) ≡ Good (asserts [] (literal_term (place 9 14 112) 3))
+noted_unit-asserts_of_an_enumerator : noted_unit (asserts_of 0) ≡ Good (asserts [] (term_typed (literal_term (place 9 14 112) 3)))
 noted_unit-asserts_of_an_enumerator = refl
 
 -- a constant of the library
-noted_unit-asserts_of_a_constant : noted_unit (asserts_of 8) ≡ Good (asserts [] (literal_term (place 9 14 112) 2147483647))
+noted_unit-asserts_of_a_constant : noted_unit (asserts_of 8) ≡ Good (asserts [] (term_typed (literal_term (place 9 14 112) 2147483647)))
 unfolding library_constant
 noted_unit-asserts_of_a_constant = refl
 
 -- `int N;` behind the `{` hides the enumerator; the other places are kept
-noted_unit-asserts_of_a_hiding : noted_unit (asserts (Declare (variable_of int_type 0 8 22 103 ∷ []) ∷ []) (read_term (place 9 14 112) 0))
-    ≡ Good (asserts (Declare (variable_of int_type 0 8 22 103 ∷ []) ∷ []) (variable_term (place 9 14 112) 0 103))
+noted_unit-asserts_of_a_hiding : noted_unit (asserts (Declare (variable_of int_type 0 8 22 103 ∷ []) ∷ []) (name_read 0))
+    ≡ Good (asserts (Declare (variable_of int_type 0 8 22 103 ∷ []) ∷ []) (term_typed (variable_term (place 9 14 112) 0 103)))
 noted_unit-asserts_of_a_hiding = refl
 
 -- ---- refused

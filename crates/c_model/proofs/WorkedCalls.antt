@@ -10,7 +10,7 @@ use Rattle.c_syntax.specs.declared.annotation.Kind.TheVariants.{Assert}
 use Rattle.c_syntax.specs.declared.annotation.Relation.TheVariants as relation
 use Rattle.c_syntax.specs.Ctypes.{Void, int_type}
 use Rattle.c_syntax.specs.Expressions.{Expression}
-use Rattle.c_syntax.specs.Annotations.{Chain, NoLink, Linked}
+use Rattle.c_syntax.specs.Logic.{Chain, NoLink, Linked}
 use Rattle.c_syntax.specs.Statements.{Eval, Block, If, While, For, Return, NoElse, First, Declare, Run, Asserts}
 use Rattle.c_syntax.specs.Programs.{TranslationUnit}
 use Rattle.c_model.specs.Memory.{Integer, Number, Block as StoredBlock}

@@ -8,7 +8,7 @@ use Rattle.c_syntax.specs.declared.annotation.Relation.TheVariants as relation
 use Rattle.c_syntax.specs.Ctypes.{Void, Int, Ptr, Array, Struct, StructTag, Named, Left, Written, Count, int_type}
 use Rattle.c_syntax.specs.Expressions.{Expression, ExpressionKind, Node, Number, Text, Variable, Unary, Binary, Both, Choice, Assign, Call, Cast}
 use Rattle.c_syntax.specs.Expressions.{SizeOfType, Index, Arrow, NoExpression, Following}
-use Rattle.c_syntax.specs.Annotations.{Chain, NoLink, Linked}
+use Rattle.c_syntax.specs.Logic.{Chain, NoLink, Linked}
 use Rattle.c_syntax.specs.Statements.{Declaration, One, Many, NoInitialiser, Listed, Eval, Block, For, Return, First, Declare, Run, Asserts}
 use Rattle.c_syntax.specs.Programs.{StructType, EnumType, StringLiteral, Function, TranslationUnit}
 use Rattle.c_model.specs.Library.{library_constant, is_library_name}

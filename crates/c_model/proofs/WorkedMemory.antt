@@ -9,7 +9,7 @@ use Rattle.c_syntax.specs.declared.annotation.Kind.TheVariants.{Assert}
 use Rattle.c_syntax.specs.declared.annotation.Relation.TheVariants as relation
 use Rattle.c_syntax.specs.Ctypes.{Void, Int, Ptr, Array, Struct, Count, int_type}
 use Rattle.c_syntax.specs.Expressions.{Node, Number, Letter, Text, Variable, Unary, Binary, Assign, Bump, Call, Cast, SizeOfType, Index, Dot, Arrow, NoExpression, Following}
-use Rattle.c_syntax.specs.Annotations.{Chain, NoLink, Linked}
+use Rattle.c_syntax.specs.Logic.{Chain, NoLink, Linked}
 use Rattle.c_syntax.specs.Statements.{One, Many, NoInitialiser, Listed, Eval, Block, If, NoElse, For, Return, First, Declare, Run, Asserts}
 use Rattle.c_syntax.specs.Programs.{TranslationUnit}
 use Rattle.c_model.specs.State.{Exits, Broken, Undefined}

@@ -1,18 +1,17 @@
 -- What typing makes of forms of annotations, by computation: a term, a predicate, or the fault that refuses.
-use Rattle.std.proofs.Common.{◌≡◌, ℕ, ◌+◌, pos, true, List, [], ◌∷◌, Option, Some, None, codes, refl}
+use Rattle.std.proofs.Common.{◌≡◌, ℕ, ◌+◌, pos, true, [], ◌∷◌, Option, Some, None, codes, refl}
 use Rattle.c_syntax.specs.declared.place.Place.{Place}
-use Rattle.c_syntax.specs.declared.types.CInt.TheVariants.{I8, I32, U64}
+use Rattle.c_syntax.specs.declared.types.CInt.TheVariants.{I8}
 use Rattle.c_syntax.specs.declared.expression.BinOp.TheVariants as operator
 use Rattle.c_syntax.specs.declared.expression.UnOp.TheVariants as unary
 use Rattle.c_syntax.specs.declared.annotation.Relation.TheVariants as relation
 use Rattle.c_syntax.specs.declared.logic.Connective.TheVariants as connective
-use Rattle.c_syntax.specs.Ctypes.{PlainType, Void, Int, Ptr, Array, Struct, Named, StructTag, EnumTag, Count, int_type}
-use Rattle.c_syntax.specs.Programs.{StructType}
+use Rattle.c_syntax.specs.Ctypes.{Void, Int, Ptr, Array, Named, StructTag, EnumTag, Count, int_type}
 use Rattle.c_syntax.specs.Formulas as read
 use Rattle.c_syntax.specs.Formulas.{Form, FormLinks, Integers, OfC}
-use Rattle.c_syntax.specs.Logic.{LogicTerm, Number, Letter, Variable, Unary, Binary, Cast, Choice, NoLink, Linked}
+use Rattle.c_syntax.specs.Logic.{LogicTerm, Number, Variable, Unary, Binary, Cast, Choice, NoLink, Linked}
 use Rattle.c_syntax.specs.Logic.{Truth, NonZero, Chain, Not, Connected, Branch, Raw, Holds}
-use Rattle.c_model.specs.Checked.{Fault, Checked, Good, refusing}
+use Rattle.c_model.specs.Checked.{Fault, Good, refusing}
 use Rattle.c_model.specs.Library.{library_constant}
 use Rattle.c_model.specs.ExpressionTyping.{AnObject, AnEnumerator, Sight}
 use Rattle.c_model.specs.PredicateTyping.{Sorted, ATerm, APredicate, no_range, typed, typed_clause}

@@ -10,7 +10,7 @@ use Rattle.c_syntax.specs.declared.annotation.Kind.TheVariants.{Assert}
 use Rattle.c_syntax.specs.declared.annotation.Relation.TheVariants as relation
 use Rattle.c_syntax.specs.Ctypes.{Int, int_type}
 use Rattle.c_syntax.specs.Expressions.{Node, Number, Unary, Binary, Both, Choice, Assign, SizeOfType, SizeOfExpr}
-use Rattle.c_syntax.specs.Annotations.{Chain, NoLink, Linked}
+use Rattle.c_syntax.specs.Logic.{Chain, NoLink, Linked}
 use Rattle.c_syntax.specs.Statements.{Eval, Block, If, While, Do, For, Break, Continue, Return, NoElse, Else, First, Declare, Run, Asserts}
 use Rattle.c_syntax.specs.Programs.{TranslationUnit}
 use Rattle.c_model.specs.State.{Exits, Broken, Undefined, Spent}

@@ -7,10 +7,13 @@ use Rattle.c_syntax.specs.declared.expression.BinOp.{BinOp}
 use Rattle.c_syntax.specs.declared.expression.BumpOp.{BumpOp}
 use Rattle.c_syntax.specs.declared.annotation.Kind.TheVariants.{Assert}
 use Rattle.c_syntax.specs.declared.annotation.Range.{Range}
+use Rattle.c_syntax.specs.declared.annotation.Relation.{Relation}
 use Rattle.c_syntax.specs.Ctypes.{PlainType, Int, int_type}
 use Rattle.c_syntax.specs.Expressions.{Expression, Node, Number, Letter, Variable, Binary, Assign, Bump, Call, Cast, Expressions, NoExpression, Following, place_of}
-use Rattle.c_syntax.specs.Annotations.{LogicTerm, Predicate, Truth, Annotation}
-use Rattle.c_syntax.specs.Annotations as logic
+use Rattle.c_syntax.specs.Formulas as formula
+use Rattle.c_syntax.specs.Formulas.{Form}
+use Rattle.c_syntax.specs.Logic as logic
+use Rattle.c_syntax.specs.Logic.{LogicTerm, Predicate, ClauseBody, Raw, Holds, Annotation}
 use Rattle.c_syntax.specs.Statements.{One, Declaration, Block, BlockItem, BlockItems, NoItem, Then}
 use Rattle.c_syntax.specs.Programs.{Function, TranslationUnit}
 use Rattle.c_model.specs.State.{Input, EndOfInput, InputFault}
@@ -100,15 +103,28 @@ literal_term at n = logic.Number at None no_range (pos n)
 abbrev pub variable_term : Place → ℕ → ℕ → LogicTerm
 variable_term at name decl = logic.Variable at (Some int_type) no_range (record { name = name; decl = decl })
 
--- a variable as it is read
-abbrev pub read_term : Place → ℕ → LogicTerm
-read_term at name = logic.Variable at None no_range (record { name = name; decl = 0 })
-
 abbrev pub binary_term : Place → BinOp → LogicTerm → LogicTerm → LogicTerm
 binary_term at op a b = logic.Binary at None no_range op a b
 
+abbrev pub related_terms : Place → Relation → LogicTerm → LogicTerm → Predicate
+related_terms at r a b = logic.Chain at a (logic.Linked at r b logic.NoLink)
+
+-- the same as they are read
+abbrev pub literal_form : Place → ℕ → Form
+literal_form at n = formula.Number at (pos n)
+
+abbrev pub name_form : Place → ℕ → Form
+name_form at name = formula.Name at (record { name = name; decl = 0 })
+
+abbrev pub related_forms : Place → Relation → Form → Form → Form
+related_forms at r a b = formula.Chain at a (formula.Linked at r b formula.NoLink)
+
+-- an assertion of a clause, and of a predicate
+abbrev pub asserted : ℕ → Place → ClauseBody → Annotation
+asserted number at clause = record { number = number; kind = Assert; place = at; body = clause }
+
 abbrev pub assertion : ℕ → Place → Predicate → Annotation
-assertion number at p = record { number = number; kind = Assert; place = at; body = Truth p }
+assertion number at p = asserted number at (Holds p)
 
 -- ---- functions and files
 

@@ -7,7 +7,7 @@ use Rattle.c_syntax.specs.declared.expression.BumpOp.TheVariants.{PostUp}
 use Rattle.c_syntax.specs.declared.annotation.Relation.TheVariants as relation
 use Rattle.c_syntax.specs.Ctypes.{Void, Int, int_type}
 use Rattle.c_syntax.specs.Expressions.{Expression, Node, SizeOfExpr}
-use Rattle.c_syntax.specs.Annotations.{LogicTerm, Chain, NoLink, Linked}
+use Rattle.c_syntax.specs.Logic.{ClauseBody, Raw, Holds}
 use Rattle.c_syntax.specs.Statements.{Eval, Block, For, Return, First, Declare, Run, Asserts}
 use Rattle.c_syntax.specs.Programs.{TranslationUnit}
 use Rattle.c_model.specs.Library.{library_constant, is_library_name}
@@ -15,7 +15,7 @@ use Rattle.c_model.specs.Checked.{Good, refusing}
 use Rattle.c_model.specs.UnitTyping.{typed_unit, main_fault}
 use Rattle.c_model.specs.AnnotationTyping.{noted_unit}
 use Rattle.c_model.proofs.WorkedTrees.{place, literal, typed_variable, variable, binary, assignment, bump, cast, call, object_of, int_variable, unwritten_int, parameter, int_parameter, unnamed_parameter, items_of}
-use Rattle.c_model.proofs.WorkedTrees.{literal_term, read_term, variable_term, assertion, definition, prototype, unit_of}
+use Rattle.c_model.proofs.WorkedTrees.{literal_term, variable_term, related_terms, literal_form, name_form, related_forms, asserted, definition, prototype, unit_of}
 
 -- as it is read a use has the number 0, and after typing that of its declaration
 abbrev as_read : ℕ → ℕ
@@ -388,7 +388,7 @@ names_the_library = unit_of (codes "getchar" ∷ codes "main" ∷ []) (
     []) ∷
     [])
 
--- ---- asserts, with their names as they are given
+-- ---- asserts, with their clauses as they are given
 
 -- an assert of a parameter
 --     int f(int a) {
@@ -396,10 +396,10 @@ names_the_library = unit_of (codes "getchar" ∷ codes "main" ∷ []) (
 --       return a;
 --     }
 --     int main(void) { return 0; }
-abbrev asserts_of_a_parameter : LogicTerm → TranslationUnit
-asserts_of_a_parameter a = unit_of (codes "f" ∷ codes "a" ∷ codes "main" ∷ []) (
+abbrev asserts_of_a_parameter : ClauseBody → TranslationUnit
+asserts_of_a_parameter clause = unit_of (codes "f" ∷ codes "a" ∷ codes "main" ∷ []) (
     definition int_type (place 1 5 4) 0 (int_parameter (place 1 11 10) 1 ∷ []) (place 1 14 13) (place 4 1 47) (
-    Asserts (assertion 1 (place 2 7 21) (Chain (place 2 16 30) a (Linked (place 2 16 30) relation.Gt (literal_term (place 2 18 32) 0) NoLink)) ∷ []) ∷
+    Asserts (asserted 1 (place 2 7 21) clause ∷ []) ∷
     Run (Return (place 3 3 37) (Some (variable (place 3 10 44) 1 10))) ∷
     []) ∷
     definition int_type (place 5 5 53) 2 [] (place 5 16 64) (place 5 28 76) (
@@ -413,13 +413,13 @@ asserts_of_a_parameter a = unit_of (codes "f" ∷ codes "a" ∷ codes "main" ∷
 --       //@ assert a > 0;
 --       return 0;
 --     }
-abbrev asserts_of_another : LogicTerm → TranslationUnit
-asserts_of_another a = unit_of (codes "f" ∷ codes "a" ∷ codes "main" ∷ []) (
+abbrev asserts_of_another : ClauseBody → TranslationUnit
+asserts_of_another clause = unit_of (codes "f" ∷ codes "a" ∷ codes "main" ∷ []) (
     definition int_type (place 1 5 4) 0 (int_parameter (place 1 11 10) 1 ∷ []) (place 1 14 13) (place 1 26 25) (
     Run (Return (place 1 16 15) (Some (variable (place 1 23 22) 1 10))) ∷
     []) ∷
     definition int_type (place 2 5 31) 2 [] (place 2 16 42) (place 5 1 76) (
-    Asserts (assertion 1 (place 3 7 50) (Chain (place 3 16 59) a (Linked (place 3 16 59) relation.Gt (literal_term (place 3 18 61) 0) NoLink)) ∷ []) ∷
+    Asserts (asserted 1 (place 3 7 50) clause ∷ []) ∷
     Run (Return (place 4 3 66) (Some (literal (place 4 10 73) 0))) ∷
     []) ∷
     [])
@@ -553,11 +553,12 @@ typed_unit-names_the_library = refl
 
 -- ---- asserts
 
-noted_unit-asserts_of_a_parameter : noted_unit (asserts_of_a_parameter (read_term (place 2 14 28) 1))
-    ≡ Good (asserts_of_a_parameter (variable_term (place 2 14 28) 1 10))
+noted_unit-asserts_of_a_parameter : noted_unit (asserts_of_a_parameter (Raw (related_forms (place 2 16 30) relation.Gt (name_form (place 2 14 28) 1) (literal_form (place 2 18 32) 0))))
+    ≡ Good (asserts_of_a_parameter (Holds (related_terms (place 2 16 30) relation.Gt (variable_term (place 2 14 28) 1 10) (literal_term (place 2 18 32) 0))))
 noted_unit-asserts_of_a_parameter = refl
 
-noted_unit-asserts_of_another : refusing (noted_unit (asserts_of_another (read_term (place 3 14 57) 1))) ≡ Some (record { code = 5; place = place 3 14 57 })
+noted_unit-asserts_of_another : refusing (noted_unit (asserts_of_another (Raw (related_forms (place 3 16 59) relation.Gt (name_form (place 3 14 57) 1) (literal_form (place 3 18 61) 0)))))
+    ≡ Some (record { code = 5; place = place 3 14 57 })
 unfolding library_constant is_library_name
 noted_unit-asserts_of_another = refl
 

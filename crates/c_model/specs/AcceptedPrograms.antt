@@ -13,7 +13,7 @@ use Rattle.c_model.specs.Pure.{IsPureInitialiser}
 use Rattle.c_model.specs.Sizes.{IsSmall}
 use Rattle.c_model.specs.SmallTypes.{TypesSmall}
 use Rattle.c_model.specs.FullExpressions.{EachDeclared, EachInFunctions}
-use Rattle.c_model.specs.Formed.{number_of, Ascend, AreNamed, FunctionsNamed}
+use Rattle.c_model.specs.Formed.{AreAsserts, number_of, Ascend, AreNamed, FunctionsNamed}
 pub use Rattle.c_model.specs.FileItems.{ItemNoted, FileNoted, AreScalar, IsDefined, AreDefined, ItemResolved, FileResolved}
 
 -- ---- forms and sizes
@@ -37,7 +37,7 @@ pub record IsProgram (p : TranslationUnit) : Type 0 where
   pub noted : FileNoted p (sight_with p p.structs) (items_of_file p)
   pub resolved : FileResolved p (sight_with p p.structs) (items_of_file p)
   -- effects stand where the grammar puts them, and expressions and their types are small
-  pub effects : FunctionsRead p.funcs
+  pub effects : FunctionsRead AreAsserts p.funcs
   pub constant : AreConstant p.globals
   pub small : EachExpression IsSmall p
   pub small_types : EachExpression (TypesSmall p.structs) p

@@ -1,8 +1,8 @@
 -- Where effects, calls and declarations stand in a program, without the sizes of its full expressions: FormedTrees asks for both.
 use Rattle.std.specs.Prelude.{◌≡◌, List, [], ◌∷◌}
+use Rattle.c_syntax.specs.Logic.{Annotation}
 use Rattle.c_syntax.specs.Statements.{Declaration, Statement, Empty, Eval, Block, If, While, Do, For, Break, Continue, Return, ElsePart, NoElse, Else}
 use Rattle.c_syntax.specs.Statements.{ForFirst, NoFirst, First, BlockItem, Declare, Run, Asserts, BlockItems, NoItem, Then}
-use Rattle.c_model.specs.Formed.{AreAsserts}
 use Rattle.c_model.specs.Pure.{IsPure, IsPureOrCall, IsEffect, IsEffectOrCall, IsInitialiser}
 use Rattle.c_model.specs.TypedTrees.{WhereAny}
 
@@ -16,29 +16,31 @@ FirstPlaced (First (Run (Eval at e))) = IsEffectOrCall e
 FirstPlaced (First (Declare ds)) = ArePlaced ds
 FirstPlaced _ = ⊥
 
-abbrev mutual
-  pub StatementPlaced : Statement → Type 0
-  StatementPlaced (Empty at) = Unit {0}
-  StatementPlaced (Eval at e) = IsEffectOrCall e
-  StatementPlaced (Block at items) = ItemsPlaced items
-  StatementPlaced (If at e a b) = IsPure e × StatementPlaced a × ElsePlaced b
-  StatementPlaced (While at annots e a) = (annots ≡ []) × IsPure e × StatementPlaced a
-  StatementPlaced (Do at a e) = StatementPlaced a × IsPure e
-  StatementPlaced (For at annots first e step a) =
-      (annots ≡ []) × FirstPlaced first × WhereAny IsPure e × WhereAny IsEffect step × StatementPlaced a
-  StatementPlaced (Break at) = Unit {0}
-  StatementPlaced (Continue at) = Unit {0}
-  StatementPlaced (Return at e) = WhereAny IsPureOrCall e
+-- the annotations of a tree being so, those that are read or those that are typed
+module _ (AreSo : List Annotation → Type 0) where
+  abbrev mutual
+    pub StatementPlaced : Statement → Type 0
+    StatementPlaced (Empty at) = Unit {0}
+    StatementPlaced (Eval at e) = IsEffectOrCall e
+    StatementPlaced (Block at items) = ItemsPlaced items
+    StatementPlaced (If at e a b) = IsPure e × StatementPlaced a × ElsePlaced b
+    StatementPlaced (While at annots e a) = (annots ≡ []) × IsPure e × StatementPlaced a
+    StatementPlaced (Do at a e) = StatementPlaced a × IsPure e
+    StatementPlaced (For at annots first e step a) =
+        (annots ≡ []) × FirstPlaced first × WhereAny IsPure e × WhereAny IsEffect step × StatementPlaced a
+    StatementPlaced (Break at) = Unit {0}
+    StatementPlaced (Continue at) = Unit {0}
+    StatementPlaced (Return at e) = WhereAny IsPureOrCall e
 
-  pub ElsePlaced : ElsePart → Type 0
-  ElsePlaced NoElse = Unit {0}
-  ElsePlaced (Else a) = StatementPlaced a
+    pub ElsePlaced : ElsePart → Type 0
+    ElsePlaced NoElse = Unit {0}
+    ElsePlaced (Else a) = StatementPlaced a
 
-  pub ItemsPlaced : BlockItems → Type 0
-  ItemsPlaced NoItem = Unit {0}
-  ItemsPlaced (Then i rest) = ItemPlaced i × ItemsPlaced rest
+    pub ItemsPlaced : BlockItems → Type 0
+    ItemsPlaced NoItem = Unit {0}
+    ItemsPlaced (Then i rest) = ItemPlaced i × ItemsPlaced rest
 
-  pub ItemPlaced : BlockItem → Type 0
-  ItemPlaced (Declare ds) = ArePlaced ds
-  ItemPlaced (Run a) = StatementPlaced a
-  ItemPlaced (Asserts annots) = AreAsserts annots
+    pub ItemPlaced : BlockItem → Type 0
+    ItemPlaced (Declare ds) = ArePlaced ds
+    ItemPlaced (Run a) = StatementPlaced a
+    ItemPlaced (Asserts annots) = AreSo annots

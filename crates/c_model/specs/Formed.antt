@@ -1,14 +1,14 @@
 -- Parts of programs: names, the depth of statements, how many forms expressions have, the asserts that are built, what a function declares, and
 -- the numbers of declarations.
 use Rattle.std.specs.List.{AllByRecursion}
-use Rattle.std.specs.Prelude.{◌≡◌, true, ℕ, suc, max, ◌<◌, length, ◌+◌, ◌++◌, ◌^◌, ◌-◌, ◌≤◌, ℤ, pos, negsuc, ◌≤ℤ◌, List, [], ◌∷◌, map, Option, Some, None}
-use Rattle.c_syntax.specs.declared.expression.BinOp.{BinOp}
-use Rattle.c_syntax.specs.declared.expression.BinOp.TheVariants.{Add, Sub}
+use Rattle.std.specs.Prelude.{◌≡◌, true, ℕ, suc, max, ◌<◌, length, ◌+◌, ◌++◌, ◌^◌, ◌-◌, ◌≤◌, ℤ, negsuc, ◌≤ℤ◌, List, [], ◌∷◌, map, Option, Some, None}
 use Rattle.c_syntax.specs.declared.annotation.Kind.TheVariants.{Assert}
 use Rattle.c_syntax.specs.Expressions.{Expression, Node, Number, Letter, Variable, Unary, Binary, Both, Either, Choice, Assign, Bump, Call, Cast, SizeOfType}
 use Rattle.c_syntax.specs.Expressions.{SizeOfExpr, Text, Index, Dot, Arrow, Comma, Expressions, NoExpression, Following}
-use Rattle.c_syntax.specs.Annotations as logic
-use Rattle.c_syntax.specs.Annotations.{LogicTerm, Predicate, Chain, Links, NoLink, Linked, ClauseBody, Truth, Annotation}
+use Rattle.c_syntax.specs.Formulas as formula
+use Rattle.c_syntax.specs.Formulas.{Form, FormLinks}
+use Rattle.c_syntax.specs.Logic as logic
+use Rattle.c_syntax.specs.Logic.{LogicTerm, Predicate, Links, NoLink, Linked, ClauseBody, Raw, Holds, Annotation}
 use Rattle.c_syntax.specs.Statements.{Declaration, Statement, Empty, Eval, Block, If, While, Do, For, Break, Continue, Return, ElsePart}
 use Rattle.c_syntax.specs.Statements.{NoElse, Else, ForFirst, NoFirst, First, BlockItem, Declare, Run, Asserts, BlockItems, NoItem, Then}
 use Rattle.c_syntax.specs.Programs.{Function}
@@ -81,46 +81,129 @@ abbrev mutual
 
 -- ---- annotations
 
--- `+` and `-`
-abbrev pub IsSum : BinOp → Type 0
-IsSum Add = Unit {0}
-IsSum Sub = Unit {0}
-IsSum _ = ⊥
+-- how many forms a term or a predicate has, itself included; that a term is a predicate where it isn't 0 is no form of its own
+abbrev mutual
+  pub nodes_of_term : LogicTerm → ℕ
+  nodes_of_term (logic.Number at t r n) = 1
+  nodes_of_term (logic.Letter at t r n) = 1
+  nodes_of_term (logic.Variable at t r x) = 1
+  nodes_of_term (logic.Unary at t r op a) = suc (nodes_of_term a)
+  nodes_of_term (logic.Binary at t r op a b) = suc (nodes_of_term a + nodes_of_term b)
+  nodes_of_term (logic.Cast at t r to a) = suc (nodes_of_term a)
+  nodes_of_term (logic.Choice at t r c a b) = suc (nodes_of_predicate c + nodes_of_term a + nodes_of_term b)
 
--- a literal, or a constant of the library: a value of one of the types of 64 bits
+  pub nodes_of_links : Links → ℕ
+  nodes_of_links NoLink = 0
+  nodes_of_links (Linked at r t rest) = suc (nodes_of_term t + nodes_of_links rest)
+
+  pub nodes_of_predicate : Predicate → ℕ
+  nodes_of_predicate (logic.Truth at b) = 1
+  nodes_of_predicate (logic.NonZero at t) = nodes_of_term t
+  nodes_of_predicate (logic.Chain at t links) = nodes_of_term t + nodes_of_links links
+  nodes_of_predicate (logic.Not at p) = suc (nodes_of_predicate p)
+  nodes_of_predicate (logic.Connected at c p q) = suc (nodes_of_predicate p + nodes_of_predicate q)
+  nodes_of_predicate (logic.Branch at c p q) = suc (nodes_of_predicate c + nodes_of_predicate p + nodes_of_predicate q)
+
+-- a literal, an enumerator or a constant of the library: not below the least value of 64 bits
 pub record IsLogicNumber (z : ℤ) : Type 0 where
   pub low : negsuc (2 ^ 63 - 1) ≤ℤ z
-  pub high : z ≤ℤ pos (2 ^ 64 - 1)
 
-abbrev pub IsSumTerm : LogicTerm → Type 0
-IsSumTerm (logic.Number at t r z) = IsLogicNumber z
-IsSumTerm (logic.Letter at t r z) = Unit {0}
-IsSumTerm (logic.Variable at t r x) = Unit {0}
-IsSumTerm (logic.Binary at t r op a b) = IsSum op × IsSumTerm a × IsSumTerm b
+abbrev mutual
+  pub TermNumbered : LogicTerm → Type 0
+  TermNumbered (logic.Number at t r z) = IsLogicNumber z
+  TermNumbered (logic.Letter at t r z) = IsLogicNumber z
+  TermNumbered (logic.Variable at t r x) = Unit {0}
+  TermNumbered (logic.Unary at t r op a) = TermNumbered a
+  TermNumbered (logic.Binary at t r op a b) = TermNumbered a × TermNumbered b
+  TermNumbered (logic.Cast at t r to a) = TermNumbered a
+  TermNumbered (logic.Choice at t r c a b) = PredicateNumbered c × TermNumbered a × TermNumbered b
 
--- how many literals and names a term has
-abbrev pub leaves_of_term : LogicTerm → ℕ
-leaves_of_term (logic.Number at t r z) = 1
-leaves_of_term (logic.Letter at t r z) = 1
-leaves_of_term (logic.Variable at t r x) = 1
-leaves_of_term (logic.Binary at t r op a b) = leaves_of_term a + leaves_of_term b
+  pub LinksNumbered : Links → Type 0
+  LinksNumbered NoLink = Unit {0}
+  LinksNumbered (Linked at r t rest) = TermNumbered t × LinksNumbered rest
 
-pub record IsShortTerm (t : LogicTerm) : Type 0 where
-  pub is : IsSumTerm t
-  pub short : leaves_of_term t ≤ 400
+  pub PredicateNumbered : Predicate → Type 0
+  PredicateNumbered (logic.Truth at b) = Unit {0}
+  PredicateNumbered (logic.NonZero at t) = TermNumbered t
+  PredicateNumbered (logic.Chain at t links) = TermNumbered t × LinksNumbered links
+  PredicateNumbered (logic.Not at p) = PredicateNumbered p
+  PredicateNumbered (logic.Connected at c p q) = PredicateNumbered p × PredicateNumbered q
+  PredicateNumbered (logic.Branch at c p q) = PredicateNumbered c × PredicateNumbered p × PredicateNumbered q
 
--- one relation between two terms
-abbrev pub IsRelation : ClauseBody → Type 0
-IsRelation (Truth (Chain at t (Linked at2 r u NoLink))) = IsShortTerm t × IsShortTerm u
-IsRelation _ = ⊥
+-- a predicate that a clause of at most 400 tokens says
+pub record IsShortPredicate (p : Predicate) : Type 0 where
+  pub numbered : PredicateNumbered p
+  pub short : nodes_of_predicate p ≤ 400
+
+abbrev pub IsShortClause : ClauseBody → Type 0
+IsShortClause (Raw f) = ⊥
+IsShortClause (Holds p) = IsShortPredicate p
 
 pub record IsAssert (a : Annotation) : Type 0 where
   pub kind : a.kind ≡ Assert
-  pub body : IsRelation a.body
+  pub body : IsShortClause a.body
 
 abbrev pub AreAsserts : List Annotation → Type 0
 AreAsserts [] = Unit {0}
 AreAsserts (a ∷ rest) = IsAssert a × AreAsserts rest
+
+-- ---- annotations as they are read, before they are typed
+
+-- how many forms one has, itself included; typing keeps the number
+abbrev mutual
+  pub nodes_of_form : Form → ℕ
+  nodes_of_form (formula.Number at n) = 1
+  nodes_of_form (formula.Letter at n) = 1
+  nodes_of_form (formula.Truth at b) = 1
+  nodes_of_form (formula.Name at x) = 1
+  nodes_of_form (formula.Unary at op a) = suc (nodes_of_form a)
+  nodes_of_form (formula.Binary at op a b) = suc (nodes_of_form a + nodes_of_form b)
+  nodes_of_form (formula.Cast at to a) = suc (nodes_of_form a)
+  nodes_of_form (formula.SizeOf at t) = 1
+  nodes_of_form (formula.Chain at a links) = nodes_of_form a + nodes_of_form_links links
+  nodes_of_form (formula.Connected at c a b) = suc (nodes_of_form a + nodes_of_form b)
+  nodes_of_form (formula.Choice at c a b) = suc (nodes_of_form c + nodes_of_form a + nodes_of_form b)
+
+  pub nodes_of_form_links : FormLinks → ℕ
+  nodes_of_form_links formula.NoLink = 0
+  nodes_of_form_links (formula.Linked at r a rest) = suc (nodes_of_form a + nodes_of_form_links rest)
+
+abbrev mutual
+  pub FormNumbered : Form → Type 0
+  FormNumbered (formula.Number at z) = IsLogicNumber z
+  FormNumbered (formula.Letter at z) = IsLogicNumber z
+  FormNumbered (formula.Truth at b) = Unit {0}
+  FormNumbered (formula.Name at x) = Unit {0}
+  FormNumbered (formula.Unary at op a) = FormNumbered a
+  FormNumbered (formula.Binary at op a b) = FormNumbered a × FormNumbered b
+  FormNumbered (formula.Cast at to a) = FormNumbered a
+  FormNumbered (formula.SizeOf at t) = Unit {0}
+  FormNumbered (formula.Chain at a links) = FormNumbered a × FormLinksNumbered links
+  FormNumbered (formula.Connected at c a b) = FormNumbered a × FormNumbered b
+  FormNumbered (formula.Choice at c a b) = FormNumbered c × FormNumbered a × FormNumbered b
+
+  pub FormLinksNumbered : FormLinks → Type 0
+  FormLinksNumbered formula.NoLink = Unit {0}
+  FormLinksNumbered (formula.Linked at r a rest) = FormNumbered a × FormLinksNumbered rest
+
+-- what a clause of at most 400 tokens is read as
+pub record IsShortForm (f : Form) : Type 0 where
+  pub numbered : FormNumbered f
+  pub short : nodes_of_form f ≤ 400
+
+abbrev pub IsShortReading : ClauseBody → Type 0
+IsShortReading (Raw f) = IsShortForm f
+IsShortReading (Holds p) = ⊥
+
+pub record IsReadAssert (a : Annotation) : Type 0 where
+  pub kind : a.kind ≡ Assert
+  pub body : IsShortReading a.body
+
+abbrev pub AreReadAsserts : List Annotation → Type 0
+AreReadAsserts [] = Unit {0}
+AreReadAsserts (a ∷ rest) = IsReadAssert a × AreReadAsserts rest
+
+-- ---- sizes and names
 
 -- a form has a token of its own, and an expression 400 of these
 abbrev pub most_read : ℕ

@@ -62,7 +62,9 @@ pub mod TokenWords
 pub mod Phases
 pub mod Ranges
 pub mod TermRanges
+pub mod AnnotationRanges
 pub mod PredicateTyping
 pub mod TypedPredicates
 pub mod Unranged
+pub mod UnrangedPrograms
 pub mod Limits

@@ -30,7 +30,7 @@ use Rattle.c_model.specs.State.{Scope, Input, State, Breaks, Continues, Returns,
 use Rattle.c_model.specs.State.{Stop, Evaluation, ◌>>=◌, ◌>>◌, give, done, stop, defined, step, print, read_byte, computed, as_scalar, find, object, read}
 use Rattle.c_model.specs.State.{read_any, changed, write, write_bytes, copy_object, allocate, tested, write_youngest, birth, births, alone, frame, mark, within}
 use Rattle.c_model.specs.Library.{is_there}
-use Rattle.c_model.specs.Logic.{checks}
+use Rattle.c_model.specs.Predicates.{checks}
 
 -- a declaration of a function with its body (C99 6.9.1)
 abbrev pub is_definition : Function → Bool

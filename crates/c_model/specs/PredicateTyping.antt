@@ -2,7 +2,7 @@
 -- or a predicate. A name denotes an object of an integer type that is in sight where the annotation stands, or an integer that an enumerator
 -- or a constant of the library stands for. In the typed tree each use has its declaration and its type, and each constant is its value.
 -- Faults are of code 5 for a name, of code 6 for a sort or a type, of code 11 for a type that passes a limit.
-use Rattle.std.specs.Prelude.{ℕ, ℤ, pos, List, [], ◌∷◌, Option, Some, None, Bool, true, false, not}
+use Rattle.std.specs.Prelude.{ℕ, ℤ, pos, List, [], ◌∷◌, Some, None, Bool, true, false, not}
 use Rattle.c_syntax.specs.declared.place.Place.{Place}
 use Rattle.c_syntax.specs.declared.annotation.Range.{Range}
 use Rattle.c_syntax.specs.declared.expression.BinOp.{BinOp}
@@ -18,7 +18,7 @@ use Rattle.c_syntax.specs.Layouts.{size_of}
 use Rattle.c_model.specs.Integers.{integer_type}
 use Rattle.c_model.specs.Library.{library_constant, is_there}
 use Rattle.c_model.specs.Ranges.{from_to}
-use Rattle.c_model.specs.Checked.{Checked, Good, Bad, faulty, given, where_so, one_part, both_parts, pair_of}
+use Rattle.c_model.specs.Checked.{Checked, Good, Bad, faulty, given, where_so, one_part, pair_of}
 use Rattle.c_model.specs.ExpressionTyping.{no_name, no_type, Object, AnObject, AnEnumerator, Sight, name_at, entity_named, use_as}
 use Rattle.c_model.specs.ExpressionTyping.{limited, typed_type, where_sized}
 

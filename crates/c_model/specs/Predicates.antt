@@ -1,5 +1,5 @@
 -- What terms and predicates of annotations mean (ACSL 2.2): unbounded integers, three truth values, lazy connectives.
-use Rattle.std.specs.Prelude.{ℕ, ℤ, pos, neg_ℤ, Bool, true, false, Option, Some, None}
+use Rattle.std.specs.Prelude.{ℕ, pos, neg_ℤ, true, false, List, [], ◌∷◌, Option, Some, None}
 use Rattle.c_syntax.specs.declared.expression.UnOp.{UnOp}
 use Rattle.c_syntax.specs.declared.expression.UnOp.TheVariants as unary
 use Rattle.c_syntax.specs.declared.annotation.Relation.TheVariants.{Ne}
@@ -8,12 +8,12 @@ use Rattle.c_syntax.specs.declared.logic.Connective.TheVariants.{And, Xor, Or, I
 use Rattle.c_syntax.specs.Ctypes.{PlainType}
 use Rattle.c_syntax.specs.Formulas.{CastType, Integers, OfC}
 use Rattle.c_syntax.specs.Logic.{LogicTerm, Number, Letter, Variable, Unary, Binary, Cast, Choice, Links, NoLink, Linked}
-use Rattle.c_syntax.specs.Logic.{Predicate, Truth, NonZero, Chain, Not, Connected, Branch}
+use Rattle.c_syntax.specs.Logic.{Predicate, Truth, NonZero, Chain, Not, Connected, Branch, ClauseBody, Raw, Holds, Annotation}
 use Rattle.c_model.specs.Integers.{integer_type}
 use Rattle.c_model.specs.Operators.{complement}
 use Rattle.c_model.specs.Ranges.{wrapped}
-use Rattle.c_model.specs.State.{State, find, start_of}
-use Rattle.c_model.specs.Logic.{TermValue, Mathematical, Answer, Says, SaysNothing, OutOfSteps, lazily, both, compute, read_object, related}
+use Rattle.c_model.specs.State.{State, Evaluation, done, ◌>>◌, find, start_of}
+use Rattle.c_model.specs.Logic.{TermValue, Mathematical, Answer, Says, SaysNothing, OutOfSteps, lazily, both, compute, read_object, related, judged}
 
 -- ---- terms
 
@@ -80,3 +80,18 @@ abbrev mutual
   pred (Not at p) s n = denied (pred p s n)
   pred (Connected at c p q) s n = connected c (pred p s n) (pred q s)
   pred (Branch at c p q) s n = lazily (pred c s n) (pred p s) (pred q s)
+
+-- ---- clauses
+
+-- what isn't typed yet says nothing
+abbrev pub clause : ClauseBody → State → ℕ → Answer
+clause (Raw f) s n = SaysNothing n
+clause (Holds p) s n = pred p s n
+
+abbrev pub check : Annotation → Evaluation (Unit {0})
+check a = λ s. judged a (clause a.body s s.steps) s
+
+-- annotations in their order
+abbrev pub checks : List Annotation → Evaluation (Unit {0})
+checks [] = done
+checks (a ∷ rest) = check a >> checks rest

@@ -1,57 +1,50 @@
 -- The grammar of annotated C, with the trees that are read (C99 6.8, 6.9, ACSL for asserts); declarations stand in DeclarationGrammar, and
 -- expressions in ExpressionGrammar:
 --
---   unit       = { external }
+--   unit       = { annotation | external }
 --   external   = spec [ declared { "," declared } ] ";" | "typedef" spec dtor { "," dtor } ";" | spec { "*" } NAME "(" params ")" ( ";" | body )
 --   body       = "{" { item } "}"
 --   item       = annotation | decl | stmt
 --   stmt       = "{" { item } "}" | ";" | effect ";" | call ";"
---              | "if" "(" expr ")" stmt [ "else" stmt ]
---              | "while" "(" expr ")" stmt | "do" stmt "while" "(" expr ")" ";"
---              | "for" "(" ( decl | [ effect | call ] ";" ) [ expr ] ";" [ effect ] ")" stmt
+--              | "if" "(" expr ")" branch [ "else" branch ]
+--              | "while" "(" expr ")" branch | "do" branch "while" "(" expr ")" ";"
+--              | "for" "(" ( decl | [ effect | call ] ";" ) [ expr ] ";" [ effect ] ")" branch
 --              | "break" ";" | "continue" ";" | "return" [ expr | call ] ";"
---   annotation = ANNOT-OPEN "assert" sum relation sum ";" ANNOT-CLOSE
---   sum        = atom { ( "+" | "-" ) atom }          atom = NAME | NUMBER | CHAR | "(" sum ")"
+--   annotation : see AnnotationGrammar
+--
+-- An annotation that is no item stands where no assert may: it is passed over, and the place of the first of these is kept. A branch with an
+-- annotation is a statement inside which the branch after it stands.
 --
 -- "typedef" stands anywhere among the words of its spec, as "static" does. A name that a typedef declares is the name of a type from the
 -- end of its declarator on. The stars before the name of a function, with the name, have at most 400 tokens. Statements are at most 200
--- deep, a function's body being 1 deep, and a clause has at most 400 tokens. A number of an annotation is at most 2,147,483,647. "else"
--- goes with the nearest "if".
-use Rattle.std.specs.Prelude.{ℕ, zero, suc, ◌+◌, ◌-◌, ℤ, pos, List, [], ◌∷◌, ◌++◌, Option, Some, None, Bool, true, false, cond, int_le, slice_set}
-use Rattle.grammar.specs.Syntax.{Syntax, none, gives, one, ◌then◌, choice, many, knot, deep, at_most}
+-- deep, a function's body being 1 deep. "else" goes with the nearest "if".
+use Rattle.std.specs.Prelude.{ℕ, zero, suc, ◌-◌, List, [], ◌∷◌, ◌++◌, Option, Some, None, Bool, true, false, cond, slice_set}
+use Rattle.grammar.specs.Syntax.{Syntax, none, gives, one, ◌then◌, choice, many, deep}
 use Rattle.c_syntax.specs.declared.place.Place.{Place}
-use Rattle.c_syntax.specs.declared.expression.BinOp.{BinOp}
-use Rattle.c_syntax.specs.declared.expression.BinOp.TheVariants as operator
-use Rattle.c_syntax.specs.declared.annotation.Kind.TheVariants as clause
-use Rattle.c_syntax.specs.declared.annotation.Range.{Range}
-use Rattle.c_syntax.specs.declared.annotation.Relation.{Relation}
-use Rattle.c_syntax.specs.declared.annotation.Relation.TheVariants as relation
 use Rattle.c_syntax.specs.Ctypes.{PlainType}
 use Rattle.c_syntax.specs.Expressions.{Expression}
-use Rattle.c_syntax.specs.Annotations as logic
-use Rattle.c_syntax.specs.Annotations.{LogicTerm, Chain, NoLink, Linked, Truth, Annotation}
 use Rattle.c_syntax.specs.Statements as statement
 use Rattle.c_syntax.specs.Statements.{Declaration, Statement, ElsePart, NoElse, ForFirst, NoFirst, First, BlockItem, BlockItems, NoItem, Then}
+use Rattle.c_syntax.specs.Logic.{Annotation}
 use Rattle.c_syntax.specs.Programs.{Function, StringLiteral, TranslationUnit}
 use Rattle.c_syntax.specs.Tokens as token
-use Rattle.c_syntax.specs.Tokens.{PlainTokenKind, PlainToken}
+use Rattle.c_syntax.specs.Tokens.{PlainToken}
+use Rattle.c_model.specs.declared.declarations.AnnotationState.{AnnotationState}
 use Rattle.c_model.specs.declared.declarations.Storage.{Storage}
 use Rattle.c_model.specs.declared.declarations.Storage.TheVariants as storage
 use Rattle.c_model.specs.declared.declarations.Named.TheVariants as ordinary
 use Rattle.c_model.specs.declared.vocabulary.Keyword.TheVariants as keyword
 use Rattle.c_model.specs.declared.vocabulary.TypeName.TheVariants.{Declared}
-use Rattle.c_model.specs.declared.vocabulary.Word.{Word}
 use Rattle.c_model.specs.declared.vocabulary.Word.TheVariants as word
-use Rattle.c_model.specs.Vocabulary.{Vocabulary, word_at}
-use Rattle.c_model.specs.Punctuators.{less_equal, greater_equal, equal, not_equal, plus, minus, less, greater, semicolon, comma, left_paren}
-use Rattle.c_model.specs.Punctuators.{left_brace, right_brace}
-use Rattle.c_model.specs.Terminals.{placed, mark_entry, expression_limit, nesting_limit}
-use Rattle.c_model.specs.ExpressionGrammar.{name_kind, number_kind, letter_kind, annot_open_kind, annot_close_kind, keyword_kind, mark_kind, kind}
-use Rattle.c_model.specs.ExpressionGrammar.{letter_of, kinds_of, first_type, first_expression, first_effect, use_of, pointers}
-use Rattle.c_model.specs.ExpressionGrammar.{most_in_expression, most_nested, fixed, mark, reserved, closed}
+use Rattle.c_model.specs.Vocabulary.{Vocabulary}
+use Rattle.c_model.specs.Punctuators.{semicolon, comma, left_paren, left_brace, right_brace}
+use Rattle.c_model.specs.Terminals.{nesting_limit}
+use Rattle.c_model.specs.ExpressionGrammar.{annot_open_kind, keyword_kind, mark_kind, kind, first_type, first_expression, first_effect, pointers}
+use Rattle.c_model.specs.ExpressionGrammar.{most_nested, mark, reserved, closed}
 use Rattle.c_model.specs.ExpressionGrammar.{full_expression, full_expression_or_call, full_effect, full_effect_or_call}
 use Rattle.c_model.specs.DeclarationGrammar.{Declarator, Definitions, names_function, declared_by, ended, full_dtor, initialised, more_declared}
 use Rattle.c_model.specs.DeclarationGrammar.{declaration, parameters, file_spec}
+use Rattle.c_model.specs.AnnotationGrammar.{annotations}
 
 -- ---- what begins what
 
@@ -59,6 +52,10 @@ abbrev pub first_statement : List ℕ
 first_statement =
     mark_kind left_brace ∷ mark_kind semicolon ∷ keyword_kind keyword.If ∷ keyword_kind keyword.While ∷ keyword_kind keyword.Do ∷ keyword_kind keyword.For
     ∷ keyword_kind keyword.Break ∷ keyword_kind keyword.Continue ∷ keyword_kind keyword.Return ∷ first_effect
+
+-- what begins a statement inside another
+abbrev pub first_branch : List ℕ
+first_branch = annot_open_kind ∷ first_statement
 
 abbrev pub first_item : List ℕ
 first_item = annot_open_kind ∷ first_type ++ first_statement
@@ -87,26 +84,23 @@ abbrev mutual
   is_open_else NoElse = true
   is_open_else (statement.Else a) = is_open a
 
--- ranges are set by a later phase
-abbrev pub no_range : Range
-no_range = record { lo = pos 0; hi = pos 0 }
-
--- a term as it is read
-abbrev pub term_sum : BinOp × Place → LogicTerm → LogicTerm → LogicTerm
-term_sum op left right = logic.Binary op.1 None no_range op.0 left right
-
--- the assert with the number n, whose relation holds of its terms
-abbrev pub assertion : ℕ → Place → LogicTerm → Relation × Place → LogicTerm → Annotation
-assertion n at left r right = record {
-  number = n;
-  kind = clause.Assert;
-  place = at;
-  body = Truth (Chain r.1 left (Linked r.1 r.0 right NoLink));
-}
-
--- how a statement is read, with the number of the next annotation before it and after it
+-- how a statement is read, with what is read of annotations before it and after it
 abbrev pub Numbered : Type 1
-Numbered = ℕ → Syntax PlainToken (Statement × ℕ)
+Numbered = AnnotationState → Syntax PlainToken (Statement × AnnotationState)
+
+-- the first of the places of misplaced annotations, with that of annotations that follow
+abbrev pub first_misplaced : Option Place → List Annotation → Option Place
+first_misplaced (Some at) clauses = Some at
+first_misplaced None [] = None
+first_misplaced None (a ∷ clauses) = Some a.place
+
+-- after annotations that stand where they may, with the number of the next clause
+abbrev pub after_placed : AnnotationState → ℕ → AnnotationState
+after_placed s n = record { number = n; misplaced = s.misplaced }
+
+-- after annotations that don't
+abbrev pub after_misplaced : AnnotationState → List Annotation × ℕ → AnnotationState
+after_misplaced s x = record { number = x.1; misplaced = first_misplaced s.misplaced x.0 }
 
 abbrev pub function_with : PlainType → ℕ × Place → List Declaration → Option Statement → Place → Function
 function_with t f params body close = record {
@@ -119,14 +113,14 @@ function_with t f params body close = record {
   close = close;
 }
 
--- what is read of a text so far: what its words are by now, what it defines and declares, and the number of the next annotation
+-- what is read of a text so far: what its words are by now, what it defines and declares, and its annotations
 pub record FileParts : Type 0 where
   pub words : Vocabulary
   pub definitions : Definitions
   pub typedefs : List Declaration
   pub globals : List Declaration
   pub functions : List Function
-  pub number : ℕ
+  pub annotations : AnnotationState
 
 abbrev pub no_parts : Vocabulary → FileParts
 no_parts ws = record {
@@ -135,7 +129,7 @@ no_parts ws = record {
   typedefs = [];
   globals = [];
   functions = [];
-  number = 1;
+  annotations = record { number = 1; misplaced = None };
 }
 
 -- a type that a `typedef` declares, and its name, which is that of a type from here on (C99 6.7.7)
@@ -172,81 +166,23 @@ unit_with names texts x = record {
 }
 
 module _ (ws : Vocabulary) where
-  -- ---- annotations; E stands for a sum inside another
+  -- ---- annotations, whose asserts take the next numbers
 
-  abbrev pub is_assert : Word → Bool
-  is_assert word.Assert = true
-  is_assert _ = false
+  -- an annotation where no assert may stand
+  unfoldable pub misplaced : AnnotationState → Syntax PlainToken AnnotationState
+  misplaced s = annotations ws s.number then λ x. gives (after_misplaced s x)
 
-  -- the word `assert`
-  abbrev pub assert_word : PlainTokenKind → Option (Unit {0})
-  assert_word (token.Word n) = cond (is_assert (word_at ws n)) (Some tt) None
-  assert_word _ = None
-
-  abbrev pub is_term_name : Word → Bool
-  is_term_name word.Assert = true
-  is_term_name word.Name = true
-  is_term_name _ = false
-
-  -- NAME, in an annotation
-  abbrev pub term_name : PlainTokenKind → Option ℕ
-  term_name (token.Word n) = cond (is_term_name (word_at ws n)) (Some n) None
-  term_name _ = None
-
-  -- NUMBER, in an annotation
-  abbrev pub term_number : PlainTokenKind → Option ℤ
-  term_number (token.Number z t) = cond (int_le z (pos 2147483647)) (Some z) None
-  term_number _ = None
-
-  -- `+` and `-` (ACSL 2.2.1)
-  abbrev pub sum_operators : List (ℕ × BinOp)
-  sum_operators = (plus, operator.Add) ∷ (minus, operator.Sub) ∷ []
-
-  abbrev pub relations : List (ℕ × Relation)
-  relations =
-      (less, relation.Lt) ∷ (greater, relation.Gt) ∷ (less_equal, relation.Le) ∷ (greater_equal, relation.Ge) ∷ (equal, relation.Eq)
-      ∷ (not_equal, relation.Ne) ∷ []
-
-  -- atom
-  unfoldable pub atom : Syntax PlainToken LogicTerm → Syntax PlainToken LogicTerm
-  atom E =
-      choice (kind ws) (name_kind ∷ []) (one (placed term_name) then λ x. gives (logic.Variable x.1 None no_range (use_of x.0)))
-      (choice (kind ws) (number_kind ∷ []) (one (placed term_number) then λ n. gives (logic.Number n.1 None no_range n.0))
-      (choice (kind ws) (letter_kind ∷ []) (one (placed letter_of) then λ z. gives (logic.Letter z.1 None no_range z.0))
-      (mark ws left_paren then λ _. E then λ t. closed ws t)))
-
-  unfoldable pub sum_once : Syntax PlainToken LogicTerm → LogicTerm → Syntax PlainToken LogicTerm
-  sum_once E left = one (placed (mark_entry sum_operators)) then λ op. atom E then λ right. gives (term_sum op left right)
-
-  unfoldable pub sum_of : Syntax PlainToken LogicTerm → Syntax PlainToken LogicTerm
-  sum_of E = atom E then λ t. many (kind ws) (λ _. kinds_of sum_operators) (sum_once E) t
-
-  unfoldable pub sum : Syntax PlainToken LogicTerm
-  sum = knot {S = Unit {0}} (λ E u. sum_of (E u)) tt
-
-  -- "assert" sum relation sum ";"
-  unfoldable pub assert_clause : ℕ → Syntax PlainToken Annotation
-  assert_clause n =
-      one (placed assert_word) then λ a. sum then λ left. one (placed (mark_entry relations)) then λ r. sum then λ right.
-      mark ws semicolon then λ _. gives (assertion n a.1 left r right)
-
-  -- an annotation, which takes the next number and gives the one after
-  unfoldable pub annotation : ℕ → Syntax PlainToken (BlockItem × ℕ)
-  annotation n =
-      fixed ws annot_open_kind then λ _. at_most expression_limit most_in_expression (assert_clause n) then λ a.
-      fixed ws annot_close_kind then λ _. gives (statement.Asserts (a ∷ []), n + 1)
-
-  -- ---- statements; S stands for a statement inside another
+  -- ---- statements; T stands for a statement in a block, and S for one inside another
 
   -- "(" expr ")"
   unfoldable pub condition : Syntax PlainToken Expression
   condition = mark ws left_paren then λ _. full_expression ws then λ e. closed ws e
 
-  unfoldable pub else_branch : Numbered → Place → Expression → Statement × ℕ → Syntax PlainToken (Statement × ℕ)
+  unfoldable pub else_branch : Numbered → Place → Expression → Statement × AnnotationState → Syntax PlainToken (Statement × AnnotationState)
   else_branch S at e x = reserved ws keyword.Else then λ _. S x.1 then λ y. gives (statement.If at e x.0 (statement.Else y.0), y.1)
 
   -- [ "else" stmt ], which goes with the nearest `if`
-  unfoldable pub else_part : Numbered → Place → Expression → Statement × ℕ → Syntax PlainToken (Statement × ℕ)
+  unfoldable pub else_part : Numbered → Place → Expression → Statement × AnnotationState → Syntax PlainToken (Statement × AnnotationState)
   else_part S at e x =
       cond (is_open x.0) (gives (statement.If at e x.0 NoElse, x.1))
       (choice (kind ws) (keyword_kind keyword.Else ∷ []) (else_branch S at e x) (gives (statement.If at e x.0 NoElse, x.1)))
@@ -263,7 +199,7 @@ module _ (ws : Vocabulary) where
       ended ws (statement.Do at x.0 e, x.1)
 
   -- decl | [ effect | call ] ";"
-  unfoldable pub for_first : ℕ → Syntax PlainToken (ForFirst × ℕ)
+  unfoldable pub for_first : AnnotationState → Syntax PlainToken (ForFirst × AnnotationState)
   for_first n =
       choice (kind ws) first_type (declaration ws then λ i. gives (First i, n))
       (choice (kind ws) first_effect (full_effect_or_call ws then λ e. ended ws (First (statement.Run (statement.Eval e.1 e.0)), n))
@@ -294,20 +230,24 @@ module _ (ws : Vocabulary) where
   unfoldable pub return_statement : Numbered
   return_statement n = reserved ws keyword.Return then λ at. returned then λ e. gives (statement.Return at e, n)
 
-  unfoldable pub item : Numbered → ℕ → Syntax PlainToken (BlockItem × ℕ)
-  item S n =
-      choice (kind ws) (annot_open_kind ∷ []) (annotation n)
-      (choice (kind ws) first_type (declaration ws then λ i. gives (i, n)) (S n then λ x. gives (statement.Run x.0, x.1)))
+  -- an annotation as an item
+  unfoldable pub placed_annotation : AnnotationState → Syntax PlainToken (BlockItem × AnnotationState)
+  placed_annotation n = annotations ws n.number then λ x. gives (statement.Asserts x.0, after_placed n x.1)
 
-  unfoldable pub items_once : Numbered → List BlockItem × ℕ → Syntax PlainToken (List BlockItem × ℕ)
-  items_once S x = item S x.1 then λ i. gives (x.0 ++ i.0 ∷ [], i.1)
+  unfoldable pub item : Numbered → AnnotationState → Syntax PlainToken (BlockItem × AnnotationState)
+  item T n =
+      choice (kind ws) (annot_open_kind ∷ []) (placed_annotation n)
+      (choice (kind ws) first_type (declaration ws then λ i. gives (i, n)) (T n then λ x. gives (statement.Run x.0, x.1)))
+
+  unfoldable pub items_once : Numbered → List BlockItem × AnnotationState → Syntax PlainToken (List BlockItem × AnnotationState)
+  items_once T x = item T x.1 then λ i. gives (x.0 ++ i.0 ∷ [], i.1)
 
   -- { item }, after the items x
-  unfoldable pub items : Numbered → List BlockItem × ℕ → Syntax PlainToken (List BlockItem × ℕ)
-  items S x = many (kind ws) (λ _. first_item) (items_once S) x
+  unfoldable pub items : Numbered → List BlockItem × AnnotationState → Syntax PlainToken (List BlockItem × AnnotationState)
+  items T x = many (kind ws) (λ _. first_item) (items_once T) x
 
   unfoldable pub block : Numbered → Numbered
-  block S n = mark ws left_brace then λ at. items S ([], n) then λ x. mark ws right_brace then λ _. gives (statement.Block at (block_items x.0), x.1)
+  block T n = mark ws left_brace then λ at. items T ([], n) then λ x. mark ws right_brace then λ _. gives (statement.Block at (block_items x.0), x.1)
 
   unfoldable pub empty_statement : Numbered
   empty_statement n = mark ws semicolon then λ at. gives (statement.Empty at, n)
@@ -316,9 +256,9 @@ module _ (ws : Vocabulary) where
   unfoldable pub effect_statement : Numbered
   effect_statement n = full_effect_or_call ws then λ e. ended ws (statement.Eval e.1 e.0, n)
 
-  unfoldable pub statement_of : Numbered → Numbered
-  statement_of S n =
-      choice (kind ws) (mark_kind left_brace ∷ []) (block S n)
+  unfoldable pub statement_of : Numbered → Numbered → Numbered
+  statement_of T S n =
+      choice (kind ws) (mark_kind left_brace ∷ []) (block T n)
       (choice (kind ws) (mark_kind semicolon ∷ []) (empty_statement n)
       (choice (kind ws) (keyword_kind keyword.If ∷ []) (selection S n)
       (choice (kind ws) (keyword_kind keyword.While ∷ []) (while_loop S n)
@@ -327,15 +267,25 @@ module _ (ws : Vocabulary) where
       (choice (kind ws) (keyword_kind keyword.Return ∷ []) (return_statement n)
       (choice (kind ws) (keyword_kind keyword.Break ∷ keyword_kind keyword.Continue ∷ []) (jump n) (effect_statement n))))))))
 
-  -- a statement in which statements stand at most d deep, itself included; one deeper passes the limit
-  unfoldable pub statement_in : ℕ → Numbered
-  statement_in zero n = deep nesting_limit (kind ws) first_statement (statement_of (λ m. none) n)
-  statement_in (suc d) n = statement_of (statement_in d) n
+  -- a statement inside another, with or without annotations before it
+  unfoldable pub branch_of : Numbered → Numbered → Numbered
+  branch_of T S n = choice (kind ws) (annot_open_kind ∷ []) (misplaced n then S) (T n)
+
+  unfoldable mutual
+    -- a statement in which statements stand at most d deep, itself included; one deeper passes the limit
+    pub statement_in : ℕ → Numbered
+    statement_in zero n = deep nesting_limit (kind ws) first_statement (statement_of (λ m. none) (λ m. none) n)
+    statement_in (suc d) n = statement_of (statement_in d) (branch_in d) n
+
+    -- the same inside another
+    pub branch_in : ℕ → Numbered
+    branch_in zero n = deep nesting_limit (kind ws) first_branch (branch_of (statement_of (λ m. none) (λ m. none)) (λ m. none) n)
+    branch_in (suc d) n = branch_of (statement_of (statement_in d) (branch_in d)) (branch_in d) n
 
   -- ---- functions (C99 6.9.1)
 
-  -- ";", or a body; the number of the next annotation goes on from here
-  unfoldable pub function_rest : PlainType → ℕ × Place → List Declaration → ℕ → Syntax PlainToken (Function × ℕ)
+  -- ";", or a body
+  unfoldable pub function_rest : PlainType → ℕ × Place → List Declaration → AnnotationState → Syntax PlainToken (Function × AnnotationState)
   function_rest t f params n =
       choice (kind ws) (mark_kind semicolon ∷ []) (mark ws semicolon then λ at. gives (function_with t f params None at, n))
       (mark ws left_brace then λ start. items (statement_in (most_nested - 1)) ([], n) then λ x.
@@ -344,8 +294,8 @@ module _ (ws : Vocabulary) where
   -- a function or a prototype, after its name
   unfoldable pub function : PlainType → FileParts → Declarator → Syntax PlainToken FileParts
   function t x d =
-      mark ws left_paren then λ _. parameters ws then λ params. function_rest (pointers d.stars.count t) (d.name, d.place) params x.number then λ f.
-      gives (record x { functions = x.functions ++ f.0 ∷ []; number = f.1 })
+      mark ws left_paren then λ _. parameters ws then λ params. function_rest (pointers d.stars.count t) (d.name, d.place) params x.annotations then λ f.
+      gives (record x { functions = x.functions ++ f.0 ∷ []; annotations = f.1 })
 
   -- ---- declarations at file scope (C99 6.9.2)
 
@@ -384,8 +334,16 @@ behind_spec storage.Typedef t x = typedefs t x
 behind_spec storage.Static t x = declared_at_file x.words t x
 behind_spec storage.Nothing t x = declared_at_file x.words t x
 
+-- an annotation at file scope
+unfoldable pub stray : FileParts → Syntax PlainToken FileParts
+stray x = misplaced x.words x.annotations then λ s. gives (record x { annotations = s })
+
+unfoldable pub declared_external : FileParts → Syntax PlainToken FileParts
+declared_external x = file_spec x.words x.definitions then λ s. behind_spec s.storage s.ctype (record x { definitions = s.definitions })
+
+-- annotation | external
 unfoldable pub external : FileParts → Syntax PlainToken FileParts
-external x = file_spec x.words x.definitions then λ s. behind_spec s.storage s.ctype (record x { definitions = s.definitions })
+external x = choice (kind x.words) (annot_open_kind ∷ []) (stray x) (declared_external x)
 
 -- a kind that all tokens have
 abbrev pub any_kind : PlainToken → ℕ
@@ -395,6 +353,6 @@ any_kind t = 0
 unfoldable pub more_external : FileParts → Syntax PlainToken FileParts
 more_external x = many any_kind (λ _. 0 ∷ []) external x
 
--- a text, given what its words are, its names and its string literals
-unfoldable pub unit : Vocabulary → List (List ℕ) → List StringLiteral → Syntax PlainToken TranslationUnit
-unit ws names texts = more_external (no_parts ws) then λ x. gives (unit_with names texts x)
+-- a text, given what its words are, its names and its string literals; with the place of the first misplaced annotation
+unfoldable pub unit : Vocabulary → List (List ℕ) → List StringLiteral → Syntax PlainToken (TranslationUnit × Option Place)
+unit ws names texts = more_external (no_parts ws) then λ x. gives (unit_with names texts x, x.annotations.misplaced)

@@ -3,10 +3,11 @@
 use Rattle.std.specs.Prelude.{◌≡◌, ℕ, suc, ◌<◌, ◌≤◌, ◌^◌, List, [], length, Option, Some, None}
 use Rattle.std.specs.List.{AllByRecursion}
 use Rattle.c_syntax.specs.Expressions.{Expression}
+use Rattle.c_syntax.specs.Logic.{Annotation}
 use Rattle.c_syntax.specs.Statements.{Declaration, Statement, Block}
 use Rattle.c_syntax.specs.Programs.{StringLiteral, Function, TranslationUnit}
 use Rattle.c_model.specs.ExpressionGrammar.{most_nested}
-use Rattle.c_model.specs.Formed.{nodes_of, most_read, depth, AreNamed, FunctionsNamed}
+use Rattle.c_model.specs.Formed.{nodes_of, most_read, depth, AreReadAsserts, AreNamed, FunctionsNamed}
 use Rattle.c_model.specs.Pure.{IsInitialiser, HasBareCall}
 use Rattle.c_model.specs.FullExpressions.{EachDeclared, EachInFunctions}
 use Rattle.c_model.specs.EffectPlaces.{ItemsPlaced}
@@ -19,18 +20,20 @@ pub use Rattle.c_model.specs.TextOrder.{enums_among, typedefs_among, globals_amo
 abbrev pub IsShort : Expression → Type 0
 IsShort e = nodes_of e ≤ most_read
 
--- a body is a block, which is 1 deep; the limit is that of the grammar, and one more that this bound allows does no harm
-abbrev pub BodyRead : Option Statement → Type 0
-BodyRead None = Unit {0}
-BodyRead (Some (Block at items)) = ItemsPlaced items × (depth (Block at items) ≤ suc most_nested)
-BodyRead (Some _) = ⊥
+-- in functions whose annotations are so
+module _ (AreSo : List Annotation → Type 0) where
+  -- a body is a block, which is 1 deep; the limit is that of the grammar, and one more that this bound allows does no harm
+  abbrev pub BodyRead : Option Statement → Type 0
+  BodyRead None = Unit {0}
+  BodyRead (Some (Block at items)) = ItemsPlaced AreSo items × (depth (Block at items) ≤ suc most_nested)
+  BodyRead (Some _) = ⊥
 
-pub record FunctionRead (f : Function) : Type 0 where
-  pub no_contract : f.contract ≡ None
-  pub body : BodyRead f.body
+  pub record FunctionRead (f : Function) : Type 0 where
+    pub no_contract : f.contract ≡ None
+    pub body : BodyRead f.body
 
-abbrev pub FunctionsRead : List Function → Type 0
-FunctionsRead fs = AllByRecursion FunctionRead fs
+  abbrev pub FunctionsRead : List Function → Type 0
+  FunctionsRead fs = AllByRecursion FunctionRead fs
 
 abbrev pub AreInitialisers : List Declaration → Type 0
 AreInitialisers ds = AllByRecursion (λ (d : Declaration). IsInitialiser d.init) ds
@@ -48,7 +51,7 @@ TextsAreBytes ts = AllByRecursion (λ (t : StringLiteral). AreBytes t.bytes) ts
 -- the tree of a text of bytes, which are fewer than 4294967295
 pub record ReadTree (p : TranslationUnit) : Type 0 where
   pub order : InTextOrder p
-  pub functions : FunctionsRead p.funcs
+  pub functions : FunctionsRead AreReadAsserts p.funcs
   pub functions_short : EachInFunctions IsShort p.funcs
   pub functions_bare : EachInFunctions HasBareCall p.funcs
   pub globals : AreInitialisers p.globals

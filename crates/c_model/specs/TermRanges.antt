@@ -1,6 +1,6 @@
 -- Ours: the inference of ranges, after typing. No standard bounds the integers of annotations.
 -- The range of each term of a predicate (its operators are those of ACSL 2.2), or the faults of the smallest terms that have none, with code 10.
-use Rattle.std.specs.Prelude.{◌≡◌, ℕ, ◌-◌, ◌^◌, ℤ, pos, neg_ℤ, Bool, ◌&&◌, if◌then◌else◌, int_le, List, [], ◌∷◌, Option, Some, None}
+use Rattle.std.specs.Prelude.{◌≡◌, ◌-◌, ◌^◌, pos, neg_ℤ, Bool, ◌&&◌, if◌then◌else◌, int_le, List, [], ◌∷◌, Option, Some, None}
 use Rattle.std.specs.Int.{int_min, int_max}
 use Rattle.c_syntax.specs.RefusalCodes.{range_code}
 use Rattle.c_syntax.specs.declared.place.Place.{Place}

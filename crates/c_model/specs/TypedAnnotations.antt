@@ -1,41 +1,12 @@
--- What is known of typed asserts (ACSL 2.2): a variable is the value of an object of an integer type that is in sight where the assert stands.
+-- What is known of the annotations of a typed file (ACSL 2.4.1): each is typed with what is in sight where it stands.
 use Rattle.std.specs.Prelude.{◌≡◌, List, [], ◌∷◌, Option, Some}
-use Rattle.c_syntax.specs.declared.expression.Use.{Use}
-use Rattle.c_syntax.specs.Ctypes.{PlainType}
-use Rattle.c_syntax.specs.Annotations.{LogicTerm, Number, Letter, Variable, Binary, Predicate, Chain, Links, NoLink, Linked, ClauseBody, Truth, Annotation}
 use Rattle.c_syntax.specs.Statements.{Statement, Empty, Eval, Block, If, While, Do, For, Break, Continue, Return, ElsePart, NoElse, Else}
 use Rattle.c_syntax.specs.Statements.{BlockItem, Declare, Run, Asserts, BlockItems, NoItem, Then}
 use Rattle.c_syntax.specs.Programs.{Function, TranslationUnit}
 use Rattle.c_model.specs.ExpressionTyping.{Sight, inner}
 use Rattle.c_model.specs.StatementTyping.{behind, behind_first}
 use Rattle.c_model.specs.UnitTyping.{FileItem, AFunction, with_function, with_parameters, behind_item}
-use Rattle.c_model.specs.TypedTrees.{IsInteger, Denotes}
-
-pub record TermDenotes (s : Sight) (t : Option PlainType) (x : Use) : Type 0 where
-  pub ctype : PlainType
-  pub is : t ≡ Some ctype
-  pub int : IsInteger ctype
-  pub denotes : Denotes s x ctype
-
-abbrev pub TermTyped : Sight → LogicTerm → Type 0
-TermTyped s (Number at t r n) = Unit {0}
-TermTyped s (Letter at t r n) = Unit {0}
-TermTyped s (Variable at t r x) = TermDenotes s t x
-TermTyped s (Binary at t r op a b) = TermTyped s a × TermTyped s b
-
-abbrev pub LinksTyped : Sight → Links → Type 0
-LinksTyped s NoLink = Unit {0}
-LinksTyped s (Linked at r t rest) = TermTyped s t × LinksTyped s rest
-
-abbrev pub PredicateTyped : Sight → Predicate → Type 0
-PredicateTyped s (Chain at t links) = TermTyped s t × LinksTyped s links
-
-abbrev pub ClauseTyped : Sight → ClauseBody → Type 0
-ClauseTyped s (Truth p) = PredicateTyped s p
-
-abbrev pub AnnotationsTyped : Sight → List Annotation → Type 0
-AnnotationsTyped s [] = Unit {0}
-AnnotationsTyped s (a ∷ rest) = ClauseTyped s a.body × AnnotationsTyped s rest
+use Rattle.c_model.specs.TypedPredicates.{AnnotationsTyped}
 
 -- ---- statements whose asserts are typed
 

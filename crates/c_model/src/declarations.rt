@@ -1,4 +1,6 @@
-//! What is read of a declaration's words (C99 6.7).
+//! What is read of a declaration's words (C99 6.7), and of annotations.
+
+use c_syntax::Place;
 
 /// The word before a type at file scope, besides `const` (C99 6.7.1).
 #[derive(Clone, Copy, PartialEq, Eq, Debug)]
@@ -22,4 +24,13 @@ pub enum Named {
     Ordinary,
     /// A member, by any name (C99 6.2.3).
     Member,
+}
+
+/// What is read of the annotations of a text so far (ACSL 2.3, 2.4).
+#[derive(Clone, Copy, PartialEq, Eq, Debug)]
+pub struct AnnotationState {
+    /// The number of the next clause.
+    pub number: u32,
+    /// The place of the first word of the first annotation that stands where none of its kind may.
+    pub misplaced: Option<Place>,
 }

@@ -1,6 +1,7 @@
 //! The laws that the definitions meet, one function for each subject. None of them has anything to do.
 
 ghost use Rattle.c_model.specs.Unranged.{RangingKeepsAnnotations, RangingKeepsPredicates, RangingKeepsTerms, RangesKeepAnswers, RangesKeepValues};
+ghost use Rattle.c_model.specs.UnrangedPrograms.{RangedProgramsArePrograms, RangesKeepRuns, RangingKeepsUnits};
 ghost use Rattle.c_model.specs.Laws.{BitsHoldValues, FittingResultsStand, SignedResultsFit, UnsignedResultsWrap, ResultsFit};
 ghost use Rattle.c_model.specs.Laws.{ConversionsFit, ConversionsKeepValues, OperatorsFit, OperatorsOfOneFit};
 ghost use Rattle.c_model.specs.Laws.{SavedPointersLoad, SavedValuesLoad, SavesKeepBlocks, SavesKeepBytes, SavesKeepWhole, StatementsKeepWhole};
@@ -96,4 +97,11 @@ pub fn ranging()
     ensures annotations { RangingKeepsAnnotations }
     ensures values { RangesKeepValues }
     ensures answers { RangesKeepAnswers }
+{}
+
+/// Ranges over a program: each annotation in a body keeps its ranges, and nothing else changes.
+pub fn ranging_of_programs()
+    ensures units { RangingKeepsUnits }
+    ensures programs { RangedProgramsArePrograms }
+    ensures runs { RangesKeepRuns }
 {}

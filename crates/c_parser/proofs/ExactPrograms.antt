@@ -12,33 +12,50 @@ use Rattle.c_syntax.specs.Statements.{Declaration}
 use Rattle.c_syntax.specs.Programs.{StringLiteral}
 use Rattle.c_syntax.specs.Tokens as tokens
 use Rattle.c_syntax.specs.Tokens.{PlainTokenKind, PlainToken}
+use Rattle.c_model.specs.declared.declarations.AnnotationState.{AnnotationState}
 use Rattle.c_model.specs.declared.declarations.Storage.{Storage}
 use Rattle.c_model.specs.declared.declarations.Storage.TheVariants as storage
 use Rattle.c_model.specs.declared.declarations.Named.TheVariants as named
 use Rattle.c_model.specs.Vocabulary.{Vocabulary, word_at}
 use Rattle.c_model.specs.Punctuators.{assign, semicolon, comma, left_paren, left_brace, right_brace, left_bracket}
-use Rattle.c_model.specs.ExpressionGrammar.{mark_kind, token_kind, kind, most_nested}
+use Rattle.c_model.specs.ExpressionGrammar.{annot_open_kind, mark_kind, token_kind, kind, most_nested}
 use Rattle.c_model.specs.Terminals.{nesting_limit}
 use Rattle.c_model.specs.DeclarationGrammar.{first_spec, Declarator, names_function, ended}
-use Rattle.c_model.specs.ProgramGrammar.{first_statement, statement_in, FileParts, with_typedef, no_parts, function_rest, function, globals, behind_declarator, declared_at_file, next_typedef, more_typedefs}
-use Rattle.c_model.specs.ProgramGrammar.{typedefs, behind_spec, external, any_kind, more_external, unit}
+use Rattle.c_model.specs.ProgramGrammar.{first_statement, first_branch, statement_in, branch_in, FileParts, with_typedef, no_parts, function_rest, function, globals, behind_declarator, declared_at_file, next_typedef, more_typedefs}
+use Rattle.c_model.specs.ProgramGrammar.{typedefs, behind_spec, stray, declared_external, external, any_kind, more_external, unit}
 use Rattle.c_expr_parser.proofs.ExactTokens.{IsRead, fixed_good}
-use Rattle.c_parser.proofs.Openings.{word_small, opens}
+use Rattle.c_parser.proofs.Openings.{word_small, opens, branch_opens}
 use Rattle.c_parser.proofs.ExactDeclarations.{first_dtor, more_dtor, ended_good, full_dtor_good, initialised_good, more_declared_good, parameters_good, file_spec_good}
-use Rattle.c_parser.proofs.ExactStatements.{ReadsStatements, more_statement, statement_of_good, items_good}
+use Rattle.c_parser.proofs.ExactStatements.{ReadsStatements, ReadsBranches, more_statement, misplaced_good, statement_of_good, branch_of_good, items_good}
 
 module _ (ws : Vocabulary) where
   none_reads : ReadsStatements ws (λ m. none)
   none_reads k = same (widen (kind ws) none false [] (λ _. []) false first_statement more_statement (none_exact (kind ws)) (λ h. h) refl (λ x. refl))
 
-  pub statement_good : (d : ℕ) → ReadsStatements ws (statement_in ws d)
+  no_branch : ReadsBranches ws (λ m. none)
+  no_branch k = same (widen (kind ws) none false [] (λ _. []) false first_branch more_statement (none_exact (kind ws)) (λ h. h) refl (λ x. refl))
+
+  record AreGood (d : ℕ) : Type 0 where
+    statement : ReadsStatements ws (statement_in ws d)
+    branch : ReadsBranches ws (branch_in ws d)
+
+  at_depth : (d : ℕ) → AreGood d
   unfolding statement_in
-  statement_good zero k = too_deep nesting_limit first_statement (statement_of_good ws none_reads k).here (opens ws (λ m. none) k)
-  statement_good (suc d) k = statement_of_good ws (statement_good d) k
+  at_depth zero = record {
+    statement = λ k. too_deep nesting_limit first_statement (statement_of_good ws none_reads no_branch k).here (opens ws (λ m. none) (λ m. none) k);
+    branch = λ k. too_deep nesting_limit first_branch (branch_of_good ws (statement_of_good ws none_reads no_branch) no_branch k).here (branch_opens ws (λ m. none) (λ m. none) k);
+  }
+  at_depth (suc d) =
+      let h = at_depth d in
+      let each = statement_of_good ws h.statement h.branch in
+      record { statement = each; branch = branch_of_good ws each h.branch }
+
+  pub statement_good : (d : ℕ) → ReadsStatements ws (statement_in ws d)
+  statement_good d = (at_depth d).statement
 
   -- ---- functions and objects
 
-  function_rest_good : (t : PlainType) (f : ℕ × Place) (params : List Declaration) (n : ℕ) → IsRead ws (function_rest ws t f params n) false (mark_kind semicolon ∷ mark_kind left_brace ∷ []) []
+  function_rest_good : (t : PlainType) (f : ℕ × Place) (params : List Declaration) (n : AnnotationState) → IsRead ws (function_rest ws t f params n) false (mark_kind semicolon ∷ mark_kind left_brace ∷ []) []
   unfolding function_rest
   function_rest_good t f params n =
       declared (either (mark_kind semicolon ∷ []) (seq (fixed_good ws (mark_kind semicolon)) (λ at. given _) refl)
@@ -48,7 +65,7 @@ module _ (ws : Vocabulary) where
   function_good : (t : PlainType) (x : FileParts) (d : Declarator) → IsRead ws (function ws t x d) false (mark_kind left_paren ∷ []) []
   unfolding function
   function_good t x d =
-      declared (seq (fixed_good ws (mark_kind left_paren)) (λ _. seq (parameters_good ws) (λ params. seq (function_rest_good _ _ params x.number) (λ f. given _) refl) refl) refl) refl
+      declared (seq (fixed_good ws (mark_kind left_paren)) (λ _. seq (parameters_good ws) (λ params. seq (function_rest_good _ _ params x.annotations) (λ f. given _) refl) refl) refl) refl
 
   -- what stands after the first declarator of objects
   abbrev first_globals : List ℕ
@@ -140,9 +157,17 @@ behind_spec_good storage.Typedef t x = declared (typedefs_good t x) refl
 behind_spec_good storage.Static t x = declared_at_file_good x.words t x
 behind_spec_good storage.Nothing t x = declared_at_file_good x.words t x
 
-external_read : (x : FileParts) → IsRead x.words (external x) false first_spec []
+stray_good : (x : FileParts) → IsRead x.words (stray x) false (annot_open_kind ∷ []) []
+unfolding stray
+stray_good x = declared (seq (misplaced_good x.words x.annotations) (λ s. given _) refl) refl
+
+declared_read : (x : FileParts) → IsRead x.words (declared_external x) false first_spec []
+unfolding declared_external
+declared_read x = declared (seq (file_spec_good x.words x.definitions) (λ s. behind_spec_good s.storage s.ctype _) refl) refl
+
+external_read : (x : FileParts) → IsRead x.words (external x) false (annot_open_kind ∷ first_spec) []
 unfolding external
-external_read x = declared (seq (file_spec_good x.words x.definitions) (λ s. behind_spec_good s.storage s.ctype _) refl) refl
+external_read x = declared (either (annot_open_kind ∷ []) (stray_good x) (declared_read x) refl) refl
 
 -- what each token is among
 abbrev pub any : List ℕ

@@ -1,136 +1,38 @@
 -- Annotations and statements are read exactly.
-use Rattle.std.proofs.Common.{◌≡◌, ℕ, suc, Bool, true, false, cond, List, [], ◌∷◌, ◌++◌, Some, None, refl, inl, inr}
-use Rattle.std.specs.Prelude.{ℤ}
-use Rattle.grammar.specs.Syntax.{Syntax, among, gives, one, ◌then◌, choice}
-use Rattle.grammar.specs.Exact.{IsExact, IsGood}
+use Rattle.std.proofs.Common.{◌≡◌, ℕ, Bool, true, false, cond, List, [], ◌∷◌, ◌++◌, refl, inl, inr}
+use Rattle.grammar.specs.Syntax.{gives, ◌then◌, choice}
+use Rattle.grammar.specs.Exact.{IsGood}
 use Rattle.grammar.proofs.Sets.{within, apart}
 use Rattle.grammar.proofs.Parts.{widen, gives_exact}
 use Rattle.grammar.proofs.Bounds.{then_good, same_good}
-use Rattle.grammar.proofs.Labels.{Unlimited, late_gives, late_one, late_then, late_choice, late_many, late_knot}
-use Rattle.grammar.proofs.Productions.{seq, after, either, again_and_again, declared, given, same, counted, knot_exact, knot_is, seq_to, made, either_to, maybe_to}
+use Rattle.grammar.proofs.Productions.{seq, either, again_and_again, declared, given, seq_to, made, either_to, maybe_to}
 use Rattle.c_syntax.specs.declared.place.Place.{Place}
 use Rattle.c_syntax.specs.Expressions.{Expression}
-use Rattle.c_syntax.specs.Annotations.{LogicTerm}
 use Rattle.c_syntax.specs.Statements.{Statement, BlockItem, If, NoElse, Else, While, For, Run}
-use Rattle.c_syntax.specs.Tokens as tokens
-use Rattle.c_syntax.specs.Tokens.{PlainTokenKind, PlainToken}
+use Rattle.c_model.specs.declared.declarations.AnnotationState.{AnnotationState}
 use Rattle.c_model.specs.declared.vocabulary.Keyword.TheVariants as keyword
-use Rattle.c_model.specs.declared.vocabulary.Word.{Word}
-use Rattle.c_model.specs.declared.vocabulary.Word.TheVariants as word
-use Rattle.c_model.specs.Vocabulary.{Vocabulary, word_at}
+use Rattle.c_model.specs.Vocabulary.{Vocabulary}
 use Rattle.c_model.specs.Punctuators.{semicolon, left_paren, right_paren, left_brace, right_brace}
-use Rattle.c_model.specs.ExpressionGrammar.{name_kind, number_kind, letter_kind, annot_open_kind, annot_close_kind, keyword_kind, mark_kind, word_kind, token_kind, kind, kinds_of, first_type, first_expression, first_effect}
-use Rattle.c_model.specs.Terminals.{placed, expression_limit}
-use Rattle.c_model.specs.ExpressionGrammar.{most_in_expression}
-use Rattle.c_model.specs.ProgramGrammar.{first_statement, first_item, is_open, Numbered, is_assert, assert_word, is_term_name, term_name, term_number, sum_operators}
-use Rattle.c_model.specs.ProgramGrammar.{relations, atom, sum_once, sum_of, sum, assert_clause, annotation, condition, else_branch, else_part, selection, while_loop, do_loop, for_first, maybe_ended, returned, for_behind, for_loop, jump}
-use Rattle.c_model.specs.ProgramGrammar.{return_statement, item, items_once, items, block, empty_statement, effect_statement, statement_of}
-use Rattle.c_expr_parser.proofs.ExactTokens.{IsRead, AreRead, fixed_good, letter_good, marks_good, placed_good}
-use Rattle.c_expr_parser.proofs.Unlimited.{closed_free}
+use Rattle.c_model.specs.ExpressionGrammar.{annot_open_kind, keyword_kind, mark_kind, kind, first_type, first_expression, first_effect}
+use Rattle.c_model.specs.ProgramGrammar.{first_statement, first_branch, first_item, is_open, Numbered}
+use Rattle.c_model.specs.ProgramGrammar.{misplaced, placed_annotation, condition, else_branch, else_part, selection, while_loop, do_loop, for_first, maybe_ended, returned, for_behind, for_loop, jump}
+use Rattle.c_model.specs.ProgramGrammar.{return_statement, item, items_once, items, block, empty_statement, effect_statement, statement_of, branch_of}
+use Rattle.c_expr_parser.proofs.ExactTokens.{IsRead, fixed_good}
 use Rattle.c_expr_parser.proofs.ExactTypes.{enlarged}
+use Rattle.acsl_parser.proofs.ExactAnnotations.{annotations_good}
 use Rattle.c_parser.proofs.ExactDeclarations.{ended_good, declaration_good}
 use Rattle.c_expr_parser.proofs.ExactExpressions.{closed_good, full_expression_good, full_expression_or_call_good, full_effect_good, full_effect_or_call_good}
-
--- what a sum begins with
-abbrev pub first_sum : List ℕ
-first_sum = name_kind ∷ number_kind ∷ letter_kind ∷ mark_kind left_paren ∷ []
 
 module _ (ws : Vocabulary) where
   -- ---- annotations
 
-  assert_among : (t : PlainTokenKind) (x : Unit {0}) → assert_word ws t ≡ Some x → among (token_kind ws t) (name_kind ∷ []) ≡ true
-  assert_among (tokens.Word n) x e = by (word_at ws n) e
-    where
-      by : (w : Word) → cond (is_assert ws w) (Some tt) None ≡ Some x → among (word_kind w) (name_kind ∷ []) ≡ true
-      by word.Assert e = refl
-      by _ e = absurd cc
-  assert_among _ x e = absurd cc
+  placed_good : (n : AnnotationState) → IsRead ws (placed_annotation ws n) false (annot_open_kind ∷ []) []
+  unfolding placed_annotation
+  placed_good n = declared (seq (annotations_good ws n.number) (λ x. given _) refl) refl
 
-  term_name_among : (t : PlainTokenKind) (m : ℕ) → term_name ws t ≡ Some m → among (token_kind ws t) (name_kind ∷ []) ≡ true
-  term_name_among (tokens.Word n) m e = by (word_at ws n) e
-    where
-      by : (w : Word) → cond (is_term_name ws w) (Some n) None ≡ Some m → among (word_kind w) (name_kind ∷ []) ≡ true
-      by word.Assert e = refl
-      by word.Name e = refl
-      by _ e = absurd cc
-  term_name_among _ m e = absurd cc
-
-  term_number_among : (t : PlainTokenKind) (z : ℤ) → term_number ws t ≡ Some z → among (token_kind ws t) (number_kind ∷ []) ≡ true
-  term_number_among (tokens.Number v c) z e = refl
-  term_number_among _ z e = absurd cc
-
-  assert_good : {n : ℕ} → AreRead ws n (one (placed (assert_word ws))) (one (placed (assert_word ws))) false (name_kind ∷ []) []
-  assert_good = placed_good ws (assert_word ws) (name_kind ∷ []) assert_among
-
-  module _ {n : ℕ} {E E' : Syntax PlainToken LogicTerm} (e : AreRead ws n E E' false first_sum (kinds_of (sum_operators ws))) where
-    atom_good : AreRead ws (suc n) (atom ws E) (atom ws E') false first_sum []
-    unfolding atom
-    atom_good =
-        declared (either (name_kind ∷ []) (seq (placed_good ws (term_name ws) (name_kind ∷ []) term_name_among) (λ x. given _) refl)
-        (either (number_kind ∷ []) (seq (placed_good ws (term_number ws) (number_kind ∷ []) term_number_among) (λ x. given _) refl)
-        (either (letter_kind ∷ []) (seq (letter_good ws) (λ x. given _) refl)
-        (after (fixed_good ws (mark_kind left_paren)) (λ _. seq e (λ t. closed_good ws t) refl) refl) refl) refl) refl) refl
-
-    pub sum_once_good : (x : LogicTerm) → AreRead ws (suc n) (sum_once ws E x) (sum_once ws E' x) false (kinds_of (sum_operators ws)) []
-    unfolding sum_once
-    sum_once_good x = declared (seq (marks_good ws (sum_operators ws)) (λ op. seq atom_good (λ t. given _) refl) refl) refl
-
-    sum_of_good : AreRead ws (suc n) (sum_of ws E) (sum_of ws E') false first_sum (kinds_of (sum_operators ws))
-    unfolding sum_of
-    sum_of_good = declared (seq atom_good (λ t. again_and_again (kinds_of (sum_operators ws)) sum_once_good refl t) refl) refl
-
-  sum_step : (k : ℕ) (U U' : Unit {0} → Syntax PlainToken LogicTerm) → ((s : Unit {0}) → AreRead ws k (U s) (U' s) false first_sum (kinds_of (sum_operators ws))) → (s : Unit {0})
-      → AreRead ws (suc k) (sum_of ws (U s)) (sum_of ws (U' s)) false first_sum (kinds_of (sum_operators ws))
-  sum_step k U U' e s = sum_of_good (e s)
-
-  pub sum_exact : IsExact (kind ws) (sum ws) false first_sum (λ _. kinds_of (sum_operators ws))
-  unfolding sum
-  sum_exact = knot_exact false first_sum (λ _. kinds_of (sum_operators ws)) (λ E u. sum_of ws (E u)) sum_step tt
-
-  pub sum_is : (ts : List PlainToken) → (sum ws).parse ts ≡ (sum_of ws (sum ws)).parse ts
-  unfolding sum
-  sum_is ts = knot_is false first_sum (λ _. kinds_of (sum_operators ws)) (λ E u. sum_of ws (E u)) sum_step tt ts
-
-  pub sum_good : {n : ℕ} → AreRead ws n (sum ws) (sum ws) false first_sum (kinds_of (sum_operators ws))
-  sum_good = same sum_exact
-
-  pub clause_good : (n : ℕ) → IsRead ws (assert_clause ws n) false (name_kind ∷ []) []
-  unfolding assert_clause
-  clause_good n =
-      declared (seq assert_good (λ a. seq sum_good (λ x. seq (marks_good ws (relations ws)) (λ r. seq sum_good (λ y. seq (fixed_good ws (mark_kind semicolon)) (λ _. given _) refl) refl) refl) refl) refl) refl
-
-  -- no token of a clause passes a limit
-
-  atom_free : {E : Syntax PlainToken LogicTerm} → Unlimited E → Unlimited (atom ws E)
-  unfolding atom
-  atom_free e =
-      late_choice (kind ws) (name_kind ∷ []) (late_then (late_one _) (λ x. late_gives _))
-      (late_choice (kind ws) (number_kind ∷ []) (late_then (late_one _) (λ x. late_gives _))
-      (late_choice (kind ws) (letter_kind ∷ []) (late_then (late_one _) (λ x. late_gives _))
-      (late_then (late_one _) (λ _. late_then e (λ t. closed_free ws t)))))
-
-  sum_once_free : {E : Syntax PlainToken LogicTerm} → Unlimited E → (x : LogicTerm) → Unlimited (sum_once ws E x)
-  unfolding sum_once
-  sum_once_free e x = late_then (late_one _) (λ op. late_then (atom_free e) (λ t. late_gives _))
-
-  sum_of_free : {E : Syntax PlainToken LogicTerm} → Unlimited E → Unlimited (sum_of ws E)
-  unfolding sum_of
-  sum_of_free e = late_then (atom_free e) (λ t. late_many (kind ws) (λ _. kinds_of (sum_operators ws)) (sum_once_free e) t)
-
-  sum_free : Unlimited (sum ws)
-  unfolding sum
-  sum_free = late_knot {S = Unit {0}} (λ E e u. sum_of_free (e u)) tt
-
-  clause_free : (n : ℕ) → Unlimited (assert_clause ws n)
-  unfolding assert_clause
-  clause_free n =
-      late_then (late_one _) (λ a. late_then sum_free (λ left. late_then (late_one _) (λ r. late_then sum_free (λ right. late_then (late_one _) (λ _. late_gives _)))))
-
-  annotation_good : (n : ℕ) → IsRead ws (annotation ws n) false (annot_open_kind ∷ []) []
-  unfolding annotation
-  annotation_good n =
-      declared (seq (fixed_good ws annot_open_kind) (λ _. seq (counted expression_limit most_in_expression (clause_free n) (clause_free n) (clause_good n))
-      (λ a. seq (fixed_good ws annot_close_kind) (λ _. given _) refl) refl) refl) refl
+  pub misplaced_good : (n : AnnotationState) → IsRead ws (misplaced ws n) false (annot_open_kind ∷ []) []
+  unfolding misplaced
+  misplaced_good n = declared (seq (annotations_good ws n.number) (λ x. given _) refl) refl
 
   -- ---- parts of statements
 
@@ -138,7 +40,7 @@ module _ (ws : Vocabulary) where
   unfolding condition
   condition_good = declared (seq (fixed_good ws (mark_kind left_paren)) (λ _. seq (full_expression_good ws) (λ e. closed_good ws e) refl) refl) refl
 
-  for_first_good : (n : ℕ) → IsRead ws (for_first ws n) false (mark_kind semicolon ∷ first_type ++ first_effect) []
+  for_first_good : (n : AnnotationState) → IsRead ws (for_first ws n) false (mark_kind semicolon ∷ first_type ++ first_effect) []
   unfolding for_first
   for_first_good n =
       declared (either first_type (seq (declaration_good ws) (λ x. given _) refl)
@@ -156,21 +58,21 @@ module _ (ws : Vocabulary) where
   unfolding for_behind
   for_behind_good = declared (either first_effect (seq (full_effect_good ws) (λ e. closed_good ws _) refl) (closed_good ws _) refl) refl
 
-  jump_good : (n : ℕ) → IsRead ws (jump ws n) false (keyword_kind keyword.Break ∷ keyword_kind keyword.Continue ∷ []) []
+  jump_good : (n : AnnotationState) → IsRead ws (jump ws n) false (keyword_kind keyword.Break ∷ keyword_kind keyword.Continue ∷ []) []
   unfolding jump
   jump_good n =
       declared (either (keyword_kind keyword.Break ∷ []) (seq (fixed_good ws (keyword_kind keyword.Break)) (λ at. ended_good ws _) refl)
       (seq (fixed_good ws (keyword_kind keyword.Continue)) (λ at. ended_good ws _) refl) refl) refl
 
-  return_good : (n : ℕ) → IsRead ws (return_statement ws n) false (keyword_kind keyword.Return ∷ []) []
+  return_good : (n : AnnotationState) → IsRead ws (return_statement ws n) false (keyword_kind keyword.Return ∷ []) []
   unfolding return_statement
   return_good n = declared (seq (fixed_good ws (keyword_kind keyword.Return)) (λ at. seq returned_good (λ e. given _) refl) refl) refl
 
-  empty_good : (n : ℕ) → IsRead ws (empty_statement ws n) false (mark_kind semicolon ∷ []) []
+  empty_good : (n : AnnotationState) → IsRead ws (empty_statement ws n) false (mark_kind semicolon ∷ []) []
   unfolding empty_statement
   empty_good n = declared (seq (fixed_good ws (mark_kind semicolon)) (λ at. given _) refl) refl
 
-  effect_good : (n : ℕ) → IsRead ws (effect_statement ws n) false first_effect []
+  effect_good : (n : AnnotationState) → IsRead ws (effect_statement ws n) false first_effect []
   unfolding effect_statement
   effect_good n = declared (seq (full_effect_or_call_good ws) (λ e. ended_good ws _) refl) refl
 
@@ -182,7 +84,7 @@ an_else = keyword_kind keyword.Else ∷ []
 abbrev more_if : Bool → List ℕ
 more_if b = cond b an_else []
 
-abbrev pub more_statement : Statement × ℕ → List ℕ
+abbrev pub more_statement : Statement × AnnotationState → List ℕ
 more_statement x = more_if (is_open x.0)
 
 abbrev first_else : Bool → List ℕ
@@ -200,54 +102,59 @@ clash_else : (b : Bool) → apart (first_else b) (more_if b) ≡ true
 clash_else true = refl
 clash_else false = refl
 
-abbrev if_alone : Place → Expression → Statement × ℕ → Statement × ℕ
+abbrev if_alone : Place → Expression → Statement × AnnotationState → Statement × AnnotationState
 if_alone at e x = (If at e x.0 NoElse, x.1)
 
--- a statement inside another is read exactly
+-- a statement in a block is read exactly
 abbrev pub ReadsStatements : Vocabulary → Numbered → Type 0
-ReadsStatements ws S = (k : ℕ) → IsGood (kind ws) 0 (S k) (S k) false first_statement more_statement
+ReadsStatements ws T = (k : AnnotationState) → IsGood (kind ws) 0 (T k) (T k) false first_statement more_statement
 
-module _ (ws : Vocabulary) {S : Numbered} (s : ReadsStatements ws S) where
-  item_good : (k : ℕ) → IsRead ws (item ws S k) false first_item an_else
+-- a statement inside another is read exactly
+abbrev pub ReadsBranches : Vocabulary → Numbered → Type 0
+ReadsBranches ws S = (k : AnnotationState) → IsGood (kind ws) 0 (S k) (S k) false first_branch more_statement
+
+module _ (ws : Vocabulary) {T : Numbered} (t : ReadsStatements ws T) where
+  item_good : (k : AnnotationState) → IsRead ws (item ws T k) false first_item an_else
   unfolding item
   item_good k =
-      declared (either (annot_open_kind ∷ []) (annotation_good ws k)
-      (either first_type (seq (declaration_good ws) (λ i. given _) refl) (made {more = λ _. an_else} (λ x. (Run x.0, x.1)) (s k) (λ x. within_else (is_open x.0))) refl) refl) refl
+      declared (either (annot_open_kind ∷ []) (placed_good ws k)
+      (either first_type (seq (declaration_good ws) (λ i. given _) refl) (made {more = λ _. an_else} (λ x. (Run x.0, x.1)) (t k) (λ x. within_else (is_open x.0))) refl) refl) refl
 
-  pub items_once_good : (x : List BlockItem × ℕ) → IsRead ws (items_once ws S x) false first_item an_else
+  pub items_once_good : (x : List BlockItem × AnnotationState) → IsRead ws (items_once ws T x) false first_item an_else
   unfolding items_once
   items_once_good x = declared (seq (item_good x.1) (λ i. given _) refl) refl
 
-  pub items_good : (x : List BlockItem × ℕ) → IsRead ws (items ws S x) true first_item (keyword_kind keyword.Else ∷ first_item)
+  pub items_good : (x : List BlockItem × AnnotationState) → IsRead ws (items ws T x) true first_item (keyword_kind keyword.Else ∷ first_item)
   unfolding items
   items_good x = declared (again_and_again first_item items_once_good refl x) refl
 
-  block_good : (k : ℕ) → IsRead ws (block ws S k) false (mark_kind left_brace ∷ []) []
+  block_good : (k : AnnotationState) → IsRead ws (block ws T k) false (mark_kind left_brace ∷ []) []
   unfolding block
   block_good k = declared (seq (fixed_good ws (mark_kind left_brace)) (λ at. seq (items_good ([], k)) (λ x. seq (fixed_good ws (mark_kind right_brace)) (λ _. given _) refl) refl) refl) refl
 
-  else_branch_good : (at : Place) (e : Expression) (x : Statement × ℕ) → IsGood (kind ws) 0 (else_branch ws S at e x) (else_branch ws S at e x) false an_else more_statement
+module _ (ws : Vocabulary) {S : Numbered} (s : ReadsBranches ws S) where
+  else_branch_good : (at : Place) (e : Expression) (x : Statement × AnnotationState) → IsGood (kind ws) 0 (else_branch ws S at e x) (else_branch ws S at e x) false an_else more_statement
   unfolding else_branch
   else_branch_good at e x = seq_to (fixed_good ws (keyword_kind keyword.Else)) (λ _. made (λ y. (If at e x.0 (Else y.0), y.1)) (s x.1) (λ y. within_same (is_open y.0))) refl
 
-  else_part_good : (at : Place) (e : Expression) (x : Statement × ℕ) (b : Bool) → is_open x.0 ≡ b → IsGood (kind ws) 0 (else_part ws S at e x) (else_part ws S at e x) true (first_else b) more_statement
+  else_part_good : (at : Place) (e : Expression) (x : Statement × AnnotationState) (b : Bool) → is_open x.0 ≡ b → IsGood (kind ws) 0 (else_part ws S at e x) (else_part ws S at e x) true (first_else b) more_statement
   unfolding else_part
   else_part_good at e x true is = rw is (same_good (kind ws) 0 (gives (if_alone at e x)) true [] more_statement (widen (kind ws) (gives (if_alone at e x)) true [] (λ _. []) true [] more_statement (gives_exact (kind ws) (if_alone at e x))
       (λ h. h) refl (λ y. refl)))
   else_part_good at e x false is = rw is (maybe_to an_else (if_alone at e x) (else_branch_good at e x) refl (λ y. within_same (is_open y.0)) refl)
 
-  no_else : (at : Place) (e : Expression) (x y : Statement × ℕ) (b : Bool) → (cond b (gives (if_alone at e x)) (choice (kind ws) an_else (else_branch ws S at e x) (gives (if_alone at e x)))).reads [] y → if_alone at e x ≡ y
+  no_else : (at : Place) (e : Expression) (x y : Statement × AnnotationState) (b : Bool) → (cond b (gives (if_alone at e x)) (choice (kind ws) an_else (else_branch ws S at e x) (gives (if_alone at e x)))).reads [] y → if_alone at e x ≡ y
   no_else at e x y true r = r.1
   no_else at e x y false (inl r) = absurd (let f = (else_branch_good at e x).here.filled y r in cc)
   no_else at e x y false (inr r) = r.1
 
-  no_part : (at : Place) (e : Expression) (x y : Statement × ℕ) → (else_part ws S at e x).reads [] y → if_alone at e x ≡ y
+  no_part : (at : Place) (e : Expression) (x y : Statement × AnnotationState) → (else_part ws S at e x).reads [] y → if_alone at e x ≡ y
   unfolding else_part
   no_part at e x y r = no_else at e x y (is_open x.0) r
 
-  branches_good : (at : Place) (e : Expression) (k : ℕ) → IsGood (kind ws) 0 (S k then λ x. else_part ws S at e x) (S k then λ x. else_part ws S at e x) false first_statement more_statement
+  branches_good : (at : Place) (e : Expression) (k : AnnotationState) → IsGood (kind ws) 0 (S k then λ x. else_part ws S at e x) (S k then λ x. else_part ws S at e x) false first_branch more_statement
   branches_good at e k =
-      then_good (kind ws) 0 (S k) (S k) (λ x. else_part ws S at e x) (λ x. else_part ws S at e x) false first_statement more_statement true (λ x. first_else (is_open x.0)) (λ x y. more_statement y) false first_statement more_statement
+      then_good (kind ws) 0 (S k) (S k) (λ x. else_part ws S at e x) (λ x. else_part ws S at e x) false first_branch more_statement true (λ x. first_else (is_open x.0)) (λ x y. more_statement y) false first_branch more_statement
       (λ x y. if_alone at e x ≡ y) (no_part at e) (no_part at e) (record {
         clash = λ x. clash_else (is_open x.0);
         late = λ x y. within_same (is_open y.0);
@@ -257,39 +164,40 @@ module _ (ws : Vocabulary) {S : Numbered} (s : ReadsStatements ws S) where
         empty = λ h k. absurd cc;
       }) (s k) (λ x. else_part_good at e x (is_open x.0) refl)
 
-  selection_good : (k : ℕ) → IsGood (kind ws) 0 (selection ws S k) (selection ws S k) false (keyword_kind keyword.If ∷ []) more_statement
+  selection_good : (k : AnnotationState) → IsGood (kind ws) 0 (selection ws S k) (selection ws S k) false (keyword_kind keyword.If ∷ []) more_statement
   unfolding selection
   selection_good k = seq_to (fixed_good ws (keyword_kind keyword.If)) (λ at. seq_to (condition_good ws) (λ e. branches_good at e k) refl) refl
 
-  while_good : (k : ℕ) → IsGood (kind ws) 0 (while_loop ws S k) (while_loop ws S k) false (keyword_kind keyword.While ∷ []) more_statement
+  while_good : (k : AnnotationState) → IsGood (kind ws) 0 (while_loop ws S k) (while_loop ws S k) false (keyword_kind keyword.While ∷ []) more_statement
   unfolding while_loop
   while_good k = seq_to (fixed_good ws (keyword_kind keyword.While)) (λ at. seq_to (condition_good ws) (λ e. made (λ x. (While at [] e x.0, x.1)) (s k) (λ x. within_same (is_open x.0))) refl) refl
 
-  do_good : (k : ℕ) → IsRead ws (do_loop ws S k) false (keyword_kind keyword.Do ∷ []) []
+  do_good : (k : AnnotationState) → IsRead ws (do_loop ws S k) false (keyword_kind keyword.Do ∷ []) []
   unfolding do_loop
   do_good k =
-      declared (seq (fixed_good ws (keyword_kind keyword.Do)) (λ at. seq (enlarged ws first_statement an_else (s k) refl (λ x. within_else (is_open x.0))) (λ x.
+      declared (seq (fixed_good ws (keyword_kind keyword.Do)) (λ at. seq (enlarged ws first_branch an_else (s k) refl (λ x. within_else (is_open x.0))) (λ x.
       seq (fixed_good ws (keyword_kind keyword.While)) (λ _. seq (condition_good ws) (λ e. ended_good ws _) refl) refl) refl) refl) refl
 
-  for_good : (k : ℕ) → IsGood (kind ws) 0 (for_loop ws S k) (for_loop ws S k) false (keyword_kind keyword.For ∷ []) more_statement
+  for_good : (k : AnnotationState) → IsGood (kind ws) 0 (for_loop ws S k) (for_loop ws S k) false (keyword_kind keyword.For ∷ []) more_statement
   unfolding for_loop
   for_good k =
       seq_to (fixed_good ws (keyword_kind keyword.For)) (λ at. seq_to (fixed_good ws (mark_kind left_paren)) (λ _. seq_to (for_first_good ws k) (λ first.
       seq_to (maybe_ended_good ws) (λ e. seq_to (for_behind_good ws) (λ behind. made (λ x. (For at [] first.0 e behind x.0, x.1)) (s first.1) (λ x. within_same (is_open x.0))) refl) refl) refl) refl) refl
 
-  abbrev jumps : List ℕ
-  jumps = keyword_kind keyword.Break ∷ keyword_kind keyword.Continue ∷ []
+abbrev jumps : List ℕ
+jumps = keyword_kind keyword.Break ∷ keyword_kind keyword.Continue ∷ []
 
-  pub statement_of_good : (k : ℕ) → IsGood (kind ws) 0 (statement_of ws S k) (statement_of ws S k) false first_statement more_statement
+module _ (ws : Vocabulary) {T S : Numbered} (t : ReadsStatements ws T) (s : ReadsBranches ws S) where
+  pub statement_of_good : (k : AnnotationState) → IsGood (kind ws) 0 (statement_of ws T S k) (statement_of ws T S k) false first_statement more_statement
   unfolding statement_of
   statement_of_good k =
-      either_to (mark_kind left_brace ∷ []) (block_good k)
+      either_to (mark_kind left_brace ∷ []) (block_good ws t k)
       (either_to (mark_kind semicolon ∷ []) {first = mark_kind semicolon ∷ keyword_kind keyword.If ∷ keyword_kind keyword.While ∷ keyword_kind keyword.Do ∷ keyword_kind keyword.For ∷ keyword_kind keyword.Return ∷ jumps ++ first_effect}
       (empty_good ws k)
-      (either_to (keyword_kind keyword.If ∷ []) {first = keyword_kind keyword.If ∷ keyword_kind keyword.While ∷ keyword_kind keyword.Do ∷ keyword_kind keyword.For ∷ keyword_kind keyword.Return ∷ jumps ++ first_effect} (selection_good k)
-      (either_to (keyword_kind keyword.While ∷ []) {first = keyword_kind keyword.While ∷ keyword_kind keyword.Do ∷ keyword_kind keyword.For ∷ keyword_kind keyword.Return ∷ jumps ++ first_effect} (while_good k)
-      (either_to (keyword_kind keyword.Do ∷ []) {first = keyword_kind keyword.Do ∷ keyword_kind keyword.For ∷ keyword_kind keyword.Return ∷ jumps ++ first_effect} (do_good k)
-      (either_to (keyword_kind keyword.For ∷ []) {first = keyword_kind keyword.For ∷ keyword_kind keyword.Return ∷ jumps ++ first_effect} (for_good k)
+      (either_to (keyword_kind keyword.If ∷ []) {first = keyword_kind keyword.If ∷ keyword_kind keyword.While ∷ keyword_kind keyword.Do ∷ keyword_kind keyword.For ∷ keyword_kind keyword.Return ∷ jumps ++ first_effect} (selection_good ws s k)
+      (either_to (keyword_kind keyword.While ∷ []) {first = keyword_kind keyword.While ∷ keyword_kind keyword.Do ∷ keyword_kind keyword.For ∷ keyword_kind keyword.Return ∷ jumps ++ first_effect} (while_good ws s k)
+      (either_to (keyword_kind keyword.Do ∷ []) {first = keyword_kind keyword.Do ∷ keyword_kind keyword.For ∷ keyword_kind keyword.Return ∷ jumps ++ first_effect} (do_good ws s k)
+      (either_to (keyword_kind keyword.For ∷ []) {first = keyword_kind keyword.For ∷ keyword_kind keyword.Return ∷ jumps ++ first_effect} (for_good ws s k)
       (either_to (keyword_kind keyword.Return ∷ []) {first = keyword_kind keyword.Return ∷ jumps ++ first_effect} (return_good ws k)
       (either_to jumps {first = jumps ++ first_effect} {more = more_statement} (jump_good ws k) (effect_good ws k) refl (λ x. refl) (λ x. refl))
       refl (λ x. refl) (λ x. within_same (is_open x.0)))
@@ -299,3 +207,8 @@ module _ (ws : Vocabulary) {S : Numbered} (s : ReadsStatements ws S) where
       refl (λ x. within_same (is_open x.0)) (λ x. within_same (is_open x.0)))
       refl (λ x. refl) (λ x. within_same (is_open x.0)))
       refl (λ x. refl) (λ x. within_same (is_open x.0))
+
+  pub branch_of_good : (k : AnnotationState) → IsGood (kind ws) 0 (branch_of ws T S k) (branch_of ws T S k) false first_branch more_statement
+  unfolding branch_of
+  branch_of_good k =
+      either_to (annot_open_kind ∷ []) (seq_to (misplaced_good ws k) s refl) (t k) refl (λ x. within_same (is_open x.0)) (λ x. within_same (is_open x.0))

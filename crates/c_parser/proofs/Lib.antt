@@ -11,6 +11,5 @@ pub mod DeclarationSteps
 pub mod Steps
 pub mod FileSteps
 pub mod DeclaratorWindows
-pub mod Clauses
 -- from what is given to what an answer means
 pub mod Answers

@@ -6,6 +6,7 @@ use Rattle.grammar.proofs.Sets.{cond_or, among_either}
 use Rattle.c_syntax.specs.declared.place.Place.{Place}
 use Rattle.c_syntax.specs.Tokens as tokens
 use Rattle.c_syntax.specs.Tokens.{PlainTokenKind, PlainToken}
+use Rattle.c_model.specs.declared.declarations.AnnotationState.{AnnotationState}
 use Rattle.c_model.specs.declared.vocabulary.Keyword.{Keyword}
 use Rattle.c_model.specs.declared.vocabulary.Keyword.TheVariants as keyword
 use Rattle.c_model.specs.declared.vocabulary.Word.{Word}
@@ -13,10 +14,11 @@ use Rattle.c_model.specs.declared.vocabulary.Word.TheVariants as word
 use Rattle.c_model.specs.declared.operands.TypeUse.TheVariants.{Casts}
 use Rattle.c_model.specs.Vocabulary.{Vocabulary, word_at}
 use Rattle.c_model.specs.Punctuators.{semicolon, left_paren, left_brace}
-use Rattle.c_model.specs.ExpressionGrammar.{name_kind, number_kind, letter_kind, text_kind, keyword_kind, mark_kind, word_kind, token_kind, kind, number_of, letter_of, kinds_of, unary_operators, prefix_bumps, first_expression}
+use Rattle.c_model.specs.ExpressionGrammar.{annot_open_kind, name_kind, number_kind, letter_kind, text_kind, keyword_kind, mark_kind, word_kind, token_kind, kind, number_of, letter_of, kinds_of, unary_operators, prefix_bumps, first_expression}
 use Rattle.c_model.specs.Terminals.{placed, entry, mark_entry}
 use Rattle.c_model.specs.ExpressionGrammar.{first_effect, fixed, name, literal, literal_first, operand, expression, prefixed, sized, operand_but_name, bump_first, effect_but_name, effect_or_call, full_effect_or_call}
-use Rattle.c_model.specs.ProgramGrammar.{first_statement, Numbered, block, empty_statement, selection, while_loop, do_loop, for_loop, return_statement, jump, effect_statement, statement_of}
+use Rattle.c_model.specs.AnnotationGrammar.{annotations}
+use Rattle.c_model.specs.ProgramGrammar.{first_statement, first_branch, Numbered, misplaced, block, empty_statement, selection, while_loop, do_loop, for_loop, return_statement, jump, effect_statement, statement_of, branch_of}
 
 -- the kind of a word is below those of the punctuators
 keyword_small : (k : Keyword) → keyword_kind k ≤ 31
@@ -197,9 +199,9 @@ module _ (ws : Vocabulary) where
   unfolding full_effect_or_call
   full_begins t h = effect_begins t h
 
-  pub opens : (S : Numbered) (n : ℕ) (t : PlainToken) → among (kind ws t) first_statement ≡ true → (statement_of ws S n).begun (t ∷ [])
+  pub opens : (T S : Numbered) (n : AnnotationState) (t : PlainToken) → among (kind ws t) first_statement ≡ true → (statement_of ws T S n).begun (t ∷ [])
   unfolding statement_of block empty_statement selection while_loop do_loop for_loop return_statement jump effect_statement
-  opens S n t =
+  opens T S n t =
       first_or _ (kind ws t) (mark_kind left_brace) _ (λ h. inl (inl (fixed_begins (mark_kind left_brace) t h)))
       (first_or _ (kind ws t) (mark_kind semicolon) _ (λ h. inr (inl (inl (fixed_begins (mark_kind semicolon) t h))))
       (first_or _ (kind ws t) (keyword_kind keyword.If) _ (λ h. inr (inr (inl (inl (fixed_begins (keyword_kind keyword.If) t h)))))
@@ -210,3 +212,7 @@ module _ (ws : Vocabulary) where
       (first_or _ (kind ws t) (keyword_kind keyword.Continue) _ (λ h. inr (inr (inr (inr (inr (inr (inr (inl (inr (inl (fixed_begins (keyword_kind keyword.Continue) t h)))))))))))
       (first_or _ (kind ws t) (keyword_kind keyword.Return) _ (λ h. inr (inr (inr (inr (inr (inr (inl (inl (fixed_begins (keyword_kind keyword.Return) t h)))))))))
       (λ h. inr (inr (inr (inr (inr (inr (inr (inr (inl (full_begins t h))))))))))))))))))
+
+  pub branch_opens : (T S : Numbered) (n : AnnotationState) (t : PlainToken) → among (kind ws t) first_branch ≡ true → (branch_of ws (statement_of ws T S) S n).begun (t ∷ [])
+  unfolding branch_of misplaced annotations
+  branch_opens T S n t = first_or _ (kind ws t) annot_open_kind _ (λ h. inl (inl (inl (inl (fixed_begins annot_open_kind t h))))) (λ h. inr (opens T S n t h))

@@ -1,13 +1,15 @@
 -- Ours, in words of the grammar of C99 6.7 to 6.9 that stands in c_model/specs/ProgramGrammar.
 -- What the answers on the tokens of a text mean.
-use Rattle.std.specs.Prelude.{◌≡◌, []}
+use Rattle.std.specs.Prelude.{◌≡◌, [], ◌⊎◌}
 use Rattle.grammar.specs.Syntax.{Fault}
 use Rattle.c_syntax.specs.Tokens.{PlainTokens}
-use Rattle.c_syntax.specs.Programs.{PlainRefusal, plain_refusal}
+use Rattle.c_syntax.specs.RefusalCodes.{misplaced_code}
+use Rattle.c_syntax.specs.declared.place.Place.{Place}
+use Rattle.c_syntax.specs.Programs.{TranslationUnit, PlainRefusal, plain_refusal}
 use Rattle.c_syntax.specs.declared.refusal.FrontFault.{FrontFault}
 use Rattle.c_syntax.specs.declared.refusal.FrontFault.TheVariants as front
-use Rattle.c_model.specs.Phases.{IsSyntaxFault}
-use Rattle.c_model.specs.TokenWords.{syntax_refusal}
+use Rattle.c_model.specs.Phases.{IsSyntaxFault, IsMisplaced}
+use Rattle.c_model.specs.TokenWords.{syntax_refusal, refused_at_place}
 
 -- The tokens are refused by the grammar: they are no program, and the refusal names the first token that can't follow
 -- those before it (E4) or that passes a limit (E11).
@@ -16,10 +18,17 @@ pub record IsGrammarRefusal (ts : PlainTokens) (r : PlainRefusal) : Type 0 where
   pub found : IsSyntaxFault ts fault
   pub is : r ≡ syntax_refusal ts fault
 
+-- The tokens are a program, in which an annotation stands where none of its kind may; the refusal names the first word of the first (E7).
+pub record IsPlaceRefusal (ts : PlainTokens) (r : PlainRefusal) : Type 0 where
+  pub tree : TranslationUnit
+  pub place : Place
+  pub found : IsMisplaced ts tree place
+  pub is : r ≡ refused_at_place ts misplaced_code place
+
 -- nothing is said when memory ran out
 abbrev pub Refuses : FrontFault → PlainTokens → Type 0
 Refuses front.Memory ts = Unit {0}
-Refuses (front.Refused r) ts = IsGrammarRefusal ts (plain_refusal r)
+Refuses (front.Refused r) ts = IsGrammarRefusal ts (plain_refusal r) ⊎ IsPlaceRefusal ts (plain_refusal r)
 
 -- the tokens without their names, which a program took
 abbrev pub without_names : PlainTokens → PlainTokens

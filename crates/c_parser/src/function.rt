@@ -16,6 +16,7 @@ use c_expr_parser::declarator::declared_type;
 use c_expr_parser::kinds::{LEFT_BRACE, LEFT_PAREN, RIGHT_BRACE, SEMICOLON};
 use c_expr_parser::terminals::{next_is, skip};
 use c_expr_parser::types::BaseType;
+use c_model::declarations::AnnotationState;
 use c_model::operands::Stars;
 use c_model::vocabulary::Word;
 use c_syntax::fault::ReadFault;
@@ -57,44 +58,44 @@ fn make_function(heading: Heading, body: Option<Stmt>, close: Place) -> Func
     }
 }
 
-/// A body, after which the number of the next annotation goes on from this one.
+/// A body.
 #[tactic(auto, unfolding(crate::specs::Reading::function_body))]
 fn function_body<'a>(
     alloc: Global,
     words: &[Word],
-    number: u32,
+    state: AnnotationState,
     tokens: &'a [Token],
-) -> Result<(Body, u32, &'a [Token]), ReadFault>
-    ensures { Gives (λ x. ((plain_body x.0, x.1), plain_list x.2.now)) result ((function_body words.now number).parse (plain_list tokens.now)) }
+) -> Result<(Body, AnnotationState, &'a [Token]), ReadFault>
+    ensures { Gives (λ x. ((plain_body x.0, x.1), plain_list x.2.now)) result ((function_body words.now state).parse (plain_list tokens.now)) }
 {
     let (start, rest) = skip(words, LEFT_BRACE, tokens)?;
     let none = Vec::new(alloc);
-    let (all, number, rest) = items(alloc, words, MOST_NESTED - 1, none, number, rest)?;
+    let (all, state, rest) = items(alloc, words, MOST_NESTED - 1, none, state, rest)?;
     let (close, rest) = skip(words, RIGHT_BRACE, rest)?;
     let block = make_block(alloc, start, all)?;
-    Ok((Body { block, close }, number, rest))
+    Ok((Body { block, close }, state, rest))
 }
 
-/// `";"`, or a body, after which the number of the next annotation goes on from this one.
+/// `";"`, or a body.
 #[tactic(auto, unfolding(c_model::specs::ProgramGrammar::function_rest, crate::specs::Reading::function_body))]
 fn function_rest<'a>(
     alloc: Global,
     words: &[Word],
     heading: Heading,
-    number: u32,
+    state: AnnotationState,
     tokens: &'a [Token],
-) -> Result<(Func, u32, &'a [Token]), ReadFault>
+) -> Result<(Func, AnnotationState, &'a [Token]), ReadFault>
     ensures { Gives (λ x. ((plain_func x.0, x.1), plain_list x.2.now)) result
-        ((function_rest words.now (plain_type heading.result) (heading.name, heading.place) (map plain_decl heading.params.items) number).parse
+        ((function_rest words.now (plain_type heading.result) (heading.name, heading.place) (map plain_decl heading.params.items) state).parse
         (plain_list tokens.now)) }
 {
     if next_is(words, SEMICOLON, tokens) {
         let (close, rest) = skip(words, SEMICOLON, tokens)?;
-        Ok((make_function(heading, None, close), number, rest))
+        Ok((make_function(heading, None, close), state, rest))
     } else {
-        let (body, number, rest) = function_body(alloc, words, number, tokens)?;
+        let (body, state, rest) = function_body(alloc, words, state, tokens)?;
         let function = make_function(heading, Some(body.block), body.close);
-        Ok((function, number, rest))
+        Ok((function, state, rest))
     }
 }
 
@@ -114,11 +115,11 @@ pub fn function_behind<'a>(
     stars: Stars,
     name: u32,
     place: Place,
-    number: u32,
+    state: AnnotationState,
     tokens: &'a [Token],
-) -> Result<(Func, u32, &'a [Token]), ReadFault>
+) -> Result<(Func, AnnotationState, &'a [Token]), ReadFault>
     ensures { Gives (λ x. ((plain_func x.0, x.1), plain_list x.2.now)) result
-        ((function_behind words.now (plain_base base) stars (name, place) number).parse (plain_list tokens.now)) }
+        ((function_behind words.now (plain_base base) stars (name, place) state).parse (plain_list tokens.now)) }
 {
     let (_, rest) = skip(words, LEFT_PAREN, tokens)?;
     let (params, rest) = parameters(alloc, words, rest)?;
@@ -129,5 +130,5 @@ pub fn function_behind<'a>(
         place,
         params,
     };
-    function_rest(alloc, words, heading, number, rest)
+    function_rest(alloc, words, heading, state, rest)
 }

@@ -14,6 +14,7 @@ use c_expr_parser::full::{
 };
 use c_expr_parser::kinds::{FOR, LEFT_PAREN, RIGHT_PAREN, SEMICOLON};
 use c_expr_parser::terminals::{kept, next_begins_expression, next_begins_type, skip};
+use c_model::declarations::AnnotationState;
 use c_model::vocabulary::Word;
 use c_syntax::fault::ReadFault;
 use c_syntax::{Expr, Item, Place, Stmt, StmtKind, Token};
@@ -47,13 +48,13 @@ pub fn with_statement<'a>(
     alloc: Global,
     place: Place,
     kind: StmtKind,
-    number: u32,
+    state: AnnotationState,
     tokens: &'a [Token],
-) -> Result<(Stmt, u32, &'a [Token]), ReadFault>
-    ensures { Gives (λ x. ((plain_stmt x.0, x.1), plain_list x.2.now)) result ((counted (plain_stmt_kind place kind) number).parse
+) -> Result<(Stmt, AnnotationState, &'a [Token]), ReadFault>
+    ensures { Gives (λ x. ((plain_stmt x.0, x.1), plain_list x.2.now)) result ((counted (plain_stmt_kind place kind) state).parse
         (plain_list tokens.now)) }
 {
-    Ok((statement_at(alloc, place, kind)?, number, tokens))
+    Ok((statement_at(alloc, place, kind)?, state, tokens))
 }
 
 /// `( effect | call ) ";"`
@@ -61,15 +62,15 @@ pub fn with_statement<'a>(
 pub fn effect_statement<'a>(
     alloc: Global,
     words: &[Word],
-    number: u32,
+    state: AnnotationState,
     tokens: &'a [Token],
-) -> Result<(Stmt, u32, &'a [Token]), ReadFault>
+) -> Result<(Stmt, AnnotationState, &'a [Token]), ReadFault>
     ensures { Gives (λ x. ((plain_stmt x.0, x.1), plain_list x.2.now)) result
-        ((effect_statement words.now number).parse (plain_list tokens.now)) }
+        ((effect_statement words.now state).parse (plain_list tokens.now)) }
 {
     let (e, place, rest) = full_effect_or_call(alloc, words, tokens)?;
     let (_, rest) = skip(words, SEMICOLON, rest)?;
-    with_statement(alloc, place, StmtKind::Eval(e), number, rest)
+    with_statement(alloc, place, StmtKind::Eval(e), state, rest)
 }
 
 /// `decl | [ effect | call ] ";"`
@@ -77,21 +78,21 @@ pub fn effect_statement<'a>(
 pub fn for_first<'a>(
     alloc: Global,
     words: &[Word],
-    number: u32,
+    state: AnnotationState,
     tokens: &'a [Token],
-) -> Result<(Option<Item>, u32, &'a [Token]), ReadFault>
+) -> Result<(Option<Item>, AnnotationState, &'a [Token]), ReadFault>
     ensures { Gives (λ x. ((plain_first x.0, x.1), plain_list x.2.now)) result
-        ((for_first words.now number).parse (plain_list tokens.now)) }
+        ((for_first words.now state).parse (plain_list tokens.now)) }
 {
     if next_begins_type(words, tokens) {
         let (item, rest) = declaration(alloc, words, tokens)?;
-        Ok((Some(item), number, rest))
+        Ok((Some(item), state, rest))
     } else if next_begins_effect(words, tokens) {
-        let (s, number, rest) = effect_statement(alloc, words, number, tokens)?;
-        Ok((Some(Item::Run(s)), number, rest))
+        let (s, state, rest) = effect_statement(alloc, words, state, tokens)?;
+        Ok((Some(Item::Run(s)), state, rest))
     } else {
         let (_, rest) = skip(words, SEMICOLON, tokens)?;
-        Ok((None, number, rest))
+        Ok((None, state, rest))
     }
 }
 
@@ -166,15 +167,15 @@ pub struct ForHeading {
 pub fn for_heading<'a>(
     alloc: Global,
     words: &[Word],
-    number: u32,
+    state: AnnotationState,
     tokens: &'a [Token],
-) -> Result<(ForHeading, u32, &'a [Token]), ReadFault>
+) -> Result<(ForHeading, AnnotationState, &'a [Token]), ReadFault>
     ensures { Gives (λ x. ((plain_heading x.0, x.1), plain_list x.2.now)) result
-        ((for_heading words.now number).parse (plain_list tokens.now)) }
+        ((for_heading words.now state).parse (plain_list tokens.now)) }
 {
     let (place, rest) = skip(words, FOR, tokens)?;
     let (_, rest) = skip(words, LEFT_PAREN, rest)?;
-    let (first, number, rest) = for_first(alloc, words, number, rest)?;
+    let (first, state, rest) = for_first(alloc, words, state, rest)?;
     let (first, (condition, rest)) = kept(first, maybe_ended(alloc, words, rest))?;
     let ((first, condition), (step, rest)) = kept(
         (first, condition),
@@ -186,7 +187,7 @@ pub fn for_heading<'a>(
         condition,
         step,
     };
-    Ok((heading, number, rest))
+    Ok((heading, state, rest))
 }
 
 /// The loop of a heading and a body.

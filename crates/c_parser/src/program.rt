@@ -6,27 +6,28 @@ ghost use Rattle.c_model.specs.declared.vocabulary.Word.TheVariants.{TypeName};
 ghost use Rattle.c_syntax.specs.declared.fault.ReadFault.TheVariants.{Memory};
 ghost use Rattle.c_syntax.specs.Programs.{plain_program, plain_text};
 ghost use Rattle.c_model.specs.ProgramGrammar.{with_typedef, function, globals, behind_declarator, declared_at_file, next_typedef, more_typedefs};
-ghost use Rattle.c_model.specs.ProgramGrammar.{typedefs, behind_spec, external, more_external, no_parts, unit_with};
+ghost use Rattle.c_model.specs.ProgramGrammar.{typedefs, behind_spec, stray, declared_external, external, more_external, no_parts, unit_with};
 ghost use Rattle.c_expr_parser.specs.Reading.{plain_base};
 ghost use Rattle.token_reader.specs.Reading.{Gives, plain_list};
 ghost use Rattle.c_parser.specs.Reading.{plain_declarator, plain_parts, other_typedefs, function_behind};
 
+use crate::annotation::misplaced;
 use crate::declaration::{initialised, more_declared};
 use crate::declarator::{Declarator, declared_by, full_dtor, names_function};
 use crate::function::function_behind;
 use crate::specifier::file_spec;
 use crate::tagged::Definitions;
-use c_expr_parser::kinds::{COMMA, LEFT_PAREN, SEMICOLON};
+use c_expr_parser::kinds::{ANNOT_OPEN, COMMA, LEFT_PAREN, SEMICOLON};
 use c_expr_parser::terminals::{kept, next_is, skip};
 use c_expr_parser::types::BaseType;
-use c_model::declarations::{Named, Storage};
+use c_model::declarations::{AnnotationState, Named, Storage};
 use c_model::vocabulary::{TypeName as TypeWord, Word};
 use c_syntax::fault::ReadFault;
 use c_syntax::{Decl, Func, Name, Program, Text, Token};
 use std::alloc::Global;
 use std::mem::replace;
 
-/// What is read of a text so far: what its words are by now, what it defines and declares, and the number of the next annotation.
+/// What is read of a text so far: what its words are by now, what it defines and declares, and its annotations.
 #[derive(Drop)]
 pub struct FileParts {
     pub words: Vec<Word>,
@@ -34,7 +35,7 @@ pub struct FileParts {
     pub typedefs: Vec<Decl>,
     pub globals: Vec<Decl>,
     pub functions: Vec<Func>,
-    pub number: u32,
+    pub annotations: AnnotationState,
 }
 
 fn no_definitions(alloc: Global) -> Definitions
@@ -57,7 +58,10 @@ pub fn no_parts(alloc: Global, words: Vec<Word>) -> FileParts
         typedefs: Vec::new(alloc),
         globals: Vec::new(alloc),
         functions: Vec::new(alloc),
-        number: 1,
+        annotations: AnnotationState {
+            number: 1,
+            misplaced: None,
+        },
     }
 }
 
@@ -77,11 +81,11 @@ fn function<'a>(
 {
     let mut parts = parts;
     let words = parts.words.as_slice();
-    let number = parts.number;
-    let read = function_behind(alloc, words, base, d.stars, d.name, d.place, number, tokens);
-    let (f, number, rest) = read?;
+    let state = parts.annotations;
+    let read = function_behind(alloc, words, base, d.stars, d.name, d.place, state, tokens);
+    let (f, state, rest) = read?;
     parts.functions.push(f)?;
-    parts.number = number;
+    parts.annotations = state;
     Ok((parts, rest))
 }
 
@@ -269,7 +273,39 @@ fn behind_spec<'a>(
     }
 }
 
+/// An annotation at file scope.
+#[tactic(auto, unfolding(c_model::specs::ProgramGrammar::stray))]
+fn stray<'a>(
+    alloc: Global,
+    parts: FileParts,
+    tokens: &'a [Token],
+) -> Result<(FileParts, &'a [Token]), ReadFault>
+    ensures { Gives (λ x. (plain_parts x.0, plain_list x.1.now)) result ((stray (plain_parts parts)).parse (plain_list tokens.now)) }
+{
+    let mut parts = parts;
+    let words = parts.words.as_slice();
+    let (state, rest) = misplaced(alloc, words, parts.annotations, tokens)?;
+    parts.annotations = state;
+    Ok((parts, rest))
+}
+
 /// One more declaration, function or prototype.
+#[tactic(auto, unfolding(c_model::specs::ProgramGrammar::declared_external))]
+fn declared_external<'a>(
+    alloc: Global,
+    parts: FileParts,
+    tokens: &'a [Token],
+) -> Result<(FileParts, &'a [Token]), ReadFault>
+    ensures { Gives (λ x. (plain_parts x.0, plain_list x.1.now)) result ((declared_external (plain_parts parts)).parse (plain_list tokens.now)) }
+{
+    let mut parts = parts;
+    let definitions = replace(&mut parts.definitions, no_definitions(alloc));
+    let (spec, rest) = file_spec(alloc, parts.words.as_slice(), definitions, tokens)?;
+    parts.definitions = spec.definitions;
+    behind_spec(alloc, spec.storage, spec.base, parts, rest)
+}
+
+/// One more annotation, declaration, function or prototype.
 #[tactic(auto, unfolding(c_model::specs::ProgramGrammar::external))]
 fn external<'a>(
     alloc: Global,
@@ -278,11 +314,11 @@ fn external<'a>(
 ) -> Result<(FileParts, &'a [Token]), ReadFault>
     ensures { Gives (λ x. (plain_parts x.0, plain_list x.1.now)) result ((external (plain_parts parts)).parse (plain_list tokens.now)) }
 {
-    let mut parts = parts;
-    let definitions = replace(&mut parts.definitions, no_definitions(alloc));
-    let (spec, rest) = file_spec(alloc, parts.words.as_slice(), definitions, tokens)?;
-    parts.definitions = spec.definitions;
-    behind_spec(alloc, spec.storage, spec.base, parts, rest)
+    if next_is(parts.words.as_slice(), ANNOT_OPEN, tokens) {
+        stray(alloc, parts, tokens)
+    } else {
+        declared_external(alloc, parts, tokens)
+    }
 }
 
 /// What a text declares, after these parts, as far as there are tokens.

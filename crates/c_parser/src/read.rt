@@ -13,15 +13,15 @@ use crate::program::{make_unit, more_external, no_parts};
 use crate::texts::texts_of;
 use c_expr_parser::vocabulary::vocabulary;
 use c_syntax::fault::ReadFault;
-use c_syntax::{FrontFault, Program, Tokens};
+use c_syntax::{FrontFault, Program, Tokens, code};
 use std::alloc::Global;
 use std::mem::replace;
-use token_reader::refusal::refuse;
+use token_reader::refusal::{refuse, refused_at_place};
 use token_reader::terminals::left;
 
 /// The tree of the tokens of a text of annotated C, which takes their names; or their refusal: with code 4 at the first token that
-/// can't follow those before it, and with code 11 at one that passes the limit of an expression or of nesting. Names, types and ranges
-/// are set by later phases.
+/// can't follow those before it, with code 11 at one that passes the limit of an expression or of nesting, and with code 7 at the first word
+/// of the first annotation that stands where none of its kind may. Names, types and ranges are set by later phases.
 pub fn read_program(alloc: Global, tokens: &mut Tokens) -> Result<Program, FrontFault>
     ensures read { MatchResult result (λ p. IsRead (plain_tokens tokens.old) (plain_program p)) (λ e. Refuses e (plain_tokens tokens.old)) }
     ensures left { MatchResult result (λ p. plain_tokens tokens.new ≡ without_names (plain_tokens tokens.old)) (λ e. tokens.new ≡ tokens.old) }
@@ -31,8 +31,13 @@ pub fn read_program(alloc: Global, tokens: &mut Tokens) -> Result<Program, Front
     match more_external(alloc, no_parts(alloc, words), tokens.list.as_slice()) {
         Ok((parts, rest)) => {
             if rest.is_empty() {
-                let names = replace(&mut tokens.names, Vec::new(alloc));
-                Ok(make_unit(alloc, names, texts, parts))
+                match parts.annotations.misplaced {
+                    Some(place) => Err(refused_at_place(alloc, tokens, code::MISPLACED, place)),
+                    None => {
+                        let names = replace(&mut tokens.names, Vec::new(alloc));
+                        Ok(make_unit(alloc, names, texts, parts))
+                    }
+                }
             } else {
                 Err(refuse(alloc, tokens, ReadFault::At(left(rest))))
             }

@@ -1,25 +1,26 @@
-//! Statements (C99 6.8), which take the number before them and give those after.
+//! Statements (C99 6.8), which take what is read of annotations before them and give that after.
 
 ghost use Rattle.std.specs.Prelude.{◌≡◌, map, IfOk};
 ghost use Rattle.c_syntax.specs.Expressions.{plain_expr};
 ghost use Rattle.c_syntax.specs.Statements.{plain_stmt, plain_item};
 ghost use Rattle.c_syntax.specs.Statements as statement;
 ghost use Rattle.c_model.specs.ProgramGrammar.{is_open, block_items, else_branch, else_part, selection, while_loop, do_loop, for_loop, jump, return_statement};
-ghost use Rattle.c_model.specs.ProgramGrammar.{item, items_once, items, block, empty_statement, statement_of, statement_in};
+ghost use Rattle.c_model.specs.ProgramGrammar.{item, items_once, items, block, empty_statement, statement_of, statement_in, branch_in};
 ghost use Rattle.token_reader.specs.Reading.{Gives, plain_list};
 ghost use Rattle.c_parser.specs.Reading.{break_statement, continue_statement, ended_do};
 
-use crate::annotation::annotation;
+use crate::annotation::{misplaced, placed_annotation};
 use crate::declaration::declaration;
 use crate::loops::{
     condition, effect_statement, for_heading, for_kind, returned, statement_at, with_statement,
 };
-use crate::terminals::{next_begins_item, next_begins_statement, next_is_jump};
+use crate::terminals::{next_begins_branch, next_begins_item, next_begins_statement, next_is_jump};
 use c_expr_parser::kinds::{
     ANNOT_OPEN, BREAK, CONTINUE, DO, ELSE, FOR, IF, LEFT_BRACE, RETURN, RIGHT_BRACE, SEMICOLON,
     WHILE,
 };
 use c_expr_parser::terminals::{kept, next_begins_type, next_is, skip};
+use c_model::declarations::AnnotationState;
 use c_model::vocabulary::Word;
 use c_syntax::fault::{Limit, ReadFault};
 use c_syntax::{Expr, Item, Place, Stmt, StmtKind, Token};
@@ -62,15 +63,15 @@ fn make_run(s: Stmt) -> Item
 fn break_statement<'a>(
     alloc: Global,
     words: &[Word],
-    number: u32,
+    state: AnnotationState,
     tokens: &'a [Token],
-) -> Result<(Stmt, u32, &'a [Token]), ReadFault>
+) -> Result<(Stmt, AnnotationState, &'a [Token]), ReadFault>
     ensures { Gives (λ x. ((plain_stmt x.0, x.1), plain_list x.2.now)) result
-        ((break_statement words.now number).parse (plain_list tokens.now)) }
+        ((break_statement words.now state).parse (plain_list tokens.now)) }
 {
     let (place, rest) = skip(words, BREAK, tokens)?;
     let (_, rest) = skip(words, SEMICOLON, rest)?;
-    with_statement(alloc, place, StmtKind::Break, number, rest)
+    with_statement(alloc, place, StmtKind::Break, state, rest)
 }
 
 /// `"continue" ";"`
@@ -78,15 +79,15 @@ fn break_statement<'a>(
 fn continue_statement<'a>(
     alloc: Global,
     words: &[Word],
-    number: u32,
+    state: AnnotationState,
     tokens: &'a [Token],
-) -> Result<(Stmt, u32, &'a [Token]), ReadFault>
+) -> Result<(Stmt, AnnotationState, &'a [Token]), ReadFault>
     ensures { Gives (λ x. ((plain_stmt x.0, x.1), plain_list x.2.now)) result
-        ((continue_statement words.now number).parse (plain_list tokens.now)) }
+        ((continue_statement words.now state).parse (plain_list tokens.now)) }
 {
     let (place, rest) = skip(words, CONTINUE, tokens)?;
     let (_, rest) = skip(words, SEMICOLON, rest)?;
-    with_statement(alloc, place, StmtKind::Continue, number, rest)
+    with_statement(alloc, place, StmtKind::Continue, state, rest)
 }
 
 /// `"break" ";"` or `"continue" ";"`
@@ -94,16 +95,16 @@ fn continue_statement<'a>(
 fn jump<'a>(
     alloc: Global,
     words: &[Word],
-    number: u32,
+    state: AnnotationState,
     tokens: &'a [Token],
-) -> Result<(Stmt, u32, &'a [Token]), ReadFault>
+) -> Result<(Stmt, AnnotationState, &'a [Token]), ReadFault>
     ensures { Gives (λ x. ((plain_stmt x.0, x.1), plain_list x.2.now)) result
-        ((jump words.now number).parse (plain_list tokens.now)) }
+        ((jump words.now state).parse (plain_list tokens.now)) }
 {
     if next_is(words, BREAK, tokens) {
-        break_statement(alloc, words, number, tokens)
+        break_statement(alloc, words, state, tokens)
     } else {
-        continue_statement(alloc, words, number, tokens)
+        continue_statement(alloc, words, state, tokens)
     }
 }
 
@@ -112,15 +113,15 @@ fn jump<'a>(
 fn return_statement<'a>(
     alloc: Global,
     words: &[Word],
-    number: u32,
+    state: AnnotationState,
     tokens: &'a [Token],
-) -> Result<(Stmt, u32, &'a [Token]), ReadFault>
+) -> Result<(Stmt, AnnotationState, &'a [Token]), ReadFault>
     ensures { Gives (λ x. ((plain_stmt x.0, x.1), plain_list x.2.now)) result
-        ((return_statement words.now number).parse (plain_list tokens.now)) }
+        ((return_statement words.now state).parse (plain_list tokens.now)) }
 {
     let (place, rest) = skip(words, RETURN, tokens)?;
     let (e, rest) = returned(alloc, words, rest)?;
-    with_statement(alloc, place, StmtKind::Return(e), number, rest)
+    with_statement(alloc, place, StmtKind::Return(e), state, rest)
 }
 
 /// `";"`
@@ -128,14 +129,14 @@ fn return_statement<'a>(
 fn empty_statement<'a>(
     alloc: Global,
     words: &[Word],
-    number: u32,
+    state: AnnotationState,
     tokens: &'a [Token],
-) -> Result<(Stmt, u32, &'a [Token]), ReadFault>
+) -> Result<(Stmt, AnnotationState, &'a [Token]), ReadFault>
     ensures { Gives (λ x. ((plain_stmt x.0, x.1), plain_list x.2.now)) result
-        ((empty_statement words.now number).parse (plain_list tokens.now)) }
+        ((empty_statement words.now state).parse (plain_list tokens.now)) }
 {
     let (place, rest) = skip(words, SEMICOLON, tokens)?;
-    with_statement(alloc, place, StmtKind::Empty, number, rest)
+    with_statement(alloc, place, StmtKind::Empty, state, rest)
 }
 
 /// `"else" stmt`, after an `if` with its first branch.
@@ -148,19 +149,19 @@ fn else_branch<'a>(
     place: Place,
     e: Expr,
     then: Stmt,
-    number: u32,
+    state: AnnotationState,
     tokens: &'a [Token],
-) -> Result<(Stmt, u32, &'a [Token]), ReadFault>
+) -> Result<(Stmt, AnnotationState, &'a [Token]), ReadFault>
     ensures { Gives (λ x. ((plain_stmt x.0, x.1), plain_list x.2.now)) result
-        ((else_branch words.now (statement_in words.now levels) place (plain_expr e) (plain_stmt then, number)).parse (plain_list tokens.now)) }
+        ((else_branch words.now (branch_in words.now levels) place (plain_expr e) (plain_stmt then, state)).parse (plain_list tokens.now)) }
 {
     let (parts, (_, rest)) = kept((e, then), skip(words, ELSE, tokens))?;
-    let ((e, then), (otherwise, number, rest)) = kept(
+    let ((e, then), (otherwise, state, rest)) = kept(
         parts,
-        statement(alloc, words, levels, number, rest),
+        branch(alloc, words, levels, state, rest),
     )?;
     let kind = StmtKind::If(e, then, Some(otherwise));
-    with_statement(alloc, place, kind, number, rest)
+    with_statement(alloc, place, kind, state, rest)
 }
 
 /// `[ "else" stmt ]`, which goes with the nearest `if`.
@@ -173,18 +174,18 @@ fn else_part<'a>(
     place: Place,
     e: Expr,
     then: Stmt,
-    number: u32,
+    state: AnnotationState,
     tokens: &'a [Token],
-) -> Result<(Stmt, u32, &'a [Token]), ReadFault>
+) -> Result<(Stmt, AnnotationState, &'a [Token]), ReadFault>
     ensures { Gives (λ x. ((plain_stmt x.0, x.1), plain_list x.2.now)) result
-        ((else_part words.now (statement_in words.now levels) place (plain_expr e) (plain_stmt then, number)).parse (plain_list tokens.now)) }
+        ((else_part words.now (branch_in words.now levels) place (plain_expr e) (plain_stmt then, state)).parse (plain_list tokens.now)) }
 {
     if is_open(&then) {
-        with_statement(alloc, place, StmtKind::If(e, then, None), number, tokens)
+        with_statement(alloc, place, StmtKind::If(e, then, None), state, tokens)
     } else if next_is(words, ELSE, tokens) {
-        else_branch(alloc, words, levels, place, e, then, number, tokens)
+        else_branch(alloc, words, levels, place, e, then, state, tokens)
     } else {
-        with_statement(alloc, place, StmtKind::If(e, then, None), number, tokens)
+        with_statement(alloc, place, StmtKind::If(e, then, None), state, tokens)
     }
 }
 
@@ -196,16 +197,16 @@ fn selection<'a>(
     alloc: Global,
     words: &[Word],
     levels: u32,
-    number: u32,
+    state: AnnotationState,
     tokens: &'a [Token],
-) -> Result<(Stmt, u32, &'a [Token]), ReadFault>
+) -> Result<(Stmt, AnnotationState, &'a [Token]), ReadFault>
     ensures { Gives (λ x. ((plain_stmt x.0, x.1), plain_list x.2.now)) result
-        ((selection words.now (statement_in words.now levels) number).parse (plain_list tokens.now)) }
+        ((selection words.now (branch_in words.now levels) state).parse (plain_list tokens.now)) }
 {
     let (place, rest) = skip(words, IF, tokens)?;
     let (e, rest) = condition(alloc, words, rest)?;
-    let (e, (then, number, rest)) = kept(e, statement(alloc, words, levels, number, rest))?;
-    else_part(alloc, words, levels, place, e, then, number, rest)
+    let (e, (then, state, rest)) = kept(e, branch(alloc, words, levels, state, rest))?;
+    else_part(alloc, words, levels, place, e, then, state, rest)
 }
 
 /// `"while" "(" expr ")" stmt`
@@ -216,17 +217,17 @@ fn while_loop<'a>(
     alloc: Global,
     words: &[Word],
     levels: u32,
-    number: u32,
+    state: AnnotationState,
     tokens: &'a [Token],
-) -> Result<(Stmt, u32, &'a [Token]), ReadFault>
+) -> Result<(Stmt, AnnotationState, &'a [Token]), ReadFault>
     ensures { Gives (λ x. ((plain_stmt x.0, x.1), plain_list x.2.now)) result
-        ((while_loop words.now (statement_in words.now levels) number).parse (plain_list tokens.now)) }
+        ((while_loop words.now (branch_in words.now levels) state).parse (plain_list tokens.now)) }
 {
     let (place, rest) = skip(words, WHILE, tokens)?;
     let (e, rest) = condition(alloc, words, rest)?;
-    let (e, (body, number, rest)) = kept(e, statement(alloc, words, levels, number, rest))?;
+    let (e, (body, state, rest)) = kept(e, branch(alloc, words, levels, state, rest))?;
     let kind = StmtKind::While(Vec::new(alloc), e, body);
-    with_statement(alloc, place, kind, number, rest)
+    with_statement(alloc, place, kind, state, rest)
 }
 
 /// `";"`, after a `do` with its condition.
@@ -237,14 +238,14 @@ fn ended_do<'a>(
     place: Place,
     body: Stmt,
     e: Expr,
-    number: u32,
+    state: AnnotationState,
     tokens: &'a [Token],
-) -> Result<(Stmt, u32, &'a [Token]), ReadFault>
+) -> Result<(Stmt, AnnotationState, &'a [Token]), ReadFault>
     ensures { Gives (λ x. ((plain_stmt x.0, x.1), plain_list x.2.now)) result
-        ((ended_do words.now place (plain_stmt body) (plain_expr e) number).parse (plain_list tokens.now)) }
+        ((ended_do words.now place (plain_stmt body) (plain_expr e) state).parse (plain_list tokens.now)) }
 {
     let (_, rest) = skip(words, SEMICOLON, tokens)?;
-    with_statement(alloc, place, StmtKind::Do(body, e), number, rest)
+    with_statement(alloc, place, StmtKind::Do(body, e), state, rest)
 }
 
 /// `"do" stmt "while" "(" expr ")" ";"`
@@ -255,17 +256,17 @@ fn do_loop<'a>(
     alloc: Global,
     words: &[Word],
     levels: u32,
-    number: u32,
+    state: AnnotationState,
     tokens: &'a [Token],
-) -> Result<(Stmt, u32, &'a [Token]), ReadFault>
+) -> Result<(Stmt, AnnotationState, &'a [Token]), ReadFault>
     ensures { Gives (λ x. ((plain_stmt x.0, x.1), plain_list x.2.now)) result
-        ((do_loop words.now (statement_in words.now levels) number).parse (plain_list tokens.now)) }
+        ((do_loop words.now (branch_in words.now levels) state).parse (plain_list tokens.now)) }
 {
     let (place, rest) = skip(words, DO, tokens)?;
-    let (body, number, rest) = statement(alloc, words, levels, number, rest)?;
+    let (body, state, rest) = branch(alloc, words, levels, state, rest)?;
     let (_, rest) = skip(words, WHILE, rest)?;
     let (e, rest) = condition(alloc, words, rest)?;
-    ended_do(alloc, words, place, body, e, number, rest)
+    ended_do(alloc, words, place, body, e, state, rest)
 }
 
 /// `"for" "(" ( decl | [ effect | call ] ";" ) [ expr ] ";" [ effect ] ")" stmt`
@@ -276,19 +277,16 @@ fn for_loop<'a>(
     alloc: Global,
     words: &[Word],
     levels: u32,
-    number: u32,
+    state: AnnotationState,
     tokens: &'a [Token],
-) -> Result<(Stmt, u32, &'a [Token]), ReadFault>
+) -> Result<(Stmt, AnnotationState, &'a [Token]), ReadFault>
     ensures { Gives (λ x. ((plain_stmt x.0, x.1), plain_list x.2.now)) result
-        ((for_loop words.now (statement_in words.now levels) number).parse (plain_list tokens.now)) }
+        ((for_loop words.now (branch_in words.now levels) state).parse (plain_list tokens.now)) }
 {
-    let (heading, number, rest) = for_heading(alloc, words, number, tokens)?;
-    let (heading, (body, number, rest)) = kept(
-        heading,
-        statement(alloc, words, levels, number, rest),
-    )?;
+    let (heading, state, rest) = for_heading(alloc, words, state, tokens)?;
+    let (heading, (body, state, rest)) = kept(heading, branch(alloc, words, levels, state, rest))?;
     let place = heading.place;
-    with_statement(alloc, place, for_kind(alloc, heading, body), number, rest)
+    with_statement(alloc, place, for_kind(alloc, heading, body), state, rest)
 }
 
 /// An annotation, a declaration or a statement.
@@ -298,20 +296,20 @@ fn item<'a>(
     alloc: Global,
     words: &[Word],
     levels: u32,
-    number: u32,
+    state: AnnotationState,
     tokens: &'a [Token],
-) -> Result<(Item, u32, &'a [Token]), ReadFault>
+) -> Result<(Item, AnnotationState, &'a [Token]), ReadFault>
     ensures { Gives (λ x. ((plain_item x.0, x.1), plain_list x.2.now)) result
-        ((item words.now (statement_in words.now levels) number).parse (plain_list tokens.now)) }
+        ((item words.now (statement_in words.now levels) state).parse (plain_list tokens.now)) }
 {
     if next_is(words, ANNOT_OPEN, tokens) {
-        annotation(alloc, words, number, tokens)
+        placed_annotation(alloc, words, state, tokens)
     } else if next_begins_type(words, tokens) {
         let (item, rest) = declaration(alloc, words, tokens)?;
-        Ok((item, number, rest))
+        Ok((item, state, rest))
     } else {
-        let (s, number, rest) = statement(alloc, words, levels, number, tokens)?;
-        Ok((make_run(s), number, rest))
+        let (s, state, rest) = statement(alloc, words, levels, state, tokens)?;
+        Ok((make_run(s), state, rest))
     }
 }
 
@@ -322,16 +320,16 @@ fn items_once<'a>(
     words: &[Word],
     levels: u32,
     all: Vec<Item>,
-    number: u32,
+    state: AnnotationState,
     tokens: &'a [Token],
-) -> Result<(Vec<Item>, u32, &'a [Token]), ReadFault>
+) -> Result<(Vec<Item>, AnnotationState, &'a [Token]), ReadFault>
     ensures { Gives (λ x. ((map plain_item x.0.items, x.1), plain_list x.2.now)) result
-        ((items_once words.now (statement_in words.now levels) (map plain_item all.items, number)).parse (plain_list tokens.now)) }
+        ((items_once words.now (statement_in words.now levels) (map plain_item all.items, state)).parse (plain_list tokens.now)) }
 {
     let mut all = all;
-    let (one, number, rest) = item(alloc, words, levels, number, tokens)?;
+    let (one, state, rest) = item(alloc, words, levels, state, tokens)?;
     all.push(one)?;
-    Ok((all, number, rest))
+    Ok((all, state, rest))
 }
 
 /// The items after those that are read.
@@ -342,22 +340,22 @@ pub fn items<'a>(
     words: &[Word],
     levels: u32,
     all: Vec<Item>,
-    number: u32,
+    state: AnnotationState,
     tokens: &'a [Token],
-) -> Result<(Vec<Item>, u32, &'a [Token]), ReadFault>
+) -> Result<(Vec<Item>, AnnotationState, &'a [Token]), ReadFault>
     ensures { Gives (λ x. ((map plain_item x.0.items, x.1), plain_list x.2.now)) result
-        ((items words.now (statement_in words.now levels) (map plain_item all.items, number)).parse (plain_list tokens.now)) }
+        ((items words.now (statement_in words.now levels) (map plain_item all.items, state)).parse (plain_list tokens.now)) }
 {
     let mut all = all;
-    let mut number = number;
+    let mut state = state;
     let mut rest = tokens;
     'turn: while next_begins_item(words, rest) {
-        let (more, next, after) = items_once(alloc, words, levels, all, number, rest)?;
+        let (more, next, after) = items_once(alloc, words, levels, all, state, rest)?;
         all = more;
-        number = next;
+        state = next;
         rest = after;
     }
-    Ok((all, number, rest))
+    Ok((all, state, rest))
 }
 
 /// `"{" { item } "}"`
@@ -367,16 +365,16 @@ fn block<'a>(
     alloc: Global,
     words: &[Word],
     levels: u32,
-    number: u32,
+    state: AnnotationState,
     tokens: &'a [Token],
-) -> Result<(Stmt, u32, &'a [Token]), ReadFault>
+) -> Result<(Stmt, AnnotationState, &'a [Token]), ReadFault>
     ensures { Gives (λ x. ((plain_stmt x.0, x.1), plain_list x.2.now)) result
-        ((block words.now (statement_in words.now levels) number).parse (plain_list tokens.now)) }
+        ((block words.now (statement_in words.now levels) state).parse (plain_list tokens.now)) }
 {
     let (place, rest) = skip(words, LEFT_BRACE, tokens)?;
-    let (all, number, rest) = items(alloc, words, levels, Vec::new(alloc), number, rest)?;
+    let (all, state, rest) = items(alloc, words, levels, Vec::new(alloc), state, rest)?;
     let (_, rest) = skip(words, RIGHT_BRACE, rest)?;
-    Ok((make_block(alloc, place, all)?, number, rest))
+    Ok((make_block(alloc, place, all)?, state, rest))
 }
 
 /// A statement in which statements stand at most so many levels deep, itself included.
@@ -386,10 +384,10 @@ fn statement<'a>(
     alloc: Global,
     words: &[Word],
     levels: u32,
-    number: u32,
+    state: AnnotationState,
     tokens: &'a [Token],
-) -> Result<(Stmt, u32, &'a [Token]), ReadFault>
-    ensures { Gives (λ x. ((plain_stmt x.0, x.1), plain_list x.2.now)) result ((statement_in words.now levels number).parse
+) -> Result<(Stmt, AnnotationState, &'a [Token]), ReadFault>
+    ensures { Gives (λ x. ((plain_stmt x.0, x.1), plain_list x.2.now)) result ((statement_in words.now levels state).parse
         (plain_list tokens.now)) }
 {
     if levels == 0 {
@@ -401,22 +399,50 @@ fn statement<'a>(
     }
     let levels = levels - 1;
     if next_is(words, LEFT_BRACE, tokens) {
-        block(alloc, words, levels, number, tokens)
+        block(alloc, words, levels, state, tokens)
     } else if next_is(words, SEMICOLON, tokens) {
-        empty_statement(alloc, words, number, tokens)
+        empty_statement(alloc, words, state, tokens)
     } else if next_is(words, IF, tokens) {
-        selection(alloc, words, levels, number, tokens)
+        selection(alloc, words, levels, state, tokens)
     } else if next_is(words, WHILE, tokens) {
-        while_loop(alloc, words, levels, number, tokens)
+        while_loop(alloc, words, levels, state, tokens)
     } else if next_is(words, DO, tokens) {
-        do_loop(alloc, words, levels, number, tokens)
+        do_loop(alloc, words, levels, state, tokens)
     } else if next_is(words, FOR, tokens) {
-        for_loop(alloc, words, levels, number, tokens)
+        for_loop(alloc, words, levels, state, tokens)
     } else if next_is(words, RETURN, tokens) {
-        return_statement(alloc, words, number, tokens)
+        return_statement(alloc, words, state, tokens)
     } else if next_is_jump(words, tokens) {
-        jump(alloc, words, number, tokens)
+        jump(alloc, words, state, tokens)
     } else {
-        effect_statement(alloc, words, number, tokens)
+        effect_statement(alloc, words, state, tokens)
+    }
+}
+
+/// A statement inside another, in which statements stand at most so many levels deep, itself included.
+#[tactic(auto, using(crate::proofs::Steps::branch_rules), unfolding(c_model::specs::ProgramGrammar::branch_of))]
+#[cycle(statement)]
+fn branch<'a>(
+    alloc: Global,
+    words: &[Word],
+    levels: u32,
+    state: AnnotationState,
+    tokens: &'a [Token],
+) -> Result<(Stmt, AnnotationState, &'a [Token]), ReadFault>
+    ensures { Gives (λ x. ((plain_stmt x.0, x.1), plain_list x.2.now)) result ((branch_in words.now levels state).parse
+        (plain_list tokens.now)) }
+{
+    if levels == 0 {
+        return if next_begins_branch(words, tokens) {
+            Err(ReadFault::Over(Limit::Nesting, left(tokens)))
+        } else {
+            Err(ReadFault::At(left(tokens)))
+        };
+    }
+    if next_is(words, ANNOT_OPEN, tokens) {
+        let (state, rest) = misplaced(alloc, words, state, tokens)?;
+        branch(alloc, words, levels - 1, state, rest)
+    } else {
+        statement(alloc, words, levels, state, tokens)
     }
 }

@@ -19,7 +19,7 @@ use Rattle.c_model.specs.ExpressionGrammar.{name_kind, word_kind, mark_kind, kin
 use Rattle.c_model.specs.DeclarationGrammar.{Declarator, declared_by, initialisers, ended, maybe_comma, next_item, item_once, more_items, listed, lengths, dtor, full_dtor, item_of_list, first_item_of_list, list_of, list_in, initialiser}
 use Rattle.c_model.specs.DeclarationGrammar.{initialised, declared_once, next_declared, more_declared, declared_list, declaration}
 use Rattle.c_model.specs.ExpressionGrammar.{most_nested}
-use Rattle.c_model.specs.Formed.{depth_of_item, declared_in_item, number_of}
+use Rattle.c_model.specs.Formed.{AreReadAsserts, depth_of_item, declared_in_item, number_of}
 use Rattle.c_model.specs.Pure.{IsInitialiser, IsPureInitialiser, ArePureInitialisers}
 use Rattle.c_model.specs.FullExpressions.{EachInitial, EachPart, EachDeclared, EachInItem}
 use Rattle.c_model.specs.EffectPlaces.{ArePlaced, FirstPlaced, ItemPlaced}
@@ -153,7 +153,7 @@ module _ (size : ℕ) (old : Vocabulary) where
 
   -- a declaration, as an item or at the head of a `for`
   pub record IsDeclaration (l n : ℕ) (i : BlockItem) : Type 0 where
-    pub is : ItemPlaced i
+    pub is : ItemPlaced AreReadAsserts i
     pub first : FirstPlaced (First i)
     pub short : EachInItem IsShortAndBare i
     pub flat : depth_of_item i ≡ 0

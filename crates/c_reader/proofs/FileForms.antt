@@ -6,15 +6,16 @@ use Rattle.c_syntax.specs.declared.place.Place.{Place}
 use Rattle.c_syntax.specs.Ctypes.{PlainType}
 use Rattle.c_syntax.specs.Statements.{Declaration, Block, BlockItem}
 use Rattle.c_syntax.specs.Programs.{Function, StringLiteral, TranslationUnit}
+use Rattle.c_model.specs.declared.declarations.AnnotationState.{AnnotationState}
 use Rattle.c_model.specs.declared.declarations.Storage.{Storage}
 use Rattle.c_model.specs.declared.declarations.Storage.TheVariants as storage
 use Rattle.c_model.specs.Vocabulary.{Vocabulary}
 use Rattle.c_model.specs.Punctuators.{semicolon, comma, left_paren, left_brace, right_brace}
-use Rattle.c_model.specs.ExpressionGrammar.{mark_kind, kind, mark, pointers, most_nested}
+use Rattle.c_model.specs.ExpressionGrammar.{annot_open_kind, mark_kind, kind, mark, pointers, most_nested}
 use Rattle.c_model.specs.DeclarationGrammar.{Declarator, Definitions, names_function, ended, declared_by}
 use Rattle.c_model.specs.ProgramGrammar.{FileParts, no_parts, with_typedef, block_items, function_with, unit_with, function_rest, function, globals, behind_declarator, declared_at_file}
-use Rattle.c_model.specs.ProgramGrammar.{next_typedef, more_typedefs, typedefs, behind_spec, external, any_kind, more_external, unit}
-use Rattle.c_model.specs.Formed.{declared_in_body, declared_in_items, number_of, numbers_of}
+use Rattle.c_model.specs.ProgramGrammar.{next_typedef, more_typedefs, typedefs, behind_spec, misplaced, stray, declared_external, external, any_kind, more_external, unit}
+use Rattle.c_model.specs.Formed.{AreReadAsserts, declared_in_body, declared_in_items, number_of, numbers_of}
 use Rattle.c_model.specs.FullExpressions.{EachInBody}
 use Rattle.c_model.specs.UnitTyping.{AFunction}
 use Rattle.c_model.specs.ReadTree.{Between, FunctionRead}
@@ -73,7 +74,7 @@ module _ (size : ℕ) (old : Vocabulary) where
     pub body : AllByRecursion (λ (d : Declaration). IsNewName size old d.name) (declared_in_body f.body)
 
   pub record IsFunction (n : ℕ) (f : Function) : Type 0 where
-    pub read : FunctionRead f
+    pub read : FunctionRead AreReadAsserts f
     pub short : EachInBody IsShortAndBare f.body
     pub declares : DeclaresNames f
     pub bare : AllByRecursion HasNoInitialiser f.params
@@ -99,8 +100,8 @@ module _ (size : ℕ) (old : Vocabulary) where
     from = p.from;
   }
 
-  definition_is : (l k m i n : ℕ) (t : PlainType) (f : ℕ × Place) (ds : List Declaration) (start close : Place) (x : List BlockItem × ℕ) → IsNameWithin size old l k f → AreParameters size old k m ds → m ≤ i → AreItems size old most_nested i n x
-      → IsFunctionFrom l n (function_with t f ds (Some (Block start (block_items x.0))) close)
+  definition_is : (l k m i n : ℕ) (t : PlainType) (f : ℕ × Place) (ds : List Declaration) (start close : Place) (x : List BlockItem × AnnotationState) → IsNameWithin size old l k f → AreParameters size old k m ds → m ≤ i
+      → AreItems size old most_nested i n x → IsFunctionFrom l n (function_with t f ds (Some (Block start (block_items x.0))) close)
   definition_is l k m i n t f ds start close x p h le b =
       let body = declared_in_items (block_items x.0) in
       record {
@@ -146,8 +147,8 @@ module _ (size : ℕ) (old : Vocabulary) where
     apart = apart_higher m n (parts_cover x) le h.apart;
   }
 
-  with_function_is : (m l n : ℕ) (x : FileParts) (f : Function) (number : ℕ) → m ≤ l → IsFile m x → IsFunctionFrom l n f → IsFile n (record x { functions = x.functions ++ f ∷ []; number = number })
-  with_function_is m l n x f number le h p =
+  with_function_is : (m l n : ℕ) (x : FileParts) (f : Function) (state : AnnotationState) → m ≤ l → IsFile m x → IsFunctionFrom l n f → IsFile n (record x { functions = x.functions ++ f ∷ []; annotations = state })
+  with_function_is m l n x f state le h p =
       let end = behind_between f.place.offset n (numbers_of f) p.is.numbers in
       let first = between_on f.place.offset (end_of_item (AFunction f)) (numbers_of f) end.0 in
       let on = between_on f.place.offset n (numbers_of f) p.is.numbers in
@@ -161,7 +162,7 @@ module _ (size : ℕ) (old : Vocabulary) where
         functions = all_joined (IsFunction n) x.functions (f ∷ []) higher.functions (p.is, tt);
         ascend = subst (λ is. Between 0 is n) (sym (map-append offset_of_function x.functions (f ∷ [])))
             (between_joined 0 m n (map offset_of_function x.functions) (f.place.offset ∷ []) h.ascend (omega (arith, le, p.from), next));
-        apart = apart_same n (λ o. held o f.place.offset (end_of_item (AFunction f)) + parts_cover x o) (parts_cover (record x { functions = x.functions ++ f ∷ []; number = number }))
+        apart = apart_same n (λ o. held o f.place.offset (end_of_item (AFunction f)) + parts_cover x o) (parts_cover (record x { functions = x.functions ++ f ∷ []; annotations = state }))
             (λ o. (let e = functions_behind o x.functions f in omega (arith, e)))
             (apart_held m n f.place.offset (end_of_item (AFunction f)) (parts_cover x) (omega (arith, le, p.from)) first end.1 h.apart);
       }
@@ -215,7 +216,7 @@ module _ (size : ℕ) (old : Vocabulary) where
   -- ---- productions, where what the words are comes later
 
   module _ (ws : Vocabulary) (later : IsLater old ws) where
-    function_rest_from : (t : PlainType) (f : ℕ × Place) (ds : List Declaration) (c l k m : ℕ) → IsNameWithin size old l k f → AreParameters size old k m ds → From size m (function_rest ws t f ds c) (λ n x. IsFunctionFrom l n x.0)
+    function_rest_from : (t : PlainType) (f : ℕ × Place) (ds : List Declaration) (c : AnnotationState) (l k m : ℕ) → IsNameWithin size old l k f → AreParameters size old k m ds → From size m (function_rest ws t f ds c) (λ n x. IsFunctionFrom l n x.0)
     unfolding function_rest
     function_rest_from t f ds c l k m p h =
         from_choice (kind ws) (mark_kind semicolon ∷ [])
@@ -229,7 +230,7 @@ module _ (size : ℕ) (old : Vocabulary) where
     unfolding function
     function_from t x d l m h p =
         from_then (from_any (mark ws left_paren)) (λ k _ lf. from_then (parameters_from size old ws later k) (λ i ds q.
-        from_then (function_rest_from (pointers d.stars.count t) (d.name, d.place) ds x.number l k i (name_wider size old l l m k (d.name, d.place) (omega arith) lf p) q) (λ n f g.
+        from_then (function_rest_from (pointers d.stars.count t) (d.name, d.place) ds x.annotations l k i (name_wider size old l l m k (d.name, d.place) (omega arith) lf p) q) (λ n f g.
         from_gives _ (with_function_is l l n x f.0 f.1 (omega arith) h g))))
 
     globals_from : (t : PlainType) (x : FileParts) (d : Declarator) (l m : ℕ) → IsFile l x → IsNameWithin size old l m (d.name, d.place) → From size m (globals ws t x d) IsFile
@@ -274,10 +275,31 @@ module _ (size : ℕ) (old : Vocabulary) where
   behind_spec_from storage.Static t m x h = at_file_from x.words h.later t x m h
   behind_spec_from storage.Nothing t m x h = at_file_from x.words h.later t x m h
 
+  with_annotations_is : (m n : ℕ) (x : FileParts) (s : AnnotationState) → m ≤ n → IsFile m x → IsFile n (record x { annotations = s })
+  with_annotations_is m n x s le h =
+      let higher = file_higher m n x le h in
+      record {
+        later = h.later;
+        definitions = higher.definitions;
+        typedefs = higher.typedefs;
+        globals = higher.globals;
+        functions = higher.functions;
+        ascend = higher.ascend;
+        apart = apart_same n (parts_cover x) (parts_cover (record x { annotations = s })) (λ o. refl) higher.apart;
+      }
+
+  declared_from : (m : ℕ) (x : FileParts) → IsFile m x → From size m (declared_external x) IsFile
+  unfolding declared_external
+  declared_from m x h = from_then (spec_from size old x.words h.later m x.definitions h.definitions) (λ n s p.
+      behind_spec_from s.storage s.ctype n (record x { definitions = s.definitions }) (with_definitions_is m n x s.definitions h p))
+
+  stray_from : (m : ℕ) (x : FileParts) → IsFile m x → From size m (stray x) IsFile
+  unfolding stray
+  stray_from m x h = from_then (from_any (misplaced x.words x.annotations)) (λ n s le. from_gives _ (with_annotations_is m n x s le h))
+
   external_from : (m : ℕ) (x : FileParts) → IsFile m x → From size m (external x) IsFile
   unfolding external
-  external_from m x h = from_then (spec_from size old x.words h.later m x.definitions h.definitions) (λ n s p.
-      behind_spec_from s.storage s.ctype n (record x { definitions = s.definitions }) (with_definitions_is m n x s.definitions h p))
+  external_from m x h = from_choice (kind x.words) (annot_open_kind ∷ []) (stray_from m x h) (declared_from m x h)
 
   nothing_read : (ws : Vocabulary) → IsLater old ws → IsFile 0 (no_parts ws)
   nothing_read ws later = record {
@@ -296,7 +318,7 @@ pub record IsReadUnit (size : ℕ) (ws : Vocabulary) (names : List (List ℕ)) (
   pub is : p ≡ unit_with names texts parts
   pub file : IsFile size ws n parts
 
-pub unit_from : (size : ℕ) (ws : Vocabulary) (names : List (List ℕ)) (texts : List StringLiteral) → From size 0 (unit ws names texts) (IsReadUnit size ws names texts)
+pub unit_from : (size : ℕ) (ws : Vocabulary) (names : List (List ℕ)) (texts : List StringLiteral) → From size 0 (unit ws names texts) (λ n x. IsReadUnit size ws names texts n x.0)
 unfolding unit more_external
 unit_from size ws names texts =
     from_then (from_many any_kind (λ _. 0 ∷ []) {P = IsFile size ws} (λ m x h. external_from size ws m x h) 0 (no_parts ws) (nothing_read size ws ws (λ n e. e))) (λ n x h.

@@ -2,7 +2,7 @@
 pub mod TokenForms
 pub mod PlacedReadings
 pub mod ExpressionForms
-pub mod TermForms
+pub mod AnnotationForms
 pub mod DeclarationForms
 pub mod StatementForms
 pub mod ParameterForms

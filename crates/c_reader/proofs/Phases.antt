@@ -1,5 +1,5 @@
 -- From what a phase gave to what the text is.
-use Rattle.std.proofs.Common.{◌≡◌, ℕ, ◌<◌, List, length, None, Result, Ok, Err, sym, subst}
+use Rattle.std.proofs.Common.{◌≡◌, ℕ, ◌<◌, List, length, None, Result, Ok, Err, inl, inr, sym, subst}
 use Rattle.std.specs.Prelude.{MatchResult}
 use Rattle.c_syntax.specs.declared.refusal.FrontFault.{FrontFault}
 use Rattle.c_syntax.specs.declared.refusal.FrontFault.TheVariants as front
@@ -10,9 +10,10 @@ use Rattle.c_model.specs.CTokens.{tokens_of}
 use Rattle.c_model.specs.Checked.{Fault, Good}
 use Rattle.c_model.specs.UnitTyping.{typed_unit, room_fault, main_fault}
 use Rattle.c_model.specs.AnnotationTyping.{noted_unit}
+use Rattle.c_model.specs.AnnotationRanges.{ranged_unit}
 use Rattle.c_model.specs.ReadTree.{AreBytes}
 use Rattle.c_model.specs.TokenWords.{refused_at_place}
-use Rattle.c_model.specs.Phases.{IsRead, AcceptedText, ByGrammar, ByNamesAndTypes, ForRoom, ForMain, ByAnnotations}
+use Rattle.c_model.specs.Phases.{IsRead, AcceptedText, ByGrammar, ByPlaces, ByNamesAndTypes, ForRoom, ForMain, ByAnnotations, ByRanges}
 use Rattle.c_lexer.specs.Reading as lexer
 use Rattle.token_reader.specs.Answers.{RefusesWith}
 use Rattle.c_parser.specs.Answers as parser
@@ -22,7 +23,7 @@ use Rattle.c_typing.specs.declared.checked.ProgramFault.{ProgramFault}
 use Rattle.c_typing.specs.declared.checked.ProgramFault.TheVariants as cause
 use Rattle.c_expression_rules.specs.Answers.{plain_fault, Answers}
 use Rattle.c_typing.specs.Answers.{AnswersProgram}
-use Rattle.c_reader.specs.Answers.{Refuses, HasTree, OfTokens, IsTypedAs, OfTypes, OfRoom, OfMain, OfAnnotations, HasFault, RefusesFault, RefusesProgram}
+use Rattle.c_reader.specs.Answers.{Refuses, HasTree, OfTokens, IsTypedAs, OfTypes, OfRoom, OfMain, OfAnnotations, OfRanges, HasFault, RefusesFault, RefusesProgram}
 
 -- ---- names and types
 
@@ -42,8 +43,14 @@ module _ (ts : PlainTokens) (tree : TranslationUnit) where
     annotations_fail (fault.Refused f) (front.Refused x) h g = OfAnnotations typed (plain_fault f) is room main h g
     annotations_fail fault.Memory e h g = subst (λ x. HasFault x ts tree) (sym g) tt
 
-    pub typed_as : (p : TranslationUnit) → noted_unit typed ≡ Good p → IsTypedAs tree p
-    typed_as p h = record { typed = typed; is = is; room = room; main = main; noted = h }
+    module _ (noted : TranslationUnit) (is_noted : noted_unit typed ≡ Good noted) where
+      pub ranges_fail : (f : TypeFault) (e : FrontFault) → Answers plain_program (ranged_unit noted) (Err f) → RefusesFault ts f e → HasFault e ts tree
+      ranges_fail (fault.Refused f) front.Memory h g = tt
+      ranges_fail (fault.Refused f) (front.Refused x) h g = OfRanges typed noted (plain_fault f) is room main is_noted h g
+      ranges_fail fault.Memory e h g = subst (λ x. HasFault x ts tree) (sym g) tt
+
+      pub typed_as : (p : TranslationUnit) → ranged_unit noted ≡ Good p → IsTypedAs tree p
+      typed_as p h = record { typed = typed; is = is; room = room; main = main; noted = noted; is_noted = is_noted; ranged = h }
 
 -- ---- the tokens, which are read again for a word
 
@@ -60,7 +67,8 @@ module _ (text : List ℕ) (f : Fault) where
 module _ (text : List ℕ) (ts : PlainTokens) (has : tokens_of text ≡ Ok ts) where
   pub refused_by_grammar : (e : FrontFault) → parser.Refuses e ts → Refuses e text
   refused_by_grammar front.Memory g = tt
-  refused_by_grammar (front.Refused x) g = ByGrammar ts g.fault has g.found g.is
+  refused_by_grammar (front.Refused x) (inl g) = ByGrammar ts g.fault has g.found g.is
+  refused_by_grammar (front.Refused x) (inr g) = ByPlaces ts g.tree g.place has g.found g.is
 
   pub tree_is : (r : Result Program FrontFault) → MatchResult r (λ p. IsRead ts (plain_program p)) (λ e. parser.Refuses e ts) → MatchResult r (λ p. HasTree text (plain_program p)) (λ e. Refuses e text)
   tree_is (Ok p) g = record { tokens = ts; has = has; read = g }
@@ -73,6 +81,7 @@ module _ (text : List ℕ) (ts : PlainTokens) (has : tokens_of text ≡ Ok ts) w
     refused_by_check (front.Refused x) (OfRoom typed f h l k) = ForRoom ts tree typed f (record { tokens = has; read = read; is = h }) l k
     refused_by_check (front.Refused x) (OfMain typed f h l m k) = ForMain ts tree typed f (record { tokens = has; read = read; is = h }) l m k
     refused_by_check (front.Refused x) (OfAnnotations typed f h l m n k) = ByAnnotations ts tree typed f (record { tokens = has; read = read; is = h }) l m n k
+    refused_by_check (front.Refused x) (OfRanges typed noted f h l m n o k) = ByRanges ts tree typed noted f (record { tokens = has; read = read; is = h }) l m n o k
 
     pub accepted_as : AreBytes text → length text < 4294967295 → (p : TranslationUnit) → IsTypedAs tree p → AcceptedText text p
     accepted_as bytes few p t = record {
@@ -85,4 +94,6 @@ module _ (text : List ℕ) (ts : PlainTokens) (has : tokens_of text ≡ Ok ts) w
       room = t.room;
       main = t.main;
       noted = t.noted;
+      is_noted = t.is_noted;
+      ranged = t.ranged;
     }

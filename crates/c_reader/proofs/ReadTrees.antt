@@ -1,6 +1,6 @@
 -- The tree that is read of a text of bytes has its places in the order of the text, effects and calls where the grammar puts them, short expressions,
 -- and names of C.
-use Rattle.std.proofs.Common.{◌≡◌, ℕ, suc, ◌+◌, ◌<◌, ◌≤◌, ◌^◌, List, [], ◌∷◌, length, map, Ok, refl, sym, subst, arith}
+use Rattle.std.proofs.Common.{◌≡◌, ℕ, suc, ◌+◌, ◌<◌, ◌≤◌, ◌^◌, List, [], ◌∷◌, length, map, None, Ok, refl, sym, subst, arith}
 use Rattle.std.proofs.lemmas.List.{length-map}
 use Rattle.std.specs.List.{AllByRecursion}
 use Rattle.c_syntax.specs.Tokens as token
@@ -14,7 +14,7 @@ use Rattle.c_model.specs.ProgramGrammar.{FileParts, texts_of, unit_with}
 use Rattle.c_model.specs.Phases.{vocabulary, IsRead}
 use Rattle.c_model.specs.Pure.{HasBareCall}
 use Rattle.c_model.specs.FullExpressions.{EachInFunctions}
-use Rattle.c_model.specs.Formed.{AreNamed, AreNamedParameters, FunctionsNamed, declared_in_body}
+use Rattle.c_model.specs.Formed.{AreReadAsserts, AreNamed, AreNamedParameters, FunctionsNamed, declared_in_body}
 use Rattle.c_model.specs.ReadTree.{Between, IsShort, FunctionsRead, AreBytes, TextsAreBytes, ReadTree}
 use Rattle.c_reader.proofs.TokenForms.{IsLexed}
 use Rattle.c_reader.proofs.ExpressionForms.{IsShortAndBare}
@@ -50,7 +50,7 @@ module _ (names : List (List ℕ)) (words : AllByRecursion IsWord names) where
 -- ---- functions
 
 module _ (size : ℕ) (old : Vocabulary) where
-  functions_read : (n : ℕ) (fs : List Function) → AllByRecursion (IsFunction size old n) fs → FunctionsRead fs
+  functions_read : (n : ℕ) (fs : List Function) → AllByRecursion (IsFunction size old n) fs → FunctionsRead AreReadAsserts fs
   functions_read n [] h = tt
   functions_read n (f ∷ fs) h = (h.0.read, functions_read n fs h.1)
 
@@ -112,6 +112,6 @@ file_is_read ts n x le words list h =
 pub tree_is_read : (text : List ℕ) (ts : PlainTokens) (p : TranslationUnit) → AreBytes text → length text < 4294967295 → tokens_of text ≡ Ok ts → IsRead ts p → ReadTree p
 tree_is_read text ts p bytes few has read =
     let lex = lexed text ts bytes has in
-    let u = (unit_from (length ts.names) (vocabulary ts) ts.names (texts_of ts.list)).holds ts.list p lex.end lex.list lex.reach read.reading in
+    let u = (unit_from (length ts.names) (vocabulary ts) ts.names (texts_of ts.list)).holds ts.list (p, None) lex.end lex.list lex.reach read.reading in
     let below : lex.end ≤ 4294967295 = omega (arith, few, lex.below) in
     subst ReadTree (sym u.is) (file_is_read ts lex.end u.parts below lex.names lex.list u.file)

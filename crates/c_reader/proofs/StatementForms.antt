@@ -4,29 +4,29 @@ use Rattle.std.specs.List.{AllByRecursion}
 use Rattle.c_syntax.specs.declared.place.Place.{Place}
 use Rattle.c_syntax.specs.Expressions.{Expression}
 use Rattle.c_syntax.specs.Statements.{Declaration, Statement, If, NoElse, ForFirst, BlockItem}
-use Rattle.grammar.proofs.Readings.{each_at_most}
+use Rattle.c_model.specs.declared.declarations.AnnotationState.{AnnotationState}
 use Rattle.c_model.specs.declared.vocabulary.Keyword.TheVariants as keyword
 use Rattle.c_model.specs.Vocabulary.{Vocabulary}
 use Rattle.c_model.specs.Punctuators.{semicolon, left_paren, right_paren, left_brace, right_brace}
-use Rattle.c_model.specs.ExpressionGrammar.{annot_open_kind, annot_close_kind, keyword_kind, mark_kind, kind, first_type, first_expression, first_effect, fixed, mark, reserved, closed}
-use Rattle.c_model.specs.ProgramGrammar.{Numbered, first_item, is_open, block_items, annotation, condition, else_branch, else_part, selection, while_loop, do_loop, for_first, maybe_ended, returned, for_behind, for_loop, jump}
-use Rattle.c_model.specs.ProgramGrammar.{return_statement, item, items_once, items, block, empty_statement, effect_statement, statement_of, statement_in}
+use Rattle.c_model.specs.ExpressionGrammar.{annot_open_kind, keyword_kind, mark_kind, kind, first_type, first_expression, first_effect, mark, reserved, closed}
+use Rattle.c_model.specs.ProgramGrammar.{Numbered, first_item, is_open, block_items, misplaced, placed_annotation, condition, else_branch, else_part, selection, while_loop, do_loop, for_first, maybe_ended, returned, for_behind, for_loop, jump}
+use Rattle.c_model.specs.ProgramGrammar.{return_statement, item, items_once, items, block, empty_statement, effect_statement, statement_of, branch_of, statement_in, branch_in}
 use Rattle.c_model.specs.TypedTrees.{WhereAny}
-use Rattle.c_model.specs.Formed.{depth, depth_of_item, depth_of_items, declared_within, declared_in_first, declared_in_item, declared_in_items}
+use Rattle.c_model.specs.Formed.{AreReadAsserts, depth, depth_of_item, depth_of_items, declared_within, declared_in_first, declared_in_item, declared_in_items}
 use Rattle.c_model.specs.Pure.{IsPure, IsPureOrCall, IsEffect}
 use Rattle.c_model.specs.FullExpressions.{EachIn, EachInFirst, EachInItem, EachInItems}
 use Rattle.c_model.specs.EffectPlaces.{FirstPlaced, StatementPlaced, ItemPlaced, ItemsPlaced}
 use Rattle.c_reader.proofs.ExpressionForms.{IsShortAndBare, IsFull, full_each, full_value_each, full_effect_each, full_call_each}
 use Rattle.c_model.specs.DeclarationGrammar.{ended}
-use Rattle.c_reader.proofs.TermForms.{clause_each}
-use Rattle.c_reader.proofs.PlacedReadings.{From, from_none, from_gives, from_then, from_choice, from_cond, from_any, from_each, from_many}
+use Rattle.c_reader.proofs.AnnotationForms.{annotations_each}
+use Rattle.c_reader.proofs.PlacedReadings.{From, from_none, from_more, from_gives, from_then, from_choice, from_cond, from_any, from_each, from_many}
 use Rattle.c_reader.proofs.DeclarationForms.{IsLater, Declares, declares_none, declares_joined, declares_lower, declares_higher, ended_from, declaration_from}
 
 -- ---- items in a list
 
 -- an item in which statements stand at most d deep
 pub record IsItem (d : ℕ) (i : BlockItem) : Type 0 where
-  pub is : ItemPlaced i
+  pub is : ItemPlaced AreReadAsserts i
   pub short : EachInItem IsShortAndBare i
   pub deep : depth_of_item i ≤ d
 
@@ -34,7 +34,7 @@ pub all_behind : {A : Type 0} (P : A → Type 0) (xs : List A) (y : A) → AllBy
 all_behind P [] y h p = (p, tt)
 all_behind P (x ∷ xs) y h p = (h.0, all_behind P xs y h.1 p)
 
-pub items_placed : (d : ℕ) (l : List BlockItem) → AllByRecursion (IsItem d) l → ItemsPlaced (block_items l)
+pub items_placed : (d : ℕ) (l : List BlockItem) → AllByRecursion (IsItem d) l → ItemsPlaced AreReadAsserts (block_items l)
 items_placed d [] h = tt
 items_placed d (i ∷ l) h = (h.0.is, items_placed d l h.1)
 
@@ -52,17 +52,17 @@ declared_behind (j ∷ l) i = ap (λ (w : List Declaration). declared_in_item j 
 
 module _ (size : ℕ) (old : Vocabulary) where
   -- a statement d deep at most, after the offset l
-  pub record IsWithin (d l n : ℕ) (x : Statement × ℕ) : Type 0 where
-    pub is : StatementPlaced x.0
+  pub record IsWithin (d l n : ℕ) (x : Statement × AnnotationState) : Type 0 where
+    pub is : StatementPlaced AreReadAsserts x.0
     pub short : EachIn IsShortAndBare x.0
     pub deep : depth x.0 ≤ d
     pub declares : Declares size old l (declared_within x.0) n
 
-  pub record IsItemWithin (d l n : ℕ) (x : BlockItem × ℕ) : Type 0 where
+  pub record IsItemWithin (d l n : ℕ) (x : BlockItem × AnnotationState) : Type 0 where
     pub item : IsItem d x.0
     pub declares : Declares size old l (declared_in_item x.0) n
 
-  pub record AreItems (d l n : ℕ) (x : List BlockItem × ℕ) : Type 0 where
+  pub record AreItems (d l n : ℕ) (x : List BlockItem × AnnotationState) : Type 0 where
     pub are : AllByRecursion (IsItem d) x.0
     pub declares : Declares size old l (declared_in_items (block_items x.0)) n
 
@@ -77,12 +77,12 @@ module _ (size : ℕ) (old : Vocabulary) where
     short : WhereAny IsShortAndBare e
     on : l ≤ n
 
-  record IsFirst (l n : ℕ) (x : ForFirst × ℕ) : Type 0 where
+  record IsFirst (l n : ℕ) (x : ForFirst × AnnotationState) : Type 0 where
     is : FirstPlaced x.0
     short : EachInFirst IsShortAndBare x.0
     declares : Declares size old l (declared_in_first x.0) n
 
-  lower : (d k l n : ℕ) (x : Statement × ℕ) → k ≤ l → IsWithin d l n x → IsWithin d k n x
+  lower : (d k l n : ℕ) (x : Statement × AnnotationState) → k ≤ l → IsWithin d l n x → IsWithin d k n x
   lower d k l n x le p = record { is = p.is; short = p.short; deep = p.deep; declares = declares_lower size old k l n (declared_within x.0) le p.declares }
 
   pub closed_from : (ws : Vocabulary) {l : ℕ} {A : Type 0} (P : ℕ → A → Type 0) (x : A) → ((n : ℕ) → l ≤ n → P n x) → From size l (closed ws x) P
@@ -95,17 +95,16 @@ module _ (size : ℕ) (old : Vocabulary) where
     end_from : {l : ℕ} {A : Type 0} (P : ℕ → A → Type 0) (x : A) → ((n : ℕ) → l ≤ n → P n x) → From size l (ended ws x) P
     end_from P x p = ended_from size old ws later P x p
 
-    annotation_from : (d l c : ℕ) → From size l (annotation ws c) (IsItemWithin d l)
-    unfolding annotation
-    annotation_from d l c =
-        from_then (from_any (fixed ws annot_open_kind)) (λ m _ le. from_then (from_each (each_at_most (clause_each size ws c))) (λ i a p.
-        from_then (from_any (fixed ws annot_close_kind)) (λ n _ lf. from_gives _ (record { item = record { is = (p.2.0 p.2.1, tt); short = tt; deep = omega arith }; declares = declares_none size old l n (omega (arith, le, lf, p.1)) }))))
+    placed_from : (d l : ℕ) (c : AnnotationState) → From size l (placed_annotation ws c) (IsItemWithin d l)
+    unfolding placed_annotation
+    placed_from d l c = from_then (from_each (annotations_each size ws c.number)) (λ n x p.
+        from_gives _ (record { item = record { is = p.2; short = tt; deep = omega arith }; declares = declares_none size old l n (omega (arith, p.1)) }))
 
     condition_from : (l : ℕ) → From size l (condition ws) (IsAlone IsFull l)
     unfolding condition
     condition_from l = from_then (from_any (mark ws left_paren)) (λ m _ le. from_then (from_each (full_each size ws)) (λ i e p. closed_from ws (IsAlone IsFull l) e (λ n lf. record { is = p.2; on = omega (arith, le, lf, p.1) })))
 
-    for_first_from : (l c : ℕ) → From size l (for_first ws c) (IsFirst l)
+    for_first_from : (l : ℕ) (c : AnnotationState) → From size l (for_first ws c) (IsFirst l)
     unfolding for_first
     for_first_from l c =
         from_choice (kind ws) first_type
@@ -138,7 +137,7 @@ module _ (size : ℕ) (old : Vocabulary) where
         (from_then (from_each (full_effect_each size ws)) (λ i e p. closed_from ws P (Some e.0) (λ n le. record { is = p.2.is; short = p.2.short; on = omega (arith, le, p.1) })))
         (closed_from ws P None (λ n le. record { is = tt; short = tt; on = le }))
 
-    jump_from : (d l c : ℕ) → From size l (jump ws c) (IsWithin (suc d) l)
+    jump_from : (d l : ℕ) (c : AnnotationState) → From size l (jump ws c) (IsWithin (suc d) l)
     unfolding jump
     jump_from d l c =
         let P = IsWithin (suc d) l in
@@ -146,32 +145,32 @@ module _ (size : ℕ) (old : Vocabulary) where
         (from_then (from_any (reserved ws keyword.Break)) (λ m at le. end_from P _ (λ n lf. record { is = tt; short = tt; deep = omega arith; declares = declares_none size old l n (omega (arith, le, lf)) })))
         (from_then (from_any (reserved ws keyword.Continue)) (λ m at le. end_from P _ (λ n lf. record { is = tt; short = tt; deep = omega arith; declares = declares_none size old l n (omega (arith, le, lf)) })))
 
-    return_from : (d l c : ℕ) → From size l (return_statement ws c) (IsWithin (suc d) l)
+    return_from : (d l : ℕ) (c : AnnotationState) → From size l (return_statement ws c) (IsWithin (suc d) l)
     unfolding return_statement
     return_from d l c = from_then (from_any (reserved ws keyword.Return)) (λ m at le. from_then (returned_from m)
         (λ n e p. from_gives _ (record { is = p.is; short = p.short; deep = omega arith; declares = declares_none size old l n (omega (arith, le, p.on)) })))
 
-    empty_from : (d l c : ℕ) → From size l (empty_statement ws c) (IsWithin (suc d) l)
+    empty_from : (d l : ℕ) (c : AnnotationState) → From size l (empty_statement ws c) (IsWithin (suc d) l)
     unfolding empty_statement
     empty_from d l c = from_then (from_any (mark ws semicolon)) (λ n at le. from_gives _ (record { is = tt; short = tt; deep = omega arith; declares = declares_none size old l n le }))
 
-    effect_from : (d l c : ℕ) → From size l (effect_statement ws c) (IsWithin (suc d) l)
+    effect_from : (d l : ℕ) (c : AnnotationState) → From size l (effect_statement ws c) (IsWithin (suc d) l)
     unfolding effect_statement
     effect_from d l c = from_then (from_each (full_call_each size ws)) (λ m e p. end_from (IsWithin (suc d) l) _
         (λ n le. record { is = p.2.is; short = p.2.short; deep = omega arith; declares = declares_none size old l n (omega (arith, le, p.1)) }))
 
     -- ---- statements in statements
 
-    module _ (d : ℕ) {S : Numbered} (each : (l c : ℕ) → From size l (S c) (IsWithin d l)) where
-      item_from : (l c : ℕ) → From size l (item ws S c) (IsItemWithin d l)
+    module _ (d : ℕ) {T : Numbered} (each : (l : ℕ) (c : AnnotationState) → From size l (T c) (IsWithin d l)) where
+      item_from : (l : ℕ) (c : AnnotationState) → From size l (item ws T c) (IsItemWithin d l)
       unfolding item
       item_from l c =
-          from_choice (kind ws) (annot_open_kind ∷ []) (annotation_from d l c)
+          from_choice (kind ws) (annot_open_kind ∷ []) (placed_from d l c)
           (from_choice (kind ws) first_type
           (from_then (declaration_from size old ws later l) (λ n x h. from_gives _ (record { item = record { is = h.is; short = h.short; deep = omega (arith, h.flat) }; declares = h.declares })))
           (from_then (each l c) (λ n x p. from_gives _ (record { item = record { is = p.is; short = p.short; deep = p.deep }; declares = p.declares }))))
 
-      once_from : (l m : ℕ) (x : List BlockItem × ℕ) → AreItems d l m x → From size m (items_once ws S x) (AreItems d l)
+      once_from : (l m : ℕ) (x : List BlockItem × AnnotationState) → AreItems d l m x → From size m (items_once ws T x) (AreItems d l)
       unfolding items_once
       once_from l m x h = from_then (item_from m x.1) (λ n i p. from_gives _ (record {
         are = all_behind (IsItem d) x.0 i.0 h.are p.item;
@@ -179,11 +178,11 @@ module _ (size : ℕ) (old : Vocabulary) where
             (declares_joined size old l m n (declared_in_items (block_items x.0)) (declared_in_item i.0) h.declares p.declares);
       }))
 
-      pub items_from : (l m : ℕ) (x : List BlockItem × ℕ) → AreItems d l m x → From size m (items ws S x) (AreItems d l)
+      pub items_from : (l m : ℕ) (x : List BlockItem × AnnotationState) → AreItems d l m x → From size m (items ws T x) (AreItems d l)
       unfolding items
       items_from l m x h = from_many (kind ws) (λ _. first_item) {P = AreItems d l} (λ i y g. once_from l i y g) m x h
 
-      block_from : (l c : ℕ) → From size l (block ws S c) (IsWithin (suc d) l)
+      block_from : (l : ℕ) (c : AnnotationState) → From size l (block ws T c) (IsWithin (suc d) l)
       unfolding block
       block_from l c =
           from_then (from_any (mark ws left_brace)) (λ m at le. from_then (items_from l m ([], c) (record { are = tt; declares = declares_none size old l m le })) (λ i x h.
@@ -194,7 +193,8 @@ module _ (size : ℕ) (old : Vocabulary) where
             declares = declares_higher size old l i n (declared_in_items (block_items x.0)) lf h.declares;
           }))))
 
-      else_branch_from : (at : Place) (e : Expression) (l m : ℕ) (x : Statement × ℕ) → IsFull e → IsWithin d l m x → From size m (else_branch ws S at e x) (IsWithin (suc d) l)
+    module _ (d : ℕ) {S : Numbered} (each : (l : ℕ) (c : AnnotationState) → From size l (S c) (IsWithin d l)) where
+      else_branch_from : (at : Place) (e : Expression) (l m : ℕ) (x : Statement × AnnotationState) → IsFull e → IsWithin d l m x → From size m (else_branch ws S at e x) (IsWithin (suc d) l)
       unfolding else_branch
       else_branch_from at e l m x p q =
           from_then (from_any (reserved ws keyword.Else)) (λ i _ le. from_then (each i x.1) (λ n y r. from_gives _ (record {
@@ -204,7 +204,7 @@ module _ (size : ℕ) (old : Vocabulary) where
             declares = declares_joined size old l m n (declared_within x.0) (declared_within y.0) q.declares (declares_lower size old m i n (declared_within y.0) le r.declares);
           })))
 
-      else_part_from : (at : Place) (e : Expression) (l m : ℕ) (x : Statement × ℕ) → IsFull e → IsWithin d l m x → From size m (else_part ws S at e x) (IsWithin (suc d) l)
+      else_part_from : (at : Place) (e : Expression) (l m : ℕ) (x : Statement × AnnotationState) → IsFull e → IsWithin d l m x → From size m (else_part ws S at e x) (IsWithin (suc d) l)
       unfolding else_part
       else_part_from at e l m x p q =
           let alone : IsWithin (suc d) l m (If at e x.0 NoElse, x.1) = record {
@@ -215,19 +215,19 @@ module _ (size : ℕ) (old : Vocabulary) where
           } in
           from_cond (is_open x.0) (λ _. from_gives _ alone) (λ _. from_choice (kind ws) (keyword_kind keyword.Else ∷ []) (else_branch_from at e l m x p q) (from_gives _ alone))
 
-      selection_from : (l c : ℕ) → From size l (selection ws S c) (IsWithin (suc d) l)
+      selection_from : (l : ℕ) (c : AnnotationState) → From size l (selection ws S c) (IsWithin (suc d) l)
       unfolding selection
       selection_from l c =
           from_then (from_any (reserved ws keyword.If)) (λ m at le. from_then (condition_from m) (λ i e p. from_then (each i c) (λ n x q.
           else_part_from at e l n x p.is (lower d l i n x (omega (arith, le, p.on)) q))))
 
-      while_from : (l c : ℕ) → From size l (while_loop ws S c) (IsWithin (suc d) l)
+      while_from : (l : ℕ) (c : AnnotationState) → From size l (while_loop ws S c) (IsWithin (suc d) l)
       unfolding while_loop
       while_from l c =
           from_then (from_any (reserved ws keyword.While)) (λ m at le. from_then (condition_from m) (λ i e p. from_then (each i c) (λ n x q.
           from_gives _ (record { is = (refl, p.is.is, q.is); short = (p.is.short, q.short); deep = omega (arith, q.deep); declares = (lower d l i n x (omega (arith, le, p.on)) q).declares }))))
 
-      do_from : (l c : ℕ) → From size l (do_loop ws S c) (IsWithin (suc d) l)
+      do_from : (l : ℕ) (c : AnnotationState) → From size l (do_loop ws S c) (IsWithin (suc d) l)
       unfolding do_loop
       do_from l c =
           from_then (from_any (reserved ws keyword.Do)) (λ m at le. from_then (each m c) (λ i x q. from_then (from_any (reserved ws keyword.While)) (λ j _ lf. from_then (condition_from j) (λ k e p.
@@ -238,7 +238,7 @@ module _ (size : ℕ) (old : Vocabulary) where
             declares = declares_higher size old l i n (declared_within x.0) (omega (arith, lf, p.on, lg)) (lower d l m i x le q).declares;
           })))))
 
-      for_from : (l c : ℕ) → From size l (for_loop ws S c) (IsWithin (suc d) l)
+      for_from : (l : ℕ) (c : AnnotationState) → From size l (for_loop ws S c) (IsWithin (suc d) l)
       unfolding for_loop
       for_from l c =
           from_then (from_any (reserved ws keyword.For)) (λ m at le. from_then (from_any (mark ws left_paren)) (λ i _ lf. from_then (for_first_from i c) (λ j f h. from_then (maybe_from j) (λ k e p.
@@ -251,20 +251,42 @@ module _ (size : ℕ) (old : Vocabulary) where
                 (lower d j o n x (omega (arith, p.on, r.on)) q).declares;
           })))))))
 
-      statement_of_from : (l c : ℕ) → From size l (statement_of ws S c) (IsWithin (suc d) l)
+    module _ (d : ℕ) {T S : Numbered} (t : (l : ℕ) (c : AnnotationState) → From size l (T c) (IsWithin d l)) (s : (l : ℕ) (c : AnnotationState) → From size l (S c) (IsWithin d l)) where
+      statement_of_from : (l : ℕ) (c : AnnotationState) → From size l (statement_of ws T S c) (IsWithin (suc d) l)
       unfolding statement_of
       statement_of_from l c =
-          from_choice (kind ws) (mark_kind left_brace ∷ []) (block_from l c)
+          from_choice (kind ws) (mark_kind left_brace ∷ []) (block_from d t l c)
           (from_choice (kind ws) (mark_kind semicolon ∷ []) (empty_from d l c)
-          (from_choice (kind ws) (keyword_kind keyword.If ∷ []) (selection_from l c)
-          (from_choice (kind ws) (keyword_kind keyword.While ∷ []) (while_from l c)
-          (from_choice (kind ws) (keyword_kind keyword.Do ∷ []) (do_from l c)
-          (from_choice (kind ws) (keyword_kind keyword.For ∷ []) (for_from l c)
+          (from_choice (kind ws) (keyword_kind keyword.If ∷ []) (selection_from d s l c)
+          (from_choice (kind ws) (keyword_kind keyword.While ∷ []) (while_from d s l c)
+          (from_choice (kind ws) (keyword_kind keyword.Do ∷ []) (do_from d s l c)
+          (from_choice (kind ws) (keyword_kind keyword.For ∷ []) (for_from d s l c)
           (from_choice (kind ws) (keyword_kind keyword.Return ∷ []) (return_from d l c)
           (from_choice (kind ws) (keyword_kind keyword.Break ∷ keyword_kind keyword.Continue ∷ []) (jump_from d l c) (effect_from d l c))))))))
 
+    -- annotations before a statement are passed over
+    branch_of_from : (d : ℕ) {T S : Numbered} → ((l : ℕ) (c : AnnotationState) → From size l (T c) (IsWithin (suc d) l)) → ((l : ℕ) (c : AnnotationState) → From size l (S c) (IsWithin d l)) → (l : ℕ) (c : AnnotationState)
+        → From size l (branch_of ws T S c) (IsWithin (suc d) l)
+    unfolding branch_of
+    branch_of_from d t s l c =
+        from_choice (kind ws) (annot_open_kind ∷ [])
+        (from_then (from_any (misplaced ws c)) (λ m x le. from_more (λ n y p. (let q = lower d l m n y le p in record { is = q.is; short = q.short; deep = omega (arith, q.deep); declares = q.declares })) (s m x)))
+        (t l c)
+
     -- a statement of the last depth is read as if none could stand in it
-    pub statement_in_from : (d l c : ℕ) → From size l (statement_in ws d c) (IsWithin (suc d) l)
+    record AreFrom (d : ℕ) : Type 0 where
+      statement : (l : ℕ) (c : AnnotationState) → From size l (statement_in ws d c) (IsWithin (suc d) l)
+      branch : (l : ℕ) (c : AnnotationState) → From size l (branch_in ws d c) (IsWithin (suc d) l)
+
+    at_depth : (d : ℕ) → AreFrom d
     unfolding statement_in
-    statement_in_from zero l c = record { holds = (statement_of_from 0 (λ m k. from_none) l c).holds }
-    statement_in_from (suc d) l c = statement_of_from (suc d) (statement_in_from d) l c
+    at_depth zero =
+        let last = statement_of_from 0 (λ m k. from_none) (λ m k. from_none) in
+        record { statement = λ l c. record { holds = (last l c).holds }; branch = λ l c. record { holds = (branch_of_from 0 last (λ m k. from_none) l c).holds } }
+    at_depth (suc d) =
+        let h = at_depth d in
+        let each = statement_of_from (suc d) h.statement h.branch in
+        record { statement = each; branch = branch_of_from (suc d) each h.branch }
+
+    pub statement_in_from : (d l : ℕ) (c : AnnotationState) → From size l (statement_in ws d c) (IsWithin (suc d) l)
+    statement_in_from d l c = (at_depth d).statement l c

@@ -1,5 +1,6 @@
--- The tokens of a C text: its names are words, a word token has the number of a name, literals are never negative, and strings are of bytes.
-use Rattle.std.proofs.Common.{◌≡◌, ℕ, zero, suc, ◌<◌, ◌≤◌, pos, ◌≤ℤ◌, Bool, true, false, cond, ◌&&◌, ◌||◌, nat_eq, ltb, List, [], ◌∷◌, ◌++◌, length, length-append, drop, map}
+-- The tokens of a C text: its names are words, a word token has the number of a name, literals are never negative, characters are
+-- those of bytes, and strings are of bytes.
+use Rattle.std.proofs.Common.{◌≡◌, ℕ, zero, suc, ◌<◌, ◌≤◌, ◌-◌, pos, negsuc, ◌≤ℤ◌, nat_lt, Bool, true, false, cond, if◌then◌else◌, ◌&&◌, ◌||◌, nat_eq, ltb, List, [], ◌∷◌, ◌++◌, length, length-append, drop, map}
 use Rattle.std.proofs.Common.{Some, Result, Ok, Err, ◌⊎◌, inl, inr, bytes_eq, refl, sym, ap, subst, ◌∙◌, arith}
 use Rattle.std.proofs.lemmas.Bool.{eqb-true}
 use Rattle.std.proofs.lemmas.Int.{ints}
@@ -15,6 +16,7 @@ use Rattle.c_model.specs.declared.c_tokens.Piece.{Piece}
 use Rattle.c_model.specs.declared.c_tokens.Piece.TheVariants as piece
 use Rattle.c_model.specs.declared.c_tokens.Fault.TheVariants as fault
 use Rattle.c_model.specs.Characters.{is_nondigit, is_part}
+use Rattle.c_model.specs.Literals.{signed_char}
 use Rattle.c_model.specs.Names.{with_name, name_number}
 use Rattle.c_model.specs.MonitoredTokens.{Read, whole, nothing_read}
 use Rattle.c_model.specs.MonitoredTokenLaws.{with_names}
@@ -122,7 +124,7 @@ number_within names w = within (with_name names w) (name_number names w) w (numb
 kind_more : (n m : ℕ) (k : PlainTokenKind) → n ≤ m → IsLexedKind n k → IsLexedKind m k
 kind_more n m (token.Word i) le h = omega (arith, h)
 kind_more n m (token.Number z t) le h = h
-kind_more n m (token.Letter z) le h = tt
+kind_more n m (token.Letter z) le h = h
 kind_more n m (token.Chars bytes) le h = h
 kind_more n m (token.Mark i) le h = tt
 kind_more n m token.AnnotOpen le h = tt
@@ -147,7 +149,7 @@ joined_lexed n t at bs h are = by t.kind t.place h
     by (token.Chars cs) p h = (bytes_joined cs bs h are, tt)
     by (token.Word i) p h = (h, (are, tt))
     by (token.Number v c) p h = (h, (are, tt))
-    by (token.Letter v) p h = (tt, (are, tt))
+    by (token.Letter v) p h = (h, (are, tt))
     by (token.Mark i) p h = (tt, (are, tt))
     by token.AnnotOpen p h = (tt, (are, tt))
     by token.AnnotClose p h = (tt, (are, tt))
@@ -168,6 +170,14 @@ grows names w = by (list_any (bytes_eq w) names)
 abbrev IsRead : Read → Type 0
 IsRead r = AreLexed (length r.names) r.list
 
+-- a character is no number below those of bytes
+is_character : (c : ℕ) → negsuc 255 ≤ℤ signed_char c
+is_character c = by (nat_lt c 128)
+  where
+    by : (b : Bool) → negsuc 255 ≤ℤ (if b then pos c else negsuc (255 - c))
+    by true = omega (arith, ints)
+    by false = omega (arith, ints)
+
 add_lexed : (r : Read) (at : Place) (p : Piece) (bs : List ℕ) → AreBytes bs → IsRead r → IsRead (add r at p bs)
 unfolding add
 add_lexed r at piece.Blank bs are h = h
@@ -175,7 +185,7 @@ add_lexed r at (piece.Open m) bs are h = behind (length r.names) r.list _ h tt
 add_lexed r at piece.Close bs are h = behind (length r.names) r.list _ h tt
 add_lexed r at piece.Word bs are h = behind (length (with_name r.names bs)) r.list _ (all_more (length r.names) (length (with_name r.names bs)) r.list (grows r.names bs) h) (number_within r.names bs)
 add_lexed r at (piece.Number v t) bs are h = behind (length r.names) r.list _ h (let zero_below : pos 0 ≤ℤ pos v = omega (arith, ints) in zero_below)
-add_lexed r at (piece.Letter c) bs are h = behind (length r.names) r.list _ h tt
+add_lexed r at (piece.Letter c) bs are h = behind (length r.names) r.list _ h (is_character c)
 add_lexed r at piece.Chars bs are h = string_lexed (length r.names) r.list at _ h (string_is_bytes (drop 1 bs) 0 (bytes_dropped 1 bs are))
 add_lexed r at (piece.Mark k) bs are h = behind (length r.names) r.list _ h tt
 

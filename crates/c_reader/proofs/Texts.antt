@@ -1,26 +1,34 @@
 -- A text has one answer: its program, or its refusal.
 use Rattle.std.proofs.Common.{◌≡◌, ℕ, List, Option, Some, None, Result, Ok, Err, refl, sym, ap, subst, ◌∙◌}
 use Rattle.grammar.specs.Syntax as grammar
+use Rattle.grammar.specs.Exact.{Accepts}
 use Rattle.grammar.proofs.OneAnswer.{one_fault}
+use Rattle.c_syntax.specs.RefusalCodes.{misplaced_code}
+use Rattle.c_syntax.specs.declared.place.Place.{Place}
 use Rattle.c_syntax.specs.Tokens.{PlainTokens}
 use Rattle.c_syntax.specs.Programs.{TranslationUnit, PlainRefusal}
 use Rattle.c_model.specs.CTokens.{tokens_of}
 use Rattle.c_model.specs.Checked.{Fault, Checked, Good, Bad, least, refusing}
 use Rattle.c_model.specs.UnitTyping.{typed_unit, room_fault, main_fault}
 use Rattle.c_model.specs.AnnotationTyping.{noted_unit}
+use Rattle.c_model.specs.AnnotationRanges.{ranged_unit}
 use Rattle.c_model.specs.ProgramGrammar.{texts_of, unit}
-use Rattle.c_model.specs.Phases.{vocabulary, IsRead, IsSyntaxFault, checked_refusal, main_refusal, AcceptedText, RefusedText, ByTokens, ByGrammar, ByNamesAndTypes, ForRoom, ForMain, ByAnnotations}
-use Rattle.c_model.specs.TokenWords.{syntax_refusal}
+use Rattle.c_model.specs.Phases.{vocabulary, IsRead, IsMisplaced, IsSyntaxFault, checked_refusal, main_refusal, AcceptedText, RefusedText, ByTokens, ByGrammar, ByPlaces, ByNamesAndTypes, ForRoom, ForMain, ByAnnotations, ByRanges}
+use Rattle.c_model.specs.TokenWords.{syntax_refusal, refused_at_place}
 use Rattle.c_parser.proofs.Answers.{fronts, limits}
 use Rattle.c_parser.proofs.ExactPrograms.{one_unit}
 
 abbrev pub Answer : Type 0
 Answer = Result TranslationUnit PlainRefusal
 
--- ---- what names, types, room and `main` say of a tree
+-- ---- what names, types, room, `main` and ranges say of a tree
+
+abbrev ranged : PlainTokens → Checked TranslationUnit → Answer
+ranged ts (Good p) = Ok p
+ranged ts (Bad f fs) = Err (checked_refusal ts (least f fs))
 
 abbrev noted : PlainTokens → Checked TranslationUnit → Answer
-noted ts (Good p) = Ok p
+noted ts (Good p) = ranged ts (ranged_unit p)
 noted ts (Bad f fs) = Err (checked_refusal ts (least f fs))
 
 abbrev entered : PlainTokens → TranslationUnit → Option Fault → Answer
@@ -46,6 +54,10 @@ noted_fault : (ts : PlainTokens) (c : Checked TranslationUnit) (f : Fault) → r
 noted_fault ts (Good p) f e = absurd cc
 noted_fault ts (Bad g gs) f e = let same : least g gs ≡ f = cc in ap (λ x. Err (checked_refusal ts x)) same
 
+ranged_fault : (ts : PlainTokens) (c : Checked TranslationUnit) (f : Fault) → refusing c ≡ Some f → ranged ts c ≡ Err (checked_refusal ts f)
+ranged_fault ts (Good p) f e = absurd cc
+ranged_fault ts (Bad g gs) f e = let same : least g gs ≡ f = cc in ap (λ x. Err (checked_refusal ts x)) same
+
 -- ---- the answers on a text
 
 -- the tokens are no program
@@ -55,6 +67,15 @@ record IsUnread (text : List ℕ) (a : Answer) : Type 0 where
   fault : grammar.Fault
   found : IsSyntaxFault tokens fault
   is : a ≡ Err (syntax_refusal tokens fault)
+
+-- they are one, in which an annotation is misplaced
+record IsUnplaced (text : List ℕ) (a : Answer) : Type 0 where
+  tokens : PlainTokens
+  has : tokens_of text ≡ Ok tokens
+  tree : TranslationUnit
+  place : Place
+  found : IsMisplaced tokens tree place
+  is : a ≡ Err (refused_at_place tokens misplaced_code place)
 
 -- they are one
 record HasTree (text : List ℕ) (a : Answer) : Type 0 where
@@ -67,6 +88,7 @@ record HasTree (text : List ℕ) (a : Answer) : Type 0 where
 data Answers (text : List ℕ) (a : Answer) : Type 0 where
   NoTokens : (r : PlainRefusal) → tokens_of text ≡ Err r → a ≡ Err r → Answers text a
   NoTree : IsUnread text a → Answers text a
+  Unplaced : IsUnplaced text a → Answers text a
   Tree : HasTree text a → Answers text a
 
 -- ---- one answer
@@ -91,18 +113,51 @@ both_unread text a b x y =
     x.is ∙ (λ i. Err (syntax_refusal (sym same i) (fault i))) ∙ sym y.is
 
 unread_apart : (text : List ℕ) (a b : Answer) → IsUnread text a → HasTree text b → ⊥
-unread_apart text a b x y = x.found.unread y.tree (subst (λ (ts : PlainTokens). IsRead ts y.tree) (one_tokens text y.tokens x.tokens y.has x.has) y.read)
+unread_apart text a b x y = x.found.unread (y.tree, None) (subst (λ (ts : PlainTokens). IsRead ts y.tree) (one_tokens text y.tokens x.tokens y.has x.has) y.read)
+
+unread_placed : (text : List ℕ) (a b : Answer) → IsUnread text a → IsUnplaced text b → ⊥
+unread_placed text a b x y = x.found.unread (y.tree, Some y.place) (subst (λ (ts : PlainTokens). IsMisplaced ts y.tree y.place) (one_tokens text y.tokens x.tokens y.has x.has) y.found)
+
+-- tokens are read in one way, with one place of the first misplaced annotation
+one_reading : (ts : PlainTokens) (p q : TranslationUnit) (m n : Option Place) → Accepts (unit (vocabulary ts) ts.names (texts_of ts.list)) ts.list (p, m) → Accepts (unit (vocabulary ts) ts.names (texts_of ts.list)) ts.list (q, n)
+    → ◌≡◌ {A = TranslationUnit × Option Place} (p, m) (q, n)
+one_reading ts p q m n x y = one_unit (vocabulary ts) ts.names (texts_of ts.list) ts.list (p, m) (q, n) x y
+
+some_place : (at to : Place) → Some at ≡ Some to → at ≡ to
+some_place at to e = cc
+
+place_or_none : (at : Place) → Some at ≡ None → ⊥
+place_or_none at e = cc
+
+both_unplaced : (text : List ℕ) (a b : Answer) → IsUnplaced text a → IsUnplaced text b → a ≡ b
+both_unplaced text a b x y =
+    let same = one_tokens text y.tokens x.tokens y.has x.has in
+    let moved = subst (λ (ts : PlainTokens). IsMisplaced ts y.tree y.place) same y.found in
+    let place = some_place x.place y.place (ap (λ (z : TranslationUnit × Option Place). z.1) (one_reading x.tokens x.tree y.tree (Some x.place) (Some y.place) x.found moved)) in
+    x.is ∙ (λ i. Err (refused_at_place (sym same i) misplaced_code (place i))) ∙ sym y.is
+
+placed_apart : (text : List ℕ) (a b : Answer) → IsUnplaced text a → HasTree text b → ⊥
+placed_apart text a b x y =
+    let moved = subst (λ (ts : PlainTokens). IsRead ts y.tree) (one_tokens text y.tokens x.tokens y.has x.has) y.read in
+    place_or_none x.place (ap (λ (z : TranslationUnit × Option Place). z.1) (one_reading x.tokens x.tree y.tree (Some x.place) None x.found moved))
 
 both_trees : (text : List ℕ) (a b : Answer) → HasTree text a → HasTree text b → a ≡ b
 both_trees text a b x y =
     let same = one_tokens text y.tokens x.tokens y.has x.has in
-    let tree = one_unit (vocabulary x.tokens) x.tokens.names (texts_of x.tokens.list) x.tokens.list x.tree y.tree x.read (subst (λ (ts : PlainTokens). IsRead ts y.tree) same y.read) in
+    let tree = ap (λ (z : TranslationUnit × Option Place). z.0) (one_reading x.tokens x.tree y.tree None None x.read (subst (λ (ts : PlainTokens). IsRead ts y.tree) same y.read)) in
     sym x.is ∙ (λ i. of_tree (sym same i) (tree i)) ∙ y.is
 
 one_answer : (text : List ℕ) (a b : Answer) → Answers text a → Answers text b → a ≡ b
 one_answer text a b (NoTokens r e p) (NoTokens s k q) = p ∙ ap Err (one_broken text r s e k) ∙ sym q
 one_answer text a b (NoTokens r e p) (NoTree y) = absurd (broken_apart text r y.tokens e y.has)
 one_answer text a b (NoTokens r e p) (Tree y) = absurd (broken_apart text r y.tokens e y.has)
+one_answer text a b (NoTokens r e p) (Unplaced y) = absurd (broken_apart text r y.tokens e y.has)
+one_answer text a b (Unplaced x) (NoTokens s k q) = absurd (broken_apart text s x.tokens k x.has)
+one_answer text a b (Unplaced x) (NoTree y) = absurd (unread_placed text b a y x)
+one_answer text a b (Unplaced x) (Unplaced y) = both_unplaced text a b x y
+one_answer text a b (Unplaced x) (Tree y) = absurd (placed_apart text a b x y)
+one_answer text a b (NoTree x) (Unplaced y) = absurd (unread_placed text a b x y)
+one_answer text a b (Tree x) (Unplaced y) = absurd (placed_apart text b a y x)
 one_answer text a b (NoTree x) (NoTokens s k q) = absurd (broken_apart text s x.tokens k x.has)
 one_answer text a b (NoTree x) (NoTree y) = both_unread text a b x y
 one_answer text a b (NoTree x) (Tree y) = absurd (unread_apart text a b x y)
@@ -118,12 +173,14 @@ accepted text p a = Tree (record {
   has = a.is_typed.tokens;
   tree = a.tree;
   read = a.is_typed.read;
-  is = ap (settled a.tokens) a.is_typed.is ∙ ap (housed a.tokens a.typed) a.room ∙ ap (entered a.tokens a.typed) a.main ∙ ap (noted a.tokens) a.noted;
+  is = ap (settled a.tokens) a.is_typed.is ∙ ap (housed a.tokens a.typed) a.room ∙ ap (entered a.tokens a.typed) a.main ∙ ap (noted a.tokens) a.is_noted
+      ∙ ap (ranged a.tokens) a.ranged;
 })
 
 refused : (text : List ℕ) (r : PlainRefusal) → RefusedText text r → Answers text (Err r)
 refused text r (ByTokens e) = NoTokens r e refl
 refused text r (ByGrammar ts f e g is) = NoTree (record { tokens = ts; has = e; fault = f; found = g; is = ap Err is })
+refused text r (ByPlaces ts p at e g is) = Unplaced (record { tokens = ts; has = e; tree = p; place = at; found = g; is = ap Err is })
 refused text r (ByNamesAndTypes ts p f e g k is) = Tree (record { tokens = ts; has = e; tree = p; read = g; is = settled_fault ts (typed_unit p) f k ∙ ap Err (sym is) })
 refused text r (ForRoom ts p t f h k is) =
     Tree (record { tokens = ts; has = h.tokens; tree = p; read = h.read; is = ap (settled ts) h.is ∙ ap (housed ts t) k ∙ ap Err (sym is) })
@@ -131,6 +188,13 @@ refused text r (ForMain ts p t f h l k is) =
     Tree (record { tokens = ts; has = h.tokens; tree = p; read = h.read; is = ap (settled ts) h.is ∙ ap (housed ts t) l ∙ ap (entered ts t) k ∙ ap Err (sym is) })
 refused text r (ByAnnotations ts p t f h l m k is) =
     Tree (record { tokens = ts; has = h.tokens; tree = p; read = h.read; is = ap (settled ts) h.is ∙ ap (housed ts t) l ∙ ap (entered ts t) m ∙ noted_fault ts (noted_unit t) f k ∙ ap Err (sym is) })
+refused text r (ByRanges ts p t n f h l m e k is) = Tree (record {
+  tokens = ts;
+  has = h.tokens;
+  tree = p;
+  read = h.read;
+  is = ap (settled ts) h.is ∙ ap (housed ts t) l ∙ ap (entered ts t) m ∙ ap (noted ts) e ∙ ranged_fault ts (ranged_unit n) f k ∙ ap Err (sym is);
+})
 
 -- ---- the laws
 

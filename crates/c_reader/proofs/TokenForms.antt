@@ -1,5 +1,5 @@
 -- The tokens of a text, and what holds of each reading of a production over them, by the number of its tokens.
-use Rattle.std.proofs.Common.{◌≡◌, ℕ, ◌<◌, pos, ◌≤ℤ◌, Option, Some, None, refl, ap, ◌∙◌}
+use Rattle.std.proofs.Common.{◌≡◌, ℕ, ◌<◌, pos, negsuc, ◌≤ℤ◌, Option, Some, None, refl, ap, ◌∙◌}
 use Rattle.grammar.specs.Syntax.{Syntax, one}
 use Rattle.grammar.proofs.Readings.{EachOf, each_one}
 use Rattle.c_syntax.specs.declared.place.Place.{Place}
@@ -8,10 +8,12 @@ use Rattle.c_syntax.specs.Tokens.{PlainTokenKind, PlainToken}
 use Rattle.c_model.specs.Terminals.{placed}
 use Rattle.c_model.specs.ReadTree.{AreBytes}
 
--- a token of a text with so many names: a word has one of their numbers, a literal is never negative, and a string is of bytes
+-- a token of a text with so many names: a word has one of their numbers, a literal is never negative, a character is a byte's, and a string is of
+-- bytes
 abbrev pub IsLexedKind : ℕ → PlainTokenKind → Type 0
 IsLexedKind size (token.Word n) = n < size
 IsLexedKind size (token.Number z t) = pos 0 ≤ℤ z
+IsLexedKind size (token.Letter z) = negsuc 255 ≤ℤ z
 IsLexedKind size (token.Chars bytes) = AreBytes bytes
 IsLexedKind size _ = Unit {0}
 

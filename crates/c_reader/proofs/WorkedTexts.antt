@@ -1,10 +1,11 @@
 -- C texts with annotations, and what their runs print and how they end, or their refusals, by computation.
-use Rattle.std.proofs.Common.{◌≡◌, ℕ, pos, negsuc, List, [], ◌∷◌, length, Result, Ok, Err, codes, refl}
+use Rattle.std.proofs.Common.{◌≡◌, ℕ, pos, negsuc, List, [], ◌∷◌, length, Option, Some, None, Result, Ok, Err, codes, refl}
 use Rattle.std.specs.Fmt.{decimal}
 use Rattle.grammar.specs.Syntax as grammar
 use Rattle.c_syntax.specs.declared.place.Place.{Place}
 use Rattle.c_syntax.specs.declared.annotation.Kind.TheVariants as clause
 use Rattle.c_syntax.specs.declared.types.How.TheVariants as how
+use Rattle.c_syntax.specs.RefusalCodes.{misplaced_code}
 use Rattle.c_syntax.specs.Tokens.{PlainToken, PlainTokens}
 use Rattle.c_syntax.specs.Programs.{TranslationUnit, PlainRefusal}
 use Rattle.c_model.specs.MonitoredTokens.{marks}
@@ -24,22 +25,26 @@ use Rattle.c_model.specs.DeclarationGrammar.{ended, maybe_comma, next_item, item
 use Rattle.c_model.specs.DeclarationGrammar.{declared_once, next_declared, more_declared, declared_list, declaration, parameter_rest, void_parameter, parameter_behind, parameter, next_parameter, more_parameters, first_parameter, parameters}
 use Rattle.c_model.specs.DeclarationGrammar.{next_member, members_of, behind_tag, behind_word, tagged_type, braced, member, more_members, struct_braces, constant_value, constant, enum_braces, braces_of, braces_in, storage_word}
 use Rattle.c_model.specs.DeclarationGrammar.{more_storage, file_spec}
-use Rattle.c_model.specs.ProgramGrammar.{texts_of, atom, sum_once, sum_of, sum, assert_clause, annotation, condition, else_branch, else_part, selection, while_loop, do_loop, for_first, maybe_ended, for_behind, for_loop, jump, returned}
-use Rattle.c_model.specs.ProgramGrammar.{return_statement, item, items_once, items, block, empty_statement, effect_statement, statement_of, statement_in, function_rest, function, globals, behind_declarator, declared_at_file, next_typedef}
-use Rattle.c_model.specs.ProgramGrammar.{more_typedefs, typedefs, external, more_external, unit}
+use Rattle.c_model.specs.AnnotationGrammar.{named_form, literal_form, sized_form, atom, cast_behind, cast_to_type, cast_to_integer, parenthesised, behind_parenthesis}
+use Rattle.c_model.specs.AnnotationGrammar.{prefixed as formula_prefixed, prefix_of, prefix, joined_once as formula_joined_once, joined_more, joined, linked, links_of, links, chain_of, implied}
+use Rattle.c_model.specs.AnnotationGrammar.{implication_of, choice_behind, implication, form_of, form, assert_clause, full_clause, next_assert, asserts, annotations}
+use Rattle.c_model.specs.ProgramGrammar.{texts_of, misplaced, placed_annotation, condition, else_branch, else_part, selection, while_loop, do_loop, for_first, maybe_ended, for_behind, for_loop, jump, returned}
+use Rattle.c_model.specs.ProgramGrammar.{return_statement, item, items_once, items, block, empty_statement, effect_statement, statement_of, branch_of, statement_in, branch_in, function_rest, function, globals, behind_declarator, declared_at_file}
+use Rattle.c_model.specs.ProgramGrammar.{next_typedef, more_typedefs, typedefs, stray, declared_external, external, more_external, unit}
 use Rattle.c_model.specs.State.{EndOfInput, Final, Exits, Broken, Undefined}
 use Rattle.c_model.specs.Meaning.{run}
 use Rattle.c_model.specs.Phases.{vocabulary}
-use Rattle.c_model.specs.TokenWords.{syntax_refusal}
+use Rattle.c_model.specs.TokenWords.{syntax_refusal, refused_at_place}
 use Rattle.c_reader.proofs.Texts.{Answer, of_tree}
 
 abbrev place : ℕ → ℕ → ℕ → Place
 place line column offset = record { line = line; column = column; offset = offset }
 
 -- the answer to tokens that are read to the end, or not
-abbrev read_as : PlainTokens → Result (TranslationUnit × List PlainToken) grammar.Fault → Answer
-read_as ts (Ok (p, [])) = of_tree ts p
-read_as ts (Ok (p, t ∷ rest)) = Err (syntax_refusal ts (grammar.At (length (t ∷ rest))))
+abbrev read_as : PlainTokens → Result ((TranslationUnit × Option Place) × List PlainToken) grammar.Fault → Answer
+read_as ts (Ok ((p, None), [])) = of_tree ts p
+read_as ts (Ok ((p, Some at), [])) = Err (refused_at_place ts misplaced_code at)
+read_as ts (Ok (x, t ∷ rest)) = Err (syntax_refusal ts (grammar.At (length (t ∷ rest))))
 read_as ts (Err f) = Err (syntax_refusal ts f)
 
 abbrev answer : List ℕ → Answer
@@ -69,7 +74,8 @@ programs :
     outcome (codes "int main(void) { int i = 0; for (i = 1; i < 9; i *= 2) { if (i == 2) continue; putchar('0' + i); } return i; }") ∷
     outcome (codes "int main(void) { long a = 1, b = (short)65537; do { ++a; if (a) break; } while (1); return a == 2 ? b : 0 / 0; }") ∷
     outcome (codes "int main(void) { int x = 0; return x && 1 / x || !x & ~0 ^ 4; }") ∷
-    outcome (codes "int main(void) { int x = INT_MAX; /*@ assert x + 1 > x; */ x = x - CHAR_BIT; /*@ assert x == 3; */ return 0; }") ∷ []
+    outcome (codes "int main(void) { int x = INT_MAX; /*@ assert x + 1 > x; */ x = x - CHAR_BIT; /*@ assert x == 3; */ return 0; }") ∷
+    outcome (codes "int main(void) { int x = 7; /*@ assert 0 <= x < 8 ==> x % 2 == 1; assert !(x / 0 == 1); */ return 0; }") ∷ []
     ≡
     Ok (Exits (negsuc 2), 65 ∷ []) ∷
     Ok (Exits (pos 1), 121 ∷ []) ∷
@@ -79,7 +85,8 @@ programs :
     Ok (Exits (pos 16), 49 ∷ 52 ∷ 56 ∷ []) ∷
     Ok (Exits (pos 1), []) ∷
     Ok (Exits (pos 1), []) ∷
-    Ok (Broken 2 1 clause.Assert how.False, []) ∷ []
+    Ok (Broken 2 1 clause.Assert how.False, []) ∷
+    Ok (Broken 2 1 clause.Assert how.Undefined, []) ∷ []
 unfolding tokens_of build cut piece_at add marks digits_at suffix_of body_of literal_of escape_at unit_at letter_of is_file ends_marker headers include_fault directive_fault outside_in_c outside_in_annotations backslash_names is_outside
     word_at number_at letter_at string_at annotation_marks c_mark_at mark_at comment_at open_block open_line other_at directive_at integer_word integer_words typedef_name struct_tag enum_tag untagged_base base consts type_words
     type_behind more_consts star next_star star_words written_length length_or_none bracket next_bracket brackets type_name closed indexed dotted arrowed postfix_once postfixes postfix_rest literal literal_first cast_rest sized_type
@@ -87,9 +94,11 @@ unfolding tokens_of build cut piece_at add marks digits_at suffix_of body_of lit
     assigned_value assigned bumped behind_unary behind_postfix behind_form effect_rest bump_first effect_but_name effect behind_name effect_or_call full_expression full_expression_or_call full_effect full_effect_or_call ended maybe_comma
     next_item item_once more_items listed lengths dtor full_dtor maybe_name abstract_dtor full_abstract_dtor item_of_list list_of list_in initialiser initialised declared_once next_declared more_declared declared_list declaration
     parameter_rest void_parameter parameter_behind parameter next_parameter more_parameters first_parameter parameters next_member members_of behind_tag behind_word tagged_type braced member more_members struct_braces constant_value
-    constant enum_braces braces_of braces_in storage_word more_storage file_spec atom sum_once sum_of sum assert_clause annotation condition else_branch else_part selection while_loop do_loop for_first maybe_ended for_behind for_loop jump
-    returned return_statement item items_once items block empty_statement effect_statement statement_of statement_in function_rest function globals behind_declarator declared_at_file next_typedef more_typedefs typedefs external
-    more_external unit word_of library_constant is_library_name
+    constant enum_braces braces_of braces_in storage_word more_storage file_spec named_form literal_form sized_form atom cast_behind cast_to_type cast_to_integer parenthesised
+    behind_parenthesis formula_prefixed prefix_of prefix formula_joined_once joined_more joined linked links_of links chain_of implied implication_of choice_behind implication form_of form assert_clause full_clause next_assert
+    asserts annotations misplaced placed_annotation condition else_branch else_part selection while_loop do_loop for_first maybe_ended for_behind for_loop jump
+    returned return_statement item items_once items block empty_statement effect_statement statement_of branch_of statement_in branch_in function_rest function globals behind_declarator declared_at_file next_typedef more_typedefs typedefs
+    stray declared_external external more_external unit word_of library_constant is_library_name
 programs = refl
 
 -- texts that are refused
@@ -110,7 +119,9 @@ refusals :
     outcome (codes "int main(void) { return; }") ∷
     outcome (codes "int main(void) { continue; }") ∷
     outcome (codes "int main(void) { return 18446744073709551615; }") ∷
-    outcome (codes "int main(void) { //@ assert x == 0;\n }") ∷ []
+    outcome (codes "int main(void) { //@ assert x == 0;\n }") ∷
+    outcome (codes "int main(void) { int x = 1; /*@ assert (x < 1) + 1 == 2; */ return 0; }") ∷
+    outcome (codes "int main(void) { int x = 1; /*@ assert 1 << x == 2; */ return 0; }") ∷ []
     ≡
     refusal 13 (place 1 1 0) (codes "main") ∷
     refusal 13 (place 1 6 5) (codes "main") ∷
@@ -128,7 +139,9 @@ refusals :
     refusal 6 (place 1 18 17) (codes "return") ∷
     refusal 6 (place 1 18 17) (codes "continue") ∷
     refusal 6 (place 1 25 24) (decimal 18446744073709551615) ∷
-    refusal 5 (place 1 29 28) (codes "x") ∷ []
+    refusal 5 (place 1 29 28) (codes "x") ∷
+    refusal 6 (place 1 48 47) (codes "+") ∷
+    refusal 10 (place 1 42 41) (codes "<<") ∷ []
 unfolding tokens_of build cut piece_at add marks digits_at suffix_of body_of literal_of escape_at unit_at letter_of is_file ends_marker headers include_fault directive_fault outside_in_c outside_in_annotations backslash_names is_outside
     word_at number_at letter_at string_at annotation_marks c_mark_at mark_at comment_at open_block open_line other_at directive_at integer_word integer_words typedef_name struct_tag enum_tag untagged_base base consts type_words
     type_behind more_consts star next_star star_words written_length length_or_none bracket next_bracket brackets type_name closed indexed dotted arrowed postfix_once postfixes postfix_rest literal literal_first cast_rest sized_type
@@ -136,9 +149,11 @@ unfolding tokens_of build cut piece_at add marks digits_at suffix_of body_of lit
     assigned_value assigned bumped behind_unary behind_postfix behind_form effect_rest bump_first effect_but_name effect behind_name effect_or_call full_expression full_expression_or_call full_effect full_effect_or_call ended maybe_comma
     next_item item_once more_items listed lengths dtor full_dtor maybe_name abstract_dtor full_abstract_dtor item_of_list list_of list_in initialiser initialised declared_once next_declared more_declared declared_list declaration
     parameter_rest void_parameter parameter_behind parameter next_parameter more_parameters first_parameter parameters next_member members_of behind_tag behind_word tagged_type braced member more_members struct_braces constant_value
-    constant enum_braces braces_of braces_in storage_word more_storage file_spec atom sum_once sum_of sum assert_clause annotation condition else_branch else_part selection while_loop do_loop for_first maybe_ended for_behind for_loop jump
-    returned return_statement item items_once items block empty_statement effect_statement statement_of statement_in function_rest function globals behind_declarator declared_at_file next_typedef more_typedefs typedefs external
-    more_external unit word_of library_constant is_library_name
+    constant enum_braces braces_of braces_in storage_word more_storage file_spec named_form literal_form sized_form atom cast_behind cast_to_type cast_to_integer parenthesised
+    behind_parenthesis formula_prefixed prefix_of prefix formula_joined_once joined_more joined linked links_of links chain_of implied implication_of choice_behind implication form_of form assert_clause full_clause next_assert
+    asserts annotations misplaced placed_annotation condition else_branch else_part selection while_loop do_loop for_first maybe_ended for_behind for_loop jump
+    returned return_statement item items_once items block empty_statement effect_statement statement_of branch_of statement_in branch_in function_rest function globals behind_declarator declared_at_file next_typedef more_typedefs typedefs
+    stray declared_external external more_external unit word_of library_constant is_library_name
 refusals = refl
 
 -- functions, their prototypes and calls, and declarations in blocks
@@ -165,9 +180,11 @@ unfolding tokens_of build cut piece_at add marks digits_at suffix_of body_of lit
     assigned_value assigned bumped behind_unary behind_postfix behind_form effect_rest bump_first effect_but_name effect behind_name effect_or_call full_expression full_expression_or_call full_effect full_effect_or_call ended maybe_comma
     next_item item_once more_items listed lengths dtor full_dtor maybe_name abstract_dtor full_abstract_dtor item_of_list list_of list_in initialiser initialised declared_once next_declared more_declared declared_list declaration
     parameter_rest void_parameter parameter_behind parameter next_parameter more_parameters first_parameter parameters next_member members_of behind_tag behind_word tagged_type braced member more_members struct_braces constant_value
-    constant enum_braces braces_of braces_in storage_word more_storage file_spec atom sum_once sum_of sum assert_clause annotation condition else_branch else_part selection while_loop do_loop for_first maybe_ended for_behind for_loop jump
-    returned return_statement item items_once items block empty_statement effect_statement statement_of statement_in function_rest function globals behind_declarator declared_at_file next_typedef more_typedefs typedefs external
-    more_external unit word_of library_constant is_library_name
+    constant enum_braces braces_of braces_in storage_word more_storage file_spec named_form literal_form sized_form atom cast_behind cast_to_type cast_to_integer parenthesised
+    behind_parenthesis formula_prefixed prefix_of prefix formula_joined_once joined_more joined linked links_of links chain_of implied implication_of choice_behind implication form_of form assert_clause full_clause next_assert
+    asserts annotations misplaced placed_annotation condition else_branch else_part selection while_loop do_loop for_first maybe_ended for_behind for_loop jump
+    returned return_statement item items_once items block empty_statement effect_statement statement_of branch_of statement_in branch_in function_rest function globals behind_declarator declared_at_file next_typedef more_typedefs typedefs
+    stray declared_external external more_external unit word_of library_constant is_library_name
 calls = refl
 
 -- texts that are refused for their functions, calls and declarations
@@ -208,9 +225,11 @@ unfolding tokens_of build cut piece_at add marks digits_at suffix_of body_of lit
     assigned_value assigned bumped behind_unary behind_postfix behind_form effect_rest bump_first effect_but_name effect behind_name effect_or_call full_expression full_expression_or_call full_effect full_effect_or_call ended maybe_comma
     next_item item_once more_items listed lengths dtor full_dtor maybe_name abstract_dtor full_abstract_dtor item_of_list list_of list_in initialiser initialised declared_once next_declared more_declared declared_list declaration
     parameter_rest void_parameter parameter_behind parameter next_parameter more_parameters first_parameter parameters next_member members_of behind_tag behind_word tagged_type braced member more_members struct_braces constant_value
-    constant enum_braces braces_of braces_in storage_word more_storage file_spec atom sum_once sum_of sum assert_clause annotation condition else_branch else_part selection while_loop do_loop for_first maybe_ended for_behind for_loop jump
-    returned return_statement item items_once items block empty_statement effect_statement statement_of statement_in function_rest function globals behind_declarator declared_at_file next_typedef more_typedefs typedefs external
-    more_external unit word_of library_constant is_library_name
+    constant enum_braces braces_of braces_in storage_word more_storage file_spec named_form literal_form sized_form atom cast_behind cast_to_type cast_to_integer parenthesised
+    behind_parenthesis formula_prefixed prefix_of prefix formula_joined_once joined_more joined linked links_of links chain_of implied implication_of choice_behind implication form_of form assert_clause full_clause next_assert
+    asserts annotations misplaced placed_annotation condition else_branch else_part selection while_loop do_loop for_first maybe_ended for_behind for_loop jump
+    returned return_statement item items_once items block empty_statement effect_statement statement_of branch_of statement_in branch_in function_rest function globals behind_declarator declared_at_file next_typedef more_typedefs typedefs
+    stray declared_external external more_external unit word_of library_constant is_library_name
 refused_calls = refl
 
 -- texts with declarations of all forms
@@ -259,7 +278,44 @@ unfolding tokens_of build cut piece_at add marks digits_at suffix_of body_of lit
     assigned_value assigned bumped behind_unary behind_postfix behind_form effect_rest bump_first effect_but_name effect behind_name effect_or_call full_expression full_expression_or_call full_effect full_effect_or_call ended maybe_comma
     next_item item_once more_items listed lengths dtor full_dtor maybe_name abstract_dtor full_abstract_dtor item_of_list list_of list_in initialiser initialised declared_once next_declared more_declared declared_list declaration
     parameter_rest void_parameter parameter_behind parameter next_parameter more_parameters first_parameter parameters next_member members_of behind_tag behind_word tagged_type braced member more_members struct_braces constant_value
-    constant enum_braces braces_of braces_in storage_word more_storage file_spec atom sum_once sum_of sum assert_clause annotation condition else_branch else_part selection while_loop do_loop for_first maybe_ended for_behind for_loop jump
-    returned return_statement item items_once items block empty_statement effect_statement statement_of statement_in function_rest function globals behind_declarator declared_at_file next_typedef more_typedefs typedefs external
-    more_external unit word_of library_constant is_library_name
+    constant enum_braces braces_of braces_in storage_word more_storage file_spec named_form literal_form sized_form atom cast_behind cast_to_type cast_to_integer parenthesised
+    behind_parenthesis formula_prefixed prefix_of prefix formula_joined_once joined_more joined linked links_of links chain_of implied implication_of choice_behind implication form_of form assert_clause full_clause next_assert
+    asserts annotations misplaced placed_annotation condition else_branch else_part selection while_loop do_loop for_first maybe_ended for_behind for_loop jump
+    returned return_statement item items_once items block empty_statement effect_statement statement_of branch_of statement_in branch_in function_rest function globals behind_declarator declared_at_file next_typedef more_typedefs typedefs
+    stray declared_external external more_external unit word_of library_constant is_library_name
 declarations = refl
+
+-- an assert that is no item of a block stands where none may (E7), where what follows it makes a text
+misplaced_asserts :
+    outcome (codes "/*@ assert 0 == 0; */ int x;") ∷
+    outcome (codes "int main(void) { if (1) /*@ assert 0 == 0; */ ; }") ∷
+    outcome (codes "int main(void) { int x = 0; if (1) /*@ assert 1 == 1; */ x = 1; return x; }") ∷
+    outcome (codes "/*@ assert 0 == 0; */") ∷
+    outcome (codes "int main(void) { return 0; } //@ assert 1 == 1;\n //@ assert 2 == 2;\n") ∷
+    outcome (codes "int main(void) { while (0) /*@ assert 0 == 0; */ /*@ assert x; */ ; }") ∷
+    outcome (codes "int main(void) { if (1) /*@ assert 0 == 0; */ }") ∷
+    outcome (codes "/*@ assert 0 == 0; */ }") ∷
+    outcome (codes "int main(void) { { /*@ assert 0 == 0; */ } }") ∷ []
+    ≡
+    refusal 7 (place 1 5 4) (codes "assert") ∷
+    refusal 7 (place 1 29 28) (codes "assert") ∷
+    refusal 7 (place 1 40 39) (codes "assert") ∷
+    refusal 7 (place 1 5 4) (codes "assert") ∷
+    refusal 7 (place 1 34 33) (codes "assert") ∷
+    refusal 7 (place 1 32 31) (codes "assert") ∷
+    refusal 4 (place 1 47 46) (codes "}") ∷
+    refusal 4 (place 1 23 22) (codes "}") ∷
+    Ok (Exits (pos 0), []) ∷ []
+unfolding tokens_of build cut piece_at add marks digits_at suffix_of body_of literal_of escape_at unit_at letter_of is_file ends_marker headers include_fault directive_fault outside_in_c outside_in_annotations backslash_names is_outside
+    word_at number_at letter_at string_at annotation_marks c_mark_at mark_at comment_at open_block open_line other_at directive_at integer_word integer_words typedef_name struct_tag enum_tag untagged_base base consts type_words
+    type_behind more_consts star next_star star_words written_length length_or_none bracket next_bracket brackets type_name closed indexed dotted arrowed postfix_once postfixes postfix_rest literal literal_first cast_rest sized_type
+    paren_rest behind_paren prefixed sized operand_but_name operand_of operand joined_once behind_operand choice_rest expression_rest expression_of expression next_argument arguments call_rest behind_name_or_callee expression_or_call
+    assigned_value assigned bumped behind_unary behind_postfix behind_form effect_rest bump_first effect_but_name effect behind_name effect_or_call full_expression full_expression_or_call full_effect full_effect_or_call ended maybe_comma
+    next_item item_once more_items listed lengths dtor full_dtor maybe_name abstract_dtor full_abstract_dtor item_of_list list_of list_in initialiser initialised declared_once next_declared more_declared declared_list declaration
+    parameter_rest void_parameter parameter_behind parameter next_parameter more_parameters first_parameter parameters next_member members_of behind_tag behind_word tagged_type braced member more_members struct_braces constant_value
+    constant enum_braces braces_of braces_in storage_word more_storage file_spec named_form literal_form sized_form atom cast_behind cast_to_type cast_to_integer parenthesised
+    behind_parenthesis formula_prefixed prefix_of prefix formula_joined_once joined_more joined linked links_of links chain_of implied implication_of choice_behind implication form_of form assert_clause full_clause next_assert
+    asserts annotations misplaced placed_annotation condition else_branch else_part selection while_loop do_loop for_first maybe_ended for_behind for_loop jump
+    returned return_statement item items_once items block empty_statement effect_statement statement_of branch_of statement_in branch_in function_rest function globals behind_declarator declared_at_file next_typedef more_typedefs typedefs
+    stray declared_external external more_external unit word_of library_constant is_library_name
+misplaced_asserts = refl

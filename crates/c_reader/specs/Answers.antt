@@ -9,6 +9,7 @@ use Rattle.c_model.specs.CTokens.{tokens_of}
 use Rattle.c_model.specs.Checked.{Fault, Good, refusing}
 use Rattle.c_model.specs.UnitTyping.{typed_unit, room_fault, main_fault}
 use Rattle.c_model.specs.AnnotationTyping.{noted_unit}
+use Rattle.c_model.specs.AnnotationRanges.{ranged_unit}
 use Rattle.c_model.specs.Phases.{IsRead, checked_refusal, main_refusal, RefusedText}
 use Rattle.token_reader.specs.Answers.{RefusesWith}
 use Rattle.c_expression_rules.specs.declared.fault.TypeFault.{TypeFault}
@@ -32,13 +33,15 @@ pub record HasTree (text : List ℕ) (tree : TranslationUnit) : Type 0 where
 abbrev pub OfTokens : List ℕ → (PlainTokens → Type 0) → Type 0
 OfTokens text P = (ts : PlainTokens) → tokens_of text ≡ Ok ts → P ts
 
--- what names and types, room, `main` and the names of annotations make of a tree
+-- what names and types, room, `main`, the names and types of annotations and their ranges make of a tree
 pub record IsTypedAs (tree p : TranslationUnit) : Type 0 where
   pub typed : TranslationUnit
   pub is : typed_unit tree ≡ Good typed
   pub room : room_fault typed ≡ None
   pub main : main_fault typed.names typed.funcs ≡ None
-  pub noted : noted_unit typed ≡ Good p
+  pub noted : TranslationUnit
+  pub is_noted : noted_unit typed ≡ Good noted
+  pub ranged : ranged_unit noted ≡ Good p
 
 -- why they make nothing of it
 pub data IsCheckRefusal (ts : PlainTokens) (tree : TranslationUnit) (r : PlainRefusal) : Type 0 where
@@ -49,6 +52,9 @@ pub data IsCheckRefusal (ts : PlainTokens) (tree : TranslationUnit) (r : PlainRe
       → main_fault typed.names typed.funcs ≡ Some f → r ≡ main_refusal f → IsCheckRefusal ts tree r
   OfAnnotations : (typed : TranslationUnit) (f : Fault) → typed_unit tree ≡ Good typed → room_fault typed ≡ None
       → main_fault typed.names typed.funcs ≡ None → refusing (noted_unit typed) ≡ Some f → r ≡ checked_refusal ts f → IsCheckRefusal ts tree r
+  OfRanges : (typed noted : TranslationUnit) (f : Fault) → typed_unit tree ≡ Good typed → room_fault typed ≡ None
+      → main_fault typed.names typed.funcs ≡ None → noted_unit typed ≡ Good noted → refusing (ranged_unit noted) ≡ Some f
+      → r ≡ checked_refusal ts f → IsCheckRefusal ts tree r
 
 abbrev pub HasFault : FrontFault → PlainTokens → TranslationUnit → Type 0
 HasFault front.Memory ts tree = Unit {0}

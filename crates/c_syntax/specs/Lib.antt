@@ -1,7 +1,6 @@
 pub mod Trees
 pub mod Ctypes
 pub mod Expressions
-pub mod Annotations
 pub mod Formulas
 pub mod Logic
 pub mod Statements

@@ -13,7 +13,7 @@ use Rattle.c_syntax.specs.declared.program.Program.{Program}
 use Rattle.c_syntax.specs.declared.refusal.Refusal.{Refusal}
 use Rattle.c_syntax.specs.Ctypes.{PlainType, plain_type}
 use Rattle.c_syntax.specs.Expressions.{Expression, plain_expr}
-use Rattle.c_syntax.specs.Annotations.{Annotation, plain_annot}
+use Rattle.c_syntax.specs.Logic.{Annotation, plain_annot}
 use Rattle.c_syntax.specs.Statements.{Declaration, plain_decl, Statement, plain_stmt}
 
 pub record StructMember : Type 0 where

@@ -1,5 +1,5 @@
 -- The plain form of declarations and statements (C99 6.7, 6.8): without boxes and vectors.
-use Rattle.std.specs.Prelude.{ℕ, Bool, List, [], ◌∷◌, map, Option, option_map}
+use Rattle.std.specs.Prelude.{ℕ, Bool, List, [], ◌∷◌, map, Option, Some, None, option_map}
 use Rattle.c_syntax.specs.declared.place.Place.{Place}
 use Rattle.c_syntax.specs.declared.statement.Decl.{Decl}
 use Rattle.c_syntax.specs.declared.statement.Init.{Init, Row_of-Init, end_of-Init, more_of-Init}
@@ -11,7 +11,7 @@ use Rattle.c_syntax.specs.declared.statement.StmtKind.{StmtKind, Held-StmtKind-I
 use Rattle.c_syntax.specs.declared.statement.StmtKind as code
 use Rattle.c_syntax.specs.Ctypes.{PlainType, plain_type}
 use Rattle.c_syntax.specs.Expressions.{Expression, plain_expr}
-use Rattle.c_syntax.specs.Annotations.{Annotation, plain_annot}
+use Rattle.c_syntax.specs.Logic.{Annotation, plain_annot}
 
 mutual
   pub data Initialiser : Type 0 where
@@ -117,6 +117,10 @@ abbrev mutual
 
 abbrev pub plain_stmt : Stmt → Statement
 plain_stmt s = plain_stmt_kind s.place s.kind.value
+
+abbrev pub plain_else_part : Option Stmt → ElsePart
+plain_else_part None = NoElse
+plain_else_part (Some a) = Else (plain_stmt a)
 
 abbrev pub plain_items : List Item → BlockItems
 plain_items [] = NoItem

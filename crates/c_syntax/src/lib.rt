@@ -18,9 +18,13 @@ pub mod statement;
 pub mod token;
 pub mod types;
 
-pub use annotation::{Annot, Body, Kind, Link, Pred, PredKind, Range, Relation, Term, TermKind};
+pub use annotation::{Kind, Range, Relation};
 pub use expression::{BinOp, BumpOp, Expr, ExprKind, UnOp, Use};
 pub use fault::{Limit, ReadFault};
+pub use logic::{
+    Annot, Body, Connective, Formula, FormulaKind, FormulaLinks, Links, LogicType, Pred, PredKind,
+    Term, TermKind,
+};
 pub use name::Name;
 pub use place::Place;
 pub use program::{Behavior, Contract, EnumDef, Enumerator, Func, Layout, Member, Program, Text};

@@ -1,7 +1,7 @@
 //! Functions and whole files (C99 6.9).
 
-use crate::annotation::Annot;
 use crate::expression::Expr;
+use crate::logic::Annot;
 use crate::name::Name;
 use crate::place::Place;
 use crate::statement::{Decl, Stmt};

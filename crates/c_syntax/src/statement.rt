@@ -1,7 +1,7 @@
 //! Declarations and statements (C99 6.7, 6.8).
 
-use crate::annotation::Annot;
 use crate::expression::Expr;
+use crate::logic::Annot;
 use crate::place::Place;
 use crate::types::CType;
 

@@ -1,61 +1,15 @@
--- Blocks: their items one after another, and what is in sight after them.
-use Rattle.std.proofs.Common.{◌≡◌, ℕ, List, [], ◌∷◌, ◌++◌, refl, sym, ap, ◌∙◌, append_assoc, length, Bool, true, false, cond, Err}
+-- What is in sight after the items of a block.
+use Rattle.std.proofs.Common.{◌≡◌, ℕ, List, [], ◌∷◌, ◌++◌, refl, sym, ap, ◌∙◌, append_assoc, length, Bool, true, false, cond}
 use Rattle.std.proofs.lemmas.List.{append-nil}
 use Rattle.std.proofs.Math.Seq.{take-append_seam}
 use Rattle.c_syntax.specs.declared.statement.Item.{Item}
 use Rattle.c_syntax.specs.Statements.{Declaration, BlockItem, Declare, Run, Asserts, BlockItems, NoItem, Then, ForFirst, NoFirst, First, plain_item, plain_items}
-use Rattle.c_model.specs.Checked.{Checked, Good, Bad, one_part}
 use Rattle.c_model.specs.ExpressionTyping.{Sight, Entity, inner, with_object, with_objects, AnObject}
 use Rattle.c_model.specs.StatementTyping.{behind, behind_first}
 use Rattle.c_model.specs.UnitTyping.{with_parameter, with_parameters}
-use Rattle.c_expression_rules.specs.declared.fault.TypeFault.{TypeFault}
-use Rattle.c_expression_rules.specs.Answers.{Answers}
 use Rattle.c_expression_rules.specs.Sights.{left}
 use Rattle.c_typing.specs.Blocks.{behind_items}
-use Rattle.c_expression_rules.proofs.Least.{one_refused}
-
-abbrev append : BlockItems → BlockItems → BlockItems
-append NoItem js = js
-append (Then i is) js = Then i (append is js)
-
-append_none : (is : BlockItems) → append is NoItem ≡ is
-append_none NoItem = refl
-append_none (Then i is) = ap (Then i) (append_none is)
-
-append_in_turn : (is js ks : BlockItems) → append (append is js) ks ≡ append is (append js ks)
-append_in_turn NoItem js ks = refl
-append_in_turn (Then i is) js ks = ap (Then i) (append_in_turn is js ks)
-
--- items before those of a block
-abbrev pub behind_block : BlockItems → Checked BlockItems → Checked BlockItems
-behind_block done c = one_part c (λ rest. Good (append done rest))
-
-pub all_items : (done : BlockItems) → behind_block done (Good NoItem) ≡ Good done
-all_items done = ap Good (append_none done)
-
-plain_snoc : (xs : List Item) (x : Item) → plain_items (xs ++ x ∷ []) ≡ append (plain_items xs) (Then (plain_item x) NoItem)
-plain_snoc [] x = refl
-plain_snoc (y ∷ ys) x = ap (Then (plain_item y)) (plain_snoc ys x)
-
-items_in_front : (done : BlockItems) (i : BlockItem) (c : Checked BlockItems) → behind_block done (one_part c (λ rest. Good (Then i rest))) ≡ behind_block (append done (Then i NoItem)) c
-items_in_front done i (Good rest) = ap Good (sym (append_in_turn done (Then i NoItem) rest))
-items_in_front done i (Bad f fs) = refl
-
-module _ (done : BlockItems) (m : Checked BlockItem) (rest : BlockItem → Checked BlockItems)
-  where
-    next_item : (i : BlockItem) → m ≡ Good i → behind_block done (one_part m (λ i. one_part (rest i) (λ is. Good (Then i is)))) ≡ behind_block (append done (Then i NoItem)) (rest i)
-    next_item i is = ap (λ c. behind_block done (one_part c (λ i. one_part (rest i) (λ is. Good (Then i is))))) is ∙ items_in_front done i (rest i)
-
-    -- the first of the items is refused
-    pub item_refused : {S T : Type 0} (p : T → BlockItem) (s : S → BlockItems) (h : TypeFault) → Answers p m (Err h) → Answers s (behind_block done (one_part m (λ i. one_part (rest i) (λ is. Good (Then i is))))) (Err h)
-    item_refused p s h a = one_refused (λ is. Good (append done is)) s s (one_part m (λ i. one_part (rest i) (λ is. Good (Then i is)))) h (one_refused (λ i. one_part (rest i) (λ is. Good (Then i is))) p s m h a)
-
--- one more item is there
-pub items_more : (whole c : Checked BlockItems) (done done' : List Item) (x : Item) (m : Checked BlockItem) (rest : BlockItem → Checked BlockItems) → whole ≡ behind_block (plain_items done) c
-    → c ≡ one_part m (λ i. one_part (rest i) (λ is. Good (Then i is))) → m ≡ Good (plain_item x) → done' ≡ done ++ x ∷ [] → whole ≡ behind_block (plain_items done') (rest (plain_item x))
-items_more whole c done done' x m rest before is good more =
-    before ∙ ap (behind_block (plain_items done)) is ∙ next_item (plain_items done) m rest (plain_item x) good
-    ∙ ap (λ is. behind_block is (rest (plain_item x))) (sym (ap plain_items more ∙ plain_snoc done x))
+use Rattle.c_expression_rules.proofs.BlockItems.{append, plain_snoc}
 
 behind_snoc : (s : Sight) (is : BlockItems) (i : BlockItem) → behind_items s (append is (Then i NoItem)) ≡ behind (behind_items s is) i
 behind_snoc s NoItem i = refl

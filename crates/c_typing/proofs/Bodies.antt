@@ -17,7 +17,7 @@ use Rattle.c_expression_rules.specs.declared.fault.TypeFault.{TypeFault}
 use Rattle.c_expression_rules.specs.Answers.{Answers}
 use Rattle.c_expression_rules.specs.Sights.{left}
 use Rattle.c_typing.specs.Blocks.{around_body, behind_items}
-use Rattle.c_typing.proofs.Lists.{made_of}
+use Rattle.c_expression_rules.proofs.Lists.{made_of}
 use Rattle.c_typing.proofs.Blocks.{left_body}
 
 module _ (s u v : Sight) (count innermost : ℕ) (is : BlockItems) (counted : count ≡ length s.entities) (kept : innermost ≡ s.innermost) (sight : u ≡ behind_items s is) (ends : v ≡ left count innermost u)

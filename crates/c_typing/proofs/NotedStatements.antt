@@ -14,8 +14,8 @@ use Rattle.c_model.specs.StatementTyping.{behind}
 use Rattle.c_model.specs.AnnotationTyping.{noted_statement, noted_item, noted_items}
 use Rattle.c_expression_rules.specs.declared.fault.TypeFault.{TypeFault}
 use Rattle.c_expression_rules.specs.Answers.{Answers}
-use Rattle.c_typing.proofs.Lists.{made_of}
-use Rattle.c_typing.proofs.Blocks.{behind_block, all_items, item_refused, items_more}
+use Rattle.c_expression_rules.proofs.Lists.{made_of}
+use Rattle.c_expression_rules.proofs.BlockItems.{behind_block, all_items, item_refused, items_more}
 
 module _ (s : Sight) (at : Place) (k : StmtKind)
   where

@@ -20,8 +20,9 @@ use Rattle.c_expression_rules.specs.Answers.{Answers}
 use Rattle.c_expression_rules.specs.Sights.{left}
 use Rattle.c_typing.specs.Blocks.{behind_items}
 use Rattle.c_typing.specs.Trees.{plain_for_first}
-use Rattle.c_typing.proofs.Lists.{made_of}
-use Rattle.c_typing.proofs.Blocks.{behind_block, all_items, item_refused, items_more, left_block, left_for, left_parameters}
+use Rattle.c_expression_rules.proofs.Lists.{made_of}
+use Rattle.c_expression_rules.proofs.BlockItems.{behind_block, all_items, item_refused, items_more}
+use Rattle.c_typing.proofs.Blocks.{left_block, left_for, left_parameters}
 
 module _ (s : Sight) (r : Around) (at : Place) (k : StmtKind)
   where

@@ -4,20 +4,13 @@ use Rattle.std.specs.Prelude.{Option, Some, None, option_map}
 use Rattle.c_syntax.specs.declared.place.Place.{Place}
 use Rattle.c_syntax.specs.declared.statement.Init.{Init}
 use Rattle.c_syntax.specs.declared.statement.Item.{Item}
-use Rattle.c_syntax.specs.declared.statement.Stmt.{Stmt}
-use Rattle.c_syntax.specs.declared.annotation.Link.{Link}
-use Rattle.c_syntax.specs.Annotations.{Links, NoLink, Linked, plain_term}
 use Rattle.c_syntax.specs.Ctypes.{plain_type}
-use Rattle.c_syntax.specs.Statements.{Initialiser, ElsePart, NoElse, Else, ForFirst, NoFirst, First, plain_init, plain_stmt, plain_item}
+use Rattle.c_syntax.specs.Statements.{Initialiser, ForFirst, NoFirst, First, plain_init, plain_item}
 use Rattle.c_model.specs.StatementTyping as plain
 use Rattle.c_typing.specs.declared.statement.Around.{Around}
 
 abbrev pub plain_initialiser : Option (Place × Init) → Option (Place × Initialiser)
 plain_initialiser init = option_map (λ i. (i.0, plain_init i.1)) init
-
-abbrev pub plain_else_part : Option Stmt → ElsePart
-plain_else_part None = NoElse
-plain_else_part (Some a) = Else (plain_stmt a)
 
 abbrev pub plain_for_first : Option Item → ForFirst
 plain_for_first None = NoFirst
@@ -25,7 +18,3 @@ plain_for_first (Some i) = First (plain_item i)
 
 abbrev pub plain_around : Around → plain.Around
 plain_around r = record { result = plain_type r.result.now; loops = r.loops }
-
--- one step of a chain
-abbrev pub plain_link : Link → Links
-plain_link l = Linked l.place l.relation (plain_term l.term) NoLink

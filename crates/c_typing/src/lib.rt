@@ -19,7 +19,6 @@ pub mod room;
 pub mod statement;
 
 // annotations
-pub mod annotation;
 pub mod noted;
 pub mod noted_file;
 

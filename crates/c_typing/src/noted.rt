@@ -2,7 +2,7 @@
 
 ghost use Rattle.std.specs.Prelude.{◌≡◌, OnOk, Some, map, option_map};
 ghost use Rattle.c_syntax.specs.declared.place.Place.{Place};
-ghost use Rattle.c_syntax.specs.Statements.{plain_decl, plain_item, plain_items, plain_stmt, plain_stmt_kind};
+ghost use Rattle.c_syntax.specs.Statements.{plain_decl, plain_else_part, plain_item, plain_items, plain_stmt, plain_stmt_kind};
 ghost use Rattle.c_syntax.specs.Programs.{plain_func};
 ghost use Rattle.c_model.specs.ExpressionTyping.{inner, with_objects};
 ghost use Rattle.c_model.specs.StatementTyping.{behind, behind_first};
@@ -10,10 +10,10 @@ ghost use Rattle.c_model.specs.AnnotationTyping.{noted_body, noted_else, noted_f
 ghost use Rattle.c_expression_rules.specs.Answers.{Answers};
 ghost use Rattle.c_expression_rules.specs.Sights.{plain_sight};
 ghost use Rattle.c_typing.specs.Blocks.{behind_items};
-ghost use Rattle.c_typing.specs.Trees.{plain_else_part, plain_for_first};
+ghost use Rattle.c_typing.specs.Trees.{plain_for_first};
 
-use crate::annotation::type_clauses;
 use crate::parameter::see_parameters;
+use annot_typing::type_clauses;
 use c_expression_rules::fault::TypeFault;
 use c_expression_rules::sight::{Sight, enter, leave, mark_here, with_object};
 use c_syntax::{Decl, Func, Item, Stmt, StmtKind};

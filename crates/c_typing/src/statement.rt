@@ -3,7 +3,7 @@
 ghost use Rattle.std.specs.Prelude.{◌≡◌, IfErr, OnOk, Some, map, option_map, true};
 ghost use Rattle.c_syntax.specs.Ctypes.{plain_type};
 ghost use Rattle.c_syntax.specs.Expressions.{plain_expr};
-ghost use Rattle.c_syntax.specs.Statements.{Break, Continue, Return, plain_decl, plain_item, plain_items, plain_stmt, plain_stmt_kind};
+ghost use Rattle.c_syntax.specs.Statements.{Break, Continue, Return, plain_decl, plain_else_part, plain_item, plain_items, plain_stmt, plain_stmt_kind};
 ghost use Rattle.c_model.specs.Checked.{Good, one_part, where_so};
 ghost use Rattle.c_model.specs.ExpressionTyping.{decayed_of, inner, no_type, typed, with_objects};
 ghost use Rattle.c_model.specs.StatementTyping.{behind, behind_first, condition, in_loop, returned, typed_condition, typed_declarations};
@@ -12,7 +12,7 @@ ghost use Rattle.c_expression_rules.specs.Answers.{Answers, IsRefusal};
 ghost use Rattle.c_expression_rules.specs.Constants.{has_small_sizes};
 ghost use Rattle.c_expression_rules.specs.Sights.{plain_sight};
 ghost use Rattle.c_typing.specs.Blocks.{behind_items};
-ghost use Rattle.c_typing.specs.Trees.{plain_around, plain_else_part, plain_for_first};
+ghost use Rattle.c_typing.specs.Trees.{plain_around, plain_for_first};
 
 use c_declaration_rules::declaration::type_variable;
 use c_expression_rules::assignment::is_assigned;

@@ -1,5 +1,6 @@
 pub mod Sound
 mod Ranged
 mod Rows
+pub mod Blocks
 -- examples, by computation
 mod WorkedRanges

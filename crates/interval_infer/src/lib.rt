@@ -7,5 +7,8 @@
 mod annotation;
 mod form;
 pub mod laws;
+mod program;
+mod statement;
 
 pub use annotation::ranges;
+pub use program::program_ranges;

@@ -8,19 +8,30 @@ use Rattle.c_model.specs.Phases.{IsRead}
 use Rattle.c_model.specs.ProgramGrammar.{FileParts, texts_of, more_external}
 use Rattle.token_reader.specs.Reading.{Fails}
 use Rattle.c_parser.specs.Reading.{plain_parts}
-use Rattle.c_parser.proofs.Answers.{read_whole, read_part, read_fault}
+use Rattle.c_parser.proofs.Answers.{read_placed, read_misplaced, read_part, read_fault}
 use Rattle.c_parser.proofs.read.read_program.Goals as goal
 
-pub returns-then-is_empty-clause-read : goal.returns-then-is_empty-clause-read
-returns-then-is_empty-clause-read c =
+pub returns-in-None-clause-read : goal.returns-in-None-clause-read
+returns-in-None-clause-read c =
     let ts = plain_tokens c.args.tokens.now in
-    subst (λ (p : TranslationUnit). IsRead ts p) (sym c.make_unit.ensures)
-    (read_whole ts c.in_ok-words.words.items c.replace-names.result.items (map plain_text c.in_ok-texts.texts.items) (map plain_token c.as_slice-3.result.now)
+    subst (λ (p : TranslationUnit). IsRead ts p) (sym c.make_unit.ensures) (read_placed
+    ts c.in_ok-words.words.items c.replace-names.result.items (map plain_text c.in_ok-texts.texts.items) (map plain_token c.as_slice-3.result.now)
     (c.in_ok-words.ensures ∙ ap (map word_of) c.as_slice.ensures.value) (ap (λ v. v.items) c.replace-names.ensures.value)
     (c.in_ok-texts.ensures ∙ ap (λ (l : List Token). texts_of (map plain_token l)) c.as_slice-2.ensures.value) (ap (map plain_token) c.as_slice-3.ensures.value)
     (plain_parts c.in-Ok.parts) c.in-Ok.rest.now
     (subst (λ (x : FileParts). (more_external x).parse (map plain_token c.as_slice-3.result.now) ≡ Ok (plain_parts c.in-Ok.parts, map plain_token c.in-Ok.rest.now)) c.no_parts.ensures c.in-Ok.ensures)
-    (eqb-true (length c.in-Ok.rest.now) 0 (sym c.if-is_empty.ensures)))
+    (eqb-true (length c.in-Ok.rest.now) 0 (sym c.if-is_empty.ensures)) c.in-None.is)
+
+pub returns-in-Some-clause-read : goal.returns-in-Some-clause-read
+returns-in-Some-clause-read c =
+    let ts = plain_tokens c.args.tokens.now in
+    read_misplaced
+    ts c.in_ok-words.words.items ts.names (map plain_text c.in_ok-texts.texts.items) (map plain_token c.as_slice-3.result.now)
+    (c.in_ok-words.ensures ∙ ap (map word_of) c.as_slice.ensures.value) refl
+    (c.in_ok-texts.ensures ∙ ap (λ (l : List Token). texts_of (map plain_token l)) c.as_slice-2.ensures.value) (ap (map plain_token) c.as_slice-3.ensures.value)
+    (plain_parts c.in-Ok.parts) c.in-Ok.rest.now c.in-Some.place _
+    (subst (λ (x : FileParts). (more_external x).parse (map plain_token c.as_slice-3.result.now) ≡ Ok (plain_parts c.in-Ok.parts, map plain_token c.in-Ok.rest.now)) c.no_parts.ensures c.in-Ok.ensures)
+    (eqb-true (length c.in-Ok.rest.now) 0 (sym c.if-is_empty.ensures)) c.in-Some.is c.refused_at_place.ensures
 
 pub returns-else-is_empty-clause-read : goal.returns-else-is_empty-clause-read
 returns-else-is_empty-clause-read c =

@@ -1,5 +1,5 @@
 use Rattle.c_model.proofs.NoFaults.{programs_never_fault}
-use Rattle.c_reader.proofs.AcceptedTexts.{accepted_program}
+use Rattle.c_reader.proofs.AcceptedTexts.{accepted_program, accepted_ranges}
 use Rattle.c_reader.proofs.Texts.{one_program, apart, one_refusal}
 use Rattle.c_reader.proofs.read.about_texts.Goals as goal
 
@@ -17,3 +17,6 @@ returns-clause-program c = accepted_program
 
 pub returns-clause-faultless : goal.returns-clause-faultless
 returns-clause-faultless c = λ text p a. programs_never_fault p (accepted_program text p a)
+
+pub returns-clause-ranged : goal.returns-clause-ranged
+returns-clause-ranged c = accepted_ranges

@@ -1,7 +1,7 @@
 use Rattle.c_syntax.specs.Programs.{plain_program}
 use Rattle.c_typing.proofs.Ordered.{ordered}
 use Rattle.c_reader.proofs.ReadTrees.{tree_is_read}
-use Rattle.c_reader.proofs.Phases.{program_fails, annotations_fail}
+use Rattle.c_reader.proofs.Phases.{program_fails, annotations_fail, ranges_fail}
 use Rattle.c_reader.proofs.read.typed.Goals as goal
 
 pub returns-in-Err : goal.returns-in-Err
@@ -11,6 +11,11 @@ pub returns-in-Err-type_annotations : goal.returns-in-Err-type_annotations
 returns-in-Err-type_annotations c =
     λ ts has. annotations_fail ts (plain_program c.args.tree) (plain_program c.in-Ok.typed.program) c.in-Ok.ensures.typed c.in-Ok.ensures.room c.in-Ok.ensures.main c.in-Err-type_annotations.fault c.refuse.result
     c.in-Err-type_annotations.ensures (c.refuse.ensures ts has)
+
+pub returns-in-Err-ranged : goal.returns-in-Err-ranged
+returns-in-Err-ranged c =
+    λ ts has. ranges_fail ts (plain_program c.args.tree) (plain_program c.in-Ok.typed.program) c.in-Ok.ensures.typed c.in-Ok.ensures.room c.in-Ok.ensures.main (plain_program c.in-Ok-type_annotations.program)
+    c.in-Ok-type_annotations.ensures c.in-Err-ranged.fault c.refuse-in-Err-ranged.result c.in-Err-ranged.ensures (c.refuse-in-Err-ranged.ensures ts has)
 
 -- the tree is read of tokens in the order of the text
 pub type_annotations-requires : goal.type_annotations-requires

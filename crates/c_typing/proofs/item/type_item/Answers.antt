@@ -5,7 +5,7 @@ use Rattle.c_syntax.specs.Programs.{Function, plain_func}
 use Rattle.c_model.specs.UnitTyping.{AFunction, AGlobal, ATypedef}
 use Rattle.c_expression_rules.specs.Answers.{Answers}
 use Rattle.c_typing.specs.Files.{Course, defined_in_turn, global_in_turn, item_in_turn, plain_course, typedef_in_turn}
-use Rattle.c_typing.proofs.Lists.{made_of}
+use Rattle.c_expression_rules.proofs.Lists.{made_of}
 use Rattle.c_typing.proofs.item.type_item.Goals as goal
 
 pub returns-in-Typedef : goal.returns-in-Typedef

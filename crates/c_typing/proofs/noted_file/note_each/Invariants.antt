@@ -4,7 +4,7 @@ use Rattle.c_expression_rules.specs.Sights.{plain_sight}
 use Rattle.c_expression_rules.proofs.InPlace.{Unvisited}
 use Rattle.c_typing.specs.Files.{plain_file_item}
 use Rattle.c_typing.specs.NotedFiles.{all_behind, known_in_turn, notes_in_turn}
-use Rattle.c_typing.proofs.Lists.{behind_parts}
+use Rattle.c_expression_rules.proofs.Lists.{behind_parts}
 use Rattle.c_typing.proofs.noted_file.note_each.Given as goal
 
 abbrev pub invariant-loop-i : goal.invariant-loop-i

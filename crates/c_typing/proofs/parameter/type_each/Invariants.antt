@@ -4,7 +4,7 @@ use Rattle.c_model.specs.UnitTyping.{with_parameters}
 use Rattle.c_model.specs.UnitTyping.{typed_parameters}
 use Rattle.c_expression_rules.specs.Sights.{plain_sight}
 use Rattle.c_expression_rules.proofs.InPlace.{Unvisited}
-use Rattle.c_typing.proofs.Lists.{behind_parts}
+use Rattle.c_expression_rules.proofs.Lists.{behind_parts}
 use Rattle.c_typing.proofs.parameter.type_each.Given as goal
 
 abbrev pub invariant-loop-i : goal.invariant-loop-i

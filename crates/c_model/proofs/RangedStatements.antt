@@ -1,0 +1,106 @@
+-- Statements, functions and files with ranges are the same but for these, each of which is right.
+use Rattle.std.proofs.Common.{◌≡◌, List, [], ◌∷◌, map, Option, Some, None, option_map, refl, ap}
+use Rattle.c_syntax.specs.Statements.{Statement, Empty, Eval, Block, If, While, Do, For, Break, Continue, Return, ElsePart, NoElse, Else, BlockItem, Declare, Run, Asserts, BlockItems, NoItem, Then}
+use Rattle.c_syntax.specs.Programs.{Function, TranslationUnit}
+use Rattle.c_model.specs.Checked.{Good, one_part}
+use Rattle.c_model.specs.TermRanges.{ranged_annotations}
+use Rattle.c_model.specs.AnnotationRanges.{ranged_statement, ranged_else, ranged_item, ranged_items, ranged_body, ranged_function, ranged_functions, ranged_unit}
+use Rattle.c_model.specs.Unranged.{unranged_annotations, AreRangedAnnotations}
+use Rattle.c_model.specs.UnrangedPrograms.{unranged_statement, unranged_else, unranged_item, unranged_items, unranged_function, unranged_unit}
+use Rattle.c_model.specs.UnrangedPrograms.{StatementRanged, ElseRanged, ItemRanged, ItemsRanged, BodyRanged, FunctionRanged, FunctionsRanged, IsRangedUnit, RangingKeepsUnits}
+use Rattle.c_model.proofs.TypedParts.{Gives, gives_of, gives_one}
+use Rattle.c_model.proofs.RangedTrees.{annotations_ranged}
+
+record IsRanged (a b : Statement) : Type 0 where
+  ranged : StatementRanged b
+  same : unranged_statement b ≡ unranged_statement a
+
+record IsRangedElse (a b : ElsePart) : Type 0 where
+  ranged : ElseRanged b
+  same : unranged_else b ≡ unranged_else a
+
+record IsRangedItem (a b : BlockItem) : Type 0 where
+  ranged : ItemRanged b
+  same : unranged_item b ≡ unranged_item a
+
+record AreRangedItems (a b : BlockItems) : Type 0 where
+  ranged : ItemsRanged b
+  same : unranged_items b ≡ unranged_items a
+
+mutual
+  statement_ranged : (a : Statement) → Gives (IsRanged a) (ranged_statement a)
+  statement_ranged (Empty at) = record { ranged = tt; same = refl }
+  statement_ranged (Eval at e) = record { ranged = tt; same = refl }
+  statement_ranged (Block at items) =
+      gives_one (AreRangedItems items) (IsRanged (Block at items)) (ranged_items items) (λ x. Good (Block at x)) (items_ranged items) (λ x p. record { ranged = p.ranged; same = ap (Block at) p.same })
+  statement_ranged (If at e a b) =
+      gives_one (IsRanged a) (IsRanged (If at e a b)) (ranged_statement a) (λ x. one_part (ranged_else b) (λ y. Good (If at e x y))) (statement_ranged a) (λ x p.
+      gives_one (IsRangedElse b) (IsRanged (If at e a b)) (ranged_else b) (λ y. Good (If at e x y)) (else_ranged b) (λ y q.
+      record { ranged = (p.ranged, q.ranged); same = λ i. If at e (p.same i) (q.same i) }))
+  statement_ranged (While at annots e a) =
+      gives_one (AreRangedAnnotations annots) (IsRanged (While at annots e a)) (ranged_annotations annots) (λ xs. one_part (ranged_statement a) (λ x. Good (While at xs e x))) (annotations_ranged annots) (λ xs p.
+      gives_one (IsRanged a) (IsRanged (While at annots e a)) (ranged_statement a) (λ x. Good (While at xs e x)) (statement_ranged a) (λ x q.
+      record { ranged = (p.ranged, q.ranged); same = λ i. While at (p.same i) e (q.same i) }))
+  statement_ranged (Do at a e) =
+      gives_one (IsRanged a) (IsRanged (Do at a e)) (ranged_statement a) (λ x. Good (Do at x e)) (statement_ranged a) (λ x p. record { ranged = p.ranged; same = λ i. Do at (p.same i) e })
+  statement_ranged (For at annots first e step a) =
+      gives_one (AreRangedAnnotations annots) (IsRanged (For at annots first e step a)) (ranged_annotations annots) (λ xs. one_part (ranged_statement a) (λ x. Good (For at xs first e step x))) (annotations_ranged annots) (λ xs p.
+      gives_one (IsRanged a) (IsRanged (For at annots first e step a)) (ranged_statement a) (λ x. Good (For at xs first e step x)) (statement_ranged a) (λ x q.
+      record { ranged = (p.ranged, q.ranged); same = λ i. For at (p.same i) first e step (q.same i) }))
+  statement_ranged (Break at) = record { ranged = tt; same = refl }
+  statement_ranged (Continue at) = record { ranged = tt; same = refl }
+  statement_ranged (Return at e) = record { ranged = tt; same = refl }
+
+  else_ranged : (b : ElsePart) → Gives (IsRangedElse b) (ranged_else b)
+  else_ranged NoElse = record { ranged = tt; same = refl }
+  else_ranged (Else a) = gives_one (IsRanged a) (IsRangedElse (Else a)) (ranged_statement a) (λ x. Good (Else x)) (statement_ranged a) (λ x p. record { ranged = p.ranged; same = ap Else p.same })
+
+  item_ranged : (x : BlockItem) → Gives (IsRangedItem x) (ranged_item x)
+  item_ranged (Declare ds) = record { ranged = tt; same = refl }
+  item_ranged (Run a) = gives_one (IsRanged a) (IsRangedItem (Run a)) (ranged_statement a) (λ x. Good (Run x)) (statement_ranged a) (λ x p. record { ranged = p.ranged; same = ap Run p.same })
+  item_ranged (Asserts annots) =
+      gives_one (AreRangedAnnotations annots) (IsRangedItem (Asserts annots)) (ranged_annotations annots) (λ xs. Good (Asserts xs)) (annotations_ranged annots) (λ xs p. record { ranged = p.ranged; same = ap Asserts p.same })
+
+  items_ranged : (xs : BlockItems) → Gives (AreRangedItems xs) (ranged_items xs)
+  items_ranged NoItem = record { ranged = tt; same = refl }
+  items_ranged (Then i rest) =
+      gives_one (IsRangedItem i) (AreRangedItems (Then i rest)) (ranged_item i) (λ x. one_part (ranged_items rest) (λ more. Good (Then x more))) (item_ranged i) (λ x p.
+      gives_one (AreRangedItems rest) (AreRangedItems (Then i rest)) (ranged_items rest) (λ more. Good (Then x more)) (items_ranged rest) (λ more q.
+      record { ranged = (p.ranged, q.ranged); same = λ k. Then (p.same k) (q.same k) }))
+
+-- ---- functions
+
+record IsRangedBody (a b : Option Statement) : Type 0 where
+  ranged : BodyRanged b
+  same : option_map unranged_statement b ≡ option_map unranged_statement a
+
+body_ranged : (b : Option Statement) → Gives (IsRangedBody b) (ranged_body b)
+body_ranged None = record { ranged = tt; same = refl }
+body_ranged (Some a) = gives_one (IsRanged a) (IsRangedBody (Some a)) (ranged_statement a) (λ x. Good (Some x)) (statement_ranged a) (λ x p. record { ranged = p.ranged; same = λ i. Some (p.same i) })
+
+record IsRangedFunction (f g : Function) : Type 0 where
+  ranged : FunctionRanged g
+  same : unranged_function g ≡ unranged_function f
+
+function_ranged : (f : Function) → Gives (IsRangedFunction f) (ranged_function f)
+function_ranged f =
+    gives_one (IsRangedBody f.body) (IsRangedFunction f) (ranged_body f.body) (λ b. Good (record f { body = b })) (body_ranged f.body) (λ b p.
+    record { ranged = p.ranged; same = λ i. record f { body = p.same i } })
+
+record AreRangedFunctions (fs gs : List Function) : Type 0 where
+  ranged : FunctionsRanged gs
+  same : map unranged_function gs ≡ map unranged_function fs
+
+functions_ranged : (fs : List Function) → Gives (AreRangedFunctions fs) (ranged_functions fs)
+functions_ranged [] = record { ranged = tt; same = refl }
+functions_ranged (f ∷ fs) =
+    gives_one (IsRangedFunction f) (AreRangedFunctions (f ∷ fs)) (ranged_function f) (λ g. one_part (ranged_functions fs) (λ gs. Good (g ∷ gs))) (function_ranged f) (λ g p.
+    gives_one (AreRangedFunctions fs) (AreRangedFunctions (f ∷ fs)) (ranged_functions fs) (λ gs. Good (g ∷ gs)) (functions_ranged fs) (λ gs q.
+    record { ranged = (p.ranged, q.ranged); same = λ i. p.same i ∷ q.same i }))
+
+-- ---- files
+
+pub ranging_keeps_units : RangingKeepsUnits
+ranging_keeps_units p q e = gives_of (IsRangedUnit p) (ranged_unit p) q
+    (gives_one (AreRangedFunctions p.funcs) (IsRangedUnit p) (ranged_functions p.funcs) (λ fs. Good (record p { funcs = fs })) (functions_ranged p.funcs) (λ fs h.
+    record { ranged = h.ranged; same = λ i. record p { funcs = h.same i } })) e

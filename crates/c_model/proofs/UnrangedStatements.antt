@@ -1,0 +1,234 @@
+-- What is known of statements doesn't look at the ranges of their annotations: it is the same without them.
+use Rattle.std.proofs.Common.{◌≡◌, ℕ, ◌+◌, max, List, ◌++◌, Option, Some, None, refl, ap, ◌∙◌}
+use Rattle.c_syntax.specs.Expressions.{Expression}
+use Rattle.c_syntax.specs.Statements.{Declaration, Statement, Empty, Eval, Block, If, While, Do, For, Break, Continue, Return, ElsePart, NoElse, Else, BlockItem, Declare, Run, Asserts, BlockItems, NoItem, Then}
+use Rattle.c_model.specs.Library.{is_there}
+use Rattle.c_model.specs.State.{Evaluation, Breaks, Continues, Returns, Leaves, ◌>>=◌, ◌>>◌, done, stop, births, within}
+use Rattle.c_model.specs.Meaning.{Tables, Callee, choose, turns, do_turns, declared_in, declared_first, condition_with, condition_of, effect_with, exec_with, else_with, first_with, item_with, items_with}
+use Rattle.c_model.specs.ExpressionTyping.{Sight, inner}
+use Rattle.c_model.specs.StatementTyping.{Around, in_loop, behind, behind_first}
+use Rattle.c_model.specs.TypedTrees.{WellTyped, WhereAny, IsCondition, FirstTyped, StatementTyped, ElseTyped, ItemTyped, ItemsTyped}
+use Rattle.c_model.specs.TypedPredicates.{AnnotationsTyped}
+use Rattle.c_model.specs.TypedAnnotations.{StatementNoted, ElseNoted, ItemNoted, ItemsNoted}
+use Rattle.c_model.specs.Formed.{AreAsserts, depth, depth_of_else, depth_of_item, depth_of_items, declared_within, declared_in_else, declared_in_first, declared_in_item, declared_in_items}
+use Rattle.c_model.specs.FullExpressions.{EachIn, EachInElse, EachInFirst, EachInItem, EachInItems}
+use Rattle.c_model.specs.EffectPlaces.{StatementPlaced, ElsePlaced, ItemPlaced, ItemsPlaced}
+use Rattle.c_model.specs.Unranged.{unranged_annotations}
+use Rattle.c_model.specs.UnrangedPrograms.{unranged_statement, unranged_else, unranged_item, unranged_items}
+use Rattle.c_model.proofs.UnrangedTerms.{Alike, itself, beside, annotations_typed, are_asserts, are_none, same_checks}
+
+-- ---- typing
+
+pub same_behind : (s : Sight) (i : BlockItem) → behind s (unranged_item i) ≡ behind s i
+same_behind s (Declare ds) = refl
+same_behind s (Run a) = refl
+same_behind s (Asserts annots) = refl
+
+mutual
+  statement_typed : (s : Sight) (r : Around) (a : Statement) → StatementTyped s r (unranged_statement a) ≡ StatementTyped s r a
+  statement_typed s r (Empty at) = refl
+  statement_typed s r (Eval at e) = refl
+  statement_typed s r (Block at items) = items_typed (inner s) r items
+  statement_typed s r (If at e a b) = λ i. IsCondition s e × statement_typed s r a i × else_typed s r b i
+  statement_typed s r (While at annots e a) = λ i. IsCondition s e × statement_typed s (in_loop r) a i
+  statement_typed s r (Do at a e) = λ i. statement_typed s (in_loop r) a i × IsCondition s e
+  statement_typed s r (For at annots first e step a) = λ i.
+      FirstTyped (inner s) r first × WhereAny (IsCondition (behind_first (inner s) first)) e × WhereAny (WellTyped (behind_first (inner s) first)) step
+      × statement_typed (behind_first (inner s) first) (in_loop r) a i
+  statement_typed s r (Break at) = refl
+  statement_typed s r (Continue at) = refl
+  statement_typed s r (Return at e) = refl
+
+  else_typed : (s : Sight) (r : Around) (b : ElsePart) → ElseTyped s r (unranged_else b) ≡ ElseTyped s r b
+  else_typed s r NoElse = refl
+  else_typed s r (Else a) = statement_typed s r a
+
+  item_typed : (s : Sight) (r : Around) (x : BlockItem) → ItemTyped s r (unranged_item x) ≡ ItemTyped s r x
+  item_typed s r (Declare ds) = refl
+  item_typed s r (Run a) = statement_typed s r a
+  item_typed s r (Asserts annots) = refl
+
+  pub items_typed : (s : Sight) (r : Around) (xs : BlockItems) → ItemsTyped s r (unranged_items xs) ≡ ItemsTyped s r xs
+  items_typed s r NoItem = refl
+  items_typed s r (Then x rest) = λ i. item_typed s r x i × (ap (λ t. ItemsTyped t r (unranged_items rest)) (same_behind s x) ∙ items_typed (behind s x) r rest) i
+
+mutual
+  statement_noted : (s : Sight) (a : Statement) → StatementNoted s (unranged_statement a) ≡ StatementNoted s a
+  statement_noted s (Empty at) = refl
+  statement_noted s (Eval at e) = refl
+  statement_noted s (Block at items) = items_noted (inner s) items
+  statement_noted s (If at e a b) = λ i. statement_noted s a i × else_noted s b i
+  statement_noted s (While at annots e a) = λ i. annotations_typed s annots i × statement_noted s a i
+  statement_noted s (Do at a e) = statement_noted s a
+  statement_noted s (For at annots first e step a) = λ i. annotations_typed s annots i × statement_noted (behind_first (inner s) first) a i
+  statement_noted s (Break at) = refl
+  statement_noted s (Continue at) = refl
+  statement_noted s (Return at e) = refl
+
+  else_noted : (s : Sight) (b : ElsePart) → ElseNoted s (unranged_else b) ≡ ElseNoted s b
+  else_noted s NoElse = refl
+  else_noted s (Else a) = statement_noted s a
+
+  item_noted : (s : Sight) (x : BlockItem) → ItemNoted s (unranged_item x) ≡ ItemNoted s x
+  item_noted s (Declare ds) = refl
+  item_noted s (Run a) = statement_noted s a
+  item_noted s (Asserts annots) = annotations_typed s annots
+
+  pub items_noted : (s : Sight) (xs : BlockItems) → ItemsNoted s (unranged_items xs) ≡ ItemsNoted s xs
+  items_noted s NoItem = refl
+  items_noted s (Then x rest) = λ i. item_noted s x i × (ap (λ t. ItemsNoted t (unranged_items rest)) (same_behind s x) ∙ items_noted (behind s x) rest) i
+
+-- ---- expressions, depth and declarations
+
+module _ (P : Expression → Type 0) where
+  mutual
+    each_in : (a : Statement) → EachIn P (unranged_statement a) ≡ EachIn P a
+    each_in (Empty at) = refl
+    each_in (Eval at e) = refl
+    each_in (Block at items) = each_in_items items
+    each_in (If at e a b) = λ i. P e × each_in a i × each_in_else b i
+    each_in (While at annots e a) = λ i. P e × each_in a i
+    each_in (Do at a e) = λ i. each_in a i × P e
+    each_in (For at annots first e step a) = λ i. EachInFirst P first × WhereAny P e × WhereAny P step × each_in a i
+    each_in (Break at) = refl
+    each_in (Continue at) = refl
+    each_in (Return at e) = refl
+
+    each_in_else : (b : ElsePart) → EachInElse P (unranged_else b) ≡ EachInElse P b
+    each_in_else NoElse = refl
+    each_in_else (Else a) = each_in a
+
+    each_in_item : (x : BlockItem) → EachInItem P (unranged_item x) ≡ EachInItem P x
+    each_in_item (Declare ds) = refl
+    each_in_item (Run a) = each_in a
+    each_in_item (Asserts annots) = refl
+
+    pub each_in_items : (xs : BlockItems) → EachInItems P (unranged_items xs) ≡ EachInItems P xs
+    each_in_items NoItem = refl
+    each_in_items (Then x rest) = λ i. each_in_item x i × each_in_items rest i
+
+mutual
+  pub same_depth : (a : Statement) → depth (unranged_statement a) ≡ depth a
+  same_depth (Empty at) = refl
+  same_depth (Eval at e) = refl
+  same_depth (Block at items) = λ i. 1 + items_depth items i
+  same_depth (If at e a b) = λ i. 1 + max (same_depth a i) (else_depth b i)
+  same_depth (While at annots e a) = λ i. 1 + same_depth a i
+  same_depth (Do at a e) = λ i. 1 + same_depth a i
+  same_depth (For at annots first e step a) = λ i. 1 + same_depth a i
+  same_depth (Break at) = refl
+  same_depth (Continue at) = refl
+  same_depth (Return at e) = refl
+
+  else_depth : (b : ElsePart) → depth_of_else (unranged_else b) ≡ depth_of_else b
+  else_depth NoElse = refl
+  else_depth (Else a) = same_depth a
+
+  item_depth : (x : BlockItem) → depth_of_item (unranged_item x) ≡ depth_of_item x
+  item_depth (Declare ds) = refl
+  item_depth (Run a) = same_depth a
+  item_depth (Asserts annots) = refl
+
+  items_depth : (xs : BlockItems) → depth_of_items (unranged_items xs) ≡ depth_of_items xs
+  items_depth NoItem = refl
+  items_depth (Then x rest) = λ i. max (item_depth x i) (items_depth rest i)
+
+mutual
+  pub same_declared : (a : Statement) → declared_within (unranged_statement a) ≡ declared_within a
+  same_declared (Empty at) = refl
+  same_declared (Eval at e) = refl
+  same_declared (Block at items) = items_declared items
+  same_declared (If at e a b) = λ i. same_declared a i ++ else_declared b i
+  same_declared (While at annots e a) = same_declared a
+  same_declared (Do at a e) = same_declared a
+  same_declared (For at annots first e step a) = λ i. declared_in_first first ++ same_declared a i
+  same_declared (Break at) = refl
+  same_declared (Continue at) = refl
+  same_declared (Return at e) = refl
+
+  else_declared : (b : ElsePart) → declared_in_else (unranged_else b) ≡ declared_in_else b
+  else_declared NoElse = refl
+  else_declared (Else a) = same_declared a
+
+  item_declared : (x : BlockItem) → declared_in_item (unranged_item x) ≡ declared_in_item x
+  item_declared (Declare ds) = refl
+  item_declared (Run a) = same_declared a
+  item_declared (Asserts annots) = refl
+
+  items_declared : (xs : BlockItems) → declared_in_items (unranged_items xs) ≡ declared_in_items xs
+  items_declared NoItem = refl
+  items_declared (Then x rest) = λ i. item_declared x i ++ items_declared rest i
+
+-- ---- places of effects
+
+mutual
+  statement_placed : (a : Statement) → Alike (StatementPlaced AreAsserts (unranged_statement a)) (StatementPlaced AreAsserts a)
+  statement_placed (Empty at) = itself
+  statement_placed (Eval at e) = itself
+  statement_placed (Block at items) = items_placed items
+  statement_placed (If at e a b) = record {
+    to = λ h. (h.0, (statement_placed a).to h.1, (else_placed b).to h.2);
+    from = λ h. (h.0, (statement_placed a).from h.1, (else_placed b).from h.2);
+  }
+  statement_placed (While at annots e a) = record {
+    to = λ h. ((are_none annots).to h.0, h.1, (statement_placed a).to h.2);
+    from = λ h. ((are_none annots).from h.0, h.1, (statement_placed a).from h.2);
+  }
+  statement_placed (Do at a e) = record { to = λ h. ((statement_placed a).to h.0, h.1); from = λ h. ((statement_placed a).from h.0, h.1) }
+  statement_placed (For at annots first e step a) = record {
+    to = λ h. ((are_none annots).to h.0, h.1, h.2, h.3, (statement_placed a).to h.4);
+    from = λ h. ((are_none annots).from h.0, h.1, h.2, h.3, (statement_placed a).from h.4);
+  }
+  statement_placed (Break at) = itself
+  statement_placed (Continue at) = itself
+  statement_placed (Return at e) = itself
+
+  else_placed : (b : ElsePart) → Alike (ElsePlaced AreAsserts (unranged_else b)) (ElsePlaced AreAsserts b)
+  else_placed NoElse = itself
+  else_placed (Else a) = statement_placed a
+
+  item_placed : (x : BlockItem) → Alike (ItemPlaced AreAsserts (unranged_item x)) (ItemPlaced AreAsserts x)
+  item_placed (Declare ds) = itself
+  item_placed (Run a) = statement_placed a
+  item_placed (Asserts annots) = are_asserts annots
+
+  pub items_placed : (xs : BlockItems) → Alike (ItemsPlaced AreAsserts (unranged_items xs)) (ItemsPlaced AreAsserts xs)
+  items_placed NoItem = itself
+  items_placed (Then x rest) = beside (item_placed x) (items_placed rest)
+
+-- ---- meaning
+
+same_births : (xs : BlockItems) → declared_in (unranged_items xs) ≡ declared_in xs
+same_births NoItem = refl
+same_births (Then (Declare ds) rest) = λ i. ds ++ same_births rest i
+same_births (Then (Run a) rest) = same_births rest
+same_births (Then (Asserts annots) rest) = same_births rest
+
+module _ (T : Tables) (call : Callee) (n : ℕ) where
+  mutual
+    pub same_exec : (a : Statement) → exec_with T (unranged_statement a) call n ≡ exec_with T a call n
+    same_exec (Empty at) = refl
+    same_exec (Eval at e) = refl
+    same_exec (Block at items) = λ i. within (births T.structs (same_births items i) >> items_exec items i)
+    same_exec (If at e a b) = λ i. condition_of T e call >>= λ v. choose v (same_exec a i) (else_exec b i)
+    same_exec (While at annots e a) = λ i. turns n (condition_of T e call) (same_exec a i) done
+    same_exec (Do at a e) = λ i. do_turns n (condition_of T e call) (same_exec a i)
+    same_exec (For at annots first e behind a) = λ i.
+        within (births T.structs (declared_first first) >> first_with T first call n >> turns n (condition_with T e call) (same_exec a i) (effect_with T behind call))
+    same_exec (Break at) = refl
+    same_exec (Continue at) = refl
+    same_exec (Return at None) = refl
+    same_exec (Return at (Some e)) = refl
+
+    else_exec : (b : ElsePart) → else_with T (unranged_else b) call n ≡ else_with T b call n
+    else_exec NoElse = refl
+    else_exec (Else a) = same_exec a
+
+    item_exec : (x : BlockItem) → item_with T (unranged_item x) call n ≡ item_with T x call n
+    item_exec (Declare ds) = refl
+    item_exec (Run a) = same_exec a
+    item_exec (Asserts annots) = same_checks annots
+
+    items_exec : (xs : BlockItems) → items_with T (unranged_items xs) call n ≡ items_with T xs call n
+    items_exec NoItem = refl
+    items_exec (Then x rest) = λ i. item_exec x i >> items_exec rest i

@@ -1,0 +1,50 @@
+-- Ours: the inference of ranges over the annotations of statements, functions and files. No standard bounds the integers of annotations.
+use Rattle.std.specs.Prelude.{List, [], ◌∷◌, Option, Some, None}
+use Rattle.c_syntax.specs.Statements.{Statement, Empty, Eval, Block, If, While, Do, For, Break, Continue, Return, ElsePart, NoElse, Else}
+use Rattle.c_syntax.specs.Statements.{BlockItem, Declare, Run, Asserts, BlockItems, NoItem, Then}
+use Rattle.c_syntax.specs.Programs.{Function, TranslationUnit}
+use Rattle.c_model.specs.Checked.{Checked, Good, one_part}
+use Rattle.c_model.specs.TermRanges.{ranged_annotations}
+
+abbrev mutual
+  pub ranged_statement : Statement → Checked Statement
+  ranged_statement (Empty at) = Good (Empty at)
+  ranged_statement (Eval at e) = Good (Eval at e)
+  ranged_statement (Block at items) = one_part (ranged_items items) (λ items. Good (Block at items))
+  ranged_statement (If at e a b) = one_part (ranged_statement a) (λ a. one_part (ranged_else b) (λ b. Good (If at e a b)))
+  ranged_statement (While at annots e a) =
+      one_part (ranged_annotations annots) (λ annots. one_part (ranged_statement a) (λ a. Good (While at annots e a)))
+  ranged_statement (Do at a e) = one_part (ranged_statement a) (λ a. Good (Do at a e))
+  ranged_statement (For at annots first e step a) =
+      one_part (ranged_annotations annots) (λ annots. one_part (ranged_statement a) (λ a. Good (For at annots first e step a)))
+  ranged_statement (Break at) = Good (Break at)
+  ranged_statement (Continue at) = Good (Continue at)
+  ranged_statement (Return at e) = Good (Return at e)
+
+  pub ranged_else : ElsePart → Checked ElsePart
+  ranged_else NoElse = Good NoElse
+  ranged_else (Else a) = one_part (ranged_statement a) (λ a. Good (Else a))
+
+  pub ranged_item : BlockItem → Checked BlockItem
+  ranged_item (Declare ds) = Good (Declare ds)
+  ranged_item (Run a) = one_part (ranged_statement a) (λ a. Good (Run a))
+  ranged_item (Asserts annots) = one_part (ranged_annotations annots) (λ annots. Good (Asserts annots))
+
+  pub ranged_items : BlockItems → Checked BlockItems
+  ranged_items NoItem = Good NoItem
+  ranged_items (Then i rest) = one_part (ranged_item i) (λ i. one_part (ranged_items rest) (λ rest. Good (Then i rest)))
+
+abbrev pub ranged_body : Option Statement → Checked (Option Statement)
+ranged_body None = Good None
+ranged_body (Some a) = one_part (ranged_statement a) (λ a. Good (Some a))
+
+abbrev pub ranged_function : Function → Checked Function
+ranged_function f = one_part (ranged_body f.body) (λ b. Good (record f { body = b }))
+
+abbrev pub ranged_functions : List Function → Checked (List Function)
+ranged_functions [] = Good []
+ranged_functions (f ∷ fs) = one_part (ranged_function f) (λ f. one_part (ranged_functions fs) (λ fs. Good (f ∷ fs)))
+
+-- the annotations of a text whose names and types have no fault
+abbrev pub ranged_unit : TranslationUnit → Checked TranslationUnit
+ranged_unit p = one_part (ranged_functions p.funcs) (λ fs. Good (record p { funcs = fs }))

@@ -1,0 +1,13 @@
+use Rattle.std.proofs.Common.{◌≡◌, ◌≤◌, drop, length, map, take}
+use Rattle.c_syntax.specs.Programs.{plain_func}
+use Rattle.c_model.specs.AnnotationRanges.{ranged_functions}
+use Rattle.c_expression_rules.proofs.InPlace.{Unvisited}
+use Rattle.c_expression_rules.proofs.Lists.{behind_parts}
+use Rattle.interval_infer.proofs.program.range_functions.Given as goal
+
+abbrev pub invariant-loop-i : goal.invariant-loop-i
+invariant-loop-i l = record {
+  unvisited : Unvisited l.funcs.items l.initial.funcs.items l.i;
+  within : l.i ≤ length l.funcs.items;
+  ranged : ranged_functions (map plain_func l.initial.funcs.items) ≡ behind_parts (map plain_func (take l.i l.funcs.items)) (ranged_functions (map plain_func (drop l.i l.initial.funcs.items)));
+}

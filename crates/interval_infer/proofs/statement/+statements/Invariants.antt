@@ -1,0 +1,12 @@
+use Rattle.std.proofs.Common.{◌≡◌, ◌≤◌, drop, length, take}
+use Rattle.c_syntax.specs.Statements.{plain_items}
+use Rattle.c_model.specs.AnnotationRanges.{ranged_items}
+use Rattle.c_expression_rules.proofs.BlockItems.{behind_block}
+use Rattle.interval_infer.proofs.statement.+statements.Given as goal
+
+abbrev pub invariant-range_items-loop-i : goal.invariant-range_items-loop-i
+invariant-range_items-loop-i l = record {
+  unvisited : goal.unvisited-range_items-loop-i l;
+  within : l.i ≤ length l.items.items;
+  ranged : ranged_items (plain_items l.initial.items.items) ≡ behind_block (plain_items (take l.i l.items.items)) (ranged_items (plain_items (drop l.i l.initial.items.items)));
+}
