@@ -33,7 +33,8 @@ use Rattle.mon_syntax.specs.BlockMemory.{integer_of, is_some}
 use Rattle.mon_syntax.specs.Meaning.{◌>>=◌ as bind}
 use Rattle.mon_syntax.specs.Trees.{MonExpression, Constant, Binary, Minus, Flip, Cast}
 use Rattle.mon_syntax.proofs.Wrapping.{wrap-fitting}
-use Rattle.c_effects.specs.Expressions.{in_type, operator_of, relation_operator}
+use Rattle.c_effects.specs.Expressions.{in_type, operator_of}
+use Rattle.annot_code.specs.Code.{relation_operator}
 use Rattle.term_guards.specs.Guards.{guard}
 use Rattle.annot_code.specs.Code.{type_of_width, wider, working, is_total, count_in, binary_value, unary_value, relation_value}
 use Rattle.annot_code.specs.Does.{Setting}

@@ -10,7 +10,8 @@ use Rattle.c_model.specs.Ranges.{width_of_range}
 use Rattle.mon_syntax.specs.declared.tree.MonType.{MonType}
 use Rattle.mon_syntax.specs.Registers.{Names}
 use Rattle.mon_syntax.specs.Trees.{plain_expr}
-use Rattle.c_effects.specs.Expressions.{Reading, in_type}
+use Rattle.c_effects.specs.Expressions.{in_type}
+use Rattle.annot_code.specs.Code.{Reading}
 use Rattle.c_effects.specs.Named.{unit_of}
 use Rattle.annot_code.specs.declared.piece.Code as declared
 use Rattle.annot_code.specs.declared.value.OperationTypes.{OperationTypes}

@@ -11,7 +11,7 @@ use Rattle.mon_syntax.specs.declared.tree.MonType.{MonType}
 use Rattle.mon_syntax.specs.declared.tree.MonType.TheVariants.{I32}
 use Rattle.mon_syntax.specs.Registers.{Bindings}
 use Rattle.mon_syntax.specs.Trees.{MonExpression}
-use Rattle.c_effects.specs.Expressions.{term_type, Reading}
+use Rattle.annot_code.specs.Code.{term_type, Reading}
 use Rattle.annot_code.specs.Code.{Code, operated, is_total, variable_code, is_known, connected, left_first, both_asked, is_sure, relation_code, term_code, chain_code, pred_code, sure_readings, sure_readings_of_term, known_at_right, sure_code}
 use Rattle.annot_code.specs.Code.{type_of_width, working, width_of, type_of, binary_value}
 

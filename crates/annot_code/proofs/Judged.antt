@@ -5,7 +5,7 @@ use Rattle.c_syntax.specs.Logic.{Predicate}
 use Rattle.mon_syntax.specs.declared.tree.MonType.{MonType}
 use Rattle.mon_syntax.specs.Registers.{Names}
 use Rattle.mon_syntax.specs.Trees.{plain_expr}
-use Rattle.c_effects.specs.Expressions.{Reading}
+use Rattle.annot_code.specs.Code.{Reading}
 use Rattle.c_effects.specs.Named.{unit_of}
 use Rattle.annot_code.specs.declared.judge.Judged as code
 use Rattle.annot_code.specs.declared.piece.Code as declared

@@ -10,9 +10,11 @@ pub mod Terms
 pub mod Theorem
 pub mod Typed
 pub mod Prefixes
+pub mod Depths
 pub mod ValidParts
 pub mod ValidCode
 pub mod Rust
 pub mod Arms
 pub mod Forms
 pub mod Judged
+pub mod Asserted

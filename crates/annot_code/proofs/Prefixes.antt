@@ -1,5 +1,5 @@
 -- The types of registers begin with those taken before.
-use Rattle.std.proofs.Common.{Bool, true, false, if◌then◌else◌, List, [], ◌∷◌, ◌++◌}
+use Rattle.std.proofs.Common.{Bool, true, false, if◌then◌else◌, List, [], ◌∷◌, ◌++◌, Option, Some, None}
 use Rattle.c_syntax.specs.declared.expression.BinOp.{BinOp}
 use Rattle.c_syntax.specs.declared.logic.Connective.{Connective}
 use Rattle.c_syntax.specs.declared.logic.Connective.TheVariants.{And, Xor, Or, Implies, Iff}
@@ -10,11 +10,11 @@ use Rattle.c_model.specs.Ranges.{width_of_range}
 use Rattle.mon_syntax.specs.declared.tree.MonType.{MonType}
 use Rattle.mon_syntax.specs.declared.tree.MonType.TheVariants.{I32}
 use Rattle.mon_syntax.specs.Registers.{Bindings}
-use Rattle.mon_syntax.specs.Trees.{MonExpression}
+use Rattle.mon_syntax.specs.Trees.{MonExpression, Register, Global, Constant, Binary, Minus, Flip, Cast, Load}
 use Rattle.mon_syntax.specs.Valid.{Types}
-use Rattle.c_effects.specs.Expressions.{term_type, Reading}
+use Rattle.annot_code.specs.Code.{term_type, Reading}
 use Rattle.annot_code.specs.Code.{Code, operated, is_total, variable_code, is_known, connected, left_first, both_asked, is_sure, relation_code, term_code, chain_code, pred_code, sure_readings, sure_readings_of_term, known_at_right, sure_code}
-use Rattle.annot_code.specs.Code.{type_of_width, working, width_of, type_of, binary_value}
+use Rattle.annot_code.specs.Code.{type_of_width, working, width_of, type_of, binary_value, judged_with}
 use Rattle.annot_code.specs.Validity.{Begins}
 use Rattle.annot_code.proofs.Typed.{begins_front}
 
@@ -87,3 +87,16 @@ module _ (ts : Types) where
           let x = pred_code p bound a more z.used in
           let y = pred_code p bound d more x.used in
           pred_begins c known rs (pred_begins a more z.used (pred_begins d more x.used (begins_front y.used (I32 ∷ I32 ∷ []) ts b)))
+
+-- ---- judgements
+
+pub judged_begins : (ts : Types) (f : Option MonExpression) (c : Code) → Begins (judged_with f c).used ts → Begins c.used ts
+judged_begins ts None c b = begins_front c.used (I32 ∷ []) ts (begins_front (c.used ++ I32 ∷ []) (I32 ∷ []) ts b)
+judged_begins ts (Some (Register f)) c b = begins_front c.used (I32 ∷ []) ts b
+judged_begins ts (Some (Global x)) c b = begins_front c.used (I32 ∷ []) ts (begins_front (c.used ++ I32 ∷ []) (I32 ∷ []) ts b)
+judged_begins ts (Some (Constant t z)) c b = begins_front c.used (I32 ∷ []) ts (begins_front (c.used ++ I32 ∷ []) (I32 ∷ []) ts b)
+judged_begins ts (Some (Binary op t x y)) c b = begins_front c.used (I32 ∷ []) ts (begins_front (c.used ++ I32 ∷ []) (I32 ∷ []) ts b)
+judged_begins ts (Some (Minus t x)) c b = begins_front c.used (I32 ∷ []) ts (begins_front (c.used ++ I32 ∷ []) (I32 ∷ []) ts b)
+judged_begins ts (Some (Flip t x)) c b = begins_front c.used (I32 ∷ []) ts (begins_front (c.used ++ I32 ∷ []) (I32 ∷ []) ts b)
+judged_begins ts (Some (Cast t x)) c b = begins_front c.used (I32 ∷ []) ts (begins_front (c.used ++ I32 ∷ []) (I32 ∷ []) ts b)
+judged_begins ts (Some (Load t x)) c b = begins_front c.used (I32 ∷ []) ts (begins_front (c.used ++ I32 ∷ []) (I32 ∷ []) ts b)

@@ -31,7 +31,8 @@ use Rattle.mon_syntax.specs.Meaning.{Done, Next, then_do, at_next, with_value, g
 use Rattle.mon_syntax.specs.Meaning.{◌>>=◌ as bind}
 use Rattle.mon_syntax.specs.Meaning as monitored
 use Rattle.mon_syntax.specs.Trees.{MonExpression, Constant, Cast, Load, NoStatement}
-use Rattle.c_effects.specs.Expressions.{in_type, one, term_type, register_type, access_of, pointer_to, question, Reading}
+use Rattle.c_effects.specs.Expressions.{in_type, one, register_type, pointer_to}
+use Rattle.annot_code.specs.Code.{term_type, access_of, question, Reading}
 use Rattle.term_guards.specs.Guards.{guard}
 use Rattle.annot_code.specs.Code.{Code, with_value as code_with_value, conjunction, guarded, two_code, take, take_none, taken, branch, type_of_width, width_of, type_of, working, is_shift, wider, is_total, binary_value, partial_code, operated}
 use Rattle.annot_code.specs.Code.{unary_value, converted_to, cast_value, is_known, variable_value, variable_code}

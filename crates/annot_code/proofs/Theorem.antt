@@ -23,7 +23,8 @@ use Rattle.mon_syntax.specs.Arithmetic.{operate}
 use Rattle.mon_syntax.specs.BlockMemory.{is_some}
 use Rattle.mon_syntax.specs.Meaning.{Done, Next}
 use Rattle.mon_syntax.specs.Trees.{MonExpression, Register, Global, Constant, Binary, Minus, Flip, Cast, Load, If, MonStatements}
-use Rattle.c_effects.specs.Expressions.{before, one, set, Reading}
+use Rattle.c_effects.specs.Expressions.{before, one, set}
+use Rattle.annot_code.specs.Code.{Reading}
 use Rattle.annot_code.specs.Code.{Code, with_value as code_with_value, type_of_width, type_of, width_of, wider, relation_value, relation_code, sure_code, connected as connected_code, term_code, chain_code, pred_code, sure_readings}
 use Rattle.annot_code.specs.Code.{sure_readings_of_term, known_at_right}
 use Rattle.annot_code.specs.Code.{working, is_total, binary_value, judged_by, judged_anew, judged_with}

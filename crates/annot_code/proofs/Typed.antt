@@ -23,7 +23,8 @@ use Rattle.mon_syntax.specs.Arithmetic.{fits}
 use Rattle.mon_syntax.specs.Checking.{same_type}
 use Rattle.mon_syntax.specs.Trees.{MonExpression, Constant, Binary, Minus, Flip, Cast}
 use Rattle.mon_syntax.specs.Valid.{Types, HasType, is_relation, is_whole, is_arithmetic, has_constant, has_operator, result_type, second_type, open_parens}
-use Rattle.c_effects.specs.Expressions.{in_type, operator_of, relation_operator, register_type}
+use Rattle.c_effects.specs.Expressions.{in_type, operator_of, register_type}
+use Rattle.annot_code.specs.Code.{relation_operator}
 use Rattle.term_guards.specs.Guards.{guard}
 use Rattle.annot_code.specs.Code.{type_of_width, wider, working, count_in, second_operand, binary_value, unary_value, relation_value}
 use Rattle.annot_code.specs.Validity.{Begins}

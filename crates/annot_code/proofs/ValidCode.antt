@@ -20,6 +20,7 @@ use Rattle.c_syntax.specs.Programs.{TranslationUnit}
 use Rattle.c_model.specs.Integers.{integer_type}
 use Rattle.c_model.specs.Ranges.{LiesIn, IsWithin128, width_of_range, from_to, bounded, range_in_bits, least_i128}
 use Rattle.c_model.specs.TermRanges.{TermRanged, LinksRanged, PredicateRanged, type_range, is_inside}
+use Rattle.c_model.specs.Formed.{nodes_of_term, nodes_of_links, nodes_of_predicate}
 use Rattle.ea_num.proofs.Bounded.{in_bits_from_test}
 use Rattle.ea_num.proofs.Converted.{widths_fit}
 use Rattle.mon_syntax.specs.declared.tree.MonType.{MonType}
@@ -29,19 +30,21 @@ use Rattle.mon_syntax.specs.Arithmetic.{fits}
 use Rattle.mon_syntax.specs.Registers.{Bindings, register_of}
 use Rattle.mon_syntax.specs.Trees.{MonExpression, Register, Global, Constant, Binary, Minus, Flip, Cast, Load, If, MonStatements}
 use Rattle.mon_syntax.specs.Valid.{Types, HasType, AreStatements, Labels, Signature, open_parens, is_whole, depth_of_all}
-use Rattle.c_effects.specs.Expressions.{before, one, set, in_type, term_type, register_type, pointer_of, pointer_to, global_index, Reading}
+use Rattle.c_effects.specs.Expressions.{before, one, set, in_type, register_type, pointer_of, pointer_to, global_index}
+use Rattle.annot_code.specs.Code.{term_type, Reading}
 use Rattle.term_guards.specs.Guards.{guard}
 use Rattle.annot_code.specs.Code.{Code, with_value, type_of_width, type_of, width_of, wider, working, is_total, binary_value, unary_value, relation_value, relation_code, cast_value, converted_to, operated, sure_code, variable_code, is_known}
 use Rattle.annot_code.specs.Code.{two_code, take, take_none, guarded, conjunction}
 use Rattle.annot_code.specs.Code.{term_code, chain_code, pred_code, sure_readings, sure_readings_of_term, known_at_right, judged_by, judged_anew, judged_with}
-use Rattle.annot_code.specs.Validity.{nodes_of_term, nodes_of_links, nodes, TermWritable, LinksWritable, PredicateWritable, Begins, IsValidCode, CodeIsValid}
+use Rattle.annot_code.specs.Validity.{TermWritable, LinksWritable, PredicateWritable, Begins, IsValidCode, CodeIsValid}
 use Rattle.annot_code.proofs.Exact.{Fits, signed_within}
 use Rattle.annot_code.proofs.Terms.{CastTo, cast_to}
 use Rattle.annot_code.proofs.Variables.{IsInteger, integer_of_range, some_same}
 use Rattle.annot_code.proofs.Typed.{begins_front, type_at, first_type, second_type_at, whole_width, whole_register, width_constant, zero_constant, in_type_typed, to_width, relation_typed, guard_typed, binary_typed, unary_typed, related_typed}
 use Rattle.annot_code.proofs.Typed.{in_type_parens, guard_parens, value_parens, unary_parens, related_parens, binary_less}
-use Rattle.annot_code.proofs.Prefixes.{operated_begins, connected_begins, term_begins, chain_begins, pred_begins}
-use Rattle.annot_code.proofs.ValidParts.{flag_more, before_valid, expression, set_valid, number_valid, register_valid, FlagValid, Valid, flag_both, guarded_valid, take_valid, take_none_valid, deep_before, deep_if, deep_guarded, deep_take, two_valid}
+use Rattle.annot_code.proofs.Depths.{deep_before, deep_if, deep_guarded, deep_take, some_term, some_nodes}
+use Rattle.annot_code.proofs.Prefixes.{operated_begins, connected_begins, term_begins, chain_begins, pred_begins, judged_begins}
+use Rattle.annot_code.proofs.ValidParts.{flag_more, before_valid, expression, set_valid, number_valid, register_valid, FlagValid, Valid, flag_both, guarded_valid, take_valid, take_none_valid, two_valid}
 use Rattle.annot_code.proofs.ValidParts.{changed_valid, branch_valid, truth_valid, connected_valid}
 
 -- ---- numbers
@@ -65,25 +68,6 @@ one_range r z e = by (range_in_bits 127 (from_to z z)) refl e
         subst (λ r. OneRange r z) (some_same (from_to z z) r q)
         (record { lies = record { above = omega (arith, ints); below = omega (arith, ints) }; within = record { lo_fits = record { sfits = bits.lo_in }; hi_fits = record { sfits = bits.hi_in } } })
     by false p q = absurd cc
-
--- ---- counts
-
-some_term : (t : LogicTerm) → 1 ≤ nodes_of_term t
-some_term (logic.Number at t r n) = omega arith
-some_term (logic.Letter at t r n) = omega arith
-some_term (logic.Variable at t r x) = omega arith
-some_term (logic.Unary at t r op a) = omega arith
-some_term (logic.Binary at t r op a b) = omega arith
-some_term (logic.Cast at t r to a) = omega arith
-some_term (logic.Choice at t r c a b) = omega arith
-
-some_nodes : (p : Predicate) → 1 ≤ nodes p
-some_nodes (logic.Truth at b) = omega arith
-some_nodes (logic.NonZero at t) = some_term t
-some_nodes (logic.Chain at t links) = omega (arith, some_term t)
-some_nodes (logic.Not at p) = omega arith
-some_nodes (logic.Connected at c p q) = omega arith
-some_nodes (logic.Branch at c p q) = omega arith
 
 pointer_parens : (p : TranslationUnit) (bound : Bindings) (x : ℕ) → open_parens (pointer_to p bound x) ≤ 0
 pointer_parens p bound x = by (register_of bound x)
@@ -241,9 +225,9 @@ module _ (p : TranslationUnit) (bound : Bindings) (g : ℕ) (gs : List Signature
                   (expression g gs ts result ls made wr (4 * all) made_typed (omega (arith, made_parens)) (omega (arith, few))) at1 at2)
                   (take_none_valid g gs ts result ls reg at1));
               deep =
-                  deep_before g gs ts result ls both (guarded flag inner (take_none reg)) (all + all)
-                  (deep_before g gs ts result ls x.stmts y.stmts (all + all) (omega (arith, vx.deep)) (omega (arith, vy.deep)))
-                  (let d = deep_guarded g gs ts result ls flag inner (take_none reg) 2 (deep_take g gs ts result ls (Some test) made reg) (omega arith) in omega (arith, d, some_term a, some_term b));
+                  deep_before both (guarded flag inner (take_none reg)) (all + all)
+                  (deep_before x.stmts y.stmts (all + all) (omega (arith, vx.deep)) (omega (arith, vy.deep)))
+                  (let d = deep_guarded flag inner (take_none reg) 2 (deep_take (Some test) made reg) (omega arith) in omega (arith, d, some_term a, some_term b));
               flag = (at1, omega arith);
               typed = at2;
               parens = omega arith;
@@ -311,7 +295,8 @@ module _ (p : TranslationUnit) (bound : Bindings) (g : ℕ) (gs : List Signature
         let hy = begins_front y.used (I32 ∷ w ∷ []) ts h in
         let hx = term_begins ts p bound b more x.used hy in
         let hz = term_begins ts p bound a more z.used hx in
-        branch_valid g gs ts result ls w z (with_value (in_type (type_of a) w x.value) x) (with_value (in_type (type_of b) w y.value) y) (nodes c) (nodes_of_term a) (nodes_of_term b) 0 0 0 (suc (nodes c + nodes_of_term a + nodes_of_term b)) 1
+        branch_valid g gs ts result ls w z (with_value (in_type (type_of a) w x.value) x) (with_value (in_type (type_of b) w y.value) y)
+        (nodes_of_predicate c) (nodes_of_term a) (nodes_of_term b) 0 0 0 (suc (nodes_of_predicate c + nodes_of_term a + nodes_of_term b)) 1
         (pred_valid c q.1 f.0 known rs (omega (arith, few)) hz) (side_is_code a r x (nodes_of_term a) (some_term a) (term_valid a q.2 f.1 more z.used (omega (arith, few)) hx))
         (side_is_code b r y (nodes_of_term b) (some_term b) (term_valid b q.3 f.2 more x.used (omega (arith, few)) hy)) (omega (arith, some_term a)) (omega arith) (omega arith) (some_term a) few (omega arith) h
 
@@ -335,20 +320,22 @@ module _ (p : TranslationUnit) (bound : Bindings) (g : ℕ) (gs : List Signature
         connected_valid g gs ts result ls And z d (m + suc n) (n + l) (m + suc (n + l)) (relation_is_code r t u x y m n (m + suc n) vx vy some (some_term u) (omega arith))
         (chain_valid u start (Linked at2 r2 v rest) n q.1 f.1 more (some_term u) (omega (arith, few)) (again_is_code u y vy) hd) (omega (arith, some_term v)) (omega (arith, some)) (omega (arith, some_term u)) few h
 
-    pred_valid : (q : Predicate) → PredicateRanged q → PredicateWritable p bound g ts q → (known : List Reading) (rs : Types) → nodes q ≤ 400 → Begins (pred_code p bound q known rs).used ts → IsCode (pred_code p bound q known rs) I32 (nodes q) 0
+    pred_valid : (q : Predicate) → PredicateRanged q → PredicateWritable p bound g ts q → (known : List Reading) (rs : Types) → nodes_of_predicate q ≤ 400 → Begins (pred_code p bound q known rs).used ts
+        → IsCode (pred_code p bound q known rs) I32 (nodes_of_predicate q) 0
     pred_valid (logic.Truth at b) q f known rs few h = truth_valid g gs ts result ls b rs 0 (omega arith)
     pred_valid (logic.NonZero at t) q f known rs few h = nonzero_is_code t (term_code p bound t known rs) (term_valid t q f known rs few h)
     pred_valid (logic.Chain at t links) q f known rs few h =
         let x = term_code p bound t known rs in
         chain_valid t x links (nodes_of_term t) q.1 f.1 known (some_term t) few (term_valid t q.0 f.0 known rs (omega (arith, few)) (chain_begins ts p bound t x links known h)) h
-    pred_valid (logic.Not at a) q f known rs few h = not_is_code (pred_code p bound a known rs) (nodes a) (pred_valid a q f known rs (omega (arith, few)) h)
+    pred_valid (logic.Not at a) q f known rs few h = not_is_code (pred_code p bound a known rs) (nodes_of_predicate a) (pred_valid a q f known rs (omega (arith, few)) h)
     pred_valid (logic.Connected at c a b) q f known rs few h =
         let x = pred_code p bound a known rs in
         let ks = known_at_right c known a in
         let y = pred_code p bound b ks x.used in
         let hy = connected_begins ts c x y h in
         let hx = pred_begins ts p bound b ks x.used hy in
-        connected_valid g gs ts result ls c x y (nodes a) (nodes b) (suc (nodes a + nodes b)) (pred_valid a q.0 f.0 known rs (omega (arith, few)) hx) (pred_valid b q.1 f.1 ks x.used (omega (arith, few)) hy) (omega arith) (omega arith)
+        connected_valid g gs ts result ls c x y (nodes_of_predicate a) (nodes_of_predicate b) (suc (nodes_of_predicate a + nodes_of_predicate b))
+        (pred_valid a q.0 f.0 known rs (omega (arith, few)) hx) (pred_valid b q.1 f.1 ks x.used (omega (arith, few)) hy) (omega arith) (omega arith)
         (some_nodes b) few h
     pred_valid (logic.Branch at c a b) q f known rs few h =
         let more = known ++ sure_readings c in
@@ -358,7 +345,8 @@ module _ (p : TranslationUnit) (bound : Bindings) (g : ℕ) (gs : List Signature
         let hy = begins_front y.used (I32 ∷ I32 ∷ []) ts h in
         let hx = pred_begins ts p bound b more x.used hy in
         let hz = pred_begins ts p bound a more z.used hx in
-        branch_valid g gs ts result ls I32 z x y (nodes c) (nodes a) (nodes b) 0 0 0 (suc (nodes c + nodes a + nodes b)) 0 (pred_valid c q.0 f.0 known rs (omega (arith, few)) hz) (pred_valid a q.1 f.1 more z.used (omega (arith, few)) hx)
+        branch_valid g gs ts result ls I32 z x y (nodes_of_predicate c) (nodes_of_predicate a) (nodes_of_predicate b) 0 0 0 (suc (nodes_of_predicate c + nodes_of_predicate a + nodes_of_predicate b)) 0
+        (pred_valid c q.0 f.0 known rs (omega (arith, few)) hz) (pred_valid a q.1 f.1 more z.used (omega (arith, few)) hx)
         (pred_valid b q.2 f.2 more x.used (omega (arith, few)) hy) (omega (arith, some_nodes a)) (omega arith) (omega arith) (some_nodes a) few (omega arith) h
 
   -- ---- the flag and the truth in registers
@@ -378,7 +366,7 @@ module _ (p : TranslationUnit) (bound : Bindings) (g : ℕ) (gs : List Signature
               ),
               tt,
             );
-        deep = deep_before g gs ts result ls a (one (If (Register f) on off)) 1300 d (let l = deep_if g gs ts result ls (Register f) on off 1 (omega arith) (omega arith) in omega (arith, l));
+        deep = deep_before a (one (If (Register f) on off)) 1300 d (let l = deep_if (Register f) on off 1 (omega arith) (omega arith) in omega (arith, l));
         flag_type = at;
         truth_type = at2;
       }
@@ -390,7 +378,7 @@ module _ (p : TranslationUnit) (bound : Bindings) (g : ℕ) (gs : List Signature
         let at = type_at c.used ts I32 first in
         by_valid (before c.stmts (set (length c.used) e)) (length c.used) c.value (c.used ++ I32 ∷ []) (4 * n) (omega (arith, few))
         (before_valid g gs ts result ls c.stmts (set (length c.used) e) v.statements (set_valid g gs ts result ls (length c.used) e I32 at (expression g gs ts result ls e I32 2000 typed parens (omega arith))))
-        (deep_before g gs ts result ls c.stmts (set (length c.used) e) 1300 (omega (arith, v.deep, few)) (omega arith)) at v.typed (omega (arith, v.parens)) b
+        (deep_before c.stmts (set (length c.used) e) 1300 (omega (arith, v.deep, few)) (omega arith)) at v.typed (omega (arith, v.parens)) b
 
     flagged : (f : Option MonExpression) → FlagValid g gs ts result ls f n → Begins (judged_with f c).used ts → IsValidCode g gs ts result ls (judged_with f c)
     flagged None h b = anew_valid (Constant I32 (pos 1)) (refl, refl) (omega arith) b
@@ -403,19 +391,8 @@ module _ (p : TranslationUnit) (bound : Bindings) (g : ℕ) (gs : List Signature
     flagged (Some (Cast t x)) h b = let l = h.1 in anew_valid (Cast t x) h.0 (omega (arith, few, l)) b
     flagged (Some (Load t x)) h b = let l = h.1 in anew_valid (Load t x) h.0 (omega (arith, few, l)) b
 
-judged_begins : (ts : Types) (f : Option MonExpression) (c : Code) → Begins (judged_with f c).used ts → Begins c.used ts
-judged_begins ts None c b = begins_front c.used (I32 ∷ []) ts (begins_front (c.used ++ I32 ∷ []) (I32 ∷ []) ts b)
-judged_begins ts (Some (Register f)) c b = begins_front c.used (I32 ∷ []) ts b
-judged_begins ts (Some (Global x)) c b = begins_front c.used (I32 ∷ []) ts (begins_front (c.used ++ I32 ∷ []) (I32 ∷ []) ts b)
-judged_begins ts (Some (Constant t z)) c b = begins_front c.used (I32 ∷ []) ts (begins_front (c.used ++ I32 ∷ []) (I32 ∷ []) ts b)
-judged_begins ts (Some (Binary op t x y)) c b = begins_front c.used (I32 ∷ []) ts (begins_front (c.used ++ I32 ∷ []) (I32 ∷ []) ts b)
-judged_begins ts (Some (Minus t x)) c b = begins_front c.used (I32 ∷ []) ts (begins_front (c.used ++ I32 ∷ []) (I32 ∷ []) ts b)
-judged_begins ts (Some (Flip t x)) c b = begins_front c.used (I32 ∷ []) ts (begins_front (c.used ++ I32 ∷ []) (I32 ∷ []) ts b)
-judged_begins ts (Some (Cast t x)) c b = begins_front c.used (I32 ∷ []) ts (begins_front (c.used ++ I32 ∷ []) (I32 ∷ []) ts b)
-judged_begins ts (Some (Load t x)) c b = begins_front c.used (I32 ∷ []) ts (begins_front (c.used ++ I32 ∷ []) (I32 ∷ []) ts b)
-
 pub code_is_valid : CodeIsValid
 code_is_valid p bound g gs ts result ls q rs ranged writable few b =
     let c = pred_code p bound q [] rs in
     let v = pred_valid p bound g gs ts result ls q ranged writable [] rs few (judged_begins ts c.flag c b) in
-    flagged p bound g gs ts result ls c (nodes q) few v c.flag v.flag b
+    flagged p bound g gs ts result ls c (nodes_of_predicate q) few v c.flag v.flag b

@@ -1,6 +1,5 @@
 -- Pieces of code are valid where their parts are.
-use Rattle.std.proofs.Common.{◌≡◌, ℕ, suc, ◌+◌, ◌-◌, ◌*◌, ◌≤◌, ℤ, pos, Bool, true, false, if◌then◌else◌, max, List, [], ◌∷◌, ◌++◌, length, Option, Some, None, slice_get, refl, arith}
-use Rattle.std.proofs.Math.Nat.{max-le, le-max_left, le-max_right}
+use Rattle.std.proofs.Common.{◌≡◌, ℕ, suc, ◌+◌, ◌-◌, ◌*◌, ◌≤◌, ℤ, pos, Bool, true, false, if◌then◌else◌, List, [], ◌∷◌, ◌++◌, length, Option, Some, None, slice_get, refl, arith}
 use Rattle.c_syntax.specs.declared.logic.Connective.{Connective}
 use Rattle.c_syntax.specs.declared.logic.Connective.TheVariants.{And, Xor, Or, Implies, Iff}
 use Rattle.c_syntax.specs.declared.types.Width.TheVariants.{W32}
@@ -8,10 +7,11 @@ use Rattle.mon_syntax.specs.declared.tree.MonType.{MonType}
 use Rattle.mon_syntax.specs.declared.tree.MonType.TheVariants.{I32}
 use Rattle.mon_syntax.specs.declared.tree.MonOp.TheVariants as mon
 use Rattle.mon_syntax.specs.Trees.{MonExpression, Register, Constant, Binary, MonStatements, NoStatement, Then, If}
-use Rattle.mon_syntax.specs.Valid.{Types, HasType, IsExpression, AreStatements, Labels, Signature, open_parens, depth, depth_of_all}
+use Rattle.mon_syntax.specs.Valid.{Types, HasType, IsExpression, AreStatements, Labels, Signature, open_parens, depth_of_all}
 use Rattle.c_effects.specs.Expressions.{before, one, set}
 use Rattle.annot_code.specs.Code.{Code, with_value, conjunction, guarded, two_code, take, take_none, branch, truth_code, is_sure, connective_operator, both_asked, left_first, connected}
 use Rattle.annot_code.specs.Validity.{Begins}
+use Rattle.annot_code.proofs.Depths.{deep_before, deep_if, deep_guarded, deep_take}
 use Rattle.annot_code.proofs.Typed.{first_type, second_type_at, arithmetic_typed, relation_typed, binary_less}
 
 module _ (g : ℕ) (gs : List Signature) (ts : Types) (result : Option MonType) (ls : Labels) where
@@ -70,26 +70,6 @@ module _ (g : ℕ) (gs : List Signature) (ts : Types) (result : Option MonType) 
 
   pub take_none_valid : (r : ℕ) → slice_get ts r ≡ Some I32 → Stmts (take_none r)
   take_none_valid r at = set_valid r (Constant I32 (pos 0)) I32 at (number_valid (pos 0) (refl, refl))
-
-  -- ---- how deep
-
-  pub deep_before : (a b : MonStatements) (n : ℕ) → depth_of_all a ≤ n → depth_of_all b ≤ n → depth_of_all (before a b) ≤ n
-  deep_before NoStatement b n h k = k
-  deep_before (Then x a) b n h k =
-      let l = le-max_left (depth x) (depth_of_all a) in
-      let r = le-max_right (depth x) (depth_of_all a) in
-      max-le (omega (arith, h, l)) (deep_before a b n (omega (arith, h, r)) k)
-
-  pub deep_if : (e : MonExpression) (a b : MonStatements) (n : ℕ) → depth_of_all a ≤ n → depth_of_all b ≤ n → depth_of_all (one (If e a b)) ≤ suc n
-  deep_if e a b n h k = let m : max (depth_of_all a) (depth_of_all b) ≤ n = max-le h k in max-le (omega (arith, m)) (omega arith)
-
-  pub deep_guarded : (f : Option MonExpression) (a b : MonStatements) (n : ℕ) → depth_of_all a ≤ n → depth_of_all b ≤ n → depth_of_all (guarded f a b) ≤ suc n
-  deep_guarded None a b n h k = omega (arith, h)
-  deep_guarded (Some e) a b n h k = deep_if e a b n h k
-
-  pub deep_take : (f : Option MonExpression) (e : MonExpression) (r : ℕ) → depth_of_all (take f e r) ≤ 2
-  deep_take None e r = omega arith
-  deep_take (Some a) e r = omega arith
 
   -- ---- parts
 

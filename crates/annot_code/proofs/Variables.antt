@@ -30,7 +30,8 @@ use Rattle.mon_syntax.specs.Arithmetic.{access_bytes}
 use Rattle.mon_syntax.specs.BlockMemory.{Blocks, is_some, holds_number, load_block}
 use Rattle.mon_syntax.specs.Checking.{same_type}
 use Rattle.mon_syntax.specs.Meaning.{◌>>=◌ as bind}
-use Rattle.c_effects.specs.Expressions.{register_type, term_type, access_of, Reading}
+use Rattle.c_effects.specs.Expressions.{register_type}
+use Rattle.annot_code.specs.Code.{term_type, access_of, Reading}
 use Rattle.annot_code.specs.Code.{is_same_reading, is_known, sure_readings_of_term, sure_readings, known_at_right}
 use Rattle.annot_code.specs.Does.{TermFound, PredicateFound}
 use Rattle.annot_code.proofs.Exact.{value_of}

@@ -6,6 +6,7 @@ use Rattle.std.specs.Prelude.{Option, Some, None}
 use Rattle.std.specs.List.{list_any}
 use Rattle.c_syntax.specs.declared.annotation.Range.{Range}
 use Rattle.c_syntax.specs.declared.annotation.Relation.{Relation}
+use Rattle.c_syntax.specs.declared.annotation.Relation.TheVariants as relation
 use Rattle.c_syntax.specs.declared.expression.BinOp.{BinOp}
 use Rattle.c_syntax.specs.declared.expression.BinOp.TheVariants as operator
 use Rattle.c_syntax.specs.declared.expression.UnOp.{UnOp}
@@ -14,23 +15,64 @@ use Rattle.c_syntax.specs.declared.logic.Connective.TheVariants as connective
 use Rattle.c_syntax.specs.declared.types.CInt.{CInt}
 use Rattle.c_syntax.specs.declared.types.Width.{Width}
 use Rattle.c_syntax.specs.declared.types.Width.TheVariants.{W32, W64, W128}
+use Rattle.c_syntax.specs.Ctypes.{PlainType}
 use Rattle.c_syntax.specs.Formulas.{CastType, Integers, OfC}
-use Rattle.c_syntax.specs.Logic.{LogicTerm, Links, NoLink, Linked, Predicate, range_of}
+use Rattle.c_syntax.specs.Logic.{LogicTerm, Links, NoLink, Linked, Predicate, ClauseBody, Raw, Holds, Annotation, range_of}
 use Rattle.c_syntax.specs.Logic as logic
 use Rattle.c_syntax.specs.Programs.{TranslationUnit}
 use Rattle.c_model.specs.Integers.{integer_type, truth}
 use Rattle.c_model.specs.Ranges.{is_nonnegative, width_of_range}
 use Rattle.c_model.specs.TermRanges.{type_range, is_inside}
+use Rattle.mon_syntax.specs.declared.tree.AccessSize.{AccessSize}
+use Rattle.mon_syntax.specs.declared.tree.AccessSize.TheVariants.{One, Two, Four, Eight, Sixteen}
+use Rattle.mon_syntax.specs.declared.tree.MemoryCall.TheVariants.{Number}
 use Rattle.mon_syntax.specs.declared.tree.MonOp.{MonOp}
-use Rattle.mon_syntax.specs.declared.tree.MonOp.TheVariants.{And, Or, Eq, Ne, Lt, Le}
+use Rattle.mon_syntax.specs.declared.tree.MonOp.TheVariants.{And, Or, Eq, Ne, Lt, Le, Gt, Ge}
 use Rattle.mon_syntax.specs.declared.tree.MonType.{MonType}
-use Rattle.mon_syntax.specs.declared.tree.MonType.TheVariants.{I32, I64, I128}
-use Rattle.mon_syntax.specs.Trees.{MonExpression, Register, Constant, Binary, Minus, Cast, Load, Set, If, MonStatements, NoStatement, Then}
+use Rattle.mon_syntax.specs.declared.tree.MonType.TheVariants.{I8, U8, I16, U16, I32, U32, I64, U64, I128, Ptr}
+use Rattle.mon_syntax.specs.Trees.{MonExpression, Register, Constant, Binary, Minus, Cast, Load, MonStatement, Set, Act, Assert, If}
+use Rattle.mon_syntax.specs.Trees.{MonStatements, NoStatement, Then}
 use Rattle.mon_syntax.specs.Checking.{same_type}
 use Rattle.mon_syntax.specs.Registers.{Bindings}
 use Rattle.term_guards.specs.Guards.{guard}
-use Rattle.c_effects.specs.Expressions.{before, one, set, in_type, unary, operator_of, relation_operator, register_type, term_type, pointer_to, Reading}
-use Rattle.c_effects.specs.Expressions.{question}
+use Rattle.c_effects.specs.Expressions.{before, one, set, in_type, unary, operator_of, register_type, value_type, pointer_to}
+
+-- ---- variables that are read
+
+-- the type of the value of an object, as a term has it
+abbrev pub term_type : Option PlainType → MonType
+term_type None = I32
+term_type (Some t) = value_type t
+
+-- a variable that is read, and the type of its value
+pub record Reading : Type 0 where
+  pub decl : ℕ
+  pub kind : MonType
+
+-- how many bytes a value of the type has, which an i128 is not read from
+abbrev pub access_of : MonType → AccessSize
+access_of I8 = One
+access_of U8 = One
+access_of I16 = Two
+access_of U16 = Two
+access_of I32 = Four
+access_of U32 = Four
+access_of I64 = Eight
+access_of U64 = Eight
+access_of I128 = Sixteen
+access_of Ptr = Eight
+
+-- the register with this number becomes whether the variable holds a number: `r = __e_acsl_number(p, I128(0), size);`
+abbrev pub question : TranslationUnit → Bindings → ℕ → Reading → MonStatement
+question p bound r x = Act (Some r) (Number (access_of x.kind)) (pointer_to p bound x.decl ∷ Constant I128 (pos 0) ∷ [])
+
+abbrev pub relation_operator : Relation → MonOp
+relation_operator relation.Eq = Eq
+relation_operator relation.Ne = Ne
+relation_operator relation.Lt = Lt
+relation_operator relation.Le = Le
+relation_operator relation.Gt = Gt
+relation_operator relation.Ge = Ge
 
 -- ---- what the code of a part is
 
@@ -343,3 +385,32 @@ judged_with (Some e) c = judged_anew e c
 -- the code of a predicate, after registers of these types
 abbrev pub judgement : TranslationUnit → Bindings → Predicate → List MonType → Judgement
 judgement p bound q rs = let x = pred_code p bound q [] rs in judged_with x.flag x
+
+-- ---- annotations
+
+-- what isn't typed says nothing
+abbrev pub nothing_said : List MonType → Judgement
+nothing_said rs = judged_anew (Constant I32 (pos 0)) (truth_code false rs)
+
+abbrev pub clause_judgement : TranslationUnit → Bindings → ClauseBody → List MonType → Judgement
+clause_judgement p bound (Raw f) rs = nothing_said rs
+clause_judgement p bound (Holds q) rs = judgement p bound q rs
+
+-- an annotation is judged, and stops the run where it says nothing or is false
+abbrev pub asserted : Annotation → Judgement → MonStatements
+asserted a j = before j.stmts (one (Assert (Register j.flag) (Register j.truth) a.number a.place.line a.kind))
+
+abbrev pub assertion : TranslationUnit → Bindings → List MonType → Annotation → MonStatements
+assertion p bound rs a = asserted a (clause_judgement p bound a.body rs)
+
+-- the types of all registers that are taken after it
+abbrev pub behind_assertion : TranslationUnit → Bindings → List MonType → Annotation → List MonType
+behind_assertion p bound rs a = (clause_judgement p bound a.body rs).used
+
+abbrev pub assertions : TranslationUnit → Bindings → List MonType → List Annotation → MonStatements
+assertions p bound rs [] = NoStatement
+assertions p bound rs (a ∷ rest) = before (assertion p bound rs a) (assertions p bound (behind_assertion p bound rs a) rest)
+
+abbrev pub behind_assertions : TranslationUnit → Bindings → List MonType → List Annotation → List MonType
+behind_assertions p bound rs [] = rs
+behind_assertions p bound rs (a ∷ rest) = behind_assertions p bound (behind_assertion p bound rs a) rest

@@ -1,6 +1,7 @@
 -- What the code that judges a predicate does, and that it is valid, where it is made after these names.
 use Rattle.std.specs.Prelude.{◌≡◌, ℕ, ◌≤◌, length, List, Option}
 use Rattle.c_syntax.specs.Logic.{Predicate}
+use Rattle.c_model.specs.Formed.{nodes_of_predicate}
 use Rattle.c_model.specs.TermRanges.{PredicateRanged}
 use Rattle.mon_syntax.specs.declared.tree.MonType.{MonType}
 use Rattle.mon_syntax.specs.Registers.{Names}
@@ -8,7 +9,7 @@ use Rattle.mon_syntax.specs.Valid.{Types, Labels, Signature}
 use Rattle.c_effects.specs.Named.{unit_of}
 use Rattle.annot_code.specs.Code.{Judgement}
 use Rattle.annot_code.specs.Does.{Setting, Stands, RangesHold, PredicateFound, Judges}
-use Rattle.annot_code.specs.Validity.{PredicateWritable, nodes, Begins, IsValidCode}
+use Rattle.annot_code.specs.Validity.{PredicateWritable, Begins, IsValidCode}
 
 -- it judges each predicate that keeps its ranges and whose variables are in sight, where there are registers enough
 abbrev pub JudgesIn : Names → Predicate → Judgement → Type 0
@@ -20,5 +21,5 @@ JudgesIn n q j =
 abbrev pub IsValidIn : Names → Predicate → Judgement → Type 0
 IsValidIn n q j =
     (globals : ℕ) (gs : List Signature) (ts : Types) (result : Option MonType) (ls : Labels)
-    → PredicateRanged q → PredicateWritable (unit_of n) n.table.bound globals ts q → nodes q ≤ 400 → Begins j.used ts
+    → PredicateRanged q → PredicateWritable (unit_of n) n.table.bound globals ts q → nodes_of_predicate q ≤ 400 → Begins j.used ts
     → IsValidCode globals gs ts result ls j

@@ -3,3 +3,4 @@ pub mod Does
 pub mod Validity
 pub mod Plain
 pub mod Judged
+pub mod Numbered

@@ -10,15 +10,14 @@ use Rattle.c_syntax.specs.declared.logic.Links as declared_logic
 use Rattle.c_syntax.specs.declared.logic.Pred.{Pred}
 use Rattle.c_syntax.specs.declared.logic.Term.{Term}
 use Rattle.c_syntax.specs.Formulas.{CastType}
-use Rattle.c_syntax.specs.Logic.{LogicTerm, Links, Linked, Predicate, plain_links, plain_pred, plain_term}
+use Rattle.c_syntax.specs.Logic.{LogicTerm, Links, Linked, Predicate, Annotation, plain_links, plain_pred, plain_term}
 use Rattle.c_syntax.specs.Logic as logic
 use Rattle.c_syntax.specs.Programs.{TranslationUnit}
 use Rattle.c_model.specs.Ranges.{width_of_range}
 use Rattle.mon_syntax.specs.declared.tree.MonType.{MonType}
-use Rattle.mon_syntax.specs.Registers.{Bindings, Names}
+use Rattle.mon_syntax.specs.Registers.{Bindings, Names, with_table}
 use Rattle.mon_syntax.specs.Trees.{MonExpression, Register, Constant, If, MonStatements, plain_expr, plain_stmts}
 use Rattle.mon_syntax.specs.declared.tree.MonType.TheVariants.{I32}
-use Rattle.c_effects.specs.Expressions as expressions
 use Rattle.c_effects.specs.Expressions.{before, one}
 use Rattle.c_effects.specs.Named.{unit_of}
 use Rattle.annot_code.specs.declared.judge.Judged.{Judged}
@@ -26,16 +25,17 @@ use Rattle.annot_code.specs.declared.piece.Code as declared
 use Rattle.annot_code.specs.declared.reading.Reading as declared_reading
 use Rattle.annot_code.specs.declared.value.OperationTypes.{OperationTypes}
 use Rattle.annot_code.specs.Code.{Code, Judgement, conjunction, connected, guarded, judged_anew, judged_by, sure_code, sure_readings_of_term, take, take_none}
-use Rattle.annot_code.specs.Code.{chain_code, pred_code, relation_code, term_code, type_of, type_of_width, width_of, working}
+use Rattle.annot_code.specs.Code.{Reading, chain_code, pred_code, relation_code, term_code, type_of, type_of_width, width_of, working}
+use Rattle.annot_code.specs.Code.{assertion, assertions, behind_assertion, behind_assertions}
 
 -- code after which registers of these types are taken
 abbrev pub code_of : declared.Code → List MonType → Code
 code_of c rs = record { stmts = plain_stmts c.stmts.items; flag = option_map plain_expr c.flag; value = plain_expr c.value; used = rs }
 
-abbrev pub plain_reading : declared_reading.Reading → expressions.Reading
+abbrev pub plain_reading : declared_reading.Reading → Reading
 plain_reading x = record { decl = x.decl; kind = x.kind }
 
-abbrev pub plain_readings : List declared_reading.Reading → List expressions.Reading
+abbrev pub plain_readings : List declared_reading.Reading → List Reading
 plain_readings xs = map plain_reading xs
 
 -- ---- pieces by the number of their first register; which registers are taken plays no part
@@ -57,13 +57,13 @@ partial_in r x test = in_registers (before x.stmts (guarded x.flag (take (Some t
 
 -- ---- terms and predicates where a function's names are these
 
-abbrev pub term_by : Names → LogicTerm → List expressions.Reading → Code
+abbrev pub term_by : Names → LogicTerm → List Reading → Code
 term_by n t known = term_code (unit_of n) n.table.bound t known n.table.kinds
 
-abbrev pub chain_by : Names → LogicTerm → Code → Links → List expressions.Reading → Code
+abbrev pub chain_by : Names → LogicTerm → Code → Links → List Reading → Code
 chain_by n t x links known = chain_code (unit_of n) n.table.bound t x links known
 
-abbrev pub pred_by : Names → Predicate → List expressions.Reading → Code
+abbrev pub pred_by : Names → Predicate → List Reading → Code
 pred_by n q known = pred_code (unit_of n) n.table.bound q known n.table.kinds
 
 -- ---- forms by their parts; their own places play no part
@@ -104,7 +104,7 @@ abbrev pub ended : Code → Code
 ended x = record x { flag = None; value = Constant I32 (pos 1) }
 
 -- a relation of the terms of x and y, and the relations after y
-abbrev pub more_links : TranslationUnit → Bindings → Relation → LogicTerm → LogicTerm → Code → Code → Links → List expressions.Reading → Code
+abbrev pub more_links : TranslationUnit → Bindings → Relation → LogicTerm → LogicTerm → Code → Code → Links → List Reading → Code
 more_links p bound r t u x y rest known =
     connected connective.And (relation_code r t u x y)
     (chain_code p bound u (sure_code y.value y.used) rest (known ++ (sure_readings_of_term t ++ sure_readings_of_term u)))
@@ -136,3 +136,18 @@ number_of e = None
 abbrev pub judged_where : Option ℕ → MonExpression → Code → Judgement
 judged_where (Some r) e c = judged_by c.stmts r c.value c.used
 judged_where None e c = judged_anew e c
+
+-- ---- annotations where a function's names are these
+
+abbrev pub assertion_by : Names → Annotation → MonStatements
+assertion_by n a = assertion (unit_of n) n.table.bound n.table.kinds a
+
+abbrev pub assertions_by : Names → List Annotation → MonStatements
+assertions_by n annots = assertions (unit_of n) n.table.bound n.table.kinds annots
+
+-- the names after annotations: further registers are taken
+abbrev pub names_behind_assertion : Annotation → Names → Names
+names_behind_assertion a n = with_table (record n.table { kinds = behind_assertion (unit_of n) n.table.bound n.table.kinds a }) n
+
+abbrev pub names_behind_assertions : List Annotation → Names → Names
+names_behind_assertions annots n = with_table (record n.table { kinds = behind_assertions (unit_of n) n.table.bound n.table.kinds annots }) n

@@ -1,9 +1,10 @@
 -- The code of a predicate is valid monitored C: its types, and how deep it stands.
-use Rattle.std.specs.Prelude.{◌≡◌, ℕ, suc, ◌+◌, ◌≤◌, false, List, ◌++◌, Option, Some, slice_get}
+use Rattle.std.specs.Prelude.{◌≡◌, ℕ, ◌≤◌, false, List, ◌++◌, Option, Some, slice_get}
 use Rattle.std.specs.Ordering.{int_eq}
 use Rattle.c_syntax.specs.Logic.{LogicTerm, Links, NoLink, Linked, Predicate}
 use Rattle.c_syntax.specs.Logic as logic
 use Rattle.c_syntax.specs.Programs.{TranslationUnit}
+use Rattle.c_model.specs.Formed.{nodes_of_predicate}
 use Rattle.c_model.specs.Ranges.{least_i128}
 use Rattle.c_model.specs.TermRanges.{PredicateRanged}
 use Rattle.mon_syntax.specs.declared.tree.MonType.{MonType}
@@ -12,29 +13,6 @@ use Rattle.mon_syntax.specs.Registers.{Bindings}
 use Rattle.mon_syntax.specs.Valid.{Types, HasType, AreStatements, Labels, Signature, depth_of_all}
 use Rattle.c_effects.specs.Expressions.{pointer_to}
 use Rattle.annot_code.specs.Code.{Judgement, judgement}
-
--- how many terms and relations and connectives a predicate has, for each of which at least one token stands
-abbrev mutual
-  pub nodes_of_term : LogicTerm → ℕ
-  nodes_of_term (logic.Number at t r n) = 1
-  nodes_of_term (logic.Letter at t r n) = 1
-  nodes_of_term (logic.Variable at t r x) = 1
-  nodes_of_term (logic.Unary at t r op a) = suc (nodes_of_term a)
-  nodes_of_term (logic.Binary at t r op a b) = suc (nodes_of_term a + nodes_of_term b)
-  nodes_of_term (logic.Cast at t r to a) = suc (nodes_of_term a)
-  nodes_of_term (logic.Choice at t r c a b) = suc (nodes c + nodes_of_term a + nodes_of_term b)
-
-  pub nodes_of_links : Links → ℕ
-  nodes_of_links NoLink = 0
-  nodes_of_links (Linked at r t rest) = suc (nodes_of_term t + nodes_of_links rest)
-
-  pub nodes : Predicate → ℕ
-  nodes (logic.Truth at b) = 1
-  nodes (logic.NonZero at t) = nodes_of_term t
-  nodes (logic.Chain at t links) = nodes_of_term t + nodes_of_links links
-  nodes (logic.Not at p) = suc (nodes p)
-  nodes (logic.Connected at c p q) = suc (nodes p + nodes q)
-  nodes (logic.Branch at c p q) = suc (nodes c + nodes p + nodes q)
 
 -- numbers can be written, and the pointers to variables are pointers, where there are so many globals and registers of these types
 module _ (p : TranslationUnit) (bound : Bindings) (globals : ℕ) (ts : Types) where
@@ -80,5 +58,5 @@ abbrev pub CodeIsValid : Type 0
 CodeIsValid =
     (p : TranslationUnit) (bound : Bindings) (globals : ℕ) (gs : List Signature) (ts : Types) (result : Option MonType) (ls : Labels) (q : Predicate)
     (rs : List MonType)
-    → PredicateRanged q → PredicateWritable p bound globals ts q → nodes q ≤ 400 → Begins (judgement p bound q rs).used ts
+    → PredicateRanged q → PredicateWritable p bound globals ts q → nodes_of_predicate q ≤ 400 → Begins (judgement p bound q rs).used ts
     → IsValidCode globals gs ts result ls (judgement p bound q rs)

@@ -1,10 +1,10 @@
 //! A predicate judged: whether it says something, and whether that is true.
 
 ghost use Rattle.std.specs.Prelude.{◌≡◌, IfOk, None, OnOk, Some, option_map};
-ghost use Rattle.c_syntax.specs.Logic.{plain_pred};
+ghost use Rattle.c_syntax.specs.Logic.{plain_body, plain_pred};
 ghost use Rattle.c_effects.specs.Named.{unit_of};
 ghost use Rattle.mon_syntax.specs.Trees.{plain_expr, plain_stmts};
-ghost use Rattle.annot_code.specs.Code.{judged_anew, judged_by, judged_with, judgement};
+ghost use Rattle.annot_code.specs.Code.{clause_judgement, judged_anew, judged_by, judged_with, judgement, nothing_said};
 ghost use Rattle.annot_code.specs.Plain.{code_of, judgement_of, number_of, written};
 ghost use Rattle.annot_code.specs.Judged.{IsValidIn, JudgesIn};
 
@@ -13,7 +13,7 @@ use crate::predicate::pred_code;
 use crate::reading::Reading;
 use c_effects::operator::{constant, register};
 use c_effects::part::{alone, then};
-use c_syntax::logic::Pred;
+use c_syntax::logic::{Body, Pred};
 use mon_syntax::{MonExpr, MonExprKind, MonStmt, MonStmtKind, MonType, Registers};
 use std::alloc::{AllocError, Global};
 
@@ -130,4 +130,32 @@ pub fn judge(alloc: Global, p: &Pred, names: &mut Registers<'_>) -> Result<Judge
     let known: Vec<Reading> = Vec::new(alloc);
     let c = pred_code(alloc, p, &known, names)?;
     judged_with(alloc, c, names)
+}
+
+// What isn't typed says nothing.
+fn judge_nothing(alloc: Global, names: &mut Registers<'_>) -> Result<Judged, AllocError>
+    ensures code { IfOk result (λ j. judgement_of j names.new.table.kinds ≡ nothing_said names.old.table.kinds) }
+    ensures bound { OnOk result (names.new.table.bound ≡ names.old.table.bound) }
+    ensures program { OnOk result (names.new.program ≡ names.old.program) }
+{
+    let never = constant(alloc, MonType::I32, 0)?;
+    let nothing = constant(alloc, MonType::I32, 0)?;
+    judged_anew(alloc, never, Vec::new(alloc), nothing, names)
+}
+
+/// The code that judges a clause, with further registers.
+pub fn judge_clause(
+    alloc: Global,
+    body: &Body,
+    names: &mut Registers<'_>,
+) -> Result<Judged, AllocError>
+    ensures code { IfOk result (λ j. judgement_of j names.new.table.kinds
+        ≡ clause_judgement (unit_of names.old) names.old.table.bound (plain_body body.now) names.old.table.kinds) }
+    ensures bound { OnOk result (names.new.table.bound ≡ names.old.table.bound) }
+    ensures program { OnOk result (names.new.program ≡ names.old.program) }
+{
+    match body {
+        Body::Raw(_) => judge_nothing(alloc, names),
+        Body::Truth(p) => judge(alloc, p, names),
+    }
 }

@@ -1,6 +1,7 @@
-//! The code of predicates of annotations in monitored C.
+//! The code of annotations in monitored C: assertions, which judge predicates.
 #![tactic(auto)]
 
+pub mod assertion;
 mod copy;
 mod join;
 pub mod judge;

@@ -4,7 +4,7 @@ ghost use Rattle.std.specs.Prelude.{◌≡◌, ◌++◌, OnOk, IfOk, option_map}
 ghost use Rattle.c_syntax.specs.Ctypes.{plain_type};
 ghost use Rattle.c_syntax.specs.Logic.{plain_links, plain_pred, plain_term};
 ghost use Rattle.annot_code.specs.Code.{is_known, is_same_reading, known_at_right, sure_readings, sure_readings_of_links, sure_readings_of_term};
-ghost use Rattle.c_effects.specs.Expressions.{term_type};
+ghost use Rattle.annot_code.specs.Code.{term_type};
 ghost use Rattle.annot_code.specs.Plain.{plain_reading, plain_readings};
 
 use c_effects::conversion::value_type;

@@ -2,7 +2,7 @@
 
 ghost use Rattle.std.specs.Prelude.{◌≡◌, [], IfOk, OnOk, false, pos};
 ghost use Rattle.c_syntax.specs.Formulas.{plain_cast_type};
-ghost use Rattle.c_effects.specs.Expressions.{access_of, question};
+ghost use Rattle.annot_code.specs.Code.{access_of, question};
 ghost use Rattle.c_effects.specs.Named.{unit_of};
 ghost use Rattle.mon_syntax.specs.declared.tree.MonOp.TheVariants.{Eq, Ne};
 ghost use Rattle.mon_syntax.specs.declared.tree.MonType.TheVariants.{I32};

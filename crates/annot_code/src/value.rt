@@ -2,7 +2,7 @@
 
 ghost use Rattle.std.specs.Prelude.{◌≡◌, IfOk, option_map, pos};
 ghost use Rattle.c_syntax.specs.Formulas.{plain_cast_type};
-ghost use Rattle.c_effects.specs.Expressions.{relation_operator};
+ghost use Rattle.annot_code.specs.Code.{relation_operator};
 ghost use Rattle.mon_syntax.specs.declared.tree.MonOp.TheVariants.{Lt};
 ghost use Rattle.mon_syntax.specs.declared.tree.MonType.TheVariants.{I128};
 ghost use Rattle.mon_syntax.specs.Trees.{Binary, Cast, Constant, Minus, plain_expr};

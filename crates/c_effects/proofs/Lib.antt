@@ -3,8 +3,6 @@ pub mod Layouts
 pub mod Sizes
 pub mod Trees
 pub mod FullTrees
-pub mod Chains
-pub mod Questions
 pub mod Objects
 pub mod Depths
 pub mod InitialiserTrees

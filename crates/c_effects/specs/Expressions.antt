@@ -1,36 +1,29 @@
--- Ours: a choice of code; what it has to do is C99 6.5 and ACSL 2.2, by the theorem of this crate.
--- Expressions and annotations in monitored C: each variable is read from its block, to which a register points, and each annotation is an
--- assertion. What an expression evaluates only at times, as the right side of `&&`, stands before it, in an `if` that sets a temporary register.
-use Rattle.std.specs.Prelude.{ℕ, zero, suc, ◌+◌, pos, List, [], ◌∷◌, ◌++◌, length, Option, Some, None, if◌then◌else◌, nat_eq}
+-- Ours: a choice of code; what it has to do is C99 6.5, by the theorem of the translation.
+-- Expressions in monitored C: each variable is read from its block, to which a register points. What an expression evaluates only at times, as
+-- the right side of `&&`, stands before it, in an `if` that sets a temporary register.
+use Rattle.std.specs.Prelude.{ℕ, suc, ◌+◌, pos, List, [], ◌∷◌, ◌++◌, length, Option, Some, None, if◌then◌else◌, nat_eq}
 use Rattle.c_syntax.specs.declared.types.CInt.{CInt}
 use Rattle.c_syntax.specs.declared.types.CInt.TheVariants as c
 use Rattle.c_syntax.specs.declared.expression.UnOp.{UnOp}
 use Rattle.c_syntax.specs.declared.expression.UnOp.TheVariants as prefix
 use Rattle.c_syntax.specs.declared.expression.BinOp.{BinOp}
 use Rattle.c_syntax.specs.declared.expression.BinOp.TheVariants as operator
-use Rattle.c_syntax.specs.declared.annotation.Relation.{Relation}
-use Rattle.c_syntax.specs.declared.annotation.Relation.TheVariants as relation
 use Rattle.c_syntax.specs.Ctypes as source_type
 use Rattle.c_syntax.specs.Ctypes.{PlainType, Int}
 use Rattle.c_syntax.specs.Expressions as source
 use Rattle.c_syntax.specs.Expressions.{Expression, Node, type_of}
 use Rattle.c_syntax.specs.Statements.{Declaration}
 use Rattle.c_syntax.specs.Programs.{StructType, TranslationUnit}
-use Rattle.c_syntax.specs.Annotations as logic
-use Rattle.c_syntax.specs.Annotations.{LogicTerm, Predicate, Chain, Links, NoLink, Linked, ClauseBody, Truth, Annotation}
 use Rattle.c_syntax.specs.Layouts.{scalar_of, size_of, offset_of, target_of}
 use Rattle.c_model.specs.Formed.{number_of}
 use Rattle.c_model.specs.Meaning.{is_array, is_of_library, unit_of}
 use Rattle.c_model.specs.Conversions.{operation_type}
 use Rattle.mon_syntax.specs.declared.tree.MonOp.{MonOp}
 use Rattle.mon_syntax.specs.declared.tree.MonOp.TheVariants.{Add, Sub, Mul, Div, Rem, Shl, Shr, And, Or, Xor, Eq, Ne, Lt, Le, Gt, Ge}
-use Rattle.mon_syntax.specs.declared.tree.AccessSize.{AccessSize}
-use Rattle.mon_syntax.specs.declared.tree.AccessSize.TheVariants.{One, Two, Four, Eight, Sixteen}
-use Rattle.mon_syntax.specs.declared.tree.MemoryCall.TheVariants.{Number}
 use Rattle.mon_syntax.specs.declared.tree.MonType.{MonType}
 use Rattle.mon_syntax.specs.declared.tree.MonType.TheVariants.{I8, U8, I16, U16, I32, U32, I64, U64, I128, Ptr}
 use Rattle.mon_syntax.specs.Arithmetic.{is_pointer}
-use Rattle.mon_syntax.specs.Trees.{MonExpression, Register, Global, Constant, Binary, Minus, Flip, Cast, Load, MonStatement, Set, Act, Assert, If}
+use Rattle.mon_syntax.specs.Trees.{MonExpression, Register, Global, Constant, Binary, Minus, Flip, Cast, Load, MonStatement, Set, If}
 use Rattle.mon_syntax.specs.Trees.{MonStatements, NoStatement, Then}
 use Rattle.mon_syntax.specs.Registers.{Bindings, register_of}
 use Rattle.mon_syntax.specs.Checking.{same_type}
@@ -53,11 +46,6 @@ abbrev pub value_type : PlainType → MonType
 value_type (Int k) = register_type k
 value_type (source_type.Ptr t) = Ptr
 value_type _ = I32
-
--- the type of a term that is the value of an object
-abbrev pub term_type : Option PlainType → MonType
-term_type None = I32
-term_type (Some t) = value_type t
 
 -- the type in which operators take a value of the type
 abbrev pub operand_type : MonType → MonType
@@ -318,110 +306,3 @@ setup p bound rs (Node at t (source.Index a b)) = before (setup p bound rs a) (s
 setup p bound rs (Node at t (source.Dot a m)) = setup p bound rs a
 setup p bound rs (Node at t (source.Arrow a m)) = setup p bound rs a
 setup p bound rs (Node at t (source.Comma a b)) = NoStatement
-
--- ---- annotations
-
--- a term, whose value fits 128 bits
-abbrev pub term : TranslationUnit → Bindings → LogicTerm → MonExpression
-term p bound (logic.Number at t r n) = Constant I128 n
-term p bound (logic.Letter at t r n) = Constant I128 n
-term p bound (logic.Variable at t r x) = Cast I128 (Load (term_type t) (pointer_to p bound x.decl))
-term p bound (logic.Binary at t r op a b) = Binary (operator_of op) I128 (term p bound a) (term p bound b)
-
-abbrev pub relation_operator : Relation → MonOp
-relation_operator relation.Eq = Eq
-relation_operator relation.Ne = Ne
-relation_operator relation.Lt = Lt
-relation_operator relation.Le = Le
-relation_operator relation.Gt = Gt
-relation_operator relation.Ge = Ge
-
--- whether a chain is true from its first term on, where every term has a value, so that all relations may be asked
-abbrev pub chain : TranslationUnit → Bindings → LogicTerm → Links → MonExpression
-chain p bound a NoLink = Constant I32 (pos 1)
-chain p bound a (Linked at r b NoLink) = Binary (relation_operator r) I128 (term p bound a) (term p bound b)
-chain p bound a (Linked at r b (Linked at2 r2 c rest)) =
-    Binary And I32 (Binary (relation_operator r) I128 (term p bound a) (term p bound b)) (chain p bound b (Linked at2 r2 c rest))
-
-abbrev pub truth_of_predicate : TranslationUnit → Bindings → Predicate → MonExpression
-truth_of_predicate p bound (Chain at t links) = chain p bound t links
-
-abbrev pub truth_of_body : TranslationUnit → Bindings → ClauseBody → MonExpression
-truth_of_body p bound (Truth q) = truth_of_predicate p bound q
-
--- ---- whether an annotation is defined: each variable that it reads holds a number
-
--- a variable that is read, and the type of its value
-pub record Reading : Type 0 where
-  pub decl : ℕ
-  pub kind : MonType
-
-abbrev pub readings_of_term : LogicTerm → List Reading
-readings_of_term (logic.Number at t r n) = []
-readings_of_term (logic.Letter at t r n) = []
-readings_of_term (logic.Variable at t r x) = record { decl = x.decl; kind = term_type t } ∷ []
-readings_of_term (logic.Binary at t r op a b) = readings_of_term a ++ readings_of_term b
-
-abbrev pub readings_of_links : Links → List Reading
-readings_of_links NoLink = []
-readings_of_links (Linked at r t rest) = readings_of_term t ++ readings_of_links rest
-
-abbrev pub readings_of_predicate : Predicate → List Reading
-readings_of_predicate (Chain at t links) = readings_of_term t ++ readings_of_links links
-
-abbrev pub readings_of : ClauseBody → List Reading
-readings_of (Truth p) = readings_of_predicate p
-
--- how many bytes a value of the type has, which an i128 is not read from
-abbrev pub access_of : MonType → AccessSize
-access_of I8 = One
-access_of U8 = One
-access_of I16 = Two
-access_of U16 = Two
-access_of I32 = Four
-access_of U32 = Four
-access_of I64 = Eight
-access_of U64 = Eight
-access_of I128 = Sixteen
-access_of Ptr = Eight
-
--- the register with this number becomes whether the variable holds a number: `r = __e_acsl_number(p, I128(0), size);`
-abbrev pub question : TranslationUnit → Bindings → ℕ → Reading → MonStatement
-question p bound r x = Act (Some r) (Number (access_of x.kind)) (pointer_to p bound x.decl ∷ Constant I128 (pos 0) ∷ [])
-
--- the same of variables in order, by registers from this one on
-abbrev pub questions : TranslationUnit → Bindings → ℕ → List Reading → MonStatements
-questions p bound r [] = NoStatement
-questions p bound r (x ∷ xs) = Then (question p bound r x) (questions p bound (suc r) xs)
-
--- whether all of so many registers from this one on are 1
-abbrev pub all_of : ℕ → ℕ → MonExpression
-all_of r zero = Constant I32 (pos 1)
-all_of r (suc zero) = Register r
-all_of r (suc (suc n)) = Binary And I32 (Register r) (all_of (suc r) (suc n))
-
--- the types of the temporary registers of an annotation: an answer for each variable that is read, and whether the annotation is true
-abbrev pub kinds_of : List Reading → List MonType
-kinds_of [] = I32 ∷ []
-kinds_of (x ∷ xs) = I32 ∷ kinds_of xs
-
-abbrev pub assertion_temporaries : Annotation → List MonType
-assertion_temporaries a = kinds_of (readings_of a.body)
-
--- an annotation is computed where it is defined, and stops the run where it isn't, or where it is false
-abbrev pub judged : TranslationUnit → Bindings → ℕ → ℕ → Annotation → MonStatements
-judged p bound r count a =
-    Then (If (all_of r count) (set (r + count) (truth_of_body p bound a.body)) (set (r + count) (Constant I32 (pos 0))))
-    (one (Assert (all_of r count) (Register (r + count)) a.number a.place.line a.kind))
-
-abbrev pub assertion : TranslationUnit → Bindings → List MonType → Annotation → MonStatements
-assertion p bound rs a =
-    before (questions p bound (length rs) (readings_of a.body)) (judged p bound (length rs) (length (readings_of a.body)) a)
-
-abbrev pub assertions_temporaries : List Annotation → List MonType
-assertions_temporaries [] = []
-assertions_temporaries (a ∷ rest) = assertion_temporaries a ++ assertions_temporaries rest
-
-abbrev pub assertions : TranslationUnit → Bindings → List MonType → List Annotation → MonStatements
-assertions p bound rs [] = NoStatement
-assertions p bound rs (a ∷ rest) = before (assertion p bound rs a) (assertions p bound (rs ++ assertion_temporaries a) rest)

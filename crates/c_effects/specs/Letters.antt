@@ -1,11 +1,8 @@
--- What the numbers of a tree's types bound, in expressions and annotations: the number and the line of an annotation are of 32 bits, and
--- a letter is a value of `char`.
-use Rattle.std.specs.Prelude.{◌≤◌, ℤ, pos, negsuc, ◌≤ℤ◌, List, [], ◌∷◌, Option, Some, None}
+-- What the numbers of a tree's types bound in expressions: a letter is a value of `char`.
+use Rattle.std.specs.Prelude.{ℤ, pos, negsuc, ◌≤ℤ◌, List, [], ◌∷◌, Option, Some, None}
 use Rattle.c_syntax.specs.declared.place.Place.{Place}
 use Rattle.c_syntax.specs.Expressions as source
 use Rattle.c_syntax.specs.Expressions.{Expression, Node, Expressions, NoExpression, Following}
-use Rattle.c_syntax.specs.Annotations as logic
-use Rattle.c_syntax.specs.Annotations.{LogicTerm, Predicate, Chain, Links, NoLink, Linked, ClauseBody, Truth, Annotation}
 use Rattle.c_syntax.specs.Layouts.{Scalar, scalar_of}
 use Rattle.c_syntax.specs.Statements.{Initialiser, One, Many, Initialisers, NoInitialiser, Listed, Declaration}
 
@@ -80,30 +77,3 @@ InitialHasLetters (Some x) = InitialiserHasLetters x.1
 abbrev pub InitialsHaveLetters : List Declaration → Type 0
 InitialsHaveLetters [] = Unit {0}
 InitialsHaveLetters (d ∷ ds) = InitialHasLetters d.init × InitialsHaveLetters ds
-
--- ---- annotations
-
-abbrev pub TermHasLetters : LogicTerm → Type 0
-TermHasLetters (logic.Number at t r n) = Unit {0}
-TermHasLetters (logic.Letter at t r n) = IsLetter n
-TermHasLetters (logic.Variable at t r x) = Unit {0}
-TermHasLetters (logic.Binary at t r op a b) = TermHasLetters a × TermHasLetters b
-
-abbrev pub LinksHaveLetters : Links → Type 0
-LinksHaveLetters NoLink = Unit {0}
-LinksHaveLetters (Linked at r t rest) = TermHasLetters t × LinksHaveLetters rest
-
-abbrev pub PredicateHasLetters : Predicate → Type 0
-PredicateHasLetters (Chain at t links) = TermHasLetters t × LinksHaveLetters links
-
-abbrev pub BodyHasLetters : ClauseBody → Type 0
-BodyHasLetters (Truth p) = PredicateHasLetters p
-
-pub record IsNumbered (a : Annotation) : Type 0 where
-  pub number : a.number ≤ 4294967295
-  pub line : a.place.line ≤ 4294967295
-  pub letters : BodyHasLetters a.body
-
-abbrev pub AreNumbered : List Annotation → Type 0
-AreNumbered [] = Unit {0}
-AreNumbered (a ∷ rest) = IsNumbered a × AreNumbered rest

@@ -1,17 +1,16 @@
 -- Ours: plain forms.
--- What expressions, effects and annotations become where a function's names are these: its program, and its registers up to there.
+-- What expressions and effects become where a function's names are these: its program, and its registers up to there.
 use Rattle.std.specs.Prelude.{ℕ, List, Option}
 use Rattle.c_syntax.specs.declared.expression.Use.{Use}
 use Rattle.c_syntax.specs.declared.place.Place.{Place}
-use Rattle.c_syntax.specs.Annotations.{Annotation}
 use Rattle.c_syntax.specs.Ctypes.{PlainType}
 use Rattle.c_syntax.specs.Expressions.{Expression, Expressions}
 use Rattle.c_syntax.specs.Statements.{Initialiser, Declaration}
 use Rattle.c_syntax.specs.Programs.{TranslationUnit, plain_program}
 use Rattle.mon_syntax.specs.declared.tree.MonType.{MonType}
-use Rattle.mon_syntax.specs.Registers.{Names, next_register, with_kinds, with_table}
+use Rattle.mon_syntax.specs.Registers.{Names, with_kinds, with_table}
 use Rattle.mon_syntax.specs.Trees.{MonExpression, MonStatements}
-use Rattle.c_effects.specs.Expressions.{Reading, value, place, setup, condition_of, questions, assertion, assertions}
+use Rattle.c_effects.specs.Expressions.{value, place, setup, condition_of}
 use Rattle.c_effects.specs.Effects.{arguments, arguments_setup, called, full_value, full_setup, value_assigned, object_assigned, effect}
 use Rattle.c_effects.specs.Effects.{effect_if_any, initialise, initialise_all}
 use Rattle.c_effects.specs.Parts.{truth_set, both_set, either_set, direct_setup, direct_value}
@@ -86,15 +85,3 @@ initialise_by n x t init = initialise (unit_of n) n.table.bound n.table.kinds x 
 
 abbrev pub initialise_all_by : Names → List Declaration → MonStatements
 initialise_all_by n ds = initialise_all (unit_of n) n.table.bound n.table.kinds ds
-
--- ---- annotations
-
--- questions, whose answers further registers take
-abbrev pub asked_by : Names → List Reading → MonStatements
-asked_by n xs = questions (unit_of n) n.table.bound (next_register n.table) xs
-
-abbrev pub assertion_by : Names → Annotation → MonStatements
-assertion_by n a = assertion (unit_of n) n.table.bound n.table.kinds a
-
-abbrev pub assertions_by : Names → List Annotation → MonStatements
-assertions_by n annots = assertions (unit_of n) n.table.bound n.table.kinds annots

@@ -16,7 +16,7 @@ use Rattle.mon_syntax.specs.Arithmetic.{is_pointer}
 use Rattle.mon_syntax.specs.Registers.{Bindings}
 use Rattle.mon_syntax.specs.Trees.{MonExpression, Register, Constant, MonStatements, If}
 use Rattle.c_effects.specs.Letters.{HasLetters, ArgumentsHaveLetters}
-use Rattle.c_effects.specs.Expressions.{Reading, value_type, temporaries, value, before, one, set, truth_of}
+use Rattle.c_effects.specs.Expressions.{value_type, temporaries, value, before, one, set, truth_of}
 use Rattle.c_effects.specs.Expressions.{setup, element, two_pointers, pointer_and_integer, loaded, pointer_to}
 use Rattle.c_effects.specs.Effects.{arguments_temporaries, called}
 
@@ -92,10 +92,3 @@ direct_value p bound rs e = value p bound rs e
 abbrev pub DirectHasLetters : Expression → Type 0
 DirectHasLetters (Node at t (Call f es)) = ArgumentsHaveLetters es
 DirectHasLetters e = HasLetters e
-
--- ---- annotations
-
--- the types of the registers that take the answers to questions
-abbrev pub answers : List Reading → List MonType
-answers [] = []
-answers (x ∷ xs) = I32 ∷ answers xs

@@ -22,6 +22,3 @@ pub mod effect;
 pub mod expression;
 pub mod full;
 pub mod object;
-
-// annotations
-pub mod annotation;

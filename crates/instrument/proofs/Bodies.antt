@@ -20,6 +20,7 @@ use Rattle.c_model.specs.TypedTrees.{HasKnownSize, Calls, ItemsTyped, BodyTyped,
 use Rattle.c_model.specs.Formed.{declared_in_body, declared_in_items}
 use Rattle.c_model.specs.EffectPlaces.{ItemsPlaced}
 use Rattle.c_model.specs.ReadTree.{BodyRead}
+use Rattle.instrument.proofs.RangedTrees.{AreRangedAsserts}
 use Rattle.c_model.specs.TypedAnnotations.{ItemsNoted}
 use Rattle.instrument.proofs.DeclarationCode.{next-entered}
 use Rattle.instrument.proofs.Parameters.{AreScalars}
@@ -124,7 +125,7 @@ pub record HasBody (p : TranslationUnit) (f : Function) (part : Part p f) : Type
   pub at : Place
   pub items : BlockItems
   pub is : f.body ≡ Some (Block at items)
-  pub formed : ItemsPlaced items
+  pub formed : ItemsPlaced AreRangedAsserts items
   pub typed : ItemsTyped (with_parameters (inner part.sight) f.params) (around_body f.result) items
   pub noted : ItemsNoted (with_parameters (inner part.sight) f.params) items
   pub letters : HaveNumbers items
@@ -135,20 +136,20 @@ has_body p f part e = by f.body refl
     by : (o : Option Statement) → f.body ≡ o → HasBody p f part
     by None g = absurd cc
     by (Some (Block at items)) g =
-        let formed : BodyRead (Some (Block at items)) = subst (BodyRead) g part.formed in
+        let formed : BodyRead AreRangedAsserts (Some (Block at items)) = subst (BodyRead AreRangedAsserts) g part.formed in
         let typed : BodyTyped (with_parameters (inner part.sight) f.params) f.result (Some (Block at items)) = subst (BodyTyped (with_parameters (inner part.sight) f.params) f.result) g part.typed.body in
         let noted : BodyNoted (with_parameters (inner part.sight) f.params) (Some (Block at items)) = subst (BodyNoted (with_parameters (inner part.sight) f.params)) g part.noted in
         let numbers : BodyHasNumbers (Some (Block at items)) = subst BodyHasNumbers g (part.letters e) in
         record { at = at; items = items; is = g; formed = formed.0; typed = typed; noted = noted; letters = numbers }
-    by (Some (Empty at)) g = absurd (subst (BodyRead) g part.formed)
-    by (Some (Eval at x)) g = absurd (subst (BodyRead) g part.formed)
-    by (Some (If at x a b)) g = absurd (subst (BodyRead) g part.formed)
-    by (Some (While at annots x a)) g = absurd (subst (BodyRead) g part.formed)
-    by (Some (Do at a x)) g = absurd (subst (BodyRead) g part.formed)
-    by (Some (For at annots first x step a)) g = absurd (subst (BodyRead) g part.formed)
-    by (Some (Break at)) g = absurd (subst (BodyRead) g part.formed)
-    by (Some (Continue at)) g = absurd (subst (BodyRead) g part.formed)
-    by (Some (Return at x)) g = absurd (subst (BodyRead) g part.formed)
+    by (Some (Empty at)) g = absurd (subst (BodyRead AreRangedAsserts) g part.formed)
+    by (Some (Eval at x)) g = absurd (subst (BodyRead AreRangedAsserts) g part.formed)
+    by (Some (If at x a b)) g = absurd (subst (BodyRead AreRangedAsserts) g part.formed)
+    by (Some (While at annots x a)) g = absurd (subst (BodyRead AreRangedAsserts) g part.formed)
+    by (Some (Do at a x)) g = absurd (subst (BodyRead AreRangedAsserts) g part.formed)
+    by (Some (For at annots first x step a)) g = absurd (subst (BodyRead AreRangedAsserts) g part.formed)
+    by (Some (Break at)) g = absurd (subst (BodyRead AreRangedAsserts) g part.formed)
+    by (Some (Continue at)) g = absurd (subst (BodyRead AreRangedAsserts) g part.formed)
+    by (Some (Return at x)) g = absurd (subst (BodyRead AreRangedAsserts) g part.formed)
 
 -- literals have their blocks after the globals, and are bytes
 pub record LiteralsStand (p : TranslationUnit) (globals : List Value) : Type 0 where

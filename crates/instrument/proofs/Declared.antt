@@ -9,7 +9,8 @@ use Rattle.c_model.specs.Meaning.{declared_in, declared_first}
 use Rattle.c_model.specs.Formed.{number_of, declared_within, declared_in_else, declared_in_first, declared_in_item, declared_in_items}
 use Rattle.mon_syntax.specs.declared.tree.MonType.{MonType}
 use Rattle.mon_syntax.specs.Registers.{RegisterTable, register_of, with_kinds, next_register}
-use Rattle.c_effects.specs.Expressions.{temporaries, assertions_temporaries}
+use Rattle.c_effects.specs.Expressions.{temporaries}
+use Rattle.annot_code.proofs.Asserted.{behind_grows}
 use Rattle.c_effects.specs.Effects.{any_temporaries, effect_temporaries, declaration_temporaries}
 use Rattle.track_scopes.specs.Blocks.{AreSmall, with_pointer, entered}
 use Rattle.instrument.specs.Translation.{Spot, after_statement, after_else, after_first, after_item, after_items, returned_temporaries}
@@ -210,7 +211,7 @@ mutual
   pub item_grows : (p : TranslationUnit) (i : BlockItem) (r : RegisterTable) → next_register r ≤ next_register (after_item p i r)
   item_grows p (Declare ds) r = more_kinds (declaration_temporaries ds) r
   item_grows p (Run a) r = statement_grows p a r
-  item_grows p (Asserts annots) r = more_kinds (assertions_temporaries annots) r
+  item_grows p (Asserts annots) r = behind_grows p r.bound r.kinds annots
 
   pub items_grow : (p : TranslationUnit) (is : BlockItems) (r : RegisterTable) → next_register r ≤ next_register (after_items p is r)
   items_grow p NoItem r = omega arith

@@ -19,7 +19,7 @@ use Rattle.c_effects.specs.Expressions.{before, one, set, setup, temporaries, co
 use Rattle.c_effects.specs.Effects.{block_of, any_temporaries, full_temporaries, full_setup, full_value, effect_if_any, initialise, initialise_all, initial_temporaries}
 use Rattle.instrument.specs.Translation.{Spot, in_loop, with_variables, leave_where_zero, test, test_if_any, loop, for_turns, returned, end_label, next_label, after_statement, after_first, after_item, statement, else_part, first_part, item, items}
 use Rattle.instrument.proofs.ValidSetups.{no_step_before, no_step_setup, deep_before, deep_one, deep_set, deep_setup, deep_behind}
-use Rattle.instrument.proofs.ValidAsserts.{deep_assertions}
+use Rattle.annot_code.proofs.Asserted.{assertions_deep}
 use Rattle.instrument.proofs.ValidEffects.{no_step_effect, deep_full, deep_effect}
 use Rattle.instrument.proofs.ValidInitialisers.{deep_initialise}
 use Rattle.instrument.proofs.ValidBlocks.{deep_deaths, deep_alive}
@@ -42,7 +42,7 @@ module _ (p : TranslationUnit) (bound : Bindings) (rs : Types) where
 
 -- what stands in no other statement is at most so deep
 abbrev pub most_deep : ℕ
-most_deep = 401
+most_deep = 1000
 
 -- a jump after deaths
 deep_jump : (live : List ℕ) (l : List ℕ) (n : ℕ) → 1 ≤ n → depth_of_all (before (deaths live) (one (tree.Goto l))) ≤ n
@@ -74,7 +74,8 @@ module _ (p : TranslationUnit) where
   deep_initials : (bound : Bindings) (rs : Types) (ds : List Declaration) → AreInitialised p.structs ds → depth_of_all (initialise_all p bound rs ds) ≤ most_deep
   deep_initials bound rs [] f = omega arith
   deep_initials bound rs (d ∷ ds) f =
-      deep_before (initialise p bound rs (block_of bound (number_of d)) d.ctype d.init) (initialise_all p bound (rs ++ initial_temporaries d.init) ds) most_deep (deep_initialise p bound rs (block_of bound (number_of d)) d.ctype d.init f.0)
+      let x = deep_initialise p bound rs (block_of bound (number_of d)) d.ctype d.init f.0 in
+      deep_before (initialise p bound rs (block_of bound (number_of d)) d.ctype d.init) (initialise_all p bound (rs ++ initial_temporaries d.init) ds) most_deep (omega (arith, x))
       (deep_initials bound (rs ++ initial_temporaries d.init) ds f.1)
 
   deep_returned : (spot : Spot) (r : RegisterTable) (e : Option Expression) → WhereAny (IsFullOrCall p.structs) e → depth_of_all (returned p spot r e) ≤ most_deep
@@ -163,7 +164,7 @@ module _ (p : TranslationUnit) where
     deep_item : (spot : Spot) (r : RegisterTable) (i : BlockItem) → ItemFormed p.structs i → depth_of_all (item p spot r i) ≤ 4 * form.depth_of_item i + most_deep
     deep_item spot r (Declare ds) f = let d = deep_initials r.bound r.kinds ds f in omega (arith, d)
     deep_item spot r (Run a) f = deep spot r a f
-    deep_item spot r (Asserts annots) f = let d = deep_assertions p r.bound r.kinds annots in omega (arith, d)
+    deep_item spot r (Asserts annots) f = let d = assertions_deep p r.bound r.kinds annots f.are in omega (arith, d)
 
     deep_items : (spot : Spot) (r : RegisterTable) (is : BlockItems) → ItemsFormed p.structs is → depth_of_all (items p spot r is) ≤ 4 * form.depth_of_items is + most_deep
     deep_items spot r NoItem f = omega arith

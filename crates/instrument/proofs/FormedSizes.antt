@@ -11,6 +11,7 @@ use Rattle.c_model.specs.Sizes.{IsSmall}
 use Rattle.c_model.specs.SmallTypes.{TypesSmall}
 use Rattle.c_model.specs.FullExpressions.{EachInitial, EachDeclared, EachIn, EachInElse, EachInFirst, EachInItem, EachInItems}
 use Rattle.c_model.specs.EffectPlaces.{ArePlaced, FirstPlaced, StatementPlaced, ElsePlaced, ItemsPlaced, ItemPlaced}
+use Rattle.instrument.proofs.RangedTrees.{AreRangedAsserts}
 use Rattle.instrument.proofs.FormedTrees.{IsFullAs, InitialFormed, AreInitialised, FirstFormed, StatementFormed, ElseFormed, ItemFormed, ItemsFormed}
 
 module _ (structs : List StructType) where
@@ -36,7 +37,7 @@ module _ (structs : List StructType) where
   first_formed _ p h t = absurd p
 
   mutual
-    pub statement_formed : (a : Statement) → StatementPlaced a → EachIn IsSmall a → EachIn Few a → StatementFormed structs a
+    pub statement_formed : (a : Statement) → StatementPlaced AreRangedAsserts a → EachIn IsSmall a → EachIn Few a → StatementFormed structs a
     statement_formed (Empty at) p h t = tt
     statement_formed (Eval at e) p h t = record { is = p; small = h; types = t }
     statement_formed (Block at items) p h t = items_formed items p h t
@@ -48,15 +49,15 @@ module _ (structs : List StructType) where
     statement_formed (Continue at) p h t = tt
     statement_formed (Return at e) p h t = any_full IsPureOrCall e p h t
 
-    else_formed : (b : ElsePart) → ElsePlaced b → EachInElse IsSmall b → EachInElse Few b → ElseFormed structs b
+    else_formed : (b : ElsePart) → ElsePlaced AreRangedAsserts b → EachInElse IsSmall b → EachInElse Few b → ElseFormed structs b
     else_formed NoElse p h t = tt
     else_formed (Else a) p h t = statement_formed a p h t
 
-    pub items_formed : (is : BlockItems) → ItemsPlaced is → EachInItems IsSmall is → EachInItems Few is → ItemsFormed structs is
+    pub items_formed : (is : BlockItems) → ItemsPlaced AreRangedAsserts is → EachInItems IsSmall is → EachInItems Few is → ItemsFormed structs is
     items_formed NoItem p h t = tt
     items_formed (Then i rest) p h t = (item_formed i p.0 h.0 t.0, items_formed rest p.1 h.1 t.1)
 
-    item_formed : (i : BlockItem) → ItemPlaced i → EachInItem IsSmall i → EachInItem Few i → ItemFormed structs i
+    item_formed : (i : BlockItem) → ItemPlaced AreRangedAsserts i → EachInItem IsSmall i → EachInItem Few i → ItemFormed structs i
     item_formed (Declare ds) p h t = declared_formed ds p h t
     item_formed (Run a) p h t = statement_formed a p h t
     item_formed (Asserts annots) p h t = p

@@ -5,12 +5,12 @@ use Rattle.c_syntax.specs.Expressions.{Expression}
 use Rattle.c_syntax.specs.Statements.{Initialiser, Declaration, Statement, Empty, Eval, Block, If, While, Do, For}
 use Rattle.c_syntax.specs.Statements.{Break, Continue, Return, ElsePart, NoElse, Else, ForFirst, NoFirst, First, BlockItem, Declare, Run, Asserts, BlockItems, NoItem, Then}
 use Rattle.c_syntax.specs.Programs.{StructType}
-use Rattle.c_model.specs.Formed.{AreAsserts}
 use Rattle.c_model.specs.TypedTrees.{WhereAny}
 use Rattle.c_model.specs.Pure.{IsPure, IsPureOrCall, IsEffect, IsEffectOrCall, IsInitialiser}
 use Rattle.c_model.specs.Sizes.{IsSmall}
 use Rattle.c_model.specs.SmallTypes.{TypesSmall}
 use Rattle.c_model.specs.FullExpressions.{EachInitial}
+use Rattle.instrument.proofs.RangedTrees.{AreRangedAsserts}
 
 -- among these structs
 module _ (structs : List StructType) where
@@ -74,4 +74,4 @@ module _ (structs : List StructType) where
     pub ItemFormed : BlockItem → Type 0
     ItemFormed (Declare ds) = AreInitialised ds
     ItemFormed (Run a) = StatementFormed a
-    ItemFormed (Asserts annots) = AreAsserts annots
+    ItemFormed (Asserts annots) = AreRangedAsserts annots

@@ -6,6 +6,7 @@ pub mod Entries
 pub mod Definitions
 -- the relation between a call and its translation, and what goes on from part to part
 pub mod Own
+pub mod RangedTrees
 pub mod Standing
 pub mod Results
 pub mod Registers

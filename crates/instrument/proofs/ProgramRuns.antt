@@ -7,10 +7,12 @@ use Rattle.c_model.specs.Reports.{Agrees}
 use Rattle.c_model.specs.UnitTyping.{items_of_file}
 use Rattle.c_model.specs.ReadTree.{BodyRead, FunctionsRead, AreBytes, TextsAreBytes}
 use Rattle.c_model.specs.AcceptedPrograms.{AreDefined, IsProgram}
+use Rattle.c_model.specs.UnrangedPrograms.{FunctionsRanged}
 use Rattle.mon_syntax.specs.BlockMemory.{block_run}
 use Rattle.c_effects.specs.Letters.{InitialsHaveLetters}
 use Rattle.instrument.specs.Limits.{BodyHasNumbers, FunctionsHaveNumbers}
 use Rattle.instrument.specs.Translation.{index_of_main, translated}
+use Rattle.instrument.proofs.RangedTrees.{AreRangedAsserts, functions_ranged}
 use Rattle.instrument.proofs.Standing.{AreOctets}
 use Rattle.instrument.proofs.FileScope.{AreTexts}
 use Rattle.instrument.proofs.Resolved.{resolved}
@@ -28,7 +30,7 @@ texts_are [] h = tt
 texts_are (x ∷ xs) h = (octets x.bytes h.0, texts_are xs h.1)
 
 module _ (p : TranslationUnit) (q : IsProgram p) where
-  part_of : (f : Function) → FunctionInPlace p f → IsNumbered (items_of_file p) 0 4294967295 f → BodyRead f.body → (is_definition f ≡ true → BodyHasNumbers f.body) → Part p f
+  part_of : (f : Function) → FunctionInPlace p f → IsNumbered (items_of_file p) 0 4294967295 f → BodyRead AreRangedAsserts f.body → (is_definition f ≡ true → BodyHasNumbers f.body) → Part p f
   part_of f here n formed letters = record {
     sight = here.sight;
     names = here.place.names;
@@ -46,7 +48,7 @@ module _ (p : TranslationUnit) (q : IsProgram p) where
     resolves = λ s names functions u t es c. resolved p s (names ∙ here.place.names) (subst (AreDefined p) (sym functions) here.defined) u t es c;
   }
 
-  parts_of : (main k : ℕ) (front fs : List Function) → front ++ fs ≡ p.funcs → FunctionsRead fs → FunctionsHaveNumbers p main k fs → Parts p fs
+  parts_of : (main k : ℕ) (front fs : List Function) → front ++ fs ≡ p.funcs → FunctionsRead AreRangedAsserts fs → FunctionsHaveNumbers p main k fs → Parts p fs
   parts_of main k front [] is formed numbers = tt
   parts_of main k front (f ∷ fs) is formed numbers = (
     part_of f (function_in_place p q front fs f is) (function_is_numbered p q.numbered front fs f is) formed.0.body (λ e. (numbers.0 e).body),
@@ -70,6 +72,7 @@ abbrev pub GlobalsHaveLetters : TranslationUnit → Type 0
 GlobalsHaveLetters p = index_of_main p.names p.funcs < length (translated p).functions → InitialsHaveLetters p.globals
 
 -- on each input, up to the program's first undefined operation
-pub program_agrees : (p : TranslationUnit) → IsProgram p → GlobalsHaveLetters p → FunctionsHaveNumbers p (index_of_main p.names p.funcs) 0 p.funcs → (input : Input) (n : ℕ) → Agrees (run p input n) (block_run (translated p) input n)
-program_agrees p q letters numbers input n =
-    translated_agrees p (parts_of p q (index_of_main p.names p.funcs) 0 [] p.funcs refl q.effects numbers) q.main (globals_known p q (letters (main_below p q.main))) input n
+pub program_agrees : (p : TranslationUnit) → IsProgram p → FunctionsRanged p.funcs → GlobalsHaveLetters p → FunctionsHaveNumbers p (index_of_main p.names p.funcs) 0 p.funcs
+    → (input : Input) (n : ℕ) → Agrees (run p input n) (block_run (translated p) input n)
+program_agrees p q ranged letters numbers input n =
+    translated_agrees p (parts_of p q (index_of_main p.names p.funcs) 0 [] p.funcs refl (functions_ranged p.funcs q.effects ranged) numbers) q.main (globals_known p q (letters (main_below p q.main))) input n

@@ -16,6 +16,8 @@ use Rattle.c_model.specs.Sizes.{IsSmall}
 use Rattle.c_model.specs.SmallTypes.{TypesSmall}
 use Rattle.c_model.specs.FullExpressions.{EachDeclared, EachInBody, EachInFunctions}
 use Rattle.c_model.specs.ReadTree.{BodyRead, FunctionsRead}
+use Rattle.c_model.specs.UnrangedPrograms.{FunctionsRanged}
+use Rattle.instrument.proofs.RangedTrees.{AreRangedAsserts, functions_ranged}
 use Rattle.c_model.specs.AcceptedPrograms.{AreConstant, AreDefined, IsProgram}
 use Rattle.mon_syntax.specs.Valid.{Types, IsValid}
 use Rattle.c_effects.specs.Letters.{InitialHasLetters, InitialsHaveLetters}
@@ -100,7 +102,8 @@ module _ (p : TranslationUnit) (q : IsProgram p) where
 
   -- ---- functions
 
-  definition_typed : (front : Types) (f : Function) → FunctionInPlace p f → IsNumbered (items_of_file p) 0 4294967295 f → FunctionNamed p.names f → BodyRead f.body → EachInBody IsSmall f.body → EachInBody (TypesSmall p.structs) f.body
+  definition_typed : (front : Types) (f : Function) → FunctionInPlace p f → IsNumbered (items_of_file p) 0 4294967295 f → FunctionNamed p.names f → BodyRead AreRangedAsserts f.body → EachInBody IsSmall f.body
+      → EachInBody (TypesSmall p.structs) f.body
       → is_definition f ≡ true → FunctionHasNumbers p front f → DefinitionTyped p front f
   definition_typed front f here n named formed small types definition numbers = by f.body refl
     where
@@ -112,7 +115,7 @@ module _ (p : TranslationUnit) (q : IsProgram p) where
 
       block : (at : Place) (items : BlockItems) → f.body ≡ Some (Block at items) → DefinitionTyped p front f
       block at items e =
-          let placed : BodyRead (Some (Block at items)) = subst BodyRead e formed in
+          let placed : BodyRead AreRangedAsserts (Some (Block at items)) = subst (BodyRead AreRangedAsserts) e formed in
           let light : EachInBody IsSmall (Some (Block at items)) = subst (EachInBody IsSmall) e small in
           let few : EachInBody (TypesSmall p.structs) (Some (Block at items)) = subst (EachInBody (TypesSmall p.structs)) e types in
           let typed : BodyTyped sight f.result (Some (Block at items)) = subst (BodyTyped sight f.result) e here.typed.body in
@@ -141,17 +144,17 @@ module _ (p : TranslationUnit) (q : IsProgram p) where
       by : (o : Option Statement) → f.body ≡ o → DefinitionTyped p front f
       by None e = absurd cc
       by (Some (Block at items)) e = block at items e
-      by (Some (Empty at)) e = absurd (subst BodyRead e formed)
-      by (Some (Eval at x)) e = absurd (subst BodyRead e formed)
-      by (Some (If at x a b)) e = absurd (subst BodyRead e formed)
-      by (Some (While at annots x a)) e = absurd (subst BodyRead e formed)
-      by (Some (Do at a x)) e = absurd (subst BodyRead e formed)
-      by (Some (For at annots first x step a)) e = absurd (subst BodyRead e formed)
-      by (Some (Break at)) e = absurd (subst BodyRead e formed)
-      by (Some (Continue at)) e = absurd (subst BodyRead e formed)
-      by (Some (Return at x)) e = absurd (subst BodyRead e formed)
+      by (Some (Empty at)) e = absurd (subst (BodyRead AreRangedAsserts) e formed)
+      by (Some (Eval at x)) e = absurd (subst (BodyRead AreRangedAsserts) e formed)
+      by (Some (If at x a b)) e = absurd (subst (BodyRead AreRangedAsserts) e formed)
+      by (Some (While at annots x a)) e = absurd (subst (BodyRead AreRangedAsserts) e formed)
+      by (Some (Do at a x)) e = absurd (subst (BodyRead AreRangedAsserts) e formed)
+      by (Some (For at annots first x step a)) e = absurd (subst (BodyRead AreRangedAsserts) e formed)
+      by (Some (Break at)) e = absurd (subst (BodyRead AreRangedAsserts) e formed)
+      by (Some (Continue at)) e = absurd (subst (BodyRead AreRangedAsserts) e formed)
+      by (Some (Return at x)) e = absurd (subst (BodyRead AreRangedAsserts) e formed)
 
-  definitions_typed : (main k : ℕ) (front fs : List Function) → front ++ fs ≡ p.funcs → FunctionsNamed p.names fs → FunctionsRead fs → EachInFunctions IsSmall fs → EachInFunctions (TypesSmall p.structs) fs
+  definitions_typed : (main k : ℕ) (front fs : List Function) → front ++ fs ≡ p.funcs → FunctionsNamed p.names fs → FunctionsRead AreRangedAsserts fs → EachInFunctions IsSmall fs → EachInFunctions (TypesSmall p.structs) fs
       → FunctionsHaveNumbers p main k fs → DefinitionsTyped p main k fs
   definitions_typed main k front [] is named formed small types numbers = tt
   definitions_typed main k front (f ∷ fs) is named formed small types numbers = (
@@ -159,14 +162,14 @@ module _ (p : TranslationUnit) (q : IsProgram p) where
     definitions_typed main (if is_definition f then suc k else k) (front ++ f ∷ []) fs (append_assoc front (f ∷ []) fs ∙ is) named.1 formed.1 small.1 types.1 numbers.1,
   )
 
-pub program_valid : (p : TranslationUnit) → IsProgram p → GlobalsHaveLetters p → FunctionsHaveNumbers p (index_of_main p.names p.funcs) 0 p.funcs → IsValid (translated p)
-program_valid p q letters numbers = translated_valid p (record {
+pub program_valid : (p : TranslationUnit) → IsProgram p → FunctionsRanged p.funcs → GlobalsHaveLetters p → FunctionsHaveNumbers p (index_of_main p.names p.funcs) 0 p.funcs → IsValid (translated p)
+program_valid p q ranged letters numbers = translated_valid p (record {
   structs = q.typed.structs;
   texts = q.texts;
   few_functions = q.few_functions;
   globals_named = q.globals_named;
   globals = globals_typed p q [] p.globals refl q.constant q.small.globals q.small_types.globals (letters (main_below p q.main));
   room = q.room;
-  definitions = definitions_typed p q (index_of_main p.names p.funcs) 0 [] p.funcs refl q.named q.effects q.small.funcs q.small_types.funcs numbers;
+  definitions = definitions_typed p q (index_of_main p.names p.funcs) 0 [] p.funcs refl q.named (functions_ranged p.funcs q.effects ranged) q.small.funcs q.small_types.funcs numbers;
   main = q.main;
 })

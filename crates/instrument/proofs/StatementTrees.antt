@@ -4,13 +4,14 @@ use Rattle.std.proofs.lemmas.List.{append-nil}
 use Rattle.std.specs.Prelude.{Vec}
 use Rattle.std.specs.declared.alloc.Global.{Global}
 use Rattle.c_syntax.specs.declared.place.Place.{Place}
-use Rattle.c_syntax.specs.declared.annotation.Annot.{Annot}
+use Rattle.c_syntax.specs.declared.logic.Annot.{Annot}
 use Rattle.c_syntax.specs.declared.expression.Expr.{Expr}
 use Rattle.c_syntax.specs.declared.statement.Item.{Item}
 use Rattle.c_syntax.specs.declared.statement.Stmt.{Stmt}
 use Rattle.c_syntax.specs.declared.statement.StmtKind as code
-use Rattle.c_syntax.specs.Annotations.{Annotation, plain_annot}
+use Rattle.c_syntax.specs.Logic.{Annotation, plain_annot}
 use Rattle.c_syntax.specs.Expressions.{Expression, plain_expr}
+use Rattle.c_syntax.specs.Statements.{plain_else_part}
 use Rattle.c_syntax.specs.Statements.{Declaration, Statement, Block, If, Do, For, ElsePart, ForFirst, NoFirst, First, Declare, Run, Asserts, plain_items, plain_stmt, plain_stmt_kind}
 use Rattle.c_syntax.proofs.Rows.{block_is}
 use Rattle.c_model.specs.Meaning.{declared_in, declared_first}
@@ -22,7 +23,7 @@ use Rattle.c_effects.specs.Expressions.{before, one, temporaries}
 use Rattle.c_effects.specs.Effects.{any_temporaries, effect_temporaries}
 use Rattle.c_effects.specs.Named.{condition_by, effect_if_any_by, setup_by, unit_of, with_registers}
 use Rattle.c_effects.proofs.Sequences.{before_assoc}
-use Rattle.instrument.specs.Options.{after, behind_first, births_by, else_part_by, entering, first_part_by, items_of_first, plain_else_part, plain_first_part, statement_by, test_by, test_if_any_by, turns_by, with_blocks}
+use Rattle.instrument.specs.Options.{after, behind_first, births_by, else_part_by, entering, first_part_by, items_of_first, plain_first_part, statement_by, test_by, test_if_any_by, turns_by, with_blocks}
 use Rattle.instrument.specs.Translation.{Spot, alive, end_label, in_loop, next_label, with_variables}
 use Rattle.instrument.proofs.DeclarationCode.{born_front}
 

@@ -2,7 +2,7 @@
 use Rattle.std.proofs.Common.{◌≡◌, ℕ, suc, ◌+◌, ◌≤◌, true, List, [], ◌∷◌, ◌++◌, length, Option, Some, None, slice_get, slice_set, refl, sym, ap, ◌∙◌, subst, arith, append_assoc}
 use Rattle.std.proofs.lemmas.List.{length-append}
 use Rattle.c_syntax.specs.declared.place.Place.{Place}
-use Rattle.c_syntax.specs.Annotations.{Annotation}
+use Rattle.c_syntax.specs.Logic.{Annotation}
 use Rattle.c_syntax.specs.Expressions.{Expression, type_of}
 use Rattle.c_syntax.specs.Statements.{Declaration, Statement, Empty, Eval, Block, If, While, Do, For, Break, Continue, Return, ElsePart, NoElse, Else, ForFirst, NoFirst, First, Declare, Run, Asserts, BlockItems, NoItem, Then}
 use Rattle.c_syntax.specs.Programs.{TranslationUnit}
@@ -12,7 +12,7 @@ use Rattle.c_model.specs.State.{State, Leaves, Returns, Outcome, Normal, Stop, E
 use Rattle.c_model.specs.State as state
 use Rattle.c_model.specs.Meaning.{Tables, tables_of, eval_with, exec_with, else_with, first_with, item_with, items_with, condition_with, effect_with, initialise_all, declared_in, declared_first, turns, is_zero}
 use Rattle.c_model.specs.Meaning as source
-use Rattle.c_model.specs.Logic.{checks}
+use Rattle.c_model.specs.Predicates.{checks}
 use Rattle.c_model.specs.ExpressionTyping.{Sight, inner, with_objects}
 use Rattle.c_model.specs.StatementTyping.{Around, in_loop, behind_first}
 use Rattle.c_model.specs.TypedTrees.{WellTyped, IsCondition, WhereAny, Returned, StatementTyped, ElseTyped, FirstTyped, ItemsTyped}
@@ -28,8 +28,11 @@ use Rattle.mon_syntax.specs.Trees as tree
 use Rattle.c_effects.specs.Letters.{Any, HasLetters, FullHasLetters, EffectHasLetters}
 use Rattle.c_model.specs.Pure.{IsPure, IsPureOrCall, IsEffect, IsEffectOrCall}
 use Rattle.c_model.specs.EffectPlaces.{FirstPlaced, StatementPlaced, ElsePlaced, ItemsPlaced}
+use Rattle.instrument.proofs.RangedTrees.{AreRangedAsserts}
 use Rattle.instrument.specs.Limits.{HasNumbers, ElseHasNumbers, FirstHasNumbers, HaveNumbers}
-use Rattle.c_effects.specs.Expressions.{value_type, temporaries, setup, condition_of, before, one, set, assertions, assertions_temporaries}
+use Rattle.c_effects.specs.Expressions.{value_type, temporaries, setup, condition_of, before, one, set}
+use Rattle.annot_code.specs.Code.{assertions}
+use Rattle.annot_code.proofs.Asserted.{behind_grows}
 use Rattle.c_effects.specs.Effects.{full_temporaries, full_setup, full_value, effect_temporaries, any_temporaries, declaration_temporaries, effect_if_any}
 use Rattle.c_effects.specs.Effects as effects
 use Rattle.track_scopes.specs.Blocks.{entered, deaths, with_born}
@@ -348,7 +351,7 @@ module _ (w : Setting) (n : ℕ) where
   mutual
     pub statement_follows : (a : Statement) (s : Sight) (around : Around) (h : Here) (spot : Spot) (low : ℕ) (r : RegisterTable) (living : List ℕ) → spot.loops ≡ h.loops → Scene w n s → AreFound s.entities (scope_for living)
         → around.result ≡ h.result → around.loops ≡ h.looped
-        → CanDeclare w.unit living a → StatementPlaced a → StatementTyped s around a → StatementNoted s a → HasNumbers a → low ≤ next_register r → next_register (after_statement w.unit a r) ≤ w.registers
+        → CanDeclare w.unit living a → StatementPlaced AreRangedAsserts a → StatementTyped s around a → StatementNoted s a → HasNumbers a → low ≤ next_register r → next_register (after_statement w.unit a r) ≤ w.registers
         → DoSame h spot low r.bound living (exec_with T a w.call (suc n)) (statement w.unit spot r a)
     statement_follows (Empty at) s around h spot low r living stands g sees result looped c f q m l behind enough = nothing_does h spot low r.bound living
     statement_follows (Eval at e) s around h spot low r living stands g sees result looped c f q m l behind enough = effect_does h spot low r.bound living s g r.kinds e f q l behind enough
@@ -415,14 +418,14 @@ module _ (w : Setting) (n : ℕ) where
 
     pub else_follows : (b : ElsePart) (s : Sight) (around : Around) (h : Here) (spot : Spot) (low : ℕ) (r : RegisterTable) (living : List ℕ) → spot.loops ≡ h.loops → Scene w n s → AreFound s.entities (scope_for living)
         → around.result ≡ h.result → around.loops ≡ h.looped
-        → ElseCanDeclare w.unit living b → ElsePlaced b → ElseTyped s around b → ElseNoted s b → ElseHasNumbers b → low ≤ next_register r → next_register (after_else w.unit b r) ≤ w.registers
+        → ElseCanDeclare w.unit living b → ElsePlaced AreRangedAsserts b → ElseTyped s around b → ElseNoted s b → ElseHasNumbers b → low ≤ next_register r → next_register (after_else w.unit b r) ≤ w.registers
         → DoSame h spot low r.bound living (else_with T b w.call (suc n)) (else_part w.unit spot r b)
     else_follows NoElse s around h spot low r living stands g sees result looped c f q m l behind enough = nothing_does h spot low r.bound living
     else_follows (Else a) s around h spot low r living stands g sees result looped c f q m l behind enough = statement_follows a s around h spot low r living stands g sees result looped c f q m l behind enough
 
     pub items_follow : (is : BlockItems) (s : Sight) (around : Around) (h : Here) (spot : Spot) (low : ℕ) (r : RegisterTable) (living : List ℕ) → spot.loops ≡ h.loops → Scene w n s → AreFound s.entities (scope_for living)
         → DeclarationsFound (declared_in is) (scope_for living) → AreLocal w.unit (declared_in is) → around.result ≡ h.result → around.loops ≡ h.looped
-        → ItemsCanDeclare w.unit living is → ItemsPlaced is → ItemsTyped s around is → ItemsNoted s is → HaveNumbers is → low ≤ next_register r → next_register (after_items w.unit is r) ≤ w.registers
+        → ItemsCanDeclare w.unit living is → ItemsPlaced AreRangedAsserts is → ItemsTyped s around is → ItemsNoted s is → HaveNumbers is → low ≤ next_register r → next_register (after_items w.unit is r) ≤ w.registers
         → DoSame h spot low r.bound living (items_with T is w.call (suc n)) (items w.unit spot r is)
     items_follow NoItem s around h spot low r living stands g sees have local result looped c f q m l behind enough = nothing_does h spot low r.bound living
     items_follow (Then (Declare ds) rest) s around h spot low r living stands g sees have local result looped c f q m l behind enough =
@@ -442,9 +445,9 @@ module _ (w : Setting) (n : ℕ) where
         (λ regs from t x. meets_behind w h spot low a r living regs from t c.0.0 x)
         (items_follow rest s around h spot low r1 living stands g sees have local result looped c.1 f.1 q.1 m.1 l.1 (omega (arith, behind, f1)) enough)
     items_follow (Then (Asserts annots) rest) s around h spot low r living stands g sees have local result looped c f q m l behind enough =
-        let r1 = with_kinds (assertions_temporaries annots) r in
-        let f1 = more_kinds (assertions_temporaries annots) r in
+        let r1 = after_item w.unit (Asserts annots) r in
+        let f1 = behind_grows w.unit r.bound r.kinds annots in
         let f2 = items_grow w.unit rest r1 in
         in_order_same h spot low r.bound living (checks annots) (items_with T rest w.call (suc n)) (assertions w.unit r.bound r.kinds annots) (items w.unit spot r1 rest)
-        (λ regs from t x le. assertions_follow w n h s low r.bound annots f.0 m.0 l.0 r.kinds behind (omega (arith, enough, f2)) regs from t (sees_found s.entities living from.scope x.names sees) x.standing x.beside)
+        (λ regs from t x le. assertions_follow w n h s low r.bound annots f.0 m.0 r.kinds behind (omega (arith, enough, f2)) regs from t (sees_found s.entities living from.scope x.names sees) x.standing x.beside)
         (items_follow rest s around h spot low r1 living stands g sees have local result looped c.1 f.1 q.1 m.1 l.1 (omega (arith, behind, f1)) enough)

@@ -3,6 +3,7 @@ use Rattle.std.proofs.Common.{◌≡◌, ℕ, suc, Bool, true, false, nat_eq, Li
 use Rattle.std.proofs.lemmas.List.{append-nil, length-append}
 use Rattle.std.proofs.lemmas.Bool.Decides.{nat_tests}
 use Rattle.c_syntax.specs.Statements.{Declaration, Statement, Empty, Eval, Block, If, While, Do, For, Break, Continue, Return, ElsePart, NoElse, Else, ForFirst, NoFirst, First, BlockItem, Declare, Run, Asserts, BlockItems, NoItem, Then}
+use Rattle.c_syntax.specs.Logic.{Annotation}
 use Rattle.c_syntax.specs.Programs.{TranslationUnit}
 use Rattle.c_model.specs.Meaning.{declared_in, declared_first}
 use Rattle.c_model.specs.Formed.{number_of}
@@ -11,7 +12,9 @@ use Rattle.mon_syntax.specs.Registers.{Bindings, RegisterTable, with_kinds, boun
 use Rattle.mon_syntax.specs.Valid.{Types}
 use Rattle.track_scopes.specs.Blocks.{with_pointer, entered, with_born}
 use Rattle.c_effects.specs.Effects.{any_temporaries, declaration_temporaries, effect_temporaries}
-use Rattle.c_effects.specs.Expressions.{temporaries, assertions_temporaries}
+use Rattle.c_effects.specs.Expressions.{temporaries}
+use Rattle.annot_code.specs.Code.{behind_assertions}
+use Rattle.annot_code.proofs.Asserted.{behind_begins}
 use Rattle.instrument.specs.Translation.{returned_temporaries, after_statement, after_else, after_first, after_item, after_items}
 use Rattle.mon_syntax.specs.Registers.{register_of}
 use Rattle.instrument.proofs.Typed.{Begins, begins_front, register_at, HasPointer, Aim, has_aim, aim_has}
@@ -27,6 +30,12 @@ begins_then a b c h k = record { rest = h.rest ++ k.rest; is = k.is ∙ ap (λ l
 
 begins_added : (a b : Types) → Begins a (a ++ b)
 begins_added a b = record { rest = b; is = refl }
+
+behind_asserts : (p : TranslationUnit) (bound : Bindings) (rs : Types) (l : List Annotation) → Begins rs (behind_assertions p bound rs l)
+behind_asserts p bound rs l =
+    let all = behind_assertions p bound rs l in
+    let b = behind_begins all p bound rs l (record { rest = []; is = sym (append-nil all) }) in
+    record { rest = b.rest; is = b.is }
 
 pub entered_begins : (ds : List Declaration) (r : RegisterTable) → Begins r.kinds (entered ds r).kinds
 entered_begins [] r = begins_itself r.kinds
@@ -73,7 +82,7 @@ mutual
   pub item_begins : (p : TranslationUnit) (i : BlockItem) (r : RegisterTable) → Begins r.kinds (after_item p i r).kinds
   item_begins p (Declare ds) r = begins_added r.kinds (declaration_temporaries ds)
   item_begins p (Run a) r = statement_begins p a r
-  item_begins p (Asserts annots) r = begins_added r.kinds (assertions_temporaries annots)
+  item_begins p (Asserts annots) r = behind_asserts p r.bound r.kinds annots
 
   pub items_begin : (p : TranslationUnit) (is : BlockItems) (r : RegisterTable) → Begins r.kinds (after_items p is r).kinds
   items_begin p NoItem r = begins_itself r.kinds

@@ -23,7 +23,6 @@ use Rattle.c_model.specs.Integers.{fits, width, is_signed}
 use Rattle.c_model.specs.Meaning.{is_array, is_of_library, unit_of}
 use Rattle.c_model.specs.Conversions as convert
 use Rattle.c_model.specs.Conversions.{promoted, operation_type, is_shift, common, wider}
-use Rattle.c_model.specs.Formed.{IsLogicNumber}
 use Rattle.c_model.specs.ExpressionTyping.{Object, Entity, AnObject, Sight, entity_named, has_small_parts, is_difference}
 use Rattle.mon_syntax.specs.declared.tree.MonType.{MonType}
 use Rattle.mon_syntax.specs.declared.tree.MonType.TheVariants.{I8, U8, I16, U16, I32, U32, I64, U64, I128, Ptr}
@@ -35,7 +34,7 @@ use Rattle.mon_syntax.specs.Trees.{MonExpression}
 use Rattle.mon_syntax.specs.Arithmetic.{is_pointer}
 use Rattle.mon_syntax.specs.Checking.{same_type}
 use Rattle.mon_syntax.specs.Valid.{Types, HasType, has_constant, has_operator, second_type, is_arithmetic, is_whole, is_relation, result_type, IsExpression}
-use Rattle.c_effects.specs.Letters.{IsLetter, HasLetters}
+use Rattle.c_effects.specs.Letters.{HasLetters}
 use Rattle.c_model.specs.Pure.{IsPure}
 use Rattle.c_model.specs.Sizes.{weight_of, most_weight}
 use Rattle.c_model.specs.SmallTypes.{TypesSmall}
@@ -70,13 +69,6 @@ small_constant c.I64 (pos n) e = let l = ltb-true n 9223372036854775808 e in gri
 small_constant c.I64 (negsuc n) e = let l = ltb-true n 9223372036854775808 e in grind (arith, nat_tests, ints)
 small_constant c.U64 (pos n) e = let l = ltb-true n 18446744073709551616 e in grind (arith, nat_tests, ints)
 small_constant c.U64 (negsuc n) e = absurd cc
-
-pub logic_constant : (z : ℤ) → IsLogicNumber z → has_constant I128 z ≡ true
-logic_constant (pos n) h = let a = h.high in grind (arith, nat_tests, ints)
-logic_constant (negsuc n) h = let a = h.low in grind (arith, nat_tests, ints)
-
-pub letter_number : (z : ℤ) → IsLetter z → IsLogicNumber z
-letter_number z l = record { low = omega (arith, ints, l.low); high = omega (arith, ints, l.high) }
 
 -- numbers of bytes
 pub bytes_constant : (n : ℕ) → n ≤ 2147483647 → has_constant I64 (pos n) ≡ true

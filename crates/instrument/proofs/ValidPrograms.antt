@@ -255,24 +255,24 @@ module _ (p : TranslationUnit) (q : IsTypedProgram p) where
     whole_valid : Are (before (front p is_main f.params) (code_of p fr f))
     whole_valid = before_valid (count_of_globals p) gs ts (result_of f.result) [] (front p is_main f.params) (code_of p fr f) (front_valid is_main (front_begins p fr f)) code_valid
 
-    deep_body : depth_of_all (body_part p live r f.body) ≤ 1205
+    deep_body : depth_of_all (body_part p live r f.body) ≤ 1805
     deep_body =
-        subst (λ b. depth_of_all (body_part p live r b) ≤ 1205) (sym part.is)
+        subst (λ b. depth_of_all (body_part p live r b) ≤ 1805) (sym part.is)
         (let d = deep p spot r (Block part.place part.items) part.formed in let shallow = part.shallow in omega (arith, d, shallow))
 
-    deep_code : depth_of_all (code_of p fr f) ≤ 1205
+    deep_code : depth_of_all (code_of p fr f) ≤ 1805
     deep_code =
         let whole = body_part p live r f.body in
         let x = deep_parameters p first 0 f.params in
         let y = deep_deaths live in
-        deep_before (parameters p first 0 f.params) (before whole (deaths live)) 1205 (omega (arith, x)) (deep_before whole (deaths live) 1205 deep_body (omega (arith, y)))
+        deep_before (parameters p first 0 f.params) (before whole (deaths live)) 1805 (omega (arith, x)) (deep_before whole (deaths live) 1805 deep_body (omega (arith, y)))
 
-    deep_front : (b : Bool) → depth_of_all (front p b f.params) ≤ 1205
+    deep_front : (b : Bool) → depth_of_all (front p b f.params) ≤ 1805
     deep_front false = omega arith
     deep_front true = let d = deep_globals p (value_types f.params) 0 p.globals q.globals in omega (arith, d)
 
-    deep_whole : depth_of_all (before (front p is_main f.params) (code_of p fr f)) ≤ 1205
-    deep_whole = deep_before (front p is_main f.params) (code_of p fr f) 1205 (deep_front is_main) deep_code
+    deep_whole : depth_of_all (before (front p is_main f.params) (code_of p fr f)) ≤ 1805
+    deep_whole = deep_before (front p is_main f.params) (code_of p fr f) 1805 (deep_front is_main) deep_code
 
   name_free : (f : Function) → FunctionNamed p.names f → (k : ℕ) → IsNumber k → (b : Bool) → IsFreeName (if b then codes "main" else function_name k (name_at p.names f.name))
   name_free f named k few true = main_is_free

@@ -22,7 +22,8 @@ use Rattle.c_model.specs.TypedAnnotations.{StatementNoted, ElseNoted, ItemsNoted
 use Rattle.track_scopes.specs.Blocks.{entered, deaths}
 use Rattle.c_effects.specs.Letters.{Any, HasLetters, FullHasLetters, EffectHasLetters, InitialsHaveLetters}
 use Rattle.instrument.specs.Limits.{HasNumbers, ElseHasNumbers, FirstHasNumbers, HaveNumbers}
-use Rattle.c_effects.specs.Expressions.{value_type, before, one, set, setup, temporaries, condition_of, assertions}
+use Rattle.c_effects.specs.Expressions.{value_type, before, one, set, setup, temporaries, condition_of}
+use Rattle.annot_code.specs.Code.{assertions}
 use Rattle.c_effects.specs.Effects.{block_of, any_temporaries, full_temporaries, effect_temporaries, initial_temporaries, declaration_temporaries, full_setup, full_value, effect, effect_if_any, initialise, initialise_all}
 use Rattle.instrument.specs.Translation.{Spot, leave_where_zero, test, test_if_any, returned_temporaries, returned, loop, for_turns, end_label, next_label, with_variables, after_statement, after_else, after_first, after_item, after_items, statement}
 use Rattle.instrument.specs.Translation.{else_part, first_part, items, result_of}
@@ -345,5 +346,5 @@ module _ (p : TranslationUnit) (gs : List Signature) (ts : Types) (result : Plai
         let first = begins_then z.kinds (after_items p rest z).kinds ts (items_begin p rest z) b in
         let right = le-max_right 0 (form.depth_of_items rest) in
         and_then (labels spot.loops) (assertions p r.bound r.kinds annots) (items p spot z rest)
-        (assertions_valid ts p r.bound s v.knows gs (result_of result) (labels spot.loops) r.kinds annots f.0 m.0 l.0 first)
+        (assertions_valid p ts r.bound s v.knows gs (result_of result) (labels spot.loops) r.kinds annots f.0 m.0 l.0 first)
         (items_valid rest s around spot k z v same o h f.1 q.1 m.1 w.1 l.1 (omega (arith, d, right)) b)

@@ -6,7 +6,8 @@ use Rattle.c_syntax.specs.Statements.{Statement, Empty, Eval, Block, If, While, 
 use Rattle.c_syntax.specs.Statements.{ElsePart, NoElse, Else, ForFirst, NoFirst, First, BlockItem, Declare, Run, Asserts, BlockItems, NoItem, Then}
 use Rattle.c_syntax.specs.Programs.{Function, TranslationUnit}
 use Rattle.c_model.specs.Meaning.{is_definition}
-use Rattle.c_effects.specs.Letters.{Any, HasLetters, FullHasLetters, EffectHasLetters, InitialsHaveLetters, AreNumbered}
+use Rattle.c_effects.specs.Letters.{Any, HasLetters, FullHasLetters, EffectHasLetters, InitialsHaveLetters}
+use Rattle.annot_code.specs.Numbered.{AreNumbered}
 use Rattle.mon_syntax.specs.declared.tree.MonType.{MonType}
 use Rattle.instrument.specs.Translation.{registers_of_body, after_body, front_temporaries}
 

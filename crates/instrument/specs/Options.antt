@@ -9,7 +9,7 @@ use Rattle.c_syntax.specs.declared.expression.Expr.{Expr}
 use Rattle.c_syntax.specs.Ctypes.{PlainType}
 use Rattle.c_syntax.specs.Expressions.{Expression, plain_expr}
 use Rattle.c_syntax.specs.Programs.{Function, TranslationUnit}
-use Rattle.c_syntax.specs.Statements.{Declaration, Statement, ElsePart, NoElse, Else, ForFirst, NoFirst, First, BlockItem, Declare, Run, Asserts, BlockItems}
+use Rattle.c_syntax.specs.Statements.{Declaration, Statement, ElsePart, ForFirst, NoFirst, First, BlockItem, Declare, Run, Asserts, BlockItems}
 use Rattle.c_syntax.specs.Statements.{NoItem, Then, While, Do, Initialiser, plain_stmt, plain_item}
 use Rattle.mon_syntax.specs.declared.tree.MonType.TheVariants.{Ptr}
 use Rattle.mon_syntax.specs.Registers.{Names, next_register, with_kinds, with_table}
@@ -21,10 +21,6 @@ use Rattle.c_effects.specs.Named.{initialise_by, unit_of, with_registers}
 use Rattle.instrument.specs.declared.spot.Spot as code
 use Rattle.instrument.specs.Translation.{Spot, after_body, after_else, after_first, after_item, after_items, after_statement, else_part, first_part, for_turns}
 use Rattle.instrument.specs.Translation.{code_of, front, front_temporaries, global_temporaries, in_loop, item, items, returned, statement, test, test_if_any}
-
-abbrev pub plain_else_part : Option Stmt → ElsePart
-plain_else_part None = NoElse
-plain_else_part (Some b) = Else (plain_stmt b)
 
 abbrev pub plain_first_part : Option Item → ForFirst
 plain_first_part None = NoFirst

@@ -22,7 +22,8 @@ use Rattle.mon_syntax.specs.Trees.{Zeros, Literal, MonitoredGlobal, MonFunction,
 use Rattle.mon_syntax.specs.Registers.{Bindings, RegisterTable, no_registers, with_kinds, next_register}
 use Rattle.c_effects.specs.Effects.{any_temporaries, declaration_temporaries, effect_temporaries, full_temporaries, full_setup, full_value, effect}
 use Rattle.c_effects.specs.Effects.{effect_if_any, initial_temporaries, initialise, initialise_all}
-use Rattle.c_effects.specs.Expressions.{register_type, value_type, temporaries, before, one, set, condition_of, setup, assertions, assertions_temporaries}
+use Rattle.c_effects.specs.Expressions.{register_type, value_type, temporaries, before, one, set, condition_of, setup}
+use Rattle.annot_code.specs.Code.{assertions, behind_assertions}
 use Rattle.track_scopes.specs.Blocks.{entered, birth, births, deaths, with_born}
 
 -- ---- names
@@ -91,7 +92,7 @@ abbrev mutual
   pub after_item : TranslationUnit → BlockItem → RegisterTable → RegisterTable
   after_item p (Declare ds) r = with_kinds (declaration_temporaries ds) r
   after_item p (Run a) r = after_statement p a r
-  after_item p (Asserts annots) r = with_kinds (assertions_temporaries annots) r
+  after_item p (Asserts annots) r = record r { kinds = behind_assertions p r.bound r.kinds annots }
 
   pub after_items : TranslationUnit → BlockItems → RegisterTable → RegisterTable
   after_items p NoItem r = r

@@ -6,6 +6,7 @@ ghost use Rattle.c_syntax.specs.Programs.{plain_func, plain_program};
 ghost use Rattle.c_syntax.specs.Statements.{plain_decl, plain_stmt};
 ghost use Rattle.c_model.specs.ExpressionTyping.{name_at};
 ghost use Rattle.c_model.specs.AcceptedPrograms.{IsProgram};
+ghost use Rattle.c_model.specs.UnrangedPrograms.{FunctionsRanged};
 ghost use Rattle.c_model.specs.Meaning.{is_definition, run};
 ghost use Rattle.c_model.specs.Reports.{Agrees};
 ghost use Rattle.c_model.specs.State.{Input};
@@ -259,6 +260,7 @@ fn translate(alloc: Global, p: &Program) -> Result<MonProgram, AllocError>
 /// steps, up to the program's first undefined operation.
 pub fn instrument(alloc: Global, p: &Program) -> Result<MonProgram, AllocError>
     requires program { IsProgram (plain_program p.now) }
+    requires ranged { FunctionsRanged (plain_program p.now).funcs }
     ensures valid { IfOk result (λ m. IsValid (plain_monitored m)) }
     ensures agrees { IfOk result (λ m. (input : Input) (n : ℕ) → Agrees (run (plain_program p.now) input n) (block_run (plain_monitored m) input n)) }
 {

@@ -1,27 +1,30 @@
 //! Statements (C99 6.8).
 
 ghost use Rattle.std.specs.Prelude.{◌≡◌, ◌+◌, ◌++◌, [], IfOk, OnOk, length, map, option_map};
-ghost use Rattle.c_syntax.specs.Annotations.{plain_annot};
+ghost use Rattle.c_syntax.specs.Logic.{plain_annot};
 ghost use Rattle.c_syntax.specs.Expressions.{plain_expr};
+ghost use Rattle.c_syntax.specs.Statements.{plain_else_part};
 ghost use Rattle.c_syntax.specs.Statements.{plain_item, plain_items, plain_stmt};
 ghost use Rattle.c_model.specs.Meaning.{declared_first, declared_in};
 ghost use Rattle.mon_syntax.specs.Registers.{next_register};
 ghost use Rattle.mon_syntax.specs.Trees.{Goto, If, Labelled, Loop, plain_expr as plain_monitored, plain_stmts};
 ghost use Rattle.track_scopes.specs.Blocks.{deaths, with_born};
-ghost use Rattle.c_effects.specs.Letters.{Any, AreNumbered, EffectHasLetters, FullHasLetters, HasLetters};
-ghost use Rattle.c_effects.specs.Expressions.{assertions_temporaries, before, one, set, temporaries};
+ghost use Rattle.annot_code.specs.Numbered.{AreNumbered};
+ghost use Rattle.annot_code.specs.Plain.{assertions_by, names_behind_assertions};
+ghost use Rattle.c_effects.specs.Letters.{Any, EffectHasLetters, FullHasLetters, HasLetters};
+ghost use Rattle.c_effects.specs.Expressions.{before, one, set, temporaries};
 ghost use Rattle.c_effects.specs.Effects.{any_temporaries, effect_temporaries, full_temporaries};
-ghost use Rattle.c_effects.specs.Named.{assertions_by, condition_by, full_setup_by, full_value_by, setup_by, unit_of, with_registers};
+ghost use Rattle.c_effects.specs.Named.{condition_by, full_setup_by, full_value_by, setup_by, unit_of, with_registers};
 ghost use Rattle.instrument.specs.Limits.{ElseHasNumbers, FirstHasNumbers, HasNumbers, HaveNumbers, ItemHasNumbers};
 ghost use Rattle.instrument.specs.Options.{after, behind_else, behind_first, behind_item, behind_items, births_by, do_loop, else_part_by, entering};
-ghost use Rattle.instrument.specs.Options.{first_part_by, item_by, items_by, plain_else_part, plain_first_part, plain_spot, returned_by, statement_by};
+ghost use Rattle.instrument.specs.Options.{first_part_by, item_by, items_by, plain_first_part, plain_spot, returned_by, statement_by};
 ghost use Rattle.instrument.specs.Options.{test_by, test_if_any_by, turns_by, while_loop, with_blocks};
 ghost use Rattle.instrument.specs.Translation.{alive, end_label, in_loop, leave_where_zero, next_label, returned_temporaries, with_variables};
 
 use crate::block::{enter_block, inside, items_of, leave, one_more};
 use crate::name::{end_label, next_label};
 use crate::spot::Spot;
-use c_effects::annotation::assertion;
+use annot_code::assertion::assertion;
 use c_effects::conversion::value_type;
 use c_effects::effect::{effect, effect_if_any};
 use c_effects::expression::condition_of;
@@ -41,7 +44,7 @@ fn assertions(
     to: &mut Vec<MonStmt>,
 ) -> Result<(), AllocError>
     ensures code { OnOk result (plain_stmts to.new.items ≡ before (plain_stmts to.old.items) (assertions_by names.old (map plain_annot annots.now))) }
-    ensures names { OnOk result (names.new ≡ with_registers (assertions_temporaries (map plain_annot annots.now)) names.old) }
+    ensures names { OnOk result (names.new ≡ names_behind_assertions (map plain_annot annots.now) names.old) }
     ensures numbered { OnOk result (AreNumbered (map plain_annot annots.now)) }
 {
     'annots: for annot in annots {

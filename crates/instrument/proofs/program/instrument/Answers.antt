@@ -19,11 +19,11 @@ pub returns-clause-valid : goal.returns-clause-valid
 returns-clause-valid c =
     let p = plain_program c.args.p.now in
     let done = c.in_ok-m.ensures in
-    subst IsValid (sym done.translated) (program_valid p c.requires.program (globals_have_letters p _ done.translated done.letters) done.numbers)
+    subst IsValid (sym done.translated) (program_valid p c.requires.program c.requires.ranged (globals_have_letters p _ done.translated done.letters) done.numbers)
 
 pub returns-clause-agrees : goal.returns-clause-agrees
 returns-clause-agrees c input n =
     let p = plain_program c.args.p.now in
     let done = c.in_ok-m.ensures in
     subst (λ (m : MonitoredProgram). Agrees (run p input n) (block_run m input n)) (sym done.translated)
-    (program_agrees p c.requires.program (globals_have_letters p _ done.translated done.letters) done.numbers input n)
+    (program_agrees p c.requires.program c.requires.ranged (globals_have_letters p _ done.translated done.letters) done.numbers input n)

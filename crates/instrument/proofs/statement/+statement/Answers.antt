@@ -1,7 +1,8 @@
 use Rattle.std.proofs.Common.{◌≡◌, ℕ, List, [], ◌+◌, ◌++◌, drop, map, option_map, refl, ap, subst, sym, ◌∙◌}
 use Rattle.std.specs.Prelude.{OnOk}
-use Rattle.c_syntax.specs.Annotations.{plain_annot}
+use Rattle.c_syntax.specs.Logic.{plain_annot}
 use Rattle.c_syntax.specs.Expressions.{plain_expr}
+use Rattle.c_syntax.specs.Statements.{plain_else_part}
 use Rattle.c_syntax.specs.Statements.{Statement, plain_item, plain_items, plain_stmt, plain_stmt_kind}
 use Rattle.c_model.specs.Meaning.{declared_in}
 use Rattle.mon_syntax.specs.Registers.{Names, next_register}
@@ -12,7 +13,7 @@ use Rattle.c_effects.specs.Expressions.{before}
 use Rattle.c_effects.proofs.Sequences.{left_at, none_left, all_there, more_behind, nothing}
 use Rattle.c_effects.proofs.Trees.{on_ok_then}
 use Rattle.instrument.specs.Limits.{HasNumbers, HaveNumbers}
-use Rattle.instrument.specs.Options.{after, behind_first, behind_item, behind_items, else_part_by, entering, first_part_by, item_by, items_by, plain_else_part, plain_first_part, plain_spot, statement_by, test_if_any_by}
+use Rattle.instrument.specs.Options.{after, behind_first, behind_item, behind_items, else_part_by, entering, first_part_by, item_by, items_by, plain_first_part, plain_spot, statement_by, test_if_any_by}
 use Rattle.instrument.proofs.DeclarationCode.{born_front}
 use Rattle.instrument.proofs.StatementTrees.{block_stmt, branches_code, if_stmt, for_stmt, if_code, do_code, turns_code, entered_code, rest_code, for_code, alive_code, declared_of_first, for_names}
 use Rattle.instrument.proofs.statement.+statement.Goals as goal

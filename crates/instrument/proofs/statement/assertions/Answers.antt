@@ -1,10 +1,9 @@
-use Rattle.std.proofs.Common.{◌+◌, drop, subst, sym, refl, ap, map}
-use Rattle.c_syntax.specs.Annotations.{plain_annot}
+use Rattle.std.proofs.Common.{◌+◌, drop, subst, sym, refl, ap, ◌∙◌, map}
+use Rattle.c_syntax.specs.Logic.{plain_annot}
 use Rattle.mon_syntax.specs.Trees.{plain_stmts}
-use Rattle.c_effects.specs.Letters.{AreNumbered}
-use Rattle.c_effects.specs.Expressions.{assertion_temporaries, assertions_temporaries}
-use Rattle.c_effects.specs.Named.{assertion_by, assertions_by, with_registers}
-use Rattle.c_effects.proofs.Sequences.{left_at, none_left, all_there, more_behind, registers_complete, registers_grown}
+use Rattle.annot_code.specs.Numbered.{AreNumbered}
+use Rattle.annot_code.specs.Plain.{assertion_by, assertions_by, names_behind_assertion, names_behind_assertions}
+use Rattle.c_effects.proofs.Sequences.{left_at, none_left, all_there, more_behind}
 use Rattle.instrument.proofs.statement.assertions.Goals as goal
 
 pub returns-clause-code : goal.returns-clause-code
@@ -13,7 +12,7 @@ returns-clause-code c =
 
 pub returns-clause-names : goal.returns-clause-names
 returns-clause-names c =
-    registers_complete c.annots.names (none_left (λ l. assertions_temporaries (map plain_annot l)) c.args.annots.now c.annots.annot-index c.annots-test.false) c.annots.invariant.names
+    sym (none_left (λ l. names_behind_assertions (map plain_annot l) c.annots.names) c.args.annots.now c.annots.annot-index c.annots-test.false) ∙ c.annots.invariant.names
 
 pub returns-clause-numbered : goal.returns-clause-numbered
 returns-clause-numbered c =
@@ -26,8 +25,8 @@ annots-preserved c =
     let rest = map plain_annot (drop (c.annots.annot-index + 1) c.args.annots.now) in
     let left = left_at (map plain_annot) c.args.annots.now c.annots.annot-index _ _ c.annots-test.true c.annot-item.is refl in
     record {
-      code = more_behind (plain_stmts c.annots.to.items) (assertion_by n a) (with_registers (assertion_temporaries a) n) (λ m. assertions_by m rest) (ap (assertions_by n) left) c.in_ok-assertion.ensures.code
+      code = more_behind (plain_stmts c.annots.to.items) (assertion_by n a) (names_behind_assertion a n) (λ m. assertions_by m rest) (ap (assertions_by n) left) c.in_ok-assertion.ensures.code
           c.in_ok-assertion.ensures.names c.annots.invariant.code;
-      names = registers_grown n (assertion_temporaries a) (assertions_temporaries rest) (ap assertions_temporaries left) c.in_ok-assertion.ensures.names c.annots.invariant.names;
+      names = ap (names_behind_assertions rest) c.in_ok-assertion.ensures.names ∙ ap (λ l. names_behind_assertions l n) (sym left) ∙ c.annots.invariant.names;
       numbered = λ rest. c.annots.invariant.numbered (subst AreNumbered (sym left) (c.in_ok-assertion.ensures.numbered, rest));
     }

@@ -1,0 +1,49 @@
+-- Asserts whose terms keep their ranges, in trees whose annotations are asserts and are ranged.
+use Rattle.std.proofs.Common.{List, [], ◌∷◌, Option, Some, None}
+use Rattle.c_syntax.specs.Logic.{Annotation}
+use Rattle.c_syntax.specs.Statements.{Statement, Empty, Eval, Block, If, While, Do, For, Break, Continue, Return, ElsePart, NoElse, Else, BlockItem, Declare, Run, Asserts, BlockItems, NoItem, Then}
+use Rattle.c_syntax.specs.Programs.{Function}
+use Rattle.c_model.specs.Formed.{AreAsserts}
+use Rattle.c_model.specs.EffectPlaces.{StatementPlaced, ElsePlaced, ItemsPlaced, ItemPlaced}
+use Rattle.c_model.specs.ReadTree.{BodyRead, FunctionsRead}
+use Rattle.c_model.specs.Unranged.{AnnotationsRanged}
+use Rattle.c_model.specs.UnrangedPrograms.{StatementRanged, ElseRanged, ItemRanged, ItemsRanged, BodyRanged, FunctionsRanged}
+
+pub record AreRangedAsserts (annots : List Annotation) : Type 0 where
+  pub are : AreAsserts annots
+  pub ranged : AnnotationsRanged annots
+
+mutual
+  statement_ranged : (a : Statement) → StatementPlaced AreAsserts a → StatementRanged a → StatementPlaced AreRangedAsserts a
+  statement_ranged (Empty at) p r = tt
+  statement_ranged (Eval at e) p r = p
+  statement_ranged (Block at items) p r = items_ranged items p r
+  statement_ranged (If at e a b) p r = (p.0, statement_ranged a p.1 r.0, else_ranged b p.2 r.1)
+  statement_ranged (While at annots e a) p r = (p.0, p.1, statement_ranged a p.2 r.1)
+  statement_ranged (Do at a e) p r = (statement_ranged a p.0 r, p.1)
+  statement_ranged (For at annots first e step a) p r = (p.0, p.1, p.2, p.3, statement_ranged a p.4 r.1)
+  statement_ranged (Break at) p r = tt
+  statement_ranged (Continue at) p r = tt
+  statement_ranged (Return at e) p r = p
+
+  else_ranged : (b : ElsePart) → ElsePlaced AreAsserts b → ElseRanged b → ElsePlaced AreRangedAsserts b
+  else_ranged NoElse p r = tt
+  else_ranged (Else a) p r = statement_ranged a p r
+
+  items_ranged : (is : BlockItems) → ItemsPlaced AreAsserts is → ItemsRanged is → ItemsPlaced AreRangedAsserts is
+  items_ranged NoItem p r = tt
+  items_ranged (Then i rest) p r = (item_ranged i p.0 r.0, items_ranged rest p.1 r.1)
+
+  item_ranged : (i : BlockItem) → ItemPlaced AreAsserts i → ItemRanged i → ItemPlaced AreRangedAsserts i
+  item_ranged (Declare ds) p r = p
+  item_ranged (Run a) p r = statement_ranged a p r
+  item_ranged (Asserts annots) p r = record { are = p; ranged = r }
+
+body_ranged : (o : Option Statement) → BodyRead AreAsserts o → BodyRanged o → BodyRead AreRangedAsserts o
+body_ranged None p r = tt
+body_ranged (Some (Block at items)) p r = (items_ranged items p.0 r, p.1)
+body_ranged (Some _) p r = absurd p
+
+pub functions_ranged : (fs : List Function) → FunctionsRead AreAsserts fs → FunctionsRanged fs → FunctionsRead AreRangedAsserts fs
+functions_ranged [] p r = tt
+functions_ranged (f ∷ fs) p r = (record { no_contract = p.0.no_contract; body = body_ranged f.body p.0.body r.0 }, functions_ranged fs p.1 r.1)
