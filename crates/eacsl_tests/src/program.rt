@@ -223,3 +223,84 @@ int main(void) { struct s a; struct s b; a.n = 7; a.c = 'q'; b = a; a.c = 'x'; p
         "eacsl: exit 7\n",
     );
 }
+
+#[test]
+fn quotients_and_bits_in_asserts_are_those_of_mathematics(rt: HostRuntime) {
+    text_gives(
+        &rt,
+        "int main(void) { int x = -7; /*@ assert x / 2 == -3 && x % 2 == -1 && x >> 1 == -4 && (x & 15) == 9; */ return 0; }",
+        status::EXITED,
+        "",
+        "eacsl: exit 0\n",
+    );
+}
+
+#[test]
+fn a_count_of_a_shift_has_a_range_below_127(rt: HostRuntime) {
+    text_gives(
+        &rt,
+        "int main(void) { int k = 37; /*@ assert 1 << (k & 31) == 32; */ return 0; }",
+        status::EXITED,
+        "",
+        "eacsl: exit 0\n",
+    );
+    text_gives(
+        &rt,
+        "int main(void) { int k = 37; /*@ assert 1 << k == 32; */ return 0; }",
+        status::REFUSED,
+        "",
+        "eacsl: refused E10 at 1:43: <<\n",
+    );
+}
+
+#[test]
+fn a_left_side_decides_whether_the_right_one_is_asked(rt: HostRuntime) {
+    text_gives(
+        &rt,
+        "int main(void) {
+  int x = 0;
+  //@ assert x != 0 ==> 10 / x > 1;
+  //@ assert 10 / x > 1 || x == 0;
+  return 0;
+}
+",
+        status::BROKEN,
+        "",
+        "eacsl: annotation 2, line 4: assert is undefined\n",
+    );
+}
+
+#[test]
+fn a_product_of_two_longs_has_128_bits(rt: HostRuntime) {
+    text_gives(
+        &rt,
+        "int main(void) {
+  long x = 9223372036854775807;
+  long y = x;
+  //@ assert x * y <= 9223372036854775807;
+  return 0;
+}
+",
+        status::BROKEN,
+        "",
+        "eacsl: annotation 1, line 4: assert is false\n",
+    );
+}
+
+#[test]
+fn a_product_of_three_longs_has_no_range(rt: HostRuntime) {
+    text_gives(
+        &rt,
+        "int main(void) {
+  long x = 1;
+  long y = 1;
+  long z = 1;
+  //@ assert x * y * z == 1;
+  return 0;
+}
+",
+        status::REFUSED,
+        "",
+        "eacsl: refused E10 at 5:20: *\n",
+    );
+}
