@@ -11,6 +11,6 @@ int main(void) {
     //@ assert column == row;
     putchar('\n');
   }
-  /*@ assert stars + stars == height + height + height + height + height + height; */
+  /*@ assert 2 * stars == height * (height + 1); */
   return 0;
 }
