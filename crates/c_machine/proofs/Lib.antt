@@ -16,6 +16,7 @@ pub mod Calling
 pub mod Kept
 -- runs
 pub mod Measure
+pub mod Converted
 pub mod Courses
 pub mod Finished
 -- runs that are done at once
@@ -26,3 +27,4 @@ pub mod Sequence
 pub mod Valued
 pub mod Ends
 pub mod Alone
+pub mod Asserting

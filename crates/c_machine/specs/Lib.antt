@@ -9,4 +9,5 @@ pub mod Runs
 pub mod Fast
 pub mod Forms
 pub mod Table
+pub mod Asserted
 pub mod Sequences

@@ -53,6 +53,16 @@ impl Machine {
             self.registers[at] = z;
         }
     }
+
+    /// Gives a register a value, where it is known that there is one.
+    #[inline(always)]
+    pub fn set_within(&mut self, at: usize, z: i128)
+        requires { at < length self.old.registers.items }
+        ensures value { self.new.registers.items ≡ slice_set self.old.registers.items at z }
+        ensures others { self.new ≡ record self.old { registers = self.new.registers } }
+    {
+        self.registers[at] = z;
+    }
 }
 
 impl Cursor {

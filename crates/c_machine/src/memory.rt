@@ -147,6 +147,36 @@ fn load_as(memory: &Runtime, t: MonType, p: i128) -> Option<i128>
     }
 }
 
+// The same of one type each. The compiler makes them short first, and then puts them where they are called: so they aren't put there always.
+#[inline]
+fn load_i32(memory: &Runtime, p: i128) -> Option<i128>
+    ensures { result ≡ load_flat MonType.I32 p memory.now }
+{
+    load_as(memory, MonType::I32, p)
+}
+
+#[inline]
+fn load_i64(memory: &Runtime, p: i128) -> Option<i128>
+    ensures { result ≡ load_flat MonType.I64 p memory.now }
+{
+    load_as(memory, MonType::I64, p)
+}
+
+#[inline]
+fn load_ptr(memory: &Runtime, p: i128) -> Option<i128>
+    ensures { result ≡ load_flat MonType.Ptr p memory.now }
+{
+    load_as(memory, MonType::Ptr, p)
+}
+
+// The same of the types that are loaded less often, out of line: within the loop over instructions it would be too long.
+#[inline(never)]
+fn load_rarely(memory: &Runtime, t: MonType, p: i128) -> Option<i128>
+    ensures { result ≡ load_flat t p memory.now }
+{
+    load_as(memory, t, p)
+}
+
 /// The value of the type that is read at a pointer.
 #[inline(always)]
 pub fn load(memory: &Runtime, t: MonType, p: i128) -> Option<i128>
@@ -154,16 +184,10 @@ pub fn load(memory: &Runtime, t: MonType, p: i128) -> Option<i128>
 {
     // A type that is known chooses nothing more: its width and its sign are numbers.
     match t {
-        MonType::I8 => load_as(memory, MonType::I8, p),
-        MonType::U8 => load_as(memory, MonType::U8, p),
-        MonType::I16 => load_as(memory, MonType::I16, p),
-        MonType::U16 => load_as(memory, MonType::U16, p),
-        MonType::I32 => load_as(memory, MonType::I32, p),
-        MonType::U32 => load_as(memory, MonType::U32, p),
-        MonType::I64 => load_as(memory, MonType::I64, p),
-        MonType::U64 => load_as(memory, MonType::U64, p),
-        MonType::I128 => load_as(memory, MonType::I128, p),
-        MonType::Ptr => load_as(memory, MonType::Ptr, p),
+        MonType::I32 => load_i32(memory, p),
+        MonType::I64 => load_i64(memory, p),
+        MonType::Ptr => load_ptr(memory, p),
+        _ => load_rarely(memory, t, p),
     }
 }
 
@@ -176,6 +200,28 @@ fn store_as(memory: &mut Runtime, t: MonType, p: i128, z: i128) -> bool
         Ok(()) => true,
         Err(_) => false,
     }
+}
+
+// The same of one type each.
+#[inline]
+fn store_i32(memory: &mut Runtime, p: i128, z: i128) -> bool
+    ensures { Stores result MonType.I32 p z memory.old memory.new }
+{
+    store_as(memory, MonType::I32, p, z)
+}
+
+#[inline]
+fn store_i64(memory: &mut Runtime, p: i128, z: i128) -> bool
+    ensures { Stores result MonType.I64 p z memory.old memory.new }
+{
+    store_as(memory, MonType::I64, p, z)
+}
+
+#[inline]
+fn store_ptr(memory: &mut Runtime, p: i128, z: i128) -> bool
+    ensures { Stores result MonType.Ptr p z memory.old memory.new }
+{
+    store_as(memory, MonType::Ptr, p, z)
 }
 
 // The same of the types that are stored less often, out of line: within the loop over instructions it would be too long.
@@ -200,9 +246,9 @@ pub fn store(memory: &mut Runtime, t: MonType, p: i128, z: i128) -> bool
     ensures { Stores result t p z memory.old memory.new }
 {
     match t {
-        MonType::I32 => store_as(memory, MonType::I32, p, z),
-        MonType::I64 => store_as(memory, MonType::I64, p, z),
-        MonType::Ptr => store_as(memory, MonType::Ptr, p, z),
+        MonType::I32 => store_i32(memory, p, z),
+        MonType::I64 => store_i64(memory, p, z),
+        MonType::Ptr => store_ptr(memory, p, z),
         _ => store_rarely(memory, t, p, z),
     }
 }
@@ -350,14 +396,26 @@ pub fn act_on_two(
 
 // ---- the same within the loop over instructions, where a block is seldom refused
 
-/// `__e_acsl_store_block(size)`. None where it is refused, and then the memory stays.
 #[inline(always)]
-pub fn born(memory: &mut Runtime, size: i128) -> Option<i128>
+fn born_of(memory: &mut Runtime, size: i128) -> Option<i128>
     ensures { Yields (act_on_flat MemoryCall.StoreBlock (size ∷ []) memory.old) memory.old memory.new result }
 {
     match memory.store_block(lowest_bits(MonType::U64, size) as u64) {
         Ok(start) => Some(i128::from(start)),
         Err(_) => None,
+    }
+}
+
+/// `__e_acsl_store_block(size)`. None where it is refused, and then the memory stays.
+#[inline(always)]
+pub fn born(memory: &mut Runtime, size: i128) -> Option<i128>
+    ensures { Yields (act_on_flat MemoryCall.StoreBlock (size ∷ []) memory.old) memory.old memory.new result }
+{
+    // Sizes that are known compute nothing more: most blocks are a variable of four or eight bytes.
+    match size {
+        4 => born_of(memory, 4),
+        8 => born_of(memory, 8),
+        _ => born_of(memory, size),
     }
 }
 

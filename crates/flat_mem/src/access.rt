@@ -39,8 +39,7 @@ impl FlatMem {
         }
     }
 
-    /// Stores a pointer with its mark, likewise.
-    #[inline(always)]
+    /// Stores a pointer with its mark, likewise. It isn't put in line always: with it a caller that stores both would be too long for that.
     pub fn save_pointer(&mut self, addr: u32, value: u64) -> bool
         ensures { MatchBool result
             (store_spot self.old (spot_at addr) 8 value true ≡ Some self.new)
