@@ -1,7 +1,7 @@
 #!/bin/bash
 # Prints the time of reading annotated texts of 0.25 to 1 MiB, of statements, of declarations with initialisers, and of one struct with
-# many members, in all and for each token, and that of reading texts in monitored C of 0.5 to 4 MiB, in all and for each byte, with the
-# peak memory. A text returns before its statements, so that they are read and translated, and not run. It measures through ./eacsl.
+# many members, in all and for each token, that of texts of 5,000 to 20,000 annotations, in all and for each annotation, and that of reading
+# texts in monitored C of 0.5 to 4 MiB, in all and for each byte, with the peak memory. A text returns before its statements, so that they are read and translated, and not run. It measures through ./eacsl.
 set -euo pipefail
 
 top=$(cd -- "$(dirname -- "${BASH_SOURCE[0]}")/.." && pwd)
@@ -39,10 +39,10 @@ def figures(command, text):
 def table(command, least, unit, texts):
     """A row of figures for each text, by its name, with the time for each of its units."""
     start, _ = figures(command, least)
-    print(f"{command:<13} {'bytes':>8} {'seconds':>9} {'ns a ' + unit:>11} {'peak (KiB)':>11}")
+    print(f"{command:<14} {'bytes':>8} {'seconds':>9} {'ns a ' + unit:>11} {'peak (KiB)':>11}")
     for name, units, text in texts:
         time, memory = figures(command, text)
-        print(f"{name:<13} {len(text):>8} {time:>9.3f} {(time - start) / units * 1e9:>11.0f} {memory:>11}")
+        print(f"{name:<14} {len(text):>8} {time:>9.3f} {(time - start) / units * 1e9:>11.0f} {memory:>11}")
     print(f"the start of the program takes {start:.3f} s, which each figure a {unit} leaves out")
 
 
@@ -82,6 +82,22 @@ def membered(size):
     return filled(size, "struct wide {\n", "  int member{0};\n", tail, 28, 3)
 
 
+def asserted(count):
+    """A text of so many annotations, which is read, typed and given ranges, and of which a run comes to the first alone."""
+    line = "  /*@ assert i * i > 0; */\n"
+    head = "int main(void) {\n  int i = 1;\n" + line + "  return 0;\n"
+    lines = line * (count - 1)
+    return f"{count} asserts", count, head + lines + "}\n"
+
+
+def long_asserted(count):
+    """The same of longer annotations, fewer, so that the text has no more tokens than one may have."""
+    line = "  /*@ assert 0 <= i < 10 && (i & 1) == i % 2 ==> i * i / 3 >= i >> 1; */\n"
+    head = "int main(void) {\n  int i = 1;\n" + line + "  return 0;\n"
+    lines = line * (count - 1)
+    return f"{count} asserts", count, head + lines + "}\n"
+
+
 HEAD = "#include <e_acsl.h>\ni32 main(void) {\n  i32 x;\n  return I32(0);\n"
 LINE = "  x = (x + I32(1));\n"
 
@@ -97,6 +113,10 @@ print()
 table("run", "int main(void) { return 0; }\n", "token", map(declared, (1 << 18, 1 << 19, 1 << 20)))
 print()
 table("run", "int main(void) { return 0; }\n", "token", map(membered, (1 << 18, 1 << 19, 1 << 20)))
+print()
+table("run", "int main(void) { return 0; }\n", "assert", map(asserted, (5_000, 10_000, 20_000)))
+print()
+table("run", "int main(void) { return 0; }\n", "assert", map(long_asserted, (1_250, 2_500, 5_000)))
 print()
 table("exec", HEAD + "}\n", "byte", map(monitored, (1 << 19, 1 << 20, 1 << 21, 1 << 22)))
 P
