@@ -23,25 +23,13 @@ int main(void) {
 C
 }
 
-cat >"$scratch/measure.py" <<'P'
-import os, subprocess, sys, time
-
-runs, *command = sys.argv[1:]
-best = None
-for _ in range(int(runs)):
-    begun = time.perf_counter()
-    run = subprocess.Popen(command, stdin=subprocess.DEVNULL, stdout=subprocess.DEVNULL, stderr=subprocess.PIPE)
-    said = run.stderr.read()
-    if run.wait() != 0:
-        sys.exit(f"{' '.join(command)}: {said.decode()}")
-    took = time.perf_counter() - begun
-    best = took if best is None else min(best, took)
-print(f"{best * 1000:.1f}")
-P
-
-# the least milliseconds of so many runs of a command
+# the least milliseconds of so many runs of a command, which must end with the status 0
 measured() {
-  python3 "$scratch/measure.py" "$@"
+  local milliseconds status runs=$1
+  shift
+  read -r milliseconds _ status < <(python3 "$top/bench/measure.py" "$runs" /dev/null "$@")
+  [[ $status == 0 ]] || { echo "status $status: $*" >&2; return 1; }
+  echo "$milliseconds"
 }
 
 # the milliseconds of a text by ./eacsl

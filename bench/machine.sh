@@ -135,23 +135,9 @@ int main(void) {
 C
 }
 
-cat >"$scratch/measure.py" <<'P'
-import os, subprocess, sys, time
-
-runs, given, *command = sys.argv[1:]
-best = None
-for _ in range(int(runs)):
-    begun = time.perf_counter()
-    run = subprocess.Popen(command, stdin=open(given), stdout=subprocess.DEVNULL, stderr=subprocess.DEVNULL)
-    _, status, usage = os.wait4(run.pid, 0)
-    took = time.perf_counter() - begun
-    best = took if best is None else min(best, took)
-print(f"{best * 1000:.1f} {usage.ru_maxrss}")
-P
-
 # the least milliseconds and the greatest KiB of so many runs of a command on this input
 measured() {
-  python3 "$scratch/measure.py" "$@"
+  python3 "$top/bench/measure.py" "$@"
 }
 
 # a line of figures: what, milliseconds and KiB
