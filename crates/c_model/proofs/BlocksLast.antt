@@ -1,8 +1,8 @@
 -- Along a run each block keeps its number, kind, size and place, and a dead one stays dead.
-use Rattle.std.proofs.Common.{◌≡◌, ℕ, zero, suc, false, not, ◌&&◌, List, [], ◌∷◌, ◌++◌, length, Option, Some, None, slice_get, slice_set, refl, sym, ap, ◌∙◌, subst}
+use Rattle.std.proofs.Common.{◌≡◌, ℕ, zero, suc, false, not, ◌&&◌, List, [], ◌∷◌, ◌++◌, length, Some, slice_get, slice_set, refl, sym, ◌∙◌, subst}
 use Rattle.c_syntax.specs.Statements.{Statement}
 use Rattle.c_syntax.specs.Programs.{TranslationUnit}
-use Rattle.c_model.specs.Memory.{Pointer, Null, Into, Byte, Block, Store, block_at, with_bytes, save_bytes, shifted, ◌>>=◌, copy, copy_all, is_stack, kill_from, freed}
+use Rattle.c_model.specs.Memory.{Pointer, Null, Into, Byte, Block, Store, with_bytes, save_bytes, shifted, copy_all, is_stack, kill_from, freed}
 use Rattle.c_model.specs.State.{State, Outcome, Normal, Stop}
 use Rattle.c_model.specs.Meaning.{exec, call_of, tables_of}
 use Rattle.c_model.specs.Laws.{store_after}

@@ -1,5 +1,5 @@
 -- Births on the heap are new blocks, what is freed is dead, and dead blocks have no use.
-use Rattle.std.proofs.Common.{◌≡◌, ℕ, zero, suc, ◌+◌, ◌<◌, ◌≤◌, ◌≢◌, ℤ, pos, negsuc, ◌+ℤ◌, Bool, true, false, not, ◌&&◌, cond, if◌then◌else◌, nat_le, nat_eq, List, [], ◌∷◌, ◌++◌, length, replicate, Option, Some, None, slice_get, slice_set, refl, sym}
+use Rattle.std.proofs.Common.{◌≡◌, ℕ, zero, suc, ◌+◌, ◌<◌, ◌≤◌, ◌≢◌, ℤ, pos, negsuc, ◌+ℤ◌, Bool, true, false, ◌&&◌, cond, if◌then◌else◌, nat_le, nat_eq, List, [], ◌∷◌, ◌++◌, length, replicate, Option, Some, None, slice_get, slice_set, refl}
 use Rattle.std.proofs.Common.{ap, ◌∙◌}
 use Rattle.std.proofs.Common.{subst, arith}
 use Rattle.std.proofs.lemmas.Bool.{leb-true, lt-leb}
@@ -8,11 +8,11 @@ use Rattle.std.proofs.lemmas.List.{length-replicate}
 use Rattle.c_syntax.specs.declared.types.BlockKind.TheVariants.{Heap}
 use Rattle.c_syntax.specs.declared.types.Segment.TheVariants as segment
 use Rattle.c_syntax.specs.Layouts.{Scalar, scalar_size}
-use Rattle.c_model.specs.Memory.{Pointer, Null, Into, Value, Points, Byte, bytes_from, Block, Store, block_at, is_accessible, is_literal, load, save, saved_block, with_block, moved, offset_in, live_size, apart, distance, equal_pointers, is_usable}
+use Rattle.c_model.specs.Memory.{Pointer, Null, Into, Value, Points, Byte, bytes_from, Block, Store, block_at, is_accessible, save, saved_block, with_block, offset_in, live_size, apart, distance, equal_pointers, is_usable}
 use Rattle.c_model.specs.Memory.{same_pointer, tested_value}
-use Rattle.c_model.specs.Memory.{standard_sizes, greatest_number, units, is_heap, Room, At, NoRoom, heap_room, heap_block, freed_block, freed}
-use Rattle.c_model.specs.State.{State, Outcome, Normal, Stop, Over, Full, heap_birth, allocate, give}
-use Rattle.c_model.specs.HeapLaws.{IsBorn, IsDead, IsFreed, HasNoUse}
+use Rattle.c_model.specs.Memory.{standard_sizes, greatest_number, units, Room, At, NoRoom, heap_room, heap_block, freed}
+use Rattle.c_model.specs.State.{State, Normal, Stop, Over, Full, heap_birth, allocate, give}
+use Rattle.c_model.specs.HeapLaws.{IsBorn, IsFreed, HasNoUse}
 use Rattle.c_model.proofs.Blocks.{slice_get-slice_set_same, slice_get-slice_set_other, freed_parts}
 use Rattle.c_model.proofs.HeapPlaces.{kind_of_heap, heap_place-too_many}
 

@@ -1,10 +1,10 @@
 -- The place of a heap block is the least that fits, and there is none exactly where the heap is full.
-use Rattle.std.proofs.Common.{◌≡◌, ℕ, zero, suc, ◌+◌, ◌/◌, ◌<◌, ◌≤◌, Bool, true, false, not, ◌&&◌, ◌||◌, if◌then◌else◌, nat_le, List, [], ◌∷◌, length, Option, Some, None, slice_get, refl, sym, ap, ◌∙◌, subst, arith}
+use Rattle.std.proofs.Common.{◌≡◌, ℕ, zero, suc, ◌+◌, ◌/◌, ◌<◌, ◌≤◌, Bool, true, false, not, ◌&&◌, ◌||◌, if◌then◌else◌, nat_le, [], ◌∷◌, length, Option, Some, None, slice_get, refl, sym, ap, ◌∙◌, subst, arith}
 use Rattle.std.proofs.lemmas.Bool.{leb-true, leb-false, le-leb, lt-leb}
 use Rattle.c_syntax.specs.declared.types.BlockKind.{BlockKind}
 use Rattle.c_syntax.specs.declared.types.BlockKind.TheVariants.{Global, Literal, Stack, Heap}
 use Rattle.c_syntax.specs.declared.types.Segment.TheVariants as segment
-use Rattle.c_model.specs.Memory.{Block, Store, block_at, Sizes, greatest_number, units, is_heap, is_apart, is_free, least, heap_place, Room, At, NoRoom, room_at, heap_room}
+use Rattle.c_model.specs.Memory.{Block, Store, block_at, Sizes, greatest_number, units, is_heap, is_apart, is_free, least, heap_place, At, NoRoom, room_at, heap_room}
 use Rattle.c_model.specs.HeapLaws.{AreApart, Before, Behind, IsPlace}
 
 -- ---- the least number that passes

@@ -27,6 +27,7 @@ pub mod TypedInitialisers
 pub mod TypedDeclarations
 pub mod TypedStatements
 pub mod TypedFunctions
+pub mod NotedWider
 pub mod NotedTrees
 pub mod PredicateTrees
 pub mod ReadStatements
@@ -112,6 +113,7 @@ mod WorkedDeclarationTyping
 mod WorkedTypingFaults
 mod WorkedDeclarationFaults
 mod WorkedAnnotationTyping
+mod WorkedAnnotationTypes
 mod WorkedPredicateTyping
 mod WorkedOperators
 mod WorkedMemory

@@ -92,7 +92,7 @@ at_enumerators p (e ∷ es) s next h = at_enumerators p es (with_enumerator s e.
 at_behind : (p : TranslationUnit) (i : FileItem) (s : Sight) → IsAtFile p s → IsAtFile p (behind_item p s i)
 at_behind p (StructHead k struct) s h = h
 at_behind p (Member k m ends) s h = h
-at_behind p (AnEnum e) s h = at_enumerators p e.items s (pos 0) h
+at_behind p (AnEnum e) s h = let g = at_enumerators p e.items s (pos 0) h in record { names = g.names; structs = g.structs }
 at_behind p (ATypedef d) s h = record { names = h.names; structs = h.structs }
 at_behind p (AGlobal d) s h = record { names = h.names; structs = h.structs }
 at_behind p (AFunction g) s h = record { names = h.names; structs = h.structs }

@@ -14,7 +14,7 @@ use Rattle.c_syntax.specs.Expressions.{Expression, place_of, type_of}
 use Rattle.c_syntax.specs.Programs.{StructType}
 use Rattle.c_model.specs.Integers.{value_of_bits, operate, operate_one}
 use Rattle.c_model.specs.Conversions.{operation_type, is_shift, is_relation, promoted}
-use Rattle.c_model.specs.Memory.{Pointer, Null, Into, Value, Integer, Points, NoValue, Byte, Store, number_of, pointer_of, value_from, load_bytes, load, moved, distance, equal_pointers}
+use Rattle.c_model.specs.Memory.{Pointer, Null, Into, Value, Integer, Points, NoValue, Byte, Store, number_of, pointer_of, value_from, load_bytes, moved, distance, equal_pointers}
 use Rattle.c_model.specs.Memory as memory
 use Rattle.c_model.specs.State.{Leave, Undefined, Over, Evaluation, State, ◌>>=◌, give, stop, computed, as_scalar, read, read_any, copy_object}
 use Rattle.c_model.specs.Meaning.{operate_value, operate_values, pointer_and_integer, integer_and_pointer, elements_between, two_pointers, converted, compound}

@@ -12,7 +12,7 @@ use Rattle.c_model.specs.Meaning.{is_definition}
 use Rattle.c_model.specs.ExpressionTyping.{Sight, inner, name_at, same_type}
 use Rattle.c_model.specs.UnitTyping.{FileItem, StructHead, Member, AnEnum, ATypedef, AGlobal, AFunction, items_of_file, sight_with, with_function, with_parameters, behind_item}
 use Rattle.c_model.specs.UnitTyping.{is_compatible, is_compatible_with_all, same_signature, has_no_parameters, no_main, main_fault}
-use Rattle.c_model.specs.AnnotationTyping.{noted_items, noted_body, noted_function, noted_functions, noted_unit}
+use Rattle.c_model.specs.AnnotationTyping.{noted_items, noted_body, known_at, noted_function, noted_functions, noted_unit}
 use Rattle.c_model.specs.TypedTrees.{FunctionTyped}
 use Rattle.c_model.specs.TypedPrograms.{ItemsTyped, ProgramTyped}
 use Rattle.c_model.specs.TypedAnnotations.{FunctionNoted}
@@ -35,11 +35,11 @@ use Rattle.c_model.proofs.NotedFiles.{HasOtherBody, HaveOtherBodies, same_place,
 other_body : (s : Sight) (f : Function) → Gives (HasOtherBody f) (noted_function s f)
 other_body s f = by f.body refl
   where
-    by : (o : Option Statement) → f.body ≡ o → Gives (HasOtherBody f) (one_part (noted_body (with_parameters (inner s) f.params) o) (λ b. Good (record f { body = b })))
+    by : (o : Option Statement) → f.body ≡ o → Gives (HasOtherBody f) (one_part (noted_body (with_parameters (inner (known_at f.place s)) f.params) o) (λ b. Good (record f { body = b })))
     by None e = record { body = None; is = refl; there = ap is_there (sym e) }
     by (Some (Block at items)) e =
-        gives_one (λ b. is_there b ≡ true) (HasOtherBody f) (noted_body (with_parameters (inner s) f.params) (Some (Block at items))) (λ b. Good (record f { body = b }))
-        (gives_one (λ js. Unit {0}) (λ b. is_there b ≡ true) (noted_items (with_parameters (inner s) f.params) items) (λ items. Good (Some (Block at items))) (anything _) (λ js u. refl))
+        gives_one (λ b. is_there b ≡ true) (HasOtherBody f) (noted_body (with_parameters (inner (known_at f.place s)) f.params) (Some (Block at items))) (λ b. Good (record f { body = b }))
+        (gives_one (λ js. Unit {0}) (λ b. is_there b ≡ true) (noted_items (with_parameters (inner (known_at f.place s)) f.params) items) (λ items. Good (Some (Block at items))) (anything _) (λ js u. refl))
         (λ b t. record { body = b; is = refl; there = t ∙ ap is_there (sym e) })
     by (Some a) e = record { body = Some a; is = refl; there = ap is_there (sym e) }
 
@@ -48,16 +48,16 @@ module _ (P : Expression → Type 0) where
   pub record IsFunctionKept (s : Sight) (f g : Function) : Type 0 where
     pub typed : IsFunctionNoted s f g
     pub other : HasOtherBody f g
-    pub body : IsBodyKept P (with_parameters (inner s) f.params) f.body g.body
+    pub body : IsBodyKept P (with_parameters (inner (known_at f.place s)) f.params) f.body g.body
 
   function_kept : (s : Sight) (f : Function) → Gives (IsFunctionKept s f) (noted_function s f)
   function_kept s f = by (noted_function s f) (function_noted s f) (other_body s f) bodies
     where
-      bodies : Gives (λ (g : Function). IsBodyKept P (with_parameters (inner s) f.params) f.body g.body) (noted_function s f)
-      bodies = gives_one (IsBodyKept P (with_parameters (inner s) f.params) f.body) (λ (g : Function). IsBodyKept P (with_parameters (inner s) f.params) f.body g.body)
-          (noted_body (with_parameters (inner s) f.params) f.body) (λ b. Good (record f { body = b })) (body_kept P (with_parameters (inner s) f.params) f.body) (λ b h. h)
+      bodies : Gives (λ (g : Function). IsBodyKept P (with_parameters (inner (known_at f.place s)) f.params) f.body g.body) (noted_function s f)
+      bodies = gives_one (IsBodyKept P (with_parameters (inner (known_at f.place s)) f.params) f.body) (λ (g : Function). IsBodyKept P (with_parameters (inner (known_at f.place s)) f.params) f.body g.body)
+          (noted_body (with_parameters (inner (known_at f.place s)) f.params) f.body) (λ b. Good (record f { body = b })) (body_kept P (with_parameters (inner (known_at f.place s)) f.params) f.body) (λ b h. h)
 
-      by : (c : Checked Function) → Gives (IsFunctionNoted s f) c → Gives (HasOtherBody f) c → Gives (λ (g : Function). IsBodyKept P (with_parameters (inner s) f.params) f.body g.body) c → Gives (IsFunctionKept s f) c
+      by : (c : Checked Function) → Gives (IsFunctionNoted s f) c → Gives (HasOtherBody f) c → Gives (λ (g : Function). IsBodyKept P (with_parameters (inner (known_at f.place s)) f.params) f.body g.body) c → Gives (IsFunctionKept s f) c
       by (Good g) a b c = record { typed = a; other = b; body = c }
       by (Bad x xs) a b c = tt
 
@@ -161,7 +161,7 @@ module _ (P : Expression → Type 0) where
   function_read : (p : TranslationUnit) (s : Sight) (f g : Function) → SeesValues s → IsFunctionKept (with_function p s f) f g → FunctionRead AreReadAsserts f → FunctionRead AreAsserts g
   function_read p s f g k h r = record {
     no_contract = ap (λ (x : Function). x.contract) h.other.is ∙ r.no_contract;
-    body = h.body.read (after_parameters (inner (with_function p s f)) f.params k) r.body;
+    body = h.body.read (after_parameters (inner (known_at f.place (with_function p s f))) f.params k) r.body;
   }
 
   -- of functions that are named, read, their annotations being so, and of which each full expression is P

@@ -1,6 +1,6 @@
 -- Asserts that are typed are well typed where each was read and not typed before, and a statement, a body or a function that was typed stays so
 -- when its asserts are typed.
-use Rattle.std.proofs.Common.{◌≡◌, refl, sym, subst, List, [], ◌∷◌, Option, Some, None}
+use Rattle.std.proofs.Common.{◌≡◌, refl, sym, subst, List, [], ◌∷◌, map, Option, Some, None}
 use Rattle.c_syntax.specs.Ctypes.{PlainType}
 use Rattle.c_syntax.specs.Logic.{ClauseBody, Raw, Holds, Annotation}
 use Rattle.c_syntax.specs.Statements.{Statement, Empty, Eval, Block, If, While, Do, For, Break, Continue, Return, ElsePart, NoElse, Else, BlockItem, Declare, Run, Asserts, BlockItems, NoItem, Then}
@@ -10,7 +10,7 @@ use Rattle.c_model.specs.ExpressionTyping.{Sight, inner}
 use Rattle.c_model.specs.StatementTyping.{Around, in_loop, behind, behind_first}
 use Rattle.c_model.specs.UnitTyping.{FileItem, StructHead, Member, AnEnum, ATypedef, AGlobal, AFunction, items_of_file, sight_with, with_function, with_parameters, behind_item}
 use Rattle.c_model.specs.PredicateTyping.{typed_annotations}
-use Rattle.c_model.specs.AnnotationTyping.{noted_statement, noted_else, noted_item, noted_items, noted_body, noted_function, noted_functions, noted_unit}
+use Rattle.c_model.specs.AnnotationTyping.{noted_statement, noted_else, noted_item, noted_items, noted_body, known_before, known_at, noted_function, noted_functions, noted_unit}
 use Rattle.c_model.specs.TypedTrees.{StatementTyped, ElseTyped, ItemTyped, ItemsTyped, around_body, BodyTyped, FunctionTyped}
 use Rattle.c_model.specs.TypedPredicates.{AnnotationsTyped, IsRead, AreRead}
 use Rattle.c_model.specs.TypedAnnotations.{StatementNoted, ElseNoted, ItemNoted, ItemsNoted, BodyNoted, FunctionNoted, FunctionsNoted}
@@ -19,6 +19,7 @@ use Rattle.c_model.specs.EffectPlaces.{StatementPlaced, ElsePlaced, ItemPlaced, 
 use Rattle.c_model.specs.ReadTree.{BodyRead, FunctionRead, FunctionsRead, functions_among}
 use Rattle.c_model.proofs.TypedParts.{Gives, gives_of, gives_one, gives_if}
 use Rattle.c_model.proofs.PredicateTrees.{annotations_well}
+use Rattle.c_model.proofs.NotedWider.{function_wider}
 
 -- ---- annotations
 
@@ -45,77 +46,77 @@ annotations_noted s annots = gives_if (AreRead annots) (AnnotationsTyped s) (typ
 -- b is a with typed annotations
 record IsNoted (s : Sight) (a b : Statement) : Type 0 where
   noted : StatementPlaced AreReadAsserts a → StatementNoted s b
-  kept : (r : Around) → StatementTyped s r a → StatementTyped s r b
+  kept : (u : Sight) (r : Around) → StatementTyped u r a → StatementTyped u r b
 
 record IsElseNoted (s : Sight) (a b : ElsePart) : Type 0 where
   noted : ElsePlaced AreReadAsserts a → ElseNoted s b
-  kept : (r : Around) → ElseTyped s r a → ElseTyped s r b
+  kept : (u : Sight) (r : Around) → ElseTyped u r a → ElseTyped u r b
 
 record IsItemNoted (s : Sight) (a b : BlockItem) : Type 0 where
   noted : ItemPlaced AreReadAsserts a → ItemNoted s b
-  kept : (r : Around) → ItemTyped s r a → ItemTyped s r b
-  sight : behind s b ≡ behind s a
+  kept : (u : Sight) (r : Around) → ItemTyped u r a → ItemTyped u r b
+  sight : (u : Sight) → behind u b ≡ behind u a
 
 record AreNoted (s : Sight) (a b : BlockItems) : Type 0 where
   noted : ItemsPlaced AreReadAsserts a → ItemsNoted s b
-  kept : (r : Around) → ItemsTyped s r a → ItemsTyped s r b
+  kept : (u : Sight) (r : Around) → ItemsTyped u r a → ItemsTyped u r b
 
 mutual
   statement_noted : (s : Sight) (a : Statement) → Gives (IsNoted s a) (noted_statement s a)
-  statement_noted s (Empty at) = record { noted = λ p. tt; kept = λ r w. w }
-  statement_noted s (Eval at e) = record { noted = λ p. tt; kept = λ r w. w }
+  statement_noted s (Empty at) = record { noted = λ p. tt; kept = λ u r w. w }
+  statement_noted s (Eval at e) = record { noted = λ p. tt; kept = λ u r w. w }
   statement_noted s (Block at items) =
-      gives_one (AreNoted (inner s) items) (IsNoted s (Block at items)) (noted_items (inner s) items) (λ items. Good (Block at items)) (items_noted (inner s) items) (λ b w. record { noted = w.noted; kept = w.kept })
+      gives_one (AreNoted (inner s) items) (IsNoted s (Block at items)) (noted_items (inner s) items) (λ items. Good (Block at items)) (items_noted (inner s) items) (λ b w. record { noted = w.noted; kept = λ u. w.kept (inner u) })
   statement_noted s (If at e a b) =
       gives_one (IsNoted s a) (IsNoted s (If at e a b)) (noted_statement s a) (λ a. one_part (noted_else s b) (λ b. Good (If at e a b))) (statement_noted s a) (λ c v.
       gives_one (IsElseNoted s b) (IsNoted s (If at e a b)) (noted_else s b) (λ b. Good (If at e c b)) (else_noted s b) (λ d w.
-      record { noted = λ p. (v.noted p.1, w.noted p.2); kept = λ r h. (h.0, v.kept r h.1, w.kept r h.2) }))
+      record { noted = λ p. (v.noted p.1, w.noted p.2); kept = λ u r h. (h.0, v.kept u r h.1, w.kept u r h.2) }))
   statement_noted s (While at annots e a) =
       gives_one (WellNoted s annots) (IsNoted s (While at annots e a)) (typed_annotations s annots) (λ annots. one_part (noted_statement s a) (λ a. Good (While at annots e a))) (annotations_noted s annots) (λ n v.
       gives_one (IsNoted s a) (IsNoted s (While at annots e a)) (noted_statement s a) (λ a. Good (While at n e a)) (statement_noted s a) (λ c w.
-      record { noted = λ p. (v (none_read annots p.0), w.noted p.2); kept = λ r h. (h.0, w.kept (in_loop r) h.1) }))
+      record { noted = λ p. (v (none_read annots p.0), w.noted p.2); kept = λ u r h. (h.0, w.kept u (in_loop r) h.1) }))
   statement_noted s (Do at a e) =
       gives_one (IsNoted s a) (IsNoted s (Do at a e)) (noted_statement s a) (λ a. Good (Do at a e)) (statement_noted s a) (λ c w.
-      record { noted = λ p. w.noted p.0; kept = λ r h. (w.kept (in_loop r) h.0, h.1) })
+      record { noted = λ p. w.noted p.0; kept = λ u r h. (w.kept u (in_loop r) h.0, h.1) })
   statement_noted s (For at annots first e step a) =
       gives_one (WellNoted s annots) (IsNoted s (For at annots first e step a)) (typed_annotations s annots)
       (λ annots. one_part (noted_statement (behind_first (inner s) first) a) (λ a. Good (For at annots first e step a))) (annotations_noted s annots) (λ n v.
       gives_one (IsNoted (behind_first (inner s) first) a) (IsNoted s (For at annots first e step a)) (noted_statement (behind_first (inner s) first) a) (λ a. Good (For at n first e step a)) (statement_noted (behind_first (inner s) first) a) (λ c w.
-      record { noted = λ p. (v (none_read annots p.0), w.noted p.4); kept = λ r h. (h.0, h.1, h.2, w.kept (in_loop r) h.3) }))
-  statement_noted s (Break at) = record { noted = λ p. tt; kept = λ r w. w }
-  statement_noted s (Continue at) = record { noted = λ p. tt; kept = λ r w. w }
-  statement_noted s (Return at e) = record { noted = λ p. tt; kept = λ r w. w }
+      record { noted = λ p. (v (none_read annots p.0), w.noted p.4); kept = λ u r h. (h.0, h.1, h.2, w.kept (behind_first (inner u) first) (in_loop r) h.3) }))
+  statement_noted s (Break at) = record { noted = λ p. tt; kept = λ u r w. w }
+  statement_noted s (Continue at) = record { noted = λ p. tt; kept = λ u r w. w }
+  statement_noted s (Return at e) = record { noted = λ p. tt; kept = λ u r w. w }
 
   else_noted : (s : Sight) (b : ElsePart) → Gives (IsElseNoted s b) (noted_else s b)
-  else_noted s NoElse = record { noted = λ p. tt; kept = λ r w. w }
+  else_noted s NoElse = record { noted = λ p. tt; kept = λ u r w. w }
   else_noted s (Else a) = gives_one (IsNoted s a) (IsElseNoted s (Else a)) (noted_statement s a) (λ a. Good (Else a)) (statement_noted s a) (λ c w. record { noted = w.noted; kept = w.kept })
 
   item_noted : (s : Sight) (i : BlockItem) → Gives (IsItemNoted s i) (noted_item s i)
-  item_noted s (Declare ds) = record { noted = λ p. tt; kept = λ r w. w; sight = refl }
-  item_noted s (Run a) = gives_one (IsNoted s a) (IsItemNoted s (Run a)) (noted_statement s a) (λ a. Good (Run a)) (statement_noted s a) (λ c w. record { noted = w.noted; kept = w.kept; sight = refl })
+  item_noted s (Declare ds) = record { noted = λ p. tt; kept = λ u r w. w; sight = λ u. refl }
+  item_noted s (Run a) = gives_one (IsNoted s a) (IsItemNoted s (Run a)) (noted_statement s a) (λ a. Good (Run a)) (statement_noted s a) (λ c w. record { noted = w.noted; kept = w.kept; sight = λ u. refl })
   item_noted s (Asserts annots) =
       gives_one (WellNoted s annots) (IsItemNoted s (Asserts annots)) (typed_annotations s annots) (λ annots. Good (Asserts annots)) (annotations_noted s annots) (λ n w.
-      record { noted = λ p. w (are_read annots p); kept = λ r h. tt; sight = refl })
+      record { noted = λ p. w (are_read annots p); kept = λ u r h. tt; sight = λ u. refl })
 
   items_noted : (s : Sight) (items : BlockItems) → Gives (AreNoted s items) (noted_items s items)
-  items_noted s NoItem = record { noted = λ p. tt; kept = λ r w. w }
+  items_noted s NoItem = record { noted = λ p. tt; kept = λ u r w. w }
   items_noted s (Then i rest) =
       gives_one (IsItemNoted s i) (AreNoted s (Then i rest)) (noted_item s i) (λ i. one_part (noted_items (behind s i) rest) (λ rest. Good (Then i rest))) (item_noted s i) (λ j v.
       gives_one (AreNoted (behind s j) rest) (AreNoted s (Then i rest)) (noted_items (behind s j) rest) (λ rest. Good (Then j rest)) (items_noted (behind s j) rest) (λ more w.
-      record { noted = λ p. (v.noted p.0, w.noted p.1); kept = λ r h. (v.kept r h.0, w.kept r (subst (λ t. ItemsTyped t r rest) (sym v.sight) h.1)) }))
+      record { noted = λ p. (v.noted p.0, w.noted p.1); kept = λ u r h. (v.kept u r h.0, w.kept (behind u j) r (subst (λ t. ItemsTyped t r rest) (sym (v.sight u)) h.1)) }))
 
 -- ---- functions
 
 record IsBodyNoted (s : Sight) (t : PlainType) (a b : Option Statement) : Type 0 where
   noted : BodyRead AreReadAsserts a → BodyNoted s b
-  kept : BodyTyped s t a → BodyTyped s t b
+  kept : (u : Sight) → BodyTyped u t a → BodyTyped u t b
 
 body_noted : (s : Sight) (t : PlainType) (b : Option Statement) → Gives (IsBodyNoted s t b) (noted_body s b)
-body_noted s t None = record { noted = λ p. tt; kept = λ h. h }
+body_noted s t None = record { noted = λ p. tt; kept = λ u h. h }
 body_noted s t (Some (Block at items)) =
     gives_one (AreNoted s items) (IsBodyNoted s t (Some (Block at items))) (noted_items s items) (λ items. Good (Some (Block at items))) (items_noted s items) (λ b w.
-    record { noted = λ p. w.noted p.0; kept = w.kept (around_body t) })
-body_noted s t (Some _) = record { noted = λ p. tt; kept = λ h. h }
+    record { noted = λ p. w.noted p.0; kept = λ u. w.kept u (around_body t) })
+body_noted s t (Some _) = record { noted = λ p. tt; kept = λ u h. h }
 
 -- a function whose asserts are typed
 pub record IsFunctionNoted (s : Sight) (f g : Function) : Type 0 where
@@ -124,11 +125,13 @@ pub record IsFunctionNoted (s : Sight) (f g : Function) : Type 0 where
 
 pub function_noted : (s : Sight) (f : Function) → Gives (IsFunctionNoted s f) (noted_function s f)
 function_noted s f =
-    gives_one (IsBodyNoted (with_parameters (inner s) f.params) f.result f.body) (IsFunctionNoted s f) (noted_body (with_parameters (inner s) f.params) f.body) (λ b. Good (record f { body = b }))
-    (body_noted (with_parameters (inner s) f.params) f.result f.body) (λ b w. record {
-      noted = λ p. w.noted p.body;
-      kept = λ h. record { own_name = h.own_name; result = h.result; params = h.params; body = w.kept h.body };
+    gives_one (IsBodyNoted seen f.result f.body) (IsFunctionNoted s f) (noted_body seen f.body) (λ b. Good (record f { body = b })) (body_noted seen f.result f.body) (λ b w. record {
+      noted = λ p. function_wider (map (known_before f.place) s.structs) s.levels s.enum_tags s.enums s (record f { body = b }) (w.noted p.body);
+      kept = λ h. record { own_name = h.own_name; result = h.result; params = h.params; body = w.kept (with_parameters (inner s) f.params) h.body };
     })
+  where
+    seen : Sight
+    seen = with_parameters (inner (known_at f.place s)) f.params
 
 functions_noted : (p : TranslationUnit) (s : Sight) (is : List FileItem) → FunctionsRead AreReadAsserts (functions_among is) → Gives (FunctionsNoted p s is) (noted_functions p s is)
 functions_noted p s [] r = refl

@@ -1,7 +1,7 @@
 -- What is known of an accepted program is known of it with ranges, and it means the same.
-use Rattle.std.proofs.Common.{◌≡◌, ℕ, suc, ◌<◌, ◌^◌, List, [], ◌∷◌, map, length, Option, Some, None, option_map, refl, sym, ap, ◌∙◌, subst}
+use Rattle.std.proofs.Common.{◌≡◌, ◌<◌, ◌^◌, map, length, None, sym, ap, ◌∙◌, subst}
 use Rattle.c_syntax.specs.Programs.{TranslationUnit}
-use Rattle.c_model.specs.UnitTyping.{FileItem, items_of_file, sight_with, room_fault, main_fault}
+use Rattle.c_model.specs.UnitTyping.{items_of_file, sight_with, room_fault, main_fault}
 use Rattle.c_model.specs.TypedPrograms.{ProgramTyped, ItemsTyped}
 use Rattle.c_model.specs.FullExpressions.{EachDeclared, EachInFunctions}
 use Rattle.c_model.specs.Sizes.{IsSmall}
@@ -13,7 +13,7 @@ use Rattle.c_model.specs.AcceptedPrograms.{AreConstant, IsProgram}
 use Rattle.c_model.specs.UnrangedPrograms.{unranged_unit, RangedProgramsArePrograms}
 use Rattle.c_model.proofs.UnrangedTerms.{Alike, alike, itself}
 use Rattle.c_model.proofs.UnrangedFunctions.{functions_read, functions_named, functions_each, same_length, same_main}
-use Rattle.c_model.proofs.UnrangedFiles.{unranged_item, same_items, same_numbers_of_items, file_noted, file_typed, file_resolved}
+use Rattle.c_model.proofs.UnrangedFiles.{same_items, same_numbers_of_items, file_noted, file_typed, file_resolved}
 use Rattle.c_model.proofs.RangedStatements.{ranging_keeps_units}
 
 -- what is the same without ranges is kept

@@ -1,12 +1,12 @@
 -- Statements, functions and files with ranges are the same but for these, each of which is right.
 use Rattle.std.proofs.Common.{◌≡◌, List, [], ◌∷◌, map, Option, Some, None, option_map, refl, ap}
 use Rattle.c_syntax.specs.Statements.{Statement, Empty, Eval, Block, If, While, Do, For, Break, Continue, Return, ElsePart, NoElse, Else, BlockItem, Declare, Run, Asserts, BlockItems, NoItem, Then}
-use Rattle.c_syntax.specs.Programs.{Function, TranslationUnit}
+use Rattle.c_syntax.specs.Programs.{Function}
 use Rattle.c_model.specs.Checked.{Good, one_part}
 use Rattle.c_model.specs.TermRanges.{ranged_annotations}
 use Rattle.c_model.specs.AnnotationRanges.{ranged_statement, ranged_else, ranged_item, ranged_items, ranged_body, ranged_function, ranged_functions, ranged_unit}
-use Rattle.c_model.specs.Unranged.{unranged_annotations, AreRangedAnnotations}
-use Rattle.c_model.specs.UnrangedPrograms.{unranged_statement, unranged_else, unranged_item, unranged_items, unranged_function, unranged_unit}
+use Rattle.c_model.specs.Unranged.{AreRangedAnnotations}
+use Rattle.c_model.specs.UnrangedPrograms.{unranged_statement, unranged_else, unranged_item, unranged_items, unranged_function}
 use Rattle.c_model.specs.UnrangedPrograms.{StatementRanged, ElseRanged, ItemRanged, ItemsRanged, BodyRanged, FunctionRanged, FunctionsRanged, IsRangedUnit, RangingKeepsUnits}
 use Rattle.c_model.proofs.TypedParts.{Gives, gives_of, gives_one}
 use Rattle.c_model.proofs.RangedTrees.{annotations_ranged}

@@ -130,7 +130,7 @@ module _ (new : List StructType) (levels tags enums : List ℕ)
     objects_structs s [] = refl
     objects_structs s (d ∷ ds) = objects_structs (with_object s d) ds
 
-    behind_last : (s : Sight) (i : BlockItem) → behind (at_last s) i ≡ at_last (behind s i)
+    pub behind_last : (s : Sight) (i : BlockItem) → behind (at_last s) i ≡ at_last (behind s i)
     behind_last s (Declare ds) = objects_last s ds
     behind_last s (Run a) = refl
     behind_last s (Asserts annots) = refl
@@ -140,7 +140,7 @@ module _ (new : List StructType) (levels tags enums : List ℕ)
     behind_structs s (Run a) = refl
     behind_structs s (Asserts annots) = refl
 
-    first_last : (s : Sight) (i : ForFirst) → behind_first (at_last s) i ≡ at_last (behind_first s i)
+    pub first_last : (s : Sight) (i : ForFirst) → behind_first (at_last s) i ≡ at_last (behind_first s i)
     first_last s NoFirst = refl
     first_last s (First i) = behind_last s i
 
@@ -220,7 +220,7 @@ module _ (new : List StructType) (levels tags enums : List ℕ)
         by true = refl
         by false = refl
 
-    parameters_last : (s : Sight) (ds : List Declaration) → with_parameters (at_last s) ds ≡ at_last (with_parameters s ds)
+    pub parameters_last : (s : Sight) (ds : List Declaration) → with_parameters (at_last s) ds ≡ at_last (with_parameters s ds)
     parameters_last s [] = refl
     parameters_last s (d ∷ ds) = ap (λ s. with_parameters s ds) (parameter_last s d) ∙ parameters_last (with_parameter s d) ds
 

@@ -1,14 +1,13 @@
 -- A struct that is assigned has the bytes of each scalar of the other struct, with their kinds, and so the values.
-use Rattle.std.proofs.Common.{◌≡◌, ℕ, zero, suc, ◌+◌, ◌-◌, ◌≤◌, ◌≢◌, Bool, true, false, if◌then◌else◌, nat_eq, nat_lt, map, List, [], ◌∷◌, ◌++◌, length, take, drop, Option, Some, None, option_map, slice_get, refl, sym, ap, ◌∙◌, subst}
+use Rattle.std.proofs.Common.{◌≡◌, ℕ, zero, suc, ◌+◌, ◌-◌, ◌≤◌, ◌≢◌, Bool, true, false, if◌then◌else◌, nat_eq, nat_lt, map, List, [], ◌∷◌, length, take, drop, Option, Some, None, option_map, slice_get, refl, sym, ap, ◌∙◌, subst}
 use Rattle.std.proofs.Common.{arith}
 use Rattle.std.proofs.lemmas.List.{drop-take, take-take, drop-drop}
-use Rattle.c_syntax.specs.declared.types.CInt.{CInt}
 use Rattle.c_model.specs.Integers.{value_of_bits}
 use Rattle.c_syntax.specs.Ctypes.{PlainType}
 use Rattle.c_syntax.specs.Programs.{StructType}
-use Rattle.c_syntax.specs.Layouts.{int_size, Scalar, IntegerType, PointerType, scalar_size, size_of, scalars_of}
+use Rattle.c_syntax.specs.Layouts.{Scalar, IntegerType, PointerType, scalar_size, size_of, scalars_of}
 use Rattle.c_model.specs.TypedPrograms.{AreLaidOut}
-use Rattle.c_model.specs.Memory.{Pointer, Null, Into, Value, Integer, Points, Byte, Unwritten, Number, Piece, LoosePiece, with_low_byte, number_of, pointer_of, value_from, loosened, copied, Block, Store, block_at, is_accessible, bytes_in, load_bytes}
+use Rattle.c_model.specs.Memory.{Pointer, Null, Into, Integer, Points, Byte, Unwritten, Number, Piece, LoosePiece, with_low_byte, number_of, pointer_of, value_from, loosened, copied, Store, is_accessible, bytes_in, load_bytes}
 use Rattle.c_model.specs.Memory.{with_bytes}
 use Rattle.c_model.specs.Memory.{save_bytes, shifted, ◌>>=◌, copy, copy_all}
 use Rattle.c_model.specs.Laws.{AreWhole}

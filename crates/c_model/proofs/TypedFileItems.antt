@@ -6,7 +6,7 @@ use Rattle.c_model.specs.Checked.{Checked, Good, Bad, one_part}
 use Rattle.c_model.specs.ExpressionTyping.{Sight}
 use Rattle.c_model.specs.DeclarationTyping.{typed_global, typed_typedef, typed_member, typed_member_type, with_member, typed_enumerators}
 use Rattle.c_model.specs.UnitTyping.{FileItem, StructHead, Member, AnEnum, ATypedef, AGlobal, AFunction, with_function, typed_function, Progress, new_tag}
-use Rattle.c_model.specs.UnitTyping.{typed_item_of_file, typed_items_of_file, at_start, items_of_file, sight_with, with_progress, typed_unit, behind_item, tags_of}
+use Rattle.c_model.specs.UnitTyping.{typed_item_of_file, typed_items_of_file, at_start, items_of_file, sight_with, with_progress, typed_unit, with_enum_tag, behind_item, tags_of}
 use Rattle.c_model.specs.PlacedTrees.{FileItemPlaced, FilePlaced, MembersInOrder}
 use Rattle.c_model.specs.TextOrder.{enums_among, typedefs_among, globals_among, functions_among, InTextOrder}
 use Rattle.c_model.specs.TypedPrograms.{ItemTyped, ItemsTyped}
@@ -20,10 +20,10 @@ use Rattle.c_model.proofs.TypedFunctions.{IsFunctionThen, function_typed}
 use Rattle.c_model.proofs.ReadStatements.{global_as, typedef_as, enumerators_as, function_as}
 use Rattle.c_model.proofs.TypedUnits.{first_sight_whole, gives_two, StandsThen, item_stands}
 use Rattle.c_model.proofs.StableConstants.{Grows}
-use Rattle.c_model.proofs.StableStatements.{AreSized, Widens, at_last, declared_kept, function_kept}
+use Rattle.c_model.proofs.StableStatements.{AreSized, Widens, declared_kept, function_kept}
 use Rattle.c_model.proofs.GrownStructs.{AreKnown, grows_by}
 use Rattle.c_model.proofs.TypedBelow.{ended_after, first_in_order, rest_in_order, GrownBy, item_grown, first_known}
-use Rattle.c_model.proofs.TypedFileSights.{SeesEnumerators, enumerators_seen}
+use Rattle.c_model.proofs.TypedFileSights.{with_whole, SeesEnumerators, enumerators_seen}
 
 -- ---- lists of declarations, behind an item
 
@@ -94,10 +94,10 @@ record IsItem (p : TranslationUnit) (r : Progress) (i : FileItem) (q : Progress)
   item : FileItem
   read : FileItemTypedAs i item
   declares : Declares r item q
-  typed : (new : List StructType) (levels tags : List ℕ) → IsWider r.sight.structs new → ItemTyped p (at_last new levels tags [] r.sight) item
+  typed : (new : List StructType) (levels tags : List ℕ) → IsWider r.sight.structs new → ItemTyped p (with_whole new levels tags r.sight) item
   behind : (new : List StructType) (levels tags : List ℕ) → IsWider r.sight.structs new
-      → at_last new levels tags [] q.sight ≡ behind_item p (at_last new levels tags [] r.sight) item
-  enumerators : (new : List StructType) (levels tags : List ℕ) → IsWider r.sight.structs new → ItemEnumerators (at_last new levels tags [] r.sight) item
+      → with_whole new levels tags q.sight ≡ behind_item p (with_whole new levels tags r.sight) item
+  enumerators : (new : List StructType) (levels tags : List ℕ) → IsWider r.sight.structs new → ItemEnumerators (with_whole new levels tags r.sight) item
 
 widens : (old new : List StructType) → IsWider old new → Widens old new
 widens old new w = record { grows = w.grows; members = λ n x e z. w.members n x e }
@@ -113,7 +113,7 @@ is_item p r w (StructHead k s) o = gives_one (λ u. Unit {0}) (IsItem p r (Struc
 })
 is_item p r w (Member k m ends) o = by (slice_get r.sight.structs k)
   where
-    kept : (s : Sight) → ((new : List StructType) (levels tags : List ℕ) → at_last new levels tags [] s ≡ at_last new levels tags [] r.sight)
+    kept : (s : Sight) → ((new : List StructType) (levels tags : List ℕ) → with_whole new levels tags s ≡ with_whole new levels tags r.sight)
         → IsItem p r (Member k m ends) (record r { sight = s })
     kept s h = record {
       item = Member k m ends;
@@ -129,9 +129,9 @@ is_item p r w (Member k m ends) o = by (slice_get r.sight.structs k)
       | Some struct ↦ one_part (typed_member r.sight k struct m ends) (λ s. Good (record r { sight = s }))
     ])
     by None = kept r.sight (λ new levels tags. refl)
-    by (Some x) = gives_one (λ (s : Sight). (new : List StructType) (levels tags : List ℕ) → at_last new levels tags [] s ≡ at_last new levels tags [] r.sight) (IsItem p r (Member k m ends))
+    by (Some x) = gives_one (λ (s : Sight). (new : List StructType) (levels tags : List ℕ) → with_whole new levels tags s ≡ with_whole new levels tags r.sight) (IsItem p r (Member k m ends))
         (typed_member r.sight k x m ends) (λ s. Good (record r { sight = s }))
-        (gives_both (λ u. Unit {0}) (λ t. Unit {0}) (λ (s : Sight). (new : List StructType) (levels tags : List ℕ) → at_last new levels tags [] s ≡ at_last new levels tags [] r.sight)
+        (gives_both (λ u. Unit {0}) (λ t. Unit {0}) (λ (s : Sight). (new : List StructType) (levels tags : List ℕ) → with_whole new levels tags s ≡ with_whole new levels tags r.sight)
         _ (typed_member_type r.sight x m) (λ n t. Good (with_member r.sight k x t m ends)) (anything _) (anything _) (λ n t u v new levels tags. refl))
         (λ s h. kept s h)
 is_item p r w (AnEnum e) o = gives_one (λ u. Unit {0}) (IsItem p r (AnEnum e)) (new_tag r.tags e.place e.tag) _ (anything _) (λ u v.
@@ -142,7 +142,7 @@ is_item p r w (AnEnum e) o = gives_one (λ u. Unit {0}) (IsItem p r (AnEnum e)) 
       read = (record e { items = x.1 }, refl, record { place = refl; tag = refl; items = h.1 });
       declares = record { enums = refl; typedefs = refl; globals = refl; functions = refl };
       typed = λ new levels tags g. tt;
-      behind = λ new levels tags g. (h.0 new levels tags g.grows).0;
+      behind = λ new levels tags g. ap (λ s. with_enum_tag s e.tag) (h.0 new levels tags g.grows).0;
       enumerators = λ new levels tags g. (h.0 new levels tags g.grows).1;
     }))
 is_item p r w (ATypedef d) o = gives_one (SameDeclaration d) (IsItem p r (ATypedef d)) (typed_typedef r.sight d) _ (typedef_as r.sight d) (λ x v. record {
@@ -158,7 +158,7 @@ is_item p r w (AGlobal d) o = gives_one (λ x. IsDeclaredThen r.sight x × Decla
       item = AGlobal x;
       read = (x, refl, v.1);
       declares = record { enums = refl; typedefs = refl; globals = refl; functions = refl };
-      typed = λ new levels tags g. declared_kept new levels tags [] r.sight (widens r.sight.structs new g) x v.0.declared;
+      typed = λ new levels tags g. declared_kept new levels tags r.sight.enums r.sight (widens r.sight.structs new g) x v.0.declared;
       behind = λ new levels tags g. refl;
       enumerators = λ new levels tags g. tt;
     })
@@ -167,7 +167,7 @@ is_item p r w (AFunction f) o = gives_one (λ x. IsFunctionThen p r.sight x × F
       item = AFunction x;
       read = (x, refl, v.1);
       declares = record { enums = refl; typedefs = refl; globals = refl; functions = refl };
-      typed = λ new levels tags g. function_kept new levels tags [] (with_function p r.sight x) (widens r.sight.structs new g) x v.0.typed;
+      typed = λ new levels tags g. function_kept new levels tags r.sight.enums (with_function p r.sight x) (widens r.sight.structs new g) x v.0.typed;
       behind = λ new levels tags g. refl;
       enumerators = λ new levels tags g. tt;
     })
@@ -187,8 +187,8 @@ record AreItems (p : TranslationUnit) (r : Progress) (is : List FileItem) (q : P
   typedefs : q.typedefs ≡ r.typedefs ++ typedefs_among items
   globals : q.globals ≡ r.globals ++ globals_among items
   functions : q.funcs ≡ r.funcs ++ functions_among items
-  typed : (levels tags : List ℕ) → ItemsTyped p (at_last q.sight.structs levels tags [] r.sight) items
-  values : (levels tags : List ℕ) → SeesToEnd p (at_last q.sight.structs levels tags [] r.sight) items
+  typed : (levels tags : List ℕ) → ItemsTyped p (with_whole q.sight.structs levels tags r.sight) items
+  values : (levels tags : List ℕ) → SeesToEnd p (with_whole q.sight.structs levels tags r.sight) items
 
 no_more : (p : TranslationUnit) (r : Progress) → IsWholeSight r.sight → AreItems p r [] r
 no_more p r w = record {

@@ -18,13 +18,16 @@ use Rattle.c_model.proofs.TypedSoundness.{typed_sound}
 use Rattle.c_model.proofs.TypedDeclarations.{anything, after_entity}
 use Rattle.c_model.proofs.StableConstants.{Grows, constant_kept}
 use Rattle.c_model.proofs.StableTrees.{well_kept}
-use Rattle.c_model.proofs.StableStatements.{at_last}
+
+-- what is in sight, where all structs, their levels and the tags of all enums of the file are known
+abbrev pub with_whole : List StructType → List ℕ → List ℕ → Sight → Sight
+with_whole new levels tags s = record s { structs = new; levels = levels; enum_tags = tags }
 
 -- an enumerator's value, which an `int` holds, and which it has where more is known, where its constant is typed as well
 record IsValueKept (s : Sight) (next : ℤ) (v : ℤ × Option Expression) : Type 0 where
   holds : fits I32 v.0 ≡ true
-  kept : (new : List StructType) (levels tags : List ℕ) → Grows s.structs new → value_typed (at_last new levels tags [] s) next v.1 ≡ v.0
-  typed : (new : List StructType) (levels tags : List ℕ) → Grows s.structs new → WhereAny (WellTyped (at_last new levels tags [] s)) v.1
+  kept : (new : List StructType) (levels tags : List ℕ) → Grows s.structs new → value_typed (with_whole new levels tags s) next v.1 ≡ v.0
+  typed : (new : List StructType) (levels tags : List ℕ) → Grows s.structs new → WhereAny (WellTyped (with_whole new levels tags s)) v.1
 
 value_well : (s : Sight) → IsWholeSight s → (e : Expression) → Gives (WellTyped s) (decayed_of (typed s e))
 value_well s w e = gives_one (Sound s) (WellTyped s) (typed s e) (λ e. Good (decayed e)) (typed_sound s w.known e) (λ e h. (decayed_sound s e h).sound.well)
@@ -37,14 +40,14 @@ value_kept s w at next (Some e) =
     gives_where (IsValueKept s next) (fits I32 z) _ _ (λ f. record {
       holds = f;
       kept = λ new levels tags g. ap (λ (o : Option ℤ). elim o [ None ↦ next | Some z ↦ z ]) (constant_kept s new g x z v c);
-      typed = λ new levels tags g. well_kept s new levels tags [] g x v;
+      typed = λ new levels tags g. well_kept s new levels tags s.enums g x v;
     })))
 
 -- what is in sight behind enumerators, and the values of these
 abbrev pub SeesEnumerators : Sight → ℤ → Sight × List EnumConstant → Type 0
 SeesEnumerators s next x =
     (new : List StructType) (levels tags : List ℕ) → Grows s.structs new
-    → (at_last new levels tags [] x.0 ≡ with_enumerators (at_last new levels tags [] s) next x.1) × EnumeratorsTyped (at_last new levels tags [] s) next x.1
+    → (with_whole new levels tags x.0 ≡ with_enumerators (with_whole new levels tags s) next x.1) × EnumeratorsTyped (with_whole new levels tags s) next x.1
 
 pub enumerators_seen : (s : Sight) → IsWholeSight s → (next : ℤ) (es : List EnumConstant) → Gives (SeesEnumerators s next) (typed_enumerators s next es)
 enumerators_seen s w next [] = λ new levels tags g. (refl, tt)
@@ -56,7 +59,7 @@ enumerators_seen s w next (e ∷ es) =
     gives_one (SeesEnumerators (with_enumerator s e.name v.0) (v.0 +ℤ pos 1)) (SeesEnumerators s next) (typed_enumerators (with_enumerator s e.name v.0) (v.0 +ℤ pos 1) es) _
     (enumerators_seen (with_enumerator s e.name v.0) (after_entity s w (AnEnumerator (record { name = e.name; value = v.0 })) h.holds) (v.0 +ℤ pos 1) es)
     (λ x k new levels tags g.
-    let here = with_enumerator (at_last new levels tags [] s) e.name in
+    let here = with_enumerator (with_whole new levels tags s) e.name in
     let kept = sym (h.kept new levels tags g) in (
       (k new levels tags g).0 ∙ ap (λ z. with_enumerators (here z) (z +ℤ pos 1) x.1) kept,
       (

@@ -3,7 +3,7 @@ use Rattle.std.proofs.Common.{◌≡◌, ℕ, suc, ◌&&◌, Bool, true, false, 
 use Rattle.c_syntax.specs.Statements.{Declaration}
 use Rattle.c_syntax.specs.Programs.{StructMember, StructType, EnumType, Function, TranslationUnit}
 use Rattle.c_model.specs.Meaning.{is_definition, definition_at}
-use Rattle.c_model.specs.ExpressionTyping.{Signature, Sight, function_called}
+use Rattle.c_model.specs.ExpressionTyping.{Signature, Sight}
 use Rattle.c_model.specs.UnitTyping.{FileItem, StructHead, Member, AnEnum, ATypedef, AGlobal, AFunction, offset_of_item, member_items, struct_items, inserted, in_order, items_of_file, with_function, behind_item, types_of}
 use Rattle.c_model.specs.TextOrder.{numbers_of_item, numbers_of_items}
 use Rattle.c_model.specs.TypedTrees.{FunctionTyped}
@@ -11,7 +11,7 @@ use Rattle.c_model.specs.TypedAnnotations.{FunctionNoted}
 use Rattle.c_model.specs.TypedPrograms.{ItemTyped, ItemsTyped}
 use Rattle.c_model.specs.FileItems.{ItemNoted, FileNoted, IsDefined, AreDefined, ItemResolved, FileResolved}
 use Rattle.c_model.specs.UnrangedPrograms.{unranged_function, unranged_unit}
-use Rattle.c_model.proofs.UnrangedTerms.{Alike, alike, itself, beside}
+use Rattle.c_model.proofs.UnrangedTerms.{Alike, itself, beside}
 use Rattle.c_model.proofs.UnrangedFunctions.{function_typed, function_noted, same_numbers, same_definition, same_signature}
 
 -- ---- the items of a file

@@ -6,7 +6,7 @@ use Rattle.c_syntax.specs.declared.expression.Use.{Use}
 use Rattle.c_syntax.specs.Statements.{Statement}
 use Rattle.c_syntax.specs.Programs.{Function, TranslationUnit}
 use Rattle.c_model.specs.Memory.{Value}
-use Rattle.c_model.specs.State.{Scope, Input, State, Over, Spent, Fault, Undefined, Outcome, Evaluation, ◌>>◌, step, stop, frame, alone, mark, births, within}
+use Rattle.c_model.specs.State.{Scope, Input, ◌>>◌, step, frame, alone, mark, births, within}
 use Rattle.c_model.specs.Meaning.{Tables, Callee, is_definition, is_of_library, library_call, definition_at, returned_by, parameters, body_with, call_with, main_with, tables_of, global_scope, call_of, has_name, function_named, initialise_all}
 use Rattle.c_model.specs.Meaning.{start, whole, ran, run}
 use Rattle.c_model.specs.UnrangedPrograms.{unranged_statement, unranged_function, unranged_unit, RangesKeepRuns}

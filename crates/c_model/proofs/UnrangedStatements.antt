@@ -1,19 +1,16 @@
 -- What is known of statements doesn't look at the ranges of their annotations: it is the same without them.
-use Rattle.std.proofs.Common.{◌≡◌, ℕ, ◌+◌, max, List, ◌++◌, Option, Some, None, refl, ap, ◌∙◌}
+use Rattle.std.proofs.Common.{◌≡◌, ℕ, ◌+◌, max, ◌++◌, Some, None, refl, ap, ◌∙◌}
 use Rattle.c_syntax.specs.Expressions.{Expression}
-use Rattle.c_syntax.specs.Statements.{Declaration, Statement, Empty, Eval, Block, If, While, Do, For, Break, Continue, Return, ElsePart, NoElse, Else, BlockItem, Declare, Run, Asserts, BlockItems, NoItem, Then}
-use Rattle.c_model.specs.Library.{is_there}
-use Rattle.c_model.specs.State.{Evaluation, Breaks, Continues, Returns, Leaves, ◌>>=◌, ◌>>◌, done, stop, births, within}
+use Rattle.c_syntax.specs.Statements.{Statement, Empty, Eval, Block, If, While, Do, For, Break, Continue, Return, ElsePart, NoElse, Else, BlockItem, Declare, Run, Asserts, BlockItems, NoItem, Then}
+use Rattle.c_model.specs.State.{◌>>=◌, ◌>>◌, done, births, within}
 use Rattle.c_model.specs.Meaning.{Tables, Callee, choose, turns, do_turns, declared_in, declared_first, condition_with, condition_of, effect_with, exec_with, else_with, first_with, item_with, items_with}
 use Rattle.c_model.specs.ExpressionTyping.{Sight, inner}
 use Rattle.c_model.specs.StatementTyping.{Around, in_loop, behind, behind_first}
 use Rattle.c_model.specs.TypedTrees.{WellTyped, WhereAny, IsCondition, FirstTyped, StatementTyped, ElseTyped, ItemTyped, ItemsTyped}
-use Rattle.c_model.specs.TypedPredicates.{AnnotationsTyped}
 use Rattle.c_model.specs.TypedAnnotations.{StatementNoted, ElseNoted, ItemNoted, ItemsNoted}
 use Rattle.c_model.specs.Formed.{AreAsserts, depth, depth_of_else, depth_of_item, depth_of_items, declared_within, declared_in_else, declared_in_first, declared_in_item, declared_in_items}
 use Rattle.c_model.specs.FullExpressions.{EachIn, EachInElse, EachInFirst, EachInItem, EachInItems}
 use Rattle.c_model.specs.EffectPlaces.{StatementPlaced, ElsePlaced, ItemPlaced, ItemsPlaced}
-use Rattle.c_model.specs.Unranged.{unranged_annotations}
 use Rattle.c_model.specs.UnrangedPrograms.{unranged_statement, unranged_else, unranged_item, unranged_items}
 use Rattle.c_model.proofs.UnrangedTerms.{Alike, itself, beside, annotations_typed, are_asserts, are_none, same_checks}
 

@@ -1,12 +1,12 @@
 -- What is known of annotations doesn't look at their ranges: it is the same without them.
-use Rattle.std.proofs.Common.{◌≡◌, ℕ, suc, ◌+◌, ◌≤◌, List, [], ◌∷◌, Option, Some, None, refl, ap, ◌∙◌, sym, subst}
+use Rattle.std.proofs.Common.{◌≡◌, ℕ, suc, ◌+◌, ◌≤◌, List, [], ◌∷◌, None, refl, ap, ◌∙◌, sym, subst}
 use Rattle.std.specs.Prelude.{true, false}
 use mathlib.Core.Path.{fun_ext}
 use Rattle.c_syntax.specs.Logic.{LogicTerm, Number, Letter, Variable, Unary, Binary, Cast, Choice, Links, NoLink, Linked}
 use Rattle.c_syntax.specs.Logic.{Predicate, Truth, NonZero, Chain, Not, Connected, Branch, ClauseBody, Raw, Holds, Annotation}
-use Rattle.c_model.specs.State.{State, Evaluation, done, ◌>>◌}
+use Rattle.c_model.specs.State.{State, ◌>>◌}
 use Rattle.c_model.specs.Logic.{Answer, Says, SaysNothing, OutOfSteps, judged}
-use Rattle.c_model.specs.Predicates.{pred, clause, check, checks}
+use Rattle.c_model.specs.Predicates.{clause, check, checks}
 use Rattle.c_model.specs.ExpressionTyping.{Sight}
 use Rattle.c_model.specs.TypedPredicates.{IsOnInteger, IsCastType, TermTyped, LinksTyped, PredicateTyped, ClauseTyped, AnnotationsTyped}
 use Rattle.c_model.specs.Formed.{nodes_of_term, nodes_of_links, nodes_of_predicate, TermNumbered, LinksNumbered, PredicateNumbered, IsShortPredicate, IsShortClause, IsAssert, AreAsserts}

@@ -8,7 +8,7 @@ use Rattle.c_syntax.specs.declared.annotation.Relation.TheVariants as relation
 use Rattle.c_syntax.specs.declared.logic.Connective.TheVariants as connective
 use Rattle.c_syntax.specs.Ctypes.{Void, Int, Ptr, Array, Named, StructTag, EnumTag, Count, int_type}
 use Rattle.c_syntax.specs.Formulas as read
-use Rattle.c_syntax.specs.Formulas.{Form, FormLinks, Integers, OfC}
+use Rattle.c_syntax.specs.Formulas.{Form, Integers, OfC}
 use Rattle.c_syntax.specs.Logic.{LogicTerm, Number, Variable, Unary, Binary, Cast, Choice, NoLink, Linked}
 use Rattle.c_syntax.specs.Logic.{Truth, NonZero, Chain, Not, Connected, Branch, Raw, Holds}
 use Rattle.c_model.specs.Checked.{Fault, Good, refusing}

@@ -13,7 +13,7 @@ use Rattle.c_syntax.specs.Expressions.{Expression, Node, Number, Letter, Variabl
 use Rattle.c_syntax.specs.Formulas as formula
 use Rattle.c_syntax.specs.Formulas.{Form}
 use Rattle.c_syntax.specs.Logic as logic
-use Rattle.c_syntax.specs.Logic.{LogicTerm, Predicate, ClauseBody, Raw, Holds, Annotation}
+use Rattle.c_syntax.specs.Logic.{LogicTerm, Predicate, ClauseBody, Holds, Annotation}
 use Rattle.c_syntax.specs.Statements.{One, Declaration, Block, BlockItem, BlockItems, NoItem, Then}
 use Rattle.c_syntax.specs.Programs.{Function, TranslationUnit}
 use Rattle.c_model.specs.State.{Input, EndOfInput, InputFault}

@@ -1,8 +1,9 @@
 -- The typing of the annotations of statements, functions and files (ACSL 2.4.1), after that of the text's C: each where it stands.
-use Rattle.std.specs.Prelude.{List, [], ◌∷◌, Option, Some}
+use Rattle.std.specs.Prelude.{List, [], ◌∷◌, map, Option, Some, cond, nat_lt}
+use Rattle.c_syntax.specs.declared.place.Place.{Place}
 use Rattle.c_syntax.specs.Statements.{Statement, Empty, Eval, Block, If, While, Do, For, Break, Continue, Return, ElsePart, NoElse, Else}
 use Rattle.c_syntax.specs.Statements.{BlockItem, Declare, Run, Asserts, BlockItems, NoItem, Then}
-use Rattle.c_syntax.specs.Programs.{Function, TranslationUnit}
+use Rattle.c_syntax.specs.Programs.{StructType, Function, TranslationUnit}
 use Rattle.c_model.specs.Checked.{Checked, Good, one_part}
 use Rattle.c_model.specs.ExpressionTyping.{Sight, inner}
 use Rattle.c_model.specs.PredicateTyping.{typed_annotations}
@@ -48,9 +49,21 @@ abbrev pub noted_body : Sight → Option Statement → Checked (Option Statement
 noted_body s (Some (Block at items)) = one_part (noted_items s items) (λ items. Good (Some (Block at items)))
 noted_body s b = Good b
 
--- a function, where this is in sight at file scope, itself included
+-- a struct that is defined behind a place has no size there (C99 6.2.5 p22)
+abbrev pub known_before : Place → StructType → StructType
+known_before at struct = cond (nat_lt struct.place.offset at.offset) struct (record struct { size = 0 })
+
+-- what is in sight of a function at this place, among the structs of the whole file
+abbrev pub known_at : Place → Sight → Sight
+known_at at s = record s { structs = map (known_before at) s.structs }
+
+-- a function, where this is in sight in it
+abbrev pub noted_in : Sight → Function → Checked Function
+noted_in s f = one_part (noted_body (with_parameters (inner s) f.params) f.body) (λ b. Good (record f { body = b }))
+
+-- a function, where this is in sight at file scope, itself included; no struct is defined inside a function
 abbrev pub noted_function : Sight → Function → Checked Function
-noted_function s f = one_part (noted_body (with_parameters (inner s) f.params) f.body) (λ b. Good (record f { body = b }))
+noted_function s f = noted_in (known_at f.place s) f
 
 -- the functions among what the file declares, in the order of the text
 abbrev pub noted_functions : TranslationUnit → Sight → List FileItem → Checked (List Function)

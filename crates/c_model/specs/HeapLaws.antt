@@ -1,5 +1,5 @@
 -- Laws of the heap and of struct assignment: where blocks are born, what is left of them when they are freed, and what is copied.
-use Rattle.std.specs.Prelude.{◌≡◌, ℕ, ◌+◌, ◌/◌, ◌<◌, ◌≤◌, ◌≢◌, ℤ, true, false, List, [], ◌∷◌, length, replicate, map, Option, Some, None, option_map, slice_get}
+use Rattle.std.specs.Prelude.{◌≡◌, ℕ, ◌+◌, ◌/◌, ◌<◌, ◌≤◌, ◌≢◌, ℤ, true, false, List, [], ◌∷◌, length, replicate, map, Some, None, option_map, slice_get}
 use Rattle.c_syntax.specs.declared.types.BlockKind.TheVariants.{Heap}
 use Rattle.c_syntax.specs.declared.types.Segment.TheVariants as segment
 use Rattle.c_syntax.specs.Statements.{Statement}
@@ -9,7 +9,7 @@ use Rattle.c_syntax.specs.Layouts.{Scalar, scalar_size, size_of, scalars_of}
 use Rattle.c_model.specs.Limits.{heap_bytes}
 use Rattle.c_model.specs.Memory.{Pointer, Null, Into, Value, Points, Byte, copied, Block, Store, block_at, load_bytes, load, save, shifted, copy_all, moved}
 use Rattle.c_model.specs.Memory.{distance, equal_pointers, tested_value, Sizes, standard_sizes, greatest_number, units, At, NoRoom, heap_room, freed}
-use Rattle.c_model.specs.State.{State, Outcome, Normal, Evaluation, allocate}
+use Rattle.c_model.specs.State.{State, Normal, allocate}
 use Rattle.c_model.specs.Meaning.{exec}
 use Rattle.c_model.specs.TypedPrograms.{AreLaidOut}
 use Rattle.c_model.specs.Laws.{AreWhole, store_after}

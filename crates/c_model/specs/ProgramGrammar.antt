@@ -19,7 +19,7 @@
 -- end of its declarator on. The stars before the name of a function, with the name, have at most 400 tokens. Statements are at most 200
 -- deep, a function's body being 1 deep. "else" goes with the nearest "if".
 use Rattle.std.specs.Prelude.{ℕ, zero, suc, ◌-◌, List, [], ◌∷◌, ◌++◌, Option, Some, None, Bool, true, false, cond, slice_set}
-use Rattle.grammar.specs.Syntax.{Syntax, none, gives, one, ◌then◌, choice, many, deep}
+use Rattle.grammar.specs.Syntax.{Syntax, none, gives, ◌then◌, choice, many, deep}
 use Rattle.c_syntax.specs.declared.place.Place.{Place}
 use Rattle.c_syntax.specs.Ctypes.{PlainType}
 use Rattle.c_syntax.specs.Expressions.{Expression}

@@ -99,6 +99,10 @@ abbrev pub with_tag : List ℕ → Option ℕ → List ℕ
 with_tag tags None = tags
 with_tag tags (Some x) = tags ++ x ∷ []
 
+-- what is in sight after the tag of an enum
+abbrev pub with_enum_tag : Sight → Option ℕ → Sight
+with_enum_tag s tag = record s { enums = with_tag s.enums tag }
+
 -- the number of the definition of a name, where the file has one
 abbrev pub definition_of : ℕ → List Function → Option ℕ
 definition_of x [] = None
@@ -210,7 +214,7 @@ abbrev pub typed_enum : Progress → EnumType → Checked Progress
 typed_enum r e =
     one_part (new_tag r.tags e.place e.tag) (λ n. one_part (typed_enumerators r.sight (pos 0) e.items) (λ x.
     Good (record r {
-      sight = record x.0 { enums = with_tag x.0.enums e.tag };
+      sight = with_enum_tag x.0 e.tag;
       tags = with_tag r.tags e.tag;
       enums = r.enums ++ record e { items = x.1 } ∷ [];
     })))
@@ -287,11 +291,15 @@ abbrev pub with_enumerators : Sight → ℤ → List EnumConstant → Sight
 with_enumerators s next [] = s
 with_enumerators s next (e ∷ es) = with_enumerators (with_enumerator s e.name (value_typed s next e.value)) (value_typed s next e.value +ℤ pos 1) es
 
+-- what is in sight behind a typed enum: its enumerators and its tag
+abbrev pub behind_enum : Sight → EnumType → Sight
+behind_enum s e = with_enum_tag (with_enumerators s (pos 0) e.items) e.tag
+
 -- what is in sight after a typed item, where the structs of the whole file are known
 abbrev pub behind_item : TranslationUnit → Sight → FileItem → Sight
 behind_item p s (StructHead k struct) = s
 behind_item p s (Member k m ends) = s
-behind_item p s (AnEnum e) = with_enumerators s (pos 0) e.items
+behind_item p s (AnEnum e) = behind_enum s e
 behind_item p s (ATypedef d) = with_type s d
 behind_item p s (AGlobal d) = with_object s d
 behind_item p s (AFunction f) = with_function p s f

@@ -7,7 +7,7 @@ use Rattle.c_model.specs.Checked.{Checked, Good, Bad, one_part}
 use Rattle.c_model.specs.ExpressionTyping.{Sight, with_object}
 use Rattle.c_model.specs.DeclarationTyping.{with_enumerator}
 use Rattle.c_model.specs.UnitTyping as unit
-use Rattle.c_model.specs.UnitTyping.{FileItem, StructHead, Member, AnEnum, ATypedef, AGlobal, AFunction, offset_of_item, member_items, struct_items, inserted, in_order, items_of_file, sight_with, value_typed, with_enumerators, behind_item}
+use Rattle.c_model.specs.UnitTyping.{FileItem, StructHead, Member, AnEnum, ATypedef, AGlobal, AFunction, offset_of_item, member_items, struct_items, inserted, in_order, items_of_file, sight_with, value_typed, with_enumerators, behind_enum}
 use Rattle.c_model.specs.AnnotationTyping.{noted_function, noted_functions, noted_unit}
 use Rattle.c_expression_rules.specs.declared.fault.TypeFault.{TypeFault}
 use Rattle.c_expression_rules.specs.Answers.{Answers}
@@ -87,7 +87,7 @@ module _ (p : TranslationUnit)
     notes_are [] s = refl
     notes_are (StructHead k struct ∷ is) s = notes_are is s
     notes_are (Member k m ends ∷ is) s = notes_are is s
-    notes_are (AnEnum e ∷ is) s = notes_are is (with_enumerators s (pos 0) e.items) ∙ sym (others_in_turn (AnEnum e) refl (notes_in_turn numbers (with_enumerators s (pos 0) e.items) (ordinary is)))
+    notes_are (AnEnum e ∷ is) s = notes_are is (behind_enum s e) ∙ sym (others_in_turn (AnEnum e) refl (notes_in_turn numbers (behind_enum s e) (ordinary is)))
     notes_are (ATypedef d ∷ is) s = notes_are is (unit.with_type s d) ∙ sym (others_in_turn (ATypedef d) refl (notes_in_turn numbers (unit.with_type s d) (ordinary is)))
     notes_are (AGlobal d ∷ is) s = notes_are is (with_object s d) ∙ sym (others_in_turn (AGlobal d) refl (notes_in_turn numbers (with_object s d) (ordinary is)))
     notes_are (AFunction f ∷ is) s =
@@ -106,7 +106,7 @@ module _ (p : TranslationUnit)
     known_are [] s h = tt
     known_are (StructHead k struct ∷ is) s h = known_are is s h.1
     known_are (Member k m ends ∷ is) s h = known_are is s h.1
-    known_are (AnEnum e ∷ is) s h = (h.0, known_are is (with_enumerators s (pos 0) e.items) h.1)
+    known_are (AnEnum e ∷ is) s h = (h.0, known_are is (behind_enum s e) h.1)
     known_are (ATypedef d ∷ is) s h = (tt, known_are is (unit.with_type s d) h.1)
     known_are (AGlobal d ∷ is) s h = (tt, known_are is (with_object s d) h.1)
     known_are (AFunction f ∷ is) s h = (tt, subst (λ u. known_in_turn numbers u (ordinary is)) (sym (with_is p s f)) (known_are is (unit.with_function p s f) h.1))
@@ -144,7 +144,7 @@ module _ (ds : ℕ → Option Callee)
     kinds_same [] s = record { enums = refl; typedefs = refl; globals = refl }
     kinds_same (StructHead k struct ∷ is) s = kinds_before (StructHead k struct) is (notes_in_turn ds s is) (kinds_same is s)
     kinds_same (Member k m ends ∷ is) s = kinds_before (Member k m ends) is (notes_in_turn ds s is) (kinds_same is s)
-    kinds_same (AnEnum e ∷ is) s = kinds_before (AnEnum e) is (notes_in_turn ds (with_enumerators s (pos 0) e.items) is) (kinds_same is (with_enumerators s (pos 0) e.items))
+    kinds_same (AnEnum e ∷ is) s = kinds_before (AnEnum e) is (notes_in_turn ds (behind_enum s e) is) (kinds_same is (behind_enum s e))
     kinds_same (ATypedef d ∷ is) s = kinds_before (ATypedef d) is (notes_in_turn ds (unit.with_type s d) is) (kinds_same is (unit.with_type s d))
     kinds_same (AGlobal d ∷ is) s = kinds_before (AGlobal d) is (notes_in_turn ds (with_object s d) is) (kinds_same is (with_object s d))
     kinds_same (AFunction f ∷ is) s = function_before f is (noted_function (with_function ds s f) f) (notes_in_turn ds (with_function ds s f) is) (kinds_same is (with_function ds s f))
@@ -168,7 +168,7 @@ text_same ds (StructHead k struct ∷ is) s = text_same ds is s
 text_same ds (Member k m ends ∷ is) s = text_same ds is s
 text_same ds (AnEnum e ∷ is) s =
     let a = enumerators_same e.items s (pos 0) in
-    let h = text_same ds is (with_enumerators s (pos 0) e.items) in
+    let h = text_same ds is (behind_enum s e) in
     record { names = h.names ∙ a.names; texts = h.texts ∙ a.texts; structs = h.structs ∙ a.structs }
 text_same ds (ATypedef d ∷ is) s = let h = text_same ds is (unit.with_type s d) in record { names = h.names; texts = h.texts; structs = h.structs }
 text_same ds (AGlobal d ∷ is) s = let h = text_same ds is (with_object s d) in record { names = h.names; texts = h.texts; structs = h.structs }

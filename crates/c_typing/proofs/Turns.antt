@@ -11,7 +11,7 @@ use Rattle.c_model.specs.Checked.{Checked, Good, Bad, one_part, both_parts, wher
 use Rattle.c_model.specs.ExpressionTyping.{no_name, Sight, with_object}
 use Rattle.c_model.specs.DeclarationTyping.{own_name, is_declared_in_file, typed_member, typed_member_type, with_member, typed_value, typed_enumerators, typed_typedef, typed_global, with_enumerator}
 use Rattle.c_model.specs.UnitTyping as unit
-use Rattle.c_model.specs.UnitTyping.{FileItem, StructHead, Member, AnEnum, ATypedef, AGlobal, AFunction, Progress, typed_item_of_file, typed_items_of_file, at_start, first_sight, items_of_file, with_progress, typed_unit, new_tag}
+use Rattle.c_model.specs.UnitTyping.{FileItem, StructHead, Member, AnEnum, ATypedef, AGlobal, AFunction, Progress, typed_item_of_file, typed_items_of_file, first_sight, items_of_file, with_progress, typed_unit, new_tag}
 use Rattle.c_declaration_rules.specs.Members.{member_typed}
 use Rattle.c_expression_rules.specs.declared.fault.TypeFault.{TypeFault}
 use Rattle.c_expression_rules.specs.Answers.{Answers}

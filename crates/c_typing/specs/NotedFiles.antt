@@ -8,7 +8,7 @@ use Rattle.c_model.specs.Checked.{Checked, Good, one_part}
 use Rattle.c_model.specs.ExpressionTyping.{Sight, with_object}
 use Rattle.c_model.specs.DeclarationTyping.{with_enumerator}
 use Rattle.c_model.specs.UnitTyping.{FileItem, StructHead, Member, AnEnum, ATypedef, AGlobal, AFunction, items_of_file, sight_with, with_type, value_typed}
-use Rattle.c_model.specs.UnitTyping.{with_enumerators, behind_item}
+use Rattle.c_model.specs.UnitTyping.{behind_enum, behind_item}
 use Rattle.c_model.specs.AnnotationTyping.{noted_function}
 use Rattle.c_expression_rules.specs.Constants.{has_small_sizes}
 use Rattle.c_typing.specs.declared.heading.Callee.{Callee}
@@ -62,7 +62,7 @@ is_ordinary (AFunction f) = true
 abbrev pub behind_in_turn : (ℕ → Option Callee) → Sight → FileItem → Sight
 behind_in_turn numbers s (StructHead k struct) = s
 behind_in_turn numbers s (Member k m ends) = s
-behind_in_turn numbers s (AnEnum e) = with_enumerators s (pos 0) e.items
+behind_in_turn numbers s (AnEnum e) = behind_enum s e
 behind_in_turn numbers s (ATypedef d) = with_type s d
 behind_in_turn numbers s (AGlobal d) = with_object s d
 behind_in_turn numbers s (AFunction f) = with_function numbers s f

@@ -19,6 +19,7 @@ pub mod room;
 pub mod statement;
 
 // annotations
+pub mod known;
 pub mod noted;
 pub mod noted_file;
 

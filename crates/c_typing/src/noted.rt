@@ -6,12 +6,13 @@ ghost use Rattle.c_syntax.specs.Statements.{plain_decl, plain_else_part, plain_i
 ghost use Rattle.c_syntax.specs.Programs.{plain_func};
 ghost use Rattle.c_model.specs.ExpressionTyping.{inner, with_objects};
 ghost use Rattle.c_model.specs.StatementTyping.{behind, behind_first};
-ghost use Rattle.c_model.specs.AnnotationTyping.{noted_body, noted_else, noted_function, noted_item, noted_items, noted_statement};
+ghost use Rattle.c_model.specs.AnnotationTyping.{noted_body, noted_else, noted_function, noted_in, noted_item, noted_items, noted_statement};
 ghost use Rattle.c_expression_rules.specs.Answers.{Answers};
 ghost use Rattle.c_expression_rules.specs.Sights.{plain_sight};
 ghost use Rattle.c_typing.specs.Blocks.{behind_items};
 ghost use Rattle.c_typing.specs.Trees.{plain_for_first};
 
+use crate::known::{hide_later, show_all};
 use crate::parameter::see_parameters;
 use annot_typing::type_clauses;
 use c_expression_rules::fault::TypeFault;
@@ -185,9 +186,9 @@ fn note_body(alloc: Global, sight: &mut Sight, body: &mut Option<Stmt>) -> Resul
     }
 }
 
-/// The annotations of a function that is in sight.
-pub fn note_function(alloc: Global, sight: &mut Sight, f: &mut Func) -> Result<(), TypeFault>
-    ensures noted { Answers (λ _. plain_func f.new) (noted_function (plain_sight sight.old) (plain_func f.old)) result }
+/// The annotations of a function, where this is in sight in it.
+fn note_within(alloc: Global, sight: &mut Sight, f: &mut Func) -> Result<(), TypeFault>
+    ensures noted { Answers (λ _. plain_func f.new) (noted_in (plain_sight sight.old) (plain_func f.old)) result }
     ensures same { OnOk result (plain_sight sight.new ≡ plain_sight sight.old) }
 {
     let mark = enter(sight);
@@ -195,4 +196,15 @@ pub fn note_function(alloc: Global, sight: &mut Sight, f: &mut Func) -> Result<(
     note_body(alloc, sight, &mut f.body)?;
     leave(sight, mark);
     Ok(())
+}
+
+/// The annotations of a function that is in sight, where structs that are defined behind it have no size.
+pub fn note_function(alloc: Global, sight: &mut Sight, f: &mut Func) -> Result<(), TypeFault>
+    ensures noted { Answers (λ _. plain_func f.new) (noted_function (plain_sight sight.old) (plain_func f.old)) result }
+    ensures same { OnOk result (plain_sight sight.new ≡ plain_sight sight.old) }
+{
+    let sizes = hide_later(alloc, &mut sight.structs, f.place)?;
+    let noted = note_within(alloc, sight, f);
+    show_all(&mut sight.structs, &sizes);
+    noted
 }

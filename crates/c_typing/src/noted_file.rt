@@ -4,10 +4,10 @@ ghost use Rattle.std.specs.Prelude.{◌≡◌, ◌+ℤ◌, IfOk, OnOk, map, nat_
 ghost use Rattle.indexmap.specs.IndexMap.{get};
 ghost use Rattle.c_syntax.specs.declared.types.CInt.TheVariants.{I32};
 ghost use Rattle.c_syntax.specs.Expressions.{plain_expr};
-ghost use Rattle.c_syntax.specs.Programs.{plain_enumerator, plain_func, plain_program};
+ghost use Rattle.c_syntax.specs.Programs.{plain_enum, plain_enumerator, plain_func, plain_program};
 ghost use Rattle.c_model.specs.Integers.{fits};
 ghost use Rattle.c_model.specs.DeclarationTyping.{with_enumerator};
-ghost use Rattle.c_model.specs.UnitTyping.{value_typed, with_enumerators};
+ghost use Rattle.c_model.specs.UnitTyping.{behind_enum, value_typed, with_enumerators};
 ghost use Rattle.c_model.specs.AnnotationTyping.{noted_function, noted_unit};
 ghost use Rattle.c_expression_rules.specs.Answers.{Answers};
 ghost use Rattle.c_expression_rules.specs.Sights.{plain_sight};
@@ -18,14 +18,14 @@ ghost use Rattle.c_typing.specs.NotedFiles.{note_in_turn, notes_in_turn};
 
 use crate::file::{finish, first_course, tags_of};
 use crate::heading::{Callee, denoted, see_function};
-use crate::item::{FileItem, see_type};
+use crate::item::{FileItem, add_tag, see_type};
 use crate::noted::note_function;
 use crate::order::take_declared;
 use c_expression_rules::constant::constant;
 use c_expression_rules::entity::{Entity, Enumerator as Constant};
 use c_expression_rules::fault::TypeFault;
 use c_expression_rules::sight::{Sight, with_object};
-use c_syntax::{Enumerator, Expr, Func, Program};
+use c_syntax::{EnumDef, Enumerator, Expr, Func, Program};
 use indexmap::IndexMap;
 use std::alloc::{AllocError, Global};
 
@@ -83,6 +83,16 @@ fn see_enumerators(sight: &mut Sight, items: &[Enumerator]) -> Result<(), AllocE
     Ok(())
 }
 
+/// Brings a typed enum in sight: its enumerators, and its tag behind them.
+fn see_enum(sight: &mut Sight, e: &EnumDef) -> Result<(), AllocError>
+    requires { ValuesKnown (plain_sight sight.old) (pos 0) (plain_enum e.now).items }
+    ensures { OnOk result (plain_sight sight.new ≡ behind_enum (plain_sight sight.old) (plain_enum e.now)) }
+{
+    see_enumerators(sight, &e.items)?;
+    add_tag(&mut sight.enums, e.tag)?;
+    Ok(())
+}
+
 /// The annotations of a function, which is in sight in itself and behind it.
 fn note_defined(
     alloc: Global,
@@ -114,7 +124,7 @@ fn note_item(
         FileItem::Head(..) => Ok(()),
         FileItem::Inside(..) => Ok(()),
         FileItem::Enum(e) => {
-            see_enumerators(sight, &e.items)?;
+            see_enum(sight, e)?;
             Ok(())
         }
         FileItem::Typedef(d) => {

@@ -99,7 +99,7 @@ place_enumerators p scope (e ∷ es) s next h =
 place_behind : (p : TranslationUnit) (scope : Scope) (i : FileItem) (s : Sight) → IsFine scope i → IsPlace p scope s → IsPlace p scope (behind_item p s i)
 place_behind p scope (StructHead k struct) s f h = h
 place_behind p scope (Member k m ends) s f h = h
-place_behind p scope (AnEnum e) s f h = place_enumerators p scope e.items s (pos 0) h
+place_behind p scope (AnEnum e) s f h = let g = place_enumerators p scope e.items s (pos 0) h in record { names = g.names; texts = g.texts; structs = g.structs; found = g.found }
 place_behind p scope (ATypedef d) s f h = record { names = h.names; texts = h.texts; structs = h.structs; found = h.found }
 place_behind p scope (AGlobal d) s f h = record { names = h.names; texts = h.texts; structs = h.structs; found = found_with s d scope h.found f }
 place_behind p scope (AFunction g) s f h = record { names = h.names; texts = h.texts; structs = h.structs; found = h.found }

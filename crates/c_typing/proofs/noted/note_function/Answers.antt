@@ -1,13 +1,31 @@
-use Rattle.std.proofs.Common.{◌∙◌, ap, map}
-use Rattle.c_syntax.specs.Statements.{plain_decl}
-use Rattle.c_model.specs.UnitTyping.{with_parameters}
+use Rattle.std.proofs.Common.{◌≡◌, ◌∙◌, ap, map, subst}
+use Rattle.std.specs.Prelude.{OnOk}
+use Rattle.c_syntax.specs.Programs.{plain_func, plain_layout}
+use Rattle.c_model.specs.ExpressionTyping.{Sight}
+use Rattle.c_model.specs.AnnotationTyping.{known_at, known_before, noted_in}
+use Rattle.c_expression_rules.specs.Answers.{Answers}
 use Rattle.c_expression_rules.specs.Sights.{plain_sight}
-use Rattle.c_typing.proofs.Statements.{parameters_left}
+use Rattle.c_typing.specs.KnownStructs.{with_sizes}
+use Rattle.c_typing.proofs.KnownStructs.{on_ok, shown_again}
 use Rattle.c_typing.proofs.noted.note_function.Goals as goal
+
+pub returns-clause-noted : goal.returns-clause-noted
+returns-clause-noted c =
+    let s = plain_sight c.args.sight.now in
+    subst (λ ss. Answers (λ (u : Unit {0}). plain_func c.note_within-noted.new.f) (noted_in (record s { structs = ss }) (plain_func c.args.f.now)) c.note_within-noted.result)
+    c.in_ok-sizes.ensures.hidden c.note_within-noted.ensures.noted
 
 pub returns-clause-same : goal.returns-clause-same
 returns-clause-same c =
-    let t = plain_sight c.enter-mark.new.sight in
-    parameters_left (plain_sight c.args.sight.now) t (plain_sight c.note_body.new.sight) (plain_sight c.leave.new.sight) c.enter-mark.result.count
-    c.enter-mark.result.innermost c.enter-mark.ensures.inner (ap (λ m. m.count) c.enter-mark.ensures.mark) (ap (λ m. m.innermost) c.enter-mark.ensures.mark) c.leave.ensures
-    (map plain_decl c.args.f.now.params.items) (c.in_ok-note_body.ensures.same ∙ c.in_ok-see_parameters.ensures ∙ ap (λ ds. with_parameters t (map plain_decl ds)) c.deref.ensures.value)
+    let s = plain_sight c.args.sight.now in
+    let t = plain_sight c.note_within-noted.new.sight in
+    let structs = c.args.sight.now.structs.items in
+    let at = c.args.f.now.place in
+    let sizes = c.in_ok-sizes.sizes.items in
+    let back : Sight → Sight = λ u. record u { structs = with_sizes sizes u.structs } in
+    on_ok (t ≡ known_at at s) (record t { structs = map plain_layout c.show_all.new.structs.items } ≡ s) (λ same.
+    ap (λ ss. record t { structs = ss }) (c.show_all.ensures ∙ ap (λ ns. with_sizes ns (map plain_layout c.note_within-noted.new.sight.structs.items)) c.deref.ensures.value)
+    ∙ ap back same
+    ∙ ap (λ ns. record s { structs = with_sizes ns (map (known_before at) (map plain_layout structs)) }) c.in_ok-sizes.ensures.sizes
+    ∙ ap (λ ss. record s { structs = ss }) (shown_again at structs)) c.note_within-noted.result
+    (subst (λ ss. OnOk c.note_within-noted.result (t ≡ record s { structs = ss })) c.in_ok-sizes.ensures.hidden c.note_within-noted.ensures.same)

@@ -1,0 +1,98 @@
+-- Annotations that are typed where the sizes of fewer structs are known are so where those of more are.
+use Rattle.std.proofs.Common.{ℕ, subst, List, [], ◌∷◌, Option, Some, None}
+use Rattle.c_syntax.specs.declared.expression.Use.{Use}
+use Rattle.c_syntax.specs.Ctypes.{PlainType}
+use Rattle.c_syntax.specs.Logic.{LogicTerm, Number, Letter, Variable, Unary, Binary, Cast, Choice, Links, NoLink, Linked}
+use Rattle.c_syntax.specs.Logic.{Predicate, Truth, NonZero, Chain, Not, Connected, Branch, ClauseBody, Raw, Holds, Annotation}
+use Rattle.c_syntax.specs.Statements.{Statement, Empty, Eval, Block, If, While, Do, For, Break, Continue, Return, ElsePart, NoElse, Else, BlockItem, Declare, Run, Asserts, BlockItems, NoItem, Then}
+use Rattle.c_syntax.specs.Programs.{StructType, Function}
+use Rattle.c_model.specs.ExpressionTyping.{Sight, inner}
+use Rattle.c_model.specs.StatementTyping.{behind, behind_first}
+use Rattle.c_model.specs.UnitTyping.{with_parameters}
+use Rattle.c_model.specs.TypedPredicates.{TermDenotes, TermTyped, LinksTyped, PredicateTyped, ClauseTyped, AnnotationsTyped}
+use Rattle.c_model.specs.TypedAnnotations.{StatementNoted, ElseNoted, ItemNoted, ItemsNoted, BodyNoted, FunctionNoted}
+use Rattle.c_model.proofs.StableStatements.{at_last, behind_last, first_last, parameters_last}
+
+module _ (structs : List StructType) (levels tags enums : List ℕ)
+  where
+    abbrev narrow : Sight → Sight
+    narrow = at_last structs levels tags enums
+
+    -- ---- annotations
+
+    denotes_wider : (s : Sight) (t : Option PlainType) (x : Use) → TermDenotes (narrow s) t x → TermDenotes s t x
+    denotes_wider s t x h = record {
+      ctype = h.ctype;
+      is = h.is;
+      int = h.int;
+      denotes = record { object = h.denotes.object; found = h.denotes.found; decl = h.denotes.decl; ctype = h.denotes.ctype };
+    }
+
+    mutual
+      term_wider : (s : Sight) (t : LogicTerm) → TermTyped (narrow s) t → TermTyped s t
+      term_wider s (Number at t r n) h = h
+      term_wider s (Letter at t r n) h = h
+      term_wider s (Variable at t r x) h = denotes_wider s t x h
+      term_wider s (Unary at t r op a) h = (h.0, h.1, term_wider s a h.2)
+      term_wider s (Binary at t r op a b) h = (h.0, term_wider s a h.1, term_wider s b h.2)
+      term_wider s (Cast at t r to a) h = (h.0, h.1, term_wider s a h.2)
+      term_wider s (Choice at t r c a b) h = (h.0, predicate_wider s c h.1, term_wider s a h.2, term_wider s b h.3)
+
+      links_wider : (s : Sight) (links : Links) → LinksTyped (narrow s) links → LinksTyped s links
+      links_wider s NoLink h = tt
+      links_wider s (Linked at r t rest) h = (term_wider s t h.0, links_wider s rest h.1)
+
+      predicate_wider : (s : Sight) (p : Predicate) → PredicateTyped (narrow s) p → PredicateTyped s p
+      predicate_wider s (Truth at b) h = tt
+      predicate_wider s (NonZero at t) h = term_wider s t h
+      predicate_wider s (Chain at t links) h = (term_wider s t h.0, links_wider s links h.1)
+      predicate_wider s (Not at p) h = predicate_wider s p h
+      predicate_wider s (Connected at c p q) h = (predicate_wider s p h.0, predicate_wider s q h.1)
+      predicate_wider s (Branch at c p q) h = (predicate_wider s c h.0, predicate_wider s p h.1, predicate_wider s q h.2)
+
+    clause_wider : (s : Sight) (b : ClauseBody) → ClauseTyped (narrow s) b → ClauseTyped s b
+    clause_wider s (Raw f) h = absurd h
+    clause_wider s (Holds p) h = predicate_wider s p h
+
+    annotations_wider : (s : Sight) (annots : List Annotation) → AnnotationsTyped (narrow s) annots → AnnotationsTyped s annots
+    annotations_wider s [] h = tt
+    annotations_wider s (a ∷ rest) h = (clause_wider s a.body h.0, annotations_wider s rest h.1)
+
+    -- ---- statements
+
+    mutual
+      statement_wider : (s : Sight) (a : Statement) → StatementNoted (narrow s) a → StatementNoted s a
+      statement_wider s (Empty at) h = tt
+      statement_wider s (Eval at e) h = tt
+      statement_wider s (Block at items) h = items_wider (inner s) items h
+      statement_wider s (If at e a b) h = (statement_wider s a h.0, else_wider s b h.1)
+      statement_wider s (While at annots e a) h = (annotations_wider s annots h.0, statement_wider s a h.1)
+      statement_wider s (Do at a e) h = statement_wider s a h
+      statement_wider s (For at annots first e step a) h = (
+        annotations_wider s annots h.0,
+        statement_wider (behind_first (inner s) first) a (subst (λ t. StatementNoted t a) (first_last structs levels tags enums (inner s) first) h.1),
+      )
+      statement_wider s (Break at) h = tt
+      statement_wider s (Continue at) h = tt
+      statement_wider s (Return at e) h = tt
+
+      else_wider : (s : Sight) (b : ElsePart) → ElseNoted (narrow s) b → ElseNoted s b
+      else_wider s NoElse h = tt
+      else_wider s (Else a) h = statement_wider s a h
+
+      item_wider : (s : Sight) (i : BlockItem) → ItemNoted (narrow s) i → ItemNoted s i
+      item_wider s (Declare ds) h = tt
+      item_wider s (Run a) h = statement_wider s a h
+      item_wider s (Asserts annots) h = annotations_wider s annots h
+
+      items_wider : (s : Sight) (items : BlockItems) → ItemsNoted (narrow s) items → ItemsNoted s items
+      items_wider s NoItem h = tt
+      items_wider s (Then i rest) h = (item_wider s i h.0, items_wider (behind s i) rest (subst (λ t. ItemsNoted t rest) (behind_last structs levels tags enums s i) h.1))
+
+    body_wider : (s : Sight) (b : Option Statement) → BodyNoted (narrow s) b → BodyNoted s b
+    body_wider s None h = tt
+    body_wider s (Some (Block at items)) h = items_wider s items h
+    body_wider s (Some _) h = tt
+
+    pub function_wider : (s : Sight) (f : Function) → FunctionNoted (at_last structs levels tags enums s) f → FunctionNoted s f
+    function_wider s f h = body_wider (with_parameters (inner s) f.params) f.body (subst (λ t. BodyNoted t f.body) (parameters_last structs levels tags enums (inner s) f.params) h)
