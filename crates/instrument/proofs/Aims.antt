@@ -18,7 +18,8 @@ use Rattle.mon_syntax.specs.Trees.{MonStatements, NoStatement}
 use Rattle.c_effects.specs.Letters.{HasLetters}
 use Rattle.c_effects.specs.Expressions.{temporaries, before, set, setup}
 use Rattle.c_effects.specs.Effects.{is_direct, variable_register, block_of, target_temporaries, target, target_setup, base}
-use Rattle.instrument.proofs.Standing.{Setting, Target, runs, Same, Here, Standing, Beside}
+use Rattle.annot_code.specs.Does.{Same}
+use Rattle.instrument.proofs.Standing.{Setting, Target, runs, Here, Standing, Beside}
 use Rattle.instrument.proofs.Registers.{same_all, same_trans, same_set, get-set_same, longer}
 use Rattle.instrument.proofs.Anchors.{block_has, block_below}
 use Rattle.instrument.proofs.Evaluating.{behind_setup, set_runs}

@@ -8,7 +8,8 @@ use Rattle.mon_syntax.specs.Meaning.{eval}
 use Rattle.mon_syntax.specs.BlockMemory.{Blocks, over_blocks}
 use Rattle.c_effects.specs.Expressions.{global_index, pointer_of, pointer_to}
 use Rattle.c_effects.specs.Effects.{block_register, block_of}
-use Rattle.instrument.proofs.Standing.{Setting, Same, Has, IsAnchored, InRegister, AtGlobal, Anchored}
+use Rattle.annot_code.specs.Does.{Same}
+use Rattle.instrument.proofs.Standing.{Setting, Has, IsAnchored, InRegister, AtGlobal, Anchored}
 
 -- the pointer to a block
 pub pointer_has : (w : Setting) (low n : ℕ) (bound : Bindings) (regs later : List Value) (mem : Blocks) (scope : Scope) (x number : ℕ) → low ≤ n → Same n regs later → Anchored w low bound regs scope → find x scope ≡ Some number

@@ -23,12 +23,12 @@ use Rattle.mon_syntax.specs.Trees.{MonExpression, Register, Assert}
 use Rattle.c_effects.specs.Expressions.{one}
 use Rattle.annot_code.specs.Code.{Judgement, judgement, clause_judgement, asserted, assertion, behind_assertion, assertions, behind_assertions}
 use Rattle.annot_code.specs.Does as code
-use Rattle.annot_code.specs.Does.{Stands, Judges, said, is_true}
+use Rattle.annot_code.specs.Does.{Stands, Judges, said, is_true, Same}
 use Rattle.annot_code.proofs.Asserted.{assertion_grows, behind_grows}
 use Rattle.annot_code.proofs.Theorem.{code_judges}
 use Rattle.instrument.proofs.RangedTrees.{AreRangedAsserts}
 use Rattle.instrument.proofs.Results.{one_is, before_is}
-use Rattle.instrument.proofs.Standing.{Setting, Target, Did, runs, Same, Bounded, Anchored, Here, Standing, Beside}
+use Rattle.instrument.proofs.Standing.{Setting, Target, Did, runs, Bounded, Anchored, Here, Standing, Beside}
 use Rattle.instrument.proofs.Registers.{same_less}
 use Rattle.instrument.proofs.Following.{later_same, Follows, IsOver, stays, onward, follows_then, standing_later}
 use Rattle.instrument.proofs.Values.{HasNumber}
@@ -45,7 +45,7 @@ module _ (w : Setting) (n : ℕ) (low : ℕ) (bound : Bindings) (s : State) (t :
   stands : (regs : List Value) → t.mem.store ≡ s.store → Anchored w low bound regs s.scope → Stands (judging regs)
   stands regs store_is h = record {
     store_is = store_is;
-    points = λ x number found later same. pointer_has w low low bound regs later t.mem s.scope x number (omega arith) (record { long = same.long; below = same.below }) h found;
+    points = λ x number found later same. pointer_has w low low bound regs later t.mem s.scope x number (omega arith) same h found;
   }
 
   -- what an assertion comes to
@@ -81,7 +81,7 @@ module _ (w : Setting) (n : ℕ) (low : ℕ) (bound : Bindings) (s : State) (t :
     clause_follows sight found a (Holds c) p q r rs behind regs room anchored =
         subst (λ z. Follows w h low regs Next s z (runs w n t (asserted a j) regs)) (sym (ap (λ z. source.judged a z s) (does.means s.steps)))
         (subst (Follows w h low regs Next s (source.judged a (said does.says s.steps) s)) (sym runs_is)
-        (answer_follows a regs does.after does.says (same_less low (length rs) regs does.after behind (record { long = does.same.long; below = does.same.below }))))
+        (answer_follows a regs does.after does.says (same_less low (length rs) regs does.after behind does.same)))
       where
         j : Judgement
         j = judgement w.unit bound c rs

@@ -18,7 +18,8 @@ use Rattle.c_model.specs.Pure.{IsPure}
 use Rattle.c_effects.specs.Letters.{HasLetters}
 use Rattle.c_effects.specs.Expressions.{setup, place, temporaries}
 use Rattle.c_effects.specs.Effects.{base, offset_in}
-use Rattle.instrument.proofs.Standing.{Setting, Target, runs, Same, Has, Bounded, Anchored, Knows}
+use Rattle.annot_code.specs.Does.{Same}
+use Rattle.instrument.proofs.Standing.{Setting, Target, runs, Has, Bounded, Anchored, Knows}
 use Rattle.instrument.proofs.Following.{HasValue, HasNone, HasPlace, HasNoPlace}
 use Rattle.instrument.proofs.Expressions.{Followed, Placed, evaluates, places}
 use Rattle.instrument.proofs.Stores.{reached_from}

@@ -17,7 +17,8 @@ use Rattle.track_scopes.specs.Lives as lives
 use Rattle.track_scopes.specs.Lives.{AreFrom, with_store, PointToBorn, Births, AllAre, OneIsFull, Enters}
 use Rattle.instrument.specs.Translation.{Spot, alive, end_label, next_label}
 use Rattle.instrument.specs.Translation as translation
-use Rattle.instrument.proofs.Standing.{Target, Did, Setting, runs, Same, Here, Standing, Beside}
+use Rattle.annot_code.specs.Does.{Same}
+use Rattle.instrument.proofs.Standing.{Target, Did, Setting, runs, Here, Standing, Beside}
 use Rattle.instrument.proofs.Results.{written, writes_none, written_then, before_is}
 use Rattle.instrument.proofs.Registers.{same_trans}
 use Rattle.instrument.proofs.Lives.{length-killed}

@@ -18,8 +18,9 @@ use Rattle.track_scopes.specs.Blocks.{entered, deaths}
 use Rattle.c_effects.specs.Expressions.{before, one, set, setup, temporaries, condition_of}
 use Rattle.c_effects.specs.Effects.{block_of, any_temporaries, full_temporaries, full_setup, full_value, effect_if_any, initialise, initialise_all, initial_temporaries}
 use Rattle.instrument.specs.Translation.{Spot, in_loop, with_variables, leave_where_zero, test, test_if_any, loop, for_turns, returned, end_label, next_label, after_statement, after_first, after_item, statement, else_part, first_part, item, items}
-use Rattle.instrument.proofs.ValidSetups.{no_step_before, no_step_setup, deep_before, deep_one, deep_set, deep_setup, deep_behind}
+use Rattle.instrument.proofs.ValidSetups.{no_step_before, no_step_setup, deep_one, deep_set, deep_setup, deep_behind}
 use Rattle.annot_code.proofs.Asserted.{assertions_deep}
+use Rattle.annot_code.proofs.Depths.{deep_before}
 use Rattle.instrument.proofs.ValidEffects.{no_step_effect, deep_full, deep_effect}
 use Rattle.instrument.proofs.ValidInitialisers.{deep_initialise}
 use Rattle.instrument.proofs.ValidBlocks.{deep_deaths, deep_alive}

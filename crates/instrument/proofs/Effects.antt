@@ -31,8 +31,9 @@ use Rattle.c_effects.specs.Effects.{value_temporaries, object_temporaries, assig
 use Rattle.c_effects.specs.Effects.{target_temporaries, target, target_setup, into_object, member_temporaries, current}
 use Rattle.c_effects.specs.Effects.{assigned as target_assigned}
 use Rattle.c_effects.proofs.Sequences.{before_none}
+use Rattle.annot_code.specs.Does.{Same}
 use Rattle.instrument.proofs.Results.{writes_none}
-use Rattle.instrument.proofs.Standing.{Setting, Target, runs, Same, Has, IsOf, Here, Standing, Beside}
+use Rattle.instrument.proofs.Standing.{Setting, Target, runs, Has, IsOf, Here, Standing, Beside}
 use Rattle.instrument.proofs.Registers.{same_less, longer}
 use Rattle.instrument.proofs.Following.{Follows, later_same, stays, onward, undefined_here, follows_value, follows_lower, anchored_same, standing_later}
 use Rattle.instrument.proofs.ExpressionTypes.{place_has_object, struct_no_scalar, bump_types}

@@ -8,15 +8,16 @@ use Rattle.c_syntax.specs.Layouts.{Scalar}
 use Rattle.c_model.specs.Memory.{Pointer, Value, Integer, Points}
 use Rattle.c_model.specs.State.{State, Outcome, Normal, Stop, Over, Undefined, Evaluation, on_outcome, ◌>>=◌}
 use Rattle.c_model.specs.Meaning.{choose, is_zero}
-use Rattle.mon_syntax.specs.Meaning.{Result, Done, Flow, Next, then_do, at_next, with_value}
+use Rattle.mon_syntax.specs.Meaning.{Done, Next, then_do, at_next, with_value}
 use Rattle.mon_syntax.specs.Meaning.{◌>>=◌ as bind}
 use Rattle.mon_syntax.specs.Meaning as monitored
 use Rattle.mon_syntax.specs.BlockMemory.{integer_of, over_blocks}
-use Rattle.mon_syntax.specs.Trees.{MonExpression, Register, MonStatement, Set, MonStatements}
+use Rattle.mon_syntax.specs.Trees.{MonExpression, Register, Set, MonStatements}
 use Rattle.mon_syntax.specs.Trees as tree
 use Rattle.c_effects.specs.Expressions.{before, one, set}
+use Rattle.annot_code.specs.Does.{Same}
 use Rattle.instrument.proofs.Results.{one_is, before_is, writes_none}
-use Rattle.instrument.proofs.Standing.{Setting, Target, Did, runs, Same, Has, IsSmall, IsOf}
+use Rattle.instrument.proofs.Standing.{Setting, Target, Did, runs, Has, IsSmall, IsOf}
 use Rattle.instrument.proofs.Following.{Evaluates, HasValue, HasNone, Places, HasPlace, HasNoPlace, Tests, HasTest, HasNoTest}
 use Rattle.instrument.proofs.Registers.{same_all, same_less, same_trans, same_set, get-set_same}
 

@@ -20,7 +20,7 @@ use Rattle.c_model.specs.Conversions.{promoted}
 use Rattle.c_model.specs.Laws.{type_of_result}
 use Rattle.c_model.specs.Memory.{Null, Into, Value, Integer, Points}
 use Rattle.c_model.specs.State.{State, Outcome, Normal, Stop, Evaluation, on_outcome, ◌>>=◌, give, defined, computed, object, start_of, read_any, find}
-use Rattle.c_model.specs.Meaning.{Tables, tables_of, eval_with, place_with, truth_value, is_zero, operate_value, operate_values, unit_of, converted, value_as, named, is_array, is_of_library, is_member, address, pointed_to, member, literal, choose}
+use Rattle.c_model.specs.Meaning.{Tables, tables_of, eval_with, place_with, truth_value, is_zero, operate_value, operate_values, unit_of, converted, named, is_array, is_of_library, is_member, address, pointed_to, member, literal}
 use Rattle.c_model.specs.Meaning as source
 use Rattle.c_model.specs.ExpressionTyping.{Sight}
 use Rattle.c_model.specs.ExpressionTyping.{has_object}
@@ -36,9 +36,10 @@ use Rattle.mon_syntax.specs.Trees.{MonExpression, Register, Constant, NoStatemen
 use Rattle.mon_syntax.specs.Arithmetic.{is_pointer}
 use Rattle.c_model.specs.Pure.{IsPure}
 use Rattle.c_effects.specs.Letters.{IsLetter, HasLetters}
-use Rattle.c_effects.specs.Expressions.{register_type, value_type, before, one, set, setup, value, place, temporaries, condition, truth_of, condition_of, unary, binary, in_type, pointer_to, loaded, farther, element, indexed, operated, compared}
+use Rattle.c_effects.specs.Expressions.{register_type, value_type, before, set, setup, value, place, temporaries, condition, truth_of, condition_of, unary, binary, in_type, pointer_to, loaded, farther, element, indexed, operated, compared}
 use Rattle.c_effects.specs.Expressions as spec
-use Rattle.instrument.proofs.Standing.{Setting, Target, runs, Same, Has, IsOf, Bounded, Anchored, Knows}
+use Rattle.annot_code.specs.Does.{Same}
+use Rattle.instrument.proofs.Standing.{Setting, Target, runs, Has, IsOf, Bounded, Anchored, Knows}
 use Rattle.instrument.proofs.Following.{Evaluates, HasValue, HasNone, Places, HasPlace, HasNoPlace, Tests, anchored_same}
 use Rattle.instrument.proofs.Registers.{same_all, same_less, longer}
 use Rattle.instrument.proofs.Anchors.{pointer_has}

@@ -23,7 +23,8 @@ use Rattle.c_effects.specs.Letters.{FullHasLetters, InitialiserHasLetters, Initi
 use Rattle.c_effects.specs.Expressions.{before, one, setup, value, temporaries}
 use Rattle.c_effects.specs.Effects.{full_temporaries, full_setup, full_value, store, part_temporaries, one_temporaries, fill_temporaries, parts_temporaries, initial_temporaries, stored_at, bytes_at}
 use Rattle.c_effects.specs.Effects as translation
-use Rattle.instrument.proofs.Standing.{Setting, Target, runs, Same, Has, IsOf, Anchored, Knows, Bounded, Here, Beside}
+use Rattle.annot_code.specs.Does.{Same}
+use Rattle.instrument.proofs.Standing.{Setting, Target, runs, Has, IsOf, Anchored, Knows, Bounded, Here, Beside}
 use Rattle.instrument.proofs.Registers.{same_all, longer}
 use Rattle.instrument.proofs.Results.{before_is}
 use Rattle.instrument.proofs.Following.{Follows, Later, anchored_same, follows_value, follows_then, follows_lower}

@@ -6,7 +6,7 @@ use Rattle.c_syntax.specs.declared.place.Place.{Place}
 use Rattle.c_syntax.specs.Ctypes.{PlainType}
 use Rattle.c_syntax.specs.Layouts.{Scalar, scalar_of}
 use Rattle.c_model.specs.Memory.{Pointer, Value, Integer, Points, kill_from}
-use Rattle.c_model.specs.State.{State, Scope, Final, Fault, Undefined, Leaves, Over, Outcome, Normal, Stop, Evaluation, on_outcome, find}
+use Rattle.c_model.specs.State.{State, Scope, Final, Fault, Undefined, Leaves, Over, Outcome, Normal, Stop, Evaluation, on_outcome}
 use Rattle.c_model.specs.State as source
 use Rattle.c_model.specs.Meaning.{is_zero}
 use Rattle.c_model.specs.Meaning as source_meaning
@@ -19,8 +19,9 @@ use Rattle.mon_syntax.specs.Trees.{MonExpression, MonStatements}
 use Rattle.c_effects.specs.Expressions.{before}
 use Rattle.instrument.specs.Translation.{end_label, next_label}
 use Rattle.instrument.proofs.Results.{written, written_writes, written_then, before_is}
-use Rattle.instrument.proofs.Standing.{Target, Did, Setting, runs, Same, Has, IsSmall, IsOf, Bounded, Here, Beside, IsAnchored, InRegister, AtGlobal, Anchored, Standing}
+use Rattle.instrument.proofs.Standing.{Target, Did, Setting, runs, Has, IsSmall, IsOf, Bounded, Here, Beside, IsAnchored, InRegister, AtGlobal, Anchored, Standing}
 use Rattle.mon_syntax.specs.BlockMemory.{Blocks}
+use Rattle.annot_code.specs.Does.{Same}
 use Rattle.instrument.proofs.Pointers.{IsInside}
 use Rattle.instrument.proofs.Registers.{same_all, same_less, same_trans}
 

@@ -19,7 +19,7 @@ use Rattle.c_model.proofs.Conversions.{fits-convert}
 use Rattle.mon_syntax.specs.declared.tree.MonType.{MonType}
 use Rattle.mon_syntax.specs.declared.tree.MonType.TheVariants as kind
 use Rattle.mon_syntax.specs.Registers.{Bindings}
-use Rattle.mon_syntax.specs.Meaning.{Result, Done, Stops, Flow, Next, then_do, at_next, writes, given_to, eval, eval_all}
+use Rattle.mon_syntax.specs.Meaning.{Done, Flow, Next, then_do, at_next, writes, given_to, eval_all}
 use Rattle.mon_syntax.specs.Meaning.{◌>>=◌ as bind}
 use Rattle.mon_syntax.specs.Meaning as monitored
 use Rattle.mon_syntax.specs.BlockMemory.{Blocks, over_blocks}
@@ -30,11 +30,12 @@ use Rattle.c_effects.specs.Expressions.{register_type, value_type, in_type, temp
 use Rattle.c_effects.specs.Expressions as spec
 use Rattle.c_effects.specs.Effects.{arguments_temporaries, full_temporaries, arguments_setup, arguments, full_value, call, called, full_setup}
 use Rattle.instrument.proofs.Results.{written, writes_none, written_then, before_is}
-use Rattle.instrument.proofs.Standing.{Setting, Target, Did, runs, Same, Has, IsOf, Bounded, Anchored, Knows, Here, Standing, Beside}
+use Rattle.instrument.proofs.Standing.{Setting, Target, Did, runs, Has, IsOf, Bounded, Anchored, Knows, Here, Standing, Beside}
 use Rattle.instrument.proofs.Registers.{same_all, same_less, same_trans, same_set, get-set_same, longer}
-use Rattle.instrument.proofs.Following.{Evaluates, Later, later_same, IsResult, IsResultOf, Follows, IsOver, IsUndefined, anchored_same, onward, undefined_here, follows_value}
+use Rattle.instrument.proofs.Following.{Evaluates, Later, later_same, IsResult, IsResultOf, Follows, IsOver, IsUndefined, anchored_same, onward, undefined_here}
 use Rattle.instrument.proofs.Following as following
 use Rattle.c_model.specs.AcceptedPrograms.{AreScalar}
+use Rattle.annot_code.specs.Does.{Same}
 use Rattle.instrument.proofs.Calls.{value_of, Alike, Called, Gives, EndsRun, HasNoMeaning, AreOf, HaveAll, takes, CallDoes, DoesCall, CallsNothing, IsCalled, even, beside_even}
 use Rattle.instrument.proofs.Values.{in_type_converts}
 use Rattle.instrument.proofs.Evaluating.{behind_setup}

@@ -13,7 +13,7 @@ use Rattle.c_model.specs.Meaning.{Callee, Tables, tables_of, global_scope, param
 use Rattle.c_model.specs.UnitTyping.{types_of}
 use Rattle.c_model.proofs.Agreement.{extends_trans}
 use Rattle.mon_syntax.specs.Registers.{Bindings, RegisterTable, no_registers, with_kinds}
-use Rattle.mon_syntax.specs.Meaning.{Result, Done, Stops, Next, Goes, Returns, then_do, at_next, at_return, body_runs, left_frame, registers, writes, replied, zeros, zero_result, exec_all}
+use Rattle.mon_syntax.specs.Meaning.{Result, Done, Stops, Next, then_do, at_next, at_return, body_runs, left_frame, registers, writes, replied, zeros, zero_result, exec_all}
 use Rattle.mon_syntax.specs.Meaning as monitored
 use Rattle.mon_syntax.specs.Memory.{Gives, IsFull}
 use Rattle.mon_syntax.specs.BlockMemory.{over_blocks}
@@ -22,8 +22,8 @@ use Rattle.mon_syntax.specs.Trees.{MonFunction, MonStatements, MonRegister}
 use Rattle.c_effects.specs.Expressions.{before}
 use Rattle.track_scopes.specs.Blocks.{deaths, with_born}
 use Rattle.track_scopes.specs.Lives as lives
-use Rattle.track_scopes.specs.Lives.{AreFrom, Enters, with_store}
-use Rattle.instrument.specs.Translation.{Spot, with_variables, body_part, code_of, front, front_temporaries, function_of, value_types, registers_of_body, result_of}
+use Rattle.track_scopes.specs.Lives.{AreFrom, with_store}
+use Rattle.instrument.specs.Translation.{Spot, body_part, code_of, front, front_temporaries, function_of, value_types, registers_of_body, result_of}
 use Rattle.mon_syntax.specs.declared.tree.MonType.{MonType}
 use Rattle.instrument.specs.Translation as target
 use Rattle.instrument.proofs.Standing.{Target, Did, Setting, runs, Bounded, Here, Beside, Anchored}
@@ -36,7 +36,7 @@ use Rattle.instrument.proofs.Following.{standing_as, Later, Follows, GoesOn, Bre
 use Rattle.instrument.proofs.Births.{names_of, with_numbers, pointed_point, pointed_same}
 use Rattle.instrument.proofs.Blocks.{Meets}
 use Rattle.instrument.proofs.Parameters.{AreScalars, HoldInOrder, BearsAll, AllBorn, SomeFull, SomeUndefined, parameters_follow}
-use Rattle.instrument.proofs.Calls.{Even, value_of, Called, EndsRun, HasNoMeaning, AreOf}
+use Rattle.instrument.proofs.Calls.{Even, Called, EndsRun, HasNoMeaning, AreOf}
 use Rattle.instrument.proofs.Calls as calls
 use Rattle.instrument.proofs.Own.{AreOwn}
 

@@ -14,7 +14,6 @@ use Rattle.c_model.specs.TypedTrees.{WellTyped}
 use Rattle.mon_syntax.specs.declared.tree.MonType.{MonType}
 use Rattle.mon_syntax.specs.Registers.{Bindings}
 use Rattle.mon_syntax.specs.Meaning.{Next}
-use Rattle.mon_syntax.specs.Trees.{MonStatements}
 use Rattle.mon_syntax.specs.Trees as tree
 use Rattle.c_model.specs.Pure.{IsPureOrCall}
 use Rattle.c_effects.specs.Letters.{FullHasLetters}

@@ -19,7 +19,8 @@ use Rattle.mon_syntax.specs.Trees.{MonExpression, If, Goto, Labelled, Loop, MonS
 use Rattle.c_effects.specs.Expressions.{before, one}
 use Rattle.track_scopes.specs.Lives.{AreBefore}
 use Rattle.instrument.specs.Translation.{Spot, in_loop, end_label, next_label, leave_where_zero, loop}
-use Rattle.instrument.proofs.Standing.{Target, Did, Setting, runs, Same, Here, Standing, Beside}
+use Rattle.annot_code.specs.Does.{Same}
+use Rattle.instrument.proofs.Standing.{Target, Did, Setting, runs, Here, Standing, Beside}
 use Rattle.instrument.proofs.Results.{written, writes_none, written_then, one_is, before_is, rest_first}
 use Rattle.instrument.proofs.Registers.{same_all}
 use Rattle.instrument.proofs.Deaths.{kill_none, all_before}

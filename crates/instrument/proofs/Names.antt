@@ -12,7 +12,7 @@ use Rattle.std.proofs.Math.Nat.{min-le_left}
 use Rattle.c_model.specs.Characters.{is_digit, is_part}
 use Rattle.mon_syntax.specs.declared.tree.MonType.{MonType}
 use Rattle.mon_syntax.specs.declared.tree.MonType.TheVariants.{I8, U8, I16, U16, I32, U32, I64, U64, I128, Ptr}
-use Rattle.mon_syntax.specs.Names.{IsFreeName, is_reserved, begins_name}
+use Rattle.mon_syntax.specs.Names.{IsFreeName, is_reserved}
 use Rattle.mon_syntax.specs.Names as words
 use Rattle.instrument.specs.Translation.{end_label, next_label, register_name, pointer_name, temporary_name, function_name, name_of_register, global_name, text_name}
 

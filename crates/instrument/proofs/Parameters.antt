@@ -19,13 +19,12 @@ use Rattle.mon_syntax.specs.Registers.{RegisterTable}
 use Rattle.mon_syntax.specs.Meaning.{Done, Stops, Next, then_do, at_next, exec}
 use Rattle.mon_syntax.specs.BlockMemory.{over_blocks}
 use Rattle.mon_syntax.specs.LiveBlocks.{LiveBlock}
-use Rattle.mon_syntax.specs.Trees.{MonExpression, MonStatements, NoStatement}
 use Rattle.mon_syntax.specs.Trees as tree
 use Rattle.c_effects.specs.Expressions.{value_type}
-use Rattle.track_scopes.specs.Blocks.{AreSmall, with_pointer, entered, deaths, with_born}
+use Rattle.track_scopes.specs.Blocks.{with_pointer, entered}
 use Rattle.track_scopes.specs.Blocks as target_blocks
 use Rattle.track_scopes.specs.Lives as lives
-use Rattle.track_scopes.specs.Lives.{Births, AllAre, OneIsFull, Enters, PointToBorn, with_store}
+use Rattle.track_scopes.specs.Lives.{Births, AllAre, OneIsFull, PointToBorn, with_store}
 use Rattle.instrument.specs.Translation.{Spot, with_variables}
 use Rattle.instrument.specs.Translation as target
 use Rattle.instrument.proofs.Standing.{Target, Did, Setting, runs, IsOf, Here, Beside}

@@ -14,7 +14,7 @@ use Rattle.c_model.specs.Operators.{quotient}
 use Rattle.c_model.specs.Conversions.{is_relation}
 use Rattle.c_model.specs.Memory.{Pointer, Null, Into, Value, Integer, Points, load, moved, distance, apart, live_size, block_at, equal_pointers, tested_value}
 use Rattle.c_model.specs.State.{State, Outcome, Normal, Stop, Evaluation, on_outcome, give, defined, computed, read, read_any, tested}
-use Rattle.c_model.specs.Meaning.{pointed_to, member, address, is_member, unit_of, is_zero, operate_values, elements_between}
+use Rattle.c_model.specs.Meaning.{pointed_to, member, address, is_member, unit_of, operate_values, elements_between}
 use Rattle.c_model.specs.Meaning as source
 use Rattle.c_model.specs.ExpressionTyping.{is_step, is_difference}
 use Rattle.mon_syntax.specs.declared.tree.MonType.{MonType}
@@ -25,7 +25,8 @@ use Rattle.mon_syntax.specs.Meaning.{number_or_none}
 use Rattle.mon_syntax.specs.BlockMemory.{over_blocks}
 use Rattle.mon_syntax.specs.Trees.{MonExpression, Binary, Load, Constant, Register, MonStatements}
 use Rattle.c_effects.specs.Expressions.{register_type, value_type, loaded, farther, element, element_back, indexed, pointer_and_integer, two_pointers, operated, binary, condition, before, set}
-use Rattle.instrument.proofs.Standing.{Setting, Target, Did, runs, Same, Has, IsSmall, IsOf, Bounded}
+use Rattle.annot_code.specs.Does.{Same}
+use Rattle.instrument.proofs.Standing.{Setting, Target, Did, runs, Has, IsSmall, IsOf, Bounded}
 use Rattle.instrument.proofs.Following.{Evaluates, HasValue, HasNone, Places, HasPlace, HasNoPlace, Tests, HasTest, HasNoTest}
 use Rattle.instrument.proofs.Bounds.{loaded_is_of}
 use Rattle.instrument.proofs.Integers.{is_number, truth_fits}

@@ -3,10 +3,10 @@ use Rattle.std.proofs.Common.{◌≡◌, ℕ, zero, suc, ◌<◌, ◌≤◌, Lis
 use Rattle.c_model.specs.Memory.{Value}
 use Rattle.c_model.proofs.Blocks.{slice_get-slice_set_same, slice_get-slice_set_other}
 use Rattle.mon_syntax.specs.declared.tree.MonType.{MonType}
-use Rattle.instrument.proofs.Standing.{Same}
 use Rattle.mon_syntax.specs.Registers.{Bindings, register_of, bound_with}
 use Rattle.std.proofs.lemmas.Bool.{eq-eqb}
 use Rattle.std.proofs.lemmas.Bool.Decides.{nat_tests}
+use Rattle.annot_code.specs.Does.{Same}
 
 -- ---- lists
 

@@ -51,11 +51,6 @@ Has w e regs mem v = eval over_blocks w.globals e regs mem ≡ Some v
 
 -- ---- registers
 
--- the same registers below n
-pub record Same (n : ℕ) (regs after : List Value) : Type 0 where
-  pub long : length after ≡ length regs
-  pub below : (j : ℕ) → j < n → slice_get after j ≡ slice_get regs j
-
 -- where the object of a declaration stands, in the block with this number: a register below `low` is bound to the declaration and points to the
 -- start of the block, or else it is a global's
 pub data IsAnchored (w : Setting) (low : ℕ) (bound : Bindings) (regs : List Value) (x number : ℕ) : Type 0 where

@@ -8,9 +8,9 @@ use Rattle.c_syntax.specs.Statements.{Declaration, Statement, Empty, Eval, Block
 use Rattle.c_syntax.specs.Programs.{TranslationUnit}
 use Rattle.c_syntax.specs.Layouts.{Scalar, scalar_of}
 use Rattle.c_model.specs.Memory.{Value, kill_from}
-use Rattle.c_model.specs.State.{State, Leaves, Returns, Outcome, Normal, Stop, Evaluation, on_outcome, ◌>>◌, stop, births, within, restored, tested}
+use Rattle.c_model.specs.State.{State, Leaves, Returns, Outcome, Stop, Evaluation, on_outcome, ◌>>◌, stop, births, within, restored}
 use Rattle.c_model.specs.State as state
-use Rattle.c_model.specs.Meaning.{Tables, tables_of, eval_with, exec_with, else_with, first_with, item_with, items_with, condition_with, effect_with, initialise_all, declared_in, declared_first, turns, is_zero}
+use Rattle.c_model.specs.Meaning.{Tables, tables_of, exec_with, else_with, first_with, items_with, condition_with, effect_with, initialise_all, declared_in, declared_first, turns}
 use Rattle.c_model.specs.Meaning as source
 use Rattle.c_model.specs.Predicates.{checks}
 use Rattle.c_model.specs.ExpressionTyping.{Sight, inner, with_objects}
@@ -19,7 +19,7 @@ use Rattle.c_model.specs.TypedTrees.{WellTyped, IsCondition, WhereAny, Returned,
 use Rattle.c_model.specs.Formed.{declared_within}
 use Rattle.mon_syntax.specs.declared.tree.MonType.{MonType}
 use Rattle.mon_syntax.specs.Registers.{Bindings, RegisterTable, with_kinds, next_register}
-use Rattle.mon_syntax.specs.Meaning.{Flow, Next, Goes, Done, then_do, at_next, with_value, exec_all}
+use Rattle.mon_syntax.specs.Meaning.{Next, Goes, Done, then_do, at_next, with_value, exec_all}
 use Rattle.mon_syntax.specs.Meaning as monitored
 use Rattle.mon_syntax.specs.BlockMemory.{over_blocks, integer_of}
 use Rattle.mon_syntax.specs.LiveBlocks.{live_in}
@@ -33,14 +33,14 @@ use Rattle.instrument.specs.Limits.{HasNumbers, ElseHasNumbers, FirstHasNumbers,
 use Rattle.c_effects.specs.Expressions.{value_type, temporaries, setup, condition_of, before, one, set}
 use Rattle.annot_code.specs.Code.{assertions}
 use Rattle.annot_code.proofs.Asserted.{behind_grows}
-use Rattle.c_effects.specs.Effects.{full_temporaries, full_setup, full_value, effect_temporaries, any_temporaries, declaration_temporaries, effect_if_any}
+use Rattle.c_effects.specs.Effects.{full_temporaries, full_value, effect_temporaries, any_temporaries, declaration_temporaries, effect_if_any}
 use Rattle.c_effects.specs.Effects as effects
 use Rattle.track_scopes.specs.Blocks.{entered, deaths, with_born}
 use Rattle.track_scopes.specs.Lives.{with_store}
-use Rattle.instrument.specs.Translation.{Spot, returned_temporaries, after_statement, after_else, after_first, after_item, after_items, with_variables, test, test_if_any, statement, else_part, first_part, item, items, end_label, next_label, loop}
+use Rattle.instrument.specs.Translation.{Spot, returned_temporaries, after_statement, after_else, after_first, after_item, after_items, with_variables, test, test_if_any, statement, else_part, first_part, items, end_label, next_label, loop}
 use Rattle.instrument.specs.Translation as target
 use Rattle.instrument.proofs.DeclarationCode.{next-entered}
-use Rattle.instrument.proofs.Standing.{Target, Setting, runs, Same, Has, IsOf, Here, Beside}
+use Rattle.instrument.proofs.Standing.{Target, Setting, runs, Has, IsOf, Here, Beside}
 use Rattle.track_scopes.proofs.Births.{births_enter}
 use Rattle.track_scopes.proofs.Deaths.{deaths_leave}
 use Rattle.instrument.proofs.Results.{writes_none, one_is, before_is}
@@ -54,6 +54,7 @@ use Rattle.instrument.proofs.Declared.{AreBorn, CanDeclare, ElseCanDeclare, Item
 use Rattle.instrument.proofs.Expressions as expressions
 use Rattle.instrument.proofs.Expressions.{handed_on}
 use Rattle.c_model.specs.TypedAnnotations.{StatementNoted, ElseNoted, ItemsNoted}
+use Rattle.annot_code.specs.Does.{Same}
 use Rattle.instrument.proofs.InitialisedVariables.{initials_follow}
 use Rattle.instrument.proofs.Scenes.{Scene, scene_inner, scene_with_all, scene_behind_first, AreFound, DeclarationsFound, found_with_all, declarations_found-append}
 use Rattle.instrument.proofs.Sight.{scope_for, sees_found, sees_born, declared_born}

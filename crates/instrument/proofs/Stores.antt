@@ -15,8 +15,9 @@ use Rattle.mon_syntax.specs.Trees as tree
 use Rattle.c_effects.specs.Expressions.{before, one, set, farther}
 use Rattle.c_effects.specs.Effects.{offset_in, into_object, store}
 use Rattle.track_scopes.specs.Lives.{with_store}
+use Rattle.annot_code.specs.Does.{Same}
 use Rattle.instrument.proofs.Results.{one_is, writes_none}
-use Rattle.instrument.proofs.Standing.{Setting, Target, Did, runs, Same, Has, IsOf, Bounded, Here, Beside}
+use Rattle.instrument.proofs.Standing.{Setting, Target, Did, runs, Has, IsOf, Bounded, Here, Beside}
 use Rattle.instrument.proofs.Registers.{same_all, same_set, get-set_same}
 use Rattle.instrument.proofs.Following.{Follows, GoesOn, later_same, onward, undefined_here}
 use Rattle.instrument.proofs.Bounds.{saved_value}

@@ -17,7 +17,8 @@ use Rattle.annot_code.specs.Code.{behind_assertions}
 use Rattle.annot_code.proofs.Asserted.{behind_begins}
 use Rattle.instrument.specs.Translation.{returned_temporaries, after_statement, after_else, after_first, after_item, after_items}
 use Rattle.mon_syntax.specs.Registers.{register_of}
-use Rattle.instrument.proofs.Typed.{Begins, begins_front, register_at, HasPointer, Aim, has_aim, aim_has}
+use Rattle.annot_code.specs.Validity.{Begins}
+use Rattle.instrument.proofs.Typed.{begins_front, register_at, HasPointer, Aim, has_aim, aim_has}
 use Rattle.instrument.proofs.Registers.{register_of-bound_same, register_of-bound_other}
 
 -- ---- registers are only added
@@ -34,8 +35,7 @@ begins_added a b = record { rest = b; is = refl }
 behind_asserts : (p : TranslationUnit) (bound : Bindings) (rs : Types) (l : List Annotation) → Begins rs (behind_assertions p bound rs l)
 behind_asserts p bound rs l =
     let all = behind_assertions p bound rs l in
-    let b = behind_begins all p bound rs l (record { rest = []; is = sym (append-nil all) }) in
-    record { rest = b.rest; is = b.is }
+    behind_begins all p bound rs l (record { rest = []; is = sym (append-nil all) })
 
 pub entered_begins : (ds : List Declaration) (r : RegisterTable) → Begins r.kinds (entered ds r).kinds
 entered_begins [] r = begins_itself r.kinds

@@ -1,5 +1,5 @@
 -- Terms of annotations in a state of the source: what they read is in sight, and their values lie in their ranges.
-use Rattle.std.proofs.Common.{◌≡◌, ℤ, pos, true, Some, sym, ap, subst}
+use Rattle.std.proofs.Common.{◌≡◌, ℤ, pos, true, sym, ap, subst}
 use Rattle.c_syntax.specs.Layouts.{IntegerType}
 use Rattle.c_syntax.specs.Logic.{LogicTerm, Number, Letter, Variable, Unary, Binary, Cast, Choice, Links, NoLink, Linked, Predicate, Truth, NonZero, Chain, Not, Connected, Branch}
 use Rattle.c_model.specs.Integers.{fits}

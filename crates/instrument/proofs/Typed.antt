@@ -44,6 +44,7 @@ use Rattle.c_model.specs.TypedTrees.{IndexTypes, OnTheLeft, OnTheRight, Compound
 use Rattle.c_effects.specs.Expressions.{register_type, value_type, operand_type, operator_of, in_type, compared, condition, truth, binary, temporaries, scaled, farther, element, pointer_and_integer}
 use Rattle.c_effects.specs.Expressions.{two_pointers, operated, indexed, converted, compound, global_index, pointer_of, pointer_to, loaded, value, place, truth_of, condition_of}
 use Rattle.c_effects.specs.Effects.{block_register, block_of, current}
+use Rattle.annot_code.specs.Validity.{Begins}
 use Rattle.instrument.proofs.ExpressionTypes.{place_has_object}
 use Rattle.instrument.proofs.Parts.{StructsFit, near}
 use Rattle.instrument.proofs.Integers.{operand_is, is_number, number_result, number_second, number_operator}
@@ -212,11 +213,6 @@ pub promoted_scalar : (t : PlainType) → IsPromoted t → IsScalar t
 promoted_scalar t i = int_scalar t (promoted i.int) i.is
 
 -- ---- registers of these types
-
--- registers of these types come first
-pub record Begins (rs ts : Types) : Type 0 where
-  pub rest : Types
-  pub is : ts ≡ rs ++ rest
 
 pub begins_left : (rs a b ts : Types) → Begins (rs ++ (a ++ b)) ts → Begins (rs ++ a) ts
 begins_left rs a b ts h = record { rest = b ++ h.rest; is = h.is ∙ ap (λ l. l ++ h.rest) (sym (append_assoc rs a b)) ∙ append_assoc (rs ++ a) b h.rest }

@@ -7,7 +7,7 @@ use Rattle.c_syntax.specs.Statements.{BlockItems}
 use Rattle.c_syntax.specs.Programs.{Function, TranslationUnit}
 use Rattle.c_syntax.specs.Layouts.{size_of}
 use Rattle.c_model.specs.Formed as form
-use Rattle.c_model.specs.Formed.{number_of, AreNamed, FunctionNamed}
+use Rattle.c_model.specs.Formed.{AreNamed, FunctionNamed}
 use Rattle.c_model.specs.Meaning.{is_definition}
 use Rattle.c_model.specs.ExpressionTyping.{Sight, Object, AnObject, entity_named, inner}
 use Rattle.c_model.specs.UnitTyping.{main_fault, room_fault, with_parameters}

@@ -1,5 +1,5 @@
 -- Translated annotations are valid, and how deep they stand.
-use Rattle.std.proofs.Common.{◌≡◌, ℕ, ◌≤◌, ℤ, pos, negsuc, false, List, [], ◌∷◌, Option, Some, slice_get, refl, arith}
+use Rattle.std.proofs.Common.{◌≡◌, ℕ, ℤ, pos, negsuc, false, List, [], ◌∷◌, Option, Some, slice_get, refl, arith}
 use Rattle.std.proofs.lemmas.Bool.Decides.{nat_tests}
 use Rattle.std.proofs.lemmas.Int.{ints}
 use Rattle.std.specs.Ordering.{int_eq}
@@ -16,15 +16,14 @@ use Rattle.mon_syntax.specs.Registers.{Bindings}
 use Rattle.mon_syntax.specs.Trees.{Register, Assert}
 use Rattle.mon_syntax.specs.Valid.{Types, IsExpression, AreStatements, Labels, Signature}
 use Rattle.c_effects.specs.Expressions.{one}
-use Rattle.annot_code.specs.Code.{clause_judgement, asserted, assertion, assertions, behind_assertion, behind_assertions}
+use Rattle.annot_code.specs.Code.{clause_judgement, assertion, assertions, behind_assertion, behind_assertions}
 use Rattle.annot_code.specs.Numbered.{IsNumbered, AreNumbered}
-use Rattle.annot_code.specs.Validity.{TermWritable, LinksWritable, PredicateWritable, IsValidCode}
-use Rattle.annot_code.specs.Validity as code
+use Rattle.annot_code.specs.Validity.{TermWritable, LinksWritable, PredicateWritable, IsValidCode, Begins}
 use Rattle.annot_code.proofs.Asserted.{behind_begins}
 use Rattle.annot_code.proofs.ValidCode.{code_is_valid}
+use Rattle.annot_code.proofs.ValidParts.{before_valid}
 use Rattle.instrument.proofs.RangedTrees.{AreRangedAsserts}
-use Rattle.instrument.proofs.Typed.{Begins, Knows, count_of_globals, seen, pointer_typed}
-use Rattle.instrument.proofs.ValidSetups.{before_valid}
+use Rattle.instrument.proofs.Typed.{Knows, count_of_globals, seen, pointer_typed}
 
 -- ---- terms and predicates can be written
 
@@ -67,11 +66,11 @@ module _ (unit : TranslationUnit) (ts : Types) (bound : Bindings) (s : Sight) (k
     register_valid : (r : ℕ) → Are I32 r → IsExpression globals ts (Register r) I32
     register_valid r h = record { typed = h; within = omega arith }
 
-    clause_valid : (rs : Types) (c : ClauseBody) → IsShortClause c → ClauseTyped s c → ClauseRanged c → code.Begins (clause_judgement unit bound c rs).used ts → IsValidCode globals gs ts result ls (clause_judgement unit bound c rs)
+    clause_valid : (rs : Types) (c : ClauseBody) → IsShortClause c → ClauseTyped s c → ClauseRanged c → Begins (clause_judgement unit bound c rs).used ts → IsValidCode globals gs ts result ls (clause_judgement unit bound c rs)
     clause_valid rs (Raw f) p q r b = absurd p
     clause_valid rs (Holds c) p q r b = code_is_valid unit bound globals gs ts result ls c rs r (predicate_writable c p.numbered q) p.short b
 
-    assertion_valid : (rs : Types) (a : Annotation) → IsAssert a → ClauseTyped s a.body → ClauseRanged a.body → IsNumbered a → code.Begins (behind_assertion unit bound rs a) ts
+    assertion_valid : (rs : Types) (a : Annotation) → IsAssert a → ClauseTyped s a.body → ClauseRanged a.body → IsNumbered a → Begins (behind_assertion unit bound rs a) ts
         → AreStatements globals gs ts result ls (assertion unit bound rs a)
     assertion_valid rs a p q r k b =
         let j = clause_judgement unit bound a.body rs in
@@ -79,13 +78,10 @@ module _ (unit : TranslationUnit) (ts : Types) (bound : Bindings) (s : Sight) (k
         before_valid globals gs ts result ls j.stmts (one (Assert (Register j.flag) (Register j.truth) a.number a.place.line a.kind)) v.statements
         ((register_valid j.flag v.flag_type, register_valid j.truth v.truth_type, k.number, k.line), tt)
 
-    all_valid : (rs : Types) (l : List Annotation) → AreRangedAsserts l → AnnotationsTyped s l → AreNumbered l → code.Begins (behind_assertions unit bound rs l) ts → AreStatements globals gs ts result ls (assertions unit bound rs l)
-    all_valid rs [] p q k b = tt
-    all_valid rs (a ∷ l) p q k b =
+    pub assertions_valid : (rs : Types) (l : List Annotation) → AreRangedAsserts l → AnnotationsTyped s l → AreNumbered l → Begins (behind_assertions unit bound rs l) ts → AreStatements globals gs ts result ls (assertions unit bound rs l)
+    assertions_valid rs [] p q k b = tt
+    assertions_valid rs (a ∷ l) p q k b =
         let here = behind_assertion unit bound rs a in
         before_valid globals gs ts result ls (assertion unit bound rs a) (assertions unit bound here l)
         (assertion_valid rs a p.are.0 q.0 p.ranged.0 k.0 (behind_begins ts unit bound here l b))
-        (all_valid here l (record { are = p.are.1; ranged = p.ranged.1 }) q.1 k.1 b)
-
-    pub assertions_valid : (rs : Types) (l : List Annotation) → AreRangedAsserts l → AnnotationsTyped s l → AreNumbered l → Begins (behind_assertions unit bound rs l) ts → AreStatements globals gs ts result ls (assertions unit bound rs l)
-    assertions_valid rs l p q k b = all_valid rs l p q k (record { rest = b.rest; is = b.is })
+        (assertions_valid here l (record { are = p.are.1; ranged = p.ranged.1 }) q.1 k.1 b)

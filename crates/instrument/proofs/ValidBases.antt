@@ -18,8 +18,9 @@ use Rattle.c_model.specs.ExpressionTyping.{has_object}
 use Rattle.c_model.specs.TypedTrees.{HasMember, WellTyped}
 use Rattle.c_effects.specs.Expressions.{value_type, farther, value, temporaries}
 use Rattle.c_effects.specs.Effects.{base, offset_in, member_temporaries}
+use Rattle.annot_code.specs.Validity.{Begins}
 use Rattle.instrument.proofs.Parts.{member_inside, struct_small}
-use Rattle.instrument.proofs.Typed.{Begins, Knows, count_of_globals, pointer_scalar, register_at, bytes_constant, expression_valid, place_valid}
+use Rattle.instrument.proofs.Typed.{Knows, count_of_globals, pointer_scalar, register_at, bytes_constant, expression_valid, place_valid}
 
 module _ (p : TranslationUnit) (ts : Types) (bound : Bindings) (s : Sight) (knows : Knows p ts bound s) where
   -- ---- offsets

@@ -10,15 +10,16 @@ use Rattle.c_model.specs.ExpressionTyping.{Signature as Known}
 use Rattle.mon_syntax.specs.declared.tree.MonType.{MonType}
 use Rattle.mon_syntax.specs.declared.tree.MonType.TheVariants.{U64, Ptr}
 use Rattle.mon_syntax.specs.Registers.{Bindings, RegisterTable}
-use Rattle.mon_syntax.specs.Trees.{MonStatements, NoStatement}
+use Rattle.mon_syntax.specs.Trees.{MonStatements}
 use Rattle.mon_syntax.specs.Trees as tree
 use Rattle.mon_syntax.specs.Valid.{Types, Labels, Signature, IsExpression, AreStatements, depth_of_all}
 use Rattle.c_effects.specs.Expressions.{before}
 use Rattle.track_scopes.specs.Blocks.{births, deaths, with_born}
 use Rattle.instrument.specs.Translation.{alive}
+use Rattle.annot_code.proofs.Depths.{deep_before}
+use Rattle.annot_code.proofs.ValidParts.{before_valid}
 use Rattle.instrument.proofs.Typed.{HasPointer, has_aim, Seen, AreSeen, Knows, is_global, Reaches, size_constant}
 use Rattle.instrument.proofs.Tables.{HavePointers, Keeps, PointFrom, AllPoint, point_born}
-use Rattle.instrument.proofs.ValidSetups.{deep_before, before_valid}
 use Rattle.instrument.proofs.Own.{AreOwn}
 
 -- ---- what is in sight

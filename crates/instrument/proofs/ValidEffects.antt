@@ -30,12 +30,15 @@ use Rattle.c_effects.specs.Effects.{arguments_temporaries, full_temporaries, eff
 use Rattle.c_effects.specs.Effects.{value_temporaries, object_temporaries, assigned_temporaries, value_assigned, object_assigned, assigned, copy_size, copies_at}
 use Rattle.c_effects.specs.Effects.{arguments_setup, arguments, full_value, first_of, library_call, call, current, store, index_of, called, full_setup, effect}
 use Rattle.instrument.specs.Translation.{result_of}
-use Rattle.instrument.proofs.Typed.{Begins, begins_left, begins_right, register_at, Reaches, Aim, is_global, Knows, count_of_globals, scalar_is, seen, expression_valid, compound_valid, compound_typed, converted_typed}
+use Rattle.annot_code.proofs.Depths.{deep_before}
+use Rattle.annot_code.proofs.ValidParts.{before_valid, set_valid}
+use Rattle.annot_code.specs.Validity.{Begins}
+use Rattle.instrument.proofs.Typed.{begins_left, begins_right, register_at, Reaches, Aim, is_global, Knows, count_of_globals, scalar_is, seen, expression_valid, compound_valid, compound_typed, converted_typed}
 use Rattle.instrument.proofs.Typed.{parens_compound_of, parens_converted, compound_scalar, bytes_constant}
 use Rattle.instrument.proofs.ValidBases.{ends, base_valid, member_valid, member_register}
 use Rattle.instrument.proofs.Parts.{ScalarsInside, struct_small, all_scalars_inside}
 use Rattle.instrument.proofs.FullForms.{object_pure}
-use Rattle.instrument.proofs.ValidSetups.{no_step_before, no_step_setup, deep_before, deep_one, deep_set, deep_setup, some_forms, before_valid, set_valid, IsEvaluated, HasValue, HasObject, evaluated_scalar, operand_evaluated, setup_valid}
+use Rattle.instrument.proofs.ValidSetups.{no_step_before, no_step_setup, deep_one, deep_set, deep_setup, some_forms, IsEvaluated, HasValue, HasObject, evaluated_scalar, operand_evaluated, setup_valid}
 use Rattle.instrument.proofs.ExpressionTypes.{place_has_object, struct_no_scalar, bump_types}
 
 -- what holds of the statements of each function of the library holds of those of whichever has a name

@@ -14,7 +14,7 @@ use Rattle.c_model.specs.Meaning.{string_in, text_at, parts_or_itself, tables_of
 use Rattle.c_model.specs.ExpressionTyping.{Sight, tables_in}
 use Rattle.mon_syntax.specs.declared.tree.MonType.{MonType}
 use Rattle.mon_syntax.specs.declared.tree.MonType.TheVariants.{U8, Ptr}
-use Rattle.mon_syntax.specs.Trees.{MonExpression, MonStatements, NoStatement}
+use Rattle.mon_syntax.specs.Trees.{MonExpression, MonStatements}
 use Rattle.mon_syntax.specs.Registers.{Bindings}
 use Rattle.mon_syntax.specs.Trees as tree
 use Rattle.mon_syntax.specs.Valid.{Types, Labels, Signature, IsExpression, AreStatements, has_constant, depth_of_all}
@@ -29,8 +29,11 @@ use Rattle.c_model.specs.TypedTrees.{IsScalar, InitialisedBy, ByText, ByValue, I
 use Rattle.c_effects.specs.Expressions.{value_type, before, one, set, farther}
 use Rattle.c_effects.specs.Effects.{full_temporaries, full_setup, full_value, store, initial_temporaries, one_temporaries, fill_temporaries, parts_temporaries, stored_at, bytes_at, zero_type, zeros_at, zero_parts}
 use Rattle.c_effects.specs.Effects.{fill_one, fill, fill_parts, initialise}
-use Rattle.instrument.proofs.Typed.{Begins, begins_left, begins_right, register_at, Knows, count_of_globals, bytes_constant}
-use Rattle.instrument.proofs.ValidSetups.{deep_before, deep_one, deep_set, before_valid, set_valid}
+use Rattle.annot_code.proofs.Depths.{deep_before}
+use Rattle.annot_code.proofs.ValidParts.{before_valid, set_valid}
+use Rattle.annot_code.specs.Validity.{Begins}
+use Rattle.instrument.proofs.Typed.{begins_left, begins_right, register_at, Knows, count_of_globals, bytes_constant}
+use Rattle.instrument.proofs.ValidSetups.{deep_one, deep_set}
 use Rattle.instrument.proofs.ValidEffects.{CallsValid, full_valid, assigned_valid, deep_full, deep_behind_full}
 use Rattle.instrument.proofs.Parts.{StructsFit, PartsInside, ScalarsInside, parts_inside, all_scalars_inside}
 use Rattle.instrument.proofs.FullForms.{pure_full}

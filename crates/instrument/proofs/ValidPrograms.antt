@@ -38,11 +38,14 @@ use Rattle.c_effects.specs.Effects.{initial_temporaries, initialise}
 use Rattle.instrument.specs.Translation.{Spot, value_types, registers_of_body, registers_of, after_body, after_items, with_variables, body_part, parameters, items, code_of, function_name, arguments_from, result_of}
 use Rattle.instrument.specs.Translation.{function_of, functions_from, translated}
 use Rattle.instrument.specs.Translation.{monitored_globals, index_of_main, front, front_temporaries, global_temporaries, all_global_temporaries, initialise_global, initialise_globals}
+use Rattle.annot_code.proofs.Depths.{deep_before}
+use Rattle.annot_code.proofs.ValidParts.{before_valid, set_valid}
+use Rattle.annot_code.specs.Validity.{Begins}
 use Rattle.instrument.proofs.Names.{IsNumber, main_is_free, function_is_free, functions_differ}
-use Rattle.instrument.proofs.Typed.{Begins, begins_left, begins_right, register_at, is_global, Knows, count_of_globals, scalar_is}
+use Rattle.instrument.proofs.Typed.{begins_left, begins_right, register_at, is_global, Knows, count_of_globals, scalar_is}
 use Rattle.instrument.proofs.LaidOut.{structs_fit}
 use Rattle.instrument.proofs.Tables.{begins_itself, begins_then, entered_begins, items_begin, HavePointers, entered_keep, entered_have, AllPoint, PointFrom, entered_from, point_born}
-use Rattle.instrument.proofs.ValidSetups.{deep_before, deep_set, before_valid, set_valid}
+use Rattle.instrument.proofs.ValidSetups.{deep_set}
 use Rattle.instrument.proofs.ValidCalls.{signatures, calls_valid}
 use Rattle.instrument.proofs.ValidInitialisers.{initialise_valid, deep_initialise}
 use Rattle.instrument.proofs.ValidBlocks.{Sees, AreSmall, sees_one, sees_later, deep_deaths, birth_valid, deaths_valid, alive_valid}

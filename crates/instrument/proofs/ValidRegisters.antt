@@ -22,8 +22,9 @@ use Rattle.c_effects.specs.Expressions.{value_type}
 use Rattle.instrument.specs.Translation.{register_name, name_of_register, own_name, value_types, arguments_from, registers_from, registers_of, registers_of_body, after_body, global_name, text_name, globals_from, texts_from, monitored_globals}
 use Rattle.instrument.proofs.Names.{IsNumber, AllParts, register_is_free, registers_differ, named_free, named_differ, named_no_value, global_is_free}
 use Rattle.instrument.proofs.Names.{globals_differ, text_is_free, texts_differ, text_no_global, register_no_global, register_no_text, named_no_global, named_no_text}
-use Rattle.instrument.proofs.Typed.{Begins, begins_front}
+use Rattle.instrument.proofs.Typed.{begins_front}
 use Rattle.c_model.specs.ReadTree.{TextsAreBytes}
+use Rattle.annot_code.specs.Validity.{Begins}
 use Rattle.instrument.proofs.Tables.{begins_itself, begins_then, entered_begins, statement_begins}
 
 -- ---- types of arguments

@@ -1,6 +1,6 @@
 -- What stands before translated expressions is valid: types, steps and depth.
 use Rattle.std.proofs.Common.{◌≡◌, ℕ, suc, ◌+◌, ◌≤◌, pos, Bool, true, false, not, ◌&&◌, List, [], ◌∷◌, ◌++◌, length, Option, Some, slice_get, max, refl, sym, ap, ◌∙◌, subst, arith}
-use Rattle.std.proofs.Math.Nat.{max-le, le-max_left, le-max_right}
+use Rattle.std.proofs.Math.Nat.{max-le}
 use Rattle.c_syntax.specs.declared.expression.UnOp.TheVariants as prefix
 use Rattle.c_syntax.specs.Ctypes.{PlainType, Void}
 use Rattle.c_syntax.specs.Expressions.{Expression, Node, Number, Letter, Variable, Unary, Binary, Both, Either, Choice, Assign, Bump, Call, Cast, SizeOfType, SizeOfExpr, Text, Index, Dot, Arrow, Comma, type_of}
@@ -20,7 +20,10 @@ use Rattle.c_model.specs.Sizes.{forms_of, weight_of, most_weight}
 use Rattle.c_model.specs.ExpressionTyping.{has_object}
 use Rattle.c_model.specs.TypedTrees.{IsScalar, CastTypes, ToVoid, OfInteger, OfPointer, OfNullConstant, OfArray, WellTyped}
 use Rattle.c_effects.specs.Expressions.{value_type, before, one, set, setup, value, temporaries, truth_of, condition_of}
-use Rattle.instrument.proofs.Typed.{Begins, begins_left, begins_right, begins_front, register_at, Knows, count_of_globals, both_begin, choice_begins, pointer_scalar, promoted_scalar, integer_scalar, operands_scalar, index_scalar}
+use Rattle.annot_code.specs.Validity.{Begins}
+use Rattle.annot_code.proofs.ValidParts.{before_valid, set_valid}
+use Rattle.annot_code.proofs.Depths.{deep_before}
+use Rattle.instrument.proofs.Typed.{begins_left, begins_right, begins_front, register_at, Knows, count_of_globals, both_begin, choice_begins, pointer_scalar, promoted_scalar, integer_scalar, operands_scalar, index_scalar}
 use Rattle.instrument.proofs.ExpressionTypes.{place_has_object}
 use Rattle.instrument.proofs.Typed.{expression_valid, condition_valid, truth_valid}
 
@@ -68,13 +71,6 @@ some_forms (Node at t (Index a b)) = omega arith
 some_forms (Node at t (Dot a m)) = omega arith
 some_forms (Node at t (Arrow a m)) = omega arith
 some_forms (Node at t (Comma a b)) = omega arith
-
-pub deep_before : (a b : MonStatements) (n : ℕ) → depth_of_all a ≤ n → depth_of_all b ≤ n → depth_of_all (before a b) ≤ n
-deep_before NoStatement b n h k = k
-deep_before (Then x a) b n h k =
-    let l = le-max_left (depth x) (depth_of_all a) in
-    let r = le-max_right (depth x) (depth_of_all a) in
-    max-le (omega (arith, h, l)) (deep_before a b n (omega (arith, h, r)) k)
 
 pub deep_one : (s : MonStatement) (n : ℕ) → depth s ≤ n → depth_of_all (one s) ≤ n
 deep_one s n h = max-le h (omega arith)
@@ -164,14 +160,6 @@ operand_evaluated s to a h (OfInteger left right) = HasValue (integer_scalar (ty
 operand_evaluated s to a h (OfPointer left right) = HasValue (pointer_scalar (type_of a) right.target right.is)
 operand_evaluated s to a h (OfNullConstant left right null) = HasValue (integer_scalar (type_of a) right)
 operand_evaluated s to a h (OfArray t n is array object) = HasObject object
-
-module _ (g : ℕ) (gs : List Signature) (ts : Types) (result : Option MonType) (ls : Labels) where
-  pub before_valid : (a b : MonStatements) → AreStatements g gs ts result ls a → AreStatements g gs ts result ls b → AreStatements g gs ts result ls (before a b)
-  before_valid NoStatement b h k = k
-  before_valid (Then x a) b h k = (h.0, before_valid a b h.1 k)
-
-  pub set_valid : (r : ℕ) (e : MonExpression) (t : MonType) → slice_get ts r ≡ Some t → IsExpression g ts e t → AreStatements g gs ts result ls (set r e)
-  set_valid r e t reg h = ((t, reg, h), tt)
 
 module _ (unit : TranslationUnit) (gs : List Signature) (ts : Types) (result : Option MonType) (bound : Bindings) (s : Sight) (knows : Knows unit ts bound s) (ls : Labels) where
   abbrev pub Are : MonStatements → Type 0

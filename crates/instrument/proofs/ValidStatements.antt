@@ -13,7 +13,7 @@ use Rattle.c_model.specs.Meaning.{declared_in, declared_first}
 use Rattle.c_model.specs.ExpressionTyping.{Signature as Known, Sight, inner, with_object, with_objects}
 use Rattle.c_model.specs.StatementTyping.{Around, in_loop, behind_first}
 use Rattle.mon_syntax.specs.Registers.{Bindings, RegisterTable, with_kinds, next_register}
-use Rattle.mon_syntax.specs.Trees.{MonExpression, MonStatement, MonStatements, NoStatement}
+use Rattle.mon_syntax.specs.Trees.{MonStatements, NoStatement}
 use Rattle.mon_syntax.specs.Trees as tree
 use Rattle.mon_syntax.specs.Valid.{Types, Labels, Signature, IsExpression, AreStatements, ReturnsResult, has_label, has_no_step}
 use Rattle.instrument.proofs.FormedTrees.{IsFull, IsFullOrCall, IsFullEffect, IsFullEffectOrCall, AreInitialised, FirstFormed, StatementFormed, ElseFormed, ItemsFormed}
@@ -25,18 +25,20 @@ use Rattle.instrument.specs.Limits.{HasNumbers, ElseHasNumbers, FirstHasNumbers,
 use Rattle.c_effects.specs.Expressions.{value_type, before, one, set, setup, temporaries, condition_of}
 use Rattle.annot_code.specs.Code.{assertions}
 use Rattle.c_effects.specs.Effects.{block_of, any_temporaries, full_temporaries, effect_temporaries, initial_temporaries, declaration_temporaries, full_setup, full_value, effect, effect_if_any, initialise, initialise_all}
-use Rattle.instrument.specs.Translation.{Spot, leave_where_zero, test, test_if_any, returned_temporaries, returned, loop, for_turns, end_label, next_label, with_variables, after_statement, after_else, after_first, after_item, after_items, statement}
+use Rattle.instrument.specs.Translation.{Spot, leave_where_zero, test, test_if_any, returned_temporaries, returned, loop, end_label, next_label, with_variables, after_statement, after_else, after_first, after_item, after_items, statement}
 use Rattle.instrument.specs.Translation.{else_part, first_part, items, result_of}
 use Rattle.instrument.specs.Translation as target
 use Rattle.instrument.proofs.Names.{IsNumber, end_is_free, next_is_free, ends_differ, nexts_differ, same_bytes}
-use Rattle.instrument.proofs.Typed.{Begins, begins_left, begins_right, begins_front, register_at, HasPointer, count_of_globals, block_points, known_small, condition_valid}
+use Rattle.instrument.proofs.Typed.{begins_left, begins_right, begins_front, register_at, HasPointer, count_of_globals, block_points, known_small, condition_valid}
 use Rattle.instrument.proofs.Tables.{begins_then, statement_begins, else_begins, first_begins, items_begin, HavePointers, pointers_front, pointers_back, pointers_kept, entered_keep, entered_have, statement_keeps, first_keeps, AllPoint, point_both}
 use Rattle.instrument.proofs.Tables.{entered_from, point_born}
-use Rattle.instrument.proofs.ValidSetups.{before_valid, HasValue, setup_valid}
+use Rattle.instrument.proofs.ValidSetups.{HasValue, setup_valid}
 use Rattle.instrument.proofs.ValidAsserts.{assertions_valid}
 use Rattle.instrument.proofs.ValidEffects.{CallsValid, result_scalar, effect_valid, full_valid}
 use Rattle.instrument.proofs.Parts.{StructsFit}
 use Rattle.c_model.specs.ReadTree.{TextsAreBytes}
+use Rattle.annot_code.proofs.ValidParts.{before_valid}
+use Rattle.annot_code.specs.Validity.{Begins}
 use Rattle.instrument.proofs.ValidInitialisers.{initialise_valid, initial_letters}
 use Rattle.instrument.proofs.ValidBlocks.{Sees, AreSmall, sees_inner, sees_one, sees_behind, sees_later, deaths_valid, alive_valid}
 use Rattle.instrument.proofs.Depths.{no_step_test, no_step_test_if_any, no_step_effect_if_any}

@@ -16,10 +16,11 @@ use Rattle.mon_syntax.specs.Trees as tree
 use Rattle.c_effects.specs.Expressions.{one, set, farther, register_type}
 use Rattle.c_effects.specs.Effects.{stored_at, zero_type, zeros_at}
 use Rattle.c_effects.specs.Effects as translation
+use Rattle.annot_code.specs.Does.{Same}
 use Rattle.instrument.proofs.Integers.{is_number}
 use Rattle.instrument.proofs.Values.{constant_has}
 use Rattle.instrument.proofs.Results.{writes_none, before_is}
-use Rattle.instrument.proofs.Standing.{Setting, Target, runs, Same, Has, IsOf, Bounded, Here, Beside}
+use Rattle.instrument.proofs.Standing.{Setting, Target, runs, Has, IsOf, Bounded, Here, Beside}
 use Rattle.instrument.proofs.Registers.{same_set, get-set_same}
 use Rattle.instrument.proofs.Following.{Follows, later_same, onward, undefined_here, stays, follows_then}
 use Rattle.instrument.proofs.Pointers.{IsInside, saved_inside, shifted_twice}
