@@ -12,8 +12,8 @@ use Rattle.c_model.specs.Vocabulary.{Vocabulary}
 use Rattle.c_model.specs.Punctuators.{question, left_paren, implies}
 use Rattle.c_model.specs.ExpressionGrammar.{name_kind, number_kind, letter_kind, keyword_kind, mark_kind, kinds_of, first_type, type_name, expression}
 use Rattle.c_model.specs.AnnotationGrammar.{integer_kind, formula_kind, prefix_operators, relations_behind, named_form, literal_form, sized_form, atom, cast_behind, cast_to_type, cast_to_integer, parenthesised, behind_parenthesis}
-use Rattle.c_model.specs.AnnotationGrammar.{prefixed, prefix_of, prefix, joined_once, joined_more, joined, linked, links_of, links, chain_of, implied, implication_of, choice_behind, product, sum, shift, chain, bit_and, bit_xor, bit_or, conjunction}
-use Rattle.c_model.specs.AnnotationGrammar.{exclusion, disjunction, implication, equivalence, form_of, form, assert_clause}
+use Rattle.c_model.specs.AnnotationGrammar.{prefixed, prefix_of, prefix, joined_once, joined_more, joined, linked, links_of, links, chain_of, implied, implication_of, choice_behind, shift, bit_or}
+use Rattle.c_model.specs.AnnotationGrammar.{disjunction, implication, form_of, form, assert_clause}
 use Rattle.c_expr_parser.proofs.Unlimited.{closed_free, type_name_free, expression_free}
 
 module _ (ws : Vocabulary) where

@@ -9,7 +9,7 @@ use Rattle.mon_syntax.specs.declared.tree.MonType.{MonType}
 use Rattle.mon_syntax.specs.declared.tree.MonOp.{MonOp}
 use Rattle.mon_syntax.specs.Arithmetic.{is_pointer, wrap, operate}
 use Rattle.mon_syntax.specs.BlockMemory.{over_blocks, integer_of, pointed_block}
-use Rattle.mon_syntax.specs.Meaning.{Result, Done, Stops, Flow, Next, Goes, Returns, writes, then_do, at_next, eval, with_value, choose, number_or_none, on_numbers}
+use Rattle.mon_syntax.specs.Meaning.{Result, Done, Stops, Next, Goes, Returns, writes, then_do, at_next, eval, with_value, choose, number_or_none, on_numbers}
 use Rattle.mon_syntax.specs.Meaning.{◌>>=◌ as bind}
 use Rattle.mon_syntax.specs.Meaning as monitored
 use Rattle.mon_syntax.specs.Trees.{MonExpression, Constant, Binary, Cast, Set, If, MonStatements, NoStatement, Then}

@@ -34,7 +34,7 @@ use Rattle.mon_syntax.specs.Trees.{MonExpression, Constant, Cast, Load, NoStatem
 use Rattle.c_effects.specs.Expressions.{in_type, one, register_type, pointer_to}
 use Rattle.annot_code.specs.Code.{term_type, access_of, question, Reading}
 use Rattle.term_guards.specs.Guards.{guard}
-use Rattle.annot_code.specs.Code.{Code, with_value as code_with_value, conjunction, guarded, two_code, take, take_none, taken, branch, type_of_width, width_of, type_of, working, is_shift, wider, is_total, binary_value, partial_code, operated}
+use Rattle.annot_code.specs.Code.{Code, with_value as code_with_value, two_code, branch, type_of_width, width_of, type_of, working, is_shift, wider, is_total, binary_value, partial_code, operated}
 use Rattle.annot_code.specs.Code.{unary_value, converted_to, cast_value, is_known, variable_value, variable_code}
 use Rattle.annot_code.specs.Code as code
 use Rattle.annot_code.specs.Does.{Same, Setting, Did, runs, Stands, RangesHold, TermFound}

@@ -14,7 +14,7 @@ use Rattle.c_syntax.specs.declared.types.CInt.TheVariants as c
 use Rattle.c_syntax.specs.Ctypes.{PlainType, Int}
 use Rattle.c_syntax.specs.Ctypes as ctype
 use Rattle.c_syntax.specs.Formulas.{CastType, Integers, OfC}
-use Rattle.c_syntax.specs.Logic.{LogicTerm, Links, NoLink, Linked, Predicate}
+use Rattle.c_syntax.specs.Logic.{LogicTerm, NoLink, Linked, Predicate}
 use Rattle.c_syntax.specs.Logic as logic
 use Rattle.c_syntax.specs.Layouts.{int_size, IntegerType}
 use Rattle.c_model.specs.Integers.{value_of_bits}

@@ -4,7 +4,6 @@ use Rattle.c_syntax.specs.declared.place.Place.{Place}
 use Rattle.c_syntax.specs.Logic.{plain_term}
 use Rattle.c_model.specs.Checked.{Checked, Good, Bad, one_part, pair_of, refusing}
 use Rattle.c_model.specs.PredicateTyping as typing
-use Rattle.c_model.specs.PredicateTyping.{ATerm, APredicate}
 use Rattle.c_expression_rules.specs.declared.fault.TypeFault.{TypeFault}
 use Rattle.c_expression_rules.specs.declared.fault.TypeFault.TheVariants.{Refused, Memory}
 use Rattle.c_expression_rules.specs.Answers.{Answers}

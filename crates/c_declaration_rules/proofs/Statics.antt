@@ -13,7 +13,7 @@ use Rattle.c_syntax.specs.Programs.{StructType}
 use Rattle.c_syntax.specs.Layouts.{offset_of, size_of, target_of}
 use Rattle.c_model.specs.Library.{is_there}
 use Rattle.c_model.specs.Memory as memory
-use Rattle.c_model.specs.Memory.{Pointer, Into, Value, Integer, Points, Block, Store, block_at, live_size, moved}
+use Rattle.c_model.specs.Memory.{Pointer, Into, Value, Integer, Points, Block, block_at, live_size, moved}
 use Rattle.c_model.specs.State.{End, State, Outcome, Normal, Stop, Evaluation, ◌>>=◌, on_outcome, give, defined, computed, find, start_of, stop, Over, Undefined}
 use Rattle.c_model.specs.Meaning.{address, converted, eval_with, indexed, is_array, is_member, is_of_library, is_pointer, member, named, operate_values, place_with, pointed_to, unit_of, zeros}
 use Rattle.c_model.specs.ExpressionTyping.{Sight, Entity, AnObject, AnEnumerator, constant, is_constant, no_callee, tables_in}

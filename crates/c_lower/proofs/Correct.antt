@@ -12,7 +12,7 @@ use Rattle.c_lower.specs.declared.code.Instr.{Instr}
 use Rattle.c_lower.specs.declared.code.Instr.TheVariants as instr
 use Rattle.c_lower.specs.Code.{OpenLabel, statements_code, function_code, functions_code, entries_from, entry_named}
 use Rattle.c_lower.specs.Machine as stack
-use Rattle.c_lower.specs.Machine.{Frame, Course, Over, puts, with_some, stepped, registers, changed, called, exited, act, started, begins}
+use Rattle.c_lower.specs.Machine.{Frame, Course, Over, puts, with_some, stepped, registers, changed, called, exited, started, begins}
 use Rattle.c_lower.specs.Lowered.{KeepsNumbers, RunsAs}
 use Rattle.c_lower.proofs.Courses.{ended}
 use Rattle.c_lower.proofs.Placed.{HasAt, has_front, has_back, has_behind, FunctionAt, named_at, numbered_at}

@@ -12,7 +12,7 @@ use Rattle.mon_syntax.specs.declared.tree.MonProgram.{MonProgram}
 use Rattle.mon_syntax.specs.Trees.{MonitoredProgram, plain_program}
 use Rattle.mon_syntax.specs.Parsed.{NameUse, ParsedFunction, ParsedProgram}
 use Rattle.mon_syntax.specs.Checking.{Fault}
-use Rattle.mon_syntax.specs.Spelled.{IsRead, checked, check_refusal, no_main, too_large, room_refusal, first_too_large, is_main, main_in, last_of, last_refusal, Spells}
+use Rattle.mon_syntax.specs.Spelled.{IsRead, checked, check_refusal, no_main, too_large, first_too_large, is_main, main_in, last_of, last_refusal, Spells}
 use Rattle.mon_syntax.specs.Spelled.{IsMonitoredRefusal, ByGrammar, ByNamesAndTypes, AsAWhole}
 use Rattle.mon_parser.specs.Answers as parser
 use Rattle.token_reader.specs.Answers.{RefusesWith}

@@ -5,7 +5,7 @@ use Rattle.grammar.specs.Syntax.{one}
 use Rattle.grammar.proofs.Readings.{within_more, within_none, within_gives, within_one, within_then, within_choice, within_many, within_deep}
 use Rattle.c_syntax.specs.declared.place.Place.{Place}
 use Rattle.c_syntax.specs.Tokens as token
-use Rattle.c_syntax.specs.Tokens.{PlainTokenKind, PlainToken}
+use Rattle.c_syntax.specs.Tokens.{PlainTokenKind}
 use Rattle.c_model.specs.Punctuators.{semicolon, right_brace, right_paren, colon, comma, times, assign, left_paren, left_brace}
 use Rattle.c_model.specs.Terminals.{placed, nesting_limit}
 use Rattle.mon_syntax.specs.declared.tree.MonType.{MonType}

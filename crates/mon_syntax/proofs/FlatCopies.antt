@@ -6,7 +6,7 @@ use Rattle.std.proofs.lemmas.List.{length-map, get_or-map}
 use Rattle.c_model.specs.Memory.{Pointer, Null, Into, Value, Integer, Points, Byte, Unwritten, Number, Piece, LoosePiece, Block, is_accessible, is_literal, with_bytes, bytes_in, saved_block}
 use Rattle.c_model.specs.Memory.{with_block, save_bytes, loosened, copied, copy, ◌>>=◌}
 use Rattle.shadow_segments.specs.Shadow as shadow
-use Rattle.shadow_segments.specs.Shadow.{Mark, NumberByte, PieceByte, LooseByte, taken_from}
+use Rattle.shadow_segments.specs.Shadow.{Mark, PieceByte, LooseByte, taken_from}
 use Rattle.shadow_segments.proofs.CopiedMarks.{length-put_from, put_outside, put_inside}
 use Rattle.raw_seg.specs.Bytes as raw
 use Rattle.mon_syntax.specs.declared.spot.Spot.TheVariants.{In}
@@ -21,7 +21,7 @@ use Rattle.mon_syntax.specs.BlockMemory.{Blocks, becomes, copy_block}
 use Rattle.mon_syntax.specs.FlatMemory.{pointer_in, changed, act_on_flat}
 use Rattle.mon_syntax.specs.Following.{AllKept}
 use Rattle.mon_syntax.proofs.FlatRelation as relation
-use Rattle.mon_syntax.proofs.FlatRelation.{Place, World, PointsTo, SamePointer, Same, SameByte, marks_in, Held, Holds}
+use Rattle.mon_syntax.proofs.FlatRelation.{World, PointsTo, SamePointer, Same, SameByte, marks_in, Held, Holds}
 use Rattle.mon_syntax.proofs.FlatEntries.{length-replaced, replaced_inside, replaced_outside}
 use Rattle.mon_syntax.proofs.FlatWritten as written
 use Rattle.mon_syntax.proofs.FlatWritten.{Written, Changed, region_same, written_holds}

@@ -10,7 +10,7 @@ use Rattle.c_model.specs.Memory.{Unwritten, Number, block_of}
 use Rattle.raw_seg.specs.Bytes.{with_bytes}
 use Rattle.shadow_segments.specs.declared.BlockNote.{BlockNote}
 use Rattle.shadow_segments.specs.Shadow as shadow
-use Rattle.shadow_segments.specs.Shadow.{NumberByte, units, filled}
+use Rattle.shadow_segments.specs.Shadow.{NumberByte, units}
 use Rattle.shadow_segments.proofs.Lists.{length-filled, filled_inside, filled_outside}
 use Rattle.mon_syntax.specs.declared.spot.RegionName.{RegionName}
 use Rattle.mon_syntax.specs.declared.spot.RegionName.TheVariants.{Globals, Stack, Heap}

@@ -20,7 +20,7 @@ use Rattle.mon_syntax.specs.Arithmetic.{lowest_bits}
 use Rattle.mon_syntax.specs.Memory.{Reply, Gives, IsFull}
 use Rattle.mon_syntax.specs.Regions.{Region, with_birth, filled_with}
 use Rattle.mon_syntax.specs.Questions.{live_at}
-use Rattle.mon_syntax.specs.Flat.{Flat, Answer, region, pointer_to, born, dead, zeroed, zeroed_block, flat_malloc, flat_calloc, free_by, free_spot, flat_free}
+use Rattle.mon_syntax.specs.Flat.{Flat, Answer, region, pointer_to, born, dead, zeroed, zeroed_block, flat_malloc, free_by, free_spot, flat_free}
 use Rattle.mon_syntax.specs.Flat as flat
 use Rattle.mon_syntax.specs.BlockMemory.{Blocks, heap_birth, allocate, malloc_block, calloc_block, becomes, free_block}
 use Rattle.mon_syntax.specs.FlatMemory.{pointer_in, valued, changed, act_on_flat}
@@ -32,7 +32,7 @@ use Rattle.mon_syntax.proofs.FlatFrames.{Answers}
 use Rattle.mon_syntax.proofs.FlatPointers.{number_is, address_is, spot_of_pointer, note_live}
 use Rattle.mon_syntax.proofs.FlatAddresses.{pointer_is, into_is_some, index_is, lies}
 use Rattle.mon_syntax.proofs.FlatBirths as birth
-use Rattle.mon_syntax.proofs.FlatBirths.{MayBeBorn, IsBorn, place_for, head_for, new_pointer}
+use Rattle.mon_syntax.proofs.FlatBirths.{MayBeBorn, IsBorn, place_for, new_pointer}
 use Rattle.mon_syntax.proofs.FlatRegions.{new_note, BornIn, is_born, born_in, unwritten_born, notes_died}
 use Rattle.mon_syntax.proofs.FlatGlobals.{begun_in, begun_byte, begun_mark}
 use Rattle.mon_syntax.proofs.FlatDeaths.{HasDied, died}

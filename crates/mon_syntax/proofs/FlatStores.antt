@@ -9,7 +9,7 @@ use Rattle.c_syntax.specs.Layouts.{int_size}
 use Rattle.c_model.specs.Integers.{bits_of}
 use Rattle.c_model.specs.Memory.{bytes_of, pieces, Pointer, Null, Into, Value, Integer, Points, NoValue, Byte, Unwritten, Block, is_accessible, is_literal, with_bytes, saved_block, with_block, save_bytes}
 use Rattle.shadow_segments.specs.Shadow as shadow
-use Rattle.shadow_segments.specs.Shadow.{Mark, NumberByte, PieceByte}
+use Rattle.shadow_segments.specs.Shadow.{NumberByte, PieceByte}
 use Rattle.shadow_segments.proofs.Lists.{length-filled, filled_inside, filled_outside}
 use Rattle.raw_seg.specs.Bytes as raw
 use Rattle.raw_seg.proofs.Numbers as raw_proofs

@@ -8,7 +8,7 @@ use Rattle.c_syntax.specs.declared.types.CInt.TheVariants as cint
 use Rattle.c_syntax.specs.Layouts.{int_size, IntegerType, PointerType}
 use Rattle.c_model.specs.Integers.{value_of_bits}
 use Rattle.c_model.specs.Memory as model
-use Rattle.c_model.specs.Memory.{Pointer, Null, Into, Value, Integer, Points, NoValue, Byte, Unwritten, Number, Piece, LoosePiece, load_bytes, number_of, same_pointer, are_pieces, null_of, pointer_of, value_from}
+use Rattle.c_model.specs.Memory.{Pointer, Null, Into, Value, Integer, Points, NoValue, Byte, Unwritten, Number, Piece, LoosePiece, load_bytes, number_of, same_pointer, are_pieces, null_of, value_from}
 use Rattle.raw_seg.specs.Bytes as raw
 use Rattle.mon_syntax.specs.declared.tree.MonType.{MonType}
 use Rattle.mon_syntax.specs.declared.tree.MonType.TheVariants.{I8, U8, I16, U16, I32, U32, I64, U64, I128, Ptr}

@@ -4,7 +4,7 @@ use Rattle.std.proofs.lemmas.Option.{same_Some}
 use Rattle.std.proofs.lemmas.Bool.{cases_lt}
 use Rattle.c_model.specs.Memory.{Byte, Unwritten, Block, with_bytes}
 use Rattle.shadow_segments.specs.Shadow as shadow
-use Rattle.shadow_segments.specs.Shadow.{Mark, units}
+use Rattle.shadow_segments.specs.Shadow.{units}
 use Rattle.mon_syntax.specs.declared.spot.RegionName.{RegionName}
 use Rattle.mon_syntax.specs.declared.spot.RegionName.TheVariants.{Globals, Stack, Heap}
 use Rattle.mon_syntax.specs.Regions.{Region}

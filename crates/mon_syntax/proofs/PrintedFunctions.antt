@@ -17,11 +17,11 @@ use Rattle.mon_syntax.specs.declared.word.Word.TheVariants as word
 use Rattle.mon_syntax.specs.Words.{word_of}
 use Rattle.mon_syntax.specs.Trees.{MonFunction, MonitoredGlobal}
 use Rattle.mon_syntax.specs.Text as text
-use Rattle.mon_syntax.specs.Text.{Registers, InSight, FunctionNames, function_name, statements_pieces, registers_pieces, function_pieces, result_word}
+use Rattle.mon_syntax.specs.Text.{InSight, FunctionNames, function_name, function_pieces, result_word}
 use Rattle.mon_syntax.specs.Valid.{has_label, Signature, depth_of_all, types_of, signature_of, names_before, IsFunction, AreFunctions, AreGlobals}
 use Rattle.mon_syntax.specs.Parsed.{ParsedStatement, ParsedRegister, ParsedFunction}
 use Rattle.mon_syntax.specs.Grammar as form
-use Rattle.mon_syntax.specs.Grammar.{Vocabulary, name_kind, type_kind, void_kind, mark_kind, word_kind, word_at, kind, type_of_word, type_of, first_function, first_statement, parsed_list, registers}
+use Rattle.mon_syntax.specs.Grammar.{Vocabulary, name_kind, type_kind, void_kind, word_kind, word_at, kind, type_of_word, type_of, first_function, first_statement, parsed_list, registers}
 use Rattle.mon_syntax.specs.Grammar.{parameters, function_body, function}
 use Rattle.mon_syntax.specs.Checking.{Header, find_function, scope_of, checked_registers, named_register, checked_statements, kinds_of, word_bytes, function_of, result_of, checked_function}
 use Rattle.mon_syntax.proofs.PrintedPieces.{AreTokens, is_same}

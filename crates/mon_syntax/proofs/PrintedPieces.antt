@@ -27,7 +27,7 @@ use Rattle.c_model.specs.Punctuators.{shift_left, shift_right, less_equal, great
 use Rattle.c_model.specs.Punctuators.{left_brace, right_brace, left_bracket, right_bracket}
 use Rattle.mon_syntax.specs.Names.{begins_name}
 use Rattle.mon_syntax.specs.Text as text
-use Rattle.mon_syntax.specs.Text.{escaped, quoted, spelled_piece, spelled, new_line}
+use Rattle.mon_syntax.specs.Text.{escaped, quoted, spelled, new_line}
 
 -- ---- pieces that stand alone
 

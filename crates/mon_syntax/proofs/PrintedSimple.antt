@@ -23,7 +23,7 @@ use Rattle.mon_syntax.specs.Valid.{Types, IsExpression, TakesValue, Labels, has_
 use Rattle.mon_syntax.specs.Parsed as parsed
 use Rattle.mon_syntax.specs.Parsed.{NameUse, ParsedExpression, ParsedCall, ParsedStatement}
 use Rattle.mon_syntax.specs.Grammar as form
-use Rattle.mon_syntax.specs.Grammar.{Vocabulary, name_kind, goto_kind, return_kind, word_kind, kind, first_statement, is_step_word, has_no_argument, initialize_kind, initialize_pointer_kind, behind_name, number_mark, pointer_mark, store_mark}
+use Rattle.mon_syntax.specs.Grammar.{Vocabulary, name_kind, goto_kind, return_kind, word_kind, kind, first_statement, is_step_word, has_no_argument, behind_name, number_mark, pointer_mark, store_mark}
 use Rattle.mon_syntax.specs.Grammar.{statement_with, statement_in}
 use Rattle.mon_syntax.specs.Checking.{Scope, Header, scope_of, checked_expression, checked_call, returned, call_of_word, value_type, with_target, taken, checked_statement, labels_in}
 use Rattle.mon_syntax.proofs.PrintedPieces.{AreTokens}

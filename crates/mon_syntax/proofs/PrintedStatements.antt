@@ -24,11 +24,11 @@ use Rattle.mon_syntax.specs.Trees.{MonExpression, MonStatement, Set, Store, Step
 use Rattle.mon_syntax.specs.Text as text
 use Rattle.mon_syntax.specs.Text.{InSight, expression_pieces, arguments_pieces, size_argument, call_pieces, memory_word, FunctionNames, function_name, body_pieces, statement_pieces, statements_pieces}
 use Rattle.mon_syntax.specs.Valid as valid
-use Rattle.mon_syntax.specs.Valid.{Types, IsExpression, Signature, IsCall, Labels, has_label, has_no_step, depth_of_all, memory_result, IsStatement, AreStatements}
+use Rattle.mon_syntax.specs.Valid.{Types, IsExpression, Signature, Labels, has_label, has_no_step, depth_of_all, memory_result, IsStatement, AreStatements}
 use Rattle.mon_syntax.specs.Parsed as parsed
 use Rattle.mon_syntax.specs.Parsed.{NameUse, ParsedArgument, ParsedExpression, ParsedStatement, ParsedStatements}
 use Rattle.mon_syntax.specs.Grammar as form
-use Rattle.mon_syntax.specs.Grammar.{Vocabulary, if_kind, else_kind, while_kind, word_kind, word_at, kind, first_statement, parsed_list, statement_with, statement_in}
+use Rattle.mon_syntax.specs.Grammar.{Vocabulary, if_kind, while_kind, word_kind, word_at, kind, first_statement, parsed_list, statement_with, statement_in}
 use Rattle.mon_syntax.specs.Checking.{Scope, Header, scope_of, find_function, bytes_of, checked_expression, checked_statement, checked_statements, labels_in, labels_in_all, runtime_call, one_value, result_of}
 use Rattle.mon_syntax.proofs.PrintedPieces.{AreTokens, is_same}
 use Rattle.mon_syntax.proofs.PrintedForms.{Pieces, if_is, loop_is, labelled_is, body_is, then_is}

@@ -14,7 +14,7 @@ use Rattle.mon_syntax.specs.declared.tree.MemoryCall.TheVariants.{Malloc, Calloc
 use Rattle.mon_syntax.specs.Trees.{MonExpression, Global, Constant, Binary, Load, MonStatement, Store, Act, MonitoredProgram}
 use Rattle.mon_syntax.specs.Memory.{Reply, Gives, IsFull, Faults}
 use Rattle.mon_syntax.specs.BlockMemory.{block_run}
-use Rattle.mon_syntax.specs.Flat.{Flat, flat_malloc, flat_calloc}
+use Rattle.mon_syntax.specs.Flat.{Flat, flat_malloc}
 use Rattle.mon_syntax.specs.Flat as flat
 use Rattle.mon_syntax.proofs.WorkedRuns.{i32, no_input, ends}
 use Rattle.mon_syntax.proofs.WorkedCalls.{small, small_run, born}

@@ -5,7 +5,7 @@ use Rattle.std.proofs.Math.Seq.{take-suc}
 use Rattle.std.specs.List.{list_any}
 use Rattle.mon_syntax.specs.declared.tree.MonFunc.{MonFunc}
 use Rattle.mon_syntax.specs.Trees as tree
-use Rattle.mon_syntax.specs.Trees.{MonFunction, MonitoredProgram}
+use Rattle.mon_syntax.specs.Trees.{MonFunction}
 use Rattle.mon_syntax.specs.Grammar.{Vocabulary, word_at}
 use Rattle.mon_syntax.specs.Checking.{Header, Checked, ◌>>=◌, name_fault, is_free, find_function, header_of, checked_function, checked_functions}
 use Rattle.mon_parser.specs.declared.parsed.ParsedFunc.{ParsedFunc}

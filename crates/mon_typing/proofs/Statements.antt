@@ -12,7 +12,7 @@ use Rattle.mon_syntax.specs.Trees as tree
 use Rattle.mon_syntax.specs.Trees.{MonExpression, MonStatement, MonStatements}
 use Rattle.mon_syntax.proofs.Rows as written
 use Rattle.mon_syntax.specs.Parsed as plain
-use Rattle.mon_syntax.specs.Parsed.{ParsedExpression, ParsedStatements}
+use Rattle.mon_syntax.specs.Parsed.{ParsedExpression}
 use Rattle.mon_syntax.specs.Checking.{Scope, Checked, ◌>>=◌, ◌>>◌, condition, labels_in, labels_in_all, new_label, bytes_of, checked_statement, checked_statements}
 use Rattle.mon_parser.specs.declared.parsed.NameUse.{NameUse}
 use Rattle.mon_parser.specs.declared.parsed.ParsedExpr.{ParsedExpr}

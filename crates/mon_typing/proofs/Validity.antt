@@ -11,7 +11,7 @@ use Rattle.c_syntax.specs.Programs.{PlainRefusal}
 use Rattle.mon_syntax.specs.declared.tree.MonType.{MonType}
 use Rattle.mon_syntax.specs.declared.tree.MonType.TheVariants.{I32, Ptr}
 use Rattle.mon_syntax.specs.Trees as tree
-use Rattle.mon_syntax.specs.Trees.{MonExpression, MonStatement, MonStatements, MonRegister, MonFunction, MonitoredGlobal, MonitoredProgram}
+use Rattle.mon_syntax.specs.Trees.{MonStatement, MonStatements, MonRegister, MonFunction, MonitoredGlobal}
 use Rattle.mon_syntax.specs.Parsed.{ParsedCall, ParsedStatement, Set, Store, Take, Call, If, Loop, Labelled, Goto, Return, ParsedStatements, NoStatement, Then}
 use Rattle.mon_syntax.specs.Parsed.{NameUse, ParsedRegister, ParsedFunction, ParsedGlobal}
 use Rattle.c_model.specs.Memory.{rounded}
