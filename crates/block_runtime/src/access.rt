@@ -1,8 +1,10 @@
 // Loads, stores and copies.
 
-ghost use Rattle.std.specs.Prelude.{◌≡◌, true};
+ghost use Rattle.std.specs.Prelude.{◌≡◌, None, Some, IfSome, MatchBool, false, true};
+ghost use Rattle.std.specs.Bool.{OnTrue};
 ghost use Rattle.raw_seg.specs.Bytes.{IsWidth};
-ghost use Rattle.mon_syntax.specs.Flat.{flat_load, flat_store, flat_copy, flat_byte};
+ghost use Rattle.mon_syntax.specs.Flat.{flat_load, flat_store, flat_copy, flat_byte, spot_of};
+ghost use Rattle.flat_mem.specs.Stack.{stack_load, stack_store};
 ghost use Rattle.block_runtime.specs.Replies.{Changes, Finds};
 
 use crate::address::address_of;
@@ -22,6 +24,16 @@ impl Runtime {
             Some(value) => Ok(value),
             None => Err(RunFault::Fault),
         }
+    }
+
+    /// The number in so many bytes of the stack. `None` if they aren't aligned, or aren't inside the stack.
+    #[inline(always)]
+    pub fn load_from_stack(&self, p: u64, width: usize) -> Option<u128>
+        requires { IsWidth width }
+        ensures exact { result ≡ stack_load self.now (spot_of p) width }
+        ensures found { IfSome result (λ value. flat_load self.now p width ≡ Some value) }
+    {
+        self.memory.load_from_stack(address_of(p), width)
     }
 
     /// Stores a number, or a pointer of eight bytes, with its mark.
@@ -44,6 +56,18 @@ impl Runtime {
             self.memory.save(address, width, value)
         };
         if done { Ok(()) } else { Err(RunFault::Fault) }
+    }
+
+    /// Stores a number with its mark on the stack. `false` if its bytes aren't aligned, or aren't inside the stack, and then nothing changes.
+    #[inline(always)]
+    pub fn store_on_stack(&mut self, p: u64, width: usize, value: u128) -> bool
+        requires { IsWidth width }
+        ensures exact { MatchBool result
+            (stack_store self.old (spot_of p) width value ≡ Some self.new)
+            ((stack_store self.old (spot_of p) width value ≡ None) × (self.new ≡ self.old)) }
+        ensures stored { OnTrue result (flat_store self.old p width value false ≡ Some self.new) }
+    {
+        self.memory.save_on_stack(address_of(p), width, value)
     }
 
     /// `__e_acsl_copy(P, Q, A)`

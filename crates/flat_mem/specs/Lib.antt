@@ -3,3 +3,4 @@ pub mod Births
 pub mod Deaths
 pub mod Tidy
 pub mod Placed
+pub mod Stack

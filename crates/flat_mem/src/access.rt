@@ -1,10 +1,12 @@
 // Loads, stores and copies.
 
-ghost use Rattle.std.specs.Prelude.{◌≡◌, ◌≢◌, ◌+◌, None, Some, MatchBool, true, false};
+ghost use Rattle.std.specs.Prelude.{◌≡◌, ◌≢◌, ◌+◌, None, Some, IfSome, MatchBool, true, false};
+ghost use Rattle.std.specs.Bool.{OnTrue};
 ghost use Rattle.raw_seg.specs.Bytes.{IsWidth};
 ghost use Rattle.mon_syntax.specs.declared.spot.Spot.TheVariants.{In};
 ghost use Rattle.mon_syntax.specs.Regions.{region_load};
 ghost use Rattle.mon_syntax.specs.Flat.{ask, copy_spots, load_spot, spot_at, store_spot};
+ghost use Rattle.flat_mem.specs.Stack.{stack_load, stack_store};
 
 use crate::FlatMem;
 use crate::address::spot_at;
@@ -23,6 +25,20 @@ impl FlatMem {
         }
     }
 
+    /// The number in so many bytes of the stack. `None` if they aren't aligned, or aren't inside the stack.
+    /// It is short, so that it can be put where it is called: most pointers are to the stack.
+    #[inline(always)]
+    pub fn load_from_stack(&self, addr: u32, width: usize) -> Option<u128>
+        requires { IsWidth width }
+        ensures exact { result ≡ stack_load self.now (spot_at addr) width }
+        ensures found { IfSome result (λ value. load_spot self.now (spot_at addr) width ≡ Some value) }
+    {
+        match spot_at(addr) {
+            Spot::In(RegionName::Stack, at) => self.stack.load_as(at, width),
+            _ => None,
+        }
+    }
+
     /// Stores a number with its mark. `false` if its bytes aren't aligned or aren't inside one region, and then nothing changes.
     #[inline(always)]
     pub fn save(&mut self, addr: u32, width: usize, value: u128) -> bool
@@ -36,6 +52,21 @@ impl FlatMem {
             Spot::In(RegionName::Globals, at) => self.globals.store_number(at, width, value),
             Spot::In(RegionName::Stack, at) => self.stack.store_number(at, width, value),
             Spot::In(RegionName::Heap, at) => self.heap.store_number(at, width, value),
+        }
+    }
+
+    /// Stores a number with its mark on the stack. `false` if its bytes aren't aligned, or aren't inside the stack, and then nothing changes.
+    #[inline(always)]
+    pub fn save_on_stack(&mut self, addr: u32, width: usize, value: u128) -> bool
+        requires { IsWidth width }
+        ensures exact { MatchBool result
+            (stack_store self.old (spot_at addr) width value ≡ Some self.new)
+            ((stack_store self.old (spot_at addr) width value ≡ None) × (self.new ≡ self.old)) }
+        ensures stored { OnTrue result (store_spot self.old (spot_at addr) width value false ≡ Some self.new) }
+    {
+        match spot_at(addr) {
+            Spot::In(RegionName::Stack, at) => self.stack.store_number(at, width, value),
+            _ => false,
         }
     }
 

@@ -61,6 +61,7 @@ impl FlatMem {
         pointer_to(self.births, RegionName::Globals, base)
     }
 
+    #[inline(always)]
     fn stack_birth(&mut self, len: u64) -> Result<u64, BirthFault>
         ensures { Bears (flat_store_block self.old len) self.old self.new result }
     {
@@ -71,15 +72,16 @@ impl FlatMem {
         if units > u64::from((self.stack.len() - self.top) / 16) {
             return Err(BirthFault::Full(Segment::Stack));
         }
-        self.births += 1;
+        let number = self.births + 1;
         let base = self.top;
+        self.births = number;
         self.stack.birth(BlockNote {
             base,
             length: len as u32,
-            number: self.births,
+            number,
             kind: BlockKind::Stack,
         });
-        self.top += units as u32 * 16;
-        Ok(pointer_to(self.births, RegionName::Stack, base))
+        self.top = base + units as u32 * 16;
+        Ok(pointer_to(number, RegionName::Stack, base))
     }
 }

@@ -26,6 +26,7 @@ impl FlatMem {
         }
     }
 
+    #[inline(always)]
     fn stack_death(&mut self, at: u32)
         requires { IsYoungest self.old at }
         ensures { self.new ≡ died self.old (In Stack at) }
@@ -36,6 +37,8 @@ impl FlatMem {
         self.top = at;
     }
 
+    // Out of line: within the loop over instructions it would be too long.
+    #[inline(never)]
     fn heap_death(&mut self, at: u32)
         requires { IsLiveBase self.old.heap.shadow.notes at }
         ensures { self.new ≡ died self.old (In Heap at) }

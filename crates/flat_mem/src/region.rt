@@ -49,6 +49,7 @@ impl Region {
     }
 
     /// The birth of a block: no byte of it is written.
+    #[inline(always)]
     pub fn birth(&mut self, note: BlockNote)
         requires { IsFree self.old.shadow.notes note }
         ensures { self.new ≡ with_birth self.old note }
@@ -57,6 +58,7 @@ impl Region {
     }
 
     /// The death of the block that begins here.
+    #[inline(always)]
     pub fn death(&mut self, base: u32)
         requires { IsLiveBase self.old.shadow.notes base }
         ensures { self.new ≡ record self.old { shadow = cleared_at self.old.shadow base } }
@@ -64,8 +66,9 @@ impl Region {
         self.shadow.clear(base);
     }
 
+    /// The number in so many bytes, where their count is known. `None` if they don't lie inside, aligned.
     #[inline(always)]
-    fn load_as(&self, at: u32, width: usize) -> Option<u128>
+    pub fn load_as(&self, at: u32, width: usize) -> Option<u128>
         requires { IsWidth width }
         ensures value { result ≡ region_load self.now at width }
         ensures fits { IfSome result (λ value. value < 256 ^ width) }

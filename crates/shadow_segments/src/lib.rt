@@ -101,6 +101,7 @@ impl Shadow {
     }
 
     /// A block is born: its units have its record, and no byte of them is written.
+    #[inline(always)]
     pub fn mark(&mut self, note: BlockNote)
         requires { IsFree self.old.notes note }
         ensures { self.new ≡ marked self.old note }
@@ -114,6 +115,7 @@ impl Shadow {
     }
 
     /// The block that begins here dies: its units have no record. Their marks stay until another block is born there.
+    #[inline(always)]
     pub fn clear(&mut self, base: u32)
         requires { IsLiveBase self.old.notes base }
         ensures { self.new ≡ cleared_at self.old base }
@@ -162,6 +164,7 @@ fn unpacked(number: u32, place: u64) -> BlockNote
 }
 
 /// The second word of a record.
+#[inline(always)]
 fn packed(note: BlockNote) -> u64
     requires { note.base % 16 ≡ 0 }
     ensures { note_by note.number result ≡ note }

@@ -102,7 +102,23 @@ impl Words {
     }
 
     /// Writes the same two words on so many units.
+    #[inline(always)]
     pub fn fill(&mut self, first: usize, count: usize, state: u64, place: u64)
+        requires { first + count ≤ length self.old.states }
+        ensures { self.new ≡ record { states = filled self.old.states first count state; places = filled self.old.places first count place } }
+    {
+        // Most blocks have one unit.
+        if count == 1 {
+            let _ = self.len();
+            self.set_state(first, state);
+            self.set_place(first, place);
+        } else {
+            self.fill_each(first, count, state, place);
+        }
+    }
+
+    // The same, one by one.
+    fn fill_each(&mut self, first: usize, count: usize, state: u64, place: u64)
         requires { first + count ≤ length self.old.states }
         ensures { self.new ≡ record { states = filled self.old.states first count state; places = filled self.old.places first count place } }
     {
@@ -114,7 +130,23 @@ impl Words {
     }
 
     /// Takes the high half of the first word away from so many units.
+    #[inline(always)]
     pub fn release(&mut self, first: usize, count: usize)
+        requires { first + count ≤ length self.old.states }
+        ensures { self.new ≡ record self.old { states = changed 0 (λ s. s % 2 ^ 32) self.old.states first count } }
+    {
+        // Most blocks have one unit.
+        if count == 1 {
+            let state = self.peek(first);
+            self.set_state(first, state % UPPER);
+        } else {
+            self.release_each(first, count);
+        }
+    }
+
+    // The same, one by one.
+    #[inline(never)]
+    fn release_each(&mut self, first: usize, count: usize)
         requires { first + count ≤ length self.old.states }
         ensures { self.new ≡ record self.old { states = changed 0 (λ s. s % 2 ^ 32) self.old.states first count } }
     {

@@ -1,7 +1,7 @@
 use Rattle.std.proofs.Common.{ℕ, ◌≡◌, ◌+◌, ◌<◌, ◌%◌, set, get_or, length, inr, ap, ◌∙◌, arith}
 use Rattle.shadow_segments.specs.Shadow.{changed}
 use Rattle.shadow_segments.proofs.Lists.{changed_more, changed_outside, length-changed}
-use Rattle.shadow_segments.proofs.words.Words.release.Goals as goal
+use Rattle.shadow_segments.proofs.words.Words.release_each.Goals as goal
 
 low : ℕ → ℕ
 low s = s % 4294967296
