@@ -29,6 +29,7 @@ mod frames;
 mod leaps;
 mod recognised;
 mod sequences;
+mod series;
 mod singles;
 mod statements;
 

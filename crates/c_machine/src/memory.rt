@@ -127,7 +127,7 @@ pub fn lowest_bits(t: MonType, z: i128) -> u128
 pub fn pointer_in(z: i128) -> u64
     ensures { result ≡ pointer_in z }
 {
-    lowest_bits(MonType::Ptr, z) as u64
+    (z.cast_unsigned() % (1 << 64)) as u64
 }
 
 #[inline(always)]
@@ -191,6 +191,17 @@ pub fn load(memory: &Runtime, t: MonType, p: i128) -> Option<i128>
     }
 }
 
+/// The same where most pointers are to the stack: what is there is read in line, which is short.
+#[inline(always)]
+pub fn load_often(memory: &Runtime, t: MonType, p: i128) -> Option<i128>
+    ensures { result ≡ load_flat t p memory.now }
+{
+    match memory.load_from_stack(pointer_in(p), byte_count(t)) {
+        Some(bits) => Some(wrap(t, bits.cast_signed())),
+        None => load(memory, t, p),
+    }
+}
+
 #[inline(always)]
 fn store_as(memory: &mut Runtime, t: MonType, p: i128, z: i128) -> bool
     ensures { Stores result t p z memory.old memory.new }
@@ -202,19 +213,36 @@ fn store_as(memory: &mut Runtime, t: MonType, p: i128, z: i128) -> bool
     }
 }
 
-// The same of one type each.
-#[inline]
-fn store_i32(memory: &mut Runtime, p: i128, z: i128) -> bool
+// The same of one type each, out of line.
+#[inline(never)]
+fn store_i32_anywhere(memory: &mut Runtime, p: i128, z: i128) -> bool
     ensures { Stores result MonType.I32 p z memory.old memory.new }
 {
     store_as(memory, MonType::I32, p, z)
+}
+
+#[inline(never)]
+fn store_i64_anywhere(memory: &mut Runtime, p: i128, z: i128) -> bool
+    ensures { Stores result MonType.I64 p z memory.old memory.new }
+{
+    store_as(memory, MonType::I64, p, z)
+}
+
+// The same. What is on the stack is stored in line. The compiler makes these short first, and then puts them where they are called.
+#[inline(always)]
+fn store_i32(memory: &mut Runtime, p: i128, z: i128) -> bool
+    ensures { Stores result MonType.I32 p z memory.old memory.new }
+{
+    memory.store_on_stack(pointer_in(p), 4, lowest_bits(MonType::I32, z))
+        || store_i32_anywhere(memory, p, z)
 }
 
 #[inline]
 fn store_i64(memory: &mut Runtime, p: i128, z: i128) -> bool
     ensures { Stores result MonType.I64 p z memory.old memory.new }
 {
-    store_as(memory, MonType::I64, p, z)
+    memory.store_on_stack(pointer_in(p), 8, lowest_bits(MonType::I64, z))
+        || store_i64_anywhere(memory, p, z)
 }
 
 #[inline]
@@ -406,16 +434,26 @@ fn born_of(memory: &mut Runtime, size: i128) -> Option<i128>
     }
 }
 
+// The same out of line: within the loop over instructions it would be too long.
+#[inline(never)]
+fn born_rarely(memory: &mut Runtime, size: i128) -> Option<i128>
+    ensures { Yields (act_on_flat MemoryCall.StoreBlock (size ∷ []) memory.old) memory.old memory.new result }
+{
+    match size {
+        8 => born_of(memory, 8),
+        _ => born_of(memory, size),
+    }
+}
+
 /// `__e_acsl_store_block(size)`. None where it is refused, and then the memory stays.
 #[inline(always)]
 pub fn born(memory: &mut Runtime, size: i128) -> Option<i128>
     ensures { Yields (act_on_flat MemoryCall.StoreBlock (size ∷ []) memory.old) memory.old memory.new result }
 {
-    // Sizes that are known compute nothing more: most blocks are a variable of four or eight bytes.
+    // A size that is known computes nothing more: most blocks are a variable of four bytes.
     match size {
         4 => born_of(memory, 4),
-        8 => born_of(memory, 8),
-        _ => born_of(memory, size),
+        _ => born_rarely(memory, size),
     }
 }
 
