@@ -27,7 +27,7 @@ C
 measured() {
   local milliseconds status runs=$1
   shift
-  read -r milliseconds _ status < <(python3 "$top/bench/measure.py" "$runs" /dev/null "$@")
+  read -r milliseconds _ status _ < <(python3 "$top/bench/measure.py" "$runs" /dev/null "$@")
   [[ $status == 0 ]] || { echo "status $status: $*" >&2; return 1; }
   echo "$milliseconds"
 }

@@ -3,8 +3,9 @@
 # 1,000 elements that are summed 20,000 times, of a bubble sort of 2,000 elements that stand backwards, and of 120,000 blocks that are
 # born and freed; each by forms, instruction by instruction, and as gcc -O0 compiles the program without its annotations. And what it
 # takes of calls until all 65,536 frames are taken, from the start of the process to the verdict of a program of 8 lines, and to find
-# the forms of a text of 200,000 tokens. Seconds are the least of some runs. Where valgrind is there, it counts the processor's
-# instructions of a turn, a call, an access and a block both ways. It measures through ./eacsl and crates/bench_c_machine.
+# the forms of a text of 200,000 tokens. Times are the least of some runs, by the clock and of user time alone. Where valgrind is there, it
+# counts the processor's instructions of a turn, a call, an access and a block both ways. It measures through ./eacsl and
+# crates/bench_c_machine.
 set -euo pipefail
 
 top=$(cd -- "$(dirname -- "${BASH_SOURCE[0]}")/.." && pwd)
@@ -135,7 +136,7 @@ int main(void) {
 C
 }
 
-# the least milliseconds and the greatest KiB of so many runs of a command on this input
+# what so many runs of a command on this input take: see bench/measure.py
 measured() {
   python3 "$top/bench/measure.py" "$@"
 }
@@ -154,23 +155,24 @@ input_of() {
   "${workload}_of" "$size"
 }
 
-# the milliseconds of a workload one way
+# the milliseconds of a workload one way, by the clock and of user time
 way_takes() {
   input_of "$1" 1 "$2" "$3" >"$scratch/input"
-  measured "$4" "$scratch/input" "$both" | cut -d' ' -f1
+  measured "$4" "$scratch/input" "$both" | cut -d' ' -f1,4
 }
 
-# a line of figures of a workload: what, milliseconds by forms, without, and of gcc's program, and by how much forms are faster
+# a line of figures of a workload: what, milliseconds by forms, without, and of gcc's program, each with the user time of it, and by how much
+# forms are faster
 beside() {
-  local name=$1 workload=$2 size=$3 runs=$4 fused plain compiled=0
+  local name=$1 workload=$2 size=$3 runs=$4 fused plain compiled='0 0'
   fused=$(way_takes fused "$workload" "$size" "$runs")
   plain=$(way_takes plain "$workload" "$size" "$runs")
   if command -v gcc >/dev/null; then
     "${workload}_of" "$size" >"$scratch/compiled.c"
     gcc -O0 -o "$scratch/compiled" "$scratch/compiled.c"
-    compiled=$(measured "$runs" /dev/null "$scratch/compiled" | cut -d' ' -f1)
+    compiled=$(measured "$runs" /dev/null "$scratch/compiled" | cut -d' ' -f1,4)
   fi
-  awk -v name="$name" -v f="$fused" -v p="$plain" -v c="$compiled" 'BEGIN { printf "%-34s %10.1f %10.1f %10.1f %10.2f\n", name, f, p, c, p / f }'
+  awk -v name="$name" '{ printf "%-34s %9.1f %7.1f %9.1f %7.1f %9.1f %7.1f %8.2f\n", name, $1, $2, $3, $4, $5, $6, $3 / $1 }' <<<"$fused $plain $compiled"
 }
 
 # the processor's instructions of a run on an input
@@ -215,7 +217,7 @@ line 'a program of 8 lines, eacsl run' 20 "$top/eacsl" run "$scratch/least.c"
 line 'the same without the launcher' 20 "$top/crates/eacsl/out/eacsl" run "$scratch/least.c"
 line 'calls that take all 65,536 frames' 5 "$top/eacsl" run "$scratch/deep.c"
 
-printf '%-34s %10s %10s %10s %10s\n' milliseconds 'by forms' without 'gcc -O0' faster
+printf '%-34s %9s %7s %9s %7s %9s %7s %8s\n' milliseconds 'by forms' user without user 'gcc -O0' user faster
 beside 'a loop of 5,000,000 turns' loop 5000000 5
 beside 'fib(27), 635,621 calls' fib 27 5
 beside '1,000 elements summed 20,000 times' sum 20000 2

@@ -1,15 +1,16 @@
-"""Prints what runs of a command take: the least milliseconds, the KiB of memory of the last one at most, and its exit status.
+"""Prints what runs of a command take: the least milliseconds by the clock, the KiB of memory of the last run at most, its exit status, and
+the least milliseconds of the processor's time in the program itself, which other work on the machine changes less.
 
     measure.py RUNS INPUT COMMAND..
 """
 import os, subprocess, sys, time
 
 runs, given, *command = sys.argv[1:]
-best = None
+best = least = float("inf")
 for _ in range(int(runs)):
     begun = time.perf_counter()
     run = subprocess.Popen(command, stdin=open(given), stdout=subprocess.DEVNULL, stderr=subprocess.DEVNULL)
     _, status, usage = os.wait4(run.pid, 0)
-    took = time.perf_counter() - begun
-    best = took if best is None else min(best, took)
-print(f"{best * 1000:.1f} {usage.ru_maxrss} {os.waitstatus_to_exitcode(status)}")
+    best = min(best, time.perf_counter() - begun)
+    least = min(least, usage.ru_utime)
+print(f"{best * 1000:.1f} {usage.ru_maxrss} {os.waitstatus_to_exitcode(status)} {least * 1000:.1f}")
