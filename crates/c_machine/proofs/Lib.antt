@@ -16,13 +16,11 @@ pub mod Calling
 pub mod Kept
 -- runs
 pub mod Measure
-pub mod Converted
 pub mod Courses
 pub mod Finished
 -- runs that are done at once
 pub mod Pieces
 pub mod Leaping
-pub mod Found
 pub mod Sequence
 pub mod Valued
 pub mod Ends

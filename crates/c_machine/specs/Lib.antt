@@ -1,4 +1,3 @@
-pub mod Rare
 pub mod Replies
 pub mod Inputs
 pub mod Reading
@@ -6,8 +5,7 @@ pub mod Held
 pub mod Acts
 pub mod Whole
 pub mod Runs
-pub mod Fast
+pub mod Leaps
 pub mod Forms
-pub mod Table
 pub mod Asserted
 pub mod Sequences

@@ -20,14 +20,9 @@ mod writing;
 // runs of instructions at once
 mod asserted;
 mod elements;
-mod fast;
 mod forms;
-mod found_alone;
-mod found_asserted;
-mod found_together;
 mod frames;
 mod leaps;
-mod recognised;
 mod sequences;
 mod series;
 mod singles;

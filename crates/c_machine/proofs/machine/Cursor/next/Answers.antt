@@ -3,10 +3,10 @@ use Rattle.std.specs.Bool.{OnTrue}
 use Rattle.std.proofs.lemmas.Bool.{OnTrue_at}
 use Rattle.mon_syntax.specs.declared.tree.MonOp.TheVariants.{Add, Lt}
 use Rattle.mon_syntax.specs.declared.tree.MonType.TheVariants.{I32}
-use Rattle.c_machine.specs.declared.fast.Fast.TheVariants as fast
-use Rattle.c_machine.specs.Fast.{HasAt}
-use Rattle.c_machine.specs.Forms.{Does, DoesTest, HasTest}
-use Rattle.c_machine.specs.Table.{HasForm, change_run, changed_run}
+use Rattle.c_forms.specs.declared.form.Form.TheVariants as form
+use Rattle.c_forms.specs.Runs.{HasAt, HasTest}
+use Rattle.c_machine.specs.Forms.{Does, DoesTest}
+use Rattle.c_forms.specs.Table.{HasForm, change_run, changed_run}
 use Rattle.c_machine.proofs.Sequence.{leapt_both}
 use Rattle.c_machine.proofs.Valued.{said_of_own}
 use Rattle.c_machine.proofs.machine.Cursor.next.Goals as goal
@@ -24,7 +24,7 @@ returns-clause-leapt c =
     let m = c.args.machine.now in
     let done = sym c.counted.ensures.same ∙ c.if-not-counted.false in
     let goes = said_of_own (λ z. OnTrue c.set_changed.result (Does (change_run Add I32 c.args.a c.args.a z) 6 at m c.set_changed.new.self c.set_changed.new.machine)) c.args.k c.ranges.k c.set_changed.ensures.goes_on in
-    leapt_both (λ code. HasForm code at.place (fast.Next c.args.a c.args.k c.args.limit c.args.back)) (λ code. HasAt code at.place (change_run Add I32 c.args.a c.args.a c.args.k))
+    leapt_both (λ code. HasForm code at.place (form.Next c.args.a c.args.k c.args.limit c.args.back)) (λ code. HasAt code at.place (change_run Add I32 c.args.a c.args.a c.args.k))
     (λ p code. HasTest code p (changed_run Lt I32 c.args.a c.args.limit) c.args.back) at m c.set_changed.new.self c.set_changed.new.machine c.repeat_while.new.self _ _ _ 6 8 (at.place + 6)
     (λ code has. has) (OnTrue_at done c.set_changed.ensures.lands) (OnTrue_at done c.counted.ensures.counts) (OnTrue_at done goes)
     c.repeat_while.result c.counted-2.ensures.counts c.counted-2.ensures.nothing (said_of_own (λ z. OnTrue c.repeat_while.result
