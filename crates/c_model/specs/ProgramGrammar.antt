@@ -1,7 +1,7 @@
 -- The grammar of annotated C, with the trees that are read (C99 6.8, 6.9, ACSL for asserts); declarations stand in DeclarationGrammar, and
 -- expressions in ExpressionGrammar:
 --
---   unit       = { annotation | external }
+--   unit       = { { annotation } external }
 --   external   = spec [ declared { "," declared } ] ";" | "typedef" spec dtor { "," dtor } ";" | spec { "*" } NAME "(" params ")" ( ";" | body )
 --   body       = "{" { item } "}"
 --   item       = annotation | decl | stmt
@@ -15,7 +15,7 @@
 -- An annotation that is no item stands where no assert may: it is passed over, and the place of the first of these is kept. A branch with an
 -- annotation is a statement inside which the branch after it stands.
 --
--- "typedef" stands anywhere among the words of its spec, as "static" does. A name that a typedef declares is the name of a type from the
+-- "typedef" stands in front of the type of its spec, as "static" does. A name that a typedef declares is the name of a type from the
 -- end of its declarator on. The stars before the name of a function, with the name, have at most 400 tokens. Statements are at most 200
 -- deep, a function's body being 1 deep. "else" goes with the nearest "if".
 use Rattle.std.specs.Prelude.{ℕ, zero, suc, ◌-◌, List, [], ◌∷◌, ◌++◌, Option, Some, None, Bool, true, false, cond, slice_set}
@@ -334,16 +334,16 @@ behind_spec storage.Typedef t x = typedefs t x
 behind_spec storage.Static t x = declared_at_file x.words t x
 behind_spec storage.Nothing t x = declared_at_file x.words t x
 
--- an annotation at file scope
-unfoldable pub stray : FileParts → Syntax PlainToken FileParts
-stray x = misplaced x.words x.annotations then λ s. gives (record x { annotations = s })
+-- { annotation }
+unfoldable pub strays : Vocabulary → AnnotationState → Syntax PlainToken AnnotationState
+strays ws s = many (kind ws) (λ _. annot_open_kind ∷ []) (misplaced ws) s
 
 unfoldable pub declared_external : FileParts → Syntax PlainToken FileParts
 declared_external x = file_spec x.words x.definitions then λ s. behind_spec s.storage s.ctype (record x { definitions = s.definitions })
 
--- annotation | external
+-- { annotation } external
 unfoldable pub external : FileParts → Syntax PlainToken FileParts
-external x = choice (kind x.words) (annot_open_kind ∷ []) (stray x) (declared_external x)
+external x = strays x.words x.annotations then λ s. declared_external (record x { annotations = s })
 
 -- a kind that all tokens have
 abbrev pub any_kind : PlainToken → ℕ

@@ -22,7 +22,7 @@ use Rattle.c_model.specs.ExpressionGrammar.{annot_open_kind, mark_kind, token_ki
 use Rattle.c_model.specs.Terminals.{nesting_limit}
 use Rattle.c_model.specs.DeclarationGrammar.{first_spec, Declarator, names_function, ended}
 use Rattle.c_model.specs.ProgramGrammar.{first_statement, first_branch, statement_in, branch_in, FileParts, with_typedef, no_parts, function_rest, function, globals, behind_declarator, declared_at_file, next_typedef, more_typedefs}
-use Rattle.c_model.specs.ProgramGrammar.{typedefs, behind_spec, stray, declared_external, external, any_kind, more_external, unit}
+use Rattle.c_model.specs.ProgramGrammar.{typedefs, behind_spec, strays, declared_external, external, any_kind, more_external, unit}
 use Rattle.c_expr_parser.proofs.ExactTokens.{IsRead, fixed_good}
 use Rattle.c_parser.proofs.Openings.{word_small, opens, branch_opens}
 use Rattle.c_parser.proofs.ExactDeclarations.{first_dtor, more_dtor, ended_good, full_dtor_good, initialised_good, more_declared_good, parameters_good, file_spec_good}
@@ -157,17 +157,13 @@ behind_spec_good storage.Typedef t x = declared (typedefs_good t x) refl
 behind_spec_good storage.Static t x = declared_at_file_good x.words t x
 behind_spec_good storage.Nothing t x = declared_at_file_good x.words t x
 
-stray_good : (x : FileParts) → IsRead x.words (stray x) false (annot_open_kind ∷ []) []
-unfolding stray
-stray_good x = declared (seq (misplaced_good x.words x.annotations) (λ s. given _) refl) refl
-
 declared_read : (x : FileParts) → IsRead x.words (declared_external x) false first_spec []
 unfolding declared_external
 declared_read x = declared (seq (file_spec_good x.words x.definitions) (λ s. behind_spec_good s.storage s.ctype _) refl) refl
 
 external_read : (x : FileParts) → IsRead x.words (external x) false (annot_open_kind ∷ first_spec) []
-unfolding external
-external_read x = declared (either (annot_open_kind ∷ []) (stray_good x) (declared_read x) refl) refl
+unfolding external strays
+external_read x = declared (seq (again_and_again (annot_open_kind ∷ []) (misplaced_good x.words) refl x.annotations) (λ s. declared_read (record x { annotations = s })) refl) refl
 
 -- what each token is among
 abbrev pub any : List ℕ

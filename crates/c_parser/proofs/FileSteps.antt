@@ -6,14 +6,17 @@ use Rattle.c_syntax.specs.declared.token.Token.{Token}
 use Rattle.c_syntax.specs.declared.fault.ReadFault.{ReadFault}
 use Rattle.c_syntax.specs.Ctypes.{PlainType}
 use Rattle.c_syntax.specs.Tokens.{PlainToken}
+use Rattle.c_model.specs.declared.declarations.AnnotationState.{AnnotationState}
 use Rattle.c_model.specs.Punctuators.{comma}
-use Rattle.c_model.specs.ExpressionGrammar.{mark_kind, kind}
-use Rattle.c_model.specs.ProgramGrammar.{FileParts, next_typedef, external, any_kind, more_external}
+use Rattle.c_model.specs.Vocabulary.{Vocabulary}
+use Rattle.c_model.specs.ExpressionGrammar.{annot_open_kind, mark_kind, kind}
+use Rattle.c_model.specs.ProgramGrammar.{FileParts, next_typedef, misplaced, strays, external, any_kind, more_external}
 use Rattle.token_reader.specs.Reading.{plain_list, Fails}
 use Rattle.c_parser.specs.Reading.{other_typedefs}
 use Rattle.token_reader.proofs.Shorter.{shorter}
 use Rattle.c_parser.proofs.Turns.{one_turn, turn_stops, no_turn}
 use Rattle.c_parser.proofs.ExactDeclarations.{more_dtor}
+use Rattle.c_parser.proofs.ExactStatements.{misplaced_good}
 use Rattle.c_parser.proofs.ExactPrograms.{any, next_typedef_good, external_good}
 
 pub typedefs_turn : (t : PlainType) (x y : FileParts) (ts rest : List PlainToken) → sees (kind []) (mark_kind comma ∷ []) ts ≡ true → (next_typedef t x).parse ts ≡ Ok (y, rest) → (other_typedefs t x).parse ts ≡ (other_typedefs t y).parse rest
@@ -30,6 +33,21 @@ typedefs_ends t x ts s = no_turn (λ _. mark_kind comma ∷ []) (next_typedef t)
 
 pub typedefs_shorter : (t : PlainType) (x y : FileParts) (ts rest : List Token) → (next_typedef t x).parse (plain_list ts) ≡ Ok (y, plain_list rest) → length rest < length ts
 typedefs_shorter t x y ts rest e = shorter (next_typedef t x) (next_typedef_good t x).here ts rest y e
+
+pub strays_turn : (ws : Vocabulary) (s u : AnnotationState) (ts rest : List PlainToken) → sees (kind ws) (annot_open_kind ∷ []) ts ≡ true → (misplaced ws s).parse ts ≡ Ok (u, rest) → (strays ws s).parse ts ≡ (strays ws u).parse rest
+unfolding strays
+strays_turn ws s u ts rest e r = one_turn (λ _. annot_open_kind ∷ []) (misplaced ws) (λ z. (misplaced_good ws z).here) (turns_fit (annot_open_kind ∷ []) (annot_open_kind ∷ []) [] refl) s u ts rest e r
+
+pub strays_fails : (ws : Vocabulary) (s : AnnotationState) (ts : List PlainToken) (e : ReadFault) → sees (kind ws) (annot_open_kind ∷ []) ts ≡ true → Fails e ((misplaced ws s).parse ts) → Fails e ((strays ws s).parse ts)
+unfolding strays
+strays_fails ws s ts e is f = turn_stops (λ _. annot_open_kind ∷ []) (misplaced ws) (λ z. (misplaced_good ws z).here) (turns_fit (annot_open_kind ∷ []) (annot_open_kind ∷ []) [] refl) s ts e is f
+
+pub strays_ends : (ws : Vocabulary) (s : AnnotationState) (ts : List PlainToken) → sees (kind ws) (annot_open_kind ∷ []) ts ≡ false → (strays ws s).parse ts ≡ Ok (s, ts)
+unfolding strays
+strays_ends ws s ts e = no_turn (λ _. annot_open_kind ∷ []) (misplaced ws) (λ z. (misplaced_good ws z).here) (turns_fit (annot_open_kind ∷ []) (annot_open_kind ∷ []) [] refl) s ts e
+
+pub strays_shorter : (ws : Vocabulary) (s u : AnnotationState) (ts rest : List Token) → (misplaced ws s).parse (plain_list ts) ≡ Ok (u, plain_list rest) → length rest < length ts
+strays_shorter ws s u ts rest e = shorter (misplaced ws s) (misplaced_good ws s).here ts rest u e
 
 any_sees : (ts : List Token) → (length ts ≡ 0 → ⊥) → sees any_kind any (plain_list ts) ≡ true
 any_sees [] h = absurd (h refl)
@@ -57,5 +75,7 @@ externals_shorter x y ts rest e = shorter (external x) (external_good x).here ts
 -- ---- what the code of each production cites
 
 pub ruleset typedefs_rules = (typedefs_turn, typedefs_fails, typedefs_ends, typedefs_shorter)
+
+pub ruleset strays_rules = (strays_turn, strays_fails, strays_ends, strays_shorter)
 
 pub ruleset externals_rules = (externals_turn, externals_fails, externals_ends, externals_shorter)

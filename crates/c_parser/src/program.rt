@@ -6,7 +6,7 @@ ghost use Rattle.c_model.specs.declared.vocabulary.Word.TheVariants.{TypeName};
 ghost use Rattle.c_syntax.specs.declared.fault.ReadFault.TheVariants.{Memory};
 ghost use Rattle.c_syntax.specs.Programs.{plain_program, plain_text};
 ghost use Rattle.c_model.specs.ProgramGrammar.{with_typedef, function, globals, behind_declarator, declared_at_file, next_typedef, more_typedefs};
-ghost use Rattle.c_model.specs.ProgramGrammar.{typedefs, behind_spec, stray, declared_external, external, more_external, no_parts, unit_with};
+ghost use Rattle.c_model.specs.ProgramGrammar.{typedefs, behind_spec, strays, declared_external, external, more_external, no_parts, unit_with};
 ghost use Rattle.c_expr_parser.specs.Reading.{plain_base};
 ghost use Rattle.token_reader.specs.Reading.{Gives, plain_list};
 ghost use Rattle.c_parser.specs.Reading.{plain_declarator, plain_parts, other_typedefs, function_behind};
@@ -273,20 +273,24 @@ fn behind_spec<'a>(
     }
 }
 
-/// An annotation at file scope.
-#[tactic(auto, unfolding(c_model::specs::ProgramGrammar::stray))]
-fn stray<'a>(
+/// Annotations at file scope.
+#[tactic(auto, using(crate::proofs::FileSteps::strays_rules))]
+fn strays<'a>(
     alloc: Global,
-    parts: FileParts,
+    words: &[Word],
+    state: AnnotationState,
     tokens: &'a [Token],
-) -> Result<(FileParts, &'a [Token]), ReadFault>
-    ensures { Gives (λ x. (plain_parts x.0, plain_list x.1.now)) result ((stray (plain_parts parts)).parse (plain_list tokens.now)) }
+) -> Result<(AnnotationState, &'a [Token]), ReadFault>
+    ensures { Gives (λ x. (x.0, plain_list x.1.now)) result ((strays words.now state).parse (plain_list tokens.now)) }
 {
-    let mut parts = parts;
-    let words = parts.words.as_slice();
-    let (state, rest) = misplaced(alloc, words, parts.annotations, tokens)?;
-    parts.annotations = state;
-    Ok((parts, rest))
+    let mut state = state;
+    let mut rest = tokens;
+    'turn: while next_is(words, ANNOT_OPEN, rest) {
+        let (more, after) = misplaced(alloc, words, state, rest)?;
+        state = more;
+        rest = after;
+    }
+    Ok((state, rest))
 }
 
 /// One more declaration, function or prototype.
@@ -305,7 +309,7 @@ fn declared_external<'a>(
     behind_spec(alloc, spec.storage, spec.base, parts, rest)
 }
 
-/// One more annotation, declaration, function or prototype.
+/// One more declaration, function or prototype, after annotations.
 #[tactic(auto, unfolding(c_model::specs::ProgramGrammar::external))]
 fn external<'a>(
     alloc: Global,
@@ -314,11 +318,11 @@ fn external<'a>(
 ) -> Result<(FileParts, &'a [Token]), ReadFault>
     ensures { Gives (λ x. (plain_parts x.0, plain_list x.1.now)) result ((external (plain_parts parts)).parse (plain_list tokens.now)) }
 {
-    if next_is(parts.words.as_slice(), ANNOT_OPEN, tokens) {
-        stray(alloc, parts, tokens)
-    } else {
-        declared_external(alloc, parts, tokens)
-    }
+    let mut parts = parts;
+    let words = parts.words.as_slice();
+    let (state, rest) = strays(alloc, words, parts.annotations, tokens)?;
+    parts.annotations = state;
+    declared_external(alloc, parts, rest)
 }
 
 /// What a text declares, after these parts, as far as there are tokens.

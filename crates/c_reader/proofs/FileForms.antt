@@ -14,7 +14,7 @@ use Rattle.c_model.specs.Punctuators.{semicolon, comma, left_paren, left_brace, 
 use Rattle.c_model.specs.ExpressionGrammar.{annot_open_kind, mark_kind, kind, mark, pointers, most_nested}
 use Rattle.c_model.specs.DeclarationGrammar.{Declarator, Definitions, names_function, ended, declared_by}
 use Rattle.c_model.specs.ProgramGrammar.{FileParts, no_parts, with_typedef, block_items, function_with, unit_with, function_rest, function, globals, behind_declarator, declared_at_file}
-use Rattle.c_model.specs.ProgramGrammar.{next_typedef, more_typedefs, typedefs, behind_spec, misplaced, stray, declared_external, external, any_kind, more_external, unit}
+use Rattle.c_model.specs.ProgramGrammar.{next_typedef, more_typedefs, typedefs, behind_spec, strays, declared_external, external, any_kind, more_external, unit}
 use Rattle.c_model.specs.Formed.{AreReadAsserts, declared_in_body, declared_in_items, number_of, numbers_of}
 use Rattle.c_model.specs.FullExpressions.{EachInBody}
 use Rattle.c_model.specs.UnitTyping.{AFunction}
@@ -293,13 +293,9 @@ module _ (size : ℕ) (old : Vocabulary) where
   declared_from m x h = from_then (spec_from size old x.words h.later m x.definitions h.definitions) (λ n s p.
       behind_spec_from s.storage s.ctype n (record x { definitions = s.definitions }) (with_definitions_is m n x s.definitions h p))
 
-  stray_from : (m : ℕ) (x : FileParts) → IsFile m x → From size m (stray x) IsFile
-  unfolding stray
-  stray_from m x h = from_then (from_any (misplaced x.words x.annotations)) (λ n s le. from_gives _ (with_annotations_is m n x s le h))
-
   external_from : (m : ℕ) (x : FileParts) → IsFile m x → From size m (external x) IsFile
   unfolding external
-  external_from m x h = from_choice (kind x.words) (annot_open_kind ∷ []) (stray_from m x h) (declared_from m x h)
+  external_from m x h = from_then (from_any (strays x.words x.annotations)) (λ n s le. declared_from n (record x { annotations = s }) (with_annotations_is m n x s le h))
 
   nothing_read : (ws : Vocabulary) → IsLater old ws → IsFile 0 (no_parts ws)
   nothing_read ws later = record {

@@ -30,7 +30,7 @@ use Rattle.c_model.specs.AnnotationGrammar.{prefixed as formula_prefixed, prefix
 use Rattle.c_model.specs.AnnotationGrammar.{implication_of, choice_behind, implication, form_of, form, assert_clause, full_clause, next_assert, asserts, annotations}
 use Rattle.c_model.specs.ProgramGrammar.{texts_of, misplaced, placed_annotation, condition, else_branch, else_part, selection, while_loop, do_loop, for_first, maybe_ended, for_behind, for_loop, jump, returned}
 use Rattle.c_model.specs.ProgramGrammar.{return_statement, item, items_once, items, block, empty_statement, effect_statement, statement_of, branch_of, statement_in, branch_in, function_rest, function, globals, behind_declarator, declared_at_file}
-use Rattle.c_model.specs.ProgramGrammar.{next_typedef, more_typedefs, typedefs, stray, declared_external, external, more_external, unit}
+use Rattle.c_model.specs.ProgramGrammar.{next_typedef, more_typedefs, typedefs, strays, declared_external, external, more_external, unit}
 use Rattle.c_model.specs.State.{EndOfInput, Final, Exits, Broken, Undefined}
 use Rattle.c_model.specs.Meaning.{run}
 use Rattle.c_model.specs.Phases.{vocabulary}
@@ -98,7 +98,7 @@ unfolding tokens_of build cut piece_at add marks digits_at suffix_of body_of lit
     behind_parenthesis formula_prefixed prefix_of prefix formula_joined_once joined_more joined linked links_of links chain_of implied implication_of choice_behind implication form_of form assert_clause full_clause next_assert
     asserts annotations misplaced placed_annotation condition else_branch else_part selection while_loop do_loop for_first maybe_ended for_behind for_loop jump
     returned return_statement item items_once items block empty_statement effect_statement statement_of branch_of statement_in branch_in function_rest function globals behind_declarator declared_at_file next_typedef more_typedefs typedefs
-    stray declared_external external more_external unit word_of library_constant is_library_name
+    strays declared_external external more_external unit word_of library_constant is_library_name
 programs = refl
 
 -- texts that are refused
@@ -153,7 +153,7 @@ unfolding tokens_of build cut piece_at add marks digits_at suffix_of body_of lit
     behind_parenthesis formula_prefixed prefix_of prefix formula_joined_once joined_more joined linked links_of links chain_of implied implication_of choice_behind implication form_of form assert_clause full_clause next_assert
     asserts annotations misplaced placed_annotation condition else_branch else_part selection while_loop do_loop for_first maybe_ended for_behind for_loop jump
     returned return_statement item items_once items block empty_statement effect_statement statement_of branch_of statement_in branch_in function_rest function globals behind_declarator declared_at_file next_typedef more_typedefs typedefs
-    stray declared_external external more_external unit word_of library_constant is_library_name
+    strays declared_external external more_external unit word_of library_constant is_library_name
 refusals = refl
 
 -- functions, their prototypes and calls, and declarations in blocks
@@ -184,7 +184,7 @@ unfolding tokens_of build cut piece_at add marks digits_at suffix_of body_of lit
     behind_parenthesis formula_prefixed prefix_of prefix formula_joined_once joined_more joined linked links_of links chain_of implied implication_of choice_behind implication form_of form assert_clause full_clause next_assert
     asserts annotations misplaced placed_annotation condition else_branch else_part selection while_loop do_loop for_first maybe_ended for_behind for_loop jump
     returned return_statement item items_once items block empty_statement effect_statement statement_of branch_of statement_in branch_in function_rest function globals behind_declarator declared_at_file next_typedef more_typedefs typedefs
-    stray declared_external external more_external unit word_of library_constant is_library_name
+    strays declared_external external more_external unit word_of library_constant is_library_name
 calls = refl
 
 -- texts that are refused for their functions, calls and declarations
@@ -229,7 +229,7 @@ unfolding tokens_of build cut piece_at add marks digits_at suffix_of body_of lit
     behind_parenthesis formula_prefixed prefix_of prefix formula_joined_once joined_more joined linked links_of links chain_of implied implication_of choice_behind implication form_of form assert_clause full_clause next_assert
     asserts annotations misplaced placed_annotation condition else_branch else_part selection while_loop do_loop for_first maybe_ended for_behind for_loop jump
     returned return_statement item items_once items block empty_statement effect_statement statement_of branch_of statement_in branch_in function_rest function globals behind_declarator declared_at_file next_typedef more_typedefs typedefs
-    stray declared_external external more_external unit word_of library_constant is_library_name
+    strays declared_external external more_external unit word_of library_constant is_library_name
 refused_calls = refl
 
 -- texts with declarations of all forms
@@ -282,7 +282,7 @@ unfolding tokens_of build cut piece_at add marks digits_at suffix_of body_of lit
     behind_parenthesis formula_prefixed prefix_of prefix formula_joined_once joined_more joined linked links_of links chain_of implied implication_of choice_behind implication form_of form assert_clause full_clause next_assert
     asserts annotations misplaced placed_annotation condition else_branch else_part selection while_loop do_loop for_first maybe_ended for_behind for_loop jump
     returned return_statement item items_once items block empty_statement effect_statement statement_of branch_of statement_in branch_in function_rest function globals behind_declarator declared_at_file next_typedef more_typedefs typedefs
-    stray declared_external external more_external unit word_of library_constant is_library_name
+    strays declared_external external more_external unit word_of library_constant is_library_name
 declarations = refl
 
 -- an assert that is no item of a block stands where none may (E7), where what follows it makes a text
@@ -300,8 +300,8 @@ misplaced_asserts :
     refusal 7 (place 1 5 4) (codes "assert") ∷
     refusal 7 (place 1 29 28) (codes "assert") ∷
     refusal 7 (place 1 40 39) (codes "assert") ∷
-    refusal 7 (place 1 5 4) (codes "assert") ∷
-    refusal 7 (place 1 34 33) (codes "assert") ∷
+    refusal 4 (place 1 22 21) (codes "end of file") ∷
+    refusal 4 (place 3 1 68) (codes "end of file") ∷
     refusal 7 (place 1 32 31) (codes "assert") ∷
     refusal 4 (place 1 47 46) (codes "}") ∷
     refusal 4 (place 1 23 22) (codes "}") ∷
@@ -317,5 +317,5 @@ unfolding tokens_of build cut piece_at add marks digits_at suffix_of body_of lit
     behind_parenthesis formula_prefixed prefix_of prefix formula_joined_once joined_more joined linked links_of links chain_of implied implication_of choice_behind implication form_of form assert_clause full_clause next_assert
     asserts annotations misplaced placed_annotation condition else_branch else_part selection while_loop do_loop for_first maybe_ended for_behind for_loop jump
     returned return_statement item items_once items block empty_statement effect_statement statement_of branch_of statement_in branch_in function_rest function globals behind_declarator declared_at_file next_typedef more_typedefs typedefs
-    stray declared_external external more_external unit word_of library_constant is_library_name
+    strays declared_external external more_external unit word_of library_constant is_library_name
 misplaced_asserts = refl
