@@ -30,7 +30,7 @@ keywords =
     ∷ (codes "continue", word.Keyword Continue) ∷ (codes "return", word.Keyword Return) ∷ (codes "sizeof", word.Keyword Sizeof)
     ∷ (codes "struct", word.Keyword Struct) ∷ (codes "enum", word.Keyword Enum) ∷ (codes "typedef", word.Keyword Typedef) ∷ []
 
--- the keywords that stand in no form yet, or in none at all
+-- the keywords that no production has
 abbrev pub kept_keywords : Words
 kept_keywords =
     (codes "switch", word.Keyword Kept) ∷ (codes "case", word.Keyword Kept) ∷ (codes "default", word.Keyword Kept) ∷ (codes "auto", word.Keyword Kept)

@@ -26,7 +26,7 @@ pub enum Keyword {
     Struct,
     Enum,
     Typedef,
-    /// A keyword that stands in no form yet.
+    /// A keyword that no production has.
     Kept,
 }
 
@@ -44,7 +44,7 @@ pub enum TypeName {
 pub enum LogicWord {
     /// `\true` or `\false`.
     Truth(bool),
-    /// A word that stands in no form yet, or in none at all.
+    /// A word that no production has.
     Kept,
 }
 

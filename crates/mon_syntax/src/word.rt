@@ -24,7 +24,7 @@ pub enum Runtime {
     Malloc,
     Calloc,
     Free,
-    /// A name that is kept for the runtime and isn't there yet.
+    /// A name that is kept for the runtime, and that no call has.
     Kept,
 }
 
