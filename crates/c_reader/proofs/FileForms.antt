@@ -11,7 +11,7 @@ use Rattle.c_model.specs.declared.declarations.Storage.{Storage}
 use Rattle.c_model.specs.declared.declarations.Storage.TheVariants as storage
 use Rattle.c_model.specs.Vocabulary.{Vocabulary}
 use Rattle.c_model.specs.Punctuators.{semicolon, comma, left_paren, left_brace, right_brace}
-use Rattle.c_model.specs.ExpressionGrammar.{annot_open_kind, mark_kind, kind, mark, pointers, most_nested}
+use Rattle.c_model.specs.ExpressionGrammar.{mark_kind, kind, mark, pointers, most_nested}
 use Rattle.c_model.specs.DeclarationGrammar.{Declarator, Definitions, names_function, ended, declared_by}
 use Rattle.c_model.specs.ProgramGrammar.{FileParts, no_parts, with_typedef, block_items, function_with, unit_with, function_rest, function, globals, behind_declarator, declared_at_file}
 use Rattle.c_model.specs.ProgramGrammar.{next_typedef, more_typedefs, typedefs, behind_spec, strays, declared_external, external, any_kind, more_external, unit}
