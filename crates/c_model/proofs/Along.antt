@@ -1,5 +1,6 @@
 -- What holds between a state and each one that is reached from it: one induction for all such relations.
-use Rattle.std.proofs.Common.{◌≡◌, ℕ, zero, suc, ◌+◌, ◌*◌, ◌≤◌, pos, Bool, true, false, cond, ◌&&◌, if◌then◌else◌, nat_lt, nat_eq, List, [], ◌∷◌, ◌++◌, length, replicate, Option, Some, None, option_map, slice_get, codes, bytes_eq, refl, sym, ap, ◌∙◌}
+use Rattle.std.proofs.Common.{◌≡◌, ℕ, zero, suc, ◌+◌, ◌*◌, ◌≤◌, ℤ, pos, ◌+ℤ◌, Bool, true, false, cond, ◌&&◌, if◌then◌else◌, nat_lt, nat_eq, List, [], ◌∷◌, ◌++◌, length, replicate, Option, Some, None, option_map, slice_get, codes, bytes_eq, refl}
+use Rattle.std.proofs.Common.{sym, ap, ◌∙◌}
 use Rattle.std.proofs.Common.{append_assoc}
 use Rattle.std.proofs.Common.{append-nil}
 use Rattle.std.proofs.Common.{arith}
@@ -14,12 +15,18 @@ use Rattle.c_syntax.specs.declared.annotation.Relation.TheVariants.{Ne}
 use Rattle.c_syntax.specs.declared.logic.Connective.{Connective}
 use Rattle.c_syntax.specs.declared.logic.Connective.TheVariants.{And, Xor, Or, Implies, Iff}
 use Rattle.c_syntax.specs.Ctypes.{PlainType, int_type}
-use Rattle.c_syntax.specs.Logic.{Links, NoLink, Linked, Predicate, Truth, NonZero, Chain, Not, Connected, Branch, ClauseBody, Raw, Holds, Annotation}
+use Rattle.c_syntax.specs.declared.logic.Quantifier.{Quantifier}
+use Rattle.c_syntax.specs.declared.logic.Quantifier.TheVariants.{ForAll, Exists}
+use Rattle.c_syntax.specs.Logic.{LogicTerm, Links, NoLink, Linked, Binder, Predicate, Truth, NonZero, Chain, Not, Connected}
+use Rattle.c_syntax.specs.Logic.{Branch, Quantified, Guards, NoGuard, Guarded, ClauseBody, Raw, Holds, Annotation, Behaviors, Asks, Separated}
+use Rattle.c_syntax.specs.Logic as logic
 use Rattle.c_syntax.specs.Expressions.{Expression, Node, Number, Letter, Text, Variable, Unary, Binary, Both, Either, Choice, Assign, Bump, Call, Cast, SizeOfType, SizeOfExpr, Index, Dot, Arrow, Comma, Expressions, NoExpression, Following, place_of}
 use Rattle.c_syntax.specs.Expressions.{type_of}
-use Rattle.c_syntax.specs.Statements.{Initialiser, One, Many, Initialisers, NoInitialiser, Listed, Declaration, Statement, Empty, Eval, Block, If, While, Do, For, Break, Continue, Return, ElsePart, NoElse, Else, ForFirst, NoFirst, First, BlockItem}
+use Rattle.c_syntax.specs.Statements.{Initialiser, One, Many, Initialisers, NoInitialiser, Listed, Declaration, Statement, Empty, Eval, Block, If, While, Do}
+use Rattle.c_syntax.specs.Statements.{For, Break, Continue, Return, Labelled, ElsePart, NoElse, Else, ForFirst, NoFirst, First, BlockItem, Switch, Cases}
+use Rattle.c_syntax.specs.Statements.{NoCase, AnotherCase}
 use Rattle.c_syntax.specs.Statements.{Declare, Run, Asserts, BlockItems, NoItem, Then}
-use Rattle.c_syntax.specs.Programs.{StructType, Function, TranslationUnit}
+use Rattle.c_syntax.specs.Programs.{StructType, NamedBehavior, FunctionContract, Function, TranslationUnit}
 use Rattle.c_syntax.specs.declared.types.CInt.TheVariants.{U64}
 use Rattle.c_syntax.specs.Layouts.{Scalar, scalar_size, scalar_of, size_of}
 use Rattle.c_model.specs.Integers.{bits_of, truth, byte_of}
@@ -28,13 +35,22 @@ use Rattle.c_model.specs.Memory.{Unwritten, Number as NumberByte, Room, At, NoRo
 use Rattle.c_model.specs.State.{Scope, Mark, Input, InputTail, EndOfInput, InputFault, ReadFault, Exits, print, read_byte, State, Breaks, Continues, Returns, End, Leaves, Over, Undefined, Fault, Spent, Full, Outcome, Normal, Stop, Evaluation}
 use Rattle.c_model.specs.State.{on_outcome, ◌>>=◌, ◌>>◌, give, done, stop, defined, computed, as_scalar, step_from, step, find, start_of, object, read, read_any, put_store, changed, write, write_bytes, copy_object, tested, birth_of, birth, births}
 use Rattle.c_model.specs.State.{heap_birth, allocate}
-use Rattle.c_model.specs.State.{write_youngest, alone, frame, mark, back_to, restored, within}
-use Rattle.c_model.specs.Logic.{TermValue, Mathematical, Answer, Says, SaysNothing, OutOfSteps, lazily, related, judged}
-use Rattle.c_model.specs.Predicates.{denied, connected, term, chain, pred, clause, check, checks}
+use Rattle.c_model.specs.State.{write_youngest, alone, frame, mark, back_to, restored, within, answered, called}
+use Rattle.c_model.specs.Logic.{TermValue, Mathematical, Environment, always, Answer, Says, SaysNothing, OutOfSteps, lazily, denied, silenced, fully, related}
+use Rattle.c_model.specs.Logic.{judged, Addressed, related_addresses, said, asks, all_apart}
+use Rattle.c_model.specs.TermRanges.{lowered}
+use Rattle.c_model.specs.Quantifiers.{deciding, tries, over, between}
+use Rattle.c_model.specs.Predicates.{same_as, other_than, connected, term, chain, pred, guarded, clause, check_in, checks_in, checks, invariant, invariants}
+use Rattle.c_model.specs.Predicates.{variant, valued, value_of, is_smaller, compared, zone, zones, alignment_of}
+use Rattle.c_model.specs.ContractChecks.{Check, assumed, demand, of_behavior, checked, all_checked, holds_at, is_assumes, entry_checks, leave_checks}
+use Rattle.c_model.specs.ContractChecks.{all_hold, result_is, entry, ending}
+use Rattle.c_model.specs.MemoryQuestions.{null_address}
 use Rattle.c_model.specs.Meaning.{Tables, literal, Callee, is_zero, choose, truth_value, size_value, converted, is_of_library, is_pointer, named, is_member, address, is_array, pointed_to, member, assigned, compound, bump_operator, bump_value}
 use Rattle.c_model.specs.Meaning.{eval_with, place_with}
-use Rattle.c_model.specs.Meaning.{evals_with, after_body, turns, do_turns, declared_in, declared_first, zero_scalars, zero_parts, string_in, write_each, fill_one, parts_or_itself, fill, fill_parts, initialise, initialise_all, condition_with}
-use Rattle.c_model.specs.Meaning.{effect_with, exec_with, else_with, first_with, item_with, items_with, parameters, body_with, put_char, get_char, exit_with, malloc_with, calloc_with, free_with, library_call, at_close, returned_by, call_with}
+use Rattle.c_model.specs.Meaning.{evals_with, after_body, turn_with, turns, do_turns, declared_in, declared_first, zero_scalars, zero_parts, string_in}
+use Rattle.c_model.specs.Meaning.{write_each, fill_one, parts_or_itself, fill, fill_parts, initialise, initialise_all, condition_with, effect_with, exec_with}
+use Rattle.c_model.specs.Meaning.{else_with, first_with, item_with, items_with, parameters, body_with, put_char, get_char, exit_with, malloc_with}
+use Rattle.c_model.specs.Meaning.{calloc_with, free_with, library_call, at_close, returned_by, call_with, after_main, chosen_case, after_switch, cases_with}
 use Rattle.c_model.specs.Meaning.{call_of, tables_of, global_scope}
 use Rattle.c_model.specs.Meaning.{definition_at, main_with, function_named, whole, exec}
 use Rattle.c_model.specs.Laws.{AreWhole, KeepsWhole, store_after}
@@ -48,10 +64,17 @@ steps_of (Says b n) = n
 steps_of (SaysNothing n) = n
 steps_of OutOfSteps = 0
 
-steps_related : (r : Relation) (a b : Option TermValue) (n : ℕ) → steps_of (related r a b n) ≤ n
-steps_related r None b n = omega arith
-steps_related r (Some a) None n = omega arith
-steps_related r (Some (Mathematical x)) (Some (Mathematical y)) n = omega arith
+steps_said : (b : Option Bool) (n : ℕ) → steps_of (said b n) ≤ n
+steps_said None n = omega arith
+steps_said (Some b) n = omega arith
+
+steps_related : (store : Store) (r : Relation) (a b : Option TermValue) (n : ℕ) → steps_of (related store r a b n) ≤ n
+steps_related store r None b n = omega arith
+steps_related store r (Some a) None n = omega arith
+steps_related store r (Some (Mathematical x)) (Some (Mathematical y)) n = omega arith
+steps_related store r (Some (Mathematical x)) (Some (Addressed y)) n = steps_said (related_addresses store r null_address y) n
+steps_related store r (Some (Addressed x)) (Some (Mathematical y)) n = steps_said (related_addresses store r x null_address) n
+steps_related store r (Some (Addressed x)) (Some (Addressed y)) n = steps_said (related_addresses store r x y) n
 
 steps_lazily : (k : ℕ) (a : Answer) (on off : ℕ → Answer) → steps_of a ≤ k → ((n : ℕ) → steps_of (on n) ≤ n) → ((n : ℕ) → steps_of (off n) ≤ n) → steps_of (lazily a on off) ≤ k
 steps_lazily k (Says true n) on off h f g = omega (arith, h, f n)
@@ -59,32 +82,85 @@ steps_lazily k (Says false n) on off h f g = omega (arith, h, g n)
 steps_lazily k (SaysNothing n) on off h f g = h
 steps_lazily k OutOfSteps on off h f g = h
 
-steps_chain : (links : Links) (a : Option TermValue) (s : State) (n : ℕ) → steps_of (chain a links s n) ≤ n
-steps_chain NoLink a s n = omega arith
-steps_chain (Linked at r t rest) a s n =
-    steps_lazily n (related r a (term t s) n) _ _ (steps_related r a (term t s) n) (λ j. steps_chain rest (term t s) s j) (λ j. omega arith)
-
 steps_denied : (k : ℕ) (a : Answer) → steps_of a ≤ k → steps_of (denied a) ≤ k
 steps_denied k a h = steps_lazily k a _ _ h (λ n. omega arith) (λ n. omega arith)
+
+steps_silenced : (k : ℕ) (a : Answer) → steps_of a ≤ k → steps_of (silenced a) ≤ k
+steps_silenced k (Says b n) h = h
+steps_silenced k (SaysNothing n) h = h
+steps_silenced k OutOfSteps h = h
+
+steps_fully : (k : ℕ) (a : Answer) (b : ℕ → Answer) (f : Bool → Answer → Answer) → steps_of a ≤ k → ((n : ℕ) → steps_of (b n) ≤ n) → ((x : Bool) (y : Answer) (n : ℕ) → steps_of y ≤ n → steps_of (f x y) ≤ n) → steps_of (fully a b f) ≤ k
+steps_fully k (Says x n) b f h g w = omega (arith, h, w x (b n) n (g n))
+steps_fully k (SaysNothing n) b f h g w = omega (arith, h, steps_silenced n (b n) (g n))
+steps_fully k OutOfSteps b f h g w = h
+
+steps_same_as : (x : Bool) (y : Answer) (n : ℕ) → steps_of y ≤ n → steps_of (same_as x y) ≤ n
+steps_same_as true y n h = h
+steps_same_as false y n h = steps_denied n y h
+
+steps_other_than : (x : Bool) (y : Answer) (n : ℕ) → steps_of y ≤ n → steps_of (other_than x y) ≤ n
+steps_other_than true y n h = steps_denied n y h
+steps_other_than false y n h = h
 
 steps_connected : (c : Connective) (k : ℕ) (a : Answer) (b : ℕ → Answer) → steps_of a ≤ k → ((n : ℕ) → steps_of (b n) ≤ n) → steps_of (connected c a b) ≤ k
 steps_connected And k a b h g = steps_lazily k a _ _ h g (λ n. omega arith)
 steps_connected Or k a b h g = steps_lazily k a _ _ h (λ n. omega arith) g
 steps_connected Implies k a b h g = steps_lazily k a _ _ h g (λ n. omega arith)
-steps_connected Iff k a b h g = steps_lazily k a _ _ h g (λ n. steps_denied n (b n) (g n))
-steps_connected Xor k a b h g = steps_lazily k a _ _ h (λ n. steps_denied n (b n) (g n)) g
+steps_connected Iff k a b h g = steps_fully k a b same_as h g steps_same_as
+steps_connected Xor k a b h g = steps_fully k a b other_than h g steps_other_than
 
-steps_pred : (p : Predicate) (s : State) (n : ℕ) → steps_of (pred p s n) ≤ n
-steps_pred (Truth at b) s n = omega arith
-steps_pred (NonZero at t) s n = steps_related Ne (term t s) _ n
-steps_pred (Chain at t links) s n = steps_chain links (term t s) s n
-steps_pred (Not at p) s n = steps_denied n (pred p s n) (steps_pred p s n)
-steps_pred (Connected at c p q) s n = steps_connected c n (pred p s n) (pred q s) (steps_pred p s n) (steps_pred q s)
-steps_pred (Branch at c p q) s n = steps_lazily n (pred c s n) (pred p s) (pred q s) (steps_pred c s n) (steps_pred p s) (steps_pred q s)
+-- ---- quantifiers
 
-pub steps_clause : (body : ClauseBody) (s : State) (n : ℕ) → steps_of (clause body s n) ≤ n
-steps_clause (Raw f) s n = omega arith
-steps_clause (Holds p) s n = steps_pred p s n
+steps_deciding : (q : Quantifier) (k : ℕ) (a : Answer) (rest : ℕ → Answer) → steps_of a ≤ k → ((n : ℕ) → steps_of (rest n) ≤ n) → steps_of (deciding q a rest) ≤ k
+steps_deciding ForAll k a rest h g = steps_lazily k a _ _ h g (λ n. omega arith)
+steps_deciding Exists k a rest h g = steps_lazily k a _ _ h (λ n. omega arith) g
+
+steps_tries : (q : Quantifier) (j : ℕ) (v : ℤ) (p : ℤ → ℕ → Answer) → ((v : ℤ) (n : ℕ) → steps_of (p v n) ≤ n) → (n : ℕ) → steps_of (tries q j v p n) ≤ n
+steps_tries q zero v p h n = omega arith
+steps_tries q (suc j) v p h zero = omega arith
+steps_tries q (suc j) v p h (suc n) =
+    omega (arith, steps_deciding q n (p v n) (tries q j (v +ℤ pos 1) p) (h v n) (λ m. steps_tries q j (v +ℤ pos 1) p h m))
+
+pub steps_over : (q : Quantifier) (l : ℤ) (bs : List Binder) (h : ℤ) (p : Environment → ℕ → Answer) → ((e : Environment) (n : ℕ) → steps_of (p e n) ≤ n) → (e : Environment) (n : ℕ) → steps_of (over q l bs h p e n) ≤ n
+steps_over q l [] h p w e n = w e n
+steps_over q l (b ∷ bs) h p w e n = steps_tries q _ _ _ (λ v m. steps_over q v bs h p w ((b.place.offset, always (Mathematical v)) ∷ e) m) n
+
+pub steps_between : (a b : Option TermValue) (f : ℤ → ℤ → ℕ → Answer) → ((l h : ℤ) (n : ℕ) → steps_of (f l h n) ≤ n) → (n : ℕ) → steps_of (between a b f n) ≤ n
+steps_between None b f w n = omega arith
+steps_between (Some (Addressed x)) b f w n = omega arith
+steps_between (Some (Mathematical l)) None f w n = omega arith
+steps_between (Some (Mathematical l)) (Some (Addressed y)) f w n = omega arith
+steps_between (Some (Mathematical l)) (Some (Mathematical h)) f w n = w l h n
+
+-- ---- predicates
+
+steps_chain : (links : Links) (a : Option TermValue) (s : State) (e : Environment) (n : ℕ) → steps_of (chain a links s e n) ≤ n
+steps_chain NoLink a s e n = omega arith
+steps_chain (Linked at r t rest) a s e n =
+    steps_lazily n (related s.store r a (term t s e) n) _ _ (steps_related s.store r a (term t s e) n) (λ j. steps_chain rest (term t s e) s e j) (λ j. omega arith)
+
+pub steps_guarded : (q : Quantifier) (gs : Guards) (p : Environment → ℕ → Answer) (s : State) → ((e : Environment) (n : ℕ) → steps_of (p e n) ≤ n) → (e : Environment) (n : ℕ) → steps_of (guarded q gs p s e n) ≤ n
+steps_guarded q NoGuard p s w e n = w e n
+steps_guarded q (Guarded a bs below b rest) p s w e n =
+    steps_between (term a s e) (term b s e) _ (λ l h n. steps_over q l bs (lowered below h) (guarded q rest p s) (steps_guarded q rest p s w) e n) n
+
+pub steps_pred : (p : Predicate) (s : State) (e : Environment) (n : ℕ) → steps_of (pred p s e n) ≤ n
+steps_pred (Truth at b) s e n = omega arith
+steps_pred (NonZero at t) s e n = steps_related s.store Ne (term t s e) _ n
+steps_pred (Chain at t links) s e n = steps_chain links (term t s e) s e n
+steps_pred (Not at p) s e n = steps_denied n (pred p s e n) (steps_pred p s e n)
+steps_pred (Connected at c p q) s e n = steps_connected c n (pred p s e n) (pred q s e) (steps_pred p s e n) (steps_pred q s e)
+steps_pred (Branch at c p q) s e n = steps_lazily n (pred c s e n) (pred p s e) (pred q s e) (steps_pred c s e n) (steps_pred p s e) (steps_pred q s e)
+steps_pred (Quantified at q gs p) s e n = steps_guarded q gs (pred p s) s (steps_pred p s) e n
+steps_pred (Asks at f z) s e n = steps_said (option_map (asks f s.store (alignment_of z)) (zone z s e)) n
+steps_pred (Separated at zs) s e n = steps_said (option_map all_apart (zones zs s e)) n
+
+pub steps_clause : (body : ClauseBody) (s : State) (e : Environment) (n : ℕ) → steps_of (clause body s e n) ≤ n
+steps_clause (Raw f) s e n = omega arith
+steps_clause (Holds p) s e n = steps_pred p s e n
+steps_clause (logic.Value t) s e n = omega arith
+steps_clause (Behaviors names) s e n = omega arith
 
 -- the state at an outcome
 abbrev pub state_after : {A : Type 0} → Outcome A → State
@@ -203,6 +279,13 @@ module _ (R : State → State → Type 0) (r : Lasts R) where
   pub along_within : {A : Type 0} (m : Evaluation A) → Along m → Along (within m)
   along_within m g = record { at = λ s. restored_along s (m s) (g.at s) }
 
+  answered_along : {A : Type 0} (old : State) (o : Outcome A) → R old (state_after o) → R old (state_after (answered old o))
+  answered_along old (Normal a s) w = r.onward old (back_to old s) _ (r.back old s w) (r.inside (back_to old s) old.scope old.marks old.calls)
+  answered_along old (Stop e s) w = r.onward old (back_to old s) _ (r.back old s w) (r.inside (back_to old s) old.scope old.marks old.calls)
+
+  pub along_called : {A : Type 0} (m : Evaluation A) → Along m → Along (called m)
+  along_called m g = record { at = λ s. answered_along s (m s) (g.at s) }
+
   -- ---- annotations
 
   judged_along : (a : Annotation) (answer : Answer) (s : State) → steps_of answer ≤ s.steps → R s (state_after (judged a answer s))
@@ -211,9 +294,70 @@ module _ (R : State → State → Type 0) (r : Lasts R) where
   judged_along a (SaysNothing n) s w = r.fewer s n w
   judged_along a OutOfSteps s w = r.fewer s 0 w
 
+  along_check : (e : Environment) (a : Annotation) → Along (check_in e a)
+  along_check e a = record { at = λ s. judged_along a (clause a.body s e s.steps) s (steps_clause a.body s e s.steps) }
+
+  pub along_checks_in : (e : Environment) (annots : List Annotation) → Along (checks_in e annots)
+  along_checks_in e [] = along_give tt
+  along_checks_in e (a ∷ rest) = along_then (check_in e a) (checks_in e rest) (along_check e a) (along_checks_in e rest)
+
   pub along_checks : (annots : List Annotation) → Along (checks annots)
-  along_checks [] = along_give tt
-  along_checks (a ∷ rest) = along_then (check a) (checks rest) (record { at = λ s. judged_along a (clause a.body s s.steps) s (steps_clause a.body s s.steps) }) (along_checks rest)
+  along_checks = along_checks_in []
+
+  along_invariant : (a : Annotation) (b : ClauseBody) → Along (invariant a b)
+  along_invariant a (Raw f) = along_check [] a
+  along_invariant a (Holds p) = along_check [] a
+  along_invariant a (logic.Value t) = along_give tt
+  along_invariant a (Behaviors names) = along_check [] a
+
+  pub along_invariants : (annots : List Annotation) → Along (invariants annots)
+  along_invariants [] = along_give tt
+  along_invariants (a ∷ rest) = along_then _ _ (along_invariant a a.body) (along_invariants rest)
+
+  valued_along : (a : Annotation) (o : Option TermValue) (s : State) → R s (state_after (valued a o s))
+  valued_along a None s = r.same s
+  valued_along a (Some (Addressed x)) s = r.same s
+  valued_along a (Some (Mathematical z)) s = r.same s
+
+  pub along_value : (a : Annotation) (t : LogicTerm) → Along (value_of a t)
+  along_value a t = record { at = λ s. valued_along a (term t s []) s }
+
+  pub along_compared : (a : Annotation) (old new : ℤ) → Along (compared a old new)
+  along_compared a old new = record { at = λ s. judged_along a (Says (is_smaller old new) s.steps) s (omega arith) }
+
+  -- ---- contracts
+
+  assumed_along : (a : Annotation) (k : ℕ) (hs : List Bool) (answer : Answer) (s : State) → steps_of answer ≤ s.steps → R s (state_after (assumed a k hs answer s))
+  assumed_along a k hs (Says true n) s w = r.fewer s n w
+  assumed_along a k hs (Says false n) s w = r.fewer s n w
+  assumed_along a k hs (SaysNothing n) s w = r.fewer s n w
+  assumed_along a k hs OutOfSteps s w = r.fewer s 0 w
+
+  along_demand : (bs : List NamedBehavior) (e : Environment) (a : Annotation) (body : ClauseBody) (hs : List Bool) → Along (demand bs e a body hs)
+  along_demand bs e a (Raw f) hs = along_check e a
+  along_demand bs e a (Holds p) hs = along_check e a
+  along_demand bs e a (logic.Value t) hs = along_check e a
+  along_demand bs e a (Behaviors names) hs = record { at = λ s. judged_along a (Says _ s.steps) s (omega arith) }
+
+  along_of_behavior : (bs : List NamedBehavior) (e : Environment) (a : Annotation) (k : ℕ) (hs : List Bool) (t : Bool) → Along (of_behavior bs e a k hs t)
+  along_of_behavior bs e a k hs true = record { at = λ s. assumed_along a k hs (clause a.body s [] s.steps) s (steps_clause a.body s [] s.steps) }
+  along_of_behavior bs e a k hs false = along_then _ _ (along_demand bs e a a.body hs) (along_give hs)
+
+  along_checked : (bs : List NamedBehavior) (e : Environment) (a : Annotation) (o : Option ℕ) (hs : List Bool) → Along (checked bs e a o hs)
+  along_checked bs e a None hs = along_then _ _ (along_demand bs e a a.body hs) (along_give hs)
+  along_checked bs e a (Some k) hs = along_cond (holds_at k hs) _ _ (along_of_behavior bs e a k hs (is_assumes a.kind)) (along_give hs)
+
+  along_all_checked : (bs : List NamedBehavior) (e : Environment) (cs : List Check) (hs : List Bool) → Along (all_checked bs e cs hs)
+  along_all_checked bs e [] hs = along_give hs
+  along_all_checked bs e (c ∷ cs) hs = along_bind _ _ (along_checked bs e c.annotation c.behavior hs) (along_all_checked bs e cs)
+
+  pub along_entry : (c : Option FunctionContract) → Along (entry c)
+  along_entry None = along_give []
+  along_entry (Some c) = along_all_checked c.behaviors [] (entry_checks c) (all_hold c.behaviors)
+
+  pub along_ending : (c : Option FunctionContract) (hs : List Bool) (v : Value) → Along (ending c hs v)
+  along_ending None hs v = along_give tt
+  along_ending (Some c) hs v = along_then _ _ (along_all_checked c.behaviors (result_is v) (leave_checks c) hs) (along_give tt)
 
   -- ---- choices and loops
 
@@ -234,11 +378,29 @@ module _ (R : State → State → Type 0) (r : Lasts R) where
   body_along s (Stop (Leaves (Returns v)) t) again w h = w
   body_along s (Stop (Over e) t) again w h = w
 
-  pub along_turns : (n : ℕ) (test : Evaluation Value) (body behind : Evaluation (Unit {0})) → Along test → Along body → Along behind → Along (turns n test body behind)
-  along_turns zero test body behind t b h = along_stop (Over Spent)
-  along_turns (suc n) test body behind t b h =
-      along_bind test _ t (λ v. along_choose v _ _ (along_bind step (λ _ s. after_body (body s) (behind >> turns n test body behind)) along_step
-      (λ _. record { at = λ s. body_along s (body s) (behind >> turns n test body behind) (b.at s) (along_then behind _ h (along_turns n test body behind t b h)) })) (along_give tt))
+  switch_along : (s : State) (o : Outcome (Unit {0})) → R s (state_after o) → R s (state_after (after_switch o))
+  switch_along s (Normal u t) w = w
+  switch_along s (Stop (Leaves Breaks) t) w = w
+  switch_along s (Stop (Leaves Continues) t) w = w
+  switch_along s (Stop (Leaves (Returns v)) t) w = w
+  switch_along s (Stop (Over e) t) w = w
+
+  pub along_after_switch : (m : Evaluation (Unit {0})) → Along m → Along (λ s. after_switch (m s))
+  along_after_switch m h = record { at = λ s. switch_along s (m s) (h.at s) }
+
+  along_after_body : (body again : Evaluation (Unit {0})) → Along body → Along again → Along (λ s. after_body (body s) again)
+  along_after_body body again b h = record { at = λ s. body_along s (body s) again (b.at s) h }
+
+  pub along_turn : (v : Option (Annotation × LogicTerm)) (body behind again : Evaluation (Unit {0})) → Along body → Along behind → Along again → Along (turn_with v body behind again)
+  along_turn None body behind again b h g = along_after_body body _ b (along_then behind again h g)
+  along_turn (Some v) body behind again b h g =
+      along_bind (value_of v.0 v.1) _ (along_value v.0 v.1) (λ old.
+      along_after_body body _ b (along_then _ again (along_then behind _ h (along_bind (value_of v.0 v.1) _ (along_value v.0 v.1) (λ new. along_compared v.0 old new))) g))
+
+  pub along_turns : (n : ℕ) (test : Evaluation Value) (turn : Evaluation (Unit {0}) → Evaluation (Unit {0})) → Along test → ((again : Evaluation (Unit {0})) → Along again → Along (turn again)) → Along (turns n test turn)
+  along_turns zero test turn t b = along_stop (Over Spent)
+  along_turns (suc n) test turn t b =
+      along_bind test _ t (λ v. along_choose v _ _ (along_then step (turn (turns n test turn)) along_step (b (turns n test turn) (along_turns n test turn t b))) (along_give tt))
 
   pub along_do_turns : (n : ℕ) (test : Evaluation Value) (body : Evaluation (Unit {0})) → Along test → Along body → Along (do_turns n test body)
   along_do_turns zero test body t b = along_stop (Over Spent)
@@ -382,14 +544,22 @@ module _ (R : State → State → Type 0) (r : Lasts R) where
       along_exec (Eval at e) n = along_then _ _ (along_eval e) (along_give tt)
       along_exec (Block at items) n = along_within _ (along_then _ _ (along_births T.structs (declared_in items)) (along_items items n))
       along_exec (If at e a b) n = along_bind _ _ (along_tested e (along_eval e)) (λ v. along_choose v _ _ (along_exec a n) (along_else b n))
-      along_exec (While at annots e a) n = along_turns n _ _ _ (along_tested e (along_eval e)) (along_exec a n) (along_give tt)
+      along_exec (While at annots e a) n = along_turns n _ _ (along_then _ _ (along_invariants annots) (along_tested e (along_eval e))) (λ again. along_turn (variant annots) _ _ again (along_exec a n) (along_give tt))
       along_exec (Do at a e) n = along_do_turns n _ _ (along_tested e (along_eval e)) (along_exec a n)
       along_exec (For at annots first e behind a) n =
-          along_within _ (along_then _ _ (along_then _ _ (along_births T.structs (declared_first first)) (along_first first n)) (along_turns n _ _ _ (along_condition e) (along_exec a n) (along_effect behind)))
+          along_within _ (along_then _ _ (along_then _ _ (along_births T.structs (declared_first first)) (along_first first n))
+          (along_turns n _ _ (along_then _ _ (along_invariants annots) (along_condition e)) (λ again. along_turn (variant annots) _ _ again (along_exec a n) (along_effect behind))))
       along_exec (Break at) n = along_stop (Leaves Breaks)
       along_exec (Continue at) n = along_stop (Leaves Continues)
       along_exec (Return at None) n = along_stop (Leaves (Returns None))
       along_exec (Return at (Some e)) n = along_bind _ _ (along_eval e) (λ v. along_stop (Leaves (Returns (Some v))))
+      along_exec (Labelled at l a) n = along_then _ _ (along_mark (Some l)) (along_exec a n)
+      along_exec (Switch at e cases) n = along_bind _ _ (along_eval e) (λ v. along_after_switch _ (along_cases cases n (chosen_case v cases)))
+
+      pub along_cases : (cases : Cases) (n k : ℕ) → Along (cases_with T cases call n k)
+      along_cases NoCase n k = along_give tt
+      along_cases (AnotherCase at v items rest) n zero = along_then _ _ (along_items items n) (along_cases rest n zero)
+      along_cases (AnotherCase at v items rest) n (suc k) = along_cases rest n k
 
       pub along_else : (b : ElsePart) (n : ℕ) → Along (else_with T b call n)
       along_else NoElse n = along_give tt
@@ -498,9 +668,10 @@ module _ (R : State → State → Type 0) (r : Lasts R) where
   pub along_call_with : (T : Tables) (globals : Scope) (f : Option Function) (call : Callee) (n : ℕ) (at : Place) (vs : List Value) → CalleeAlong call → Along (call_with T globals f call n at vs)
   along_call_with T globals None call n at vs c = along_stop (Over (Undefined at))
   along_call_with T globals (Some f) call n at vs c =
-      along_then _ _ along_step (along_within _ (along_then _ _
+      along_then _ _ along_step (along_called _ (along_then _ _
       (along_then _ _ (along_then _ _ (along_then _ _ along_frame (along_alone globals)) (along_parameters T call c at f.params vs)) (along_mark None))
-      (record { at = λ s. returned_along f s (body_with T f.body call n s) ((along_body T call c f.body n).at s) })))
+      (along_bind _ _ (along_entry f.contract) (λ hs. along_bind (λ s. returned_by f (body_with T f.body call n s)) (λ v. ending f.contract hs v >> give v)
+      (record { at = λ s. returned_along f s (body_with T f.body call n s) ((along_body T call c f.body n).at s) }) (λ v. along_then _ _ (along_ending f.contract hs v) (along_give v))))))
 
   pub along_call_of : (p : TranslationUnit) (n : ℕ) → CalleeAlong (call_of p n)
   along_call_of p zero at f vs =
@@ -509,10 +680,20 @@ module _ (R : State → State → Type 0) (r : Lasts R) where
       along_if (is_of_library f) _ _ (along_library_call at (slice_get p.names f.name) vs)
       (along_call_with (tables_of p) (global_scope 1 p.globals) (definition_at f.decl p.funcs) (call_of p n) n at vs (along_call_of p n))
 
+  after_main_along : (c : Option FunctionContract) (hs : List Bool) (s : State) (o : Outcome (Unit {0})) → R s (state_after o) → R s (state_after (after_main c hs o))
+  after_main_along c hs s (Normal u t) w = r.onward s t _ w ((along_ending c hs (Integer (pos 0))).at t)
+  after_main_along c hs s (Stop (Leaves Breaks) t) w = w
+  after_main_along c hs s (Stop (Leaves Continues) t) w = w
+  after_main_along c hs s (Stop (Leaves (Returns None)) t) w = r.onward s t _ w ((along_then (ending c hs NoValue) (stop {A = Unit {0}} (Leaves (Returns None))) (along_ending c hs NoValue) (along_stop (Leaves (Returns None)))).at t)
+  after_main_along c hs s (Stop (Leaves (Returns (Some v))) t) w = r.onward s t _ w ((along_then (ending c hs v) (stop {A = Unit {0}} (Leaves (Returns (Some v)))) (along_ending c hs v) (along_stop (Leaves (Returns (Some v))))).at t)
+  after_main_along c hs s (Stop (Over e) t) w = w
+
   pub along_main : (T : Tables) (f : Option Function) (call : Callee) (n : ℕ) → CalleeAlong call → Along (main_with T f call n)
   along_main T None call n c = along_stop (Over Fault)
   along_main T (Some f) call n c =
-      along_within _ (along_then _ _ (along_then _ _ (along_then _ _ along_frame (along_births T.structs f.params)) (along_mark None)) (along_body T call c f.body n))
+      along_called _ (along_then _ _ (along_then _ _ (along_then _ _ along_frame (along_births T.structs f.params)) (along_mark None))
+      (along_bind (entry f.contract) (λ hs s. after_main f.contract hs (body_with T f.body call n s)) (along_entry f.contract)
+      (λ hs. record { at = λ s. after_main_along f.contract hs s (body_with T f.body call n s) ((along_body T call c f.body n).at s) })))
 
   -- the whole of a run
   pub along_whole : (p : TranslationUnit) (n : ℕ) → Along (whole p n)

@@ -36,7 +36,7 @@ fits_with_body (f ∷ fs) g b e =
 body_there : (s : Sight) (t : PlainType) (b : Option Statement) → Gives (λ c. is_there c ≡ is_there b) (typed_body s t b)
 body_there s t None = refl
 body_there s t (Some (Block at items)) =
-    gives_one (λ js. Unit {0}) (λ c. is_there c ≡ true) (typed_items s (record { result = t; loops = false }) items) (λ items. Good (Some (Block at items))) (anything _) (λ js u. refl)
+    gives_one (λ js. Unit {0}) (λ c. is_there c ≡ true) (typed_items s (record { result = t; breaks = false; loops = false }) items) (λ items. Good (Some (Block at items))) (anything _) (λ js u. refl)
 body_there s t (Some _) = refl
 
 abbrev Fits : List Function → Function → Type 0

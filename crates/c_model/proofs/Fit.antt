@@ -5,29 +5,36 @@ use Rattle.c_syntax.specs.declared.place.Place.{Place}
 use Rattle.c_syntax.specs.declared.expression.Use.{Use}
 use Rattle.c_syntax.specs.declared.expression.UnOp.TheVariants as unary
 use Rattle.c_syntax.specs.Ctypes.{PlainType, int_type}
-use Rattle.c_syntax.specs.Logic.{Annotation}
+use Rattle.c_syntax.specs.Logic.{LogicTerm, Annotation}
 use Rattle.c_syntax.specs.Expressions.{Expression, Node, Number, Letter, Text, Variable, Unary, Binary, Both, Either, Choice, Assign, Bump, Call, Cast, SizeOfType, SizeOfExpr, Index, Dot, Arrow, Comma, Expressions, NoExpression, Following, place_of}
 use Rattle.c_syntax.specs.Expressions.{type_of}
-use Rattle.c_syntax.specs.Statements.{Initialiser, One, Many, Initialisers, NoInitialiser, Listed, Declaration, Statement, Empty, Eval, Block, If, While, Do, For, Break, Continue, Return, ElsePart, NoElse, Else, ForFirst, NoFirst, First, BlockItem}
+use Rattle.c_syntax.specs.Statements.{Initialiser, One, Many, Initialisers, NoInitialiser, Listed, Declaration, Statement, Empty, Eval, Block, If, While, Do}
+use Rattle.c_syntax.specs.Statements.{For, Break, Continue, Return, Labelled, ElsePart, NoElse, Else, ForFirst, NoFirst, First, BlockItem, Switch, Cases}
+use Rattle.c_syntax.specs.Statements.{NoCase, AnotherCase}
 use Rattle.c_syntax.specs.Statements.{Declare, Run, Asserts, BlockItems, NoItem, Then}
-use Rattle.c_syntax.specs.Programs.{StructType, Function, TranslationUnit}
+use Rattle.c_syntax.specs.Programs.{StructType, FunctionContract, Function, TranslationUnit}
 use Rattle.c_syntax.specs.Layouts.{Scalar, scalar_of}
 use Rattle.c_model.specs.Integers.{truth}
 use Rattle.c_model.specs.Memory.{Pointer, Value, Integer, Points, NoValue, Byte, Store, shifted}
 use Rattle.c_model.specs.State.{Scope, Input, State, Breaks, Continues, Returns, End, Leaves, Over, Undefined, Fault, Outcome, Normal, Stop, Evaluation}
 use Rattle.c_model.specs.State.{on_outcome, ◌>>=◌, ◌>>◌, give, done, stop, defined, computed, as_scalar, step_from, step, find, object, read, read_any, write, write_bytes, copy_object, tested, birth, births}
-use Rattle.c_model.specs.State.{write_youngest, alone, frame, mark, restored, within}
-use Rattle.c_model.specs.Predicates.{checks}
+use Rattle.c_model.specs.State.{write_youngest, alone, frame, mark, restored, within, answered, called}
+use Rattle.c_model.specs.Predicates.{checks, invariants, variant, value_of}
+use Rattle.c_model.specs.ContractChecks.{entry, ending}
 use Rattle.c_model.specs.Meaning.{Tables, literal, Callee, is_zero, choose, truth_value, size_value, converted, is_of_library, named, address, is_array, pointed_to, member, assigned, compound, bump_operator, bump_value, eval_with}
 use Rattle.c_model.specs.Meaning.{place_with}
-use Rattle.c_model.specs.Meaning.{evals_with, after_body, turns, do_turns, declared_in, declared_first, zero_scalars, zero_parts, string_in, write_each, fill_one, parts_or_itself, fill, fill_parts, initialise, initialise_all, condition_with}
+use Rattle.c_model.specs.Meaning.{evals_with, after_body, turn_with, turns, do_turns, declared_in, declared_first, zero_scalars, zero_parts, string_in}
+use Rattle.c_model.specs.Meaning.{write_each, fill_one, parts_or_itself, fill, fill_parts, initialise, initialise_all, condition_with, chosen_case}
+use Rattle.c_model.specs.Meaning.{after_switch, cases_with}
 use Rattle.c_model.specs.Meaning.{effect_with, exec_with, else_with, first_with, item_with, items_with, parameters, body_with, at_close, returned_by, call_with, call_of, tables_of, global_scope}
-use Rattle.c_model.specs.Meaning.{definition_at, main_with, function_named, whole, exec, condition, start, ran, run}
+use Rattle.c_model.specs.Meaning.{definition_at, after_main, main_with, function_named, whole, exec, condition, start, ran, run}
 use Rattle.c_model.specs.Laws.{for_turns}
 use Rattle.c_model.specs.Steps.{steps_after, Fit, CalleesFit}
 use Rattle.c_model.proofs.Along.{Along, along_exec, along_call_of, along_whole, Fewer, steps_last, state_after, defined_along, along_computed, along_object, along_named, along_read_any, along_write, along_write_bytes, along_write_youngest}
 use Rattle.c_model.proofs.Along.{along_copy}
-use Rattle.c_model.proofs.Along.{along_birth, along_births, along_alone, along_mark, along_frame, along_checks, along_member, along_pointed, along_address, along_library_call, along_at_close}
+use Rattle.c_model.proofs.Along.{along_birth, along_births, along_alone, along_mark, along_frame, along_checks, along_invariants, along_value, along_compared}
+use Rattle.c_model.proofs.Along.{along_member, along_pointed, along_address, along_library_call, along_at_close, along_entry, along_ending, along_then}
+use Rattle.c_model.proofs.Along.{along_stop}
 
 pub fit_less : {A : Type 0} {m m' : Evaluation A} (j k : ℕ) → j ≤ k → Fit k m m' → Fit j m m'
 fit_less j k le f = record {
@@ -130,6 +137,9 @@ fit_frame k = fit_still k _ (along_frame Fewer steps_last)
 fit_checks : (k : ℕ) (annots : List Annotation) → Fit k (checks annots) (checks annots)
 fit_checks k annots = fit_still k _ (along_checks Fewer steps_last annots)
 
+fit_invariants : (k : ℕ) (annots : List Annotation) → Fit k (invariants annots) (invariants annots)
+fit_invariants k annots = fit_still k _ (along_invariants Fewer steps_last annots)
+
 fit_member : (k : ℕ) (at : Place) (p : Pointer) (d : ℕ) → Fit k (member at p d) (member at p d)
 fit_member k at p d = fit_still k _ (along_member Fewer steps_last at p d)
 
@@ -165,6 +175,22 @@ fit_within k m m' h = record {
   spends = λ s le. omega (arith, steps_restored s (m s), h.spends s le);
 }
 
+steps_answered : {A : Type 0} (old : State) (r : Outcome A) → steps_after (answered old r) ≡ steps_after r
+steps_answered old (Normal a s) = refl
+steps_answered old (Stop e s) = refl
+
+pub fit_called : {A : Type 0} (k : ℕ) (m m' : Evaluation A) → Fit k m m' → Fit k (called m) (called m')
+fit_called k m m' h = record {
+  same = λ s le. ap (answered s) (h.same s le);
+  spends = λ s le. omega (arith, steps_answered s (m s), h.spends s le);
+}
+
+fit_entry : (k : ℕ) (c : Option FunctionContract) → Fit k (entry c) (entry c)
+fit_entry k c = fit_still k _ (along_entry Fewer steps_last c)
+
+fit_ending : (k : ℕ) (c : Option FunctionContract) (hs : List Bool) (v : Value) → Fit k (ending c hs v >> give v) (ending c hs v >> give v)
+fit_ending k c hs v = fit_then k _ _ _ _ (fit_still k _ (along_ending Fewer steps_last c hs v)) (fit_give k v)
+
 -- ---- choices and loops
 
 pub fit_choose : {A : Type 0} (k : ℕ) (v : Value) (a a' b b' : Evaluation A) → Fit k a a' → Fit k b b' → Fit k (choose v a b) (choose v a' b')
@@ -187,15 +213,43 @@ fit_after_body k m m' f f' h g = record {
   spends = λ s le. (fit_body_outcome k s.steps (m s) f f' le (h.spends s le) g).1;
 }
 
-pub fit_turns : (m n k : ℕ) (test test' : Evaluation Value) (body body' behind behind' : Evaluation (Unit {0})) → k < m → k < n → Fit k test test' → Fit k body body' → Fit k behind behind'
-    → Fit k (turns m test body behind) (turns n test' body' behind')
-fit_turns zero n k test test' body body' behind behind' lm ln ft fb fs = absurd (omega arith)
-fit_turns (suc m) zero k test test' body body' behind behind' lm ln ft fb fs = absurd (omega arith)
-fit_turns (suc m) (suc n) k test test' body body' behind behind' lm ln ft fb fs =
+steps_switch : (r : Outcome (Unit {0})) → steps_after (after_switch r) ≡ steps_after r
+steps_switch (Normal u s) = refl
+steps_switch (Stop (Leaves Breaks) s) = refl
+steps_switch (Stop (Leaves Continues) s) = refl
+steps_switch (Stop (Leaves (Returns v)) s) = refl
+steps_switch (Stop (Over e) s) = refl
+
+pub fit_after_switch : (k : ℕ) (m m' : Evaluation (Unit {0})) → Fit k m m' → Fit k (λ s. after_switch (m s)) (λ s. after_switch (m' s))
+fit_after_switch k m m' h = record {
+  same = λ s le. ap after_switch (h.same s le);
+  spends = λ s le. omega (arith, steps_switch (m s), h.spends s le);
+}
+
+fit_turn : (k : ℕ) (v : Option (Annotation × LogicTerm)) (body body' behind behind' again again' : Evaluation (Unit {0})) → Fit k body body' → Fit k behind behind' → Fit k again again'
+    → Fit k (turn_with v body behind again) (turn_with v body' behind' again')
+fit_turn k None body body' behind behind' again again' b h g = fit_after_body k body body' _ _ b (fit_then k behind behind' again again' h g)
+fit_turn k (Some v) body body' behind behind' again again' b h g =
+    fit_bind k (value_of v.0 v.1) (value_of v.0 v.1) _ _ (fit_still k _ (along_value Fewer steps_last v.0 v.1)) (λ old.
+    fit_after_body k body body' _ _ b (fit_then k _ _ again again' (fit_then k behind behind' _ _ h (fit_bind k (value_of v.0 v.1) (value_of v.0 v.1) _ _ (fit_still k _ (along_value Fewer steps_last v.0 v.1))
+    (λ new. fit_still k _ (along_compared Fewer steps_last v.0 old new)))) g))
+
+-- turns that fit wherever what comes after them does
+abbrev pub TurnsFit : ℕ → (Evaluation (Unit {0}) → Evaluation (Unit {0})) → (Evaluation (Unit {0}) → Evaluation (Unit {0})) → Type 0
+TurnsFit k turn turn' = (j : ℕ) → j < k → (again again' : Evaluation (Unit {0})) → Fit j again again' → Fit j (turn again) (turn' again')
+
+pub fit_turns : (m n k : ℕ) (test test' : Evaluation Value) (turn turn' : Evaluation (Unit {0}) → Evaluation (Unit {0})) → k < m → k < n → Fit k test test' → TurnsFit k turn turn' → Fit k (turns m test turn) (turns n test' turn')
+fit_turns zero n k test test' turn turn' lm ln ft fb = absurd (omega arith)
+fit_turns (suc m) zero k test test' turn turn' lm ln ft fb = absurd (omega arith)
+fit_turns (suc m) (suc n) k test test' turn turn' lm ln ft fb =
     fit_bind k test test' _ _ ft (λ v. fit_choose k v _ _ done done (fit_step k _ _ (λ j lt.
-    fit_after_body j body body' (behind >> turns m test body behind) (behind' >> turns n test' body' behind') (fit_less j k (omega (arith, lt)) fb)
-    (fit_then j behind behind' _ _ (fit_less j k (omega (arith, lt)) fs)
-    (fit_turns m n j test test' body body' behind behind' (omega (arith, lt)) (omega (arith, lt)) (fit_less j k (omega (arith, lt)) ft) (fit_less j k (omega (arith, lt)) fb) (fit_less j k (omega (arith, lt)) fs))))) (fit_give k tt))
+    fb j lt (turns m test turn) (turns n test' turn')
+    (fit_turns m n j test test' turn turn' (omega (arith, lt)) (omega (arith, lt)) (fit_less j k (omega (arith, lt)) ft) (λ i l. fb i (omega (arith, l, lt)))))) (fit_give k tt))
+
+-- the turns of a loop's body
+fit_body_turns : (k : ℕ) (v : Option (Annotation × LogicTerm)) (body body' behind behind' : Evaluation (Unit {0})) → Fit k body body' → Fit k behind behind' → TurnsFit k (turn_with v body behind) (turn_with v body' behind')
+fit_body_turns k v body body' behind behind' b h j lt again again' g =
+    fit_turn j v body body' behind behind' again again' (fit_less j k (omega (arith, lt)) b) (fit_less j k (omega (arith, lt)) h) g
 
 pub fit_do_turns : (m n k : ℕ) (test test' : Evaluation Value) (body body' : Evaluation (Unit {0})) → k < m → k < n → Fit k test test' → Fit k body body' → Fit k (do_turns m test body) (do_turns n test' body')
 fit_do_turns zero n k test test' body body' lm ln ft fb = absurd (omega arith)
@@ -313,14 +367,22 @@ module _ (T : Tables) (k : ℕ) (call call' : Callee) (c : CalleesFit k call cal
     fit_exec (Eval at e) n n' l l' = fit_then k _ _ _ _ (fit_eval e) (fit_give k tt)
     fit_exec (Block at items) n n' l l' = fit_within k _ _ (fit_then k _ _ _ _ (fit_births k T.structs (declared_in items)) (fit_items items n n' l l'))
     fit_exec (If at e a b) n n' l l' = fit_bind k _ _ _ _ (fit_tested e (fit_eval e)) (λ v. fit_choose k v _ _ _ _ (fit_exec a n n' l l') (fit_else b n n' l l'))
-    fit_exec (While at annots e a) n n' l l' = fit_turns n n' k _ _ _ _ _ _ l l' (fit_tested e (fit_eval e)) (fit_exec a n n' l l') (fit_give k tt)
+    fit_exec (While at annots e a) n n' l l' = fit_turns n n' k _ _ _ _ l l' (fit_then k _ _ _ _ (fit_invariants k annots) (fit_tested e (fit_eval e))) (fit_body_turns k (variant annots) _ _ _ _ (fit_exec a n n' l l') (fit_give k tt))
     fit_exec (Do at a e) n n' l l' = fit_do_turns n n' k _ _ _ _ l l' (fit_tested e (fit_eval e)) (fit_exec a n n' l l')
     fit_exec (For at annots first e behind a) n n' l l' =
-        fit_within k _ _ (fit_then k _ _ _ _ (fit_then k _ _ _ _ (fit_births k T.structs (declared_first first)) (fit_first first n n' l l')) (fit_turns n n' k _ _ _ _ _ _ l l' (fit_condition e) (fit_exec a n n' l l') (fit_effect behind)))
+        fit_within k _ _ (fit_then k _ _ _ _ (fit_then k _ _ _ _ (fit_births k T.structs (declared_first first)) (fit_first first n n' l l'))
+        (fit_turns n n' k _ _ _ _ l l' (fit_then k _ _ _ _ (fit_invariants k annots) (fit_condition e)) (fit_body_turns k (variant annots) _ _ _ _ (fit_exec a n n' l l') (fit_effect behind))))
     fit_exec (Break at) n n' l l' = fit_stop k (Leaves Breaks)
     fit_exec (Continue at) n n' l l' = fit_stop k (Leaves Continues)
     fit_exec (Return at None) n n' l l' = fit_stop k (Leaves (Returns None))
     fit_exec (Return at (Some e)) n n' l l' = fit_bind k _ _ _ _ (fit_eval e) (λ v. fit_stop k (Leaves (Returns (Some v))))
+    fit_exec (Labelled at l a) n n' g g' = fit_then k _ _ _ _ (fit_mark k (Some l)) (fit_exec a n n' g g')
+    fit_exec (Switch at e cases) n n' l l' = fit_bind k _ _ _ _ (fit_eval e) (λ v. fit_after_switch k _ _ (fit_cases cases n n' (chosen_case v cases) l l'))
+
+    pub fit_cases : (cases : Cases) (n n' j : ℕ) → k < n → k < n' → Fit k (cases_with T cases call n j) (cases_with T cases call' n' j)
+    fit_cases NoCase n n' j l l' = fit_give k tt
+    fit_cases (AnotherCase at v items rest) n n' zero l l' = fit_then k _ _ _ _ (fit_items items n n' l l') (fit_cases rest n n' zero l l')
+    fit_cases (AnotherCase at v items rest) n n' (suc j) l l' = fit_cases rest n n' j l l'
 
     pub fit_else : (b : ElsePart) (n n' : ℕ) → k < n → k < n' → Fit k (else_with T b call n) (else_with T b call' n')
     fit_else NoElse n n' l l' = fit_give k tt
@@ -375,9 +437,10 @@ pub fit_call_with : (T : Tables) (globals : Scope) (f : Option Function) (k m n 
     → Fit k (call_with T globals f call m at vs) (call_with T globals f call' n at vs)
 fit_call_with T globals None k m n call call' at vs lm ln h = fit_stop k (Over (Undefined at))
 fit_call_with T globals (Some f) k m n call call' at vs lm ln h =
-    fit_step k _ _ (λ j lt. fit_within j _ _ (fit_then j _ _ _ _
+    fit_step k _ _ (λ j lt. fit_called j _ _ (fit_then j _ _ _ _
     (fit_then j _ _ _ _ (fit_then j _ _ _ _ (fit_then j _ _ _ _ (fit_frame j) (fit_alone j globals)) (fit_parameters T j call call' (h j lt) at f.params vs)) (fit_mark j None))
-    (fit_returned f j _ _ (fit_body T j call call' (h j lt) f.body m n (omega (arith, lt)) (omega (arith, lt))))))
+    (fit_bind j _ _ _ _ (fit_entry j f.contract) (λ hs. fit_bind j (λ s. returned_by f (body_with T f.body call m s)) (λ s. returned_by f (body_with T f.body call' n s)) _ _
+    (fit_returned f j _ _ (fit_body T j call call' (h j lt) f.body m n (omega (arith, lt)) (omega (arith, lt)))) (λ v. fit_ending j f.contract hs v)))))
 
 pub fit_call_of : (p : TranslationUnit) (m n k : ℕ) → k < m → k < n → CalleesFit k (call_of p m) (call_of p n)
 fit_call_of p zero n k lm ln at f vs = absurd (omega arith)
@@ -387,10 +450,29 @@ fit_call_of p (suc m) (suc n) k lm ln at f vs =
     (fit_call_with (tables_of p) (global_scope 1 p.globals) (definition_at f.decl p.funcs) k m n (call_of p m) (call_of p n) at vs (omega arith) (omega arith)
     (λ j lt. fit_call_of p m n j (omega (arith, lt)) (omega (arith, lt))))
 
+steps_after_main : (c : Option FunctionContract) (hs : List Bool) (r : Outcome (Unit {0})) → steps_after (after_main c hs r) ≤ steps_after r
+steps_after_main c hs (Normal u s) = let h = (along_ending Fewer steps_last c hs (Integer (pos 0))).at s in omega (arith, h, steps_state (ending c hs (Integer (pos 0)) s))
+steps_after_main c hs (Stop (Leaves Breaks) s) = omega arith
+steps_after_main c hs (Stop (Leaves Continues) s) = omega arith
+steps_after_main c hs (Stop (Leaves (Returns None)) s) =
+    let m : Evaluation (Unit {0}) = ending c hs NoValue >> stop (Leaves (Returns None)) in
+    omega (arith, steps_state (m s), (along_then Fewer steps_last (ending c hs NoValue) (stop {A = Unit {0}} (Leaves (Returns None))) (along_ending Fewer steps_last c hs NoValue) (along_stop Fewer steps_last (Leaves (Returns None)))).at s)
+steps_after_main c hs (Stop (Leaves (Returns (Some v))) s) =
+    let m : Evaluation (Unit {0}) = ending c hs v >> stop (Leaves (Returns (Some v))) in
+    omega (arith, steps_state (m s), (along_then Fewer steps_last (ending c hs v) (stop {A = Unit {0}} (Leaves (Returns (Some v)))) (along_ending Fewer steps_last c hs v) (along_stop Fewer steps_last (Leaves (Returns (Some v))))).at s)
+steps_after_main c hs (Stop (Over e) s) = omega arith
+
+fit_after_main : (c : Option FunctionContract) (hs : List Bool) (k : ℕ) (m m' : Evaluation (Unit {0})) → Fit k m m' → Fit k (λ s. after_main c hs (m s)) (λ s. after_main c hs (m' s))
+fit_after_main c hs k m m' h = record {
+  same = λ s le. ap (after_main c hs) (h.same s le);
+  spends = λ s le. omega (arith, steps_after_main c hs (m s), h.spends s le);
+}
+
 fit_main : (T : Tables) (f : Option Function) (k m n : ℕ) (call call' : Callee) → k < m → k < n → CalleesFit k call call' → Fit k (main_with T f call m) (main_with T f call' n)
 fit_main T None k m n call call' lm ln h = fit_stop k (Over Fault)
 fit_main T (Some f) k m n call call' lm ln h =
-    fit_within k _ _ (fit_then k _ _ _ _ (fit_then k _ _ _ _ (fit_then k _ _ _ _ (fit_frame k) (fit_births k T.structs f.params)) (fit_mark k None)) (fit_body T k call call' h f.body m n lm ln))
+    fit_called k _ _ (fit_then k _ _ _ _ (fit_then k _ _ _ _ (fit_then k _ _ _ _ (fit_frame k) (fit_births k T.structs f.params)) (fit_mark k None))
+    (fit_bind k _ _ _ _ (fit_entry k f.contract) (λ hs. fit_after_main f.contract hs k _ _ (fit_body T k call call' h f.body m n lm ln))))
 
 pub fit_whole : (p : TranslationUnit) (k m n : ℕ) → k < m → k < n → Fit k (whole p m) (whole p n)
 fit_whole p k m n lm ln =
@@ -408,23 +490,24 @@ pub run_at : (p : TranslationUnit) (input : Input) (n m : ℕ) → n < m → run
 run_at p input n m l = ap ran ((fit_whole p n (suc n) m (omega arith) l).same (start p input n) (omega arith))
 
 -- turns with less and with more fuel are the same from few enough steps
-turn_again : (k n : ℕ) (test : Evaluation Value) (body behind : Evaluation (Unit {0})) → k ≤ n → Fit k test test → Fit k body body → Fit k behind behind
-    → Fit k (turns (suc n) test body behind) (test >>= λ v. choose v (step >> λ t. after_body (body t) (behind >> turns (suc n) test body behind)) done)
-turn_again k n test body behind l ft fb fs =
+turn_again : (k n : ℕ) (test : Evaluation Value) (turn : Evaluation (Unit {0}) → Evaluation (Unit {0})) → k ≤ n → Fit k test test → TurnsFit k turn turn
+    → Fit k (turns (suc n) test turn) (test >>= λ v. choose v (step >> turn (turns (suc n) test turn)) done)
+turn_again k n test turn l ft fb =
     fit_bind k test test _ _ ft (λ v. fit_choose k v _ _ done done (fit_step k _ _ (λ j lt.
-    fit_after_body j body body (behind >> turns n test body behind) (behind >> turns (suc n) test body behind) (fit_less j k (omega (arith, lt)) fb)
-    (fit_then j behind behind _ _ (fit_less j k (omega (arith, lt)) fs)
-    (fit_turns n (suc n) j test test body body behind behind (omega (arith, lt)) (omega (arith, lt)) (fit_less j k (omega (arith, lt)) ft) (fit_less j k (omega (arith, lt)) fb) (fit_less j k (omega (arith, lt)) fs))))) (fit_give k tt))
+    fb j lt (turns n test turn) (turns (suc n) test turn)
+    (fit_turns n (suc n) j test test turn turn (omega (arith, lt)) (omega (arith, lt)) (fit_less j k (omega (arith, lt)) ft) (λ i l. fb i (omega (arith, l, lt)))))) (fit_give k tt))
 
 -- a `while` is one turn and then the loop again
 pub one_turn : (p : TranslationUnit) (at : Place) (annots : List Annotation) (e : Expression) (a : Statement) (n : ℕ) (s : State) → s.steps < n
-    → exec p n (While at annots e a) s ≡ (condition p n e >>= λ v. choose v (step >> λ t. after_body (exec p n a t) (exec p n (While at annots e a))) done) s
+    → exec p n (While at annots e a) s ≡ (invariants annots >> condition p n e >>= λ v. choose v (step >> turn_with (variant annots) (exec p n a) done (exec p n (While at annots e a))) done) s
 one_turn p at annots e a zero s l = absurd (omega arith)
 one_turn p at annots e a (suc n) s l =
     let k = s.steps in
     let c = call_of p (suc n) in
     let fc = fit_call_of p (suc n) (suc n) k l l in
-    (turn_again k n (condition p (suc n) e) (exec p (suc n) a) done (omega arith) (fit_tested (tables_of p) k c c fc e (fit_eval (tables_of p) k c c fc e)) (fit_exec (tables_of p) k c c fc a (suc n) (suc n) l l) (fit_give k tt)).same s (omega arith)
+    (turn_again k n (invariants annots >> condition p (suc n) e) (turn_with (variant annots) (exec p (suc n) a) done) (omega arith)
+    (fit_then k _ _ _ _ (fit_invariants k annots) (fit_tested (tables_of p) k c c fc e (fit_eval (tables_of p) k c c fc e)))
+    (fit_body_turns k (variant annots) _ _ _ _ (fit_exec (tables_of p) k c c fc a (suc n) (suc n) l l) (fit_give k tt))).same s (omega arith)
 
 -- a `do` is one turn and then, as its condition says, the loop again
 pub one_do_turn : (p : TranslationUnit) (at : Place) (a : Statement) (e : Expression) (n : ℕ) (s : State) → s.steps < n
@@ -443,16 +526,19 @@ one_do_turn p at a e (suc n) s l =
     (fit_bind j test test _ _ (fit_less j k (omega (arith, lt)) ft) (λ v. fit_choose j v _ _ done done
     (fit_do_turns n (suc n) j test test body body (omega (arith, lt)) (omega (arith, lt)) (fit_less j k (omega (arith, lt)) ft) (fit_less j k (omega (arith, lt)) fb)) (fit_give j tt))))).same s (omega arith)
 
--- the turns of a `for` are one turn, what stands behind the body, and then the turns again
-pub one_for_turn : (p : TranslationUnit) (e behind : Option Expression) (a : Statement) (n : ℕ) (s : State) → s.steps < n
-    → for_turns p n e behind a s ≡ (condition_with (tables_of p) e (call_of p n) >>= λ v. choose v (step >> λ t. after_body (exec p n a t) (effect_with (tables_of p) behind (call_of p n) >> for_turns p n e behind a)) done) s
-one_for_turn p e behind a zero s l = absurd (omega arith)
-one_for_turn p e behind a (suc n) s l =
+-- the turns of a `for` are one turn and then the turns again
+pub one_for_turn : (p : TranslationUnit) (annots : List Annotation) (e behind : Option Expression) (a : Statement) (n : ℕ) (s : State) → s.steps < n
+    → for_turns p n annots e behind a s ≡ (invariants annots >> condition_with (tables_of p) e (call_of p n) >>=
+    λ v. choose v (step >> turn_with (variant annots) (exec p n a) (effect_with (tables_of p) behind (call_of p n)) (for_turns p n annots e behind a)) done) s
+one_for_turn p annots e behind a zero s l = absurd (omega arith)
+one_for_turn p annots e behind a (suc n) s l =
     let k = s.steps in
     let T = tables_of p in
     let c = call_of p (suc n) in
     let fc = fit_call_of p (suc n) (suc n) k l l in
-    (turn_again k n (condition_with T e c) (exec p (suc n) a) (effect_with T behind c) (omega arith) (fit_condition T k c c fc e) (fit_exec T k c c fc a (suc n) (suc n) l l) (fit_effect T k c c fc behind)).same s (omega arith)
+    (turn_again k n (invariants annots >> condition_with T e c) (turn_with (variant annots) (exec p (suc n) a) (effect_with T behind c)) (omega arith)
+    (fit_then k _ _ _ _ (fit_invariants k annots) (fit_condition T k c c fc e))
+    (fit_body_turns k (variant annots) _ _ _ _ (fit_exec T k c c fc a (suc n) (suc n) l l) (fit_effect T k c c fc behind))).same s (omega arith)
 
 -- no step is gained
 pub steps_fall : (p : TranslationUnit) (a : Statement) (n : ℕ) (s : State) → s.steps < n → steps_after (exec p n a s) ≤ s.steps

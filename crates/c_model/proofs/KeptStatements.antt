@@ -1,9 +1,23 @@
 -- Typing keeps the forms of declarations, statements and functions: effects stay where they may stand, and statements are as deep.
+use Rattle.std.proofs.Common.{ℤ}
+use Rattle.c_syntax.specs.declared.types.CInt.{CInt}
+use Rattle.c_syntax.specs.Ctypes.{Int}
+use Rattle.c_syntax.specs.Expressions.{place_of}
+use Rattle.c_model.specs.StatementTyping.{in_switch, controlling, case_value, case_number, typed_cases}
+use Rattle.c_model.specs.Conversions.{promoted}
+use Rattle.c_model.specs.Integers.{integer_type}
+use Rattle.c_model.specs.ExpressionTyping.{in_int}
+use Rattle.c_model.specs.FullExpressions.{EachInCases}
+use Rattle.c_model.specs.Formed.{depth_of_cases}
+use Rattle.c_model.proofs.TypedParts.{gives_given}
+use Rattle.c_model.proofs.KeptExpressions.{in_type_pure}
+use Rattle.c_model.specs.EffectPlaces.{CasesPlaced}
 use Rattle.std.proofs.Common.{◌≡◌, suc, ◌+◌, ◌≤◌, max, List, [], ◌∷◌, Option, Some, None, Bool, true, false, not, ◌&&◌, if◌then◌else◌, cond, refl, sym, ap, ◌∙◌, subst}
 use Rattle.c_syntax.specs.declared.place.Place.{Place}
 use Rattle.c_syntax.specs.Ctypes.{PlainType}
 use Rattle.c_syntax.specs.Expressions.{Expression, type_of}
-use Rattle.c_syntax.specs.Statements.{Initialiser, One, Many, Initialisers, NoInitialiser, Listed, Declaration, Statement, Empty, Eval, Block, If, While, Do, For, Break, Continue, Return}
+use Rattle.c_syntax.specs.Statements.{Initialiser, One, Many, Initialisers, NoInitialiser, Listed, Declaration, Statement, Empty, Eval, Block, If, While, Do}
+use Rattle.c_syntax.specs.Statements.{For, Break, Continue, Return, Labelled, Switch, Cases, NoCase, AnotherCase}
 use Rattle.c_syntax.specs.Statements.{ElsePart, NoElse, Else, ForFirst, NoFirst, First, BlockItem, Declare, Run, Asserts, BlockItems, NoItem, Then}
 use Rattle.c_syntax.specs.Programs.{Function, TranslationUnit}
 use Rattle.c_model.specs.Meaning.{string_in, is_definition}
@@ -162,6 +176,15 @@ first_kept s known r (First (Declare ds)) p h =
     (gives_one ArePlaced (λ i. FirstPlaced (First i)) (typed_declarations s ds) (λ ds. Good (Declare ds)) (declarations_kept s known ds p h) (λ xs k. k)) (λ i k. k)
 first_kept s known r _ p h = absurd p
 
+record AreCasesKept (a b : Cases) : Type 0 where
+  placed : CasesPlaced AreReadAsserts b
+  deep : depth_of_cases b ≡ depth_of_cases a
+
+controlling_kept : (s : Sight) (e : Expression) → IsPure e → Gives (λ (x : CInt × Expression). IsPure x.1) (one_part (decayed_of (typed s e)) controlling)
+controlling_kept s e p =
+    gives_one IsPure (λ (x : CInt × Expression). IsPure x.1) (decayed_of (typed s e)) controlling (value_pure s e p) (λ x h.
+    gives_given (λ (x : CInt × Expression). IsPure x.1) (integer_type (type_of x)) (no_type (place_of x)) (λ k. Good (promoted k, in_int (promoted k) x)) (λ k c. in_type_pure (Int (promoted k)) x h))
+
 mutual
   statement_kept : (s : Sight) → SeesResults s → (r : Around) (a : Statement) → StatementPlaced AreReadAsserts a → EachIn HasBareCall a → Gives (IsKept a) (typed_statement s r a)
   statement_kept s known r (Empty at) p h = record { placed = tt; deep = refl }
@@ -193,8 +216,15 @@ mutual
       (maybe_kept IsEffect HasBareCall IsEffect (typed z) (λ x q b. effect_kept z seen x q b) step p.3 h.2) (λ y k.
       gives_one (IsKept a) (IsKept (For at annots first e step a)) (typed_statement z (in_loop r) a) (λ a. Good (For at annots w x y a)) (statement_kept z seen (in_loop r) a p.4 h.3) (λ b l.
       record { placed = (p.0, f, g, k, l.placed); deep = ap (λ n. 1 + n) l.deep }))))
-  statement_kept s known r (Break at) p h = gives_where (IsKept (Break at)) r.loops (no_type at) (Good (Break at)) (λ e. record { placed = tt; deep = refl })
+  statement_kept s known r (Break at) p h = gives_where (IsKept (Break at)) r.breaks (no_type at) (Good (Break at)) (λ e. record { placed = tt; deep = refl })
   statement_kept s known r (Continue at) p h = gives_where (IsKept (Continue at)) r.loops (no_type at) (Good (Continue at)) (λ e. record { placed = tt; deep = refl })
+  statement_kept s known r (Labelled at l a) p h =
+      gives_one (IsKept a) (IsKept (Labelled at l a)) (typed_statement s r a) (λ a. Good (Labelled at l a)) (statement_kept s known r a p h) (λ y g. record { placed = g.placed; deep = ap (λ n. 1 + n) g.deep })
+  statement_kept s known r (Switch at e cases) p h =
+      gives_one (λ (x : CInt × Expression). IsPure x.1) (IsKept (Switch at e cases)) (one_part (decayed_of (typed s e)) controlling) (λ x. one_part (typed_cases s (in_switch r) x.0 [] false cases) (λ cases. Good (Switch at x.1 cases)))
+      (controlling_kept s e p.0) (λ x f.
+      gives_one (AreCasesKept cases) (IsKept (Switch at e cases)) (typed_cases s (in_switch r) x.0 [] false cases) (λ cs. Good (Switch at x.1 cs)) (cases_kept s known (in_switch r) x.0 [] false cases p.1 h.1)
+      (λ cs k. record { placed = (f, k.placed); deep = ap (λ n. 1 + n) k.deep }))
   statement_kept s known r (Return at e) p h =
       gives_one (WhereAny IsBare) (IsKept (Return at e)) (typed_maybe (λ e. decayed_of (typed s e)) e) (returned s at r.result)
       (maybe_kept IsPureOrCall HasBareCall IsBare (λ e. decayed_of (typed s e)) (λ x q b. value_bare s known x (bare_read x q b)) e p h) (λ o f. by (returned s at r.result o) (returned_kept s at r.result o f))
@@ -202,6 +232,23 @@ mutual
       by : (c : Checked Statement) → Gives (λ a. StatementPlaced AreReadAsserts a × (depth a ≡ 1)) c → Gives (IsKept (Return at e)) c
       by (Good a) k = record { placed = k.0; deep = k.1 }
       by (Bad f fs) k = tt
+
+  cases_kept : (s : Sight) → SeesResults s → (r : Around) (k : CInt) (used : List ℤ) (has_default : Bool) (cases : Cases) → CasesPlaced AreReadAsserts cases → EachInCases HasBareCall cases
+      → Gives (AreCasesKept cases) (typed_cases s r k used has_default cases)
+  cases_kept s known r k used d NoCase p h = record { placed = tt; deep = refl }
+  cases_kept s known r k used d (AnotherCase at None items rest) p h =
+      gives_where (AreCasesKept (AnotherCase at None items rest)) (not d) (no_type at) _ (λ _.
+      gives_one (AreKept items) (AreCasesKept (AnotherCase at None items rest)) (typed_items s r items) (λ items. one_part (typed_cases s r k used true rest) (λ rest. Good (AnotherCase at None items rest))) (items_kept s known r items p.1 h.0)
+      (λ js v.
+      gives_one (AreCasesKept rest) (AreCasesKept (AnotherCase at None items rest)) (typed_cases s r k used true rest) (λ rest. Good (AnotherCase at None js rest)) (cases_kept s known r k used true rest p.2 h.1) (λ cs w.
+      record { placed = (tt, v.placed, w.placed); deep = λ i. max (v.deep i) (w.deep i) })))
+  cases_kept s known r k used d (AnotherCase at (Some e) items rest) p h =
+      gives_one (λ z. Unit {0}) (AreCasesKept (AnotherCase at (Some e) items rest)) (case_value s k used e) (λ z. one_part (typed_items s r items) (λ items.
+      one_part (typed_cases s r k (z ∷ used) d rest) (λ rest. Good (AnotherCase at (Some (case_number k (place_of e) z)) items rest)))) (anything (case_value s k used e)) (λ z _.
+      gives_one (AreKept items) (AreCasesKept (AnotherCase at (Some e) items rest)) (typed_items s r items)
+      (λ items. one_part (typed_cases s r k (z ∷ used) d rest) (λ rest. Good (AnotherCase at (Some (case_number k (place_of e) z)) items rest))) (items_kept s known r items p.1 h.0) (λ js v.
+      gives_one (AreCasesKept rest) (AreCasesKept (AnotherCase at (Some e) items rest)) (typed_cases s r k (z ∷ used) d rest) (λ rest. Good (AnotherCase at (Some (case_number k (place_of e) z)) js rest))
+      (cases_kept s known r k (z ∷ used) d rest p.2 h.1) (λ cs w. record { placed = (tt, v.placed, w.placed); deep = λ i. max (v.deep i) (w.deep i) })))
 
   else_kept : (s : Sight) → SeesResults s → (r : Around) (b : ElsePart) → ElsePlaced AreReadAsserts b → EachInElse HasBareCall b → Gives (IsElseKept b) (typed_else s r b)
   else_kept s known r NoElse p h = record { placed = tt; deep = refl }
@@ -224,7 +271,8 @@ mutual
 body_kept : (s : Sight) → SeesResults s → (t : PlainType) (b : Option Statement) → BodyRead AreReadAsserts b → EachInBody HasBareCall b → Gives (BodyRead AreReadAsserts) (typed_body s t b)
 body_kept s known t None p h = tt
 body_kept s known t (Some (Block at items)) p h =
-    gives_one (AreKept items) (BodyRead AreReadAsserts) (typed_items s (record { result = t; loops = false }) items) (λ items. Good (Some (Block at items))) (items_kept s known (record { result = t; loops = false }) items p.0 h)
+    gives_one (AreKept items) (BodyRead AreReadAsserts) (typed_items s (record { result = t; breaks = false; loops = false }) items) (λ items. Good (Some (Block at items)))
+        (items_kept s known (record { result = t; breaks = false; loops = false }) items p.0 h)
     (λ x k. (k.placed, subst (λ n. 1 + n ≤ suc most_nested) (sym k.deep) p.1))
 body_kept s known t (Some _) p h = absurd p
 

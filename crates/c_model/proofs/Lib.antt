@@ -8,6 +8,7 @@ pub mod Conversions
 pub mod OperatorResults
 pub mod Cells
 pub mod Blocks
+pub mod Together
 -- runs
 pub mod Fit
 pub mod Along
@@ -105,7 +106,7 @@ pub mod CListLaws
 -- examples, by computation
 mod MonitoredTexts
 mod CTexts
-mod WorkedTrees
+pub mod WorkedTrees
 mod WorkedAnnotationGrammar
 mod WorkedExpressionTyping
 mod WorkedStructTyping
@@ -117,7 +118,10 @@ mod WorkedAnnotationTypes
 mod WorkedPredicateTyping
 mod WorkedOperators
 mod WorkedMemory
+mod WorkedQuestions
 mod WorkedHeap
+mod WorkedEffects
 mod WorkedRuns
 mod WorkedCalls
+pub mod WorkedContracts
 pub mod WorkedTypings

@@ -1,16 +1,17 @@
 -- No run of an accepted program ends in a fault: jumps stay in their loops, what is called is defined, addresses are pointed to, and `main` gives a number.
-use Rattle.std.proofs.Common.{◌≡◌, ℕ, zero, suc, Bool, true, false, cond, ◌&&◌, if◌then◌else◌, nat_eq, List, [], ◌∷◌, ◌++◌, Option, Some, None, slice_get, codes, bytes_eq, refl, sym, ap, ◌∙◌, subst}
+use Rattle.std.proofs.Common.{pos, ◌≡◌, ℕ, zero, suc, Bool, true, false, cond, ◌&&◌, if◌then◌else◌, nat_eq, List, [], ◌∷◌, ◌++◌, Option, Some, None, slice_get, codes, bytes_eq, refl, sym, ap, ◌∙◌, subst}
 use Rattle.std.proofs.Common.{append_assoc}
 use Rattle.c_syntax.specs.declared.place.Place.{Place}
 use Rattle.c_syntax.specs.declared.expression.Use.{Use}
 use Rattle.c_syntax.specs.Ctypes.{PlainType, int_type}
 use Rattle.c_syntax.specs.Expressions.{Expressions}
 use Rattle.c_syntax.specs.Statements.{Declaration}
-use Rattle.c_syntax.specs.Programs.{Function, TranslationUnit}
+use Rattle.c_syntax.specs.Programs.{FunctionContract, Function, TranslationUnit}
 use Rattle.c_model.specs.Memory.{Value, Integer, Points, NoValue}
 use Rattle.c_model.specs.State.{Leave, Breaks, Continues, Returns, Final, Undefined, Fault, Spent, Leaves, Over, Outcome, Normal, Stop, ◌>>◌, stop}
+use Rattle.c_model.specs.ContractChecks.{entry, ending}
 use Rattle.c_model.specs.Meaning.{is_definition, Callee, is_of_library, library_call, definition_at, body_with, call_with, initialise_all, tables_of}
-use Rattle.c_model.specs.Meaning.{global_scope, call_of, has_name, function_named, main_with, start, ran, run}
+use Rattle.c_model.specs.Meaning.{global_scope, call_of, has_name, function_named, after_main, main_with, start, ran, run}
 use Rattle.c_model.specs.ExpressionTyping.{Sight, Signature, name_at, or_else, function_called, library_function, same_type, inner}
 use Rattle.c_model.specs.UnitTyping.{with_parameters, main_fault, no_main, has_no_parameters}
 use Rattle.c_model.specs.TypedTrees.{Calls, around_body}
@@ -21,7 +22,7 @@ use Rattle.c_model.specs.Laws.{NeverFaults}
 use Rattle.c_model.proofs.LibraryFunctions.{each_of_library}
 use Rattle.c_model.proofs.TypedParts.{and_true, same_type_is}
 use Rattle.c_model.proofs.NoFaultsRuns.{IsNamed, Anything, NoJump, IsValueOf, EndsWell, Gives, gives_then, gives_give}
-use Rattle.c_model.proofs.NoFaultsRuns.{gives_over, gives_births, gives_frame, gives_mark, gives_within, gives_library_call, Allowed}
+use Rattle.c_model.proofs.NoFaultsRuns.{gives_over, gives_births, gives_frame, gives_mark, gives_called, gives_bind, gives_jump, gives_entry, gives_ending, gives_library_call, Allowed}
 use Rattle.c_model.proofs.NoFaultsExpressions.{Sees, CallsGive, gives_declared}
 use Rattle.c_model.proofs.NoFaultsStatements.{sees_inner, sees_parameters, gives_body, gives_call}
 use Rattle.c_model.proofs.NoFaultsItems.{function_in_sight, global_in_sight}
@@ -189,6 +190,14 @@ ran_named (Stop (Leaves (Returns (Some (Points p)))) s) h = absurd h
 ran_named (Stop (Leaves (Returns (Some (Integer z)))) s) h = tt
 ran_named (Stop (Over e) s) h = h
 
+after_main_well : (c : Option FunctionContract) (hs : List Bool) (r : Outcome (Unit {0})) → EndsWell Anything (Allowed (around_body int_type)) r → EndsWell Anything (Allowed (around_body int_type)) (after_main c hs r)
+after_main_well c hs (Normal u s) h = (gives_ending c hs (Integer (pos 0))).at s
+after_main_well c hs (Stop (Leaves Breaks) s) h = absurd cc
+after_main_well c hs (Stop (Leaves Continues) s) h = absurd cc
+after_main_well c hs (Stop (Leaves (Returns None)) s) h = (gives_then (ending c hs NoValue) (stop {A = Unit {0}} (Leaves (Returns None))) (gives_ending c hs NoValue) (gives_jump (Returns None) h)).at s
+after_main_well c hs (Stop (Leaves (Returns (Some v))) s) h = (gives_then (ending c hs v) (stop {A = Unit {0}} (Leaves (Returns (Some v)))) (gives_ending c hs v) (gives_jump (Returns (Some v)) h)).at s
+after_main_well c hs (Stop (Over e) s) h = h
+
 -- the run of an accepted program never ends in a fault
 pub programs_never_fault : (p : TranslationUnit) → IsProgram p → NeverFaults p
 programs_never_fault p q input n =
@@ -200,7 +209,9 @@ programs_never_fault p q input n =
     let T = tables_of p in
     let body = subst (λ t. Gives Anything (Allowed (around_body t)) (body_with T f.body call (suc n))) m.result (gives_definition p q f i call (suc n) calls) in
     let of_main : Gives Anything (Allowed (around_body int_type)) (main_with T (Some f) call (suc n)) =
-    gives_within _ (gives_then _ _ (gives_then _ _ (gives_then _ _ gives_frame (gives_births T.structs f.params)) (gives_mark None)) body) in
+    gives_called _ (gives_then _ _ (gives_then _ _ (gives_then _ _ gives_frame (gives_births T.structs f.params)) (gives_mark None))
+    (gives_bind (entry f.contract) (λ hs s. after_main f.contract hs (body_with T f.body call (suc n) s)) (gives_entry f.contract)
+    (λ hs _. record { at = λ s. after_main_well f.contract hs (body_with T f.body call (suc n) s) (body.at s) }))) in
     let of_globals : Gives Anything (Allowed (around_body int_type)) (initialise_all T p.globals call) = gives_globals p q call calls [] p.globals refl in
     let all = gives_then (initialise_all T p.globals call) (main_with T (Some f) call (suc n)) of_globals of_main in
     let named = ran_named _ (all.at (start p input n)) in

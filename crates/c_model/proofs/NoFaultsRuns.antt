@@ -1,13 +1,14 @@
 -- Evaluations that end in no fault, whatever is typed: births, blocks, annotations, loops and the library.
-use Rattle.std.proofs.Common.{◌≡◌, ℕ, zero, suc, ◌+◌, ◌*◌, pos, Bool, true, false, cond, if◌then◌else◌, nat_eq, nat_lt, List, [], ◌∷◌, length, replicate, Option, Some, None, codes, bytes_eq, subst}
+use Rattle.std.proofs.Common.{◌≡◌, ℕ, zero, suc, ◌+◌, ◌*◌, pos, Bool, true, false, cond, if◌then◌else◌, nat_eq, nat_lt, ℤ, List, [], ◌∷◌, length, replicate, Option, Some, None, codes, bytes_eq, subst}
 use Rattle.c_syntax.specs.declared.place.Place.{Place}
 use Rattle.c_syntax.specs.declared.types.Segment.{Segment}
 use Rattle.c_syntax.specs.declared.types.Segment.TheVariants.{Frames}
 use Rattle.c_syntax.specs.declared.types.CInt.TheVariants.{U64}
 use Rattle.c_syntax.specs.Ctypes.{PlainType, Void, Int, Ptr, int_type}
-use Rattle.c_syntax.specs.Logic.{Annotation}
+use Rattle.c_syntax.specs.Logic.{LogicTerm, ClauseBody, Raw, Holds, Annotation, Behaviors}
+use Rattle.c_syntax.specs.Logic as logic
 use Rattle.c_syntax.specs.Statements.{Declaration}
-use Rattle.c_syntax.specs.Programs.{StructType}
+use Rattle.c_syntax.specs.Programs.{StructType, NamedBehavior, FunctionContract}
 use Rattle.c_syntax.specs.Layouts.{Scalar, size_of}
 use Rattle.c_model.specs.Integers.{bits_of, byte_of}
 use Rattle.c_model.specs.Memory.{Pointer, Null, Into, Value, Integer, Points, NoValue, Byte, Unwritten, Number as NumberByte, Store, save, tested_value}
@@ -16,14 +17,15 @@ use Rattle.c_model.specs.State.{InputTail, EndOfInput, InputFault, State, Leave,
 use Rattle.c_model.specs.State.{Exits, Leaves, Over, Outcome, Normal, Stop, Evaluation, on_outcome, ◌>>=◌, ◌>>◌, give, done}
 use Rattle.c_model.specs.State.{Scope, stop, defined, computed, changed, step_from, step, read_byte, print, find}
 use Rattle.c_model.specs.State.{start_of, object, put_store, write, tested, birth_of, birth, births, heap_birth, allocate, write_youngest, alone}
-use Rattle.c_model.specs.State.{frame, mark, restored, within}
-use Rattle.c_model.specs.StatementTyping.{Around, in_loop}
+use Rattle.c_model.specs.State.{frame, mark, restored, within, answered, called}
+use Rattle.c_model.specs.StatementTyping.{Around, in_loop, in_switch}
 use Rattle.c_model.specs.ExpressionTyping.{Signature, of_library, library_function}
 use Rattle.c_model.specs.TypedTrees.{WhereAny}
-use Rattle.c_model.specs.Logic.{Answer, Says, SaysNothing, OutOfSteps, judged}
-use Rattle.c_model.specs.Predicates.{clause, check, checks}
-use Rattle.c_model.specs.Meaning.{is_zero, choose}
-use Rattle.c_model.specs.Meaning.{after_body, turns, do_turns}
+use Rattle.c_model.specs.Logic.{TermValue, Mathematical, Answer, Says, SaysNothing, OutOfSteps, judged, Environment, Addressed}
+use Rattle.c_model.specs.Predicates.{term, clause, check, checks, invariant, invariants, valued, value_of, is_smaller, compared, check_in}
+use Rattle.c_model.specs.ContractChecks.{Check, covered, named_holds, assumed, demand, of_behavior, checked, all_checked, holds_at, is_assumes, entry_checks}
+use Rattle.c_model.specs.ContractChecks.{leave_checks, all_hold, result_is, entry, ending}
+use Rattle.c_model.specs.Meaning.{is_zero, choose, after_body, turn_with, turns, do_turns, after_switch}
 use Rattle.c_model.specs.Meaning.{put_char, get_char, exit_with, malloc_with, calloc_with, free_with, library_call}
 
 -- ---- what evaluations give
@@ -185,6 +187,14 @@ restored_well P L old (Stop (Over e) s) h = h
 pub gives_within : {A : Type 0} {P : A → Type 0} {L : Leave → Type 0} (m : Evaluation A) → Gives P L m → Gives P L (within m)
 gives_within {P = P} {L = L} m g = record { at = λ s. restored_well P L s (m s) (g.at s) }
 
+pub answered_well : {A : Type 0} (P : A → Type 0) (L : Leave → Type 0) (old : State) (r : Outcome A) → EndsWell P L r → EndsWell P L (answered old r)
+answered_well P L old (Normal a s) h = h
+answered_well P L old (Stop (Leaves l) s) h = h
+answered_well P L old (Stop (Over e) s) h = h
+
+pub gives_called : {A : Type 0} {P : A → Type 0} {L : Leave → Type 0} (m : Evaluation A) → Gives P L m → Gives P L (called m)
+gives_called {P = P} {L = L} m g = record { at = λ s. answered_well P L s (m s) (g.at s) }
+
 pub step_well : (L : Leave → Type 0) (n : ℕ) (s : State) → EndsWell Anything L (step_from n s)
 step_well L zero s = tt
 step_well L (suc n) s = tt
@@ -200,12 +210,67 @@ judged_well L a (Says false n) s = tt
 judged_well L a (SaysNothing n) s = tt
 judged_well L a OutOfSteps s = tt
 
-pub gives_check : {L : Leave → Type 0} (a : Annotation) → Gives Anything L (check a)
-gives_check {L = L} a = record { at = λ s. judged_well L a (clause a.body s s.steps) s }
+pub gives_check : {L : Leave → Type 0} (e : Environment) (a : Annotation) → Gives Anything L (check_in e a)
+gives_check {L = L} e a = record { at = λ s. judged_well L a (clause a.body s e s.steps) s }
 
 pub gives_checks : {L : Leave → Type 0} (annots : List Annotation) → Gives Anything L (checks annots)
 gives_checks [] = gives_give tt tt
-gives_checks (a ∷ rest) = gives_then (check a) (checks rest) (gives_check a) (gives_checks rest)
+gives_checks (a ∷ rest) = gives_then (check a) (checks rest) (gives_check [] a) (gives_checks rest)
+
+-- ---- contracts
+
+assumed_well : (L : Leave → Type 0) (a : Annotation) (k : ℕ) (hs : List Bool) (answer : Answer) (s : State) → EndsWell Anything L (assumed a k hs answer s)
+assumed_well L a k hs (Says true n) s = tt
+assumed_well L a k hs (Says false n) s = tt
+assumed_well L a k hs (SaysNothing n) s = tt
+assumed_well L a k hs OutOfSteps s = tt
+
+gives_demand : {L : Leave → Type 0} (bs : List NamedBehavior) (e : Environment) (a : Annotation) (body : ClauseBody) (hs : List Bool) → Gives Anything L (demand bs e a body hs)
+gives_demand bs e a (Raw f) hs = gives_check e a
+gives_demand bs e a (Holds p) hs = gives_check e a
+gives_demand bs e a (logic.Value t) hs = gives_check e a
+gives_demand {L = L} bs e a (Behaviors names) hs = record { at = λ s. judged_well L a (Says (covered a.kind (named_holds names bs hs)) s.steps) s }
+
+gives_of_behavior : {L : Leave → Type 0} (bs : List NamedBehavior) (e : Environment) (a : Annotation) (k : ℕ) (hs : List Bool) (t : Bool) → Gives Anything L (of_behavior bs e a k hs t)
+gives_of_behavior {L = L} bs e a k hs true = record { at = λ s. assumed_well L a k hs (clause a.body s [] s.steps) s }
+gives_of_behavior bs e a k hs false = gives_then _ _ (gives_demand bs e a a.body hs) (gives_give hs tt)
+
+gives_checked : {L : Leave → Type 0} (bs : List NamedBehavior) (e : Environment) (a : Annotation) (o : Option ℕ) (hs : List Bool) → Gives Anything L (checked bs e a o hs)
+gives_checked bs e a None hs = gives_then _ _ (gives_demand bs e a a.body hs) (gives_give hs tt)
+gives_checked bs e a (Some k) hs = gives_cond (holds_at k hs) _ _ (gives_of_behavior bs e a k hs (is_assumes a.kind)) (gives_give hs tt)
+
+gives_all_checked : {L : Leave → Type 0} (bs : List NamedBehavior) (e : Environment) (cs : List Check) (hs : List Bool) → Gives Anything L (all_checked bs e cs hs)
+gives_all_checked bs e [] hs = gives_give hs tt
+gives_all_checked bs e (c ∷ cs) hs = gives_bind _ _ (gives_checked bs e c.annotation c.behavior hs) (λ held _. gives_all_checked bs e cs held)
+
+pub gives_entry : {L : Leave → Type 0} (c : Option FunctionContract) → Gives Anything L (entry c)
+gives_entry None = gives_give [] tt
+gives_entry (Some c) = gives_all_checked c.behaviors [] (entry_checks c) (all_hold c.behaviors)
+
+pub gives_ending : {L : Leave → Type 0} (c : Option FunctionContract) (hs : List Bool) (v : Value) → Gives Anything L (ending c hs v)
+gives_ending None hs v = gives_give tt tt
+gives_ending (Some c) hs v = gives_then _ _ (gives_all_checked c.behaviors (result_is v) (leave_checks c) hs) (gives_give tt tt)
+
+gives_invariant : {L : Leave → Type 0} (a : Annotation) (b : ClauseBody) → Gives Anything L (invariant a b)
+gives_invariant a (Raw f) = gives_check [] a
+gives_invariant a (Holds p) = gives_check [] a
+gives_invariant a (logic.Value t) = gives_give tt tt
+gives_invariant a (Behaviors names) = gives_check [] a
+
+pub gives_invariants : {L : Leave → Type 0} (annots : List Annotation) → Gives Anything L (invariants annots)
+gives_invariants [] = gives_give tt tt
+gives_invariants (a ∷ rest) = gives_then (invariant a a.body) (invariants rest) (gives_invariant a a.body) (gives_invariants rest)
+
+valued_well : (L : Leave → Type 0) (a : Annotation) (o : Option TermValue) (s : State) → EndsWell Anything L (valued a o s)
+valued_well L a None s = tt
+valued_well L a (Some (Addressed x)) s = tt
+valued_well L a (Some (Mathematical z)) s = tt
+
+gives_variant : {L : Leave → Type 0} (a : Annotation) (t : LogicTerm) → Gives Anything L (value_of a t)
+gives_variant {L = L} a t = record { at = λ s. valued_well L a (term t s []) s }
+
+gives_compared : {L : Leave → Type 0} (a : Annotation) (old new : ℤ) → Gives Anything L (compared a old new)
+gives_compared {L = L} a old new = record { at = λ s. judged_well L a (Says (is_smaller old new) s.steps) s }
 
 -- ---- choices and loops
 
@@ -218,7 +283,7 @@ gives_choose {P = P} {L = L} v a b f g = by (is_zero v)
 
 -- the jumps that a statement may make there, by its typing: `break` and `continue` in a loop, and a `return` with a value of the result
 abbrev pub Allowed : Around → Leave → Type 0
-Allowed r Breaks = r.loops ≡ true
+Allowed r Breaks = r.breaks ≡ true
 Allowed r Continues = r.loops ≡ true
 Allowed r (Returns None) = IsValueOf r.result NoValue
 Allowed r (Returns (Some v)) = IsValueOf r.result v
@@ -231,13 +296,32 @@ body_well r (Stop (Leaves (Returns None)) s) again h g = h
 body_well r (Stop (Leaves (Returns (Some v))) s) again h g = h
 body_well r (Stop (Over e) s) again h g = h
 
-pub gives_turns : (r : Around) (n : ℕ) (test : Evaluation Value) (body behind : Evaluation (Unit {0})) → Gives Anything (Allowed r) test
-    → Gives Anything (Allowed (in_loop r)) body → Gives Anything (Allowed r) behind → Gives Anything (Allowed r) (turns n test body behind)
-gives_turns r zero test body behind t b h = gives_over Spent tt
-gives_turns r (suc n) test body behind t b h =
-    gives_bind test _ t (λ v _. gives_choose v _ _ (gives_bind step (λ _ s. after_body (body s) (behind >> turns n test body behind)) gives_step (λ _ _. record {
-      at = λ s. body_well r (body s) (behind >> turns n test body behind) (b.at s) (gives_then behind _ h (gives_turns r n test body behind t b h));
-    })) (gives_give tt tt))
+switch_well : (r : Around) (o : Outcome (Unit {0})) → EndsWell Anything (Allowed (in_switch r)) o → EndsWell Anything (Allowed r) (after_switch o)
+switch_well r (Normal u s) h = tt
+switch_well r (Stop (Leaves Breaks) s) h = tt
+switch_well r (Stop (Leaves Continues) s) h = h
+switch_well r (Stop (Leaves (Returns None)) s) h = h
+switch_well r (Stop (Leaves (Returns (Some v))) s) h = h
+switch_well r (Stop (Over e) s) h = h
+
+pub gives_after_switch : (r : Around) (m : Evaluation (Unit {0})) → Gives Anything (Allowed (in_switch r)) m → Gives Anything (Allowed r) (λ s. after_switch (m s))
+gives_after_switch r m g = record { at = λ s. switch_well r (m s) (g.at s) }
+
+gives_after_body : (r : Around) (body again : Evaluation (Unit {0})) → Gives Anything (Allowed (in_loop r)) body → Gives Anything (Allowed r) again → Gives Anything (Allowed r) (λ s. after_body (body s) again)
+gives_after_body r body again b h = record { at = λ s. body_well r (body s) again (b.at s) h }
+
+pub gives_turn : (r : Around) (v : Option (Annotation × LogicTerm)) (body behind again : Evaluation (Unit {0})) → Gives Anything (Allowed (in_loop r)) body → Gives Anything (Allowed r) behind → Gives Anything (Allowed r) again
+    → Gives Anything (Allowed r) (turn_with v body behind again)
+gives_turn r None body behind again b h g = gives_after_body r body _ b (gives_then behind again h g)
+gives_turn r (Some v) body behind again b h g =
+    gives_bind (value_of v.0 v.1) _ (gives_variant v.0 v.1) (λ old _. gives_after_body r body _ b (gives_then _ again
+    (gives_then behind _ h (gives_bind (value_of v.0 v.1) _ (gives_variant v.0 v.1) (λ new _. gives_compared v.0 old new))) g))
+
+pub gives_turns : (r : Around) (n : ℕ) (test : Evaluation Value) (turn : Evaluation (Unit {0}) → Evaluation (Unit {0})) → Gives Anything (Allowed r) test
+    → ((again : Evaluation (Unit {0})) → Gives Anything (Allowed r) again → Gives Anything (Allowed r) (turn again)) → Gives Anything (Allowed r) (turns n test turn)
+gives_turns r zero test turn t b = gives_over Spent tt
+gives_turns r (suc n) test turn t b =
+    gives_bind test _ t (λ v _. gives_choose v _ _ (gives_then step _ gives_step (b (turns n test turn) (gives_turns r n test turn t b))) (gives_give tt tt))
 
 pub gives_do_turns : (r : Around) (n : ℕ) (test : Evaluation Value) (body : Evaluation (Unit {0})) → Gives Anything (Allowed r) test → Gives Anything (Allowed (in_loop r)) body → Gives Anything (Allowed r) (do_turns n test body)
 gives_do_turns r zero test body t b = gives_over Spent tt

@@ -1,22 +1,29 @@
 -- Typed statements and calls of typed functions end in no fault, where calls in them end in none.
-use Rattle.std.proofs.Common.{◌≡◌, ℕ, Bool, true, false, cond, List, [], ◌∷◌, Option, Some, None, sym, subst}
+use Rattle.std.proofs.Common.{◌≡◌, ℕ, zero, suc, Bool, true, false, cond, List, [], ◌∷◌, Option, Some, None, sym, subst}
 use Rattle.c_syntax.specs.declared.place.Place.{Place}
+use Rattle.c_syntax.specs.declared.types.CInt.{CInt}
+use Rattle.c_model.specs.Conversions.{promoted}
 use Rattle.c_syntax.specs.Ctypes.{PlainType, Int, Ptr}
-use Rattle.c_syntax.specs.Statements.{Declaration, Statement, Empty, Eval, Block, If, While, Do, For, Break, Continue, Return, ElsePart}
+use Rattle.c_syntax.specs.Statements.{Declaration, Statement, Empty, Eval, Block, If, While, Do, For, Break, Continue, Return, Labelled, ElsePart, Switch}
+use Rattle.c_syntax.specs.Statements.{Cases, NoCase, AnotherCase}
 use Rattle.c_syntax.specs.Statements.{NoElse, Else, ForFirst, NoFirst, First, BlockItem, Declare, Run, Asserts, BlockItems, NoItem, Then}
 use Rattle.c_syntax.specs.Programs.{Function, TranslationUnit}
 use Rattle.c_model.specs.Memory.{Value, NoValue}
-use Rattle.c_model.specs.State.{Scope, Breaks, Continues, Returns, Undefined, Leave, Leaves, Over, Outcome, Normal, Stop, State}
+use Rattle.c_model.specs.State.{Scope, Breaks, Continues, Returns, Undefined, Leave, Leaves, Over, Outcome, Normal, Stop, State, ◌>>◌, give}
+use Rattle.c_model.specs.ContractChecks.{ending}
 use Rattle.c_model.specs.Library.{is_there}
-use Rattle.c_model.specs.Meaning.{Callee, Tables, declared_in, declared_first, exec_with, else_with, first_with, item_with, items_with, parameters, body_with, at_close, returned_by, call_with}
+use Rattle.c_model.specs.Meaning.{Callee, Tables, chosen_case, cases_with, declared_in, declared_first, exec_with, else_with, first_with, item_with, items_with, parameters, body_with, at_close, returned_by, call_with}
 use Rattle.c_model.specs.ExpressionTyping.{Sight, inner, with_object, with_objects}
-use Rattle.c_model.specs.StatementTyping.{Around, in_loop, behind, behind_first}
+use Rattle.c_model.specs.StatementTyping.{Around, in_loop, in_switch, behind, behind_first}
 use Rattle.c_model.specs.UnitTyping.{with_parameter, with_parameters}
-use Rattle.c_model.specs.TypedTrees.{AreParameters, StatementTyped, ElseTyped, FirstTyped, ItemTyped, ItemsTyped, around_body, BodyTyped}
+use Rattle.c_model.specs.TypedTrees.{AreParameters, StatementTyped, ElseTyped, FirstTyped, ItemTyped, ItemsTyped, CasesTyped, around_body, BodyTyped}
 use Rattle.c_model.specs.Formed.{AreAsserts}
 use Rattle.c_model.specs.ReadTree.{BodyRead}
 use Rattle.c_model.proofs.NoFaultsRuns.{Anything, NoJump, IsValueOf, EndsWell, Gives, gives_bind, gives_then, gives_give, gives_over, gives_jump, gives_birth, gives_births}
-use Rattle.c_model.proofs.NoFaultsRuns.{gives_write_youngest, gives_frame, gives_alone, gives_mark, gives_within, gives_step, gives_checks, gives_choose, Allowed, gives_turns, gives_do_turns}
+use Rattle.c_model.specs.Predicates.{variant}
+use Rattle.c_model.proofs.NoFaultsRuns.{gives_write_youngest, gives_frame, gives_alone, gives_mark, gives_within, gives_step, gives_checks, gives_invariants}
+use Rattle.c_model.proofs.NoFaultsRuns.{gives_choose, Allowed, gives_turn, gives_turns, gives_do_turns, gives_called, gives_entry, gives_ending}
+use Rattle.c_model.proofs.NoFaultsRuns.{gives_after_switch}
 use Rattle.c_model.proofs.NoFaultsValues.{gives_scalar}
 use Rattle.c_model.proofs.NoFaultsExpressions.{Sees, CallsGive, sees_object, gives_value, gives_condition_of, gives_condition, gives_effect, gives_initialise_all}
 
@@ -62,19 +69,28 @@ module _ (p : TranslationUnit) (T : Tables) (structs : T.structs ≡ p.structs) 
     gives_exec s see r (If at e a b) n w =
         gives_bind _ _ (gives_condition_of p T structs call calls s see e w.0) (λ v _. gives_choose v _ _ (gives_exec s see r a n w.1) (gives_else s see r b n w.2))
     gives_exec s see r (While at annots e a) n w =
-        gives_turns r n _ _ _ (gives_condition_of p T structs call calls s see e w.0) (gives_exec s see (in_loop r) a n w.1) (gives_give tt tt)
+        gives_turns r n _ _ (gives_then _ _ (gives_invariants annots) (gives_condition_of p T structs call calls s see e w.0)) (λ again. gives_turn r (variant annots) _ _ again (gives_exec s see (in_loop r) a n w.1) (gives_give tt tt))
     gives_exec s see r (Do at a e) n w = gives_do_turns r n _ _ (gives_condition_of p T structs call calls s see e w.1) (gives_exec s see (in_loop r) a n w.0)
     gives_exec s see r (For at annots first e step a) n w =
         let i = sees_inner p s see in
         let t = behind_first (inner s) first in
         let f = sees_first p first (inner s) i in
         gives_within _ (gives_then _ _ (gives_then _ _ (gives_births T.structs (declared_first first)) (gives_first (inner s) i r first n w.0))
-        (gives_turns r n _ _ _ (gives_condition p T structs call calls t f e w.1) (gives_exec t f (in_loop r) a n w.3) (gives_effect p T structs call calls t f step w.2)))
+        (gives_turns r n _ _ (gives_then _ _ (gives_invariants annots) (gives_condition p T structs call calls t f e w.1))
+        (λ again. gives_turn r (variant annots) _ _ again (gives_exec t f (in_loop r) a n w.3) (gives_effect p T structs call calls t f step w.2))))
     gives_exec s see r (Break at) n w = gives_jump Breaks w
     gives_exec s see r (Continue at) n w = gives_jump Continues w
     gives_exec s see r (Return at None) n w = gives_jump (Returns None) (subst (λ t. IsValueOf t NoValue) (sym w) tt)
     gives_exec s see r (Return at (Some e)) n w =
         gives_bind _ _ (gives_value p T structs call calls s see e w.typed) (λ v h. gives_jump (Returns (Some v)) (subst (λ t. IsValueOf t v) w.ctype h))
+    gives_exec s see r (Labelled at l a) n w = gives_then _ _ (gives_mark (Some l)) (gives_exec s see r a n w)
+    gives_exec s see r (Switch at e cases) n w =
+        gives_bind _ _ (gives_value p T structs call calls s see e w.1) (λ v _. gives_after_switch r _ (gives_cases s see (in_switch r) (promoted w.0) cases n (chosen_case v cases) w.3))
+
+    gives_cases : (s : Sight) → Sees p s → (r : Around) (k : CInt) (cases : Cases) (n j : ℕ) → CasesTyped s r k cases → Gives Anything (Allowed r) (cases_with T cases call n j)
+    gives_cases s see r k NoCase n j w = gives_give tt tt
+    gives_cases s see r k (AnotherCase at v items rest) n zero w = gives_then _ _ (gives_items s see r items n w.1) (gives_cases s see r k rest n zero w.2)
+    gives_cases s see r k (AnotherCase at v items rest) n (suc j) w = gives_cases s see r k rest n j w.2
 
     gives_else : (s : Sight) → Sees p s → (r : Around) (b : ElsePart) (n : ℕ) → ElseTyped s r b → Gives Anything (Allowed r) (else_with T b call n)
     gives_else s see r NoElse n w = gives_give tt tt
@@ -125,6 +141,7 @@ returned_well f (Stop (Over e) s) h = h
 pub gives_call : (T : Tables) (globals : Scope) (s : Sight) (f : Function) (call : Callee) (n : ℕ) (at : Place) (vs : List Value) → AreParameters s f.params → Gives Anything (Allowed (around_body f.result)) (body_with T f.body call n)
     → Gives (IsValueOf f.result) NoJump (call_with T globals (Some f) call n at vs)
 gives_call T globals s f call n at vs w g =
-    gives_then _ _ gives_step (gives_within _ (gives_then _ _
+    gives_then _ _ gives_step (gives_called _ (gives_then _ _
     (gives_then _ _ (gives_then _ _ (gives_then _ _ gives_frame (gives_alone globals)) (gives_parameters T at s f.params vs w)) (gives_mark None))
-    (record { at = λ s. returned_well f (body_with T f.body call n s) (g.at s) })))
+    (gives_bind _ _ (gives_entry f.contract) (λ hs _. gives_bind (λ s. returned_by f (body_with T f.body call n s)) (λ v. ending f.contract hs v >> give v)
+    (record { at = λ s. returned_well f (body_with T f.body call n s) (g.at s) }) (λ v h. gives_then _ _ (gives_ending f.contract hs v) (gives_give v h))))))

@@ -15,7 +15,7 @@ use Rattle.c_syntax.specs.declared.logic.Connective.{Connective}
 use Rattle.c_syntax.specs.Ctypes.{PlainType}
 use Rattle.c_syntax.specs.Formulas as read
 use Rattle.c_syntax.specs.Formulas.{CastType, Integers, OfC, Form, FormLinks}
-use Rattle.c_syntax.specs.Logic.{LogicTerm, Links, Linked, Predicate, ClauseBody, Raw, Holds, Annotation}
+use Rattle.c_syntax.specs.Logic.{LogicTerm, Links, Linked, Predicate, ClauseBody, Raw, Holds, Value, Annotation, Behaviors}
 use Rattle.c_model.specs.Integers.{fits, integer_type}
 use Rattle.c_model.specs.Checked.{Checked, Good, Bad, given, one_part, pair_of}
 use Rattle.c_model.specs.Library.{Constants, constants, constant_in, library_constant, is_there}
@@ -244,6 +244,8 @@ clause_kept s k (Raw f) h = gives_one (SortedKept (nodes_of_form f)) IsShortClau
     let p = predicate_kept (nodes_of_form f) a w in
     record { numbered = p.0; short = subst (λ n. n ≤ 400) (sym p.1) h.short })
 clause_kept s k (Holds p) h = absurd h
+clause_kept s k (Value t) h = absurd h
+clause_kept s k (Behaviors names) h = absurd h
 
 asserts_kept : (s : Sight) → SeesValues s → (annots : List Annotation) → AreReadAsserts annots → Gives AreAsserts (typed_annotations s annots)
 asserts_kept s k [] h = tt

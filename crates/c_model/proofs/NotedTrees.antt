@@ -1,9 +1,17 @@
 -- Asserts that are typed are well typed where each was read and not typed before, and a statement, a body or a function that was typed stays so
 -- when its asserts are typed.
+use Rattle.c_syntax.specs.declared.types.CInt.{CInt}
+use Rattle.c_model.specs.StatementTyping.{in_switch}
+use Rattle.c_model.specs.Conversions.{promoted}
+use Rattle.c_model.specs.TypedTrees.{CasesTyped}
+use Rattle.c_model.specs.TypedAnnotations.{CasesNoted}
+use Rattle.c_model.specs.AnnotationTyping.{noted_cases}
+use Rattle.c_model.specs.EffectPlaces.{CasesPlaced}
 use Rattle.std.proofs.Common.{◌≡◌, refl, sym, subst, List, [], ◌∷◌, map, Option, Some, None}
 use Rattle.c_syntax.specs.Ctypes.{PlainType}
-use Rattle.c_syntax.specs.Logic.{ClauseBody, Raw, Holds, Annotation}
-use Rattle.c_syntax.specs.Statements.{Statement, Empty, Eval, Block, If, While, Do, For, Break, Continue, Return, ElsePart, NoElse, Else, BlockItem, Declare, Run, Asserts, BlockItems, NoItem, Then}
+use Rattle.c_syntax.specs.Logic.{ClauseBody, Raw, Holds, Value, Annotation, Behaviors}
+use Rattle.c_syntax.specs.Statements.{Statement, Empty, Eval, Block, If, While, Do, For, Break, Continue, Return, ElsePart, NoElse, Else, BlockItem, Declare}
+use Rattle.c_syntax.specs.Statements.{Run, Asserts, BlockItems, NoItem, Then, Labelled, Switch, Cases, NoCase, AnotherCase}
 use Rattle.c_syntax.specs.Programs.{Function, TranslationUnit}
 use Rattle.c_model.specs.Checked.{Good, one_part}
 use Rattle.c_model.specs.ExpressionTyping.{Sight, inner}
@@ -26,6 +34,8 @@ use Rattle.c_model.proofs.NotedWider.{function_wider}
 is_read : (b : ClauseBody) → IsShortReading b → IsRead b
 is_read (Raw f) h = tt
 is_read (Holds p) h = absurd h
+is_read (Value t) h = absurd h
+is_read (Behaviors names) h = absurd h
 
 are_read : (annots : List Annotation) → AreReadAsserts annots → AreRead annots
 are_read [] h = tt
@@ -61,6 +71,10 @@ record AreNoted (s : Sight) (a b : BlockItems) : Type 0 where
   noted : ItemsPlaced AreReadAsserts a → ItemsNoted s b
   kept : (u : Sight) (r : Around) → ItemsTyped u r a → ItemsTyped u r b
 
+record AreCasesNoted (s : Sight) (a b : Cases) : Type 0 where
+  noted : CasesPlaced AreReadAsserts a → CasesNoted s b
+  kept : (u : Sight) (r : Around) (k : CInt) → CasesTyped u r k a → CasesTyped u r k b
+
 mutual
   statement_noted : (s : Sight) (a : Statement) → Gives (IsNoted s a) (noted_statement s a)
   statement_noted s (Empty at) = record { noted = λ p. tt; kept = λ u r w. w }
@@ -86,6 +100,18 @@ mutual
   statement_noted s (Break at) = record { noted = λ p. tt; kept = λ u r w. w }
   statement_noted s (Continue at) = record { noted = λ p. tt; kept = λ u r w. w }
   statement_noted s (Return at e) = record { noted = λ p. tt; kept = λ u r w. w }
+  statement_noted s (Labelled at l a) =
+      gives_one (IsNoted s a) (IsNoted s (Labelled at l a)) (noted_statement s a) (λ a. Good (Labelled at l a)) (statement_noted s a) (λ c w. record { noted = w.noted; kept = w.kept })
+  statement_noted s (Switch at e cases) =
+      gives_one (AreCasesNoted s cases) (IsNoted s (Switch at e cases)) (noted_cases s cases) (λ x. Good (Switch at e x)) (cases_noted s cases) (λ x w.
+      record { noted = λ p. w.noted p.1; kept = λ u r h. (h.0, h.1, h.2, w.kept u (in_switch r) (promoted h.0) h.3) })
+
+  cases_noted : (s : Sight) (cases : Cases) → Gives (AreCasesNoted s cases) (noted_cases s cases)
+  cases_noted s NoCase = record { noted = λ p. tt; kept = λ u r k w. w }
+  cases_noted s (AnotherCase at v items rest) =
+      gives_one (AreNoted s items) (AreCasesNoted s (AnotherCase at v items rest)) (noted_items s items) (λ x. one_part (noted_cases s rest) (λ y. Good (AnotherCase at v x y))) (items_noted s items) (λ x p.
+      gives_one (AreCasesNoted s rest) (AreCasesNoted s (AnotherCase at v items rest)) (noted_cases s rest) (λ y. Good (AnotherCase at v x y)) (cases_noted s rest) (λ y q.
+      record { noted = λ h. (p.noted h.1, q.noted h.2); kept = λ u r k h. (h.0, p.kept u r h.1, q.kept u r k h.2) }))
 
   else_noted : (s : Sight) (b : ElsePart) → Gives (IsElseNoted s b) (noted_else s b)
   else_noted s NoElse = record { noted = λ p. tt; kept = λ u r w. w }

@@ -1,10 +1,13 @@
 -- Annotations that are typed where the sizes of fewer structs are known are so where those of more are.
+use Rattle.c_model.specs.TypedAnnotations.{CasesNoted}
 use Rattle.std.proofs.Common.{ℕ, subst, List, [], ◌∷◌, Option, Some, None}
 use Rattle.c_syntax.specs.declared.expression.Use.{Use}
 use Rattle.c_syntax.specs.Ctypes.{PlainType}
-use Rattle.c_syntax.specs.Logic.{LogicTerm, Number, Letter, Variable, Unary, Binary, Cast, Choice, Links, NoLink, Linked}
-use Rattle.c_syntax.specs.Logic.{Predicate, Truth, NonZero, Chain, Not, Connected, Branch, ClauseBody, Raw, Holds, Annotation}
-use Rattle.c_syntax.specs.Statements.{Statement, Empty, Eval, Block, If, While, Do, For, Break, Continue, Return, ElsePart, NoElse, Else, BlockItem, Declare, Run, Asserts, BlockItems, NoItem, Then}
+use Rattle.c_syntax.specs.Logic.{LogicTerm, Number, Letter, Variable, Unary, Binary, Cast, Choice, Named, Links, NoLink, Linked, Predicate, Truth, NonZero}
+use Rattle.c_syntax.specs.Logic.{Chain, Not, Connected, Branch, Quantified, ClauseBody, Raw, Holds, Value, Annotation, At, Behaviors, Null, Deref, Member}
+use Rattle.c_syntax.specs.Logic.{Address, Moved, Difference, Told, Asks, Separated}
+use Rattle.c_syntax.specs.Statements.{Statement, Empty, Eval, Block, If, While, Do, For, Break, Continue, Return, ElsePart, NoElse, Else, BlockItem, Declare}
+use Rattle.c_syntax.specs.Statements.{Run, Asserts, BlockItems, NoItem, Then, Labelled, Switch, Cases, NoCase, AnotherCase}
 use Rattle.c_syntax.specs.Programs.{StructType, Function}
 use Rattle.c_model.specs.ExpressionTyping.{Sight, inner}
 use Rattle.c_model.specs.StatementTyping.{behind, behind_first}
@@ -37,6 +40,15 @@ module _ (structs : List StructType) (levels tags enums : List ℕ)
       term_wider s (Binary at t r op a b) h = (h.0, term_wider s a h.1, term_wider s b h.2)
       term_wider s (Cast at t r to a) h = (h.0, h.1, term_wider s a h.2)
       term_wider s (Choice at t r c a b) h = (h.0, predicate_wider s c h.1, term_wider s a h.2, term_wider s b h.3)
+      term_wider s (Named at t r x) h = absurd h
+      term_wider s (At at t r l a) h = absurd h
+      term_wider s (Null at t r) h = absurd h
+      term_wider s (Deref at t r a) h = absurd h
+      term_wider s (Member at t r d a) h = absurd h
+      term_wider s (Address at t r a) h = absurd h
+      term_wider s (Moved at t r op n a b) h = absurd h
+      term_wider s (Difference at t r n a b) h = absurd h
+      term_wider s (Told at t r f a) h = absurd h
 
       links_wider : (s : Sight) (links : Links) → LinksTyped (narrow s) links → LinksTyped s links
       links_wider s NoLink h = tt
@@ -49,10 +61,15 @@ module _ (structs : List StructType) (levels tags enums : List ℕ)
       predicate_wider s (Not at p) h = predicate_wider s p h
       predicate_wider s (Connected at c p q) h = (predicate_wider s p h.0, predicate_wider s q h.1)
       predicate_wider s (Branch at c p q) h = (predicate_wider s c h.0, predicate_wider s p h.1, predicate_wider s q h.2)
+      predicate_wider s (Quantified at q gs p) h = absurd h
+      predicate_wider s (Asks at f z) h = absurd h
+      predicate_wider s (Separated at zs) h = absurd h
 
     clause_wider : (s : Sight) (b : ClauseBody) → ClauseTyped (narrow s) b → ClauseTyped s b
     clause_wider s (Raw f) h = absurd h
     clause_wider s (Holds p) h = predicate_wider s p h
+    clause_wider s (Value t) h = absurd h
+    clause_wider s (Behaviors names) h = absurd h
 
     annotations_wider : (s : Sight) (annots : List Annotation) → AnnotationsTyped (narrow s) annots → AnnotationsTyped s annots
     annotations_wider s [] h = tt
@@ -75,6 +92,12 @@ module _ (structs : List StructType) (levels tags enums : List ℕ)
       statement_wider s (Break at) h = tt
       statement_wider s (Continue at) h = tt
       statement_wider s (Return at e) h = tt
+      statement_wider s (Labelled at l a) h = statement_wider s a h
+      statement_wider s (Switch at e cases) h = cases_wider s cases h
+
+      cases_wider : (s : Sight) (cases : Cases) → CasesNoted (narrow s) cases → CasesNoted s cases
+      cases_wider s NoCase h = tt
+      cases_wider s (AnotherCase at v items rest) h = (items_wider s items h.0, cases_wider s rest h.1)
 
       else_wider : (s : Sight) (b : ElsePart) → ElseNoted (narrow s) b → ElseNoted s b
       else_wider s NoElse h = tt

@@ -7,7 +7,7 @@ use Rattle.c_syntax.specs.declared.expression.BinOp.{BinOp}
 use Rattle.c_syntax.specs.Ctypes.{PlainType}
 use Rattle.c_syntax.specs.Formulas as read
 use Rattle.c_syntax.specs.Formulas.{CastType, Integers, OfC, Form, FormLinks}
-use Rattle.c_syntax.specs.Logic.{Links, Linked, ClauseBody, Raw, Holds, Annotation}
+use Rattle.c_syntax.specs.Logic.{Links, Linked, ClauseBody, Raw, Holds, Value, Annotation, Behaviors}
 use Rattle.c_model.specs.Integers.{integer_type}
 use Rattle.c_model.specs.Library.{library_constant, is_there}
 use Rattle.c_model.specs.Checked.{Fault, Checked, Good, Bad, given, one_part, pair_of}
@@ -145,6 +145,8 @@ mutual
 clause_well : (s : Sight) (b : ClauseBody) → IsRead b → Gives (ClauseTyped s) (typed_clause s b)
 clause_well s (Raw f) r = gives_one (SortedTyped s) (ClauseTyped s) (typed s f) (λ a. Good (Holds (as_predicate a))) (form_well s f) (predicate_well s)
 clause_well s (Holds p) r = absurd r
+clause_well s (Value t) r = absurd r
+clause_well s (Behaviors names) r = absurd r
 
 pub annotations_well : (s : Sight) (annots : List Annotation) → AreRead annots → Gives (AnnotationsTyped s) (typed_annotations s annots)
 annotations_well s [] r = tt

@@ -1,6 +1,9 @@
 -- Statements, functions and files with ranges are the same but for these, each of which is right.
+use Rattle.c_model.specs.AnnotationRanges.{ranged_cases}
+use Rattle.c_model.specs.UnrangedPrograms.{unranged_cases, CasesRanged}
 use Rattle.std.proofs.Common.{◌≡◌, List, [], ◌∷◌, map, Option, Some, None, option_map, refl, ap}
-use Rattle.c_syntax.specs.Statements.{Statement, Empty, Eval, Block, If, While, Do, For, Break, Continue, Return, ElsePart, NoElse, Else, BlockItem, Declare, Run, Asserts, BlockItems, NoItem, Then}
+use Rattle.c_syntax.specs.Statements.{Statement, Empty, Eval, Block, If, While, Do, For, Break, Continue, Return, Labelled, ElsePart, NoElse, Else, BlockItem}
+use Rattle.c_syntax.specs.Statements.{Declare, Run, Asserts, BlockItems, NoItem, Then, Switch, Cases, NoCase, AnotherCase}
 use Rattle.c_syntax.specs.Programs.{Function}
 use Rattle.c_model.specs.Checked.{Good, one_part}
 use Rattle.c_model.specs.TermRanges.{ranged_annotations}
@@ -27,6 +30,10 @@ record AreRangedItems (a b : BlockItems) : Type 0 where
   ranged : ItemsRanged b
   same : unranged_items b ≡ unranged_items a
 
+record AreRangedCases (a b : Cases) : Type 0 where
+  ranged : CasesRanged b
+  same : unranged_cases b ≡ unranged_cases a
+
 mutual
   statement_ranged : (a : Statement) → Gives (IsRanged a) (ranged_statement a)
   statement_ranged (Empty at) = record { ranged = tt; same = refl }
@@ -50,6 +57,17 @@ mutual
   statement_ranged (Break at) = record { ranged = tt; same = refl }
   statement_ranged (Continue at) = record { ranged = tt; same = refl }
   statement_ranged (Return at e) = record { ranged = tt; same = refl }
+  statement_ranged (Labelled at l a) =
+      gives_one (IsRanged a) (IsRanged (Labelled at l a)) (ranged_statement a) (λ x. Good (Labelled at l x)) (statement_ranged a) (λ x p. record { ranged = p.ranged; same = ap (Labelled at l) p.same })
+  statement_ranged (Switch at e cases) =
+      gives_one (AreRangedCases cases) (IsRanged (Switch at e cases)) (ranged_cases cases) (λ x. Good (Switch at e x)) (cases_ranged cases) (λ x p. record { ranged = p.ranged; same = ap (Switch at e) p.same })
+
+  cases_ranged : (cases : Cases) → Gives (AreRangedCases cases) (ranged_cases cases)
+  cases_ranged NoCase = record { ranged = tt; same = refl }
+  cases_ranged (AnotherCase at v items rest) =
+      gives_one (AreRangedItems items) (AreRangedCases (AnotherCase at v items rest)) (ranged_items items) (λ x. one_part (ranged_cases rest) (λ y. Good (AnotherCase at v x y))) (items_ranged items) (λ x p.
+      gives_one (AreRangedCases rest) (AreRangedCases (AnotherCase at v items rest)) (ranged_cases rest) (λ y. Good (AnotherCase at v x y)) (cases_ranged rest) (λ y q.
+      record { ranged = (p.ranged, q.ranged); same = λ i. AnotherCase at v (p.same i) (q.same i) }))
 
   else_ranged : (b : ElsePart) → Gives (IsRangedElse b) (ranged_else b)
   else_ranged NoElse = record { ranged = tt; same = refl }

@@ -1,10 +1,18 @@
 -- What typing makes of declarations, statements and functions is what was read, but for types, casts and constants.
+use Rattle.c_syntax.specs.declared.types.CInt.{CInt}
+use Rattle.c_syntax.specs.Ctypes.{Int}
+use Rattle.c_model.specs.StatementTyping.{in_switch, controlling, case_value, case_number, typed_cases}
+use Rattle.c_model.specs.Conversions.{promoted}
+use Rattle.c_model.specs.Integers.{integer_type}
+use Rattle.c_model.specs.ExpressionTyping.{in_int}
+use Rattle.c_model.specs.TypedReadings.{CasesTypedAs}
 use Rattle.std.proofs.Common.{◌≡◌, ℤ, pos, ◌+ℤ◌, refl, sym, subst, List, [], ◌∷◌, Option, Some, None, Bool, true, false, not, ◌&&◌, if◌then◌else◌}
 use Rattle.c_syntax.specs.declared.place.Place.{Place}
 use Rattle.c_syntax.specs.declared.types.CInt.TheVariants.{I32}
 use Rattle.c_syntax.specs.Ctypes.{PlainType, Array}
 use Rattle.c_syntax.specs.Expressions.{Expression, Node, Text, place_of, type_of}
-use Rattle.c_syntax.specs.Statements.{Initialiser, One, Many, Initialisers, NoInitialiser, Listed, Declaration, Statement, Empty, Eval, Block, If, While, Do, For, Break, Continue, Return}
+use Rattle.c_syntax.specs.Statements.{Initialiser, One, Many, Initialisers, NoInitialiser, Listed, Declaration, Statement, Empty, Eval, Block, If, While, Do}
+use Rattle.c_syntax.specs.Statements.{For, Break, Continue, Return, Labelled, Switch, Cases, NoCase, AnotherCase}
 use Rattle.c_syntax.specs.Statements.{ElsePart, NoElse, Else, ForFirst, NoFirst, First, BlockItem, Declare, Run, Asserts, BlockItems, NoItem, Then}
 use Rattle.c_syntax.specs.Programs.{EnumConstant, Function, TranslationUnit}
 use Rattle.c_model.specs.Integers.{fits}
@@ -186,6 +194,11 @@ returned_as s at t None (Some e) h = absurd cc
 returned_as s at t (Some r) (Some e) h = gives_where (StatementTypedAs (Return at (Some r))) (not (is_void t) && is_assigned s e t) _ _ (λ c.
     let same : e ≡ h.0 = cc in (Some (in_type t e), refl, (in_type t e, refl, in_type_as r e t (subst (TypedAs r) (sym same) h.2))))
 
+controlling_as : (s : Sight) (e : Expression) → Gives (λ (x : CInt × Expression). TypedAs e x.1) (one_part (decayed_of (typed s e)) controlling)
+controlling_as s e =
+    gives_one (TypedAs e) (λ (x : CInt × Expression). TypedAs e x.1) (decayed_of (typed s e)) controlling (value_as s e) (λ x u.
+    gives_given (λ (x : CInt × Expression). TypedAs e x.1) (integer_type (type_of x)) (no_type (place_of x)) (λ k. Good (promoted k, in_int (promoted k) x)) (λ k c. in_type_as e x (Int (promoted k)) u))
+
 mutual
   statement_as : (s : Sight) (r : Around) (a : Statement) → Gives (StatementTypedAs a) (typed_statement s r a)
   statement_as s r (Empty at) = refl
@@ -214,11 +227,31 @@ mutual
       (maybe_as (typed (behind_first (inner s) f)) (typed_as (behind_first (inner s) f)) step) (λ y v.
       gives_one (StatementTypedAs a) (StatementTypedAs (For at annots first e step a)) (typed_statement (behind_first (inner s) f) (in_loop r) a) (λ a. Good (For at annots f x y a))
       (statement_as (behind_first (inner s) f) (in_loop r) a) (λ z w. (f, x, y, z, refl, t, u, v, w)))))
-  statement_as s r (Break at) = gives_where (StatementTypedAs (Break at)) r.loops _ _ (λ t. refl)
+  statement_as s r (Break at) = gives_where (StatementTypedAs (Break at)) r.breaks _ _ (λ t. refl)
   statement_as s r (Continue at) = gives_where (StatementTypedAs (Continue at)) r.loops _ _ (λ t. refl)
   statement_as s r (Return at e) =
       gives_one (MaybeTypedAs e) (StatementTypedAs (Return at e)) (typed_maybe (λ e. decayed_of (typed s e)) e) (returned s at r.result) (maybe_as (λ e. decayed_of (typed s e)) (value_as s) e)
       (λ x v. returned_as s at r.result e x v)
+  statement_as s r (Labelled at l a) = gives_one (StatementTypedAs a) (StatementTypedAs (Labelled at l a)) (typed_statement s r a) (λ a. Good (Labelled at l a)) (statement_as s r a) (λ y v. (y, refl, v))
+  statement_as s r (Switch at e cases) =
+      gives_one (λ (x : CInt × Expression). TypedAs e x.1) (StatementTypedAs (Switch at e cases)) (one_part (decayed_of (typed s e)) controlling)
+      (λ x. one_part (typed_cases s (in_switch r) x.0 [] false cases) (λ cases. Good (Switch at x.1 cases))) (controlling_as s e) (λ x u.
+      gives_one (CasesTypedAs cases) (StatementTypedAs (Switch at e cases)) (typed_cases s (in_switch r) x.0 [] false cases) (λ cs. Good (Switch at x.1 cs)) (cases_as s (in_switch r) x.0 [] false cases)
+      (λ cs v. (x.1, cs, refl, u, v)))
+
+  cases_as : (s : Sight) (r : Around) (k : CInt) (used : List ℤ) (has_default : Bool) (cases : Cases) → Gives (CasesTypedAs cases) (typed_cases s r k used has_default cases)
+  cases_as s r k used d NoCase = refl
+  cases_as s r k used d (AnotherCase at None items rest) =
+      gives_where (CasesTypedAs (AnotherCase at None items rest)) (not d) (no_type at) _ (λ _.
+      gives_one (ItemsTypedAs items) (CasesTypedAs (AnotherCase at None items rest)) (typed_items s r items) (λ items. one_part (typed_cases s r k used true rest) (λ rest. Good (AnotherCase at None items rest))) (items_as s r items) (λ js v.
+      gives_one (CasesTypedAs rest) (CasesTypedAs (AnotherCase at None items rest)) (typed_cases s r k used true rest) (λ rest. Good (AnotherCase at None js rest)) (cases_as s r k used true rest) (λ cs w. (None, js, cs, refl, refl, v, w))))
+  cases_as s r k used d (AnotherCase at (Some e) items rest) =
+      gives_one (λ z. Unit {0}) (CasesTypedAs (AnotherCase at (Some e) items rest)) (case_value s k used e) (λ z. one_part (typed_items s r items) (λ items.
+      one_part (typed_cases s r k (z ∷ used) d rest) (λ rest. Good (AnotherCase at (Some (case_number k (place_of e) z)) items rest)))) (anything (case_value s k used e)) (λ z _.
+      gives_one (ItemsTypedAs items) (CasesTypedAs (AnotherCase at (Some e) items rest)) (typed_items s r items)
+      (λ items. one_part (typed_cases s r k (z ∷ used) d rest) (λ rest. Good (AnotherCase at (Some (case_number k (place_of e) z)) items rest))) (items_as s r items) (λ js v.
+      gives_one (CasesTypedAs rest) (CasesTypedAs (AnotherCase at (Some e) items rest)) (typed_cases s r k (z ∷ used) d rest) (λ rest. Good (AnotherCase at (Some (case_number k (place_of e) z)) js rest))
+      (cases_as s r k (z ∷ used) d rest) (λ cs w. (Some (case_number k (place_of e) z), js, cs, refl, (k, z, refl), v, w))))
 
   else_as : (s : Sight) (r : Around) (b : ElsePart) → Gives (ElseTypedAs b) (typed_else s r b)
   else_as s r NoElse = refl

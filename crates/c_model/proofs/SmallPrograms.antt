@@ -1,7 +1,7 @@
 -- Typing keeps the full expressions of a whole file small.
 use Rattle.std.proofs.Common.{ℕ, suc, pos, Bool, true, false, nat_lt, if◌then◌else◌, List, [], ◌∷◌, ◌++◌, map, Option, Some, None, slice_get}
 use Rattle.c_syntax.specs.Ctypes.{PlainType}
-use Rattle.c_syntax.specs.Statements.{Declaration, Statement, Empty, Eval, Block, If, While, Do, For, Break, Continue, Return}
+use Rattle.c_syntax.specs.Statements.{Declaration, Statement, Empty, Eval, Block, If, While, Do, For, Break, Continue, Return, Labelled, Switch}
 use Rattle.c_syntax.specs.Programs.{StructMember, StructType, EnumConstant, EnumType, Function, TranslationUnit}
 use Rattle.c_model.specs.Meaning.{is_definition}
 use Rattle.c_model.specs.Checked.{Good, one_part, where_so}
@@ -22,7 +22,8 @@ use Rattle.c_model.proofs.SmallStatements.{IsShort, global_small, items_small}
 
 body_small : (s : Sight) (t : PlainType) (b : Option Statement) → EachInBody IsShort b → Gives (EachInBody IsSmall) (typed_body s t b)
 body_small s t (Some (Block at items)) h =
-    gives_one (EachInItems IsSmall) (EachInBody IsSmall) (typed_items s (record { result = t; loops = false }) items) (λ items. Good (Some (Block at items))) (items_small s (record { result = t; loops = false }) items h) (λ x f. f)
+    gives_one (EachInItems IsSmall) (EachInBody IsSmall) (typed_items s (record { result = t; breaks = false; loops = false }) items) (λ items. Good (Some (Block at items)))
+        (items_small s (record { result = t; breaks = false; loops = false }) items h) (λ x f. f)
 body_small s t None h = tt
 body_small s t (Some (Empty at)) h = tt
 body_small s t (Some (Eval at e)) h = tt
@@ -33,6 +34,8 @@ body_small s t (Some (For at annots first e step a)) h = tt
 body_small s t (Some (Break at)) h = tt
 body_small s t (Some (Continue at)) h = tt
 body_small s t (Some (Return at e)) h = tt
+body_small s t (Some (Labelled at l a)) h = tt
+body_small s t (Some (Switch at e cases)) h = tt
 
 abbrev HasShort : Function → Type 0
 HasShort f = EachInBody IsShort f.body

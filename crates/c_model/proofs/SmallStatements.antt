@@ -1,11 +1,21 @@
 -- Typing keeps full expressions small, in initialisers, declarations, statements and functions: where each that is read has at most 400 forms, each
 -- typed one is as small as the translation needs.
+use Rattle.std.proofs.Common.{ℤ}
+use Rattle.c_syntax.specs.declared.types.CInt.{CInt}
+use Rattle.c_syntax.specs.Ctypes.{Int}
+use Rattle.c_model.specs.StatementTyping.{in_switch, controlling, case_value, case_number, typed_cases}
+use Rattle.c_model.specs.Conversions.{promoted}
+use Rattle.c_model.specs.Integers.{integer_type}
+use Rattle.c_model.specs.ExpressionTyping.{in_int}
+use Rattle.c_model.specs.FullExpressions.{EachInCases}
+use Rattle.c_model.proofs.TypedParts.{gives_given, gives_where}
 use Rattle.std.proofs.Common.{◌≤◌, List, [], ◌∷◌, Option, Some, None, Bool, true, false, not, ◌&&◌, if◌then◌else◌}
 use Rattle.c_syntax.specs.declared.place.Place.{Place}
 use Rattle.c_syntax.specs.Ctypes.{PlainType}
 use Rattle.c_syntax.specs.Expressions.{Expression, place_of, type_of}
+use Rattle.c_syntax.specs.Statements.{Switch, Cases, NoCase, AnotherCase}
 use Rattle.c_syntax.specs.Statements.{Initialiser, One, Many, Initialisers, NoInitialiser, Listed, Declaration, Statement, Empty, Eval, Block, If, While, Do}
-use Rattle.c_syntax.specs.Statements.{For, Break, Continue, Return, ElsePart, NoElse, Else, ForFirst, NoFirst, First, BlockItem, Declare, Run, Asserts, BlockItems, NoItem, Then}
+use Rattle.c_syntax.specs.Statements.{For, Break, Continue, Return, Labelled, ElsePart, NoElse, Else, ForFirst, NoFirst, First, BlockItem, Declare, Run, Asserts, BlockItems, NoItem, Then}
 use Rattle.c_model.specs.Meaning.{string_in}
 use Rattle.c_model.specs.Library.{is_there}
 use Rattle.c_model.specs.Checked.{Checked, Good, faulty, one_part, both_parts, where_so}
@@ -137,6 +147,11 @@ returned_small s at t (Some e) h = gives_if (EachIn IsSmall) (not (is_void t) &&
 abbrev Small : Statement → Type 0
 Small a = EachIn IsSmall a
 
+controlling_small : (s : Sight) (e : Expression) → IsShort e → Gives (λ (x : CInt × Expression). IsSmall x.1) (one_part (decayed_of (typed s e)) controlling)
+controlling_small s e le =
+    gives_one IsSmallIn (λ (x : CInt × Expression). IsSmall x.1) (decayed_of (typed s e)) controlling (converted_small s e le) (λ x f.
+    gives_given (λ (x : CInt × Expression). IsSmall x.1) (integer_type (type_of x)) (no_type (place_of x)) (λ k. Good (promoted k, in_int (promoted k) x)) (λ k c. f (Int (promoted k))))
+
 mutual
   pub statement_small : (s : Sight) (r : Around) (a : Statement) → EachIn IsShort a → Gives Small (typed_statement s r a)
   statement_small s r (Empty at) h = tt
@@ -162,11 +177,29 @@ mutual
       (maybe_small IsSmall (typed_condition z) e h.1 (λ x le. condition_small z x le)) (λ x g.
       gives_one (WhereAny IsSmall) Small (typed_maybe (typed z) step) (λ step. one_part (typed_statement z (in_loop r) a) (λ a. Good (For at annots w x step a))) (maybe_small IsSmall (typed z) step h.2 (λ x le. effect_small z x le)) (λ y k.
       gives_one Small Small (typed_statement z (in_loop r) a) (λ a. Good (For at annots w x y a)) (statement_small z (in_loop r) a h.3) (λ b l. (f, g, k, l)))))
-  statement_small s r (Break at) h = gives_if Small r.loops (no_type at) (Good (Break at)) tt
+  statement_small s r (Break at) h = gives_if Small r.breaks (no_type at) (Good (Break at)) tt
   statement_small s r (Continue at) h = gives_if Small r.loops (no_type at) (Good (Continue at)) tt
   statement_small s r (Return at e) h =
       gives_one (WhereAny IsSmallIn) Small (typed_maybe (λ e. decayed_of (typed s e)) e) (returned s at r.result) (maybe_small IsSmallIn (λ e. decayed_of (typed s e)) e h (λ x le. converted_small s x le))
       (λ o f. returned_small s at r.result o f)
+  statement_small s r (Labelled at l a) h = gives_one Small Small (typed_statement s r a) (λ a. Good (Labelled at l a)) (statement_small s r a h) (λ x f. f)
+  statement_small s r (Switch at e cases) h =
+      gives_one (λ (x : CInt × Expression). IsSmall x.1) Small (one_part (decayed_of (typed s e)) controlling) (λ x. one_part (typed_cases s (in_switch r) x.0 [] false cases) (λ cases. Good (Switch at x.1 cases))) (controlling_small s e h.0) (λ x f.
+      gives_one (EachInCases IsSmall) Small (typed_cases s (in_switch r) x.0 [] false cases) (λ cs. Good (Switch at x.1 cs)) (cases_small s (in_switch r) x.0 [] false cases h.1) (λ cs g. (f, g)))
+
+  cases_small : (s : Sight) (r : Around) (k : CInt) (used : List ℤ) (has_default : Bool) (cases : Cases) → EachInCases IsShort cases → Gives (EachInCases IsSmall) (typed_cases s r k used has_default cases)
+  cases_small s r k used d NoCase h = tt
+  cases_small s r k used d (AnotherCase at None items rest) h =
+      gives_where (EachInCases IsSmall) (not d) (no_type at) _ (λ _.
+      gives_one (EachInItems IsSmall) (EachInCases IsSmall) (typed_items s r items) (λ items. one_part (typed_cases s r k used true rest) (λ rest. Good (AnotherCase at None items rest))) (items_small s r items h.0) (λ js v.
+      gives_one (EachInCases IsSmall) (EachInCases IsSmall) (typed_cases s r k used true rest) (λ rest. Good (AnotherCase at None js rest)) (cases_small s r k used true rest h.1) (λ cs w. (v, w))))
+  cases_small s r k used d (AnotherCase at (Some e) items rest) h =
+      gives_one (λ z. Unit {0}) (EachInCases IsSmall) (case_value s k used e) (λ z. one_part (typed_items s r items) (λ items.
+      one_part (typed_cases s r k (z ∷ used) d rest) (λ rest. Good (AnotherCase at (Some (case_number k (place_of e) z)) items rest)))) (anything (case_value s k used e)) (λ z _.
+      gives_one (EachInItems IsSmall) (EachInCases IsSmall) (typed_items s r items)
+      (λ items. one_part (typed_cases s r k (z ∷ used) d rest) (λ rest. Good (AnotherCase at (Some (case_number k (place_of e) z)) items rest))) (items_small s r items h.0) (λ js v.
+      gives_one (EachInCases IsSmall) (EachInCases IsSmall) (typed_cases s r k (z ∷ used) d rest) (λ rest. Good (AnotherCase at (Some (case_number k (place_of e) z)) js rest))
+      (cases_small s r k (z ∷ used) d rest h.1) (λ cs w. (v, w))))
 
   else_small : (s : Sight) (r : Around) (b : ElsePart) → EachInElse IsShort b → Gives (EachInElse IsSmall) (typed_else s r b)
   else_small s r NoElse h = tt

@@ -1,10 +1,19 @@
 -- The types in a typed initialiser, declaration, statement and function have few enough bytes, where those in sight have.
+use Rattle.std.proofs.Common.{ℤ}
+use Rattle.c_syntax.specs.declared.types.CInt.{CInt}
+use Rattle.c_model.specs.StatementTyping.{in_switch, controlling, case_value, case_number, typed_cases}
+use Rattle.c_model.specs.Conversions.{promoted}
+use Rattle.c_model.specs.Integers.{integer_type}
+use Rattle.c_model.specs.ExpressionTyping.{in_int}
+use Rattle.c_model.specs.FullExpressions.{EachInCases}
+use Rattle.c_model.proofs.TypedParts.{gives_given}
 use Rattle.std.proofs.Common.{◌≡◌, zero, suc, refl, sym, ◌∙◌, subst, List, [], ◌∷◌, ◌++◌, map, Option, Some, None, Bool, true, false, not, ◌&&◌, cond, if◌then◌else◌, slice_get}
 use Rattle.c_syntax.specs.declared.place.Place.{Place}
 use Rattle.c_syntax.specs.Ctypes.{PlainType, Void, Int, Ptr, Array, Struct, Named, StructTag, EnumTag}
 use Rattle.c_syntax.specs.Expressions.{Expression, place_of, type_of}
+use Rattle.c_syntax.specs.Statements.{Switch, Cases, NoCase, AnotherCase}
 use Rattle.c_syntax.specs.Statements.{Initialiser, One, Many, Initialisers, NoInitialiser, Listed, Declaration, Statement, Empty, Eval, Block, If, While, Do}
-use Rattle.c_syntax.specs.Statements.{For, Break, Continue, Return, ElsePart, NoElse, Else, ForFirst, NoFirst, First, BlockItem, Declare, Run, Asserts, BlockItems, NoItem, Then}
+use Rattle.c_syntax.specs.Statements.{For, Break, Continue, Return, Labelled, ElsePart, NoElse, Else, ForFirst, NoFirst, First, BlockItem, Declare, Run, Asserts, BlockItems, NoItem, Then}
 use Rattle.c_syntax.specs.Programs.{StructMember, StructType, Function, TranslationUnit}
 use Rattle.c_model.specs.Meaning.{string_in, is_definition}
 use Rattle.c_model.specs.Library.{is_there}
@@ -237,10 +246,30 @@ module _ (new : List StructType) (all : AreSmallStructs new)
           gives_one (WhereAny E) A (typed_maybe (typed z) step) (λ step. one_part (typed_statement z (in_loop r) a) (λ a. Good (For at annots w x step a)))
           (maybe_small (typed z) step (λ x. typed_small new z f.sight all more x)) (λ y l.
           gives_one A A (typed_statement z (in_loop r) a) (λ a. Good (For at annots w x y a)) (statement_small z f.sight more (in_loop r) k a) (λ b m. (f.each, h, l, m)))))
-      statement_small s i g r k (Break at) = gives_where A r.loops _ _ (λ v. tt)
+      statement_small s i g r k (Break at) = gives_where A r.breaks _ _ (λ v. tt)
       statement_small s i g r k (Continue at) = gives_where A r.loops _ _ (λ v. tt)
       statement_small s i g r k (Return at e) = gives_one (WhereAny E) A (typed_maybe (λ e. decayed_of (typed s e)) e) (returned s at r.result)
           (maybe_small (λ e. decayed_of (typed s e)) e (λ x. value_small new s i all g x)) (λ o f. returned_small s at r.result k o f)
+      statement_small s i g r k (Labelled at l a) = gives_one A A (typed_statement s r a) (λ a. Good (Labelled at l a)) (statement_small s i g r k a) (λ x f. f)
+      statement_small s i g r k (Switch at e cases) =
+          gives_one (λ (x : CInt × Expression). E x.1) A (one_part (decayed_of (typed s e)) controlling) (λ x. one_part (typed_cases s (in_switch r) x.0 [] false cases) (λ cases. Good (Switch at x.1 cases)))
+          (gives_one E (λ (x : CInt × Expression). E x.1) (decayed_of (typed s e)) controlling (value_small new s i all g e) (λ x h.
+          gives_given (λ (x : CInt × Expression). E x.1) (integer_type (type_of x)) (no_type (place_of x)) (λ j. Good (promoted j, in_int (promoted j) x)) (λ j c. in_type_small new (Int (promoted j)) x refl h))) (λ x f.
+          gives_one (EachInCases E) A (typed_cases s (in_switch r) x.0 [] false cases) (λ cs. Good (Switch at x.1 cs)) (cases_small s i g (in_switch r) k x.0 [] false cases) (λ cs h. (f, h)))
+
+      cases_small : (s : Sight) → IsSmallSight new s → Grows s.structs new → (r : Around) → Small new r.result → (j : CInt) (used : List ℤ) (has_default : Bool) (cases : Cases) → Gives (EachInCases E) (typed_cases s r j used has_default cases)
+      cases_small s i g r k j used d NoCase = tt
+      cases_small s i g r k j used d (AnotherCase at None items rest) =
+          gives_where (EachInCases E) (not d) (no_type at) _ (λ _.
+          gives_one (EachInItems E) (EachInCases E) (typed_items s r items) (λ items. one_part (typed_cases s r j used true rest) (λ rest. Good (AnotherCase at None items rest))) (items_small s i g r k items) (λ js v.
+          gives_one (EachInCases E) (EachInCases E) (typed_cases s r j used true rest) (λ rest. Good (AnotherCase at None js rest)) (cases_small s i g r k j used true rest) (λ cs w. (v, w))))
+      cases_small s i g r k j used d (AnotherCase at (Some e) items rest) =
+          gives_one (λ z. Unit {0}) (EachInCases E) (case_value s j used e) (λ z. one_part (typed_items s r items) (λ items.
+          one_part (typed_cases s r j (z ∷ used) d rest) (λ rest. Good (AnotherCase at (Some (case_number j (place_of e) z)) items rest)))) (anything (case_value s j used e)) (λ z _.
+          gives_one (EachInItems E) (EachInCases E) (typed_items s r items)
+          (λ items. one_part (typed_cases s r j (z ∷ used) d rest) (λ rest. Good (AnotherCase at (Some (case_number j (place_of e) z)) items rest))) (items_small s i g r k items) (λ js v.
+          gives_one (EachInCases E) (EachInCases E) (typed_cases s r j (z ∷ used) d rest) (λ rest. Good (AnotherCase at (Some (case_number j (place_of e) z)) js rest))
+          (cases_small s i g r k j (z ∷ used) d rest) (λ cs w. (v, w))))
 
       else_small : (s : Sight) → IsSmallSight new s → Grows s.structs new → (r : Around) → Small new r.result → (b : ElsePart) → Gives (EachInElse E) (typed_else s r b)
       else_small s i g r k NoElse = tt
@@ -279,6 +308,8 @@ module _ (new : List StructType) (all : AreSmallStructs new)
     body_small s i g t k (Some (Break at)) = tt
     body_small s i g t k (Some (Continue at)) = tt
     body_small s i g t k (Some (Return at e)) = tt
+    body_small s i g t k (Some (Labelled at l a)) = tt
+    body_small s i g t k (Some (Switch at e cases)) = tt
 
     sees_parameter : (s : Sight) → IsSmallSight new s → (d : Declaration) → Small new d.ctype → IsSmallSight new (with_parameter s d)
     sees_parameter s i d k = by d.named

@@ -1,9 +1,14 @@
 -- Declared objects, statements and functions that are well typed stay so where more structs are known.
+use Rattle.c_syntax.specs.declared.types.CInt.{CInt}
+use Rattle.c_model.specs.StatementTyping.{in_switch}
+use Rattle.c_model.specs.Conversions.{promoted}
+use Rattle.c_model.specs.TypedTrees.{CasesTyped}
 use Rattle.std.proofs.Common.{◌≡◌, ℕ, zero, suc, ◌+◌, refl, sym, ap, ◌∙◌, subst, List, [], ◌∷◌, Option, Some, None, Bool, true, false, cond, nat_eq, slice_get}
 use Rattle.c_syntax.specs.declared.place.Place.{Place}
 use Rattle.c_syntax.specs.Ctypes.{PlainType, Int, Ptr, Array, Struct, Count}
 use Rattle.c_syntax.specs.Expressions.{Expression}
-use Rattle.c_syntax.specs.Statements.{Initialiser, One, Many, Initialisers, NoInitialiser, Listed, Declaration, Statement, Empty, Eval, Block, If, While, Do, For, Break, Continue, Return}
+use Rattle.c_syntax.specs.Statements.{Initialiser, One, Many, Initialisers, NoInitialiser, Listed, Declaration, Statement, Empty, Eval, Block, If, While, Do}
+use Rattle.c_syntax.specs.Statements.{For, Break, Continue, Return, Labelled, Switch, Cases, NoCase, AnotherCase}
 use Rattle.c_syntax.specs.Statements.{ElsePart, NoElse, Else, ForFirst, NoFirst, First, BlockItem, Declare, Run, Asserts, BlockItems, NoItem, Then}
 use Rattle.c_syntax.specs.Programs.{StructMember, StructType, Function}
 use Rattle.c_syntax.specs.Layouts.{size_of, elements, member_parts, members_of_struct}
@@ -183,6 +188,12 @@ module _ (new : List StructType) (levels tags enums : List ℕ)
       statement_kept s w r (Break at) h = h
       statement_kept s w r (Continue at) h = h
       statement_kept s w r (Return at e) h = returned_kept s w r.result e h
+      statement_kept s w r (Labelled at l a) h = statement_kept s w r a h
+      statement_kept s w r (Switch at e cases) h = (h.0, well_last s w e h.1, h.2, cases_kept s w (in_switch r) (promoted h.0) cases h.3)
+
+      cases_kept : (s : Sight) → Widens s.structs new → (r : Around) (k : CInt) (cases : Cases) → CasesTyped s r k cases → CasesTyped (at_last s) r k cases
+      cases_kept s w r k NoCase h = tt
+      cases_kept s w r k (AnotherCase at v items rest) h = (h.0, items_kept s w r items h.1, cases_kept s w r k rest h.2)
 
       else_kept : (s : Sight) → Widens s.structs new → (r : Around) (b : ElsePart) → ElseTyped s r b → ElseTyped (at_last s) r b
       else_kept s w r NoElse h = tt

@@ -1,7 +1,10 @@
 -- The items of a typed file have the numbers of those that were read, and so they stand in the order of the text.
+use Rattle.c_model.specs.TypedReadings.{CasesTypedAs}
+use Rattle.c_model.specs.Formed.{declared_in_cases}
 use Rattle.std.proofs.Common.{◌≡◌, ℕ, suc, ◌≤◌, refl, sym, ap, ◌∙◌, subst, List, [], ◌∷◌, ◌++◌, map, Option, Some, None, Bool, true, false, if◌then◌else◌, nat_lt, arith}
 use Rattle.c_syntax.specs.declared.place.Place.{Place}
-use Rattle.c_syntax.specs.Statements.{Declaration, Statement, Empty, Eval, Block, If, While, Do, For, Break, Continue, Return, ElsePart, NoElse, Else}
+use Rattle.c_syntax.specs.Statements.{Declaration, Statement, Empty, Eval, Block, If, While, Do, For, Break, Continue, Return, Labelled, ElsePart, NoElse}
+use Rattle.c_syntax.specs.Statements.{Else, Switch, Cases, NoCase, AnotherCase}
 use Rattle.c_syntax.specs.Statements.{ForFirst, NoFirst, First, BlockItem, Declare, Run, Asserts, BlockItems, NoItem, Then}
 use Rattle.c_syntax.specs.Programs.{StructMember, StructType, EnumConstant, EnumType, Function, TranslationUnit}
 use Rattle.c_model.specs.Checked.{Good}
@@ -58,6 +61,14 @@ mutual
   within_kept (Break at) b h = subst (λ b. AreKept [] (declared_within b)) (sym h) tt
   within_kept (Continue at) b h = subst (λ b. AreKept [] (declared_within b)) (sym h) tt
   within_kept (Return at e) b h = subst (λ b. AreKept [] (declared_within b)) (sym h.1) tt
+  within_kept (Labelled at l a) b h = subst (λ b. AreKept (declared_within a) (declared_within b)) (sym h.1) (within_kept a h.0 h.2)
+  within_kept (Switch at e cases) b h = subst (λ b. AreKept (declared_in_cases cases) (declared_within b)) (sym h.2) (cases_kept cases h.1 h.4)
+
+  cases_kept : (cases cs : Cases) → CasesTypedAs cases cs → AreKept (declared_in_cases cases) (declared_in_cases cs)
+  cases_kept NoCase cs h = subst (λ cs. AreKept [] (declared_in_cases cs)) (sym h) tt
+  cases_kept (AnotherCase at v items rest) cs h =
+      subst (λ cs. AreKept (declared_in_items items ++ declared_in_cases rest) (declared_in_cases cs)) (sym h.3)
+      (kept_append (declared_in_items items) (declared_in_items h.1) (declared_in_cases rest) (declared_in_cases h.2) (items_kept items h.1 h.5) (cases_kept rest h.2 h.6))
 
   else_kept : (a b : ElsePart) → ElseTypedAs a b → AreKept (declared_in_else a) (declared_in_else b)
   else_kept NoElse b h = subst (λ b. AreKept [] (declared_in_else b)) (sym h) tt
@@ -96,6 +107,8 @@ body_kept (Some (For at annots first e step a)) b h = same_declared _ (declared_
 body_kept (Some (Break at)) b h = same_declared [] (declared_in_body b) (ap declared_in_body (sym h))
 body_kept (Some (Continue at)) b h = same_declared [] (declared_in_body b) (ap declared_in_body (sym h))
 body_kept (Some (Return at e)) b h = same_declared [] (declared_in_body b) (ap declared_in_body (sym h))
+body_kept (Some (Labelled at l a)) b h = same_declared _ (declared_in_body b) (ap declared_in_body (sym h))
+body_kept (Some (Switch at e cases)) b h = same_declared _ (declared_in_body b) (ap declared_in_body (sym h))
 
 -- ---- numbers
 

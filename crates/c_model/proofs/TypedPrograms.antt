@@ -1,6 +1,6 @@
 -- A file that typing accepts is a typed program, and it is the read one but for types, casts and constants.
 use Rattle.std.proofs.Common.{◌≡◌, ℕ, ◌<◌, sym, ap, ◌∙◌, subst, List, [], ◌∷◌, ◌++◌, Option, Some, None, cond, ◌&&◌, nat_eq}
-use Rattle.c_syntax.specs.Statements.{Statement, Empty, Eval, Block, If, While, Do, For, Break, Continue, Return}
+use Rattle.c_syntax.specs.Statements.{Statement, Empty, Eval, Block, If, While, Do, For, Break, Continue, Return, Labelled, Switch}
 use Rattle.c_syntax.specs.Programs.{Function, TranslationUnit}
 use Rattle.c_model.specs.Library.{is_there}
 use Rattle.c_model.specs.Checked.{Good}
@@ -107,6 +107,8 @@ definition_kept (Some (For at annots first e step a)) b h = ap is_there h
 definition_kept (Some (Break at)) b h = ap is_there h
 definition_kept (Some (Continue at)) b h = ap is_there h
 definition_kept (Some (Return at e)) b h = ap is_there h
+definition_kept (Some (Labelled at l a)) b h = ap is_there h
+definition_kept (Some (Switch at e cases)) b h = ap is_there h
 
 definition_number : (x : ℕ) (fs gs : List Function) → FunctionsTypedAs fs gs → definition_of x gs ≡ definition_of x fs
 definition_number x [] gs h = ap (definition_of x) h

@@ -1,9 +1,23 @@
 -- What typing makes of statements is well typed.
+use Rattle.std.proofs.Common.{Bool}
+use Rattle.std.proofs.Common.{ℤ, false, subst}
+use Rattle.c_syntax.specs.declared.types.CInt.{CInt}
+use Rattle.c_syntax.specs.Expressions.{place_of}
+use Rattle.c_model.specs.StatementTyping.{in_switch, controlling, case_value, case_number, typed_cases, is_used}
+use Rattle.c_model.specs.Conversions.{promoted}
+use Rattle.c_model.specs.Integers.{convert, fits}
+use Rattle.c_model.specs.ExpressionTyping.{in_int, no_type, constant}
+use Rattle.c_model.specs.TypedTrees.{CasesTyped, OfInteger}
+use Rattle.c_model.proofs.TypedParts.{gives_given, integer_is}
+use Rattle.c_model.proofs.TypedDeclarations.{anything}
+use Rattle.c_model.proofs.Conversions.{fits-convert}
+use Rattle.c_model.specs.PlacedTrees.{CasesPlaced}
 use Rattle.std.proofs.Common.{◌≡◌, refl, List, [], ◌∷◌, Option, Some, None, true, not, ◌&&◌, ◌||◌}
 use Rattle.c_syntax.specs.declared.place.Place.{Place}
 use Rattle.c_syntax.specs.Ctypes.{PlainType, Void, Int, Ptr}
 use Rattle.c_syntax.specs.Expressions.{Expression, type_of}
-use Rattle.c_syntax.specs.Statements.{Declaration, Statement, Empty, Eval, Block, If, While, Do, For, Break, Continue, Return}
+use Rattle.c_syntax.specs.Statements.{Declaration, Statement, Empty, Eval, Block, If, While, Do, For, Break, Continue, Return, Labelled, Switch, Cases}
+use Rattle.c_syntax.specs.Statements.{NoCase, AnotherCase}
 use Rattle.c_syntax.specs.Statements.{ElsePart, NoElse, Else, ForFirst, NoFirst, First, BlockItem, Declare, Run, Asserts, BlockItems, NoItem, Then}
 use Rattle.c_model.specs.Integers.{integer_type}
 use Rattle.c_model.specs.Meaning.{is_pointer}
@@ -97,6 +111,23 @@ declarations_typed s i (d ∷ ds) o =
 
 -- ---- statements
 
+-- an integer, promoted to this type
+abbrev IsControlling : Sight → CInt × Expression → Type 0
+IsControlling s x = (k : CInt) × (x.0 ≡ promoted k) × WellTyped s x.1 × (type_of x.1 ≡ Int (promoted k))
+
+controlling_typed : (s : Sight) → IsWholeSight s → (e : Expression) → Gives (IsControlling s) (one_part (decayed_of (typed s e)) controlling)
+controlling_typed s i e =
+    gives_one (WellTyped s) (IsControlling s) (decayed_of (typed s e)) controlling (value_typed s i e) (λ x w.
+    gives_given (IsControlling s) (integer_type (type_of x)) (no_type (place_of x)) (λ k. Good (promoted k, in_int (promoted k) x)) (λ k c.
+    (k, refl, in_type_well s (Int (promoted k)) x w (OfInteger (record { int = promoted k; is = refl }) (record { int = k; is = integer_is (type_of x) k c })), in_type_type (Int (promoted k)) x)))
+
+-- a value of the type
+case_fits : (s : Sight) (k : CInt) (used : List ℤ) (e : Expression) → Gives (λ z. fits k z ≡ true) (case_value s k used e)
+case_fits s k used e =
+    gives_one (λ x. Unit {0}) (λ z. fits k z ≡ true) (decayed_of (typed s e)) _ (anything (decayed_of (typed s e))) (λ x _.
+    gives_given (λ z. fits k z ≡ true) (constant s x) (no_type (place_of e)) _ (λ z c.
+    gives_where (λ z. fits k z ≡ true) (not (is_used (convert k z) used)) (no_type (place_of e)) (Good (convert k z)) (λ _. fits-convert k z)))
+
 mutual
   statement_typed : (s : Sight) → IsWholeSight s → (r : Around) (a : Statement) → StatementPlaced a → Gives (StatementTyped s r) (typed_statement s r a)
   statement_typed s i r (Empty at) o = tt
@@ -125,11 +156,30 @@ mutual
       (maybe_typed (WellTyped (behind_first (inner s) first)) (typed (behind_first (inner s) first)) step (expression_typed (behind_first (inner s) first) u.sight)) (λ step w.
       gives_one (StatementTyped (behind_first (inner s) first) (in_loop r)) (StatementTyped s r) (typed_statement (behind_first (inner s) first) (in_loop r) a) (λ a. Good (For at annots first e step a))
       (statement_typed (behind_first (inner s) first) u.sight (in_loop r) a o.1) (λ a x. (u.typed, v, w, x)))))
-  statement_typed s i r (Break at) o = gives_where (StatementTyped s r) r.loops _ _ (λ t. t)
+  statement_typed s i r (Break at) o = gives_where (StatementTyped s r) r.breaks _ _ (λ t. t)
   statement_typed s i r (Continue at) o = gives_where (StatementTyped s r) r.loops _ _ (λ t. t)
   statement_typed s i r (Return at e) o =
       gives_one (WhereAny (WellTyped s)) (StatementTyped s r) (typed_maybe (λ e. decayed_of (typed s e)) e) (returned s at r.result)
       (maybe_typed (WellTyped s) (λ e. decayed_of (typed s e)) e (value_typed s i)) (λ e w. returned_typed s i at r e w)
+  statement_typed s i r (Labelled at l a) o = gives_one (StatementTyped s r) (StatementTyped s r) (typed_statement s r a) (λ a. Good (Labelled at l a)) (statement_typed s i r a o) (λ a v. v)
+  statement_typed s i r (Switch at e cases) o =
+      gives_one (IsControlling s) (StatementTyped s r) (one_part (decayed_of (typed s e)) controlling) (λ x. one_part (typed_cases s (in_switch r) x.0 [] false cases) (λ cases. Good (Switch at x.1 cases))) (controlling_typed s i e) (λ x u.
+      gives_one (CasesTyped s (in_switch r) x.0) (StatementTyped s r) (typed_cases s (in_switch r) x.0 [] false cases) (λ cs. Good (Switch at x.1 cs)) (cases_typed s i (in_switch r) x.0 [] false cases o)
+      (λ cs v. (u.0, u.2, u.3, subst (λ k. CasesTyped s (in_switch r) k cs) u.1 v)))
+
+  cases_typed : (s : Sight) → IsWholeSight s → (r : Around) (k : CInt) (used : List ℤ) (has_default : Bool) (cases : Cases) → CasesPlaced cases → Gives (CasesTyped s r k) (typed_cases s r k used has_default cases)
+  cases_typed s i r k used d NoCase o = tt
+  cases_typed s i r k used d (AnotherCase at None items rest) o =
+      gives_where (CasesTyped s r k) (not d) (no_type at) _ (λ _.
+      gives_one (ItemsTyped s r) (CasesTyped s r k) (typed_items s r items) (λ items. one_part (typed_cases s r k used true rest) (λ rest. Good (AnotherCase at None items rest))) (items_typed s i r items o.0) (λ js v.
+      gives_one (CasesTyped s r k) (CasesTyped s r k) (typed_cases s r k used true rest) (λ rest. Good (AnotherCase at None js rest)) (cases_typed s i r k used true rest o.1) (λ cs w. (tt, v, w))))
+  cases_typed s i r k used d (AnotherCase at (Some e) items rest) o =
+      gives_one (λ z. fits k z ≡ true) (CasesTyped s r k) (case_value s k used e) (λ z. one_part (typed_items s r items) (λ items.
+      one_part (typed_cases s r k (z ∷ used) d rest) (λ rest. Good (AnotherCase at (Some (case_number k (place_of e) z)) items rest)))) (case_fits s k used e) (λ z f.
+      gives_one (ItemsTyped s r) (CasesTyped s r k) (typed_items s r items)
+      (λ items. one_part (typed_cases s r k (z ∷ used) d rest) (λ rest. Good (AnotherCase at (Some (case_number k (place_of e) z)) items rest))) (items_typed s i r items o.0) (λ js v.
+      gives_one (CasesTyped s r k) (CasesTyped s r k) (typed_cases s r k (z ∷ used) d rest) (λ rest. Good (AnotherCase at (Some (case_number k (place_of e) z)) js rest))
+      (cases_typed s i r k (z ∷ used) d rest o.1) (λ cs w. ((refl, refl, f), v, w))))
 
   else_typed : (s : Sight) → IsWholeSight s → (r : Around) (b : ElsePart) → ElsePlaced b → Gives (ElseTyped s r) (typed_else s r b)
   else_typed s i r NoElse o = tt

@@ -1,9 +1,26 @@
 -- What is known of statements doesn't look at the ranges of their annotations: it is the same without them.
+use Rattle.std.proofs.Common.{ℤ, zero, suc, if◌then◌else◌, option_map}
+use Rattle.c_syntax.specs.declared.types.CInt.{CInt}
+use Rattle.c_syntax.specs.Ctypes.{Int}
+use Rattle.c_syntax.specs.Expressions.{type_of}
+use Rattle.c_model.specs.StatementTyping.{in_switch}
+use Rattle.c_model.specs.Conversions.{promoted}
+use Rattle.c_model.specs.TypedTrees.{CasesTyped, IsCaseValue}
+use Rattle.c_model.specs.TypedAnnotations.{CasesNoted}
+use Rattle.c_model.specs.FullExpressions.{EachInCases}
+use Rattle.c_model.specs.Formed.{depth_of_cases, declared_in_cases}
+use Rattle.c_model.specs.UnrangedPrograms.{unranged_cases}
+use Rattle.c_model.specs.Meaning.{case_of, is_case_of, default_of, chosen_case, after_switch, cases_with, eval_with}
+use Rattle.c_model.specs.Memory.{Integer, Points, NoValue, Value}
+use Rattle.c_model.specs.EffectPlaces.{CasesPlaced}
 use Rattle.std.proofs.Common.{◌≡◌, ℕ, ◌+◌, max, ◌++◌, Some, None, refl, ap, ◌∙◌}
 use Rattle.c_syntax.specs.Expressions.{Expression}
-use Rattle.c_syntax.specs.Statements.{Statement, Empty, Eval, Block, If, While, Do, For, Break, Continue, Return, ElsePart, NoElse, Else, BlockItem, Declare, Run, Asserts, BlockItems, NoItem, Then}
-use Rattle.c_model.specs.State.{◌>>=◌, ◌>>◌, done, births, within}
-use Rattle.c_model.specs.Meaning.{Tables, Callee, choose, turns, do_turns, declared_in, declared_first, condition_with, condition_of, effect_with, exec_with, else_with, first_with, item_with, items_with}
+use Rattle.c_syntax.specs.Statements.{Statement, Empty, Eval, Block, If, While, Do, For, Break, Continue, Return, ElsePart, NoElse, Else, BlockItem, Declare}
+use Rattle.c_syntax.specs.Statements.{Run, Asserts, BlockItems, NoItem, Then, Labelled, Switch, Cases, NoCase, AnotherCase}
+use Rattle.c_model.specs.State.{◌>>=◌, ◌>>◌, done, births, within, mark}
+use Rattle.c_model.specs.Predicates.{variant}
+use Rattle.c_model.specs.Meaning.{Tables, Callee, choose, turn_with, turns, do_turns, declared_in, declared_first, condition_with, condition_of, effect_with}
+use Rattle.c_model.specs.Meaning.{exec_with, else_with, first_with, item_with, items_with}
 use Rattle.c_model.specs.ExpressionTyping.{Sight, inner}
 use Rattle.c_model.specs.StatementTyping.{Around, in_loop, behind, behind_first}
 use Rattle.c_model.specs.TypedTrees.{WellTyped, WhereAny, IsCondition, FirstTyped, StatementTyped, ElseTyped, ItemTyped, ItemsTyped}
@@ -12,7 +29,7 @@ use Rattle.c_model.specs.Formed.{AreAsserts, depth, depth_of_else, depth_of_item
 use Rattle.c_model.specs.FullExpressions.{EachIn, EachInElse, EachInFirst, EachInItem, EachInItems}
 use Rattle.c_model.specs.EffectPlaces.{StatementPlaced, ElsePlaced, ItemPlaced, ItemsPlaced}
 use Rattle.c_model.specs.UnrangedPrograms.{unranged_statement, unranged_else, unranged_item, unranged_items}
-use Rattle.c_model.proofs.UnrangedTerms.{Alike, itself, beside, annotations_typed, are_asserts, are_none, same_checks}
+use Rattle.c_model.proofs.UnrangedTerms.{Alike, itself, beside, annotations_typed, are_asserts, are_none, same_checks, same_invariants, same_turn}
 
 -- ---- typing
 
@@ -35,6 +52,12 @@ mutual
   statement_typed s r (Break at) = refl
   statement_typed s r (Continue at) = refl
   statement_typed s r (Return at e) = refl
+  statement_typed s r (Labelled at l a) = statement_typed s r a
+  statement_typed s r (Switch at e cases) = λ i. (k : CInt) × WellTyped s e × (type_of e ≡ Int (promoted k)) × cases_typed s (in_switch r) (promoted k) cases i
+
+  cases_typed : (s : Sight) (r : Around) (k : CInt) (cases : Cases) → CasesTyped s r k (unranged_cases cases) ≡ CasesTyped s r k cases
+  cases_typed s r k NoCase = refl
+  cases_typed s r k (AnotherCase at v items rest) = λ i. WhereAny (IsCaseValue k) v × items_typed s r items i × cases_typed s r k rest i
 
   else_typed : (s : Sight) (r : Around) (b : ElsePart) → ElseTyped s r (unranged_else b) ≡ ElseTyped s r b
   else_typed s r NoElse = refl
@@ -61,6 +84,12 @@ mutual
   statement_noted s (Break at) = refl
   statement_noted s (Continue at) = refl
   statement_noted s (Return at e) = refl
+  statement_noted s (Labelled at l a) = statement_noted s a
+  statement_noted s (Switch at e cases) = cases_noted s cases
+
+  cases_noted : (s : Sight) (cases : Cases) → CasesNoted s (unranged_cases cases) ≡ CasesNoted s cases
+  cases_noted s NoCase = refl
+  cases_noted s (AnotherCase at v items rest) = λ i. items_noted s items i × cases_noted s rest i
 
   else_noted : (s : Sight) (b : ElsePart) → ElseNoted s (unranged_else b) ≡ ElseNoted s b
   else_noted s NoElse = refl
@@ -90,6 +119,12 @@ module _ (P : Expression → Type 0) where
     each_in (Break at) = refl
     each_in (Continue at) = refl
     each_in (Return at e) = refl
+    each_in (Labelled at l a) = each_in a
+    each_in (Switch at e cases) = λ i. P e × each_in_cases cases i
+
+    each_in_cases : (cases : Cases) → EachInCases P (unranged_cases cases) ≡ EachInCases P cases
+    each_in_cases NoCase = refl
+    each_in_cases (AnotherCase at v items rest) = λ i. each_in_items items i × each_in_cases rest i
 
     each_in_else : (b : ElsePart) → EachInElse P (unranged_else b) ≡ EachInElse P b
     each_in_else NoElse = refl
@@ -116,6 +151,12 @@ mutual
   same_depth (Break at) = refl
   same_depth (Continue at) = refl
   same_depth (Return at e) = refl
+  same_depth (Labelled at l a) = λ i. 1 + same_depth a i
+  same_depth (Switch at e cases) = λ i. 1 + cases_depth cases i
+
+  cases_depth : (cases : Cases) → depth_of_cases (unranged_cases cases) ≡ depth_of_cases cases
+  cases_depth NoCase = refl
+  cases_depth (AnotherCase at v items rest) = λ i. max (items_depth items i) (cases_depth rest i)
 
   else_depth : (b : ElsePart) → depth_of_else (unranged_else b) ≡ depth_of_else b
   else_depth NoElse = refl
@@ -142,6 +183,12 @@ mutual
   same_declared (Break at) = refl
   same_declared (Continue at) = refl
   same_declared (Return at e) = refl
+  same_declared (Labelled at l a) = same_declared a
+  same_declared (Switch at e cases) = cases_declared cases
+
+  cases_declared : (cases : Cases) → declared_in_cases (unranged_cases cases) ≡ declared_in_cases cases
+  cases_declared NoCase = refl
+  cases_declared (AnotherCase at v items rest) = λ i. items_declared items i ++ cases_declared rest i
 
   else_declared : (b : ElsePart) → declared_in_else (unranged_else b) ≡ declared_in_else b
   else_declared NoElse = refl
@@ -179,6 +226,15 @@ mutual
   statement_placed (Break at) = itself
   statement_placed (Continue at) = itself
   statement_placed (Return at e) = itself
+  statement_placed (Labelled at l a) = statement_placed a
+  statement_placed (Switch at e cases) = record { to = λ h. (h.0, (cases_placed cases).to h.1); from = λ h. (h.0, (cases_placed cases).from h.1) }
+
+  cases_placed : (cases : Cases) → Alike (CasesPlaced AreAsserts (unranged_cases cases)) (CasesPlaced AreAsserts cases)
+  cases_placed NoCase = itself
+  cases_placed (AnotherCase at v items rest) = record {
+    to = λ h. (h.0, (items_placed items).to h.1, (cases_placed rest).to h.2);
+    from = λ h. (h.0, (items_placed items).from h.1, (cases_placed rest).from h.2);
+  }
 
   else_placed : (b : ElsePart) → Alike (ElsePlaced AreAsserts (unranged_else b)) (ElsePlaced AreAsserts b)
   else_placed NoElse = itself
@@ -201,6 +257,21 @@ same_births (Then (Declare ds) rest) = λ i. ds ++ same_births rest i
 same_births (Then (Run a) rest) = same_births rest
 same_births (Then (Asserts annots) rest) = same_births rest
 
+-- the same case is chosen
+same_case_of : (z : ℤ) (cases : Cases) → case_of z (unranged_cases cases) ≡ case_of z cases
+same_case_of z NoCase = refl
+same_case_of z (AnotherCase at v items rest) = ap (λ o. if is_case_of z v then Some 0 else option_map suc o) (same_case_of z rest)
+
+same_default_of : (cases : Cases) → default_of (unranged_cases cases) ≡ default_of cases
+same_default_of NoCase = refl
+same_default_of (AnotherCase at None items rest) = refl
+same_default_of (AnotherCase at (Some e) items rest) = ap suc (same_default_of rest)
+
+same_choice : (v : Value) (cases : Cases) → chosen_case v (unranged_cases cases) ≡ chosen_case v cases
+same_choice (Integer z) cases = λ i. elim (same_case_of z cases i) [ None ↦ same_default_of cases i | Some k ↦ k ]
+same_choice (Points p) cases = same_default_of cases
+same_choice NoValue cases = same_default_of cases
+
 module _ (T : Tables) (call : Callee) (n : ℕ) where
   mutual
     pub same_exec : (a : Statement) → exec_with T (unranged_statement a) call n ≡ exec_with T a call n
@@ -208,14 +279,23 @@ module _ (T : Tables) (call : Callee) (n : ℕ) where
     same_exec (Eval at e) = refl
     same_exec (Block at items) = λ i. within (births T.structs (same_births items i) >> items_exec items i)
     same_exec (If at e a b) = λ i. condition_of T e call >>= λ v. choose v (same_exec a i) (else_exec b i)
-    same_exec (While at annots e a) = λ i. turns n (condition_of T e call) (same_exec a i) done
+    same_exec (While at annots e a) = λ i.
+        turns n (same_invariants annots i >> condition_of T e call) (λ again. (same_turn annots (exec_with T (unranged_statement a) call n) done again ∙ ap (λ m. turn_with (variant annots) m done again) (same_exec a)) i)
     same_exec (Do at a e) = λ i. do_turns n (condition_of T e call) (same_exec a i)
     same_exec (For at annots first e behind a) = λ i.
-        within (births T.structs (declared_first first) >> first_with T first call n >> turns n (condition_with T e call) (same_exec a i) (effect_with T behind call))
+        within (births T.structs (declared_first first) >> first_with T first call n >> turns n (same_invariants annots i >> condition_with T e call)
+        (λ again. (same_turn annots (exec_with T (unranged_statement a) call n) (effect_with T behind call) again ∙ ap (λ m. turn_with (variant annots) m (effect_with T behind call) again) (same_exec a)) i))
     same_exec (Break at) = refl
     same_exec (Continue at) = refl
     same_exec (Return at None) = refl
     same_exec (Return at (Some e)) = refl
+    same_exec (Labelled at l a) = ap (λ m. mark (Some l) >> m) (same_exec a)
+    same_exec (Switch at e cases) = λ i. eval_with T e call >>= λ v s. after_switch (cases_exec cases (same_choice v cases i) i s)
+
+    cases_exec : (cases : Cases) (k : ℕ) → cases_with T (unranged_cases cases) call n k ≡ cases_with T cases call n k
+    cases_exec NoCase k = refl
+    cases_exec (AnotherCase at v items rest) zero = λ i. items_exec items i >> cases_exec rest zero i
+    cases_exec (AnotherCase at v items rest) (suc k) = cases_exec rest k
 
     else_exec : (b : ElsePart) → else_with T (unranged_else b) call n ≡ else_with T b call n
     else_exec NoElse = refl

@@ -1,17 +1,24 @@
 -- What is known of annotations doesn't look at their ranges: it is the same without them.
-use Rattle.std.proofs.Common.{◌≡◌, ℕ, suc, ◌+◌, ◌≤◌, List, [], ◌∷◌, None, refl, ap, ◌∙◌, sym, subst}
+use Rattle.std.proofs.Common.{◌≡◌, ℕ, suc, ◌+◌, ◌≤◌, ℤ, List, [], ◌∷◌, length, Option, Some, None, refl, ap, ◌∙◌, sym, subst}
 use Rattle.std.specs.Prelude.{true, false}
 use mathlib.Core.Path.{fun_ext}
-use Rattle.c_syntax.specs.Logic.{LogicTerm, Number, Letter, Variable, Unary, Binary, Cast, Choice, Links, NoLink, Linked}
-use Rattle.c_syntax.specs.Logic.{Predicate, Truth, NonZero, Chain, Not, Connected, Branch, ClauseBody, Raw, Holds, Annotation}
-use Rattle.c_model.specs.State.{State, ◌>>◌}
-use Rattle.c_model.specs.Logic.{Answer, Says, SaysNothing, OutOfSteps, judged}
-use Rattle.c_model.specs.Predicates.{clause, check, checks}
+use Rattle.c_syntax.specs.Logic.{LogicTerm, Number, Letter, Variable, Unary, Binary, Cast, Choice, Named, Links, NoLink, Linked, Predicate, Truth, NonZero}
+use Rattle.c_syntax.specs.Logic.{Chain, Not, Connected, Branch, Quantified, Guards, NoGuard, Guarded, ClauseBody, Raw, Holds, Value, Annotation, At}
+use Rattle.c_syntax.specs.Logic.{Behaviors, Null, Deref, Member, Address, Moved, Difference, Told, Asks, Separated, Zone, Object, Elements, Zones, NoZone}
+use Rattle.c_syntax.specs.Logic.{Another}
+use Rattle.c_model.specs.State.{State, Evaluation, ◌>>=◌, ◌>>◌}
+use Rattle.c_model.specs.Logic.{TermValue, Mathematical, Environment, Answer, Says, SaysNothing, OutOfSteps, judged, Addressed}
+use Rattle.c_model.specs.Predicates.{term, clause, check_in, checks_in, checks, invariant, invariants, variant, variant_in, valued, value_of, is_smaller}
+use Rattle.c_model.specs.Predicates.{compared}
+use Rattle.c_model.specs.Meaning.{after_body, turn_with}
 use Rattle.c_model.specs.ExpressionTyping.{Sight}
 use Rattle.c_model.specs.TypedPredicates.{IsOnInteger, IsCastType, TermTyped, LinksTyped, PredicateTyped, ClauseTyped, AnnotationsTyped}
-use Rattle.c_model.specs.Formed.{nodes_of_term, nodes_of_links, nodes_of_predicate, TermNumbered, LinksNumbered, PredicateNumbered, IsShortPredicate, IsShortClause, IsAssert, AreAsserts}
-use Rattle.c_model.specs.Unranged.{unranged_term, unranged_links, unranged_pred, unranged_clause, unranged_annotations}
-use Rattle.c_model.proofs.RangedTrees.{answer_kept}
+use Rattle.c_model.specs.Formed.{nodes_of_term, nodes_of_links, nodes_of_predicate, nodes_of_guards, TermNumbered, LinksNumbered, PredicateNumbered}
+use Rattle.c_model.specs.Formed.{GuardsNumbered, IsShortPredicate, IsShortClause, IsAssert, AreAsserts, nodes_of_zone, nodes_of_zones, ZoneNumbered}
+use Rattle.c_model.specs.Formed.{ZonesNumbered}
+use Rattle.c_model.specs.Unranged.{unranged_term, unranged_links, unranged_pred, unranged_guards, unranged_clause, unranged_annotations, unranged_zone}
+use Rattle.c_model.specs.Unranged.{unranged_zones}
+use Rattle.c_model.proofs.RangedTrees.{value_kept, answer_kept}
 
 -- ---- types that have the same values
 
@@ -39,6 +46,15 @@ mutual
   term_typed s (Binary at c r op a b) = λ i. (c ≡ None) × term_typed s a i × term_typed s b i
   term_typed s (Cast at c r to a) = λ i. (c ≡ None) × IsCastType to × term_typed s a i
   term_typed s (Choice at c r p a b) = λ i. (c ≡ None) × predicate_typed s p i × term_typed s a i × term_typed s b i
+  term_typed s (Named at c r x) = refl
+  term_typed s (At at c r l a) = refl
+  term_typed s (Null at c r) = refl
+  term_typed s (Deref at c r a) = refl
+  term_typed s (Member at c r d a) = refl
+  term_typed s (Address at c r a) = refl
+  term_typed s (Moved at c r op n a b) = refl
+  term_typed s (Difference at c r n a b) = refl
+  term_typed s (Told at c r f a) = refl
 
   links_typed : (s : Sight) (l : Links) → LinksTyped s (unranged_links l) ≡ LinksTyped s l
   links_typed s NoLink = refl
@@ -51,10 +67,15 @@ mutual
   predicate_typed s (Not at p) = predicate_typed s p
   predicate_typed s (Connected at c p q) = λ i. predicate_typed s p i × predicate_typed s q i
   predicate_typed s (Branch at c p q) = λ i. predicate_typed s c i × predicate_typed s p i × predicate_typed s q i
+  predicate_typed s (Quantified at q gs p) = refl
+  predicate_typed s (Asks at f z) = refl
+  predicate_typed s (Separated at zs) = refl
 
 clause_typed : (s : Sight) (b : ClauseBody) → ClauseTyped s (unranged_clause b) ≡ ClauseTyped s b
 clause_typed s (Raw f) = refl
 clause_typed s (Holds p) = predicate_typed s p
+clause_typed s (Value t) = refl
+clause_typed s (Behaviors names) = refl
 
 pub annotations_typed : (s : Sight) (xs : List Annotation) → AnnotationsTyped s (unranged_annotations xs) ≡ AnnotationsTyped s xs
 annotations_typed s [] = refl
@@ -71,6 +92,23 @@ mutual
   term_nodes (Binary at c r op a b) = λ i. suc (term_nodes a i + term_nodes b i)
   term_nodes (Cast at c r to a) = ap suc (term_nodes a)
   term_nodes (Choice at c r p a b) = λ i. suc (predicate_nodes p i + term_nodes a i + term_nodes b i)
+  term_nodes (Named at c r x) = refl
+  term_nodes (At at c r l a) = term_nodes a
+  term_nodes (Null at c r) = refl
+  term_nodes (Deref at c r a) = ap suc (term_nodes a)
+  term_nodes (Member at c r d a) = ap suc (term_nodes a)
+  term_nodes (Address at c r a) = ap suc (term_nodes a)
+  term_nodes (Moved at c r op n a b) = λ i. suc (term_nodes a i + term_nodes b i)
+  term_nodes (Difference at c r n a b) = λ i. suc (term_nodes a i + term_nodes b i)
+  term_nodes (Told at c r f a) = ap suc (term_nodes a)
+
+  zone_nodes : (z : Zone) → nodes_of_zone (unranged_zone z) ≡ nodes_of_zone z
+  zone_nodes (Object at n m a) = term_nodes a
+  zone_nodes (Elements at n m a lo hi) = λ i. suc (term_nodes a i + term_nodes lo i + term_nodes hi i)
+
+  zones_nodes : (zs : Zones) → nodes_of_zones (unranged_zones zs) ≡ nodes_of_zones zs
+  zones_nodes NoZone = refl
+  zones_nodes (Another z rest) = λ i. suc (zone_nodes z i + zones_nodes rest i)
 
   links_nodes : (l : Links) → nodes_of_links (unranged_links l) ≡ nodes_of_links l
   links_nodes NoLink = refl
@@ -83,6 +121,13 @@ mutual
   predicate_nodes (Not at p) = ap suc (predicate_nodes p)
   predicate_nodes (Connected at c p q) = λ i. suc (predicate_nodes p i + predicate_nodes q i)
   predicate_nodes (Branch at c p q) = λ i. suc (predicate_nodes c i + predicate_nodes p i + predicate_nodes q i)
+  predicate_nodes (Quantified at q gs p) = λ i. suc (guards_nodes gs i + predicate_nodes p i)
+  predicate_nodes (Asks at f z) = ap suc (zone_nodes z)
+  predicate_nodes (Separated at zs) = ap suc (zones_nodes zs)
+
+  guards_nodes : (gs : Guards) → nodes_of_guards (unranged_guards gs) ≡ nodes_of_guards gs
+  guards_nodes NoGuard = refl
+  guards_nodes (Guarded a bs below b rest) = λ i. length bs + term_nodes a i + term_nodes b i + guards_nodes rest i
 
 mutual
   term_numbered : (t : LogicTerm) → TermNumbered (unranged_term t) ≡ TermNumbered t
@@ -93,6 +138,23 @@ mutual
   term_numbered (Binary at c r op a b) = λ i. term_numbered a i × term_numbered b i
   term_numbered (Cast at c r to a) = term_numbered a
   term_numbered (Choice at c r p a b) = λ i. predicate_numbered p i × term_numbered a i × term_numbered b i
+  term_numbered (Named at c r x) = refl
+  term_numbered (At at c r l a) = term_numbered a
+  term_numbered (Null at c r) = refl
+  term_numbered (Deref at c r a) = term_numbered a
+  term_numbered (Member at c r d a) = term_numbered a
+  term_numbered (Address at c r a) = term_numbered a
+  term_numbered (Moved at c r op n a b) = λ i. term_numbered a i × term_numbered b i
+  term_numbered (Difference at c r n a b) = λ i. term_numbered a i × term_numbered b i
+  term_numbered (Told at c r f a) = term_numbered a
+
+  zone_numbered : (z : Zone) → ZoneNumbered (unranged_zone z) ≡ ZoneNumbered z
+  zone_numbered (Object at n m a) = term_numbered a
+  zone_numbered (Elements at n m a lo hi) = λ i. term_numbered a i × term_numbered lo i × term_numbered hi i
+
+  zones_numbered : (zs : Zones) → ZonesNumbered (unranged_zones zs) ≡ ZonesNumbered zs
+  zones_numbered NoZone = refl
+  zones_numbered (Another z rest) = λ i. zone_numbered z i × zones_numbered rest i
 
   links_numbered : (l : Links) → LinksNumbered (unranged_links l) ≡ LinksNumbered l
   links_numbered NoLink = refl
@@ -105,6 +167,13 @@ mutual
   predicate_numbered (Not at p) = predicate_numbered p
   predicate_numbered (Connected at c p q) = λ i. predicate_numbered p i × predicate_numbered q i
   predicate_numbered (Branch at c p q) = λ i. predicate_numbered c i × predicate_numbered p i × predicate_numbered q i
+  predicate_numbered (Quantified at q gs p) = λ i. guards_numbered gs i × predicate_numbered p i
+  predicate_numbered (Asks at f z) = zone_numbered z
+  predicate_numbered (Separated at zs) = zones_numbered zs
+
+  guards_numbered : (gs : Guards) → GuardsNumbered (unranged_guards gs) ≡ GuardsNumbered gs
+  guards_numbered NoGuard = refl
+  guards_numbered (Guarded a bs below b rest) = λ i. term_numbered a i × term_numbered b i × guards_numbered rest i
 
 predicate_short : (p : Predicate) → Alike (IsShortPredicate (unranged_pred p)) (IsShortPredicate p)
 predicate_short p = record {
@@ -115,6 +184,11 @@ predicate_short p = record {
 clause_short : (b : ClauseBody) → Alike (IsShortClause (unranged_clause b)) (IsShortClause b)
 clause_short (Raw f) = itself
 clause_short (Holds p) = predicate_short p
+clause_short (Value t) = record {
+  to = λ h. ((alike (term_numbered t)).to h.0, subst (λ n. n ≤ 400) (term_nodes t) h.1);
+  from = λ h. ((alike (term_numbered t)).from h.0, subst (λ n. n ≤ 400) (sym (term_nodes t)) h.1);
+}
+clause_short (Behaviors names) = itself
 
 is_assert : (a : Annotation) → Alike (IsAssert (record a { body = unranged_clause a.body })) (IsAssert a)
 is_assert a = record {
@@ -138,13 +212,54 @@ same_judged a b (Says false n) s = refl
 same_judged a b (SaysNothing n) s = refl
 same_judged a b OutOfSteps s = refl
 
-same_clause : (b : ClauseBody) (s : State) (n : ℕ) → clause (unranged_clause b) s n ≡ clause b s n
-same_clause (Raw f) s n = refl
-same_clause (Holds p) s n = answer_kept p s n
+same_clause : (b : ClauseBody) (s : State) (e : Environment) (n : ℕ) → clause (unranged_clause b) s e n ≡ clause b s e n
+same_clause (Raw f) s e n = refl
+same_clause (Holds p) s e n = answer_kept p s e n
+same_clause (Value t) s e n = refl
+same_clause (Behaviors names) s e n = refl
 
-same_check : (a : Annotation) (s : State) → check (record a { body = unranged_clause a.body }) s ≡ check a s
-same_check a s = same_judged a (unranged_clause a.body) (clause (unranged_clause a.body) s s.steps) s ∙ ap (λ x. judged a x s) (same_clause a.body s s.steps)
+same_check : (e : Environment) (a : Annotation) (s : State) → check_in e (record a { body = unranged_clause a.body }) s ≡ check_in e a s
+same_check e a s = same_judged a (unranged_clause a.body) (clause (unranged_clause a.body) s e s.steps) s ∙ ap (λ x. judged a x s) (same_clause a.body s e s.steps)
+
+pub same_checks_in : (e : Environment) (xs : List Annotation) → checks_in e (unranged_annotations xs) ≡ checks_in e xs
+same_checks_in e [] = refl
+same_checks_in e (a ∷ rest) = λ i. fun_ext (same_check e a) i >> same_checks_in e rest i
 
 pub same_checks : (xs : List Annotation) → checks (unranged_annotations xs) ≡ checks xs
-same_checks [] = refl
-same_checks (a ∷ rest) = λ i. fun_ext (same_check a) i >> same_checks rest i
+same_checks = same_checks_in []
+
+-- ---- annotations of loops
+
+same_invariant : (a : Annotation) (b : ClauseBody) → invariant (record a { body = unranged_clause a.body }) (unranged_clause b) ≡ invariant a b
+same_invariant a (Raw f) = fun_ext (same_check [] a)
+same_invariant a (Holds p) = fun_ext (same_check [] a)
+same_invariant a (Value t) = refl
+same_invariant a (Behaviors names) = fun_ext (same_check [] a)
+
+pub same_invariants : (xs : List Annotation) → invariants (unranged_annotations xs) ≡ invariants xs
+same_invariants [] = refl
+same_invariants (a ∷ rest) = λ i. same_invariant a a.body i >> same_invariants rest i
+
+same_valued : (a : Annotation) (b : ClauseBody) (o : Option TermValue) (s : State) → valued (record a { body = b }) o s ≡ valued a o s
+same_valued a b None s = refl
+same_valued a b (Some (Addressed x)) s = refl
+same_valued a b (Some (Mathematical z)) s = refl
+
+same_value : (a : Annotation) (b : ClauseBody) (t : LogicTerm) (s : State) → value_of (record a { body = b }) (unranged_term t) s ≡ value_of a t s
+same_value a b t s = same_valued a b (term (unranged_term t) s []) s ∙ ap (λ o. valued a o s) (value_kept t s [])
+
+same_compared : (a : Annotation) (b : ClauseBody) (old new : ℤ) (s : State) → compared (record a { body = b }) old new s ≡ compared a old new s
+same_compared a b old new s = same_judged a b (Says (is_smaller old new) s.steps) s
+
+pub same_turn : (xs : List Annotation) (body behind again : Evaluation (Unit {0})) → turn_with (variant (unranged_annotations xs)) body behind again ≡ turn_with (variant xs) body behind again
+same_turn [] body behind again = refl
+same_turn (a ∷ rest) body behind again = by a.body (same_turn rest body behind again)
+  where
+    by : (b : ClauseBody) → turn_with (variant (unranged_annotations rest)) body behind again ≡ turn_with (variant rest) body behind again
+        → turn_with (variant_in (record a { body = unranged_clause a.body }) (unranged_clause b) (variant (unranged_annotations rest))) body behind again ≡ turn_with (variant_in a b (variant rest)) body behind again
+    by (Raw f) h = h
+    by (Holds p) h = h
+    by (Behaviors names) h = h
+    by (Value t) h = λ i.
+        let value = fun_ext (same_value a (unranged_clause a.body) t) i in
+        value >>= λ old. λ s. after_body (body s) (behind >> (value >>= λ new. fun_ext (same_compared a (unranged_clause a.body) old new) i) >> again)

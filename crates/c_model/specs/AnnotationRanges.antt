@@ -1,6 +1,7 @@
 -- Ours: the inference of ranges over the annotations of statements, functions and files. No standard bounds the integers of annotations.
 use Rattle.std.specs.Prelude.{List, [], ◌∷◌, Option, Some, None}
-use Rattle.c_syntax.specs.Statements.{Statement, Empty, Eval, Block, If, While, Do, For, Break, Continue, Return, ElsePart, NoElse, Else}
+use Rattle.c_syntax.specs.Statements.{Statement, Empty, Eval, Block, If, While, Do, For, Break, Continue, Return, Labelled, ElsePart, NoElse, Else, Switch}
+use Rattle.c_syntax.specs.Statements.{Cases, NoCase, AnotherCase}
 use Rattle.c_syntax.specs.Statements.{BlockItem, Declare, Run, Asserts, BlockItems, NoItem, Then}
 use Rattle.c_syntax.specs.Programs.{Function, TranslationUnit}
 use Rattle.c_model.specs.Checked.{Checked, Good, one_part}
@@ -20,6 +21,13 @@ abbrev mutual
   ranged_statement (Break at) = Good (Break at)
   ranged_statement (Continue at) = Good (Continue at)
   ranged_statement (Return at e) = Good (Return at e)
+  ranged_statement (Labelled at l a) = one_part (ranged_statement a) (λ a. Good (Labelled at l a))
+  ranged_statement (Switch at e cases) = one_part (ranged_cases cases) (λ cases. Good (Switch at e cases))
+
+  pub ranged_cases : Cases → Checked Cases
+  ranged_cases NoCase = Good NoCase
+  ranged_cases (AnotherCase at v items rest) =
+      one_part (ranged_items items) (λ items. one_part (ranged_cases rest) (λ rest. Good (AnotherCase at v items rest)))
 
   pub ranged_else : ElsePart → Checked ElsePart
   ranged_else NoElse = Good NoElse

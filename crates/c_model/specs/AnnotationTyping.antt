@@ -1,7 +1,8 @@
 -- The typing of the annotations of statements, functions and files (ACSL 2.4.1), after that of the text's C: each where it stands.
 use Rattle.std.specs.Prelude.{List, [], ◌∷◌, map, Option, Some, cond, nat_lt}
 use Rattle.c_syntax.specs.declared.place.Place.{Place}
-use Rattle.c_syntax.specs.Statements.{Statement, Empty, Eval, Block, If, While, Do, For, Break, Continue, Return, ElsePart, NoElse, Else}
+use Rattle.c_syntax.specs.Statements.{Statement, Empty, Eval, Block, If, While, Do, For, Break, Continue, Return, Labelled, ElsePart, NoElse, Else, Switch}
+use Rattle.c_syntax.specs.Statements.{Cases, NoCase, AnotherCase}
 use Rattle.c_syntax.specs.Statements.{BlockItem, Declare, Run, Asserts, BlockItems, NoItem, Then}
 use Rattle.c_syntax.specs.Programs.{StructType, Function, TranslationUnit}
 use Rattle.c_model.specs.Checked.{Checked, Good, one_part}
@@ -28,6 +29,14 @@ abbrev mutual
   noted_statement s (Break at) = Good (Break at)
   noted_statement s (Continue at) = Good (Continue at)
   noted_statement s (Return at e) = Good (Return at e)
+  noted_statement s (Labelled at l a) = one_part (noted_statement s a) (λ a. Good (Labelled at l a))
+  noted_statement s (Switch at e cases) = one_part (noted_cases s cases) (λ cases. Good (Switch at e cases))
+
+  -- nothing is declared directly in a `switch`
+  pub noted_cases : Sight → Cases → Checked Cases
+  noted_cases s NoCase = Good NoCase
+  noted_cases s (AnotherCase at v items rest) =
+      one_part (noted_items s items) (λ items. one_part (noted_cases s rest) (λ rest. Good (AnotherCase at v items rest)))
 
   pub noted_else : Sight → ElsePart → Checked ElsePart
   noted_else s NoElse = Good NoElse

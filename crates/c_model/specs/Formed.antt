@@ -8,8 +8,10 @@ use Rattle.c_syntax.specs.Expressions.{SizeOfExpr, Text, Index, Dot, Arrow, Comm
 use Rattle.c_syntax.specs.Formulas as formula
 use Rattle.c_syntax.specs.Formulas.{Form, FormLinks}
 use Rattle.c_syntax.specs.Logic as logic
-use Rattle.c_syntax.specs.Logic.{LogicTerm, Predicate, Links, NoLink, Linked, ClauseBody, Raw, Holds, Annotation}
-use Rattle.c_syntax.specs.Statements.{Declaration, Statement, Empty, Eval, Block, If, While, Do, For, Break, Continue, Return, ElsePart}
+use Rattle.c_syntax.specs.Logic.{LogicTerm, Predicate, Links, NoLink, Linked, Guards, NoGuard, Guarded, ClauseBody, Raw, Holds, Annotation, Behaviors, Zone}
+use Rattle.c_syntax.specs.Logic.{Zones}
+use Rattle.c_syntax.specs.Statements.{Declaration, Statement, Empty, Eval, Block, If, While, Do, For, Break, Continue, Return, ElsePart, Labelled, Switch}
+use Rattle.c_syntax.specs.Statements.{Cases, NoCase, AnotherCase}
 use Rattle.c_syntax.specs.Statements.{NoElse, Else, ForFirst, NoFirst, First, BlockItem, Declare, Run, Asserts, BlockItems, NoItem, Then}
 use Rattle.c_syntax.specs.Programs.{Function}
 use Rattle.c_model.specs.Characters.{is_part}
@@ -36,6 +38,12 @@ abbrev mutual
   depth (Break at) = 1
   depth (Continue at) = 1
   depth (Return at e) = 1
+  depth (Labelled at l a) = 1 + depth a
+  depth (Switch at e cases) = 1 + depth_of_cases cases
+
+  pub depth_of_cases : Cases → ℕ
+  depth_of_cases NoCase = 0
+  depth_of_cases (AnotherCase at v items rest) = max (depth_of_items items) (depth_of_cases rest)
 
   pub depth_of_else : ElsePart → ℕ
   depth_of_else NoElse = 0
@@ -91,6 +99,24 @@ abbrev mutual
   nodes_of_term (logic.Binary at t r op a b) = suc (nodes_of_term a + nodes_of_term b)
   nodes_of_term (logic.Cast at t r to a) = suc (nodes_of_term a)
   nodes_of_term (logic.Choice at t r c a b) = suc (nodes_of_predicate c + nodes_of_term a + nodes_of_term b)
+  nodes_of_term (logic.Named at t r x) = 1
+  -- a parameter in an `ensures` is one token
+  nodes_of_term (logic.At at t r l a) = nodes_of_term a
+  nodes_of_term (logic.Null at t r) = 1
+  nodes_of_term (logic.Deref at t r a) = suc (nodes_of_term a)
+  nodes_of_term (logic.Member at t r d a) = suc (nodes_of_term a)
+  nodes_of_term (logic.Address at t r a) = suc (nodes_of_term a)
+  nodes_of_term (logic.Moved at t r op n a b) = suc (nodes_of_term a + nodes_of_term b)
+  nodes_of_term (logic.Difference at t r n a b) = suc (nodes_of_term a + nodes_of_term b)
+  nodes_of_term (logic.Told at t r f a) = suc (nodes_of_term a)
+
+  pub nodes_of_zone : Zone → ℕ
+  nodes_of_zone (logic.Object at n m a) = nodes_of_term a
+  nodes_of_zone (logic.Elements at n m a lo hi) = suc (nodes_of_term a + nodes_of_term lo + nodes_of_term hi)
+
+  pub nodes_of_zones : Zones → ℕ
+  nodes_of_zones logic.NoZone = 0
+  nodes_of_zones (logic.Another z rest) = suc (nodes_of_zone z + nodes_of_zones rest)
 
   pub nodes_of_links : Links → ℕ
   nodes_of_links NoLink = 0
@@ -103,6 +129,14 @@ abbrev mutual
   nodes_of_predicate (logic.Not at p) = suc (nodes_of_predicate p)
   nodes_of_predicate (logic.Connected at c p q) = suc (nodes_of_predicate p + nodes_of_predicate q)
   nodes_of_predicate (logic.Branch at c p q) = suc (nodes_of_predicate c + nodes_of_predicate p + nodes_of_predicate q)
+  nodes_of_predicate (logic.Quantified at q gs p) = suc (nodes_of_guards gs + nodes_of_predicate p)
+  nodes_of_predicate (logic.Asks at f z) = suc (nodes_of_zone z)
+  nodes_of_predicate (logic.Separated at zs) = suc (nodes_of_zones zs)
+
+  -- each binder is one
+  pub nodes_of_guards : Guards → ℕ
+  nodes_of_guards NoGuard = 0
+  nodes_of_guards (Guarded a bs below b rest) = length bs + nodes_of_term a + nodes_of_term b + nodes_of_guards rest
 
 -- a literal, an enumerator or a constant of the library: not below the least value of 64 bits
 pub record IsLogicNumber (z : ℤ) : Type 0 where
@@ -117,6 +151,23 @@ abbrev mutual
   TermNumbered (logic.Binary at t r op a b) = TermNumbered a × TermNumbered b
   TermNumbered (logic.Cast at t r to a) = TermNumbered a
   TermNumbered (logic.Choice at t r c a b) = PredicateNumbered c × TermNumbered a × TermNumbered b
+  TermNumbered (logic.Named at t r x) = Unit {0}
+  TermNumbered (logic.At at t r l a) = TermNumbered a
+  TermNumbered (logic.Null at t r) = Unit {0}
+  TermNumbered (logic.Deref at t r a) = TermNumbered a
+  TermNumbered (logic.Member at t r d a) = TermNumbered a
+  TermNumbered (logic.Address at t r a) = TermNumbered a
+  TermNumbered (logic.Moved at t r op n a b) = TermNumbered a × TermNumbered b
+  TermNumbered (logic.Difference at t r n a b) = TermNumbered a × TermNumbered b
+  TermNumbered (logic.Told at t r f a) = TermNumbered a
+
+  pub ZoneNumbered : Zone → Type 0
+  ZoneNumbered (logic.Object at n m a) = TermNumbered a
+  ZoneNumbered (logic.Elements at n m a lo hi) = TermNumbered a × TermNumbered lo × TermNumbered hi
+
+  pub ZonesNumbered : Zones → Type 0
+  ZonesNumbered logic.NoZone = Unit {0}
+  ZonesNumbered (logic.Another z rest) = ZoneNumbered z × ZonesNumbered rest
 
   pub LinksNumbered : Links → Type 0
   LinksNumbered NoLink = Unit {0}
@@ -129,6 +180,13 @@ abbrev mutual
   PredicateNumbered (logic.Not at p) = PredicateNumbered p
   PredicateNumbered (logic.Connected at c p q) = PredicateNumbered p × PredicateNumbered q
   PredicateNumbered (logic.Branch at c p q) = PredicateNumbered c × PredicateNumbered p × PredicateNumbered q
+  PredicateNumbered (logic.Quantified at q gs p) = GuardsNumbered gs × PredicateNumbered p
+  PredicateNumbered (logic.Asks at f z) = ZoneNumbered z
+  PredicateNumbered (logic.Separated at zs) = ZonesNumbered zs
+
+  pub GuardsNumbered : Guards → Type 0
+  GuardsNumbered NoGuard = Unit {0}
+  GuardsNumbered (Guarded a bs below b rest) = TermNumbered a × TermNumbered b × GuardsNumbered rest
 
 -- a predicate that a clause of at most 400 tokens says
 pub record IsShortPredicate (p : Predicate) : Type 0 where
@@ -138,6 +196,8 @@ pub record IsShortPredicate (p : Predicate) : Type 0 where
 abbrev pub IsShortClause : ClauseBody → Type 0
 IsShortClause (Raw f) = ⊥
 IsShortClause (Holds p) = IsShortPredicate p
+IsShortClause (logic.Value t) = TermNumbered t × (nodes_of_term t ≤ 400)
+IsShortClause (Behaviors names) = ⊥
 
 pub record IsAssert (a : Annotation) : Type 0 where
   pub kind : a.kind ≡ Assert
@@ -194,6 +254,8 @@ pub record IsShortForm (f : Form) : Type 0 where
 abbrev pub IsShortReading : ClauseBody → Type 0
 IsShortReading (Raw f) = IsShortForm f
 IsShortReading (Holds p) = ⊥
+IsShortReading (logic.Value t) = ⊥
+IsShortReading (Behaviors names) = ⊥
 
 pub record IsReadAssert (a : Annotation) : Type 0 where
   pub kind : a.kind ≡ Assert
@@ -232,6 +294,12 @@ abbrev mutual
   declared_within (Break at) = []
   declared_within (Continue at) = []
   declared_within (Return at e) = []
+  declared_within (Labelled at l a) = declared_within a
+  declared_within (Switch at e cases) = declared_in_cases cases
+
+  pub declared_in_cases : Cases → List Declaration
+  declared_in_cases NoCase = []
+  declared_in_cases (AnotherCase at v items rest) = declared_in_items items ++ declared_in_cases rest
 
   pub declared_in_else : ElsePart → List Declaration
   declared_in_else NoElse = []

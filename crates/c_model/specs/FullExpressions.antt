@@ -2,8 +2,9 @@
 use Rattle.std.specs.Prelude.{List, [], ◌∷◌, Option, Some}
 use Rattle.c_syntax.specs.declared.place.Place.{Place}
 use Rattle.c_syntax.specs.Expressions.{Expression}
+use Rattle.c_syntax.specs.Statements.{Switch, Cases, NoCase, AnotherCase}
 use Rattle.c_syntax.specs.Statements.{Initialiser, One, Many, Initialisers, NoInitialiser, Listed, Declaration, Statement, Empty, Eval, Block, If, While, Do}
-use Rattle.c_syntax.specs.Statements.{For, Break, Continue, Return, ElsePart, NoElse, Else, ForFirst, NoFirst, First}
+use Rattle.c_syntax.specs.Statements.{For, Break, Continue, Return, Labelled, ElsePart, NoElse, Else, ForFirst, NoFirst, First}
 use Rattle.c_syntax.specs.Statements.{BlockItem, Declare, Run, Asserts, BlockItems, NoItem, Then}
 use Rattle.c_syntax.specs.Programs.{Function}
 use Rattle.c_model.specs.TypedTrees.{WhereAny}
@@ -37,6 +38,13 @@ module _ (P : Expression → Type 0) where
     EachIn (Break at) = Unit {0}
     EachIn (Continue at) = Unit {0}
     EachIn (Return at e) = WhereAny P e
+    EachIn (Labelled at l a) = EachIn a
+    EachIn (Switch at e cases) = P e × EachInCases cases
+
+    -- what stands behind `case` is a constant, and no full expression (C99 6.8 p4)
+    pub EachInCases : Cases → Type 0
+    EachInCases NoCase = Unit {0}
+    EachInCases (AnotherCase at v items rest) = EachInItems items × EachInCases rest
 
     pub EachInElse : ElsePart → Type 0
     EachInElse NoElse = Unit {0}

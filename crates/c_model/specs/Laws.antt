@@ -15,7 +15,8 @@ use Rattle.c_model.specs.Integers.{fits, is_signed, value_bits, bits_of, value_o
 use Rattle.c_model.specs.Conversions.{is_shift, is_relation}
 use Rattle.c_model.specs.Memory.{Pointer, Into, Value, Integer, Points, Block, Store, block_at, load, save}
 use Rattle.c_model.specs.State.{Input, State, Fault, Outcome, Normal, Stop, Evaluation, ◌>>=◌, ◌>>◌, done, step}
-use Rattle.c_model.specs.Meaning.{choose, after_body, turns, condition_with, effect_with, call_of, tables_of, condition, exec, whole, start, ran}
+use Rattle.c_model.specs.Predicates.{invariants, variant}
+use Rattle.c_model.specs.Meaning.{choose, after_body, turn_with, turns, condition_with, effect_with, call_of, tables_of, condition, exec, whole, start, ran}
 use Rattle.c_model.specs.Meaning.{run, Ran}
 use Rattle.c_model.specs.Reports.{Agrees}
 use Rattle.c_model.specs.AcceptedPrograms.{IsProgram}
@@ -135,7 +136,8 @@ StepsFall = (p : TranslationUnit) (a : Statement) (n : ℕ) (s : State) → s.st
 -- a `while` is one turn and then the loop again (C99 6.8.5.1)
 abbrev pub LoopsTurn : Type 0
 LoopsTurn = (p : TranslationUnit) (at : Place) (annots : List Annotation) (e : Expression) (a : Statement) (n : ℕ) (s : State) → s.steps < n
-    → exec p n (While at annots e a) s ≡ (condition p n e >>= λ v. choose v (step >> λ t. after_body (exec p n a t) (exec p n (While at annots e a))) done) s
+    → exec p n (While at annots e a) s ≡ (invariants annots >> condition p n e >>=
+    λ v. choose v (step >> turn_with (variant annots) (exec p n a) done (exec p n (While at annots e a))) done) s
 
 -- a `do` is a step, its body and its condition, and then the loop again where that isn't 0 (C99 6.8.5.2)
 abbrev pub DoLoopsTurn : Type 0
@@ -143,14 +145,16 @@ DoLoopsTurn = (p : TranslationUnit) (at : Place) (a : Statement) (e : Expression
     → exec p n (Do at a e) s ≡ (step >> λ t. after_body (exec p n a t) (condition p n e >>= λ v. choose v (exec p n (Do at a e)) done)) s
 
 -- the turns of a `for`
-abbrev pub for_turns : TranslationUnit → ℕ → Option Expression → Option Expression → Statement → Evaluation (Unit {0})
-for_turns p n e behind a = turns n (condition_with (tables_of p) e (call_of p n)) (exec p n a) (effect_with (tables_of p) behind (call_of p n))
+abbrev pub for_turns : TranslationUnit → ℕ → List Annotation → Option Expression → Option Expression → Statement → Evaluation (Unit {0})
+for_turns p n annots e behind a =
+    turns n (invariants annots >> condition_with (tables_of p) e (call_of p n))
+    (turn_with (variant annots) (exec p n a) (effect_with (tables_of p) behind (call_of p n)))
 
 -- they are one turn, what stands after the body, and then the turns again (C99 6.8.5.3)
 abbrev pub ForLoopsTurn : Type 0
-ForLoopsTurn = (p : TranslationUnit) (e behind : Option Expression) (a : Statement) (n : ℕ) (s : State) → s.steps < n
-    → for_turns p n e behind a s ≡ (condition_with (tables_of p) e (call_of p n) >>=
-    λ v. choose v (step >> λ t. after_body (exec p n a t) (effect_with (tables_of p) behind (call_of p n) >> for_turns p n e behind a)) done) s
+ForLoopsTurn = (p : TranslationUnit) (annots : List Annotation) (e behind : Option Expression) (a : Statement) (n : ℕ) (s : State) → s.steps < n
+    → for_turns p n annots e behind a s ≡ (invariants annots >> condition_with (tables_of p) e (call_of p n) >>=
+    λ v. choose v (step >> turn_with (variant annots) (exec p n a) (effect_with (tables_of p) behind (call_of p n)) (for_turns p n annots e behind a)) done) s
 
 -- a run is the same with any number of turns above its steps
 abbrev pub RunsNeedNoFuel : Type 0

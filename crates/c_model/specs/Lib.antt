@@ -2,9 +2,14 @@ pub mod Operators
 pub mod Integers
 pub mod Conversions
 pub mod Memory
+pub mod MemoryQuestions
+pub mod Together
 pub mod State
 pub mod Logic
+pub mod Quantifiers
 pub mod Predicates
+pub mod BasicTerms
+pub mod ContractChecks
 pub mod Meaning
 pub mod Statuses
 pub mod Reports

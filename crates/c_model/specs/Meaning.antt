@@ -15,10 +15,12 @@ use Rattle.c_syntax.specs.declared.types.BlockKind.TheVariants as block
 use Rattle.c_syntax.specs.Ctypes.{PlainType, Int, Ptr, Array, int_type}
 use Rattle.c_syntax.specs.Expressions.{Expression, Node, Number, Letter, Variable, Unary, Binary, Both, Either, Choice, Assign, Bump, Call, Cast, SizeOfType}
 use Rattle.c_syntax.specs.Expressions.{SizeOfExpr, Text, Index, Dot, Arrow, Comma, Expressions, NoExpression, Following, place_of, type_of}
+use Rattle.c_syntax.specs.Statements.{Switch, Cases, NoCase, AnotherCase}
 use Rattle.c_syntax.specs.Statements.{Initialiser, One, Many, Initialisers, NoInitialiser, Listed, Declaration, Statement, Empty, Eval, Block, If, While}
-use Rattle.c_syntax.specs.Statements.{Do, For, Break, Continue, Return, ElsePart, NoElse, Else, ForFirst, NoFirst, First, BlockItem, Declare, Run, Asserts}
+use Rattle.c_syntax.specs.Statements.{Do, For, Break, Continue, Return, Labelled, ElsePart, NoElse, Else, ForFirst, NoFirst, First, BlockItem, Declare, Run}
+use Rattle.c_syntax.specs.Statements.{Asserts}
 use Rattle.c_syntax.specs.Statements.{BlockItems, NoItem, Then}
-use Rattle.c_syntax.specs.Programs.{StructType, Function, TranslationUnit}
+use Rattle.c_syntax.specs.Programs.{StructType, FunctionContract, Function, TranslationUnit}
 use Rattle.c_syntax.specs.declared.types.CInt.TheVariants.{U64}
 use Rattle.c_syntax.specs.Layouts.{Scalar, IntegerType, PointerType, scalar_size, scalar_of, size_of, target_of, offset_of, parts_of, scalars_of}
 use Rattle.c_model.specs.Integers.{bits_of, convert, integer_type, truth, operate, operate_one, byte_of}
@@ -29,8 +31,11 @@ use Rattle.c_model.specs.Memory.{Block as MemoryBlock, block_of, Store, freed, m
 use Rattle.c_model.specs.State.{Scope, Input, State, Breaks, Continues, Returns, Final, Exits, Undefined, Fault, Spent, Leaves, Over, Outcome, Normal}
 use Rattle.c_model.specs.State.{Stop, Evaluation, ◌>>=◌, ◌>>◌, give, done, stop, defined, step, print, read_byte, computed, as_scalar, find, object, read}
 use Rattle.c_model.specs.State.{read_any, changed, write, write_bytes, copy_object, allocate, tested, write_youngest, birth, births, alone, frame, mark, within}
+use Rattle.c_model.specs.State.{called}
 use Rattle.c_model.specs.Library.{is_there}
-use Rattle.c_model.specs.Predicates.{checks}
+use Rattle.c_syntax.specs.Logic.{LogicTerm, Annotation}
+use Rattle.c_model.specs.Predicates.{checks, invariants, variant, value_of, compared}
+use Rattle.c_model.specs.ContractChecks.{entry, ending}
 
 -- a declaration of a function with its body (C99 6.9.1)
 abbrev pub is_definition : Function → Bool
@@ -332,17 +337,55 @@ after_body (Stop (Leaves Breaks) s) again = Normal tt s
 after_body (Stop (Leaves (Returns v)) s) again = Stop (Leaves (Returns v)) s
 after_body (Stop (Over e) s) again = Stop (Over e) s
 
--- at most n turns of a `while` or a `for`: the condition, a step, the body, and what stands after it (C99 6.8.5.1, 6.8.5.3)
-abbrev pub turns : ℕ → Evaluation Value → Evaluation (Unit {0}) → Evaluation (Unit {0}) → Evaluation (Unit {0})
-turns zero test body behind = stop (Over Spent)
-turns (suc n) test body behind = do
+-- a turn behind its step, and what comes after it: the variant is kept, the body, what stands behind that, and the variant is compared
+abbrev pub turn_with : Option (Annotation × LogicTerm) → Evaluation (Unit {0}) → Evaluation (Unit {0}) → Evaluation (Unit {0}) → Evaluation (Unit {0})
+turn_with None body behind again = λ s. after_body (body s) (behind >> again)
+turn_with (Some v) body behind again =
+    value_of v.0 v.1 >>= λ old. λ s. after_body (body s) (behind >> (value_of v.0 v.1 >>= compared v.0 old) >> again)
+
+-- at most n turns of a `while` or a `for`: the condition, a step, and a turn (C99 6.8.5.1, 6.8.5.3)
+abbrev pub turns : ℕ → Evaluation Value → (Evaluation (Unit {0}) → Evaluation (Unit {0})) → Evaluation (Unit {0})
+turns zero test turn = stop (Over Spent)
+turns (suc n) test turn = do
   v ← test
-  choose v (step >> λ s. after_body (body s) (behind >> turns n test body behind)) done
+  choose v (step >> turn (turns n test turn)) done
 
 -- at most n turns of a `do`: a step, the body, the condition (C99 6.8.5.2)
 abbrev pub do_turns : ℕ → Evaluation Value → Evaluation (Unit {0}) → Evaluation (Unit {0})
 do_turns zero test body = stop (Over Spent)
 do_turns (suc n) test body = step >> λ s. after_body (body s) (test >>= λ v. choose v (do_turns n test body) done)
+
+-- ---- `switch` (C99 6.8.4.2)
+
+-- whether a case has this value
+abbrev pub is_case_of : ℤ → Option Expression → Bool
+is_case_of z (Some (Node at t (Number n k))) = int_eq n z
+is_case_of z _ = false
+
+-- the index of the case with this value
+abbrev pub case_of : ℤ → Cases → Option ℕ
+case_of z NoCase = None
+case_of z (AnotherCase at v items rest) = if is_case_of z v then Some 0 else option_map suc (case_of z rest)
+
+-- that of the default, or else the number of cases
+abbrev pub default_of : Cases → ℕ
+default_of NoCase = 0
+default_of (AnotherCase at None items rest) = 0
+default_of (AnotherCase at (Some e) items rest) = suc (default_of rest)
+
+-- the index of the first case that is executed
+abbrev pub chosen_case : Value → Cases → ℕ
+chosen_case (Integer z) cases = elim (case_of z cases) [ None ↦ default_of cases | Some k ↦ k ]
+chosen_case (Points p) cases = default_of cases
+chosen_case NoValue cases = default_of cases
+
+-- a `break` ends it, and no other jump
+abbrev pub after_switch : Outcome (Unit {0}) → Outcome (Unit {0})
+after_switch (Normal u s) = Normal u s
+after_switch (Stop (Leaves Breaks) s) = Normal tt s
+after_switch (Stop (Leaves Continues) s) = Stop (Leaves Continues) s
+after_switch (Stop (Leaves (Returns v)) s) = Stop (Leaves (Returns v)) s
+after_switch (Stop (Over e) s) = Stop (Over e) s
 
 -- the declarations that stand directly in a block
 abbrev pub declared_in : BlockItems → List Declaration
@@ -457,6 +500,15 @@ returned_by f (Stop (Leaves (Returns None)) s) = Normal NoValue s
 returned_by f (Stop (Leaves (Returns (Some v))) s) = Normal v s
 returned_by f (Stop (Over e) s) = Stop (Over e) s
 
+-- the demands on what main gives, which is 0 at its closing brace (C99 5.1.2.2.3)
+abbrev pub after_main : Option FunctionContract → List Bool → Outcome (Unit {0}) → Outcome (Unit {0})
+after_main c hs (Normal u s) = ending c hs (Integer (pos 0)) s
+after_main c hs (Stop (Leaves Breaks) s) = Stop (Leaves Breaks) s
+after_main c hs (Stop (Leaves Continues) s) = Stop (Leaves Continues) s
+after_main c hs (Stop (Leaves (Returns None)) s) = (ending c hs NoValue >> stop (Leaves (Returns None))) s
+after_main c hs (Stop (Leaves (Returns (Some v))) s) = (ending c hs v >> stop (Leaves (Returns (Some v)))) s
+after_main c hs (Stop (Over e) s) = Stop (Over e) s
+
 module _ (T : Tables) where
   abbrev pub fill_one : Place → PlainType → Pointer → Option ℕ → Evaluation Value → Evaluation (Unit {0})
   fill_one at t p (Some n) v = write_each at p (padded (size_of T.structs t) (text_at T.texts n))
@@ -503,17 +555,29 @@ module _ (T : Tables) where
     exec_with (If at e a b) call n = do
       v ← condition_of T e call
       choose v (exec_with a call n) (else_with b call n)
-    exec_with (While at annots e a) call n = turns n (condition_of T e call) (exec_with a call n) done
+    exec_with (While at annots e a) call n =
+        turns n (invariants annots >> condition_of T e call) (turn_with (variant annots) (exec_with a call n) done)
     exec_with (Do at a e) call n = do_turns n (condition_of T e call) (exec_with a call n)
     exec_with (For at annots first e behind a) call n =
-        within (births T.structs (declared_first first) >> first_with first call n >> turns n (condition_with e call) (exec_with a call n)
-        (effect_with behind call))
+        within (births T.structs (declared_first first) >> first_with first call n >> turns n (invariants annots >> condition_with e call)
+        (turn_with (variant annots) (exec_with a call n) (effect_with behind call)))
     exec_with (Break at) call n = stop (Leaves Breaks)
     exec_with (Continue at) call n = stop (Leaves Continues)
     exec_with (Return at None) call n = stop (Leaves (Returns None))
     exec_with (Return at (Some e)) call n = do
       v ← eval_with T e call
       stop (Leaves (Returns (Some v)))
+    -- a label is passed, and then its statement is executed (C99 6.8.1)
+    exec_with (Labelled at l a) call n = mark (Some l) >> exec_with a call n
+    exec_with (Switch at e cases) call n = do
+      v ← eval_with T e call
+      λ s. after_switch (cases_with cases call n (chosen_case v cases) s)
+
+    -- the items of all cases but the first k
+    pub cases_with : Cases → Callee → ℕ → ℕ → Evaluation (Unit {0})
+    cases_with NoCase call n k = done
+    cases_with (AnotherCase at v items rest) call n zero = items_with items call n >> cases_with rest call n zero
+    cases_with (AnotherCase at v items rest) call n (suc k) = cases_with rest call n k
 
     pub else_with : ElsePart → Callee → ℕ → Evaluation (Unit {0})
     else_with NoElse call n = done
@@ -543,16 +607,22 @@ module _ (T : Tables) where
   body_with None call n = stop (Over Fault)
   body_with (Some a) call n = exec_with a call n
 
-  -- a call of a function with these values: a step, a frame, the parameters, the mark `Pre`, the body (C99 6.5.2.2)
+  -- what a call gives, where these behaviors hold: the body, and then the demands on its value
+  abbrev pub result_with : Function → List Bool → Callee → ℕ → Evaluation Value
+  result_with f hs call n = (λ s. returned_by f (body_with f.body call n s)) >>= λ v. ending f.contract hs v >> give v
+
+  -- A call of a function with these values: a step, a frame, the parameters, the mark `Pre`, what the contract asks at the beginning, the body,
+  -- and what it asks at the end (C99 6.5.2.2, ACSL 2.3.2).
   abbrev pub call_with : Scope → Option Function → Callee → ℕ → Place → List Value → Evaluation Value
   call_with globals None call n at vs = stop (Over (Undefined at))
   call_with globals (Some f) call n at vs =
-      step >> within (frame >> alone globals >> parameters at f.params vs >> mark None >> λ s. returned_by f (body_with f.body call n s))
+      step >> called (frame >> alone globals >> parameters at f.params vs >> mark None >> (entry f.contract >>= λ hs. result_with f hs call n))
 
-  -- a call of main: the frame, the parameters, the mark `Pre`, the body
+  -- A call of main: the same without a step and arguments.
   abbrev pub main_with : Option Function → Callee → ℕ → Evaluation (Unit {0})
   main_with None call n = stop (Over Fault)
-  main_with (Some f) call n = within (frame >> births T.structs f.params >> mark None >> body_with f.body call n)
+  main_with (Some f) call n =
+      called (frame >> births T.structs f.params >> mark None >> (entry f.contract >>= λ hs s. after_main f.contract hs (body_with f.body call n s)))
 
 -- ---- whole programs
 

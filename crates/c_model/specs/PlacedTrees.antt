@@ -1,6 +1,7 @@
 -- Trees of a text: the number of each declaration is its offset in the text, and so it is none that stands for the library.
 use Rattle.std.specs.Prelude.{◌≡◌, ℕ, nat_eq, false, if◌then◌else◌, List, [], ◌∷◌, Option, Some, None}
-use Rattle.c_syntax.specs.Statements.{Declaration, Statement, Empty, Eval, Block, If, While, Do, For, Break, Continue, Return, ElsePart, NoElse, Else}
+use Rattle.c_syntax.specs.Statements.{Declaration, Statement, Empty, Eval, Block, If, While, Do, For, Break, Continue, Return, Labelled, ElsePart, NoElse}
+use Rattle.c_syntax.specs.Statements.{Else, Switch, Cases, NoCase, AnotherCase}
 use Rattle.c_syntax.specs.Statements.{ForFirst, NoFirst, First, BlockItem, Declare, Run, Asserts, BlockItems, NoItem, Then}
 use Rattle.c_syntax.specs.Programs.{Function}
 use Rattle.c_model.specs.ExpressionTyping.{is_among}
@@ -25,6 +26,12 @@ abbrev mutual
   StatementPlaced (Break at) = Unit {0}
   StatementPlaced (Continue at) = Unit {0}
   StatementPlaced (Return at e) = Unit {0}
+  StatementPlaced (Labelled at l a) = StatementPlaced a
+  StatementPlaced (Switch at e cases) = CasesPlaced cases
+
+  pub CasesPlaced : Cases → Type 0
+  CasesPlaced NoCase = Unit {0}
+  CasesPlaced (AnotherCase at v items rest) = ItemsPlaced items × CasesPlaced rest
 
   pub ElsePlaced : ElsePart → Type 0
   ElsePlaced NoElse = Unit {0}

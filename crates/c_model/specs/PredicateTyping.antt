@@ -12,8 +12,9 @@ use Rattle.c_syntax.specs.declared.logic.Connective.{Connective}
 use Rattle.c_syntax.specs.Ctypes.{PlainType}
 use Rattle.c_syntax.specs.Formulas as read
 use Rattle.c_syntax.specs.Formulas.{CastType, Integers, OfC, Form, FormLinks}
-use Rattle.c_syntax.specs.Logic.{LogicTerm, Number, Letter, Variable, Unary, Binary, Cast, Choice, Links, NoLink, Linked}
-use Rattle.c_syntax.specs.Logic.{Predicate, Truth, NonZero, Chain, Not, Connected, Branch, ClauseBody, Raw, Holds, Annotation}
+use Rattle.c_syntax.specs.Logic.{LogicTerm, Number, Letter, Variable, Unary, Binary, Cast, Choice, Named, Links, NoLink, Linked, Predicate, Truth, NonZero}
+use Rattle.c_syntax.specs.Logic.{Chain, Not, Connected, Branch, ClauseBody, Raw, Holds, Value, Annotation, At, Behaviors, Null, Deref, Member, Address, Moved}
+use Rattle.c_syntax.specs.Logic.{Difference, Told}
 use Rattle.c_syntax.specs.Layouts.{size_of}
 use Rattle.c_model.specs.Integers.{integer_type}
 use Rattle.c_model.specs.Library.{library_constant, is_there}
@@ -39,6 +40,15 @@ place_of (Unary at t r op a) = at
 place_of (Binary at t r op a b) = at
 place_of (Cast at t r to a) = at
 place_of (Choice at t r c a b) = at
+place_of (Named at t r x) = at
+place_of (At at t r l a) = at
+place_of (Null at t r) = at
+place_of (Deref at t r a) = at
+place_of (Member at t r d a) = at
+place_of (Address at t r a) = at
+place_of (Moved at t r op n a b) = at
+place_of (Difference at t r n a b) = at
+place_of (Told at t r f a) = at
 
 -- ---- what a form demands of its parts, which have no fault
 
@@ -146,6 +156,8 @@ abbrev mutual
 abbrev pub typed_clause : Sight → ClauseBody → Checked ClauseBody
 typed_clause s (Raw f) = one_part (typed s f) (λ a. Good (Holds (as_predicate a)))
 typed_clause s (Holds p) = Good (Holds p)
+typed_clause s (Value t) = Good (Value t)
+typed_clause s (Behaviors names) = Good (Behaviors names)
 
 abbrev pub typed_annotations : Sight → List Annotation → Checked (List Annotation)
 typed_annotations s [] = Good []

@@ -79,6 +79,8 @@ abbrev mutual
   is_open (statement.Break at) = false
   is_open (statement.Continue at) = false
   is_open (statement.Return at e) = false
+  is_open (statement.Labelled at l a) = is_open a
+  is_open (statement.Switch at e cases) = false
 
   pub is_open_else : ElsePart → Bool
   is_open_else NoElse = true

@@ -1,5 +1,6 @@
 -- States of a run, how it ends, and how evaluations go on from one another (C99 5.1.2.3, 6.2.1, 6.8.6).
-use Rattle.std.specs.Prelude.{ℕ, zero, suc, ◌+◌, ◌%◌, ℤ, pos, negsuc, cond, nat_eq, nat_lt, List, [], ◌∷◌, ◌++◌, length, replicate, Option, Some, None}
+use Rattle.std.specs.Prelude.{ℕ, zero, suc, ◌+◌, ◌%◌, ℤ, pos, negsuc, Bool, true, false, cond, nat_eq, nat_lt, List, [], ◌∷◌, ◌++◌, length, replicate, Option}
+use Rattle.std.specs.Prelude.{Some, None}
 use Rattle.c_syntax.specs.declared.place.Place.{Place}
 use Rattle.c_syntax.specs.declared.annotation.Kind.{Kind}
 use Rattle.c_syntax.specs.declared.types.How.{How}
@@ -16,6 +17,13 @@ use Rattle.c_model.specs.Memory.{kill_from, standard_sizes, full_at_stack_birth,
 -- the number of the block of each declaration in sight, the innermost first (C99 6.2.1)
 abbrev pub Scope : Type 0
 Scope = List (ℕ × ℕ)
+
+-- whether two labels are one
+abbrev pub same_label : Option ℕ → Option ℕ → Bool
+same_label None None = true
+same_label None (Some y) = false
+same_label (Some x) None = false
+same_label (Some x) (Some y) = nat_eq x y
 
 -- what a label of annotations stands for (ACSL 2.4.3): the scope and the store at its last passage in this call; no name is `Pre`
 pub record Mark : Type 0 where
@@ -210,18 +218,35 @@ alone globals = λ s. Normal tt (record s { scope = globals; marks = [] })
 abbrev pub frame : Evaluation (Unit {0})
 frame = λ s. cond (nat_lt s.calls most_frames) (Normal tt (record s { calls = s.calls + 1 })) (Stop (Over (Full Frames)) s)
 
+-- the last passage of a label in this call
+abbrev pub mark_of : Option ℕ → List Mark → Option Mark
+mark_of label [] = None
+mark_of label (m ∷ ms) = cond (same_label label m.label) (Some m) (mark_of label ms)
+
 -- a passage of a label
 abbrev pub mark : Option ℕ → Evaluation (Unit {0})
 mark label = λ s. Normal tt (record s { marks = record { label = label; scope = s.scope; store = s.store } ∷ s.marks })
 
--- the state after a block or a call: what was born inside is dead, and the names, marks and calls from before are back
+-- the state after a block: what was born inside is dead, and the names from before are back; labels that were passed inside stay passed
 abbrev pub back_to : State → State → State
-back_to old s = record s { store = kill_from (length old.store) s.store; scope = old.scope; marks = old.marks; calls = old.calls }
+back_to old s = record s { store = kill_from (length old.store) s.store; scope = old.scope; calls = old.calls }
+
+-- the state after a call, whose marks are gone with it
+abbrev pub back_from_call : State → State → State
+back_from_call old s = record (back_to old s) { marks = old.marks }
 
 abbrev pub restored : {A : Type 0} → State → Outcome A → Outcome A
 restored old (Normal a s) = Normal a (back_to old s)
 restored old (Stop e s) = Stop e (back_to old s)
 
--- a block or a call, whichever way it is left
+abbrev pub answered : {A : Type 0} → State → Outcome A → Outcome A
+answered old (Normal a s) = Normal a (back_from_call old s)
+answered old (Stop e s) = Stop e (back_from_call old s)
+
+-- a block, whichever way it is left
 abbrev pub within : {A : Type 0} → Evaluation A → Evaluation A
 within m = λ s. restored s (m s)
+
+-- a call, whichever way it is left
+abbrev pub called : {A : Type 0} → Evaluation A → Evaluation A
+called m = λ s. answered s (m s)

@@ -1,21 +1,31 @@
 -- The typing of declarations in blocks and of statements (C99 6.2.1, 6.7, 6.8): the typed tree, or the faults of its smallest faulty parts.
-use Rattle.std.specs.Prelude.{Bool, true, not, ◌&&◌, List, [], ◌∷◌, Option, Some, None}
+use Rattle.std.specs.Prelude.{ℤ, Bool, true, false, not, ◌&&◌, ◌||◌, List, [], ◌∷◌, Option, Some, None}
+use Rattle.std.specs.Ordering.{int_eq}
 use Rattle.c_syntax.specs.declared.place.Place.{Place}
-use Rattle.c_syntax.specs.Ctypes.{PlainType}
-use Rattle.c_syntax.specs.Expressions.{Expression, place_of, type_of}
-use Rattle.c_syntax.specs.Statements.{Declaration, Statement, Empty, Eval, Block, If, While, Do, For, Break, Continue, Return, ElsePart, NoElse, Else}
+use Rattle.c_syntax.specs.Ctypes.{PlainType, Int}
+use Rattle.c_syntax.specs.Expressions.{Expression, place_of, type_of, Node, Number}
+use Rattle.c_syntax.specs.Statements.{Declaration, Statement, Empty, Eval, Block, If, While, Do, For, Break, Continue, Return, Labelled, ElsePart, NoElse}
+use Rattle.c_syntax.specs.Statements.{Else, Switch, Cases, NoCase, AnotherCase}
+use Rattle.c_syntax.specs.declared.types.CInt.{CInt}
 use Rattle.c_syntax.specs.Statements.{ForFirst, NoFirst, First, BlockItem, Declare, Run, Asserts, BlockItems, NoItem, Then}
-use Rattle.c_model.specs.Checked.{Checked, Good, one_part, where_so}
-use Rattle.c_model.specs.ExpressionTyping.{no_type, Sight, with_object, with_objects, inner, is_void, is_scalar, in_type, is_assigned, decayed_of, typed}
+use Rattle.c_model.specs.Checked.{Checked, Good, one_part, given, where_so}
+use Rattle.c_model.specs.Integers.{convert, integer_type}
+use Rattle.c_model.specs.Conversions.{promoted}
+use Rattle.c_model.specs.ExpressionTyping.{no_type, Sight, with_object, with_objects, inner, is_void, is_scalar, in_type, in_int, is_assigned, constant}
+use Rattle.c_model.specs.ExpressionTyping.{decayed_of, typed}
 use Rattle.c_model.specs.DeclarationTyping.{typed_variable}
 
--- where a statement stands: what its function gives, and whether it is inside a loop
+-- where a statement stands: what its function gives, whether `break` leaves something there, and whether it is inside a loop
 pub record Around : Type 0 where
   pub result : PlainType
+  pub breaks : Bool
   pub loops : Bool
 
 abbrev pub in_loop : Around → Around
-in_loop r = record r { loops = true }
+in_loop r = record r { breaks = true; loops = true }
+
+abbrev pub in_switch : Around → Around
+in_switch r = record r { breaks = true }
 
 -- what is in sight after an item
 abbrev pub behind : Sight → BlockItem → Sight
@@ -45,6 +55,25 @@ abbrev pub returned : Sight → Place → PlainType → Option Expression → Ch
 returned s at t None = where_so (is_void t) (no_type at) (Good (Return at None))
 returned s at t (Some e) = where_so (not (is_void t) && is_assigned s e t) (no_type at) (Good (Return at (Some (in_type t e))))
 
+-- ---- what stands behind `switch` and `case` (C99 6.8.4.2)
+
+-- an integer, which is promoted
+abbrev pub controlling : Expression → Checked (CInt × Expression)
+controlling e = given (integer_type (type_of e)) (no_type (place_of e)) (λ k. Good (promoted k, in_int (promoted k) e))
+
+abbrev pub is_used : ℤ → List ℤ → Bool
+is_used z [] = false
+is_used z (x ∷ xs) = int_eq z x || is_used z xs
+
+-- a constant, converted to the type, which no case before has
+abbrev pub case_value : Sight → CInt → List ℤ → Expression → Checked ℤ
+case_value s k used e =
+    one_part (decayed_of (typed s e)) (λ x. given (constant s x) (no_type (place_of e)) (λ z.
+    where_so (not (is_used (convert k z) used)) (no_type (place_of e)) (Good (convert k z))))
+
+abbrev pub case_number : CInt → Place → ℤ → Expression
+case_number k at z = Node at (Int k) (Number z (Some k))
+
 -- declarations, each in sight behind its declarator
 abbrev pub typed_declarations : Sight → List Declaration → Checked (List Declaration)
 typed_declarations s [] = Good []
@@ -67,9 +96,23 @@ abbrev mutual
       let s = behind_first (inner s) first in
       one_part (typed_maybe (typed_condition s) e) (λ e. one_part (typed_maybe (typed s) step) (λ step.
       one_part (typed_statement s (in_loop r) a) (λ a. Good (For at annots first e step a)))))
-  typed_statement s r (Break at) = where_so r.loops (no_type at) (Good (Break at))
+  typed_statement s r (Break at) = where_so r.breaks (no_type at) (Good (Break at))
   typed_statement s r (Continue at) = where_so r.loops (no_type at) (Good (Continue at))
   typed_statement s r (Return at e) = one_part (typed_maybe (λ e. decayed_of (typed s e)) e) (returned s at r.result)
+  typed_statement s r (Labelled at l a) = one_part (typed_statement s r a) (λ a. Good (Labelled at l a))
+  typed_statement s r (Switch at e cases) =
+      one_part (one_part (decayed_of (typed s e)) controlling) (λ x.
+      one_part (typed_cases s (in_switch r) x.0 [] false cases) (λ cases. Good (Switch at x.1 cases)))
+
+  -- cases of the type, after those of these values and perhaps a `default`
+  pub typed_cases : Sight → Around → CInt → List ℤ → Bool → Cases → Checked Cases
+  typed_cases s r k used has_default NoCase = Good NoCase
+  typed_cases s r k used has_default (AnotherCase at None items rest) =
+      where_so (not has_default) (no_type at) (one_part (typed_items s r items) (λ items.
+      one_part (typed_cases s r k used true rest) (λ rest. Good (AnotherCase at None items rest))))
+  typed_cases s r k used has_default (AnotherCase at (Some e) items rest) =
+      one_part (case_value s k used e) (λ z. one_part (typed_items s r items) (λ items.
+      one_part (typed_cases s r k (z ∷ used) has_default rest) (λ rest. Good (AnotherCase at (Some (case_number k (place_of e) z)) items rest))))
 
   pub typed_else : Sight → Around → ElsePart → Checked ElsePart
   typed_else s r NoElse = Good NoElse

@@ -1,6 +1,7 @@
 -- What is known of the annotations of a typed file (ACSL 2.4.1): each is typed with what is in sight where it stands.
 use Rattle.std.specs.Prelude.{◌≡◌, List, [], ◌∷◌, Option, Some}
-use Rattle.c_syntax.specs.Statements.{Statement, Empty, Eval, Block, If, While, Do, For, Break, Continue, Return, ElsePart, NoElse, Else}
+use Rattle.c_syntax.specs.Statements.{Statement, Empty, Eval, Block, If, While, Do, For, Break, Continue, Return, Labelled, ElsePart, NoElse, Else, Switch}
+use Rattle.c_syntax.specs.Statements.{Cases, NoCase, AnotherCase}
 use Rattle.c_syntax.specs.Statements.{BlockItem, Declare, Run, Asserts, BlockItems, NoItem, Then}
 use Rattle.c_syntax.specs.Programs.{Function, TranslationUnit}
 use Rattle.c_model.specs.ExpressionTyping.{Sight, inner}
@@ -22,6 +23,12 @@ abbrev mutual
   StatementNoted s (Break at) = Unit {0}
   StatementNoted s (Continue at) = Unit {0}
   StatementNoted s (Return at e) = Unit {0}
+  StatementNoted s (Labelled at l a) = StatementNoted s a
+  StatementNoted s (Switch at e cases) = CasesNoted s cases
+
+  pub CasesNoted : Sight → Cases → Type 0
+  CasesNoted s NoCase = Unit {0}
+  CasesNoted s (AnotherCase at v items rest) = ItemsNoted s items × CasesNoted s rest
 
   pub ElseNoted : Sight → ElsePart → Type 0
   ElseNoted s NoElse = Unit {0}

@@ -6,8 +6,9 @@ use Rattle.c_syntax.specs.declared.expression.UnOp.{UnOp}
 use Rattle.c_syntax.specs.declared.expression.UnOp.TheVariants as unary
 use Rattle.c_syntax.specs.Ctypes.{PlainType}
 use Rattle.c_syntax.specs.Formulas.{CastType, Integers, OfC}
-use Rattle.c_syntax.specs.Logic.{LogicTerm, Number, Letter, Variable, Unary, Binary, Cast, Choice, Links, NoLink, Linked}
-use Rattle.c_syntax.specs.Logic.{Predicate, Truth, NonZero, Chain, Not, Connected, Branch, ClauseBody, Raw, Holds, Annotation}
+use Rattle.c_syntax.specs.Logic.{LogicTerm, Number, Letter, Variable, Unary, Binary, Cast, Choice, Named, Links, NoLink, Linked, Predicate, Truth, NonZero}
+use Rattle.c_syntax.specs.Logic.{Chain, Not, Connected, Branch, Quantified, ClauseBody, Raw, Holds, Value, Annotation, At}
+use Rattle.c_syntax.specs.Logic.{Behaviors, Null, Deref, Member, Address, Moved, Difference, Told, Asks, Separated}
 use Rattle.c_model.specs.Checked.{Good}
 use Rattle.c_model.specs.ExpressionTyping.{Sight}
 use Rattle.c_model.specs.PredicateTyping.{typed_annotations}
@@ -42,6 +43,15 @@ abbrev mutual
   TermTyped s (Binary at t r op a b) = (t ≡ None) × TermTyped s a × TermTyped s b
   TermTyped s (Cast at t r to a) = (t ≡ None) × IsCastType to × TermTyped s a
   TermTyped s (Choice at t r c a b) = (t ≡ None) × PredicateTyped s c × TermTyped s a × TermTyped s b
+  TermTyped s (Named at t r x) = ⊥
+  TermTyped s (At at t r l a) = ⊥
+  TermTyped s (Null at t r) = ⊥
+  TermTyped s (Deref at t r a) = ⊥
+  TermTyped s (Member at t r d a) = ⊥
+  TermTyped s (Address at t r a) = ⊥
+  TermTyped s (Moved at t r op n a b) = ⊥
+  TermTyped s (Difference at t r n a b) = ⊥
+  TermTyped s (Told at t r f a) = ⊥
 
   pub LinksTyped : Sight → Links → Type 0
   LinksTyped s NoLink = Unit {0}
@@ -54,11 +64,16 @@ abbrev mutual
   PredicateTyped s (Not at p) = PredicateTyped s p
   PredicateTyped s (Connected at c p q) = PredicateTyped s p × PredicateTyped s q
   PredicateTyped s (Branch at c p q) = PredicateTyped s c × PredicateTyped s p × PredicateTyped s q
+  PredicateTyped s (Quantified at q gs p) = ⊥
+  PredicateTyped s (Asks at f z) = ⊥
+  PredicateTyped s (Separated at zs) = ⊥
 
 -- a clause that is read isn't typed yet
 abbrev pub ClauseTyped : Sight → ClauseBody → Type 0
 ClauseTyped s (Raw f) = ⊥
 ClauseTyped s (Holds p) = PredicateTyped s p
+ClauseTyped s (Value t) = ⊥
+ClauseTyped s (Behaviors names) = ⊥
 
 abbrev pub AnnotationsTyped : Sight → List Annotation → Type 0
 AnnotationsTyped s [] = Unit {0}
@@ -70,6 +85,8 @@ AnnotationsTyped s (a ∷ rest) = ClauseTyped s a.body × AnnotationsTyped s res
 abbrev pub IsRead : ClauseBody → Type 0
 IsRead (Raw f) = Unit {0}
 IsRead (Holds p) = ⊥
+IsRead (Value t) = ⊥
+IsRead (Behaviors names) = ⊥
 
 abbrev pub AreRead : List Annotation → Type 0
 AreRead [] = Unit {0}

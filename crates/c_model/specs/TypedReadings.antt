@@ -1,10 +1,14 @@
 -- The law that typing changes nothing of declarations, statements and functions (C99 6.7, 6.8, 6.9) but types, casts and constants, as it
 -- does in expressions; braces around a string literal that fills an array are taken off (C99 6.7.8 p14).
-use Rattle.std.specs.Prelude.{◌≡◌, List, [], ◌∷◌, Option, Some, None}
+use Rattle.std.specs.Prelude.{◌≡◌, ℤ, List, [], ◌∷◌, Option, Some, None}
 use Rattle.c_syntax.specs.declared.place.Place.{Place}
-use Rattle.c_syntax.specs.Expressions.{Expression}
+use Rattle.c_syntax.specs.declared.types.CInt.{CInt}
+use Rattle.c_syntax.specs.Ctypes.{Int}
+use Rattle.c_syntax.specs.Expressions.{Expression, Node, Number, place_of}
+use Rattle.c_syntax.specs.Statements.{Switch, Cases, NoCase, AnotherCase}
 use Rattle.c_syntax.specs.Statements.{Initialiser, One, Many, Initialisers, NoInitialiser, Listed, Declaration, Statement, Empty, Eval, Block, If, While, Do}
-use Rattle.c_syntax.specs.Statements.{For, Break, Continue, Return, ElsePart, NoElse, Else, ForFirst, NoFirst, First, BlockItem, Declare, Run, Asserts}
+use Rattle.c_syntax.specs.Statements.{For, Break, Continue, Return, Labelled, ElsePart, NoElse, Else, ForFirst, NoFirst, First, BlockItem, Declare, Run}
+use Rattle.c_syntax.specs.Statements.{Asserts}
 use Rattle.c_syntax.specs.Statements.{BlockItems, NoItem, Then}
 use Rattle.c_syntax.specs.Programs.{EnumConstant, EnumType, Function}
 use Rattle.c_model.specs.TypedTrees.{TypedAs}
@@ -76,6 +80,11 @@ pub record EnumTypedAs (e f : EnumType) : Type 0 where
 
 -- ---- statements
 
+-- what is behind `case`, and the number of a type that typing puts in its place
+abbrev pub ValueTypedAs : Option Expression → Option Expression → Type 0
+ValueTypedAs None x = x ≡ None
+ValueTypedAs (Some e) x = (k : CInt) × (z : ℤ) × (x ≡ Some (Node (place_of e) (Int k) (Number z (Some k))))
+
 abbrev mutual
   pub StatementTypedAs : Statement → Statement → Type 0
   StatementTypedAs (Empty at) b = b ≡ Empty at
@@ -91,6 +100,15 @@ abbrev mutual
   StatementTypedAs (Break at) b = b ≡ Break at
   StatementTypedAs (Continue at) b = b ≡ Continue at
   StatementTypedAs (Return at e) b = (x : Option Expression) × (b ≡ Return at x) × MaybeTypedAs e x
+  StatementTypedAs (Labelled at l a) b = (y : Statement) × (b ≡ Labelled at l y) × StatementTypedAs a y
+  StatementTypedAs (Switch at e cases) b = (x : Expression) × (cs : Cases) × (b ≡ Switch at x cs) × TypedAs e x × CasesTypedAs cases cs
+
+  -- a number stands in place of what is behind `case`
+  pub CasesTypedAs : Cases → Cases → Type 0
+  CasesTypedAs NoCase cs = cs ≡ NoCase
+  CasesTypedAs (AnotherCase at v items rest) cs =
+      (x : Option Expression) × (js : BlockItems) × (ds : Cases) × (cs ≡ AnotherCase at x js ds) × ValueTypedAs v x × ItemsTypedAs items js
+      × CasesTypedAs rest ds
 
   pub ElseTypedAs : ElsePart → ElsePart → Type 0
   ElseTypedAs NoElse b = b ≡ NoElse

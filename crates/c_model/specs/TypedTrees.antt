@@ -14,8 +14,10 @@ use Rattle.c_syntax.specs.Ctypes.{PlainType, Void, Int, Ptr, Array, Struct, Plai
 use Rattle.c_syntax.specs.Expressions.{Expression, Node, ExpressionKind, Number, Letter, Text, Variable, Unary, Binary, Both, Either, Choice}
 use Rattle.c_syntax.specs.Expressions.{Assign, Bump, Call}
 use Rattle.c_syntax.specs.Expressions.{Cast, SizeOfType, SizeOfExpr, Index, Dot, Arrow, Comma, Expressions, NoExpression, Following, place_of, type_of}
+use Rattle.c_syntax.specs.Statements.{Switch, Cases, NoCase, AnotherCase}
 use Rattle.c_syntax.specs.Statements.{Initialiser, One, Many, Initialisers, NoInitialiser, Listed, Declaration, Statement, Empty, Eval, Block, If, While, Do}
-use Rattle.c_syntax.specs.Statements.{For, Break, Continue, Return, ElsePart, NoElse, Else, ForFirst, NoFirst, First, BlockItem, Declare, Run, Asserts}
+use Rattle.c_syntax.specs.Statements.{For, Break, Continue, Return, Labelled, ElsePart, NoElse, Else, ForFirst, NoFirst, First, BlockItem, Declare, Run}
+use Rattle.c_syntax.specs.Statements.{Asserts}
 use Rattle.c_syntax.specs.Statements.{BlockItems, NoItem, Then}
 use Rattle.c_syntax.specs.Programs.{StructMember, StringLiteral, Function}
 use Rattle.c_syntax.specs.Layouts.{Scalar, scalar_of, size_of, members_of, member_among}
@@ -29,7 +31,7 @@ use Rattle.c_model.specs.ExpressionTyping.{with_object}
 use Rattle.c_model.specs.ExpressionTyping.{inner, declared_here, is_character, Enumerator, AnEnumerator, use_as, typed}
 use Rattle.c_model.specs.Checked.{Good}
 use Rattle.c_model.specs.UnitTyping.{with_parameter, with_parameters}
-use Rattle.c_model.specs.StatementTyping.{Around, in_loop, behind, behind_first}
+use Rattle.c_model.specs.StatementTyping.{Around, in_loop, in_switch, behind, behind_first}
 
 -- ---- types
 
@@ -272,6 +274,11 @@ AreDeclared s (d ∷ ds) = IsDeclared s d × AreDeclared (with_object s d) ds
 
 -- ---- statements (C99 6.8)
 
+-- a number of the type of what is behind `switch` (C99 6.8.4.2 p5)
+abbrev pub IsCaseValue : CInt → Expression → Type 0
+IsCaseValue k (Node at t (Number z (Some l))) = (t ≡ Int k) × (l ≡ k) × (fits k z ≡ true)
+IsCaseValue k _ = ⊥
+
 -- what a function returns (C99 6.8.6.4)
 abbrev pub Returned : Sight → PlainType → Option Expression → Type 0
 Returned s t None = t ≡ Void
@@ -288,9 +295,15 @@ abbrev mutual
   StatementTyped s r (For at annots first e step a) =
       FirstTyped (inner s) r first × WhereAny (IsCondition (behind_first (inner s) first)) e × WhereAny (WellTyped (behind_first (inner s) first)) step
       × StatementTyped (behind_first (inner s) first) (in_loop r) a
-  StatementTyped s r (Break at) = r.loops ≡ true
+  StatementTyped s r (Break at) = r.breaks ≡ true
   StatementTyped s r (Continue at) = r.loops ≡ true
   StatementTyped s r (Return at e) = Returned s r.result e
+  StatementTyped s r (Labelled at l a) = StatementTyped s r a
+  StatementTyped s r (Switch at e cases) = (k : CInt) × WellTyped s e × (type_of e ≡ Int (promoted k)) × CasesTyped s (in_switch r) (promoted k) cases
+
+  pub CasesTyped : Sight → Around → CInt → Cases → Type 0
+  CasesTyped s r k NoCase = Unit {0}
+  CasesTyped s r k (AnotherCase at v items rest) = WhereAny (IsCaseValue k) v × ItemsTyped s r items × CasesTyped s r k rest
 
   pub ElseTyped : Sight → Around → ElsePart → Type 0
   ElseTyped s r NoElse = Unit {0}
@@ -322,7 +335,7 @@ AreParameters s [] = Unit {0}
 AreParameters s (d ∷ ds) = IsParameter s d × AreParameters (with_parameter s d) ds
 
 abbrev pub around_body : PlainType → Around
-around_body t = record { result = t; loops = false }
+around_body t = record { result = t; breaks = false; loops = false }
 
 -- a body is a block, whose scope is that of the parameters (C99 6.2.1 p4)
 abbrev pub BodyTyped : Sight → PlainType → Option Statement → Type 0

@@ -181,7 +181,8 @@ typed_heading s before f =
 
 -- a body is a block, whose scope is that of the parameters (C99 6.2.1 p4)
 abbrev pub typed_body : Sight → PlainType → Option Statement → Checked (Option Statement)
-typed_body s t (Some (Block at items)) = one_part (typed_items s (record { result = t; loops = false }) items) (λ items. Good (Some (Block at items)))
+typed_body s t (Some (Block at items)) = one_part (typed_items s (record { result = t; breaks = false; loops = false }) items)
+    (λ items. Good (Some (Block at items)))
 typed_body s t b = Good b
 
 -- a function is in sight in its own body

@@ -1,7 +1,8 @@
 -- Ours: the inference of ranges changes nothing of a program but the ranges of its annotations.
 -- Statements, functions and files (C99 6.8, 6.9) without those ranges.
 use Rattle.std.specs.Prelude.{◌≡◌, ℕ, List, [], ◌∷◌, map, Option, Some, None, option_map}
-use Rattle.c_syntax.specs.Statements.{Statement, Empty, Eval, Block, If, While, Do, For, Break, Continue, Return, ElsePart, NoElse, Else}
+use Rattle.c_syntax.specs.Statements.{Statement, Empty, Eval, Block, If, While, Do, For, Break, Continue, Return, Labelled, ElsePart, NoElse, Else, Switch}
+use Rattle.c_syntax.specs.Statements.{Cases, NoCase, AnotherCase}
 use Rattle.c_syntax.specs.Statements.{BlockItem, Declare, Run, Asserts, BlockItems, NoItem, Then}
 use Rattle.c_syntax.specs.Programs.{Function, TranslationUnit}
 use Rattle.c_model.specs.Checked.{Good}
@@ -23,6 +24,12 @@ abbrev mutual
   unranged_statement (Break at) = Break at
   unranged_statement (Continue at) = Continue at
   unranged_statement (Return at e) = Return at e
+  unranged_statement (Labelled at l a) = Labelled at l (unranged_statement a)
+  unranged_statement (Switch at e cases) = Switch at e (unranged_cases cases)
+
+  pub unranged_cases : Cases → Cases
+  unranged_cases NoCase = NoCase
+  unranged_cases (AnotherCase at v items rest) = AnotherCase at v (unranged_items items) (unranged_cases rest)
 
   pub unranged_else : ElsePart → ElsePart
   unranged_else NoElse = NoElse
@@ -57,6 +64,12 @@ abbrev mutual
   StatementRanged (Break at) = Unit {0}
   StatementRanged (Continue at) = Unit {0}
   StatementRanged (Return at e) = Unit {0}
+  StatementRanged (Labelled at l a) = StatementRanged a
+  StatementRanged (Switch at e cases) = CasesRanged cases
+
+  pub CasesRanged : Cases → Type 0
+  CasesRanged NoCase = Unit {0}
+  CasesRanged (AnotherCase at v items rest) = ItemsRanged items × CasesRanged rest
 
   pub ElseRanged : ElsePart → Type 0
   ElseRanged NoElse = Unit {0}

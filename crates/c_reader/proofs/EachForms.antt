@@ -3,10 +3,11 @@ use Rattle.std.proofs.Common.{List, [], ◌∷◌, Option, Some, None}
 use Rattle.c_syntax.specs.declared.place.Place.{Place}
 use Rattle.c_syntax.specs.Expressions.{Expression}
 use Rattle.c_syntax.specs.Statements.{Initialiser, One, Many, Initialisers, NoInitialiser, Listed, Declaration, Statement, Empty, Eval, Block, If, While, Do}
+use Rattle.c_syntax.specs.Statements.{Labelled, Switch, Cases, NoCase, AnotherCase}
 use Rattle.c_syntax.specs.Statements.{For, Break, Continue, Return, ElsePart, NoElse, Else, ForFirst, NoFirst, First, BlockItem, Declare, Run, Asserts, BlockItems, NoItem, Then}
 use Rattle.c_syntax.specs.Programs.{Function}
 use Rattle.c_model.specs.TypedTrees.{WhereAny}
-use Rattle.c_model.specs.FullExpressions.{EachInitial, EachPart, EachDeclared, EachIn, EachInElse, EachInFirst, EachInItem, EachInItems, EachInBody, EachInFunctions}
+use Rattle.c_model.specs.FullExpressions.{EachInitial, EachPart, EachDeclared, EachIn, EachInCases, EachInElse, EachInFirst, EachInItem, EachInItems, EachInBody, EachInFunctions}
 
 module _ (P Q : Expression → Type 0) (follows : (e : Expression) → P e → Q e) where
   mutual
@@ -42,6 +43,12 @@ module _ (P Q : Expression → Type 0) (follows : (e : Expression) → P e → Q
     statement_follows (Break at) h = tt
     statement_follows (Continue at) h = tt
     statement_follows (Return at e) h = any_follows e h
+    statement_follows (Labelled at l a) h = statement_follows a h
+    statement_follows (Switch at e cases) h = (follows e h.0, cases_follow cases h.1)
+
+    cases_follow : (cases : Cases) → EachInCases P cases → EachInCases Q cases
+    cases_follow NoCase h = tt
+    cases_follow (AnotherCase at v items rest) h = (items_follow items h.0, cases_follow rest h.1)
 
     else_follows : (b : ElsePart) → EachInElse P b → EachInElse Q b
     else_follows NoElse h = tt
@@ -71,6 +78,8 @@ module _ (P Q : Expression → Type 0) (follows : (e : Expression) → P e → Q
   body_follows (Some (Break at)) h = tt
   body_follows (Some (Continue at)) h = tt
   body_follows (Some (Return at e)) h = tt
+  body_follows (Some (Labelled at l a)) h = tt
+  body_follows (Some (Switch at e cases)) h = tt
   body_follows None h = tt
 
   pub functions_follow : (fs : List Function) → EachInFunctions P fs → EachInFunctions Q fs

@@ -3,10 +3,10 @@ use Rattle.std.proofs.Common.{◌≡◌, ℕ, suc, ◌<◌, Bool, true, false, n
 use Rattle.std.specs.List.{AllByRecursion}
 use Rattle.std.proofs.lemmas.Bool.{eqb-true}
 use Rattle.c_syntax.specs.Statements.{Declaration, Statement, Empty, Eval, Block, If, While, Do, For, Break, Continue, Return, ElsePart, NoElse, Else}
-use Rattle.c_syntax.specs.Statements.{ForFirst, NoFirst, First, BlockItem, Declare, Run, Asserts, BlockItems, NoItem, Then}
+use Rattle.c_syntax.specs.Statements.{Labelled, Switch, Cases, NoCase, AnotherCase, ForFirst, NoFirst, First, BlockItem, Declare, Run, Asserts, BlockItems, NoItem, Then}
 use Rattle.c_syntax.specs.Programs.{Function}
-use Rattle.c_model.specs.Formed.{number_of, numbers_of, declared_within, declared_in_else, declared_in_first, declared_in_item, declared_in_items, declared_in_body}
-use Rattle.c_model.specs.PlacedTrees.{IsOffset, ArePlaced, StatementPlaced, ElsePlaced, FirstPlaced, ItemPlaced, ItemsPlaced, BodyPlaced, ParametersPlaced, FunctionPlaced}
+use Rattle.c_model.specs.Formed.{number_of, numbers_of, declared_within, declared_in_cases, declared_in_else, declared_in_first, declared_in_item, declared_in_items, declared_in_body}
+use Rattle.c_model.specs.PlacedTrees.{IsOffset, ArePlaced, StatementPlaced, CasesPlaced, ElsePlaced, FirstPlaced, ItemPlaced, ItemsPlaced, BodyPlaced, ParametersPlaced, FunctionPlaced}
 use Rattle.c_model.specs.ReadTree.{Between}
 use Rattle.c_reader.proofs.ItemOrder.{between_on}
 use Rattle.c_reader.proofs.ParameterForms.{HasNoInitialiser}
@@ -52,6 +52,13 @@ mutual
   statement_placed (Break at) h = tt
   statement_placed (Continue at) h = tt
   statement_placed (Return at e) h = tt
+  statement_placed (Labelled at l a) h = statement_placed a h
+  statement_placed (Switch at e cases) h = cases_placed cases h
+
+  cases_placed : (cases : Cases) → AreBelow (declared_in_cases cases) → CasesPlaced cases
+  cases_placed NoCase h = tt
+  cases_placed (AnotherCase at v items rest) h =
+      (items_placed items (below_front (declared_in_items items) (declared_in_cases rest) h), cases_placed rest (below_back (declared_in_items items) (declared_in_cases rest) h))
 
   else_placed : (b : ElsePart) → AreBelow (declared_in_else b) → ElsePlaced b
   else_placed NoElse h = tt

@@ -1,5 +1,5 @@
 -- The plain form of annotations (ACSL 2.2, 2.3): their variants, numbers, places and parts, without boxes.
-use Rattle.std.specs.Prelude.{ℕ, ℤ, Bool, Option, option_map}
+use Rattle.std.specs.Prelude.{ℕ, ℤ, Bool, Option, option_map, List}
 use Rattle.c_syntax.specs.declared.place.Place.{Place}
 use Rattle.c_syntax.specs.declared.expression.Use.{Use}
 use Rattle.c_syntax.specs.declared.expression.BinOp.{BinOp}
@@ -11,7 +11,12 @@ use Rattle.c_syntax.specs.declared.logic.Annot.{Annot}
 use Rattle.c_syntax.specs.declared.logic.Body.{Body}
 use Rattle.c_syntax.specs.declared.logic.Body.TheVariants as body
 use Rattle.c_syntax.specs.declared.logic.Connective.{Connective}
+use Rattle.c_syntax.specs.declared.logic.BlockFact.{BlockFact}
+use Rattle.c_syntax.specs.declared.logic.Label.{Label}
 use Rattle.c_syntax.specs.declared.logic.Links as code_links
+use Rattle.c_syntax.specs.declared.logic.Quantifier.{Quantifier}
+use Rattle.c_syntax.specs.declared.logic.MemoryQuestion.{MemoryQuestion}
+use Rattle.c_syntax.specs.declared.logic.PointerOp.{PointerOp}
 use Rattle.c_syntax.specs.declared.logic.Pred.{Pred}
 use Rattle.c_syntax.specs.declared.logic.PredKind.{PredKind}
 use Rattle.c_syntax.specs.declared.logic.PredKind as pred
@@ -20,6 +25,12 @@ use Rattle.c_syntax.specs.declared.logic.TermKind.{TermKind}
 use Rattle.c_syntax.specs.declared.logic.TermKind as term
 use Rattle.c_syntax.specs.Ctypes.{PlainType, plain_type}
 use Rattle.c_syntax.specs.Formulas.{CastType, plain_cast_type, Form, plain_form}
+
+-- a binder with its place, whose offset is its number, the type whose values it tries, and whether it stands behind a `<`
+pub record Binder : Type 0 where
+  pub place : Place
+  pub kind : CastType
+  pub above : Bool
 
 mutual
   -- each with its place, its C type where it reads a place, and its range
@@ -31,6 +42,19 @@ mutual
     Binary : Place → Option PlainType → Range → BinOp → LogicTerm → LogicTerm → LogicTerm
     Cast : Place → Option PlainType → Range → CastType → LogicTerm → LogicTerm
     Choice : Place → Option PlainType → Range → Predicate → LogicTerm → LogicTerm → LogicTerm
+    -- a name that annotations give a meaning of their own: a binder, or `\result`, whose number is 4294967294
+    Named : Place → Option PlainType → Range → Use → LogicTerm
+    -- `\at(term, label)` and `\old(term)`; also a parameter in an `ensures`, which is read at the beginning of the call
+    At : Place → Option PlainType → Range → Label → LogicTerm → LogicTerm
+    Null : Place → Option PlainType → Range → LogicTerm
+    -- the place that a pointer points to, and the one at an offset in another place
+    Deref : Place → Option PlainType → Range → LogicTerm → LogicTerm
+    Member : Place → Option PlainType → Range → ℕ → LogicTerm → LogicTerm
+    Address : Place → Option PlainType → Range → LogicTerm → LogicTerm
+    -- a pointer so many elements of a size farther, and the distance of two in them
+    Moved : Place → Option PlainType → Range → PointerOp → ℕ → LogicTerm → LogicTerm → LogicTerm
+    Difference : Place → Option PlainType → Range → ℕ → LogicTerm → LogicTerm → LogicTerm
+    Told : Place → Option PlainType → Range → BlockFact → LogicTerm → LogicTerm
 
   -- the relations of a chain, each with its place and the term after it
   pub data Links : Type 0 where
@@ -44,10 +68,31 @@ mutual
     Not : Place → Predicate → Predicate
     Connected : Place → Connective → Predicate → Predicate → Predicate
     Branch : Place → Predicate → Predicate → Predicate → Predicate
+    Quantified : Place → Quantifier → Guards → Predicate → Predicate
+    Asks : Place → MemoryQuestion → Zone → Predicate
+    Separated : Place → Zones → Predicate
+
+  -- the chains of a guard: a lower bound, binders, whether `<` stands before the upper bound, and that
+  pub data Guards : Type 0 where
+    NoGuard : Guards
+    Guarded : LogicTerm → List Binder → Bool → LogicTerm → Guards → Guards
+
+  -- bytes, each with its place, and with the size and the alignment of what its pointer points to
+  pub data Zone : Type 0 where
+    Object : Place → ℕ → ℕ → LogicTerm → Zone
+    Elements : Place → ℕ → ℕ → LogicTerm → LogicTerm → LogicTerm → Zone
+
+  pub data Zones : Type 0 where
+    NoZone : Zones
+    Another : Zone → Zones → Zones
 
 pub data ClauseBody : Type 0 where
   Raw : Form → ClauseBody
   Holds : Predicate → ClauseBody
+  -- the value of a variant
+  Value : LogicTerm → ClauseBody
+  -- the behaviors that `complete` and `disjoint` name, each at its place; none are all of them
+  Behaviors : List (Place × ℕ) → ClauseBody
 
 pub record Annotation : Type 0 where
   pub number : ℕ
@@ -64,6 +109,15 @@ range_of (Unary at t r op a) = r
 range_of (Binary at t r op a b) = r
 range_of (Cast at t r to a) = r
 range_of (Choice at t r c a b) = r
+range_of (Named at t r x) = r
+range_of (At at t r l a) = r
+range_of (Null at t r) = r
+range_of (Deref at t r a) = r
+range_of (Member at t r d a) = r
+range_of (Address at t r a) = r
+range_of (Moved at t r op n a b) = r
+range_of (Difference at t r n a b) = r
+range_of (Told at t r f a) = r
 
 abbrev mutual
   pub plain_term_kind : Place → TermKind → Option PlainType → Range → LogicTerm

@@ -43,6 +43,14 @@ mutual
     Break : Place → Statement
     Continue : Place → Statement
     Return : Place → Option Expression → Statement
+    -- a label, by the number of its name
+    Labelled : Place → ℕ → Statement → Statement
+    Switch : Place → Expression → Cases → Statement
+
+  -- the cases of a `switch`, each at its word, with its value, or none for `default`, and its items
+  pub data Cases : Type 0 where
+    NoCase : Cases
+    AnotherCase : Place → Option Expression → BlockItems → Cases → Cases
 
   pub data ElsePart : Type 0 where
     NoElse : ElsePart

@@ -22,8 +22,8 @@ pub use annotation::{Kind, Range, Relation};
 pub use expression::{BinOp, BumpOp, Expr, ExprKind, UnOp, Use};
 pub use fault::{Limit, ReadFault};
 pub use logic::{
-    Annot, Body, Connective, Formula, FormulaKind, FormulaLinks, Links, LogicType, Pred, PredKind,
-    Term, TermKind,
+    Annot, BlockFact, Body, Connective, Formula, FormulaKind, FormulaLinks, Label, Links,
+    LogicType, MemoryQuestion, PointerOp, Pred, PredKind, Quantifier, Term, TermKind,
 };
 pub use name::Name;
 pub use place::Place;

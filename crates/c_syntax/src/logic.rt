@@ -32,6 +32,57 @@ pub enum Connective {
     Iff,
 }
 
+/// How a pointer moves by so many elements (C99 6.5.6 p8).
+#[derive(Clone, Copy, PartialEq, Eq, Debug)]
+pub enum PointerOp {
+    /// `p + i`
+    Plus,
+    /// `p - i`
+    Minus,
+}
+
+/// What is told of the block that a pointer is inside (ACSL 2.7).
+#[derive(Clone, Copy, PartialEq, Eq, Debug)]
+pub enum BlockFact {
+    /// `\base_addr`
+    BaseAddr,
+    /// `\block_length`
+    BlockLength,
+    /// `\offset`
+    Offset,
+}
+
+/// What is asked about the bytes of a zone (ACSL 2.7).
+#[derive(Clone, Copy, PartialEq, Eq, Debug)]
+pub enum MemoryQuestion {
+    /// `\valid`
+    Valid,
+    /// `\valid_read`
+    ValidRead,
+    /// `\initialized`
+    Initialized,
+}
+
+/// Where a term is evaluated (ACSL 2.4.3).
+#[derive(Clone, Copy, PartialEq, Eq, Debug)]
+pub enum Label {
+    /// Where its annotation stands; `Post` is this one.
+    Here,
+    /// At the beginning of the call; `Old` is this one.
+    Pre,
+    /// At the last passage of a label of C, by the number of its name.
+    Marked(u32),
+}
+
+/// A quantifier (ACSL 2.2).
+#[derive(Clone, Copy, PartialEq, Eq, Debug)]
+pub enum Quantifier {
+    /// `\forall`
+    ForAll,
+    /// `\exists`
+    Exists,
+}
+
 /// A form of annotations as it is read. Typing tells terms from predicates.
 #[derive(Drop)]
 #[cycle(formula)]

@@ -2,7 +2,7 @@
 use Rattle.std.proofs.Common.{◌≡◌, ℕ, refl, sym, ap, ◌∙◌, subst, List, [], ◌∷◌, ◌++◌, map, Option, Some, None, true, cond, nat_eq, ◌||◌, Result, Ok, Err}
 use Rattle.std.proofs.lemmas.List.{map-append}
 use Rattle.c_syntax.specs.Ctypes.{PlainType}
-use Rattle.c_syntax.specs.Statements.{Statement, BlockItems, Empty, Eval, Block, If, While, Do, For, Break, Continue, Return}
+use Rattle.c_syntax.specs.Statements.{Statement, BlockItems, Empty, Eval, Block, If, While, Do, For, Break, Continue, Return, Labelled, Switch}
 use Rattle.c_syntax.specs.Programs.{Function, TranslationUnit}
 use Rattle.c_model.specs.Library.{is_there}
 use Rattle.c_model.specs.Checked.{Checked, Good, Bad, one_part, both_parts, where_so}
@@ -63,6 +63,8 @@ body_there s t (Some (For at annots first e step a)) = refl
 body_there s t (Some (Break at)) = refl
 body_there s t (Some (Continue at)) = refl
 body_there s t (Some (Return at e)) = refl
+body_there s t (Some (Labelled at l a)) = refl
+body_there s t (Some (Switch at e cases)) = refl
 
 -- with another body
 pub record SameHeading (f g : Function) : Type 0 where

@@ -12,4 +12,4 @@ behind_items s (Then i rest) = behind_items (behind s i) rest
 
 -- where the items of a body stand
 abbrev pub around_body : PlainType → Around
-around_body t = record { result = t; loops = false }
+around_body t = record { result = t; breaks = false; loops = false }

@@ -17,4 +17,4 @@ plain_for_first None = NoFirst
 plain_for_first (Some i) = First (plain_item i)
 
 abbrev pub plain_around : Around → plain.Around
-plain_around r = record { result = plain_type r.result.now; loops = r.loops }
+plain_around r = record { result = plain_type r.result.now; breaks = r.breaks; loops = r.loops }

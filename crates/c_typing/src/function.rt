@@ -35,6 +35,7 @@ fn type_body_items(
 {
     let around = Around {
         result: ctype,
+        breaks: false,
         loops: false,
     };
     let mark = mark_here(sight);

@@ -24,10 +24,11 @@ use c_expression_rules::sight::{Sight, enter, leave};
 use c_syntax::{CType, Decl, Expr, Item, Place, Stmt, StmtKind};
 use std::alloc::Global;
 
-/// Where a statement stands: what its function gives, and whether it is inside a loop.
+/// Where a statement stands: what its function gives, whether a `break` may stand there, and whether it is inside a loop.
 #[derive(Clone, Copy, Drop)]
 pub struct Around<'a> {
     pub result: &'a CType,
+    pub breaks: bool,
     pub loops: bool,
 }
 
@@ -36,6 +37,7 @@ fn in_loop<'a>(around: &Around<'a>) -> Around<'a>
 {
     Around {
         result: around.result,
+        breaks: true,
         loops: true,
     }
 }
@@ -128,17 +130,13 @@ fn type_return(
     }
 }
 
-/// `break` and `continue` stand in loops (C99 6.8.6.2, 6.8.6.3).
-fn jump(place: Place, around: &Around<'_>) -> Result<(), TypeFault>
-    ensures breaks { Answers (λ _. Break place) (where_so around.now.loops (no_type place) (Good (Break place))) result }
-    ensures continues { Answers (λ _. Continue place) (where_so around.now.loops (no_type place) (Good (Continue place))) result }
+/// `break` and `continue` stand where they may (C99 6.8.6.2, 6.8.6.3).
+fn jump(place: Place, may: bool) -> Result<(), TypeFault>
+    ensures breaks { Answers (λ _. Break place) (where_so may (no_type place) (Good (Break place))) result }
+    ensures continues { Answers (λ _. Continue place) (where_so may (no_type place) (Good (Continue place))) result }
     ensures sure { IfErr result IsRefusal }
 {
-    if around.loops {
-        Ok(())
-    } else {
-        Err(no_type(place))
-    }
+    if may { Ok(()) } else { Err(no_type(place)) }
 }
 
 /// Types declarations, each in sight behind its declarator.
@@ -212,8 +210,8 @@ fn type_kind(
             leave(sight, mark);
             Ok(())
         }
-        StmtKind::Break => jump(place, around),
-        StmtKind::Continue => jump(place, around),
+        StmtKind::Break => jump(place, around.breaks),
+        StmtKind::Continue => jump(place, around.loops),
         StmtKind::Return(e) => type_return(alloc, sight, place, around.result, e),
     }
 }

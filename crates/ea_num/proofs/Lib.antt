@@ -6,3 +6,4 @@ pub mod Multiplied
 pub mod Shifted
 pub mod Masked
 pub mod Ordered
+pub mod Offsets

@@ -1,5 +1,5 @@
 -- Ranges of terms at their edges, by computation, and the fault that refuses a predicate with a term that has none.
-use Rattle.std.proofs.Common.{◌≡◌, ℕ, ℤ, pos, negsuc, neg_ℤ, ◌^◌, ◌-◌, ◌*◌, true, Some, None, Option, refl}
+use Rattle.std.proofs.Common.{◌≡◌, [], ℕ, ℤ, pos, negsuc, neg_ℤ, ◌^◌, ◌-◌, ◌*◌, true, Some, None, Option, refl}
 use Rattle.c_syntax.specs.declared.place.Place.{Place}
 use Rattle.c_syntax.specs.declared.annotation.Range.{Range}
 use Rattle.c_syntax.specs.declared.annotation.Relation.TheVariants.{Lt}
@@ -35,7 +35,7 @@ found (Good t) = Some (range_of t)
 found (Bad f fs) = None
 
 abbrev range : LogicTerm → Option Range
-range t = found (ranged_term t)
+range t = found (ranged_term [] t)
 
 -- sums go beyond the type
 sums :
@@ -84,8 +84,8 @@ abbrev compared : ℕ → LogicTerm → LogicTerm → Predicate
 compared n a b = Chain (place 1 n n) a (Linked (place 1 n n) Lt b NoLink)
 
 faults :
-    (refusing (ranged_pred (compared 4 (shifted 2) (shifted 6))) ≡ Some (no_range (place 1 2 2))) ×
-    (refusing (ranged_pred (Connected (place 1 8 8) And (compared 4 (number (pos 1)) (shifted 6)) (compared 10 (shifted 9) (number (pos 1))))) ≡ Some (no_range (place 1 6 6))) ×
-    (refusing (ranged_pred (compared 4 (operated 5 operator.Add (shifted 3) (number (pos 1))) (number (pos 1)))) ≡ Some (no_range (place 1 3 3))) ×
-    (refusing (ranged_pred (compared 4 (variable I32) (number (pos 1)))) ≡ None)
+    (refusing (ranged_pred [] (compared 4 (shifted 2) (shifted 6))) ≡ Some (no_range (place 1 2 2))) ×
+    (refusing (ranged_pred [] (Connected (place 1 8 8) And (compared 4 (number (pos 1)) (shifted 6)) (compared 10 (shifted 9) (number (pos 1))))) ≡ Some (no_range (place 1 6 6))) ×
+    (refusing (ranged_pred [] (compared 4 (operated 5 operator.Add (shifted 3) (number (pos 1))) (number (pos 1)))) ≡ Some (no_range (place 1 3 3))) ×
+    (refusing (ranged_pred [] (compared 4 (variable I32) (number (pos 1)))) ≡ None)
 faults = (refl, refl, refl, refl)

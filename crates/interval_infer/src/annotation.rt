@@ -1,6 +1,6 @@
 //! Ranges over whole trees. Faults of all parts are met before one is chosen: the first of them in the text.
 
-ghost use Rattle.std.specs.Prelude.{IfErr, OnOk, map, option_map};
+ghost use Rattle.std.specs.Prelude.{IfErr, OnOk, [], map, option_map};
 ghost use Rattle.c_syntax.specs.declared.place.Place.{Place};
 ghost use Rattle.c_syntax.specs.declared.annotation.Range.{Range};
 ghost use Rattle.c_syntax.specs.Ctypes.{plain_type};
@@ -17,7 +17,7 @@ use c_syntax::{CType, Place, Range};
 /// Sets the ranges of a term and of all terms in it.
 #[cycle(ranges)]
 fn range_term(t: &mut Term) -> Result<(), TypeFault>
-    ensures ranged { Answers (λ _. plain_term t.new) (ranged_term (plain_term t.old)) result }
+    ensures ranged { Answers (λ _. plain_term t.new) (ranged_term [] (plain_term t.old)) result }
     ensures sure { IfErr result IsRefusal }
     ensures ordered { OnOk result (IsRange t.new.range) }
 {
@@ -29,7 +29,7 @@ fn range_term(t: &mut Term) -> Result<(), TypeFault>
 #[cycle(ranges)]
 fn range_kind(at: Place, ctype: &Option<CType>, kind: &mut TermKind) -> Result<Range, TypeFault>
     ensures ranged { (r : Range) → let t = option_map plain_type ctype.now in
-        Answers (plain_term_kind at kind.new t) (ranged_term (plain_term_kind at kind.old t r)) result }
+        Answers (plain_term_kind at kind.new t) (ranged_term [] (plain_term_kind at kind.old t r)) result }
     ensures sure { IfErr result IsRefusal }
 {
     match kind {
@@ -67,7 +67,7 @@ fn range_kind(at: Place, ctype: &Option<CType>, kind: &mut TermKind) -> Result<R
 // Sets the ranges of the relations of a chain.
 #[cycle(ranges)]
 fn range_links(links: &mut Links) -> Result<(), TypeFault>
-    ensures ranged { Answers (λ _. plain_links links.new) (ranged_links (plain_links links.old)) result }
+    ensures ranged { Answers (λ _. plain_links links.new) (ranged_links [] (plain_links links.old)) result }
     ensures sure { IfErr result IsRefusal }
 {
     match links {
@@ -83,7 +83,7 @@ fn range_links(links: &mut Links) -> Result<(), TypeFault>
 /// Sets the ranges of the terms in a predicate.
 #[cycle(ranges)]
 fn range_pred(p: &mut Pred) -> Result<(), TypeFault>
-    ensures ranged { Answers (λ _. plain_pred p.new) (ranged_pred (plain_pred p.old)) result }
+    ensures ranged { Answers (λ _. plain_pred p.new) (ranged_pred [] (plain_pred p.old)) result }
     ensures sure { IfErr result IsRefusal }
 {
     range_pred_kind(&mut p.kind)
@@ -91,7 +91,7 @@ fn range_pred(p: &mut Pred) -> Result<(), TypeFault>
 
 #[cycle(ranges)]
 fn range_pred_kind(kind: &mut PredKind) -> Result<(), TypeFault>
-    ensures ranged { (at : Place) → Answers (λ _. plain_pred_kind at kind.new) (ranged_pred (plain_pred_kind at kind.old)) result }
+    ensures ranged { (at : Place) → Answers (λ _. plain_pred_kind at kind.new) (ranged_pred [] (plain_pred_kind at kind.old)) result }
     ensures sure { IfErr result IsRefusal }
 {
     match kind {

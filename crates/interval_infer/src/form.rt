@@ -1,14 +1,13 @@
 //! The range of each form of terms, from those of its parts.
 
-ghost use Rattle.std.specs.Prelude.{◌≡◌, IfErr, if◌then◌else◌, option_map};
+ghost use Rattle.std.specs.Prelude.{◌≡◌, IfErr, Some, if◌then◌else◌, option_map};
 ghost use Rattle.c_syntax.specs.Ctypes.{plain_type};
-ghost use Rattle.c_syntax.specs.Formulas.{plain_cast_type};
+ghost use Rattle.c_syntax.specs.Formulas.{OfC, plain_cast_type};
 ghost use Rattle.c_model.specs.Ranges.{IsRange};
-ghost use Rattle.c_model.specs.TermRanges.{binary_range, cast_range, hull, is_inside, place_range, unary_range};
+ghost use Rattle.c_model.specs.TermRanges.{binary_range, cast_range, held_range, hull, is_inside, offset_range, place_range, unary_range};
 ghost use Rattle.c_expression_rules.specs.Answers.{IsRefusal};
 ghost use Rattle.interval_infer.specs.Answers.{or_no_range};
 
-use c_expression_rules::conversion::integer_type;
 use c_expression_rules::fault::{Fault, TypeFault};
 use c_syntax::logic::LogicType;
 use c_syntax::{BinOp, CType, Place, Range, UnOp, code};
@@ -30,13 +29,34 @@ pub fn or_no_range(range: Option<Range>, at: Place) -> Result<Range, TypeFault>
     }
 }
 
+/// The offsets of a pointer that is read, and of an object's place.
+fn offset_range() -> Range
+    ensures { result ≡ offset_range }
+{
+    Range {
+        lo: 0,
+        hi: 4_294_967_296,
+    }
+}
+
+/// The values that a place of a type holds, where it has any: those of an integer type, and of any other the offsets of pointers.
+fn held_range(ctype: &CType) -> Option<Range>
+    ensures { result ≡ held_range (Some (plain_type ctype.now)) (Some offset_range) }
+{
+    match ctype {
+        CType::Int(k) => Some(type_range(*k)),
+        CType::Ptr(_) | CType::Array(_, _) | CType::Struct(_) => Some(offset_range()),
+        _ => None,
+    }
+}
+
 /// The values that a place of a C type holds.
 pub fn place_range(ctype: &Option<CType>) -> Option<Range>
     ensures { result ≡ place_range (option_map plain_type ctype.now) }
 {
     match ctype {
         None => None,
-        Some(ctype) => Some(type_range(integer_type(ctype)?)),
+        Some(ctype) => held_range(ctype),
     }
 }
 
@@ -87,7 +107,18 @@ pub fn cast_range(to: &LogicType, a: Range) -> Option<Range>
 {
     match to {
         LogicType::Integer => Some(a),
-        LogicType::Of(ctype) => Some(converted(a, type_range(integer_type(ctype)?))),
+        LogicType::Of(ctype) => cast_to(ctype, a),
+    }
+}
+
+// A pointer's offset stays as it is.
+fn cast_to(ctype: &CType, a: Range) -> Option<Range>
+    ensures { result ≡ cast_range (OfC (plain_type ctype.now)) a }
+{
+    match ctype {
+        CType::Int(k) => Some(converted(a, type_range(*k))),
+        CType::Ptr(_) => Some(a),
+        _ => None,
     }
 }
 

@@ -1,10 +1,10 @@
-use Rattle.std.proofs.Common.{◌≡◌, rules, ap, ◌∙◌, subst, Err, Ok, option_map}
+use Rattle.std.proofs.Common.{◌≡◌, [], rules, ap, ◌∙◌, subst, Err, Ok, option_map}
 use Rattle.std.specs.Box.{with_value}
 use Rattle.c_syntax.specs.declared.logic.PredKind as pred
 use Rattle.c_syntax.specs.declared.logic.TermKind as term
 use Rattle.c_syntax.specs.Ctypes.{plain_type}
 use Rattle.c_syntax.specs.Logic.{plain_links, plain_pred_kind, plain_term_kind}
-use Rattle.c_model.specs.TermRanges.{place_range, ranged_links, ranged_pred, ranged_term, unary_range, binary_range, cast_range, hull}
+use Rattle.c_model.specs.TermRanges.{ranged_links, ranged_pred, ranged_term}
 use Rattle.c_expression_rules.specs.Answers.{Answers, both}
 use Rattle.interval_infer.specs.Answers.{or_no_range}
 use Rattle.interval_infer.proofs.Ranged.{Is, IsPred, variable_in_place, unary_in_place, cast_in_place, binary_in_place, binary_refused, choice_in_place, choice_refused}
@@ -88,7 +88,7 @@ range_kind-returns-in_err-both-in-Choice-clause-ranged t c = λ r.
 pub range_links-returns-in-Link-clause-ranged : goal.range_links-returns-in-Link-clause-ranged
 range_links-returns-in-Link-clause-ranged t c =
     let ha : Is c.in-Link.t c.range_term-first.result c.range_term-first.new.t = search rules in
-    let hl : Answers (λ (u : Unit {0}). plain_links c.range_links-others.new.links) (ranged_links (plain_links c.in-Link.rest.value)) c.range_links-others.result = search rules in
+    let hl : Answers (λ (u : Unit {0}). plain_links c.range_links-others.new.links) (ranged_links [] (plain_links c.in-Link.rest.value)) c.range_links-others.result = search rules in
     let whole = links_in_place c.in-Link.field-0 c.in-Link.field-1 c.in-Link.t c.range_term-first.new.t c.in-Link.rest.value c.range_links-others.new.links c.range_term-first.result c.range_links-others.result
     c.both.result ha hl c.both.ensures.is in
     search (rules, whole)
@@ -97,7 +97,7 @@ pub range_pred-returns-clause-ranged : goal.range_pred-returns-clause-ranged
 range_pred-returns-clause-ranged t c =
     let is : c.deref_mut.result.now ≡ c.args.p.now.kind.value = search rules in
     let whole : IsPred c.args.p.now c.range_pred_kind.result (record c.args.p.now { kind = with_value c.args.p.now.kind c.range_pred_kind.new.kind }) =
-    subst (λ k. Answers (λ (u : Unit {0}). plain_pred_kind c.args.p.now.place c.range_pred_kind.new.kind) (ranged_pred (plain_pred_kind c.args.p.now.place k)) c.range_pred_kind.result) is
+    subst (λ k. Answers (λ (u : Unit {0}). plain_pred_kind c.args.p.now.place c.range_pred_kind.new.kind) (ranged_pred [] (plain_pred_kind c.args.p.now.place k)) c.range_pred_kind.result) is
     (c.range_pred_kind.ensures.ranged c.args.p.now.place) in
     search (rules, whole)
 
@@ -106,7 +106,7 @@ pub range_pred_kind-returns-in-Chain-clause-ranged :
 range_pred_kind-returns-in-Chain-clause-ranged t c = λ at.
     let is : c.args.kind.now ≡ pred.Chain c.in-Chain.t c.in-Chain.links = search rules in
     let ha : Is c.in-Chain.t c.range_term-first.result c.range_term-first.new.t = search rules in
-    let hl : Answers (λ (u : Unit {0}). plain_links c.range_links-others.new.links) (ranged_links (plain_links c.in-Chain.links)) c.range_links-others.result = search rules in
+    let hl : Answers (λ (u : Unit {0}). plain_links c.range_links-others.new.links) (ranged_links [] (plain_links c.in-Chain.links)) c.range_links-others.result = search rules in
     let whole = chain_in_place at c.args.kind.now c.both.result c.in-Chain.t c.range_term-first.new.t c.in-Chain.links c.range_links-others.new.links c.range_term-first.result c.range_links-others.result is ha hl
     c.both.ensures.is in
     search (rules, whole)
@@ -138,11 +138,11 @@ range_term-returns-in_err-t-clause-ranged t c =
     let at = c.args.t.now.place in
     let ctype = option_map plain_type c.args.t.now.ctype in
     let is : c.deref_mut.result.now ≡ c.args.t.now.kind.value = search rules in
-    let h : Answers (plain_term_kind at c.range_kind.new.kind ctype) (ranged_term (plain_term_kind at c.deref_mut.result.now ctype c.args.t.now.range)) (Err c.in_err-t.field-0.0) =
+    let h : Answers (plain_term_kind at c.range_kind.new.kind ctype) (ranged_term [] (plain_term_kind at c.deref_mut.result.now ctype c.args.t.now.range)) (Err c.in_err-t.field-0.0) =
     c.in_err-t.ensures.ranged c.args.t.now.range in
-    let whole = subst (λ k. Answers (λ (u : Unit {0}). plain_term_kind at c.range_kind.new.kind ctype c.args.t.now.range) (ranged_term (plain_term_kind at k ctype c.args.t.now.range)) (Err c.in_err-t.field-0.0)) is
+    let whole = subst (λ k. Answers (λ (u : Unit {0}). plain_term_kind at c.range_kind.new.kind ctype c.args.t.now.range) (ranged_term [] (plain_term_kind at k ctype c.args.t.now.range)) (Err c.in_err-t.field-0.0)) is
     (refused_too (plain_term_kind at c.range_kind.new.kind ctype) (λ (u : Unit {0}). plain_term_kind at c.range_kind.new.kind ctype c.args.t.now.range)
-    (ranged_term (plain_term_kind at c.deref_mut.result.now ctype c.args.t.now.range)) c.in_err-t.field-0.0 h) in
+    (ranged_term [] (plain_term_kind at c.deref_mut.result.now ctype c.args.t.now.range)) c.in_err-t.field-0.0 h) in
     search (rules, whole)
 
 pub range_term-returns-clause-ordered : goal.range_term-returns-clause-ordered
