@@ -1,6 +1,6 @@
 -- The code of annotations: how deep it stands, and the registers that it takes.
 use Rattle.std.proofs.Common.{ℕ, ◌+◌, ◌≤◌, pos, false, List, [], ◌∷◌, ◌++◌, length, Option, Some, None, arith}
-use Rattle.c_syntax.specs.Logic.{ClauseBody, Raw, Holds, Annotation}
+use Rattle.c_syntax.specs.Logic.{ClauseBody, Raw, Holds, Value, Behaviors, Annotation}
 use Rattle.c_syntax.specs.Programs.{TranslationUnit}
 use Rattle.c_model.specs.Formed.{IsShortClause, AreAsserts}
 use Rattle.mon_syntax.specs.declared.tree.MonType.{MonType}
@@ -66,6 +66,8 @@ module _ (p : TranslationUnit) (bound : Bindings) where
       let d = pred_deep p bound q [] rs in
       let few = h.short in
       judged_deep c.flag c 803 (omega arith) (omega (arith, d, few))
+  clause_deep (Value t) rs h = anew_deep (Constant I32 (pos 0)) (truth_code false rs) 803 (omega arith) (omega arith)
+  clause_deep (Behaviors names) rs h = absurd h
 
   clause_grows : (b : ClauseBody) (rs : List MonType) → length rs ≤ length (clause_judgement p bound b rs).used
   clause_grows (Raw f) rs = anew_longer rs
@@ -74,10 +76,14 @@ module _ (p : TranslationUnit) (bound : Bindings) where
       let x = pred_grows p bound q [] rs in
       let y = judged_grows c.flag c in
       omega (arith, x, y)
+  clause_grows (Value t) rs = anew_longer rs
+  clause_grows (Behaviors names) rs = anew_longer rs
 
   clause_begins : (ts : Types) (b : ClauseBody) (rs : List MonType) → Begins (clause_judgement p bound b rs).used ts → Begins rs ts
   clause_begins ts (Raw f) rs h = begins_front rs (I32 ∷ []) ts (begins_front (rs ++ I32 ∷ []) (I32 ∷ []) ts h)
   clause_begins ts (Holds q) rs h = let c = pred_code p bound q [] rs in pred_begins ts p bound q [] rs (judged_begins ts c.flag c h)
+  clause_begins ts (Value t) rs h = begins_front rs (I32 ∷ []) ts (begins_front (rs ++ I32 ∷ []) (I32 ∷ []) ts h)
+  clause_begins ts (Behaviors names) rs h = begins_front rs (I32 ∷ []) ts (begins_front (rs ++ I32 ∷ []) (I32 ∷ []) ts h)
 
 -- ---- annotations
 

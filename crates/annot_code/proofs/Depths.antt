@@ -49,6 +49,8 @@ some_term (logic.Unary at t r op a) = omega arith
 some_term (logic.Binary at t r op a b) = omega arith
 some_term (logic.Cast at t r to a) = omega arith
 some_term (logic.Choice at t r c a b) = omega arith
+some_term (logic.At at t r l a) = some_term a
+some_term _ = omega arith
 
 pub some_nodes : (p : Predicate) → 1 ≤ nodes_of_predicate p
 some_nodes (logic.Truth at b) = omega arith
@@ -57,6 +59,7 @@ some_nodes (logic.Chain at t links) = omega (arith, some_term t)
 some_nodes (logic.Not at p) = omega arith
 some_nodes (logic.Connected at c p q) = omega arith
 some_nodes (logic.Branch at c p q) = omega arith
+some_nodes _ = omega arith
 
 -- ---- parts
 
@@ -152,6 +155,7 @@ module _ (p : TranslationUnit) (bound : Bindings) where
         let y = term_code p bound b more x.used in
         branch_deep w z (with_value (in_type (type_of a) w x.value) x) (with_value (in_type (type_of b) w y.value) y) (nodes_of_predicate c) (nodes_of_term a) (nodes_of_term b)
         (suc (nodes_of_predicate c + nodes_of_term a + nodes_of_term b)) (pred_deep c known rs) (term_deep a more z.used) (term_deep b more x.used) (omega (arith, some_term a)) (omega arith) (omega arith) (some_term a)
+    term_deep _ known rs = omega arith
 
     chain_deep : (t : LogicTerm) (x : Code) (l : Links) (m : ℕ) (known : List Reading) → 1 ≤ m → depth_of_all x.stmts ≤ m + m
         → depth_of_all (chain_code p bound t x l known).stmts ≤ (m + nodes_of_links l) + (m + nodes_of_links l)
@@ -185,3 +189,4 @@ module _ (p : TranslationUnit) (bound : Bindings) where
         let y = pred_code p bound b more x.used in
         branch_deep I32 z x y (nodes_of_predicate c) (nodes_of_predicate a) (nodes_of_predicate b) (suc (nodes_of_predicate c + nodes_of_predicate a + nodes_of_predicate b)) (pred_deep c known rs)
         (pred_deep a more z.used) (pred_deep b more x.used) (omega (arith, some_nodes a)) (omega arith) (omega arith) (some_nodes a)
+    pred_deep _ known rs = omega arith

@@ -17,7 +17,7 @@ use Rattle.c_syntax.specs.declared.expression.UnOp.TheVariants as prefix
 use Rattle.c_syntax.specs.declared.types.Width.{Width}
 use Rattle.c_syntax.specs.declared.types.Width.TheVariants.{W32, W64, W128}
 use Rattle.c_model.specs.Integers.{truth}
-use Rattle.c_model.specs.Logic.{TermValue, Mathematical, compute, mathematical, relates}
+use Rattle.c_model.specs.Logic.{TermValue, Mathematical, Addressed, compute, mathematical, relates}
 use Rattle.c_model.specs.Memory.{Value, Integer}
 use Rattle.c_model.specs.Operators.{shift_left, shift_right, floor_quotient, complement, bitwise_or}
 use Rattle.c_model.specs.Predicates.{compute_one}
@@ -88,6 +88,7 @@ is_number W128 = refl
 abbrev pub value_of : Option TermValue → Option ℤ
 value_of None = None
 value_of (Some (Mathematical z)) = Some z
+value_of (Some (Addressed x)) = None
 
 same_number : (x z : ℤ) → Some x ≡ Some z → x ≡ z
 same_number x z e = cc

@@ -64,6 +64,7 @@ module _ (p : TranslationUnit) (bound : Bindings) where
         let z = term_grows b (known ++ sure_readings c) js in
         let l = longer (term_code p bound b (known ++ sure_readings c) js).used (I32 ∷ type_of_width (width_of_range r) ∷ []) in
         omega (arith, x, y, z, l)
+    term_grows _ known rs = omega arith
 
     pub chain_grows : (t : LogicTerm) (x : Code) (l : Links) (known : List Reading) → length x.used ≤ length (chain_code p bound t x l known).used
     chain_grows t x NoLink known = omega arith
@@ -97,3 +98,4 @@ module _ (p : TranslationUnit) (bound : Bindings) where
         let z = pred_grows b (known ++ sure_readings c) js in
         let l = longer (pred_code p bound b (known ++ sure_readings c) js).used (I32 ∷ I32 ∷ []) in
         omega (arith, x, y, z, l)
+    pred_grows _ known rs = omega arith

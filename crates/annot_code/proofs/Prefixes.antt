@@ -62,6 +62,7 @@ module _ (ts : Types) where
           let x = term_code p bound a more z.used in
           let y = term_code p bound d more x.used in
           pred_begins c known rs (term_begins a more z.used (term_begins d more x.used (begins_front y.used (I32 ∷ type_of_width (width_of_range r) ∷ []) ts b)))
+      term_begins _ known rs b = b
 
       pub chain_begins : (t : LogicTerm) (x : Code) (l : Links) (known : List Reading) → Begins (chain_code p bound t x l known).used ts → Begins x.used ts
       chain_begins t x NoLink known b = b
@@ -87,6 +88,7 @@ module _ (ts : Types) where
           let x = pred_code p bound a more z.used in
           let y = pred_code p bound d more x.used in
           pred_begins c known rs (pred_begins a more z.used (pred_begins d more x.used (begins_front y.used (I32 ∷ I32 ∷ []) ts b)))
+      pred_begins _ known rs b = b
 
 -- ---- judgements
 

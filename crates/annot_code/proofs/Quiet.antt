@@ -1,5 +1,5 @@
 -- Predicates take no step, and what they read holds numbers wherever they say something.
-use Rattle.std.proofs.Common.{◌≡◌, ℕ, pos, Bool, true, false, Option, Some, None, refl, sym, ap, ◌∙◌}
+use Rattle.std.proofs.Common.{[], ◌≡◌, ℕ, pos, Bool, true, false, Option, Some, None, refl, sym, ap, ◌∙◌}
 use Rattle.c_syntax.specs.declared.annotation.Relation.{Relation}
 use Rattle.c_syntax.specs.declared.annotation.Relation.TheVariants.{Ne}
 use Rattle.c_syntax.specs.declared.expression.BinOp.{BinOp}
@@ -7,10 +7,12 @@ use Rattle.c_syntax.specs.declared.logic.Connective.{Connective}
 use Rattle.c_syntax.specs.declared.logic.Connective.TheVariants.{And, Xor, Or, Implies, Iff}
 use Rattle.c_syntax.specs.Logic.{LogicTerm, Links, NoLink, Linked, Predicate}
 use Rattle.c_syntax.specs.Logic as logic
-use Rattle.c_model.specs.Logic.{TermValue, Mathematical, Answer, Says, SaysNothing, OutOfSteps, lazily, both, compute, related, relates}
-use Rattle.c_model.specs.Predicates.{chosen as chosen_term, denied, connected as connected_answers, term, chain, pred}
+use Rattle.c_model.specs.Logic.{TermValue, Mathematical, Addressed, Answer, Says, SaysNothing, OutOfSteps, lazily, denied, silenced, fully, both, compute, related, relates, related_addresses}
+use Rattle.c_model.specs.Memory.{Store}
+use Rattle.c_model.specs.MemoryQuestions.{Address, null_address}
+use Rattle.c_model.specs.Predicates.{chosen as chosen_term, same_as, other_than, connected as connected_answers, term, chain, pred}
 use Rattle.c_model.specs.State.{State}
-use Rattle.annot_code.specs.Does.{said}
+use Rattle.annot_code.specs.Does.{said, PredicateFound}
 use Rattle.annot_code.proofs.Parts.{after, pair, chosen}
 use Rattle.annot_code.proofs.Exact.{value_of}
 
@@ -22,10 +24,10 @@ said_by (SaysNothing n) = None
 said_by OutOfSteps = None
 
 abbrev pub says : Predicate → State → Option Bool
-says p s = said_by (pred p s 0)
+says p s = said_by (pred p s [] 0)
 
 -- the answer is the same for all steps
-abbrev Quiet : (ℕ → Answer) → Type 0
+abbrev pub Quiet : (ℕ → Answer) → Type 0
 Quiet f = (n : ℕ) → f n ≡ said (said_by (f 0)) n
 
 said_again : (o : Option Bool) (n : ℕ) → said_by (said o n) ≡ o
@@ -54,34 +56,73 @@ says_quiet b n = refl
 denied_quiet : (f : ℕ → Answer) → Quiet f → Quiet (λ n. denied (f n))
 denied_quiet f p = lazy_quiet f (Says false) (Says true) p (says_quiet false) (says_quiet true)
 
-related_quiet : (r : Relation) (a b : Option TermValue) → Quiet (related r a b)
-related_quiet r None b n = refl
-related_quiet r (Some (Mathematical x)) None n = refl
-related_quiet r (Some (Mathematical x)) (Some (Mathematical y)) n = refl
+said_quiet : (o : Option Bool) → Quiet (said o)
+said_quiet o = quiet_by (said o) o (λ n. refl)
 
-pub chain_quiet : (a : Option TermValue) (l : Links) (s : State) → Quiet (chain a l s)
+pub related_quiet : (store : Store) (r : Relation) (a b : Option TermValue) → Quiet (related store r a b)
+related_quiet store r None b n = refl
+related_quiet store r (Some (Mathematical x)) None n = refl
+related_quiet store r (Some (Addressed x)) None n = refl
+related_quiet store r (Some (Mathematical x)) (Some (Mathematical y)) n = refl
+related_quiet store r (Some (Mathematical x)) (Some (Addressed y)) n = said_quiet (related_addresses store r null_address y) n
+related_quiet store r (Some (Addressed x)) (Some (Mathematical y)) n = said_quiet (related_addresses store r x null_address) n
+related_quiet store r (Some (Addressed x)) (Some (Addressed y)) n = said_quiet (related_addresses store r x y) n
+
+abbrev pub turned : Option Bool → Option Bool
+turned u = chosen u (Some false) (Some true)
+
+pub chain_quiet : (a : Option TermValue) (l : Links) (s : State) → Quiet (chain a l s [])
 chain_quiet a NoLink s = says_quiet true
-chain_quiet a (Linked at r t rest) s = lazy_quiet (related r a (term t s)) (chain (term t s) rest s) (Says false) (related_quiet r a (term t s)) (chain_quiet (term t s) rest s) (says_quiet false)
+chain_quiet a (Linked at r t rest) s = lazy_quiet (related s.store r a (term t s [])) (chain (term t s []) rest s []) (Says false) (related_quiet s.store r a (term t s [])) (chain_quiet (term t s []) rest s) (says_quiet false)
+
+fully_said : (f : Bool → Answer → Answer) (g : Bool → Option Bool → Option Bool) (u v : Option Bool) (b : ℕ → Answer) (n : ℕ) → ((x : Bool) (o : Option Bool) → f x (said o n) ≡ said (g x o) n) → b n ≡ said v n
+    → fully (said u n) b f ≡ said (after u (λ x. g x v)) n
+fully_said f g None v b n h e = ap silenced e ∙ by v
+  where
+    by : (o : Option Bool) → silenced (said o n) ≡ SaysNothing n
+    by None = refl
+    by (Some x) = refl
+fully_said f g (Some x) v b n h e = ap (f x) e ∙ h x v
+
+same_said : (n : ℕ) (x : Bool) (o : Option Bool) → same_as x (said o n) ≡ said (chosen (Some x) o (turned o)) n
+same_said n true o = refl
+same_said n false None = refl
+same_said n false (Some true) = refl
+same_said n false (Some false) = refl
+
+other_said : (n : ℕ) (x : Bool) (o : Option Bool) → other_than x (said o n) ≡ said (chosen (Some x) (turned o) o) n
+other_said n false o = refl
+other_said n true None = refl
+other_said n true (Some true) = refl
+other_said n true (Some false) = refl
+
+fully_quiet : (f : Bool → Answer → Answer) (g : Bool → Option Bool → Option Bool) (a b : ℕ → Answer) → ((n : ℕ) (x : Bool) (o : Option Bool) → f x (said o n) ≡ said (g x o) n) → Quiet a → Quiet b → Quiet (λ n. fully (a n) b f)
+fully_quiet f g a b h p q =
+    quiet_by (λ n. fully (a n) b f) (after (said_by (a 0)) (λ x. g x (said_by (b 0)))) (λ n.
+    ap (λ y. fully y b f) (p n) ∙ fully_said f g (said_by (a 0)) (said_by (b 0)) b n (h n) (q n))
 
 connected_quiet : (c : Connective) (f g : ℕ → Answer) → Quiet f → Quiet g → Quiet (λ n. connected_answers c (f n) g)
 connected_quiet And f g p q = lazy_quiet f g (Says false) p q (says_quiet false)
 connected_quiet Or f g p q = lazy_quiet f (Says true) g p (says_quiet true) q
 connected_quiet Implies f g p q = lazy_quiet f g (Says true) p q (says_quiet true)
-connected_quiet Iff f g p q = lazy_quiet f g (λ n. denied (g n)) p q (denied_quiet g q)
-connected_quiet Xor f g p q = lazy_quiet f (λ n. denied (g n)) g p (denied_quiet g q) q
+connected_quiet Iff f g p q = fully_quiet same_as (λ x o. chosen (Some x) o (turned o)) f g same_said p q
+connected_quiet Xor f g p q = fully_quiet other_than (λ x o. chosen (Some x) (turned o) o) f g other_said p q
 
-pub pred_quiet : (p : Predicate) (s : State) → Quiet (pred p s)
-pred_quiet (logic.Truth at b) s = says_quiet b
-pred_quiet (logic.NonZero at t) s = related_quiet Ne (term t s) (Some (Mathematical (pos 0)))
-pred_quiet (logic.Chain at t links) s = chain_quiet (term t s) links s
-pred_quiet (logic.Not at p) s = denied_quiet (pred p s) (pred_quiet p s)
-pred_quiet (logic.Connected at c p q) s = connected_quiet c (pred p s) (pred q s) (pred_quiet p s) (pred_quiet q s)
-pred_quiet (logic.Branch at c p q) s = lazy_quiet (pred c s) (pred p s) (pred q s) (pred_quiet c s) (pred_quiet p s) (pred_quiet q s)
+pub pred_quiet : (p : Predicate) (s : State) → PredicateFound s.scope p → Quiet (pred p s [])
+pred_quiet (logic.Truth at b) s q = says_quiet b
+pred_quiet (logic.NonZero at t) s q = related_quiet s.store Ne (term t s []) (Some (Mathematical (pos 0)))
+pred_quiet (logic.Chain at t links) s q = chain_quiet (term t s []) links s
+pred_quiet (logic.Not at p) s q = denied_quiet (pred p s []) (pred_quiet p s q)
+pred_quiet (logic.Connected at c p q) s h = connected_quiet c (pred p s []) (pred q s []) (pred_quiet p s h.0) (pred_quiet q s h.1)
+pred_quiet (logic.Branch at c p q) s h = lazy_quiet (pred c s []) (pred p s []) (pred q s []) (pred_quiet c s h.0) (pred_quiet p s h.1) (pred_quiet q s h.2)
+pred_quiet (logic.Quantified at q gs p) s h = absurd h
+pred_quiet (logic.Asks at f z) s h = absurd h
+pred_quiet (logic.Separated at zs) s h = absurd h
 
 -- ---- what each form says, by what its parts say
 
-abbrev pub turned : Option Bool → Option Bool
-turned u = chosen u (Some false) (Some true)
+pub lazy_says : (f on off : ℕ → Answer) → Quiet f → Quiet on → Quiet off → said_by (lazily (f 0) on off) ≡ chosen (said_by (f 0)) (said_by (on 0)) (said_by (off 0))
+lazy_says f on off p q r = ap said_by (lazy_is f on off 0 p q r) ∙ said_again (chosen (said_by (f 0)) (said_by (on 0)) (said_by (off 0))) 0
 
 abbrev pub connected : Connective → Option Bool → Option Bool → Option Bool
 connected And u v = chosen u v (Some false)
@@ -90,38 +131,53 @@ connected Implies u v = chosen u v (Some true)
 connected Iff u v = chosen u v (turned v)
 connected Xor u v = chosen u (turned v) v
 
-pub lazy_says : (f on off : ℕ → Answer) → Quiet f → Quiet on → Quiet off → said_by (lazily (f 0) on off) ≡ chosen (said_by (f 0)) (said_by (on 0)) (said_by (off 0))
-lazy_says f on off p q r = ap said_by (lazy_is f on off 0 p q r) ∙ said_again (chosen (said_by (f 0)) (said_by (on 0)) (said_by (off 0))) 0
+fully_says : (f : Bool → Answer → Answer) (g : Bool → Option Bool → Option Bool) (a b : ℕ → Answer) → ((n : ℕ) (x : Bool) (o : Option Bool) → f x (said o n) ≡ said (g x o) n) → Quiet a → Quiet b
+    → said_by (fully (a 0) b f) ≡ after (said_by (a 0)) (λ x. g x (said_by (b 0)))
+fully_says f g a b h p q =
+    ap (λ y. said_by (fully y b f)) (p 0) ∙ ap said_by (fully_said f g (said_by (a 0)) (said_by (b 0)) b 0 (h 0) (q 0)) ∙ said_again (after (said_by (a 0)) (λ x. g x (said_by (b 0)))) 0
 
-pub not_says : (p : Predicate) (s : State) → said_by (denied (pred p s 0)) ≡ turned (says p s)
-not_says p s = lazy_says (pred p s) (Says false) (Says true) (pred_quiet p s) (says_quiet false) (says_quiet true)
-
-denied_says : (g : ℕ → Answer) → Quiet g → said_by (denied (g 0)) ≡ turned (said_by (g 0))
-denied_says g q = lazy_says g (Says false) (Says true) q (says_quiet false) (says_quiet true)
+pub not_says : (p : Predicate) (s : State) → PredicateFound s.scope p → said_by (denied (pred p s [] 0)) ≡ turned (says p s)
+not_says p s f = lazy_says (pred p s []) (Says false) (Says true) (pred_quiet p s f) (says_quiet false) (says_quiet true)
 
 pub connected_says : (c : Connective) (f g : ℕ → Answer) → Quiet f → Quiet g → said_by (connected_answers c (f 0) g) ≡ connected c (said_by (f 0)) (said_by (g 0))
 connected_says And f g p q = lazy_says f g (Says false) p q (says_quiet false)
 connected_says Or f g p q = lazy_says f (Says true) g p (says_quiet true) q
 connected_says Implies f g p q = lazy_says f g (Says true) p q (says_quiet true)
-connected_says Iff f g p q = lazy_says f g (λ n. denied (g n)) p q (denied_quiet g q) ∙ ap (λ v. chosen (said_by (f 0)) (said_by (g 0)) v) (denied_says g q)
-connected_says Xor f g p q = lazy_says f (λ n. denied (g n)) g p (denied_quiet g q) q ∙ ap (λ v. chosen (said_by (f 0)) v (said_by (g 0))) (denied_says g q)
+connected_says Iff f g p q = fully_says same_as (λ x o. chosen (Some x) o (turned o)) f g same_said p q ∙ by (said_by (f 0))
+  where
+    by : (u : Option Bool) → after u (λ x. chosen (Some x) (said_by (g 0)) (turned (said_by (g 0)))) ≡ chosen u (said_by (g 0)) (turned (said_by (g 0)))
+    by None = refl
+    by (Some x) = refl
+connected_says Xor f g p q = fully_says other_than (λ x o. chosen (Some x) (turned o) o) f g other_said p q ∙ by (said_by (f 0))
+  where
+    by : (u : Option Bool) → after u (λ x. chosen (Some x) (turned (said_by (g 0))) (said_by (g 0))) ≡ chosen u (turned (said_by (g 0))) (said_by (g 0))
+    by None = refl
+    by (Some x) = refl
 
-pub branch_says : (c p q : Predicate) (s : State) → said_by (lazily (pred c s 0) (pred p s) (pred q s)) ≡ chosen (says c s) (says p s) (says q s)
-branch_says c p q s = lazy_says (pred c s) (pred p s) (pred q s) (pred_quiet c s) (pred_quiet p s) (pred_quiet q s)
+pub branch_says : (c p q : Predicate) (s : State) → PredicateFound s.scope c → PredicateFound s.scope p → PredicateFound s.scope q
+    → said_by (lazily (pred c s [] 0) (pred p s []) (pred q s [])) ≡ chosen (says c s) (says p s) (says q s)
+branch_says c p q s f g h = lazy_says (pred c s []) (pred p s []) (pred q s []) (pred_quiet c s f) (pred_quiet p s g) (pred_quiet q s h)
 
-pub relation_says : (r : Relation) (a b : Option TermValue) → said_by (related r a b 0) ≡ after (value_of a) (λ x. after (value_of b) (λ y. Some (relates r x y)))
-relation_says r None b = refl
-relation_says r (Some (Mathematical x)) None = refl
-relation_says r (Some (Mathematical x)) (Some (Mathematical y)) = refl
+-- what is no pointer
+abbrev pub IsNoPointer : Option TermValue → Type 0
+IsNoPointer o = (y : Address) → o ≡ Some (Addressed y) → ⊥
+
+pub relation_says : (store : Store) (r : Relation) (a b : Option TermValue) → IsNoPointer a → IsNoPointer b
+    → said_by (related store r a b 0) ≡ after (value_of a) (λ x. after (value_of b) (λ y. Some (relates r x y)))
+relation_says store r None b na nb = refl
+relation_says store r (Some (Mathematical x)) None na nb = refl
+relation_says store r (Some (Mathematical x)) (Some (Mathematical y)) na nb = refl
+relation_says store r (Some (Mathematical x)) (Some (Addressed y)) na nb = absurd (nb y refl)
+relation_says store r (Some (Addressed x)) b na nb = absurd (na x refl)
 
 pub chain_says : (r : Relation) (a : Option TermValue) (t : LogicTerm) (rest : Links) (s : State)
-    → said_by (lazily (related r a (term t s) 0) (chain (term t s) rest s) (Says false)) ≡ chosen (said_by (related r a (term t s) 0)) (said_by (chain (term t s) rest s 0)) (Some false)
-chain_says r a t rest s = lazy_says (related r a (term t s)) (chain (term t s) rest s) (Says false) (related_quiet r a (term t s)) (chain_quiet (term t s) rest s) (says_quiet false)
+    → said_by (lazily (related s.store r a (term t s []) 0) (chain (term t s []) rest s []) (Says false)) ≡ chosen (said_by (related s.store r a (term t s []) 0)) (said_by (chain (term t s []) rest s [] 0)) (Some false)
+chain_says r a t rest s = lazy_says (related s.store r a (term t s [])) (chain (term t s []) rest s []) (Says false) (related_quiet s.store r a (term t s [])) (chain_quiet (term t s []) rest s) (says_quiet false)
 
-pub choice_is : (c : Predicate) (a b : LogicTerm) (s : State) → value_of (chosen_term (pred c s 0) (term a s) (term b s)) ≡ chosen (says c s) (value_of (term a s)) (value_of (term b s))
-choice_is c a b s = by (pred c s 0)
+pub choice_is : (c : Predicate) (a b : LogicTerm) (s : State) → value_of (chosen_term (pred c s [] 0) (term a s []) (term b s [])) ≡ chosen (says c s) (value_of (term a s [])) (value_of (term b s []))
+choice_is c a b s = by (pred c s [] 0)
   where
-    by : (q : Answer) → value_of (chosen_term q (term a s) (term b s)) ≡ chosen (said_by q) (value_of (term a s)) (value_of (term b s))
+    by : (q : Answer) → value_of (chosen_term q (term a s []) (term b s [])) ≡ chosen (said_by q) (value_of (term a s [])) (value_of (term b s []))
     by (Says true n) = refl
     by (Says false n) = refl
     by (SaysNothing n) = refl
@@ -131,3 +187,6 @@ pub both_is : (op : BinOp) (a b : Option TermValue) → value_of (both a b (comp
 both_is op None b = refl
 both_is op (Some (Mathematical x)) None = refl
 both_is op (Some (Mathematical x)) (Some (Mathematical y)) = refl
+both_is op (Some (Mathematical x)) (Some (Addressed y)) = refl
+both_is op (Some (Addressed x)) (Some b) = refl
+both_is op (Some (Addressed x)) None = refl

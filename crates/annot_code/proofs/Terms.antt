@@ -10,18 +10,18 @@ use Rattle.c_syntax.specs.declared.types.CInt.{CInt}
 use Rattle.c_syntax.specs.declared.types.Width.{Width}
 use Rattle.c_syntax.specs.declared.types.Width.TheVariants.{W128}
 use Rattle.c_syntax.specs.Ctypes.{PlainType, Int}
-use Rattle.c_syntax.specs.Ctypes as ctype
 use Rattle.c_syntax.specs.Formulas.{CastType, Integers, OfC}
 use Rattle.c_syntax.specs.Logic.{LogicTerm, Predicate, range_of}
 use Rattle.c_syntax.specs.Logic as logic
 use Rattle.c_syntax.specs.Layouts.{IntegerType}
 use Rattle.c_model.specs.Integers.{integer_type, truth}
-use Rattle.c_model.specs.Logic.{TermValue, Mathematical, compute}
+use Rattle.c_model.specs.Logic.{TermValue, Mathematical, Addressed, compute}
 use Rattle.c_model.specs.Memory.{Into, Value, Integer, Points, load}
 use Rattle.c_model.specs.Predicates.{compute_one, in_type as typed_value, term}
 use Rattle.c_model.specs.Ranges.{LiesIn, width_of_range, wrapped}
 use Rattle.c_model.specs.TermRanges.{TermRanged, type_range, is_inside, cast_range, unary_range, place_range}
 use Rattle.ea_num.proofs.Converted.{widths_fit, conversions_keep_values}
+use Rattle.c_model.specs.TypedPredicates.{IsCastType}
 use Rattle.mon_syntax.specs.declared.tree.MonType.{MonType}
 use Rattle.mon_syntax.specs.declared.tree.MonType.TheVariants.{I32, I128}
 use Rattle.mon_syntax.specs.declared.tree.MemoryCall.TheVariants.{Number}
@@ -48,16 +48,20 @@ use Rattle.annot_code.proofs.Variables.{Variable, variable_in_sight, load_is, Is
 from_value : (o : Option TermValue) (z : ℤ) → value_of o ≡ Some z → o ≡ Some (Mathematical z)
 from_value None z e = absurd cc
 from_value (Some (Mathematical y)) z e = ap (λ y. Some (Mathematical y)) (some_same y z e)
+from_value (Some (Addressed y)) z e = absurd cc
 
 -- ---- where values are
 
 unary_there : (op : UnOp) (a r : Range) → unary_range op a ≡ Some r → (o : Option TermValue) → is_some (value_of (compute_one op o)) ≡ is_some (value_of o)
 unary_there prefix.Plus a r q None = refl
 unary_there prefix.Plus a r q (Some (Mathematical x)) = refl
+unary_there prefix.Plus a r q (Some (Addressed x)) = refl
 unary_there prefix.Minus a r q None = refl
 unary_there prefix.Minus a r q (Some (Mathematical x)) = refl
+unary_there prefix.Minus a r q (Some (Addressed x)) = refl
 unary_there prefix.Flip a r q None = refl
 unary_there prefix.Flip a r q (Some (Mathematical x)) = refl
+unary_there prefix.Flip a r q (Some (Addressed x)) = refl
 unary_there prefix.Not a r q o = absurd cc
 unary_there prefix.Deref a r q o = absurd cc
 unary_there prefix.Address a r q o = absurd cc
@@ -73,22 +77,25 @@ pair_there a b f h = by a b refl refl
 -- the type of C that a cast names
 pub record CastTo (t : PlainType) (a r : Range) : Type 0 where
   pub int : CInt
+  pub same : t ≡ Int int
   pub is : integer_type t ≡ Some int
   pub range_is : (if is_inside a (type_range int) then a else type_range int) ≡ r
 
-pub cast_to : (t : PlainType) (a r : Range) → cast_range (OfC t) a ≡ Some r → CastTo t a r
-cast_to (Int k) a r e = record { int = k; is = refl; range_is = some_same (if is_inside a (type_range k) then a else type_range k) r e }
-cast_to (ctype.Ptr t) a r e = absurd cc
-cast_to (ctype.Array t n) a r e = absurd cc
-cast_to (ctype.Struct n) a r e = absurd cc
-cast_to ctype.Void a r e = absurd cc
-cast_to (ctype.Named x) a r e = absurd cc
-cast_to (ctype.StructTag x) a r e = absurd cc
-cast_to (ctype.EnumTag x at) a r e = absurd cc
+pub cast_to : (t : PlainType) (a r : Range) → IsCastType (OfC t) → cast_range (OfC t) a ≡ Some r → CastTo t a r
+cast_to t a r g e = record {
+  int = g.int;
+  same = g.is;
+  is = ap integer_type g.is;
+  range_is = some_same (if is_inside a (type_range g.int) then a else type_range g.int) r (sym (ap (λ t. cast_range (OfC t) a) g.is) ∙ e);
+}
 
-typed_is : (t : PlainType) (k : CInt) → integer_type t ≡ Some k → (o : Option TermValue) → value_of (typed_value t o) ≡ after (value_of o) (λ x. Some (wrapped k x))
-typed_is t k e None = refl
-typed_is t k e (Some (Mathematical x)) = ap (λ i. value_of (elim i [ None ↦ None | Some k ↦ Some (Mathematical (wrapped k x)) ])) e
+typed_is : (t : PlainType) (k : CInt) → t ≡ Int k → (o : Option TermValue) → value_of (typed_value t o) ≡ after (value_of o) (λ x. Some (wrapped k x))
+typed_is t k e o = ap (λ t. value_of (typed_value t o)) e ∙ by o
+  where
+    by : (o : Option TermValue) → value_of (typed_value (Int k) o) ≡ after (value_of o) (λ x. Some (wrapped k x))
+    by None = refl
+    by (Some (Mathematical x)) = refl
+    by (Some (Addressed x)) = refl
 
 after_there : (o : Option ℤ) (f : ℤ → ℤ) → is_some (after o (λ x. Some (f x))) ≡ is_some o
 after_there None f = refl
@@ -106,13 +113,13 @@ working_fits op wr wa wb y f = by (is_shift op)
 
 module _ (w : Setting) (stands : Stands w) (ranges : RangesHold w.now) where
   abbrev pub value : LogicTerm → Option ℤ
-  value t = value_of (term t w.now)
+  value t = value_of (term t w.now [])
 
-  pub term_lies : (t : LogicTerm) → TermRanged t → (z : ℤ) → value t ≡ Some z → LiesIn (range_of t) z
-  term_lies t q z e = ranges.lies t q z (from_value (term t w.now) z e)
+  pub term_lies : (t : LogicTerm) → TermFound w.now.scope t → TermRanged [] t → (z : ℤ) → value t ≡ Some z → LiesIn (range_of t) z
+  term_lies t f q z e = ranges.lies t f q z (from_value (term t w.now []) z e)
 
-  pub term_fits : (t : LogicTerm) → TermRanged t → (z : ℤ) → value t ≡ Some z → Fits (width_of t) z
-  term_fits t q z e = widths_fit (range_of t) z (ranges.within t q) (term_lies t q z e)
+  pub term_fits : (t : LogicTerm) → TermFound w.now.scope t → TermRanged [] t → (z : ℤ) → value t ≡ Some z → Fits (width_of t) z
+  term_fits t f q z e = widths_fit (range_of t) z (ranges.within t q) (term_lies t f q z e)
 
   -- ---- leaves
 
@@ -139,7 +146,7 @@ module _ (w : Setting) (stands : Stands w) (ranges : RangesHold w.now) where
 
     loads_has : (z : ℤ) → value this ≡ Some z → (later : List Value) → Same w.low w.regs later → HasNumber w (variable_value w.unit w.bound k reading) later z
     loads_has z e later s =
-        in_type_has w (term_type t) k (Load (term_type t) (pointer_to w.unit w.bound x.decl)) later z (wrap_in (width_of_range r) z (term_fits this q z e))
+        in_type_has w (term_type t) k (Load (term_type t) (pointer_to w.unit w.bound x.decl)) later z (wrap_in (width_of_range r) z (term_fits this found q z e))
         (ap (λ o. bind o (λ p. load_block (term_type t) p w.target.mem)) (pointer_is later s)
         ∙ ap (λ u. load_block (term_type u) (Points (Into v.number 0)) w.target.mem) v.is
         ∙ load_is v.int v.number w.target.mem
@@ -190,16 +197,18 @@ module _ (w : Setting) (stands : Stands w) (ranges : RangesHold w.now) where
 
   -- ---- operators and casts
 
-  pub unary_codes : (at : Place) (t : Option PlainType) (r : Range) (op : UnOp) (a : LogicTerm) → TermRanged (logic.Unary at t r op a) → (c : Code) (rs : List MonType) (regs : List Value) → Codes w c (value a) rs regs
+  pub unary_codes : (at : Place) (t : Option PlainType) (r : Range) (op : UnOp) (a : LogicTerm) → TermRanged [] (logic.Unary at t r op a) → TermFound w.now.scope a → (c : Code) (rs : List MonType) (regs : List Value) → Codes w c (value a) rs regs
       → Codes w (code_with_value (unary_value op (type_of_width (width_of_range r)) (type_of_width (wider (width_of_range r) (width_of a))) (type_of a) c.value) c) (value (logic.Unary at t r op a)) rs regs
-  unary_codes at t r op a q c rs regs h =
-      changed w c (unary_value op (type_of_width (width_of_range r)) (type_of_width (wider (width_of_range r) (width_of a))) (type_of a) c.value) (value a) (value (logic.Unary at t r op a)) rs regs h (unary_there op (range_of a) r q.0 (term a w.now))
+  unary_codes at t r op a q f c rs regs h =
+      changed w c (unary_value op (type_of_width (width_of_range r)) (type_of_width (wider (width_of_range r) (width_of a))) (type_of a) c.value) (value a) (value (logic.Unary at t r op a)) rs regs h
+      (unary_there op (range_of a) r q.0 (term a w.now []))
       (λ later has z e.
-      let x = unary_some op (term a w.now) z e in
-      unary_has w later op (range_of a) r c.value x.0 z (width_of a) (width_of_range r) q.0 (term_fits a q.1 x.0 x.1) (term_fits (logic.Unary at t r op a) q z e) (has x.0 x.1)
-      (sym (ap (λ o. value_of (compute_one op o)) (from_value (term a w.now) x.0 x.1)) ∙ e))
+      let x = unary_some op (term a w.now []) z e in
+      unary_has w later op (range_of a) r c.value x.0 z (width_of a) (width_of_range r) q.0 (term_fits a f q.1 x.0 x.1) (term_fits (logic.Unary at t r op a) f q z e) (has x.0 x.1)
+      (sym (ap (λ o. value_of (compute_one op o)) (from_value (term a w.now []) x.0 x.1)) ∙ e))
 
-  module _ (at : Place) (t : Option PlainType) (r : Range) (op : BinOp) (a b : LogicTerm) (q : TermRanged (logic.Binary at t r op a b)) (x y : Code) (rs : List MonType) (regs : List Value) (h : Both w x y (value a) (value b) rs regs) where
+  module _ (at : Place) (t : Option PlainType) (r : Range) (op : BinOp) (a b : LogicTerm) (q : TermRanged [] (logic.Binary at t r op a b)) (f : TermFound w.now.scope (logic.Binary at t r op a b)) (x y : Code)
+      (rs : List MonType) (regs : List Value) (h : Both w x y (value a) (value b) rs regs) where
     abbrev whole : LogicTerm
     whole = logic.Binary at t r op a b
 
@@ -213,18 +222,18 @@ module _ (w : Setting) (stands : Stands w) (ranges : RangesHold w.now) where
     computes i j = value_of (compute op i j)
 
     whole_is : value whole ≡ pair (value a) (value b) computes
-    whole_is = both_is op (term a w.now) (term b w.now)
+    whole_is = both_is op (term a w.now []) (term b w.now [])
 
     -- the numbers of both operands
     made_has : (later : List Value) (i j z : ℤ) → value a ≡ Some i → value b ≡ Some j → HasNumber w x.value later i → HasNumber w y.value later j → computes i j ≡ Some z → HasNumber w made later z
     made_has later i j z ea eb ha hb e =
         let is : value whole ≡ Some z = whole_is ∙ ap (λ o. pair o (value b) computes) ea ∙ ap (λ o. after o (computes i)) eb ∙ e in
-        binary_has w later x.value y.value i j z (width_of a) (width_of b) (width_of_range r) (term_fits a q.1 i ea) (term_fits b q.2 j eb) (term_fits whole q z is) ha hb op (range_of a) (range_of b) r q.0 (term_lies b q.2 j eb) e
+        binary_has w later x.value y.value i j z (width_of a) (width_of b) (width_of_range r) (term_fits a f.0 q.1 i ea) (term_fits b f.1 q.2 j eb) (term_fits whole f q z is) ha hb op (range_of a) (range_of b) r q.0 (term_lies b f.1 q.2 j eb) e
 
     total_codes : is_total op (range_of b) ≡ true → Codes w (two_code x y made) (value whole) rs regs
     total_codes total =
         (two_runs w x y made (value a) (value b) (value whole) rs regs h
-        (ap is_some whole_is ∙ pair_there (value a) (value b) computes (λ i j ea eb. total_defined op (range_of a) (range_of b) r i j q.0 total (term_lies b q.2 j eb)))
+        (ap is_some whole_is ∙ pair_there (value a) (value b) computes (λ i j ea eb. total_defined op (range_of a) (range_of b) r i j q.0 total (term_lies b f.1 q.2 j eb)))
         (λ later ha hb z e.
         let i = after_some (value a) (λ i. after (value b) (computes i)) z (sym whole_is ∙ e) in
         let j = after_some (value b) (computes i.0) z i.2 in
@@ -237,7 +246,7 @@ module _ (w : Setting) (stands : Stands w) (ranges : RangesHold w.now) where
         (λ i j ea eb later ha hb. record {
           flag_is =
               guard_has w later op (range_of b) in_width (in_type (type_of b) (type_of_width in_width) y.value) i j total
-              (in_type_has w (type_of b) (type_of_width in_width) y.value later j (working_fits op (width_of_range r) (width_of a) (width_of b) j (term_fits b q.2 j eb)) hb);
+              (in_type_has w (type_of b) (type_of_width in_width) y.value later j (working_fits op (width_of_range r) (width_of a) (width_of b) j (term_fits b f.1 q.2 j eb)) hb);
           value_is = λ z e. made_has later i j z ea eb ha hb e;
         }))
 
@@ -250,10 +259,11 @@ module _ (w : Setting) (stands : Stands w) (ranges : RangesHold w.now) where
         by true p room = total_codes p
         by false p room = partial_codes p le (omega (arith, room, length-append y.used (I32 ∷ type_of_width (width_of_range r) ∷ [])))
 
-  pub cast_codes : (at : Place) (t : Option PlainType) (r : Range) (to : CastType) (a : LogicTerm) → TermRanged (logic.Cast at t r to a) → (c : Code) (rs : List MonType) (regs : List Value) → Codes w c (value a) rs regs
+  pub cast_codes : (at : Place) (t : Option PlainType) (r : Range) (to : CastType) (a : LogicTerm) → TermRanged [] (logic.Cast at t r to a) → TermFound w.now.scope (logic.Cast at t r to a) → (c : Code) (rs : List MonType) (regs : List Value)
+      → Codes w c (value a) rs regs
       → Codes w (code_with_value (cast_value to (range_of a) (type_of_width (width_of_range r)) (type_of a) c.value) c) (value (logic.Cast at t r to a)) rs regs
-  cast_codes at t r Integers a q c rs regs h = changed w c c.value (value a) (value (logic.Cast at t r Integers a)) rs regs h refl (λ later has z e. has z e)
-  cast_codes at t r (OfC to) a q c rs regs h =
+  cast_codes at t r Integers a q f c rs regs h = changed w c c.value (value a) (value (logic.Cast at t r Integers a)) rs regs h refl (λ later has z e. has z e)
+  cast_codes at t r (OfC to) a q f c rs regs h =
       changed w c (converted_to (integer_type to) (range_of a) wr (type_of a) c.value) (value a) (value this) rs regs h (ap is_some this_is ∙ after_there (value a) (wrapped k))
       (λ later has z e.
       let x = after_some (value a) (λ x. Some (wrapped k x)) z (sym this_is ∙ e) in
@@ -266,20 +276,20 @@ module _ (w : Setting) (stands : Stands w) (ranges : RangesHold w.now) where
       wr = type_of_width (width_of_range r)
 
       i : CastTo to (range_of a) r
-      i = cast_to to (range_of a) r q.0
+      i = cast_to to (range_of a) r f.0 q.0
 
       k : CInt
       k = i.int
 
       this_is : value this ≡ after (value a) (λ x. Some (wrapped k x))
-      this_is = typed_is to k i.is (term a w.now)
+      this_is = typed_is to k i.same (term a w.now [])
 
       by : (later : List Value) (x z : ℤ) → value a ≡ Some x → value this ≡ Some z → HasNumber w c.value later x → wrapped k x ≡ z → (s : Bool) → is_inside (range_of a) (type_range k) ≡ s
           → HasNumber w (if s then c.value else in_type (register_type k) wr (Cast (register_type k) c.value)) later z
       by later x z ea ez has is true p =
-          has ∙ ap (λ z. Some (Integer z)) (sym (conversions_keep_values k x (lies_fits k x (inside_lies (range_of a) (type_range k) x p (term_lies a q.1 x ea)))) ∙ is)
+          has ∙ ap (λ z. Some (Integer z)) (sym (conversions_keep_values k x (lies_fits k x (inside_lies (range_of a) (type_range k) x p (term_lies a f.1 q.1 x ea)))) ∙ is)
       by later x z ea ez has is false p =
-          in_type_has w (register_type k) wr (Cast (register_type k) c.value) later z (wrap_in (width_of_range r) z (term_fits this q z ez))
+          in_type_has w (register_type k) wr (Cast (register_type k) c.value) later z (wrap_in (width_of_range r) z (term_fits this f q z ez))
           (cast_has w (register_type k) c.value later x z (sym (wrapped_is k x) ∙ is) has)
 
   -- ---- choices
@@ -291,17 +301,18 @@ module _ (w : Setting) (stands : Stands w) (ranges : RangesHold w.now) where
       changed w c (in_type (type_of a) (type_of_width (width_of_range r)) c.value) (value a) (value a) rs regs h refl
       (λ later has z e. in_type_has w (type_of a) (type_of_width (width_of_range r)) c.value later z (wrap_in (width_of_range r) z (fit z e)) (has z e))
 
-  pub choice_codes : (at : Place) (t : Option PlainType) (r : Range) (c : Predicate) (a b : LogicTerm) → TermRanged (logic.Choice at t r c a b) → (z x y : Code) (rs : List MonType) (regs : List Value)
+  pub choice_codes : (at : Place) (t : Option PlainType) (r : Range) (c : Predicate) (a b : LogicTerm) → TermRanged [] (logic.Choice at t r c a b) → TermFound w.now.scope (logic.Choice at t r c a b)
+      → (z x y : Code) (rs : List MonType) (regs : List Value)
       → length rs ≤ length z.used → length z.used ≤ length x.used → length x.used ≤ length y.used → suc (length y.used) < length regs → (cz : Codes w z (truths (says c w.now)) rs regs)
       → (says c w.now ≡ Some true → Codes w x (value a) z.used cz.end) → (says c w.now ≡ Some false → Codes w y (value b) x.used cz.end)
       → Codes w (branch (type_of_width (width_of_range r)) z (code_with_value (in_type (type_of a) (type_of_width (width_of_range r)) x.value) x) (code_with_value (in_type (type_of b) (type_of_width (width_of_range r)) y.value) y))
       (value (logic.Choice at t r c a b)) rs regs
-  choice_codes at t r c a b q z x y rs regs l1 l2 l3 room cz cx cy =
+  choice_codes at t r c a b q f z x y rs regs l1 l2 l3 room cz cx cy =
       subst (λ o. Codes w (branch wr z (code_with_value (in_type (type_of a) wr x.value) x) (code_with_value (in_type (type_of b) wr y.value) y)) o rs regs) (sym this_is)
       (branch_runs w wr z (code_with_value (in_type (type_of a) wr x.value) x) (code_with_value (in_type (type_of b) wr y.value) y) (says c w.now) (value a) (value b) rs z.used x.used regs l1 (omega (arith, l1, l2))
       (omega (arith, l1, l2, l3)) l3 room cz
-      (λ p. side_codes r a x z.used cz.end (λ i e. term_fits this q i (this_is ∙ ap (λ u. chosen u (value a) (value b)) p ∙ e)) (cx p))
-      (λ p. side_codes r b y x.used cz.end (λ i e. term_fits this q i (this_is ∙ ap (λ u. chosen u (value a) (value b)) p ∙ e)) (cy p)))
+      (λ p. side_codes r a x z.used cz.end (λ i e. term_fits this f q i (this_is ∙ ap (λ u. chosen u (value a) (value b)) p ∙ e)) (cx p))
+      (λ p. side_codes r b y x.used cz.end (λ i e. term_fits this f q i (this_is ∙ ap (λ u. chosen u (value a) (value b)) p ∙ e)) (cy p)))
     where
       this : LogicTerm
       this = logic.Choice at t r c a b

@@ -33,7 +33,7 @@ use Rattle.annot_code.proofs.Steps.{same_all, same_less, same_trans, same_set, g
 use Rattle.annot_code.proofs.Parts.{after, truths, chosen, FlagIs, Holds, Codes, Both, both_run, Two, two_runs, changed, sure_codes, branch_runs}
 use Rattle.annot_code.proofs.Exact.{is_number, relation_has}
 use Rattle.annot_code.proofs.Quiet.{says, said_by, turned, relation_says, not_says, connected_says, branch_says, chain_says, pred_quiet}
-use Rattle.annot_code.proofs.Variables.{AllRead, read-append, some_same, relation_read, pred_read, known_right}
+use Rattle.annot_code.proofs.Variables.{AllRead, read-append, some_same, relation_read, pred_read, known_right, number_found}
 use Rattle.annot_code.proofs.Grows.{longer, operated_grows, term_grows, chain_grows, pred_grows, connected_grows}
 use Rattle.annot_code.proofs.Connected.{connected_runs, RightCodes}
 use Rattle.annot_code.proofs.Terms.{value, term_fits, number_codes, variable_codes, unary_codes, binary_codes, cast_codes, choice_codes}
@@ -92,23 +92,23 @@ module _ (w : Setting) (stands : Stands w) (ranges : RangesHold w.now) where
 
   -- ---- relations and chains
 
-  relation_codes : (r : Relation) (t u : LogicTerm) → TermRanged t → TermRanged u → (x y : Code) (rs : List MonType) (regs : List Value) → Both w x y (val t) (val u) rs regs
-      → Two w x y (relation_value r (type_of_width (wider (width_of t) (width_of u))) (type_of t) (type_of u) x.value y.value) (val u) (truths (said_by (related r (term t w.now) (term u w.now) 0))) rs regs
-  relation_codes r t u q h x y rs regs both =
-      two_runs w x y (relation_value r (type_of_width (wider (width_of t) (width_of u))) (type_of t) (type_of u) x.value y.value) (val t) (val u) (truths (said_by (related r (term t w.now) (term u w.now) 0))) rs regs both
-      (ap (λ o. is_some (truths o)) (relation_says r (term t w.now) (term u w.now)) ∙ relation_there (val t) (val u) (relates r))
+  relation_codes : (r : Relation) (t u : LogicTerm) → TermRanged [] t → TermRanged [] u → TermFound w.now.scope t → TermFound w.now.scope u → (x y : Code) (rs : List MonType) (regs : List Value) → Both w x y (val t) (val u) rs regs
+      → Two w x y (relation_value r (type_of_width (wider (width_of t) (width_of u))) (type_of t) (type_of u) x.value y.value) (val u) (truths (said_by (related w.now.store r (term t w.now []) (term u w.now []) 0))) rs regs
+  relation_codes r t u q h f g x y rs regs both =
+      two_runs w x y (relation_value r (type_of_width (wider (width_of t) (width_of u))) (type_of t) (type_of u) x.value y.value) (val t) (val u) (truths (said_by (related w.now.store r (term t w.now []) (term u w.now []) 0))) rs regs both
+      (ap (λ o. is_some (truths o)) (relation_says w.now.store r (term t w.now []) (term u w.now []) (number_found t w.now w.now.scope f) (number_found u w.now w.now.scope g)) ∙ relation_there (val t) (val u) (relates r))
       (λ later ha hb z e.
-      let i = relation_truth (val t) (val u) (relates r) z (sym (ap truths (relation_says r (term t w.now) (term u w.now))) ∙ e) in
-      relation_has w later r x.value y.value i.0 i.1 (width_of t) (width_of u) (term_fits w stands ranges t q i.0 i.2) (term_fits w stands ranges u h i.1 i.3) (ha i.0 i.2) (hb i.1 i.3)
+      let i = relation_truth (val t) (val u) (relates r) z (sym (ap truths (relation_says w.now.store r (term t w.now []) (term u w.now []) (number_found t w.now w.now.scope f) (number_found u w.now w.now.scope g))) ∙ e) in
+      relation_has w later r x.value y.value i.0 i.1 (width_of t) (width_of u) (term_fits w stands ranges t f q i.0 i.2) (term_fits w stands ranges u g h i.1 i.3) (ha i.0 i.2) (hb i.1 i.3)
       ∙ ap (λ z. Some (Integer z)) i.4)
 
-  nonzero_codes : (t : LogicTerm) → TermRanged t → (c : Code) (rs : List MonType) (regs : List Value) → Codes w c (val t) rs regs
-      → Codes w (code_with_value (Binary mon.Ne (type_of t) c.value (Constant (type_of t) (pos 0))) c) (truths (said_by (related Ne (term t w.now) (Some (Mathematical (pos 0))) 0))) rs regs
-  nonzero_codes t q c rs regs h =
-      changed w c (Binary mon.Ne (type_of t) c.value (Constant (type_of t) (pos 0))) (val t) (truths (said_by (related Ne (term t w.now) (Some (Mathematical (pos 0))) 0))) rs regs h
-      (ap (λ o. is_some (truths o)) (relation_says Ne (term t w.now) (Some (Mathematical (pos 0)))) ∙ relation_there (val t) (Some (pos 0)) (relates Ne) ∙ and_true (is_some (val t)))
+  nonzero_codes : (t : LogicTerm) → TermRanged [] t → TermFound w.now.scope t → (c : Code) (rs : List MonType) (regs : List Value) → Codes w c (val t) rs regs
+      → Codes w (code_with_value (Binary mon.Ne (type_of t) c.value (Constant (type_of t) (pos 0))) c) (truths (said_by (related w.now.store Ne (term t w.now []) (Some (Mathematical (pos 0))) 0))) rs regs
+  nonzero_codes t q f c rs regs h =
+      changed w c (Binary mon.Ne (type_of t) c.value (Constant (type_of t) (pos 0))) (val t) (truths (said_by (related w.now.store Ne (term t w.now []) (Some (Mathematical (pos 0))) 0))) rs regs h
+      (ap (λ o. is_some (truths o)) (relation_says w.now.store Ne (term t w.now []) (Some (Mathematical (pos 0))) (number_found t w.now w.now.scope f) (λ y q. cc)) ∙ relation_there (val t) (Some (pos 0)) (relates Ne) ∙ and_true (is_some (val t)))
       (λ later has z e.
-      let i = relation_truth (val t) (Some (pos 0)) (relates Ne) z (sym (ap truths (relation_says Ne (term t w.now) (Some (Mathematical (pos 0))))) ∙ e) in
+      let i = relation_truth (val t) (Some (pos 0)) (relates Ne) z (sym (ap truths (relation_says w.now.store Ne (term t w.now []) (Some (Mathematical (pos 0))) (number_found t w.now w.now.scope f) (λ y q. cc))) ∙ e) in
       let zero_is : i.1 ≡ pos 0 = some_same i.1 (pos 0) (sym i.3) in
       operation w mon.Ne (type_of t) c.value (Constant (type_of t) (pos 0)) later i.0 (pos 0) z (is_number (width_of t)) (has i.0 i.2) (constant_has w (type_of t) (pos 0) later (is_number (width_of t)))
       (ap (λ y. Some (truth (relates Ne i.0 y))) (sym zero_is) ∙ ap Some i.4))
@@ -131,11 +131,11 @@ module _ (w : Setting) (stands : Stands w) (ranges : RangesHold w.now) where
   lazy_last (Some false) = refl
 
   -- the last relation of a chain
-  last_says : (r : Relation) (t u : LogicTerm) (at : Place) → said_by (chain (term t w.now) (Linked at r u NoLink) w.now 0) ≡ said_by (related r (term t w.now) (term u w.now) 0)
-  last_says r t u at = chain_says r (term t w.now) u NoLink w.now ∙ lazy_last (said_by (related r (term t w.now) (term u w.now) 0))
+  last_says : (r : Relation) (t u : LogicTerm) (at : Place) → said_by (chain (term t w.now []) (Linked at r u NoLink) w.now [] 0) ≡ said_by (related w.now.store r (term t w.now []) (term u w.now []) 0)
+  last_says r t u at = chain_says r (term t w.now []) u NoLink w.now ∙ lazy_last (said_by (related w.now.store r (term t w.now []) (term u w.now []) 0))
 
   -- the right side has its code wherever it is asked
-  right_asked : (c : Connective) (a b : Predicate) (known : List Reading) → PredicateRanged a → PredicateFound w.now.scope a → AllRead w.now known → (C : Type 0) → (AllRead w.now (known_at_right c known a) → C) → RightCodes w c (says a w.now) C
+  right_asked : (c : Connective) (a b : Predicate) (known : List Reading) → PredicateRanged [] a → PredicateFound w.now.scope a → AllRead w.now known → (C : Type 0) → (AllRead w.now (known_at_right c known a) → C) → RightCodes w c (says a w.now) C
   right_asked And a b known q f all C go = λ x p. go (known_right w.now And known a q f all x p)
   right_asked Or a b known q f all C go = λ x p. go (known_right w.now Or known a q f all x p)
   right_asked Implies a b known q f all C go = λ x p. go (known_right w.now Implies known a q f all x p)
@@ -157,12 +157,12 @@ module _ (w : Setting) (stands : Stands w) (ranges : RangesHold w.now) where
   -- ---- everything
 
   mutual
-    term_does : (t : LogicTerm) → TermRanged t → TermFound w.now.scope t → (known : List Reading) → AllRead w.now known → (rs : List MonType) (regs : List Value) → Ready rs regs → length (tcode t known rs).used ≤ length regs
+    term_does : (t : LogicTerm) → TermRanged [] t → TermFound w.now.scope t → (known : List Reading) → AllRead w.now known → (rs : List MonType) (regs : List Value) → Ready rs regs → length (tcode t known rs).used ≤ length regs
         → Codes w (tcode t known rs) (val t) rs regs
     term_does (logic.Number at t r n) q f known all rs regs ready room = number_codes w stands ranges r n rs regs
     term_does (logic.Letter at t r n) q f known all rs regs ready room = number_codes w stands ranges r n rs regs
     term_does (logic.Variable at t r x) q f known all rs regs ready room = variable_codes w stands ranges at t r x q f rs regs ready.low ready.near known all room
-    term_does (logic.Unary at t r op a) q f known all rs regs ready room = unary_codes w stands ranges at t r op a q (tcode a known rs) rs regs (term_does a q.1 f known all rs regs ready room)
+    term_does (logic.Unary at t r op a) q f known all rs regs ready room = unary_codes w stands ranges at t r op a q f (tcode a known rs) rs regs (term_does a q.1 f known all rs regs ready room)
     term_does (logic.Binary at t r op a b) q f known all rs regs ready room =
         let x = tcode a known rs in
         let y = tcode b known x.used in
@@ -171,8 +171,8 @@ module _ (w : Setting) (stands : Stands w) (ranges : RangesHold w.now) where
         let gz = term_room at t r op a b known rs in
         let cx = term_does a q.1 f.0 known all rs regs ready (omega (arith, gy, gz, room)) in
         let cy = term_does b q.2 f.1 known all x.used cx.end (ready_after rs x.used regs cx.end gx ready cx.same) (omega (arith, gz, room, cx.same.long)) in
-        binary_codes w stands ranges at t r op a b q x y rs regs (both_run w x y (val a) (val b) rs regs gx gy cx cy) (omega (arith, gx, gy)) room
-    term_does (logic.Cast at t r to a) q f known all rs regs ready room = cast_codes w stands ranges at t r to a q (tcode a known rs) rs regs (term_does a q.1 f known all rs regs ready room)
+        binary_codes w stands ranges at t r op a b q f x y rs regs (both_run w x y (val a) (val b) rs regs gx gy cx cy) (omega (arith, gx, gy)) room
+    term_does (logic.Cast at t r to a) q f known all rs regs ready room = cast_codes w stands ranges at t r to a q f (tcode a known rs) rs regs (term_does a q.1 f.1 known all rs regs ready room)
     term_does (logic.Choice at t r c a b) q f known all rs regs ready room =
         let more = known ++ sure_readings c in
         let z = pcode c known rs in
@@ -183,14 +183,15 @@ module _ (w : Setting) (stands : Stands w) (ranges : RangesHold w.now) where
         let gy = term_grows w.unit w.bound b more x.used in
         let two = length-append y.used (I32 ∷ type_of_width (width_of_range r) ∷ []) in
         let cz = pred_does c q.1 f.0 known all rs regs ready (omega (arith, gx, gy, two, room)) in
-        choice_codes w stands ranges at t r c a b q z x y rs regs gz gx gy (omega (arith, two, room)) cz
+        choice_codes w stands ranges at t r c a b q f z x y rs regs gz gx gy (omega (arith, two, room)) cz
         (λ p. term_does a q.2 f.1 more (read-append w.now known (sure_readings c) all (pred_read w.now c q.1 f.0 true p)) z.used cz.end (ready_after rs z.used regs cz.end gz ready cz.same) (omega (arith, gy, two, room, cz.same.long)))
         (λ p. term_does b q.3 f.2 more (read-append w.now known (sure_readings c) all (pred_read w.now c q.1 f.0 false p)) x.used cz.end (ready_after rs x.used regs cz.end (omega (arith, gz, gx)) ready cz.same)
         (omega (arith, two, room, cz.same.long)))
+    term_does _ q f known all rs regs ready room = absurd f
 
-    chain_does : (t : LogicTerm) (x : Code) (l : Links) → TermRanged t → TermFound w.now.scope t → LinksRanged l → LinksFound w.now.scope l → (known : List Reading) → AllRead w.now known → (rs : List MonType) (regs : List Value)
+    chain_does : (t : LogicTerm) (x : Code) (l : Links) → TermRanged [] t → TermFound w.now.scope t → LinksRanged [] l → LinksFound w.now.scope l → (known : List Reading) → AllRead w.now known → (rs : List MonType) (regs : List Value)
         → Ready rs regs → length rs ≤ length x.used → Codes w x (val t) rs regs → length (chain_code w.unit w.bound t x l known).used ≤ length regs
-        → Codes w (chain_code w.unit w.bound t x l known) (truths (said_by (chain (term t w.now) l w.now 0))) rs regs
+        → Codes w (chain_code w.unit w.bound t x l known) (truths (said_by (chain (term t w.now []) l w.now [] 0))) rs regs
     chain_does t x NoLink q f h g known all rs regs ready gx cx room = record {
       end = cx.end;
       same = cx.same;
@@ -201,7 +202,7 @@ module _ (w : Setting) (stands : Stands w) (ranges : RangesHold w.now) where
         let y = tcode u known x.used in
         let gy = term_grows w.unit w.bound u known x.used in
         let cy = term_does u h.0 g.0 known all x.used cx.end (ready_after rs x.used regs cx.end gx ready cx.same) (omega (arith, room, cx.same.long)) in
-        subst (λ o. Codes w (relation_code r t u x y) (truths o) rs regs) (sym (last_says r t u at)) (relation_codes r t u q h.0 x y rs regs (both_run w x y (val t) (val u) rs regs gx gy cx cy)).codes
+        subst (λ o. Codes w (relation_code r t u x y) (truths o) rs regs) (sym (last_says r t u at)) (relation_codes r t u q h.0 f g.0 x y rs regs (both_run w x y (val t) (val u) rs regs gx gy cx cy)).codes
     chain_does t x (Linked at r u (Linked at2 r2 v rest)) q f h g known all rs regs ready gx cx room =
         let y = tcode u known x.used in
         let gy = term_grows w.unit w.bound u known x.used in
@@ -213,25 +214,25 @@ module _ (w : Setting) (stands : Stands w) (ranges : RangesHold w.now) where
         let gd = chain_grows w.unit w.bound u start links more in
         let gc = connected_grows And z d in
         let cy = term_does u h.0 g.0 known all x.used cx.end (ready_after rs x.used regs cx.end gx ready cx.same) (omega (arith, gd, gc, room, cx.same.long)) in
-        let cz = relation_codes r t u q h.0 x y rs regs (both_run w x y (val t) (val u) rs regs gx gy cx cy) in
-        let whole = chain_says r (term t w.now) u links w.now in
+        let cz = relation_codes r t u q h.0 f g.0 x y rs regs (both_run w x y (val t) (val u) rs regs gx gy cx cy) in
+        let whole = chain_says r (term t w.now []) u links w.now in
         subst (λ o. Codes w (connected_code And z d) (truths o) rs regs) (sym whole)
-        (connected_runs w And z d (said_by (related r (term t w.now) (term u w.now) 0)) (said_by (chain (term u w.now) links w.now 0)) rs regs (omega (arith, gx, gy)) gd room cz.codes
+        (connected_runs w And z d (said_by (related w.now.store r (term t w.now []) (term u w.now []) 0)) (said_by (chain (term u w.now []) links w.now [] 0)) rs regs (omega (arith, gx, gy)) gd room cz.codes
         (λ b p.
-        let i = relation_truth (val t) (val u) (relates r) (truth b) (sym (ap truths (relation_says r (term t w.now) (term u w.now))) ∙ ap truths p) in
+        let i = relation_truth (val t) (val u) (relates r) (truth b) (sym (ap truths (relation_says w.now.store r (term t w.now []) (term u w.now []) (number_found t w.now w.now.scope f) (number_found u w.now w.now.scope g.0))) ∙ ap truths p) in
         chain_does u start (Linked at2 r2 v rest) h.0 g.0 h.1 g.1 more (read-append w.now known (sure_readings_of_term t ++ sure_readings_of_term u) all (relation_read w.now r t u q h.0 f g.0 b p)) y.used cz.codes.end
         (ready_after rs y.used regs cz.codes.end (omega (arith, gx, gy)) ready cz.codes.same) (omega arith) (again_codes u y cz.codes.end cz.second i.1 i.3) (omega (arith, gc, room, cz.codes.same.long))))
 
-    pred_does : (p : Predicate) → PredicateRanged p → PredicateFound w.now.scope p → (known : List Reading) → AllRead w.now known → (rs : List MonType) (regs : List Value) → Ready rs regs → length (pcode p known rs).used ≤ length regs
+    pred_does : (p : Predicate) → PredicateRanged [] p → PredicateFound w.now.scope p → (known : List Reading) → AllRead w.now known → (rs : List MonType) (regs : List Value) → Ready rs regs → length (pcode p known rs).used ≤ length regs
         → Codes w (pcode p known rs) (tells p) rs regs
     pred_does (logic.Truth at b) q f known all rs regs ready room = sure_codes w (Constant I32 (truth b)) (Some (truth b)) (truth b) rs regs refl (λ later s. refl)
-    pred_does (logic.NonZero at t) q f known all rs regs ready room = nonzero_codes t q (tcode t known rs) rs regs (term_does t q f known all rs regs ready room)
+    pred_does (logic.NonZero at t) q f known all rs regs ready room = nonzero_codes t q f (tcode t known rs) rs regs (term_does t q f known all rs regs ready room)
     pred_does (logic.Chain at t links) q f known all rs regs ready room =
         let x = tcode t known rs in
         let gx = term_grows w.unit w.bound t known rs in
         let gl = chain_grows w.unit w.bound t x links known in
         chain_does t x links q.0 f.0 q.1 f.1 known all rs regs ready gx (term_does t q.0 f.0 known all rs regs ready (omega (arith, gl, room))) room
-    pred_does (logic.Not at p) q f known all rs regs ready room = not_codes p (pcode p known rs) rs regs (pred_does p q f known all rs regs ready room) (says (logic.Not at p) w.now) (not_says p w.now)
+    pred_does (logic.Not at p) q f known all rs regs ready room = not_codes p (pcode p known rs) rs regs (pred_does p q f known all rs regs ready room) (says (logic.Not at p) w.now) (not_says p w.now f)
     pred_does (logic.Connected at c a b) q f known all rs regs ready room =
         let x = pcode a known rs in
         let ks = known_at_right c known a in
@@ -241,7 +242,7 @@ module _ (w : Setting) (stands : Stands w) (ranges : RangesHold w.now) where
         let gc = connected_grows c x y in
         let cx = pred_does a q.0 f.0 known all rs regs ready (omega (arith, gy, gc, room)) in
         let right = λ (known_there : AllRead w.now ks). pred_does b q.1 f.1 ks known_there x.used cx.end (ready_after rs x.used regs cx.end gx ready cx.same) (omega (arith, gc, room, cx.same.long)) in
-        subst (λ o. Codes w (connected_code c x y) (truths o) rs regs) (sym (connected_says c (pred a w.now) (pred b w.now) (pred_quiet a w.now) (pred_quiet b w.now)))
+        subst (λ o. Codes w (connected_code c x y) (truths o) rs regs) (sym (connected_says c (pred a w.now []) (pred b w.now []) (pred_quiet a w.now f.0) (pred_quiet b w.now f.1)))
         (connected_runs w c x y (says a w.now) (says b w.now) rs regs gx gy room cx (right_asked c a b known q.0 f.0 all (Codes w y (tells b) x.used cx.end) right))
     pred_does (logic.Branch at c a b) q f known all rs regs ready room =
         let more = known ++ sure_readings c in
@@ -253,15 +254,16 @@ module _ (w : Setting) (stands : Stands w) (ranges : RangesHold w.now) where
         let gy = pred_grows w.unit w.bound b more x.used in
         let two = length-append y.used (I32 ∷ I32 ∷ []) in
         let cz = pred_does c q.0 f.0 known all rs regs ready (omega (arith, gx, gy, two, room)) in
-        subst (λ o. Codes w (pcode (logic.Branch at c a b) known rs) o rs regs) (truths_chosen (says c w.now) (says a w.now) (says b w.now) ∙ sym (ap truths (branch_says c a b w.now)))
+        subst (λ o. Codes w (pcode (logic.Branch at c a b) known rs) o rs regs) (truths_chosen (says c w.now) (says a w.now) (says b w.now) ∙ sym (ap truths (branch_says c a b w.now f.0 f.1 f.2)))
         (branch_runs w I32 z x y (says c w.now) (tells a) (tells b) rs z.used x.used regs gz (omega (arith, gz, gx)) (omega (arith, gz, gx, gy)) gy (omega (arith, two, room)) cz
         (λ p. pred_does a q.1 f.1 more (read-append w.now known (sure_readings c) all (pred_read w.now c q.0 f.0 true p)) z.used cz.end (ready_after rs z.used regs cz.end gz ready cz.same) (omega (arith, gy, two, room, cz.same.long)))
         (λ p. pred_does b q.2 f.2 more (read-append w.now known (sure_readings c) all (pred_read w.now c q.0 f.0 false p)) x.used cz.end (ready_after rs x.used regs cz.end (omega (arith, gz, gx)) ready cz.same)
         (omega (arith, two, room, cz.same.long))))
+    pred_does _ q f known all rs regs ready room = absurd f
 
 -- ---- the flag and the truth in registers
 
-module _ (w : Setting) (p : Predicate) (rs : List MonType) (u : Option Bool) (means : (n : ℕ) → pred p w.now n ≡ said u n) where
+module _ (w : Setting) (p : Predicate) (rs : List MonType) (u : Option Bool) (means : (n : ℕ) → pred p w.now [] n ≡ said u n) where
   -- a register that is the flag
   by_register : (a : MonStatements) (f : ℕ) (e : MonExpression) (js : List MonType) (mid : List Value) → length rs ≤ length js → length js < length w.regs → Same (length rs) w.regs mid → runs w a w.regs ≡ Done (Next mid) w.target []
       → ((later : List Value) → Same (length js) mid later → slice_get later f ≡ Some (Integer (truth (is_some u)))) → ((later : List Value) → Same (length js) mid later → (b : Bool) → u ≡ Some b → HasNumber w e later (truth b))
@@ -356,4 +358,4 @@ pub code_judges : CodeJudges
 code_judges w p rs stands ranges q f low room =
     let c = pred_code w.unit w.bound p [] rs in
     let h = pred_does w stands ranges p q f [] tt rs w.regs (record { low = low; near = same_all w.low w.regs }) (omega (arith, room, judged_with_grows c.flag c)) in
-    by_flag w p rs (says p w.now) (pred_quiet p w.now) c (pred_grows w.unit w.bound p [] rs) h c.flag (λ later s. (h.holds later s).flag_is) room
+    by_flag w p rs (says p w.now) (pred_quiet p w.now f) c (pred_grows w.unit w.bound p [] rs) h c.flag (λ later s. (h.holds later s).flag_is) room

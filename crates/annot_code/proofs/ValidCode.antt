@@ -23,6 +23,7 @@ use Rattle.c_model.specs.TermRanges.{TermRanged, LinksRanged, PredicateRanged, t
 use Rattle.c_model.specs.Formed.{nodes_of_term, nodes_of_links, nodes_of_predicate}
 use Rattle.ea_num.proofs.Bounded.{in_bits_from_test}
 use Rattle.ea_num.proofs.Converted.{widths_fit}
+use Rattle.c_model.specs.TypedPredicates.{IsCastType}
 use Rattle.mon_syntax.specs.declared.tree.MonType.{MonType}
 use Rattle.mon_syntax.specs.declared.tree.MonType.TheVariants.{I32, Ptr}
 use Rattle.mon_syntax.specs.declared.tree.MonOp.TheVariants as mon
@@ -130,7 +131,7 @@ module _ (p : TranslationUnit) (bound : Bindings) (g : ℕ) (gs : List Signature
 
   -- ---- operators
 
-  unary_is_code : (at : Place) (t : Option PlainType) (r : Range) (op : UnOp) (a : LogicTerm) → TermRanged (logic.Unary at t r op a) → (c : Code) → IsCode c (type_of a) (nodes_of_term a) 1
+  unary_is_code : (at : Place) (t : Option PlainType) (r : Range) (op : UnOp) (a : LogicTerm) → TermRanged [] (logic.Unary at t r op a) → (c : Code) → IsCode c (type_of a) (nodes_of_term a) 1
       → IsCode (with_value (unary_value op (type_of_width (width_of_range r)) (type_of_width (wider (width_of_range r) (width_of a))) (type_of a) c.value) c) (type_of_width (width_of_range r)) (suc (nodes_of_term a)) 1
   unary_is_code at t r op a q c v =
       let e = unary_value op (type_of_width (width_of_range r)) (type_of_width (wider (width_of_range r) (width_of a))) (type_of a) c.value in
@@ -138,19 +139,19 @@ module _ (p : TranslationUnit) (bound : Bindings) (g : ℕ) (gs : List Signature
       changed_valid g gs ts result ls c e (type_of a) (type_of_width (width_of_range r)) (nodes_of_term a) 1 (suc (nodes_of_term a)) 1 v (omega arith)
       (unary_typed g ts op (width_of_range r) (width_of a) (range_of a) r c.value q.0 v.typed) (omega (arith, few))
 
-  cast_is_code : (at : Place) (t : Option PlainType) (r : Range) (to : CastType) (a : LogicTerm) → TermRanged (logic.Cast at t r to a) → (c : Code) → IsCode c (type_of a) (nodes_of_term a) 1
+  cast_is_code : (at : Place) (t : Option PlainType) (r : Range) (to : CastType) (a : LogicTerm) → TermRanged [] (logic.Cast at t r to a) → IsCastType to → (c : Code) → IsCode c (type_of a) (nodes_of_term a) 1
       → IsCode (with_value (cast_value to (range_of a) (type_of_width (width_of_range r)) (type_of a) c.value) c) (type_of_width (width_of_range r)) (suc (nodes_of_term a)) 1
-  cast_is_code at t r Integers a q c v =
+  cast_is_code at t r Integers a q int c v =
       let same : range_of a ≡ r = some_same (range_of a) r q.0 in
       changed_valid g gs ts result ls c c.value (type_of a) (type_of_width (width_of_range r)) (nodes_of_term a) 1 (suc (nodes_of_term a)) 1 v (omega arith)
       (subst (λ r. HasType g ts c.value (type_of_width (width_of_range r))) same v.typed) (omega (arith, v.parens))
-  cast_is_code at t r (OfC to) a q c v =
+  cast_is_code at t r (OfC to) a q int c v =
       changed_valid g gs ts result ls c (converted_to (integer_type to) (range_of a) (type_of_width (width_of_range r)) (type_of a) c.value) (type_of a) (type_of_width (width_of_range r)) (nodes_of_term a) 1 (suc (nodes_of_term a)) 1 v (omega arith)
       (subst (λ i. HasType g ts (converted_to i (range_of a) (type_of_width (width_of_range r)) (type_of a) c.value) (type_of_width (width_of_range r))) (sym i.is) (typed (is_inside (range_of a) (type_range i.int)) i.range_is))
       (subst (λ i. open_parens (converted_to i (range_of a) (type_of_width (width_of_range r)) (type_of a) c.value) + 1 ≤ 4 * suc (nodes_of_term a)) (sym i.is) (parens (is_inside (range_of a) (type_range i.int))))
     where
       i : CastTo to (range_of a) r
-      i = cast_to to (range_of a) r q.0
+      i = cast_to to (range_of a) r int q.0
 
       whole : HasType g ts (Cast (register_type i.int) c.value) (register_type i.int)
       whole = (refl, whole_register i.int, (type_of a, whole_width (width_of a), v.typed))
@@ -167,7 +168,8 @@ module _ (p : TranslationUnit) (bound : Bindings) (g : ℕ) (gs : List Signature
           let l = in_type_parens (register_type i.int) (type_of_width (width_of_range r)) (Cast (register_type i.int) c.value) (suc (4 * nodes_of_term a)) (omega arith) (omega (arith, m)) in
           omega (arith, l)
 
-  module _ (at : Place) (t : Option PlainType) (r : Range) (op : BinOp) (a b : LogicTerm) (q : TermRanged (logic.Binary at t r op a b)) (x y : Code) (vx : IsCode x (type_of a) (nodes_of_term a) 1) (vy : IsCode y (type_of b) (nodes_of_term b) 1) where
+  module _ (at : Place) (t : Option PlainType) (r : Range) (op : BinOp) (a b : LogicTerm) (q : TermRanged [] (logic.Binary at t r op a b)) (x y : Code) (vx : IsCode x (type_of a) (nodes_of_term a) 1)
+      (vy : IsCode y (type_of b) (nodes_of_term b) 1) where
     abbrev wr : MonType
     wr = type_of_width (width_of_range r)
 
@@ -272,11 +274,11 @@ module _ (p : TranslationUnit) (bound : Bindings) (g : ℕ) (gs : List Signature
   -- ---- everything
 
   mutual
-    term_valid : (t : LogicTerm) → TermRanged t → TermWritable p bound g ts t → (known : List Reading) (rs : Types) → nodes_of_term t ≤ 400 → Begins (term_code p bound t known rs).used ts
+    term_valid : (t : LogicTerm) → TermRanged [] t → TermWritable p bound g ts t → (known : List Reading) (rs : Types) → nodes_of_term t ≤ 400 → Begins (term_code p bound t known rs).used ts
         → IsCode (term_code p bound t known rs) (type_of t) (nodes_of_term t) 1
     term_valid (logic.Number at t r n) q f known rs few h = number_code r n rs q f
     term_valid (logic.Letter at t r n) q f known rs few h = number_code r n rs q f
-    term_valid (logic.Variable at t r x) q f known rs few h = variable_is_code (is_known known (record { decl = x.decl; kind = term_type t })) r t x rs (integer_of_range t r q) f h
+    term_valid (logic.Variable at t r x) q f known rs few h = variable_is_code (is_known known (record { decl = x.decl; kind = term_type t })) r t x rs (integer_of_range t r f.0 q) f.1 h
     term_valid (logic.Unary at t r op a) q f known rs few h = unary_is_code at t r op a q (term_code p bound a known rs) (term_valid a q.1 f known rs (omega (arith, few)) h)
     term_valid (logic.Binary at t r op a b) q f known rs few h =
         let x = term_code p bound a known rs in
@@ -285,7 +287,7 @@ module _ (p : TranslationUnit) (bound : Bindings) (g : ℕ) (gs : List Signature
         let hy = operated_begins ts (is_total op (range_of b)) op (type_of_width (width_of_range r)) k (type_of b) x y (binary_value op (type_of_width (width_of_range r)) k (type_of a) (type_of b) (range_of b) x.value y.value) h in
         let hx = term_begins ts p bound b known x.used hy in
         binary_is_code at t r op a b q x y (term_valid a q.1 f.0 known rs (omega (arith, few)) hx) (term_valid b q.2 f.1 known x.used (omega (arith, few)) hy) few h
-    term_valid (logic.Cast at t r to a) q f known rs few h = cast_is_code at t r to a q (term_code p bound a known rs) (term_valid a q.1 f known rs (omega (arith, few)) h)
+    term_valid (logic.Cast at t r to a) q f known rs few h = cast_is_code at t r to a q f.0 (term_code p bound a known rs) (term_valid a q.1 f.1 known rs (omega (arith, few)) h)
     term_valid (logic.Choice at t r c a b) q f known rs few h =
         let more = known ++ sure_readings c in
         let w = type_of_width (width_of_range r) in
@@ -299,8 +301,10 @@ module _ (p : TranslationUnit) (bound : Bindings) (g : ℕ) (gs : List Signature
         (nodes_of_predicate c) (nodes_of_term a) (nodes_of_term b) 0 0 0 (suc (nodes_of_predicate c + nodes_of_term a + nodes_of_term b)) 1
         (pred_valid c q.1 f.0 known rs (omega (arith, few)) hz) (side_is_code a r x (nodes_of_term a) (some_term a) (term_valid a q.2 f.1 more z.used (omega (arith, few)) hx))
         (side_is_code b r y (nodes_of_term b) (some_term b) (term_valid b q.3 f.2 more x.used (omega (arith, few)) hy)) (omega (arith, some_term a)) (omega arith) (omega arith) (some_term a) few (omega arith) h
+    term_valid _ q f known rs few h = absurd f
 
-    chain_valid : (t : LogicTerm) (x : Code) (l : Links) (m : ℕ) → LinksRanged l → LinksWritable p bound g ts l → (known : List Reading) → 1 ≤ m → m + nodes_of_links l ≤ 400 → IsCode x (type_of t) m 1 → Begins (chain_code p bound t x l known).used ts
+    chain_valid : (t : LogicTerm) (x : Code) (l : Links) (m : ℕ) → LinksRanged [] l → LinksWritable p bound g ts l → (known : List Reading) → 1 ≤ m → m + nodes_of_links l ≤ 400 → IsCode x (type_of t) m 1
+        → Begins (chain_code p bound t x l known).used ts
         → IsCode (chain_code p bound t x l known) I32 (m + nodes_of_links l) 0
     chain_valid t x NoLink m q f known some few v h =
         record { statements = v.statements; deep = omega (arith, v.deep); flag = tt; typed = (refl, refl); parens = omega (arith, some) }
@@ -320,7 +324,7 @@ module _ (p : TranslationUnit) (bound : Bindings) (g : ℕ) (gs : List Signature
         connected_valid g gs ts result ls And z d (m + suc n) (n + l) (m + suc (n + l)) (relation_is_code r t u x y m n (m + suc n) vx vy some (some_term u) (omega arith))
         (chain_valid u start (Linked at2 r2 v rest) n q.1 f.1 more (some_term u) (omega (arith, few)) (again_is_code u y vy) hd) (omega (arith, some_term v)) (omega (arith, some)) (omega (arith, some_term u)) few h
 
-    pred_valid : (q : Predicate) → PredicateRanged q → PredicateWritable p bound g ts q → (known : List Reading) (rs : Types) → nodes_of_predicate q ≤ 400 → Begins (pred_code p bound q known rs).used ts
+    pred_valid : (q : Predicate) → PredicateRanged [] q → PredicateWritable p bound g ts q → (known : List Reading) (rs : Types) → nodes_of_predicate q ≤ 400 → Begins (pred_code p bound q known rs).used ts
         → IsCode (pred_code p bound q known rs) I32 (nodes_of_predicate q) 0
     pred_valid (logic.Truth at b) q f known rs few h = truth_valid g gs ts result ls b rs 0 (omega arith)
     pred_valid (logic.NonZero at t) q f known rs few h = nonzero_is_code t (term_code p bound t known rs) (term_valid t q f known rs few h)
@@ -348,6 +352,7 @@ module _ (p : TranslationUnit) (bound : Bindings) (g : ℕ) (gs : List Signature
         branch_valid g gs ts result ls I32 z x y (nodes_of_predicate c) (nodes_of_predicate a) (nodes_of_predicate b) 0 0 0 (suc (nodes_of_predicate c + nodes_of_predicate a + nodes_of_predicate b)) 0
         (pred_valid c q.0 f.0 known rs (omega (arith, few)) hz) (pred_valid a q.1 f.1 more z.used (omega (arith, few)) hx)
         (pred_valid b q.2 f.2 more x.used (omega (arith, few)) hy) (omega (arith, some_nodes a)) (omega arith) (omega arith) (some_nodes a) few (omega arith) h
+    pred_valid _ q f known rs few h = absurd f
 
   -- ---- the flag and the truth in registers
 

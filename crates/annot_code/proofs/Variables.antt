@@ -4,7 +4,10 @@ use Rattle.std.proofs.lemmas.Bool.Decides.{nat_tests}
 use Rattle.c_syntax.specs.declared.annotation.Range.{Range}
 use Rattle.c_syntax.specs.declared.annotation.Relation.{Relation}
 use Rattle.c_syntax.specs.declared.annotation.Relation.TheVariants.{Ne}
+use Rattle.c_syntax.specs.declared.expression.BinOp.{BinOp}
+use Rattle.c_syntax.specs.declared.expression.BinOp.TheVariants as operator
 use Rattle.c_syntax.specs.declared.expression.UnOp.{UnOp}
+use Rattle.c_syntax.specs.declared.expression.UnOp.TheVariants as prefix
 use Rattle.c_syntax.specs.declared.expression.Use.{Use}
 use Rattle.c_syntax.specs.declared.logic.Connective.{Connective}
 use Rattle.c_syntax.specs.declared.logic.Connective.TheVariants.{And, Xor, Or, Implies, Iff}
@@ -12,18 +15,19 @@ use Rattle.c_syntax.specs.declared.place.Place.{Place}
 use Rattle.c_syntax.specs.declared.types.CInt.{CInt}
 use Rattle.c_syntax.specs.declared.types.CInt.TheVariants as c
 use Rattle.c_syntax.specs.Ctypes.{PlainType, Int}
-use Rattle.c_syntax.specs.Ctypes as ctype
 use Rattle.c_syntax.specs.Formulas.{CastType, Integers, OfC}
 use Rattle.c_syntax.specs.Logic.{LogicTerm, NoLink, Linked, Predicate}
 use Rattle.c_syntax.specs.Logic as logic
 use Rattle.c_syntax.specs.Layouts.{int_size, IntegerType}
 use Rattle.c_model.specs.Integers.{value_of_bits}
-use Rattle.c_model.specs.Logic.{TermValue, Mathematical, compute, of_value, read_object, related, relates}
-use Rattle.c_model.specs.Memory.{Into, Value, Integer, Points, NoValue, Byte, Store, number_of, value_from, load, load_bytes}
+use Rattle.c_model.specs.Logic.{TermValue, Mathematical, Addressed, held_at, load_from, pointer_at, mathematical, both, Answer, Says, SaysNothing, OutOfSteps, compute, of_value, related, relates}
+use Rattle.c_model.specs.MemoryQuestions.{Address, address_of}
+use Rattle.c_model.specs.Memory.{Pointer, Into, Value, Integer, Points, NoValue, Byte, Store, number_of, value_from, load, load_bytes}
 use Rattle.c_model.specs.Memory.{◌>>=◌ as bind_loaded}
-use Rattle.c_model.specs.Predicates.{compute_one, converted, term, chain, pred}
-use Rattle.c_model.specs.State.{State, find, start_of}
+use Rattle.c_model.specs.Predicates.{compute_one, converted, in_type, chosen as chosen_term, term, chain, pred}
+use Rattle.c_model.specs.State.{State, Scope, find, start_of}
 use Rattle.c_model.specs.TermRanges.{type_range, place_range, TermRanged, PredicateRanged}
+use Rattle.c_model.specs.TypedPredicates.{IsCastType}
 use Rattle.mon_syntax.specs.declared.tree.MonType.{MonType}
 use Rattle.mon_syntax.specs.declared.tree.MonType.TheVariants as kind
 use Rattle.mon_syntax.specs.Arithmetic.{access_bytes}
@@ -33,10 +37,10 @@ use Rattle.mon_syntax.specs.Meaning.{◌>>=◌ as bind}
 use Rattle.c_effects.specs.Expressions.{register_type}
 use Rattle.annot_code.specs.Code.{term_type, access_of, Reading}
 use Rattle.annot_code.specs.Code.{is_same_reading, is_known, sure_readings_of_term, sure_readings, known_at_right}
-use Rattle.annot_code.specs.Does.{TermFound, PredicateFound}
+use Rattle.annot_code.specs.Does.{HasIntegers, TermFound, PredicateFound}
 use Rattle.annot_code.proofs.Exact.{value_of}
 use Rattle.annot_code.proofs.Parts.{after, chosen}
-use Rattle.annot_code.proofs.Quiet.{says, said_by, turned, connected, relation_says, not_says, connected_says, branch_says, both_is, chain_says, pred_quiet}
+use Rattle.annot_code.proofs.Quiet.{IsNoPointer, says, said_by, turned, connected, relation_says, not_says, connected_says, branch_says, both_is, chain_says, pred_quiet}
 
 -- ---- the type of a variable with a range
 
@@ -48,16 +52,8 @@ pub record IsInteger (t : Option PlainType) (r : Range) : Type 0 where
 pub some_same : {A : Type 0} (x y : A) → Some x ≡ Some y → x ≡ y
 some_same x y e = cc
 
-pub integer_of_range : (t : Option PlainType) (r : Range) → place_range t ≡ Some r → IsInteger t r
-integer_of_range (Some (Int k)) r e = record { int = k; is = refl; range_is = some_same (type_range k) r e }
-integer_of_range None r e = absurd cc
-integer_of_range (Some (ctype.Ptr t)) r e = absurd cc
-integer_of_range (Some (ctype.Array t n)) r e = absurd cc
-integer_of_range (Some (ctype.Struct n)) r e = absurd cc
-integer_of_range (Some ctype.Void) r e = absurd cc
-integer_of_range (Some (ctype.Named x)) r e = absurd cc
-integer_of_range (Some (ctype.StructTag x)) r e = absurd cc
-integer_of_range (Some (ctype.EnumTag x at)) r e = absurd cc
+pub integer_of_range : (t : Option PlainType) (r : Range) → HasIntegers t → place_range t ≡ Some r → IsInteger t r
+integer_of_range t r (k, is) e = record { int = k; is = is; range_is = some_same (type_range k) r (sym (ap place_range is) ∙ e) }
 
 -- ---- where it holds a number
 
@@ -99,11 +95,11 @@ pub record Variable (s : State) (at : Place) (t : Option PlainType) (r : Range) 
   pub is : t ≡ Some (Int int)
   pub number : ℕ
   pub found : find x.decl s.scope ≡ Some number
-  pub there : is_some (value_of (term (logic.Variable at t r x) s)) ≡ holds_number s.store (Into number 0) (pos 0) (access_bytes (access_of (term_type t)))
-  pub loads : (z : ℤ) → value_of (term (logic.Variable at t r x) s) ≡ Some z → load s.store (Into number 0) (IntegerType int) ≡ Some (Integer z)
+  pub there : is_some (value_of (term (logic.Variable at t r x) s [])) ≡ holds_number s.store (Into number 0) (pos 0) (access_bytes (access_of (term_type t)))
+  pub loads : (z : ℤ) → value_of (term (logic.Variable at t r x) s []) ≡ Some z → load s.store (Into number 0) (IntegerType int) ≡ Some (Integer z)
 
 pub variable_in_sight : (s : State) (at : Place) (t : Option PlainType) (r : Range) (x : Use) → place_range t ≡ Some r → TermFound s.scope (logic.Variable at t r x) → Variable s at t r x
-variable_in_sight s at t r x e (number, found) = record {
+variable_in_sight s at t r x e (int, number, found) = record {
   int = k;
   is = i.is;
   number = number;
@@ -115,19 +111,108 @@ variable_in_sight s at t r x e (number, found) = record {
 }
   where
     i : IsInteger t r
-    i = integer_of_range t r e
+    i = integer_of_range t r int e
 
     k : CInt
     k = i.int
 
-    reads : term (logic.Variable at t r x) s ≡ of_value (load s.store (Into number 0) (IntegerType k))
-    reads = ap (λ o. read_object s (start_of o) t) found ∙ ap (read_object s (Some (Into number 0))) i.is
+    reads : term (logic.Variable at t r x) s [] ≡ of_value (load s.store (Into number 0) (IntegerType k))
+    reads = ap (λ o. held_at s.store t (option_map address_of (start_of o))) found ∙ ap (λ t. held_at s.store t (Some (address_of (Into number 0)))) i.is
 
     by : (o : Option Value) (z : ℤ) → value_of (of_value o) ≡ Some z → o ≡ Some (Integer z)
     by None z p = absurd cc
     by (Some NoValue) z p = absurd cc
     by (Some (Points q)) z p = absurd cc
     by (Some (Integer y)) z p = ap (λ y. Some (Integer y)) (some_same y z p)
+
+-- ---- terms that are no pointers
+
+no_address : (k : CInt) (store : Store) (p : Option Pointer) → IsNoPointer (of_value (load_from store (IntegerType k) p))
+no_address k store None y e = cc
+no_address k store (Some p) y e = by (load_bytes store p (int_size k)) e
+  where
+    number : (o : Option ℕ) → of_value (option_map (λ n. Integer (value_of_bits k n)) o) ≡ Some (Addressed y) → ⊥
+    number None e = cc
+    number (Some n) e = cc
+
+    by : (o : Option (List Byte)) → of_value (bind_loaded o (value_from (IntegerType k))) ≡ Some (Addressed y) → ⊥
+    by None e = cc
+    by (Some bytes) e = number (number_of bytes) e
+
+no_held : (t : Option PlainType) → HasIntegers t → (store : Store) (o : Option Address) → IsNoPointer (held_at store t o)
+no_held t int store o y e = by o (ap (λ t. held_at store t o) (sym int.1) ∙ e)
+  where
+    by : (o : Option Address) → held_at store (Some (Int int.0)) o ≡ Some (Addressed y) → ⊥
+    by None e = cc
+    by (Some x) e = no_address int.0 store (pointer_at x) y e
+
+no_unary : (op : UnOp) (o : Option TermValue) → IsNoPointer (compute_one op o)
+no_unary op None y e = cc
+no_unary prefix.Plus (Some (Mathematical x)) y e = cc
+no_unary prefix.Plus (Some (Addressed x)) y e = cc
+no_unary prefix.Minus (Some (Mathematical x)) y e = cc
+no_unary prefix.Minus (Some (Addressed x)) y e = cc
+no_unary prefix.Flip (Some (Mathematical x)) y e = cc
+no_unary prefix.Flip (Some (Addressed x)) y e = cc
+no_unary prefix.Not (Some x) y e = cc
+no_unary prefix.Deref (Some x) y e = cc
+no_unary prefix.Address (Some x) y e = cc
+
+no_mathematical : (o : Option ℤ) → IsNoPointer (mathematical o)
+no_mathematical None y e = cc
+no_mathematical (Some z) y e = cc
+
+no_compute : (op : BinOp) (i j : ℤ) → IsNoPointer (compute op i j)
+no_compute operator.Add i j y e = cc
+no_compute operator.Sub i j y e = cc
+no_compute operator.Mul i j y e = cc
+no_compute operator.Div i j y e = no_mathematical _ y e
+no_compute operator.Rem i j y e = no_mathematical _ y e
+no_compute operator.Shl i j y e = no_mathematical _ y e
+no_compute operator.Shr i j y e = no_mathematical _ y e
+no_compute operator.BitAnd i j y e = cc
+no_compute operator.BitOr i j y e = cc
+no_compute operator.BitXor i j y e = cc
+no_compute operator.Eq i j y e = cc
+no_compute operator.Ne i j y e = cc
+no_compute operator.Lt i j y e = cc
+no_compute operator.Le i j y e = cc
+no_compute operator.Gt i j y e = cc
+no_compute operator.Ge i j y e = cc
+
+no_both : (op : BinOp) (a b : Option TermValue) → IsNoPointer (both a b (compute op))
+no_both op None b y e = cc
+no_both op (Some (Mathematical i)) None y e = cc
+no_both op (Some (Mathematical i)) (Some (Mathematical j)) y e = no_compute op i j y e
+no_both op (Some (Mathematical i)) (Some (Addressed j)) y e = cc
+no_both op (Some (Addressed i)) None y e = cc
+no_both op (Some (Addressed i)) (Some b) y e = cc
+
+no_typed : (k : CInt) (o : Option TermValue) → IsNoPointer (in_type (Int k) o)
+no_typed k None y e = cc
+no_typed k (Some (Mathematical x)) y e = cc
+no_typed k (Some (Addressed x)) y e = cc
+
+no_chosen : (A : Answer) (a b : Option TermValue) → IsNoPointer a → IsNoPointer b → IsNoPointer (chosen_term A a b)
+no_chosen (Says true n) a b na nb y e = na y e
+no_chosen (Says false n) a b na nb y e = nb y e
+no_chosen (SaysNothing n) a b na nb y e = cc
+no_chosen OutOfSteps a b na nb y e = cc
+
+-- the value of a found term is a number
+pub number_found : (t : LogicTerm) (s : State) (scope : Scope) → TermFound scope t → IsNoPointer (term t s [])
+number_found (logic.Number at t r n) s scope f y q = cc
+number_found (logic.Letter at t r n) s scope f y q = cc
+number_found (logic.Variable at t r x) s scope f y q = no_held t f.0 s.store (option_map address_of (start_of (find x.decl s.scope))) y q
+number_found (logic.Unary at t r op a) s scope f y q = no_unary op (term a s []) y q
+number_found (logic.Binary at t r op a b) s scope f y q = no_both op (term a s []) (term b s []) y q
+number_found (logic.Cast at t r Integers a) s scope f y q = number_found a s scope f.1 y q
+number_found (logic.Cast at t r (OfC to) a) s scope f y q =
+    let i = f.0 in
+    no_typed i.int (term a s []) y (ap (λ k. in_type k (term a s [])) (sym i.is) ∙ q)
+number_found (logic.Choice at t r c a b) s scope f y q =
+    no_chosen (pred c s [] 0) (term a s []) (term b s []) (number_found a s scope f.1) (number_found b s scope f.2) y q
+number_found _ s scope f y q = absurd f
 
 -- ---- what is known
 
@@ -181,7 +266,7 @@ known_is_read s (y ∷ ys) x h e = by (known_is_read s ys x h.1) (is_same_readin
     by rest false p f = rest f
 
 -- a known variable has a value
-pub read_value : (s : State) (at : Place) (t : Option PlainType) (r : Range) (x : Use) → (v : Variable s at t r x) → IsRead s (record { decl = x.decl; kind = term_type t }) → is_some (value_of (term (logic.Variable at t r x) s)) ≡ true
+pub read_value : (s : State) (at : Place) (t : Option PlainType) (r : Range) (x : Use) → (v : Variable s at t r x) → IsRead s (record { decl = x.decl; kind = term_type t }) → is_some (value_of (term (logic.Variable at t r x) s [])) ≡ true
 read_value s at t r x v h =
     let same : h.number ≡ v.number = some_same h.number v.number (sym h.found ∙ v.found) in
     v.there ∙ ap (λ n. holds_number s.store (Into n 0) (pos 0) (access_bytes (access_of (term_type t)))) (sym same) ∙ h.holds
@@ -200,31 +285,45 @@ chosen_some (Some x) a b z e = (x, refl)
 pub unary_some : (op : UnOp) (o : Option TermValue) (z : ℤ) → value_of (compute_one op o) ≡ Some z → (x : ℤ) × (value_of o ≡ Some x)
 unary_some op None z e = absurd cc
 unary_some op (Some (Mathematical x)) z e = (x, refl)
+unary_some op (Some (Addressed x)) z e = absurd (no_value op e)
+  where
+    no_value : (op : UnOp) → value_of (compute_one op (Some (Addressed x))) ≡ Some z → ⊥
+    no_value prefix.Plus e = cc
+    no_value prefix.Minus e = cc
+    no_value prefix.Flip e = cc
+    no_value prefix.Not e = cc
+    no_value prefix.Deref e = cc
+    no_value prefix.Address e = cc
 
-pub cast_some : (to : CastType) (o : Option TermValue) (z : ℤ) → value_of (converted to o) ≡ Some z → (x : ℤ) × (value_of o ≡ Some x)
-cast_some Integers o z e = (z, e)
-cast_some (OfC t) None z e = absurd cc
-cast_some (OfC t) (Some (Mathematical x)) z e = (x, refl)
+pub cast_some : (to : CastType) → IsCastType to → (o : Option TermValue) (z : ℤ) → value_of (converted to o) ≡ Some z → (x : ℤ) × (value_of o ≡ Some x)
+cast_some Integers g o z e = (z, e)
+cast_some (OfC t) g None z e = absurd cc
+cast_some (OfC t) g (Some (Mathematical x)) z e = (x, refl)
+cast_some (OfC t) g (Some (Addressed x)) z e = absurd (by (ap (λ k. value_of (in_type k (Some (Addressed x)))) (sym g.is) ∙ e))
+  where
+    by : value_of (in_type (Int g.int) (Some (Addressed x))) ≡ Some z → ⊥
+    by e = cc
 
-pub term_read : (s : State) (t : LogicTerm) → TermRanged t → TermFound s.scope t → (z : ℤ) → value_of (term t s) ≡ Some z → AllRead s (sure_readings_of_term t)
+pub term_read : (s : State) (t : LogicTerm) → TermRanged [] t → TermFound s.scope t → (z : ℤ) → value_of (term t s []) ≡ Some z → AllRead s (sure_readings_of_term t)
 term_read s (logic.Number at t r n) q f z e = tt
 term_read s (logic.Letter at t r n) q f z e = tt
 term_read s (logic.Variable at t r x) q f z e =
     let v = variable_in_sight s at t r x q f in (record { number = v.number; found = v.found; holds = sym v.there ∙ ap is_some e }, tt)
-term_read s (logic.Unary at t r op a) q f z e = let x = unary_some op (term a s) z e in term_read s a q.1 f x.0 x.1
+term_read s (logic.Unary at t r op a) q f z e = let x = unary_some op (term a s []) z e in term_read s a q.1 f x.0 x.1
 term_read s (logic.Binary at t r op a b) q f z e =
-    let x = after_some (value_of (term a s)) (λ x. after (value_of (term b s)) (λ y. value_of (compute op x y))) z (sym (both_is op (term a s) (term b s)) ∙ e) in
-    let y = after_some (value_of (term b s)) (λ y. value_of (compute op x.0 y)) z x.2 in
+    let x = after_some (value_of (term a s [])) (λ x. after (value_of (term b s [])) (λ y. value_of (compute op x y))) z (sym (both_is op (term a s []) (term b s [])) ∙ e) in
+    let y = after_some (value_of (term b s [])) (λ y. value_of (compute op x.0 y)) z x.2 in
     read-append s (sure_readings_of_term a) (sure_readings_of_term b) (term_read s a q.1 f.0 x.0 x.1) (term_read s b q.2 f.1 y.0 y.1)
-term_read s (logic.Cast at t r to a) q f z e = let x = cast_some to (term a s) z e in term_read s a q.1 f x.0 x.1
+term_read s (logic.Cast at t r to a) q f z e = let x = cast_some to f.0 (term a s []) z e in term_read s a q.1 f.1 x.0 x.1
 term_read s (logic.Choice at t r c a b) q f z e = tt
+term_read s _ q f z e = absurd f
 
 -- both terms of a relation
-pub relation_read : (s : State) (r : Relation) (t u : LogicTerm) → TermRanged t → TermRanged u → TermFound s.scope t → TermFound s.scope u → (b : Bool) → said_by (related r (term t s) (term u s) 0) ≡ Some b
+pub relation_read : (s : State) (r : Relation) (t u : LogicTerm) → TermRanged [] t → TermRanged [] u → TermFound s.scope t → TermFound s.scope u → (b : Bool) → said_by (related s.store r (term t s []) (term u s []) 0) ≡ Some b
     → AllRead s (sure_readings_of_term t ++ sure_readings_of_term u)
 relation_read s r t u p q f g b e =
-    let x = after_some (value_of (term t s)) (λ x. after (value_of (term u s)) (λ y. Some (relates r x y))) b (sym (relation_says r (term t s) (term u s)) ∙ e) in
-    let y = after_some (value_of (term u s)) (λ y. Some (relates r x.0 y)) b x.2 in
+    let x = after_some (value_of (term t s [])) (λ x. after (value_of (term u s [])) (λ y. Some (relates r x y))) b (sym (relation_says s.store r (term t s []) (term u s []) (number_found t s s.scope f) (number_found u s s.scope g)) ∙ e) in
+    let y = after_some (value_of (term u s [])) (λ y. Some (relates r x.0 y)) b x.2 in
     read-append s (sure_readings_of_term t) (sure_readings_of_term u) (term_read s t p f x.0 x.1) (term_read s u q g y.0 y.1)
 
 turned_some : (u : Option Bool) (b : Bool) → turned u ≡ Some b → (x : Bool) × (u ≡ Some x)
@@ -262,24 +361,25 @@ connected_read s at Xor p q b left right e =
     let y = xor_some (says p s) (says q s) b e in
     read-append s (sure_readings p) (sure_readings q) (left x.0 x.1) (right y.0 y.1)
 
-pub pred_read : (s : State) (p : Predicate) → PredicateRanged p → PredicateFound s.scope p → (b : Bool) → says p s ≡ Some b → AllRead s (sure_readings p)
+pub pred_read : (s : State) (p : Predicate) → PredicateRanged [] p → PredicateFound s.scope p → (b : Bool) → says p s ≡ Some b → AllRead s (sure_readings p)
 pred_read s (logic.Truth at v) q f b e = tt
 pred_read s (logic.NonZero at t) q f b e =
-    let x = after_some (value_of (term t s)) (λ x. after (Some (pos 0)) (λ y. Some (relates Ne x y))) b (sym (relation_says Ne (term t s) (Some (Mathematical (pos 0)))) ∙ e) in
+    let x = after_some (value_of (term t s [])) (λ x. after (Some (pos 0)) (λ y. Some (relates Ne x y))) b (sym (relation_says s.store Ne (term t s []) (Some (Mathematical (pos 0))) (number_found t s s.scope f) (λ y q. cc)) ∙ e) in
     term_read s t q f x.0 x.1
 pred_read s (logic.Chain at t NoLink) q f b e = tt
 pred_read s (logic.Chain at t (Linked at2 r u rest)) q f b e =
-    let x = chosen_some (said_by (related r (term t s) (term u s) 0)) (said_by (chain (term u s) rest s 0)) (Some false) b (sym (chain_says r (term t s) u rest s) ∙ e) in
+    let x = chosen_some (said_by (related s.store r (term t s []) (term u s []) 0)) (said_by (chain (term u s []) rest s [] 0)) (Some false) b (sym (chain_says r (term t s []) u rest s) ∙ e) in
     relation_read s r t u q.0 q.1.0 f.0 f.1.0 x.0 x.1
-pred_read s (logic.Not at p) q f b e = let x = turned_some (says p s) b (sym (not_says p s) ∙ e) in pred_read s p q f x.0 x.1
+pred_read s (logic.Not at p) q f b e = let x = turned_some (says p s) b (sym (not_says p s f) ∙ e) in pred_read s p q f x.0 x.1
 pred_read s (logic.Connected at c p q) h f b e =
     connected_read s at c p q b (λ x g. pred_read s p h.0 f.0 x g) (λ x g. pred_read s q h.1 f.1 x g)
-    (sym (connected_says c (pred p s) (pred q s) (pred_quiet p s) (pred_quiet q s)) ∙ e)
+    (sym (connected_says c (pred p s []) (pred q s []) (pred_quiet p s f.0) (pred_quiet q s f.1)) ∙ e)
 pred_read s (logic.Branch at c p q) h f b e =
-    let x = chosen_some (says c s) (says p s) (says q s) b (sym (branch_says c p q s) ∙ e) in pred_read s c h.0 f.0 x.0 x.1
+    let x = chosen_some (says c s) (says p s) (says q s) b (sym (branch_says c p q s f.0 f.1 f.2) ∙ e) in pred_read s c h.0 f.0 x.0 x.1
+pred_read s _ q f b e = absurd f
 
 -- what is known at the right side of a connective, wherever that matters
-pub known_right : (s : State) (c : Connective) (known : List Reading) (p : Predicate) → PredicateRanged p → PredicateFound s.scope p → AllRead s known → (b : Bool) → says p s ≡ Some b → AllRead s (known_at_right c known p)
+pub known_right : (s : State) (c : Connective) (known : List Reading) (p : Predicate) → PredicateRanged [] p → PredicateFound s.scope p → AllRead s known → (b : Bool) → says p s ≡ Some b → AllRead s (known_at_right c known p)
 known_right s And known p q f h b e = read-append s known (sure_readings p) h (pred_read s p q f b e)
 known_right s Or known p q f h b e = read-append s known (sure_readings p) h (pred_read s p q f b e)
 known_right s Implies known p q f h b e = read-append s known (sure_readings p) h (pred_read s p q f b e)

@@ -17,7 +17,7 @@ use Rattle.c_syntax.specs.declared.types.Width.{Width}
 use Rattle.c_syntax.specs.declared.types.Width.TheVariants.{W32, W64, W128}
 use Rattle.c_syntax.specs.Ctypes.{PlainType}
 use Rattle.c_syntax.specs.Formulas.{CastType, Integers, OfC}
-use Rattle.c_syntax.specs.Logic.{LogicTerm, Links, NoLink, Linked, Predicate, ClauseBody, Raw, Holds, Annotation, range_of}
+use Rattle.c_syntax.specs.Logic.{LogicTerm, Links, NoLink, Linked, Predicate, ClauseBody, Raw, Holds, Value, Behaviors, Annotation, range_of}
 use Rattle.c_syntax.specs.Logic as logic
 use Rattle.c_syntax.specs.Programs.{TranslationUnit}
 use Rattle.c_model.specs.Integers.{integer_type, truth}
@@ -260,6 +260,15 @@ sure_readings_of_term (logic.Unary at t r op a) = sure_readings_of_term a
 sure_readings_of_term (logic.Binary at t r op a b) = sure_readings_of_term a ++ sure_readings_of_term b
 sure_readings_of_term (logic.Cast at t r to a) = sure_readings_of_term a
 sure_readings_of_term (logic.Choice at t r c a b) = []
+sure_readings_of_term (logic.Named at t r x) = []
+sure_readings_of_term (logic.At at t r l a) = []
+sure_readings_of_term (logic.Null at t r) = []
+sure_readings_of_term (logic.Deref at t r a) = []
+sure_readings_of_term (logic.Member at t r d a) = []
+sure_readings_of_term (logic.Address at t r a) = []
+sure_readings_of_term (logic.Moved at t r op n a b) = []
+sure_readings_of_term (logic.Difference at t r n a b) = []
+sure_readings_of_term (logic.Told at t r f a) = []
 
 abbrev pub sure_readings_of_links : Links → List Reading
 sure_readings_of_links NoLink = []
@@ -278,6 +287,9 @@ sure_readings (logic.Connected at connective.Implies p q) = sure_readings p
 sure_readings (logic.Connected at connective.Iff p q) = sure_readings p ++ sure_readings q
 sure_readings (logic.Connected at connective.Xor p q) = sure_readings p ++ sure_readings q
 sure_readings (logic.Branch at c p q) = sure_readings c
+sure_readings (logic.Quantified at quantifier guards q) = []
+sure_readings (logic.Asks at question zone) = []
+sure_readings (logic.Separated at zones) = []
 
 -- what is known where the right side of a connective runs
 abbrev pub known_at_right : Connective → List Reading → Predicate → List Reading
@@ -328,6 +340,16 @@ module _ (p : TranslationUnit) (bound : Bindings) where
         let x = term_code a (known ++ sure_readings c) z.used in
         let y = term_code b (known ++ sure_readings c) x.used in
         branch w z (with_value (in_type (type_of a) w x.value) x) (with_value (in_type (type_of b) w y.value) y)
+    -- other forms have no code yet
+    term_code (logic.Named at t r x) known rs = sure_code (Constant I32 (pos 0)) rs
+    term_code (logic.At at t r l a) known rs = sure_code (Constant I32 (pos 0)) rs
+    term_code (logic.Null at t r) known rs = sure_code (Constant I32 (pos 0)) rs
+    term_code (logic.Deref at t r a) known rs = sure_code (Constant I32 (pos 0)) rs
+    term_code (logic.Member at t r d a) known rs = sure_code (Constant I32 (pos 0)) rs
+    term_code (logic.Address at t r a) known rs = sure_code (Constant I32 (pos 0)) rs
+    term_code (logic.Moved at t r op n a b) known rs = sure_code (Constant I32 (pos 0)) rs
+    term_code (logic.Difference at t r n a b) known rs = sure_code (Constant I32 (pos 0)) rs
+    term_code (logic.Told at t r f a) known rs = sure_code (Constant I32 (pos 0)) rs
 
     -- a chain from its first term on, whose code this is
     pub chain_code : LogicTerm → Code → Links → List Reading → Code
@@ -354,6 +376,9 @@ module _ (p : TranslationUnit) (bound : Bindings) where
         let z = pred_code c known rs in
         let x = pred_code a (known ++ sure_readings c) z.used in
         branch I32 z x (pred_code b (known ++ sure_readings c) x.used)
+    pred_code (logic.Quantified at quantifier guards q) known rs = truth_code false rs
+    pred_code (logic.Asks at question zone) known rs = truth_code false rs
+    pred_code (logic.Separated at zones) known rs = truth_code false rs
 
 -- ---- the flag and the truth in registers
 
@@ -388,13 +413,15 @@ judgement p bound q rs = let x = pred_code p bound q [] rs in judged_with x.flag
 
 -- ---- annotations
 
--- what isn't typed says nothing
+-- what isn't typed says nothing, and so do the clauses that have no code yet
 abbrev pub nothing_said : List MonType → Judgement
 nothing_said rs = judged_anew (Constant I32 (pos 0)) (truth_code false rs)
 
 abbrev pub clause_judgement : TranslationUnit → Bindings → ClauseBody → List MonType → Judgement
 clause_judgement p bound (Raw f) rs = nothing_said rs
 clause_judgement p bound (Holds q) rs = judgement p bound q rs
+clause_judgement p bound (Value t) rs = nothing_said rs
+clause_judgement p bound (Behaviors names) rs = nothing_said rs
 
 -- an annotation is judged, and stops the run where it says nothing or is false
 abbrev pub asserted : Annotation → Judgement → MonStatements

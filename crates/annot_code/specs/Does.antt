@@ -1,6 +1,8 @@
 -- What the code of a predicate does, over the blocks of the source's store: its flag register says whether the predicate says something, and its truth
 -- register whether that is true.
 use Rattle.std.specs.Prelude.{◌≡◌, ℕ, ◌<◌, ◌≤◌, ℤ, Bool, false, List, [], length, Option, Some, None, slice_get}
+use Rattle.c_syntax.specs.declared.types.CInt.{CInt}
+use Rattle.c_syntax.specs.Ctypes.{PlainType, Int}
 use Rattle.c_syntax.specs.Logic.{LogicTerm, Links, NoLink, Linked, Predicate, range_of}
 use Rattle.c_syntax.specs.Logic as logic
 use Rattle.c_syntax.specs.Programs.{TranslationUnit}
@@ -11,6 +13,7 @@ use Rattle.c_model.specs.Predicates.{term, pred}
 use Rattle.c_model.specs.Ranges.{LiesIn, IsWithin128}
 use Rattle.c_model.specs.State.{State, Scope, find}
 use Rattle.c_model.specs.TermRanges.{TermRanged, PredicateRanged}
+use Rattle.c_model.specs.TypedPredicates.{IsCastType}
 use Rattle.mon_syntax.specs.declared.tree.MonType.{MonType}
 use Rattle.mon_syntax.specs.BlockMemory.{Blocks, over_blocks, is_some}
 use Rattle.mon_syntax.specs.Meaning.{Result, Done, Flow, Next, eval, exec_all}
@@ -54,16 +57,21 @@ pub record Stands (w : Setting) : Type 0 where
   pub points : (x number : ℕ) → find x w.now.scope ≡ Some number → (later : List Value) → Same w.low w.regs later
       → eval over_blocks w.globals (pointer_to w.unit w.bound x) later w.target.mem ≡ Some (Points (Into number 0))
 
--- the variables that are read are in sight
+-- a type of integers
+abbrev pub HasIntegers : Option PlainType → Type 0
+HasIntegers t = (k : CInt) × (t ≡ Some (Int k))
+
+-- the variables that are read are in sight and have integer types; there are no pointers, quantifiers, labels, and names of their own
 abbrev mutual
   pub TermFound : Scope → LogicTerm → Type 0
   TermFound scope (logic.Number at t r n) = Unit {0}
   TermFound scope (logic.Letter at t r n) = Unit {0}
-  TermFound scope (logic.Variable at t r x) = (number : ℕ) × (find x.decl scope ≡ Some number)
+  TermFound scope (logic.Variable at t r x) = HasIntegers t × (number : ℕ) × (find x.decl scope ≡ Some number)
   TermFound scope (logic.Unary at t r op a) = TermFound scope a
   TermFound scope (logic.Binary at t r op a b) = TermFound scope a × TermFound scope b
-  TermFound scope (logic.Cast at t r to a) = TermFound scope a
+  TermFound scope (logic.Cast at t r to a) = IsCastType to × TermFound scope a
   TermFound scope (logic.Choice at t r c a b) = PredicateFound scope c × TermFound scope a × TermFound scope b
+  TermFound scope _ = ⊥
 
   pub LinksFound : Scope → Links → Type 0
   LinksFound scope NoLink = Unit {0}
@@ -76,11 +84,12 @@ abbrev mutual
   PredicateFound scope (logic.Not at p) = PredicateFound scope p
   PredicateFound scope (logic.Connected at c p q) = PredicateFound scope p × PredicateFound scope q
   PredicateFound scope (logic.Branch at c p q) = PredicateFound scope c × PredicateFound scope p × PredicateFound scope q
+  PredicateFound scope _ = ⊥
 
 -- terms that keep their ranges have their values there
 pub record RangesHold (s : State) : Type 0 where
-  pub lies : (t : LogicTerm) → TermRanged t → (z : ℤ) → term t s ≡ Some (Mathematical z) → LiesIn (range_of t) z
-  pub within : (t : LogicTerm) → TermRanged t → IsWithin128 (range_of t)
+  pub lies : (t : LogicTerm) → TermFound s.scope t → TermRanged [] t → (z : ℤ) → term t s [] ≡ Some (Mathematical z) → LiesIn (range_of t) z
+  pub within : (t : LogicTerm) → TermRanged [] t → IsWithin128 (range_of t)
 
 -- what a predicate says that takes no step
 abbrev pub said : Option Bool → ℕ → Answer
@@ -97,12 +106,12 @@ pub record Judges (w : Setting) (p : Predicate) (rs : List MonType) (j : Judgeme
   pub same : Same (length rs) w.regs after
   pub is : runs w j.stmts w.regs ≡ Done (Next after) w.target []
   pub says : Option Bool
-  pub means : (n : ℕ) → pred p w.now n ≡ said says n
+  pub means : (n : ℕ) → pred p w.now [] n ≡ said says n
   pub flag_is : slice_get after j.flag ≡ Some (Integer (truth (is_some says)))
   pub truth_is : slice_get after j.truth ≡ Some (Integer (truth (is_true says)))
 
 -- so it is for each predicate that keeps its ranges, where there are registers enough
 abbrev pub CodeJudges : Type 0
 CodeJudges =
-    (w : Setting) (p : Predicate) (rs : List MonType) → Stands w → RangesHold w.now → PredicateRanged p → PredicateFound w.now.scope p
+    (w : Setting) (p : Predicate) (rs : List MonType) → Stands w → RangesHold w.now → PredicateRanged [] p → PredicateFound w.now.scope p
     → w.low ≤ length rs → length (judgement w.unit w.bound p rs).used ≤ length w.regs → Judges w p rs (judgement w.unit w.bound p rs)

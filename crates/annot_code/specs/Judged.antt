@@ -1,5 +1,5 @@
 -- What the code that judges a predicate does, and that it is valid, where it is made after these names.
-use Rattle.std.specs.Prelude.{◌≡◌, ℕ, ◌≤◌, length, List, Option}
+use Rattle.std.specs.Prelude.{◌≡◌, ℕ, ◌≤◌, length, List, [], Option}
 use Rattle.c_syntax.specs.Logic.{Predicate}
 use Rattle.c_model.specs.Formed.{nodes_of_predicate}
 use Rattle.c_model.specs.TermRanges.{PredicateRanged}
@@ -14,12 +14,12 @@ use Rattle.annot_code.specs.Validity.{PredicateWritable, Begins, IsValidCode}
 -- it judges each predicate that keeps its ranges and whose variables are in sight, where there are registers enough
 abbrev pub JudgesIn : Names → Predicate → Judgement → Type 0
 JudgesIn n q j =
-    (w : Setting) → w.unit ≡ unit_of n → w.bound ≡ n.table.bound → Stands w → RangesHold w.now → PredicateRanged q → PredicateFound w.now.scope q
+    (w : Setting) → w.unit ≡ unit_of n → w.bound ≡ n.table.bound → Stands w → RangesHold w.now → PredicateRanged [] q → PredicateFound w.now.scope q
     → w.low ≤ length n.table.kinds → length j.used ≤ length w.regs → Judges w q n.table.kinds j
 
 -- among any functions and in any of them, for each predicate that keeps its ranges and can be written
 abbrev pub IsValidIn : Names → Predicate → Judgement → Type 0
 IsValidIn n q j =
     (globals : ℕ) (gs : List Signature) (ts : Types) (result : Option MonType) (ls : Labels)
-    → PredicateRanged q → PredicateWritable (unit_of n) n.table.bound globals ts q → nodes_of_predicate q ≤ 400 → Begins j.used ts
+    → PredicateRanged [] q → PredicateWritable (unit_of n) n.table.bound globals ts q → nodes_of_predicate q ≤ 400 → Begins j.used ts
     → IsValidCode globals gs ts result ls j

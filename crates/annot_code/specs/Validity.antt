@@ -1,5 +1,5 @@
 -- The code of a predicate is valid monitored C: its types, and how deep it stands.
-use Rattle.std.specs.Prelude.{◌≡◌, ℕ, ◌≤◌, false, List, ◌++◌, Option, Some, slice_get}
+use Rattle.std.specs.Prelude.{◌≡◌, ℕ, ◌≤◌, false, List, [], ◌++◌, Option, Some, slice_get}
 use Rattle.std.specs.Ordering.{int_eq}
 use Rattle.c_syntax.specs.Logic.{LogicTerm, Links, NoLink, Linked, Predicate}
 use Rattle.c_syntax.specs.Logic as logic
@@ -7,24 +7,28 @@ use Rattle.c_syntax.specs.Programs.{TranslationUnit}
 use Rattle.c_model.specs.Formed.{nodes_of_predicate}
 use Rattle.c_model.specs.Ranges.{least_i128}
 use Rattle.c_model.specs.TermRanges.{PredicateRanged}
+use Rattle.c_model.specs.TypedPredicates.{IsCastType}
 use Rattle.mon_syntax.specs.declared.tree.MonType.{MonType}
 use Rattle.mon_syntax.specs.declared.tree.MonType.TheVariants.{I32, Ptr}
 use Rattle.mon_syntax.specs.Registers.{Bindings}
 use Rattle.mon_syntax.specs.Valid.{Types, HasType, AreStatements, Labels, Signature, depth_of_all}
 use Rattle.c_effects.specs.Expressions.{pointer_to}
 use Rattle.annot_code.specs.Code.{Judgement, judgement}
+use Rattle.annot_code.specs.Does.{HasIntegers}
 
--- numbers can be written, and the pointers to variables are pointers, where there are so many globals and registers of these types
+-- numbers can be written, and the pointers to variables, which have integer types, are pointers, where there are so many globals and registers of these
+-- types
 module _ (p : TranslationUnit) (bound : Bindings) (globals : ℕ) (ts : Types) where
   abbrev mutual
     pub TermWritable : LogicTerm → Type 0
     TermWritable (logic.Number at t r n) = int_eq n least_i128 ≡ false
     TermWritable (logic.Letter at t r n) = int_eq n least_i128 ≡ false
-    TermWritable (logic.Variable at t r x) = HasType globals ts (pointer_to p bound x.decl) Ptr
+    TermWritable (logic.Variable at t r x) = HasIntegers t × HasType globals ts (pointer_to p bound x.decl) Ptr
     TermWritable (logic.Unary at t r op a) = TermWritable a
     TermWritable (logic.Binary at t r op a b) = TermWritable a × TermWritable b
-    TermWritable (logic.Cast at t r to a) = TermWritable a
+    TermWritable (logic.Cast at t r to a) = IsCastType to × TermWritable a
     TermWritable (logic.Choice at t r c a b) = PredicateWritable c × TermWritable a × TermWritable b
+    TermWritable _ = ⊥
 
     pub LinksWritable : Links → Type 0
     LinksWritable NoLink = Unit {0}
@@ -37,6 +41,7 @@ module _ (p : TranslationUnit) (bound : Bindings) (globals : ℕ) (ts : Types) w
     PredicateWritable (logic.Not at q) = PredicateWritable q
     PredicateWritable (logic.Connected at c a b) = PredicateWritable a × PredicateWritable b
     PredicateWritable (logic.Branch at c a b) = PredicateWritable c × PredicateWritable a × PredicateWritable b
+    PredicateWritable _ = ⊥
 
 -- types that begin with these
 pub record Begins (rs ts : Types) : Type 0 where
@@ -58,5 +63,5 @@ abbrev pub CodeIsValid : Type 0
 CodeIsValid =
     (p : TranslationUnit) (bound : Bindings) (globals : ℕ) (gs : List Signature) (ts : Types) (result : Option MonType) (ls : Labels) (q : Predicate)
     (rs : List MonType)
-    → PredicateRanged q → PredicateWritable p bound globals ts q → nodes_of_predicate q ≤ 400 → Begins (judgement p bound q rs).used ts
+    → PredicateRanged [] q → PredicateWritable p bound globals ts q → nodes_of_predicate q ≤ 400 → Begins (judgement p bound q rs).used ts
     → IsValidCode globals gs ts result ls (judgement p bound q rs)
