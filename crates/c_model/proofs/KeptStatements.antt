@@ -11,7 +11,6 @@ use Rattle.c_model.specs.FullExpressions.{EachInCases}
 use Rattle.c_model.specs.Formed.{depth_of_cases}
 use Rattle.c_model.proofs.TypedParts.{gives_given}
 use Rattle.c_model.proofs.KeptExpressions.{in_type_pure}
-use Rattle.c_model.specs.EffectPlaces.{CasesPlaced}
 use Rattle.std.proofs.Common.{◌≡◌, suc, ◌+◌, ◌≤◌, max, List, [], ◌∷◌, Option, Some, None, Bool, true, false, not, ◌&&◌, if◌then◌else◌, cond, refl, sym, ap, ◌∙◌, subst}
 use Rattle.c_syntax.specs.declared.place.Place.{Place}
 use Rattle.c_syntax.specs.Ctypes.{PlainType}
@@ -176,10 +175,6 @@ first_kept s known r (First (Declare ds)) p h =
     (gives_one ArePlaced (λ i. FirstPlaced (First i)) (typed_declarations s ds) (λ ds. Good (Declare ds)) (declarations_kept s known ds p h) (λ xs k. k)) (λ i k. k)
 first_kept s known r _ p h = absurd p
 
-record AreCasesKept (a b : Cases) : Type 0 where
-  placed : CasesPlaced AreReadAsserts b
-  deep : depth_of_cases b ≡ depth_of_cases a
-
 controlling_kept : (s : Sight) (e : Expression) → IsPure e → Gives (λ (x : CInt × Expression). IsPure x.1) (one_part (decayed_of (typed s e)) controlling)
 controlling_kept s e p =
     gives_one IsPure (λ (x : CInt × Expression). IsPure x.1) (decayed_of (typed s e)) controlling (value_pure s e p) (λ x h.
@@ -218,13 +213,8 @@ mutual
       record { placed = (p.0, f, g, k, l.placed); deep = ap (λ n. 1 + n) l.deep }))))
   statement_kept s known r (Break at) p h = gives_where (IsKept (Break at)) r.breaks (no_type at) (Good (Break at)) (λ e. record { placed = tt; deep = refl })
   statement_kept s known r (Continue at) p h = gives_where (IsKept (Continue at)) r.loops (no_type at) (Good (Continue at)) (λ e. record { placed = tt; deep = refl })
-  statement_kept s known r (Labelled at l a) p h =
-      gives_one (IsKept a) (IsKept (Labelled at l a)) (typed_statement s r a) (λ a. Good (Labelled at l a)) (statement_kept s known r a p h) (λ y g. record { placed = g.placed; deep = ap (λ n. 1 + n) g.deep })
-  statement_kept s known r (Switch at e cases) p h =
-      gives_one (λ (x : CInt × Expression). IsPure x.1) (IsKept (Switch at e cases)) (one_part (decayed_of (typed s e)) controlling) (λ x. one_part (typed_cases s (in_switch r) x.0 [] false cases) (λ cases. Good (Switch at x.1 cases)))
-      (controlling_kept s e p.0) (λ x f.
-      gives_one (AreCasesKept cases) (IsKept (Switch at e cases)) (typed_cases s (in_switch r) x.0 [] false cases) (λ cs. Good (Switch at x.1 cs)) (cases_kept s known (in_switch r) x.0 [] false cases p.1 h.1)
-      (λ cs k. record { placed = (f, k.placed); deep = ap (λ n. 1 + n) k.deep }))
+  statement_kept s known r (Labelled at l a) p h = absurd p
+  statement_kept s known r (Switch at e cases) p h = absurd p
   statement_kept s known r (Return at e) p h =
       gives_one (WhereAny IsBare) (IsKept (Return at e)) (typed_maybe (λ e. decayed_of (typed s e)) e) (returned s at r.result)
       (maybe_kept IsPureOrCall HasBareCall IsBare (λ e. decayed_of (typed s e)) (λ x q b. value_bare s known x (bare_read x q b)) e p h) (λ o f. by (returned s at r.result o) (returned_kept s at r.result o f))
@@ -232,23 +222,6 @@ mutual
       by : (c : Checked Statement) → Gives (λ a. StatementPlaced AreReadAsserts a × (depth a ≡ 1)) c → Gives (IsKept (Return at e)) c
       by (Good a) k = record { placed = k.0; deep = k.1 }
       by (Bad f fs) k = tt
-
-  cases_kept : (s : Sight) → SeesResults s → (r : Around) (k : CInt) (used : List ℤ) (has_default : Bool) (cases : Cases) → CasesPlaced AreReadAsserts cases → EachInCases HasBareCall cases
-      → Gives (AreCasesKept cases) (typed_cases s r k used has_default cases)
-  cases_kept s known r k used d NoCase p h = record { placed = tt; deep = refl }
-  cases_kept s known r k used d (AnotherCase at None items rest) p h =
-      gives_where (AreCasesKept (AnotherCase at None items rest)) (not d) (no_type at) _ (λ _.
-      gives_one (AreKept items) (AreCasesKept (AnotherCase at None items rest)) (typed_items s r items) (λ items. one_part (typed_cases s r k used true rest) (λ rest. Good (AnotherCase at None items rest))) (items_kept s known r items p.1 h.0)
-      (λ js v.
-      gives_one (AreCasesKept rest) (AreCasesKept (AnotherCase at None items rest)) (typed_cases s r k used true rest) (λ rest. Good (AnotherCase at None js rest)) (cases_kept s known r k used true rest p.2 h.1) (λ cs w.
-      record { placed = (tt, v.placed, w.placed); deep = λ i. max (v.deep i) (w.deep i) })))
-  cases_kept s known r k used d (AnotherCase at (Some e) items rest) p h =
-      gives_one (λ z. Unit {0}) (AreCasesKept (AnotherCase at (Some e) items rest)) (case_value s k used e) (λ z. one_part (typed_items s r items) (λ items.
-      one_part (typed_cases s r k (z ∷ used) d rest) (λ rest. Good (AnotherCase at (Some (case_number k (place_of e) z)) items rest)))) (anything (case_value s k used e)) (λ z _.
-      gives_one (AreKept items) (AreCasesKept (AnotherCase at (Some e) items rest)) (typed_items s r items)
-      (λ items. one_part (typed_cases s r k (z ∷ used) d rest) (λ rest. Good (AnotherCase at (Some (case_number k (place_of e) z)) items rest))) (items_kept s known r items p.1 h.0) (λ js v.
-      gives_one (AreCasesKept rest) (AreCasesKept (AnotherCase at (Some e) items rest)) (typed_cases s r k (z ∷ used) d rest) (λ rest. Good (AnotherCase at (Some (case_number k (place_of e) z)) js rest))
-      (cases_kept s known r k (z ∷ used) d rest p.2 h.1) (λ cs w. record { placed = (tt, v.placed, w.placed); deep = λ i. max (v.deep i) (w.deep i) })))
 
   else_kept : (s : Sight) → SeesResults s → (r : Around) (b : ElsePart) → ElsePlaced AreReadAsserts b → EachInElse HasBareCall b → Gives (IsElseKept b) (typed_else s r b)
   else_kept s known r NoElse p h = record { placed = tt; deep = refl }

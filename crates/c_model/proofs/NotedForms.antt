@@ -2,7 +2,6 @@
 use Rattle.c_model.specs.AnnotationTyping.{noted_cases}
 use Rattle.c_model.specs.FullExpressions.{EachInCases}
 use Rattle.c_model.specs.Formed.{depth_of_cases, declared_in_cases}
-use Rattle.c_model.specs.EffectPlaces.{CasesPlaced}
 use Rattle.std.proofs.Common.{◌≡◌, ℕ, suc, ◌+◌, ◌≤◌, max, Bool, true, false, cond, List, [], ◌∷◌, ◌++◌, Option, Some, None, refl, sym, ap, subst}
 use Rattle.c_syntax.specs.Expressions.{Expression}
 use Rattle.c_syntax.specs.Statements.{Declaration, Statement, Empty, Eval, Block, If, While, Do, For, Break, Continue, Return, Labelled, ElsePart, NoElse}
@@ -92,7 +91,6 @@ module _ (P : Expression → Type 0) where
     deep : depth_of_cases b ≡ depth_of_cases a
     declares : declared_in_cases b ≡ declared_in_cases a
     each : EachInCases P a → EachInCases P b
-    placed : SeesValues s → CasesPlaced AreReadAsserts a → CasesPlaced AreAsserts b
 
   mutual
     statement_kept : (s : Sight) (a : Statement) → Gives (IsKept s a) (noted_statement s a)
@@ -132,20 +130,19 @@ module _ (P : Expression → Type 0) where
     statement_kept s (Continue at) = record { deep = refl; declares = refl; each = λ h. h; placed = λ k h. h }
     statement_kept s (Return at e) = record { deep = refl; declares = refl; each = λ h. h; placed = λ k h. h }
     statement_kept s (Labelled at l a) = gives_one (IsKept s a) (IsKept s (Labelled at l a)) (noted_statement s a) (λ x. Good (Labelled at l x)) (statement_kept s a)
-        (λ x p. record { deep = ap (λ n. 1 + n) p.deep; declares = p.declares; each = p.each; placed = p.placed })
+        (λ x p. record { deep = ap (λ n. 1 + n) p.deep; declares = p.declares; each = p.each; placed = λ k h. absurd h })
     statement_kept s (Switch at e cases) =
         gives_one (AreCasesKept s cases) (IsKept s (Switch at e cases)) (noted_cases s cases) (λ x. Good (Switch at e x)) (cases_kept s cases)
-        (λ x p. record { deep = ap (λ n. 1 + n) p.deep; declares = p.declares; each = λ h. (h.0, p.each h.1); placed = λ k h. (h.0, p.placed k h.1) })
+        (λ x p. record { deep = ap (λ n. 1 + n) p.deep; declares = p.declares; each = λ h. (h.0, p.each h.1); placed = λ k h. absurd h })
 
     cases_kept : (s : Sight) (cases : Cases) → Gives (AreCasesKept s cases) (noted_cases s cases)
-    cases_kept s NoCase = record { deep = refl; declares = refl; each = λ h. h; placed = λ k h. h }
+    cases_kept s NoCase = record { deep = refl; declares = refl; each = λ h. h }
     cases_kept s (AnotherCase at v items rest) =
         gives_one (AreKept s items) (AreCasesKept s (AnotherCase at v items rest)) (noted_items s items) (λ x. one_part (noted_cases s rest) (λ y. Good (AnotherCase at v x y))) (items_kept s items) (λ x p.
         gives_one (AreCasesKept s rest) (AreCasesKept s (AnotherCase at v items rest)) (noted_cases s rest) (λ y. Good (AnotherCase at v x y)) (cases_kept s rest) (λ y q. record {
           deep = λ k. max (p.deep k) (q.deep k);
           declares = λ k. p.declares k ++ q.declares k;
           each = λ h. (p.each h.0, q.each h.1);
-          placed = λ k h. (h.0, p.placed k h.1, q.placed k h.2);
         }))
 
     else_kept : (s : Sight) (b : ElsePart) → Gives (IsElseKept s b) (noted_else s b)

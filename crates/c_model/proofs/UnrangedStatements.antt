@@ -12,7 +12,6 @@ use Rattle.c_model.specs.Formed.{depth_of_cases, declared_in_cases}
 use Rattle.c_model.specs.UnrangedPrograms.{unranged_cases}
 use Rattle.c_model.specs.Meaning.{case_of, is_case_of, default_of, chosen_case, after_switch, cases_with, eval_with}
 use Rattle.c_model.specs.Memory.{Integer, Points, NoValue, Value}
-use Rattle.c_model.specs.EffectPlaces.{CasesPlaced}
 use Rattle.std.proofs.Common.{◌≡◌, ℕ, ◌+◌, max, ◌++◌, Some, None, refl, ap, ◌∙◌}
 use Rattle.c_syntax.specs.Expressions.{Expression}
 use Rattle.c_syntax.specs.Statements.{Statement, Empty, Eval, Block, If, While, Do, For, Break, Continue, Return, ElsePart, NoElse, Else, BlockItem, Declare}
@@ -226,15 +225,8 @@ mutual
   statement_placed (Break at) = itself
   statement_placed (Continue at) = itself
   statement_placed (Return at e) = itself
-  statement_placed (Labelled at l a) = statement_placed a
-  statement_placed (Switch at e cases) = record { to = λ h. (h.0, (cases_placed cases).to h.1); from = λ h. (h.0, (cases_placed cases).from h.1) }
-
-  cases_placed : (cases : Cases) → Alike (CasesPlaced AreAsserts (unranged_cases cases)) (CasesPlaced AreAsserts cases)
-  cases_placed NoCase = itself
-  cases_placed (AnotherCase at v items rest) = record {
-    to = λ h. (h.0, (items_placed items).to h.1, (cases_placed rest).to h.2);
-    from = λ h. (h.0, (items_placed items).from h.1, (cases_placed rest).from h.2);
-  }
+  statement_placed (Labelled at l a) = itself
+  statement_placed (Switch at e cases) = itself
 
   else_placed : (b : ElsePart) → Alike (ElsePlaced AreAsserts (unranged_else b)) (ElsePlaced AreAsserts b)
   else_placed NoElse = itself

@@ -2,7 +2,7 @@
 use Rattle.std.specs.Prelude.{◌≡◌, List, [], ◌∷◌}
 use Rattle.c_syntax.specs.Logic.{Annotation}
 use Rattle.c_syntax.specs.Statements.{Declaration, Statement, Empty, Eval, Block, If, While, Do, For, Break, Continue, Return, Labelled, ElsePart, NoElse}
-use Rattle.c_syntax.specs.Statements.{Else, Switch, Cases, NoCase, AnotherCase}
+use Rattle.c_syntax.specs.Statements.{Else, Switch}
 use Rattle.c_syntax.specs.Statements.{ForFirst, NoFirst, First, BlockItem, Declare, Run, Asserts, BlockItems, NoItem, Then}
 use Rattle.c_model.specs.Pure.{IsPure, IsPureOrCall, IsEffect, IsEffectOrCall, IsInitialiser}
 use Rattle.c_model.specs.TypedTrees.{WhereAny}
@@ -32,12 +32,9 @@ module _ (AreSo : List Annotation → Type 0) where
     StatementPlaced (Break at) = Unit {0}
     StatementPlaced (Continue at) = Unit {0}
     StatementPlaced (Return at e) = WhereAny IsPureOrCall e
-    StatementPlaced (Labelled at l a) = StatementPlaced a
-    StatementPlaced (Switch at e cases) = IsPure e × CasesPlaced cases
-
-    pub CasesPlaced : Cases → Type 0
-    CasesPlaced NoCase = Unit {0}
-    CasesPlaced (AnotherCase at v items rest) = WhereAny IsPure v × ItemsPlaced items × CasesPlaced rest
+    -- labels and `switch` are not translated yet
+    StatementPlaced (Labelled at l a) = ⊥
+    StatementPlaced (Switch at e cases) = ⊥
 
     pub ElsePlaced : ElsePart → Type 0
     ElsePlaced NoElse = Unit {0}

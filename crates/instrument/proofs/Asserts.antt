@@ -2,7 +2,8 @@
 use Rattle.std.proofs.Common.{◌≡◌, ℤ, ℕ, ◌≤◌, pos, Bool, true, false, List, [], ◌∷◌, length, Option, Some, None, sym, ap, ◌∙◌, subst, refl, arith}
 use Rattle.std.proofs.lemmas.List.{append-nil}
 use Rattle.c_syntax.specs.declared.types.How.TheVariants as how
-use Rattle.c_syntax.specs.Logic.{ClauseBody, Raw, Holds, Annotation}
+use Rattle.c_syntax.specs.Logic.{ClauseBody, Raw, Holds, Behaviors, Annotation}
+use Rattle.c_syntax.specs.Logic as logic
 use Rattle.c_model.specs.Formed.{IsAssert, IsShortClause}
 use Rattle.c_model.specs.Integers.{truth}
 use Rattle.c_model.specs.Memory.{Value}
@@ -76,8 +77,10 @@ module _ (w : Setting) (n : ℕ) (low : ℕ) (bound : Bindings) (s : State) (t :
 
     clause_follows : (sight : Sight) → AreFound sight.entities s.scope → (a : Annotation) (c : ClauseBody) → IsShortClause c → ClauseTyped sight c → ClauseRanged c → (rs : List MonType) → low ≤ length rs → (regs : List Value)
         → length (clause_judgement w.unit bound c rs).used ≤ length regs → Anchored w low bound regs s.scope
-        → Follows w h low regs Next s (source.judged a (clause c s s.steps) s) (runs w n t (asserted a (clause_judgement w.unit bound c rs)) regs)
+        → Follows w h low regs Next s (source.judged a (clause c s [] s.steps) s) (runs w n t (asserted a (clause_judgement w.unit bound c rs)) regs)
     clause_follows sight found a (Raw f) p q r rs behind regs room anchored = absurd p
+    clause_follows sight found a (logic.Value c) p q r rs behind regs room anchored = absurd q
+    clause_follows sight found a (Behaviors names) p q r rs behind regs room anchored = absurd q
     clause_follows sight found a (Holds c) p q r rs behind regs room anchored =
         subst (λ z. Follows w h low regs Next s z (runs w n t (asserted a j) regs)) (sym (ap (λ z. source.judged a z s) (does.means s.steps)))
         (subst (Follows w h low regs Next s (source.judged a (said does.says s.steps) s)) (sym runs_is)

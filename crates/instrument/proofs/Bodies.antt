@@ -150,6 +150,7 @@ has_body p f part e = by f.body refl
     by (Some (Break at)) g = absurd (subst (BodyRead AreRangedAsserts) g part.formed)
     by (Some (Continue at)) g = absurd (subst (BodyRead AreRangedAsserts) g part.formed)
     by (Some (Return at x)) g = absurd (subst (BodyRead AreRangedAsserts) g part.formed)
+    by (Some _) g = absurd (subst (BodyRead AreRangedAsserts) g part.formed)
 
 -- literals have their blocks after the globals, and are bytes
 pub record LiteralsStand (p : TranslationUnit) (globals : List Value) : Type 0 where

@@ -12,8 +12,9 @@ use Rattle.c_syntax.specs.Statements.{Declaration}
 use Rattle.c_syntax.specs.Programs.{Function, TranslationUnit}
 use Rattle.c_syntax.specs.Layouts.{IntegerType, PointerType}
 use Rattle.c_model.specs.Memory.{Value, Store}
-use Rattle.c_model.specs.State.{State, Spent, Over, Stop, Evaluation, ◌>>◌, on_outcome, step_from, frame, alone, mark, within}
-use Rattle.c_model.specs.Meaning.{Tables, tables_of, is_definition, global_scope, is_of_library, definition_at, call_with, call_of, library_call, parameters, returned_by, body_with}
+use Rattle.c_model.specs.State.{State, Spent, Over, Stop, Evaluation, ◌>>=◌, ◌>>◌, on_outcome, step_from, frame, alone, mark, called as in_call}
+use Rattle.c_model.specs.Meaning.{Tables, tables_of, is_definition, global_scope, is_of_library, definition_at, call_with, call_of, library_call, parameters, result_with}
+use Rattle.c_model.specs.ContractChecks.{entry}
 use Rattle.c_model.specs.ExpressionTyping.{Sight, Signature, name_at, library_function, of_library, inner}
 use Rattle.c_model.specs.UnitTyping.{types_of}
 use Rattle.c_model.specs.TypedTrees.{HaveTypes, Calls, IsScalar}
@@ -177,7 +178,7 @@ module _ (p : TranslationUnit) (parts : Parts p p.funcs) (gs : List Value)
           (sym (append-nil s.output)) (ap (λ k. Stops Spent k []) (omega (arith, le))))
         where
           inside : Evaluation Value
-          inside = within (frame >> alone (global_scope 1 p.globals) >> parameters T at g.params vs >> mark None >> λ s. returned_by g (body_with T g.body (call_of p 0) 0 s))
+          inside = in_call (frame >> alone (global_scope 1 p.globals) >> parameters T at g.params vs >> mark None >> (entry g.contract >>= λ hs. result_with T g hs (call_of p 0) 0))
 
           spent : (k : ℕ) → k ≡ 0 → on_outcome (step_from k s) (λ _. inside) ≡ Stop (Over Spent) s
           spent k e = ap (λ i. on_outcome (step_from i s) (λ _. inside)) e

@@ -114,6 +114,7 @@ mutual
   statement_other p x (Break at) r h = refl
   statement_other p x (Continue at) r h = refl
   statement_other p x (Return at e) r h = refl
+  statement_other p x _ r h = refl
 
   else_other : (p : TranslationUnit) (x : ℕ) (b : ElsePart) (r : RegisterTable) → NotIn x (declared_in_else b) → register_of (after_else p b r).bound x ≡ register_of r.bound x
   else_other p x NoElse r h = refl
@@ -199,6 +200,7 @@ mutual
   statement_grows p (Break at) r = omega arith
   statement_grows p (Continue at) r = omega arith
   statement_grows p (Return at e) r = more_kinds (any_temporaries returned_temporaries e) r
+  statement_grows p _ r = omega arith
 
   pub else_grows : (p : TranslationUnit) (b : ElsePart) (r : RegisterTable) → next_register r ≤ next_register (after_else p b r)
   else_grows p NoElse r = omega arith

@@ -157,6 +157,7 @@ module _ (p : TranslationUnit) where
     deep spot r (Break at) f = deep_jump spot.inside (end_label spot.loops) (4 * 1 + most_deep) (omega arith)
     deep spot r (Continue at) f = deep_jump spot.inside (next_label spot.loops) (4 * 1 + most_deep) (omega arith)
     deep spot r (Return at e) f = let d = deep_returned spot r e f in omega (arith, d)
+    deep spot r _ f = absurd f
 
     deep_else : (spot : Spot) (r : RegisterTable) (b : ElsePart) → ElseFormed p.structs b → depth_of_all (else_part p spot r b) ≤ 4 * form.depth_of_else b + most_deep
     deep_else spot r NoElse f = omega arith

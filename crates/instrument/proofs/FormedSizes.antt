@@ -48,6 +48,7 @@ module _ (structs : List StructType) where
     statement_formed (Break at) p h t = tt
     statement_formed (Continue at) p h t = tt
     statement_formed (Return at e) p h t = any_full IsPureOrCall e p h t
+    statement_formed _ p h t = absurd p
 
     else_formed : (b : ElsePart) → ElsePlaced AreRangedAsserts b → EachInElse IsSmall b → EachInElse Few b → ElseFormed structs b
     else_formed NoElse p h t = tt

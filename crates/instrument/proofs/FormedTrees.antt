@@ -62,6 +62,7 @@ module _ (structs : List StructType) where
     StatementFormed (Break at) = Unit {0}
     StatementFormed (Continue at) = Unit {0}
     StatementFormed (Return at e) = WhereAny IsFullOrCall e
+    StatementFormed _ = ⊥
 
     pub ElseFormed : ElsePart → Type 0
     ElseFormed NoElse = Unit {0}

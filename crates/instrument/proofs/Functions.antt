@@ -8,7 +8,9 @@ use Rattle.c_syntax.specs.Programs.{Function, TranslationUnit}
 use Rattle.c_syntax.specs.Statements.{Declaration}
 use Rattle.c_model.specs.Limits.{most_frames}
 use Rattle.c_model.specs.Memory.{Value, Store, kill_from}
-use Rattle.c_model.specs.State.{State, Mark, Spent, Full, Over, Outcome, Normal, Stop, Evaluation, on_outcome, ◌>>◌, step_from, frame, alone, mark, within, restored, back_to}
+use mathlib.Core.Path.{fun_ext}
+use Rattle.c_model.specs.ContractChecks.{entry, ending}
+use Rattle.c_model.specs.State.{State, Mark, Spent, Full, Over, Outcome, Normal, Stop, Evaluation, on_outcome, ◌>>=◌, ◌>>◌, done, give, step_from, frame, alone, mark, called, answered, back_from_call}
 use Rattle.c_model.specs.Meaning.{Callee, Tables, tables_of, global_scope, parameters, body_with, returned_by, at_close, call_with}
 use Rattle.c_model.specs.UnitTyping.{types_of}
 use Rattle.c_model.proofs.Agreement.{extends_trans}
@@ -80,7 +82,7 @@ module _ (w : Setting) (s from : State) (base : w.base ≡ length s.store) (arou
     live_is : live_in to.store ≡ blocks ++ live_in s.store
     live_is = l.live ∙ m0.standing.live ∙ ap (λ bs. blocks ++ bs) around
 
-    came_back : Later s (back_to s to) o
+    came_back : Later s (back_from_call s to) o
     came_back = record {
       scope = refl;
       calls = refl;
@@ -91,7 +93,7 @@ module _ (w : Setting) (s from : State) (base : w.base ≡ length s.store) (arou
       output = l.output ∙ ap (λ x. x ++ o) output;
     }
 
-    even_there : (u : Target) → Beside w (kill_from w.base to.store) to u → Even (back_to s to) (left_frame over_blocks u)
+    even_there : (u : Target) → Beside w (kill_from w.base to.store) to u → Even (back_from_call s to) (left_frame over_blocks u)
     even_there u b = record {
       store_is = b.store_is ∙ ap (λ i. kill_from i to.store) base;
       frames = ap (λ k. k - 1) (b.frames ∙ active) ∙ omega arith;
@@ -99,9 +101,9 @@ module _ (w : Setting) (s from : State) (base : w.base ≡ length s.store) (arou
       input = b.input;
     }
 
-  pub function_ends : (r : Outcome (Unit {0})) (q : Did) → Follows w (at_body w.base blocks f.result) low regs Next from r q → Called s f.result (restored s (returned_by f r)) (ended q)
+  pub function_ends : (r : Outcome (Unit {0})) (q : Did) → Follows w (at_body w.base blocks f.result) low regs Next from r q → Called s f.result (answered s (returned_by f r)) (ended q)
   function_ends r q (GoesOn to after t o same l b e g) =
-      subst (λ x. Called s f.result (restored s (returned_by f x)) (ended q)) (sym e) (by f.result)
+      subst (λ x. Called s f.result (answered s (returned_by f x)) (ended q)) (sym e) (by f.result)
     where
       dead : Target
       dead = with_store (kill_from w.base t.mem.store) t
@@ -120,24 +122,24 @@ module _ (w : Setting) (s from : State) (base : w.base ≡ length s.store) (arou
           ∙ ap (λ d. then_do (writes o d) (at_return over_blocks (zero_of f))) dies
           ∙ ap (Done (zero_of f) (left_frame over_blocks dead)) (append-nil (o ++ []) ∙ append-nil o)
 
-      by : (k : PlainType) → Called s k (restored s (at_close f.close k to)) (ended q)
-      by (Int k) = HasNoMeaning f.close (back_to s to) o refl (l.output ∙ ap (λ x. x ++ o) output) (record { rest = []; is = ap written target_is ∙ sym (append-nil o) })
-      by (Ptr t) = HasNoMeaning f.close (back_to s to) o refl (l.output ∙ ap (λ x. x ++ o) output) (record { rest = []; is = ap written target_is ∙ sym (append-nil o) })
-      by _ = calls.Gives None (zero_of f) (back_to s to) (left_frame over_blocks dead) o tt tt (came_back to o l) (even_there to o l dead beside_dead) refl target_is
+      by : (k : PlainType) → Called s k (answered s (at_close f.close k to)) (ended q)
+      by (Int k) = HasNoMeaning f.close (back_from_call s to) o refl (l.output ∙ ap (λ x. x ++ o) output) (record { rest = []; is = ap written target_is ∙ sym (append-nil o) })
+      by (Ptr t) = HasNoMeaning f.close (back_from_call s to) o refl (l.output ∙ ap (λ x. x ++ o) output) (record { rest = []; is = ap written target_is ∙ sym (append-nil o) })
+      by _ = calls.Gives None (zero_of f) (back_from_call s to) (left_frame over_blocks dead) o tt tt (came_back to o l) (even_there to o l dead beside_dead) refl target_is
   function_ends r q (Breaks to after t o i m l b e g) = absurd cc
   function_ends r q (Continues to after t o i m l b e g) = absurd cc
   function_ends r q (IsLeft None to t o i l b e g) =
-      calls.Gives None (zero_of f) (back_to s to) (left_frame over_blocks t) o i tt (came_back to o l) (even_there to o l t b)
-      (ap (λ x. restored s (returned_by f x)) e)
+      calls.Gives None (zero_of f) (back_from_call s to) (left_frame over_blocks t) o i tt (came_back to o l) (even_there to o l t b)
+      (ap (λ x. answered s (returned_by f x)) e)
       (ap ended g ∙ ap (Done (zero_of f) (left_frame over_blocks t)) (append-nil (o ++ []) ∙ append-nil o))
   function_ends r q (IsLeft (Some v) to t o i l b e g) =
-      calls.Gives (Some v) v (back_to s to) (left_frame over_blocks t) o i refl (came_back to o l) (even_there to o l t b)
-      (ap (λ x. restored s (returned_by f x)) e)
+      calls.Gives (Some v) v (back_from_call s to) (left_frame over_blocks t) o i refl (came_back to o l) (even_there to o l t b)
+      (ap (λ x. answered s (returned_by f x)) e)
       (ap ended g ∙ ap (Done v (left_frame over_blocks t)) (append-nil (o ++ []) ∙ append-nil o))
   function_ends r q (IsOver x to o d e l g) =
-      EndsRun x (back_to s to) o d (ap (λ r. restored s (returned_by f r)) e) (l ∙ ap (λ x. x ++ o) output) (ap ended g)
+      EndsRun x (back_from_call s to) o d (ap (λ r. answered s (returned_by f r)) e) (l ∙ ap (λ x. x ++ o) output) (ap ended g)
   function_ends r q (IsUndefined at to o e l ext) =
-      HasNoMeaning at (back_to s to) o (ap (λ r. restored s (returned_by f r)) e) (l ∙ ap (λ x. x ++ o) output)
+      HasNoMeaning at (back_from_call s to) o (ap (λ r. answered s (returned_by f r)) e) (l ∙ ap (λ x. x ++ o) output)
       (extends_trans o (written q) (written (ended q)) ext
       (extends_trans (written q) (written (then_do q (at_next (exec_all over_blocks w.globals (deaths ps) w.calls n)))) (written (ended q))
       (written_then q (at_next (exec_all over_blocks w.globals (deaths ps) w.calls n)))
@@ -303,7 +305,7 @@ module _ (p : TranslationUnit) (globals : List Value) (main index : ℕ) (f : Fu
       }
 
       abbrev finish : Outcome (Unit {0}) → Outcome Value
-      finish r = restored s (on_outcome (on_outcome r (λ _. mark None)) (λ _ s. returned_by f (body_with T f.body call (suc n) s)))
+      finish r = answered s (on_outcome (on_outcome r (λ _. mark None)) (λ _ s. returned_by f (body_with T f.body call (suc n) s)))
 
       abbrev dying : Did → Did
       dying q = then_do q (at_next (exec_all over_blocks globals (deaths (with_born first f.params [])) calls_below n))
@@ -315,9 +317,9 @@ module _ (p : TranslationUnit) (globals : List Value) (main index : ℕ) (f : Fu
       framed : BearsAll w (at_body (length s.store) [] f.result) first_spot first first_table names_around at f.params vs entered_source (runs w n entered_target (target.parameters p first 0 f.params) opens)
           → Called s f.result (finish (parameters T at f.params vs entered_source)) (tail (runs w n entered_target (target.parameters p first 0 f.params) opens))
       framed (SomeFull g to e o x) =
-          EndsRun (Full g) (back_to s to) [] (λ h. absurd cc) (ap finish e) (o ∙ sym (append-nil s.output)) (ap tail x)
+          EndsRun (Full g) (back_from_call s to) [] (λ h. absurd cc) (ap finish e) (o ∙ sym (append-nil s.output)) (ap tail x)
       framed (SomeUndefined x to e o) =
-          HasNoMeaning x (back_to s to) [] (ap finish e) (o ∙ sym (append-nil s.output)) (record { rest = written (tail (runs w n entered_target (target.parameters p first 0 f.params) opens)); is = refl })
+          HasNoMeaning x (back_from_call s to) [] (ap finish e) (o ∙ sym (append-nil s.output)) (record { rest = written (tail (runs w n entered_target (target.parameters p first 0 f.params) opens)); is = refl })
       framed (AllBorn to regs u blocks e x m l) =
           let ms : List Mark = record { label = None; scope = to.scope; store = to.store } ∷ to.marks in
           let m2 = meets_marked w (at_body (length s.store) blocks f.result) spot_of_body (first + count) (registers_of_body own f).bound (with_numbers f.params names_around) regs to u ms m in
@@ -339,7 +341,7 @@ module _ (p : TranslationUnit) (globals : List Value) (main index : ℕ) (f : Fu
       -- the frame is there on both sides, or on none
       abbrev source_with : Bool → Outcome Value
       source_with b =
-          restored s (on_outcome (on_outcome (on_outcome (on_outcome (framed_by b s) (λ _. alone (global_scope 1 p.globals))) (λ _. parameters T at f.params vs)) (λ _. mark None)) (λ _ s. returned_by f (body_with T f.body call (suc n) s)))
+          answered s (on_outcome (on_outcome (on_outcome (on_outcome (framed_by b s) (λ _. alone (global_scope 1 p.globals))) (λ _. parameters T at f.params vs)) (λ _. mark None)) (λ _ s. returned_by f (body_with T f.body call (suc n) s)))
 
       abbrev target_with : Bool → Result Target Value
       target_with b = then_do (replied over_blocks (if b then Gives (over_blocks.number (pos 0)) (record t.mem { frames = t.mem.frames + 1 }) else IsFull segment.Frames) t)
@@ -352,10 +354,10 @@ module _ (p : TranslationUnit) (globals : List Value) (main index : ℕ) (f : Fu
           (subst (λ q. Called s f.result (source_with true) (then_do q (at_return over_blocks (zero_of f)))) (sym code_runs)
           (framed (parameters_follow w n at f.params vs (at_body (length s.store) [] f.result) first_spot first 0 first_table names_around opens entered_source entered_target refl meets_first objects own_params holds count_fits
           enough)))
-      both false = EndsRun (Full segment.Frames) (back_to s s) [] (λ h. absurd cc) refl (sym (append-nil s.output)) (ap (λ k. Stops (Full segment.Frames) k []) even.steps)
+      both false = EndsRun (Full segment.Frames) (back_from_call s s) [] (λ h. absurd cc) refl (sym (append-nil s.output)) (ap (λ k. Stops (Full segment.Frames) k []) even.steps)
 
-      pub called_inside : Called s f.result (within inside_source s) (inside_target t)
-      called_inside = subst (λ b. Called s f.result (within inside_source s) (target_with b)) (ap (λ k. nat_lt k most_frames) (sym even.frames)) (both (nat_lt s.calls 65536))
+      pub called_inside : Called s f.result (called inside_source s) (inside_target t)
+      called_inside = subst (λ b. Called s f.result (called inside_source s) (target_with b)) (ap (λ k. nat_lt k most_frames) (sym even.frames)) (both (nat_lt s.calls 65536))
 
     -- with its step; what comes after a step has one less
     abbrev with_step : State → ℕ → State
@@ -367,12 +369,26 @@ module _ (p : TranslationUnit) (globals : List Value) (main index : ℕ) (f : Fu
     stepped s k r q e (EndsRun x to o d a l b) = EndsRun x to o d a l b
     stepped s k r q e (HasNoMeaning x to o a l b) = HasNoMeaning x to o a l b
 
-    pub call_follows : (s : State) (t : Target) → Even s t → Bounded s.store → s.steps ≤ suc n
+    -- a function without a contract, whose result is the value of its body
+    given : (r : Outcome Value) → on_outcome r (λ v. done >> give v) ≡ r
+    given (Normal v s) = refl
+    given (Stop e s) = refl
+
+    plain_call : f.contract ≡ None → (s : State)
+        → call_with T (global_scope 1 p.globals) (Some f) call (suc n) at vs s ≡ on_outcome (step_from s.steps s) (λ _. called inside_source)
+    plain_call none s =
+        ap (λ c. on_outcome (step_from s.steps s) (λ _. called (frame >> alone (global_scope 1 p.globals) >> parameters T at f.params vs >> mark None
+        >> (entry c >>= λ hs. (λ s. returned_by f (body_with T f.body call (suc n) s)) >>= λ v. ending c hs v >> give v)))) none
+        ∙ ap (λ g. on_outcome (step_from s.steps s) (λ _. called (frame >> alone (global_scope 1 p.globals) >> parameters T at f.params vs >> mark None >> g)))
+        (fun_ext (λ s. given (returned_by f (body_with T f.body call (suc n) s))))
+
+    pub call_follows : f.contract ≡ None → (s : State) (t : Target) → Even s t → Bounded s.store → s.steps ≤ suc n
         → Called s f.result (call_with T (global_scope 1 p.globals) (Some f) call (suc n) at vs s) (monitored.step_from t.steps (λ k. inside_target (record t { steps = k })))
-    call_follows s t even bounded le =
-        subst (λ m. Called s f.result (call_with T (global_scope 1 p.globals) (Some f) call (suc n) at vs s) (monitored.step_from m (λ k. inside_target (record t { steps = k })))) (sym even.steps) (by s.steps refl)
+    call_follows none s t even bounded le =
+        subst (λ r. Called s f.result r (monitored.step_from t.steps (λ k. inside_target (record t { steps = k })))) (sym (plain_call none s))
+        (subst (λ m. Called s f.result (on_outcome (step_from s.steps s) (λ _. called inside_source)) (monitored.step_from m (λ k. inside_target (record t { steps = k })))) (sym even.steps) (by s.steps refl))
       where
-        by : (m : ℕ) → s.steps ≡ m → Called s f.result (on_outcome (step_from m s) (λ _. within inside_source)) (monitored.step_from m (λ k. inside_target (record t { steps = k })))
+        by : (m : ℕ) → s.steps ≡ m → Called s f.result (on_outcome (step_from m s) (λ _. called inside_source)) (monitored.step_from m (λ k. inside_target (record t { steps = k })))
         by zero e = EndsRun Spent s [] (λ h. absurd cc) refl (sym (append-nil s.output)) (ap (λ k. Stops Spent k []) (sym e))
         by (suc k) e =
             stepped s k _ _ e

@@ -1,5 +1,5 @@
 -- Loops, turn by turn: the condition in front, the step, the body, and what stands after it.
-use Rattle.std.proofs.Common.{◌≡◌, ℕ, zero, suc, ◌+◌, ◌≤◌, ℤ, pos, Bool, true, false, cond, List, [], ◌++◌, length, Some, refl, sym, ap, ◌∙◌, subst, arith, append_assoc}
+use Rattle.std.proofs.Common.{◌≡◌, ℕ, zero, suc, ◌+◌, ◌≤◌, ℤ, pos, Bool, true, false, cond, List, [], ◌++◌, length, Some, None, refl, sym, ap, ◌∙◌, subst, arith, append_assoc}
 use Rattle.std.proofs.lemmas.List.{append-nil}
 use Rattle.std.proofs.lemmas.Slice.Eq.{bytes_eq-Decides}
 use Rattle.std.specs.Ordering.{int_eq}
@@ -283,7 +283,7 @@ module _ (w : Setting) (h : Here) (base : ℕ) (spot : Spot) (low : ℕ) (bound 
     module _ (front : MonStatements) (front_tests : Tests condition front) (behind : Evaluation (Unit {0})) (b : MonStatements) (behind_follows : (regs : List Value) (s : State) (t : Target) → Meet regs s t → s.steps ≤ n
         → Follows w in_turn low regs Next s (behind s) (runs w n t b regs)) where
       abbrev turn : ℕ → Evaluation (Unit {0})
-      turn j = step >> λ s. after_body (body s) (behind >> source.turns j condition body behind)
+      turn j = step >> λ s. after_body (body s) (behind >> source.turns j condition (source.turn_with None body behind))
 
       abbrev others : ℕ → Go
       others j = monitored.turns over_blocks j (monitored.exec_all over_blocks w.globals front w.calls n) (labelled b)
@@ -293,21 +293,21 @@ module _ (w : Setting) (h : Here) (base : ℕ) (spot : Spot) (low : ℕ) (bound 
       next_turn j r u = monitored.step_from u.steps (λ k. then_do (labelled b r (target_stepped u k)) (at_next (others j)))
 
       turn_follows : (j : ℕ) (regs : List Value) (s : State) (t : Target) → Meet regs s t → s.steps ≤ suc j → s.steps ≤ n → ((to : State) (after : List Value) (u : Target) → Meet after to u → to.steps ≤ j → to.steps ≤ n
-          → Turns after to (source.turns (suc j) condition body behind to) (others j after u)) → Turns regs s (turn (suc j) s) (next_turn j regs t)
+          → Turns after to (source.turns (suc j) condition (source.turn_with None body behind) to) (others j after u)) → Turns regs s (turn (suc j) s) (next_turn j regs t)
       turn_follows j regs s t m le ln go =
           subst (λ i. Turns regs s (turn (suc j) s) (monitored.step_from i (λ k. then_do (labelled b regs (target_stepped t k)) (at_next (others j))))) (sym m.beside.steps) (by s.steps refl)
         where
           by : (i : ℕ) → s.steps ≡ i → Turns regs s (turn (suc j) s) (monitored.step_from i (λ k. then_do (labelled b regs (target_stepped t k)) (at_next (others j))))
-          by zero e = spent regs s (λ s. after_body (body s) (behind >> source.turns (suc j) condition body behind)) (Stops Spent 0 []) e (ap (λ k. Stops Spent k []) (sym e))
+          by zero e = spent regs s (λ s. after_body (body s) (behind >> source.turns (suc j) condition (source.turn_with None body behind))) (Stops Spent 0 []) e (ap (λ k. Stops Spent k []) (sym e))
           by (suc k) e =
-              round_follows b (behind >> source.turns (suc j) condition body behind) (others j) regs s t k e m ln (λ to after u m2 l2.
-              follows_then w in_turn low after (Goes (end_label loops)) to _ _ (source.turns (suc j) condition body behind) (others j) (behind_follows after to u m2 (omega (arith, e, ln, l2)))
+              round_follows b (behind >> source.turns (suc j) condition (source.turn_with None body behind)) (others j) regs s t k e m ln (λ to after u m2 l2.
+              follows_then w in_turn low after (Goes (end_label loops)) to _ _ (source.turns (suc j) condition (source.turn_with None body behind)) (others j) (behind_follows after to u m2 (omega (arith, e, ln, l2)))
               (λ to2 after2 u2 o same l be. go to2 after2 u2 (meet_later after after2 to to2 u u2 o same l be m2) (omega (arith, e, le, l2, l.spent)) (omega (arith, e, ln, l2, l.spent))))
 
-      pub turns_follow : (j : ℕ) (regs : List Value) (s : State) (t : Target) → Meet regs s t → s.steps ≤ j → s.steps ≤ n → Turns regs s (source.turns (suc j) condition body behind s) (others j regs t)
+      pub turns_follow : (j : ℕ) (regs : List Value) (s : State) (t : Target) → Meet regs s t → s.steps ≤ j → s.steps ≤ n → Turns regs s (source.turns (suc j) condition (source.turn_with None body behind) s) (others j regs t)
       turns_follow zero regs s t m le ln =
           front_tests.goes regs s t m (turn 0) (λ r u. Stops Spent 0 []) (λ after same m2.
-          spent after s (λ s. after_body (body s) (behind >> source.turns 0 condition body behind)) (Stops Spent 0 []) (omega (arith, le)) (ap (λ k. Stops Spent k []) (omega (arith, le))))
+          spent after s (λ s. after_body (body s) (behind >> source.turns 0 condition (source.turn_with None body behind))) (Stops Spent 0 []) (omega (arith, le)) (ap (λ k. Stops Spent k []) (omega (arith, le))))
       turns_follow (suc j) regs s t m le ln =
           front_tests.goes regs s t m (turn (suc j)) (next_turn j) (λ after same m2.
           turn_follows j after s t m2 le ln (λ to after2 u m3 l3 l4. turns_follow j after2 to u m3 l3 l4))

@@ -299,6 +299,7 @@ module _ (p : TranslationUnit) where
     can_declare (Break at) s r low high living same free q b o = tt
     can_declare (Continue at) s r low high living same free q b o = tt
     can_declare (Return at e) s r low high living same free q b o = tt
+    can_declare _ s r low high living same free q b o = tt
 
     pub else_can_declare : (b : ElsePart) (s : Sight) (r : Around) (low high : ℕ) (living : List ℕ) → s.structs ≡ p.structs → AllFree p low high → ElseTyped s r b → Between low (numbers_in (declared_in_else b)) high
         → AllOutside low high living → ElseCanDeclare p living b

@@ -52,6 +52,7 @@ abbrev mutual
   StatementOwn (Break at) = Unit {0}
   StatementOwn (Continue at) = Unit {0}
   StatementOwn (Return at e) = Unit {0}
+  StatementOwn _ = Unit {0}
 
   pub ElseOwn : ElsePart → Type 0
   ElseOwn NoElse = Unit {0}
@@ -84,6 +85,7 @@ mutual
   statement_own (Break at) h = tt
   statement_own (Continue at) h = tt
   statement_own (Return at e) h = tt
+  statement_own _ h = tt
 
   else_own : (b : ElsePart) → AreOwn (declared_in_else b) → ElseOwn b
   else_own NoElse h = tt

@@ -153,6 +153,7 @@ module _ (p : TranslationUnit) (q : IsProgram p) where
       by (Some (Break at)) e = absurd (subst (BodyRead AreRangedAsserts) e formed)
       by (Some (Continue at)) e = absurd (subst (BodyRead AreRangedAsserts) e formed)
       by (Some (Return at x)) e = absurd (subst (BodyRead AreRangedAsserts) e formed)
+      by (Some _) e = absurd (subst (BodyRead AreRangedAsserts) e formed)
 
   definitions_typed : (main k : ℕ) (front fs : List Function) → front ++ fs ≡ p.funcs → FunctionsNamed p.names fs → FunctionsRead AreRangedAsserts fs → EachInFunctions IsSmall fs → EachInFunctions (TypesSmall p.structs) fs
       → FunctionsHaveNumbers p main k fs → DefinitionsTyped p main k fs

@@ -25,6 +25,7 @@ mutual
   statement_ranged (Break at) p r = tt
   statement_ranged (Continue at) p r = tt
   statement_ranged (Return at e) p r = p
+  statement_ranged _ p r = absurd p
 
   else_ranged : (b : ElsePart) → ElsePlaced AreAsserts b → ElseRanged b → ElsePlaced AreRangedAsserts b
   else_ranged NoElse p r = tt

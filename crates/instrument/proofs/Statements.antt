@@ -10,7 +10,7 @@ use Rattle.c_syntax.specs.Layouts.{Scalar, scalar_of}
 use Rattle.c_model.specs.Memory.{Value, kill_from}
 use Rattle.c_model.specs.State.{State, Leaves, Returns, Outcome, Stop, Evaluation, on_outcome, ◌>>◌, stop, births, within, restored}
 use Rattle.c_model.specs.State as state
-use Rattle.c_model.specs.Meaning.{Tables, tables_of, exec_with, else_with, first_with, items_with, condition_with, effect_with, initialise_all, declared_in, declared_first, turns}
+use Rattle.c_model.specs.Meaning.{Tables, tables_of, exec_with, else_with, first_with, items_with, condition_with, effect_with, initialise_all, declared_in, declared_first, turns, turn_with}
 use Rattle.c_model.specs.Meaning as source
 use Rattle.c_model.specs.Predicates.{checks}
 use Rattle.c_model.specs.ExpressionTyping.{Sight, inner, with_objects}
@@ -255,7 +255,7 @@ module _ (w : Setting) (n : ℕ) where
   -- ---- the loop of a `for`
 
   abbrev for_turns : Option Expression → Option Expression → Statement → Evaluation (Unit {0})
-  for_turns e step a = turns (suc n) (condition_with T e w.call) (exec_with T a w.call (suc n)) (effect_with T step w.call)
+  for_turns e step a = turns (suc n) (condition_with T e w.call) (turn_with None (exec_with T a w.call (suc n)) (effect_with T step w.call))
 
   test_if_any_does : (h : Here) (base : ℕ) (spot : Spot) (low : ℕ) (living : List ℕ) (s : Sight) (g : Scene w n s) (r : RegisterTable) (e : Option Expression) → WhereAny IsPure e → WhereAny (IsCondition s) e → Any HasLetters e
       → low ≤ next_register r → next_register (with_kinds (any_temporaries temporaries e) r) ≤ w.registers
@@ -304,14 +304,14 @@ module _ (w : Setting) (n : ℕ) where
       (λ regs from t m le. initials_follow w n h low r.bound ds s g local f q l r.kinds behind enough regs from t le m.standing m.beside) go
   first_then _ local h spot low living s g around r x code f q l behind enough go = absurd f
 
-  for_follows : (at : Place) (annots : List Annotation) (first : ForFirst) (s : Sight) (g : Scene w n s) (around : Around) (h : Here) (spot : Spot) (low : ℕ) (r : RegisterTable) (living : List ℕ) (e step : Option Expression) (a : Statement)
+  for_follows : (at : Place) (first : ForFirst) (s : Sight) (g : Scene w n s) (around : Around) (h : Here) (spot : Spot) (low : ℕ) (r : RegisterTable) (living : List ℕ) (e step : Option Expression) (a : Statement)
       → AreBorn w.unit (declared_first first) → AreAbsent (with_numbers (declared_first first) living) (declared_within a) → FirstPlaced first → FirstTyped (inner s) around first → FirstHasNumbers first
       → WhereAny IsPure e → WhereAny (IsCondition (behind_first (inner s) first)) e → Any HasLetters e → WhereAny IsEffect step → WhereAny (WellTyped (behind_first (inner s) first)) step → Any EffectHasLetters step
-      → low ≤ next_register r → next_register (after_statement w.unit (For at annots first e step a) r) ≤ w.registers
+      → low ≤ next_register r → next_register (after_statement w.unit (For at [] first e step a) r) ≤ w.registers
       → ((old : State) → BodyDoes (behind_births w.unit.structs h old (declared_first first)) (with_variables (next_register r) (declared_first first) spot) (next_register r + length (declared_first first))
       (with_kinds (any_temporaries temporaries e) (after_first w.unit first (entered (declared_first first) r))) (with_numbers (declared_first first) living) a)
-      → DoSame h spot low r.bound living (exec_with T (For at annots first e step a) w.call (suc n)) (statement w.unit spot r (For at annots first e step a))
-  for_follows at annots first s g around h spot low r living e step a born absent f_formed f_typed f_letters e_full e_typed e_letters step_full step_typed step_letters behind enough body = λ regs from t m le.
+      → DoSame h spot low r.bound living (exec_with T (For at [] first e step a) w.call (suc n)) (statement w.unit spot r (For at [] first e step a))
+  for_follows at first s g around h spot low r living e step a born absent f_formed f_typed f_letters e_full e_typed e_letters step_full step_typed step_letters behind enough body = λ regs from t m le.
       let ds = declared_first first in
       let r1 = entered ds r in
       let r2 = after_first w.unit first r1 in
@@ -351,7 +351,7 @@ module _ (w : Setting) (n : ℕ) where
 
   mutual
     pub statement_follows : (a : Statement) (s : Sight) (around : Around) (h : Here) (spot : Spot) (low : ℕ) (r : RegisterTable) (living : List ℕ) → spot.loops ≡ h.loops → Scene w n s → AreFound s.entities (scope_for living)
-        → around.result ≡ h.result → around.loops ≡ h.looped
+        → around.result ≡ h.result → (around.loops ≡ h.looped) × (around.breaks ≡ h.looped)
         → CanDeclare w.unit living a → StatementPlaced AreRangedAsserts a → StatementTyped s around a → StatementNoted s a → HasNumbers a → low ≤ next_register r → next_register (after_statement w.unit a r) ≤ w.registers
         → DoSame h spot low r.bound living (exec_with T a w.call (suc n)) (statement w.unit spot r a)
     statement_follows (Empty at) s around h spot low r living stands g sees result looped c f q m l behind enough = nothing_does h spot low r.bound living
@@ -379,12 +379,13 @@ module _ (w : Setting) (n : ℕ) where
         let k = spot.loops + 1 in
         let base = length from.store in
         let here = loops.in_body w h base spot low r.bound living n in
-        loops.loop_follows w h base spot low r.bound living n from _ regs t (test w.unit r.bound r.kinds k e) (statement w.unit (target.in_loop spot) r1 a) NoStatement
+        subst (λ xs. Follows w h low regs Next from (exec_with T (While at xs e a) w.call (suc n) from) (runs w n t (statement w.unit spot r (While at [] e a)) regs)) (sym f.0)
+        (loops.loop_follows w h base spot low r.bound living n from _ regs t (test w.unit r.bound r.kinds k e) (statement w.unit (target.in_loop spot) r1 a) NoStatement
         (loops.turns_follow w h base spot low r.bound living n (source.condition_of T e w.call) (exec_with T a w.call (suc n)) (statement w.unit (target.in_loop spot) r1 a)
-        (statement_follows a s (in_loop around) here (target.in_loop spot) low r1 living refl g sees result refl c f.2 q.1 m.1 l.1 (omega (arith, behind, more_kinds (temporaries e) r)) enough)
+        (statement_follows a s (in_loop around) here (target.in_loop spot) low r1 living refl g sees result (refl, refl) c f.2 q.1 m.1 l.1 (omega (arith, behind, more_kinds (temporaries e) r)) enough)
         (test w.unit r.bound r.kinds k e) (test_if_any_does h base spot low living s g r (Some e) f.1 q.0 l.0 behind (omega (arith, enough, statement_grows w.unit a r1)))
         state.done NoStatement (nothing_does (loops.in_turn w h base spot low r.bound living n) (target.in_loop spot) low r.bound living)
-        n regs from t (loops.meets_turn w h base spot low r.bound living n regs from t refl x) le le)
+        n regs from t (loops.meets_turn w h base spot low r.bound living n regs from t refl x) le le))
     statement_follows (Do at a e) s around h spot low r living stands g sees result looped c f q m l behind enough = λ regs from t x le.
         let r1 = after_statement w.unit a r in
         let k = spot.loops + 1 in
@@ -393,7 +394,7 @@ module _ (w : Setting) (n : ℕ) where
         let there = loops.in_turn w h base spot low r.bound living n in
         loops.loop_follows w h base spot low r.bound living n from _ regs t NoStatement (statement w.unit (target.in_loop spot) r a) (test w.unit r1.bound r1.kinds k e)
         (loops.do_turns_follow w h base spot low r.bound living n (source.condition_of T e w.call) (exec_with T a w.call (suc n)) (statement w.unit (target.in_loop spot) r a)
-        (statement_follows a s (in_loop around) here (target.in_loop spot) low r living refl g sees result refl c.1 f.0 q.0 m l.0 behind (omega (arith, enough, more_kinds (temporaries e) r1)))
+        (statement_follows a s (in_loop around) here (target.in_loop spot) low r living refl g sees result (refl, refl) c.1 f.0 q.0 m l.0 behind (omega (arith, enough, more_kinds (temporaries e) r1)))
         (test w.unit r1.bound r1.kinds k e)
         (loops.tests w h base spot low r.bound living n (source.condition_of T e w.call) (setup w.unit r1.bound r1.kinds e) (condition_of w.unit r1.bound r1.kinds e)
         (λ regs from t m. condition_tested there (target.in_loop spot) low r1.bound living s g r1.kinds e f.1 q.1 l.1 (omega (arith, behind, statement_grows w.unit a r)) enough regs from t
@@ -410,22 +411,24 @@ module _ (w : Setting) (n : ℕ) where
         let f4 = more_kinds (any_temporaries (effect_temporaries w.unit) step) (after_statement w.unit a r3) in
         let spot2 = with_variables (next_register r) ds spot in
         let low2 = next_register r + length ds in
-        for_follows at annots first s g around h spot low r living e step a c.0 c.1 f.1 q.0 l.0 f.2 q.1 l.1 f.3 q.2 l.3 behind enough (λ old base.
+        subst (λ xs. DoSame h spot low r.bound living (exec_with T (For at xs first e step a) w.call (suc n)) (statement w.unit spot r (For at [] first e step a))) (sym f.0)
+        (for_follows at first s g around h spot low r living e step a c.0 c.1 f.1 q.0 l.0 f.2 q.1 l.1 f.3 q.2 l.3 behind enough (λ old base.
         statement_follows a (behind_first (inner s) first) (in_loop around) (loops.in_body w (behind_births w.unit.structs h old ds) base spot2 low2 r3.bound (with_numbers ds living) n) (target.in_loop spot2) low2 r3 (with_numbers ds living) refl
-        (scene_behind_first w n (inner s) first (scene_inner w n s g)) (sees_first first s living sees) result refl c.2 f.4 q.3 m.1 l.2 (omega (arith, f0, f1, f2)) (omega (arith, enough, f4)))
-    statement_follows (Break at) s around h spot low r living stands g sees result looped c f q m l behind enough = λ regs from t x le. break_follows w n h spot low r.bound living from regs t x stands (sym looped ∙ q)
-    statement_follows (Continue at) s around h spot low r living stands g sees result looped c f q m l behind enough = λ regs from t x le. continue_follows w n h spot low r.bound living from regs t x stands (sym looped ∙ q)
+        (scene_behind_first w n (inner s) first (scene_inner w n s g)) (sees_first first s living sees) result (refl, refl) c.2 f.4 q.3 m.1 l.2 (omega (arith, f0, f1, f2)) (omega (arith, enough, f4))))
+    statement_follows (Break at) s around h spot low r living stands g sees result looped c f q m l behind enough = λ regs from t x le. break_follows w n h spot low r.bound living from regs t x stands (sym looped.1 ∙ q)
+    statement_follows (Continue at) s around h spot low r living stands g sees result looped c f q m l behind enough = λ regs from t x le. continue_follows w n h spot low r.bound living from regs t x stands (sym looped.0 ∙ q)
     statement_follows (Return at e) s around h spot low r living stands g sees result looped c f q m l behind enough = returned_does h spot low living s g r e f (subst (λ k. Returned s k e) result q) l behind enough at
+    statement_follows _ s around h spot low r living stands g sees result looped c f q m l behind enough = absurd f
 
     pub else_follows : (b : ElsePart) (s : Sight) (around : Around) (h : Here) (spot : Spot) (low : ℕ) (r : RegisterTable) (living : List ℕ) → spot.loops ≡ h.loops → Scene w n s → AreFound s.entities (scope_for living)
-        → around.result ≡ h.result → around.loops ≡ h.looped
+        → around.result ≡ h.result → (around.loops ≡ h.looped) × (around.breaks ≡ h.looped)
         → ElseCanDeclare w.unit living b → ElsePlaced AreRangedAsserts b → ElseTyped s around b → ElseNoted s b → ElseHasNumbers b → low ≤ next_register r → next_register (after_else w.unit b r) ≤ w.registers
         → DoSame h spot low r.bound living (else_with T b w.call (suc n)) (else_part w.unit spot r b)
     else_follows NoElse s around h spot low r living stands g sees result looped c f q m l behind enough = nothing_does h spot low r.bound living
     else_follows (Else a) s around h spot low r living stands g sees result looped c f q m l behind enough = statement_follows a s around h spot low r living stands g sees result looped c f q m l behind enough
 
     pub items_follow : (is : BlockItems) (s : Sight) (around : Around) (h : Here) (spot : Spot) (low : ℕ) (r : RegisterTable) (living : List ℕ) → spot.loops ≡ h.loops → Scene w n s → AreFound s.entities (scope_for living)
-        → DeclarationsFound (declared_in is) (scope_for living) → AreLocal w.unit (declared_in is) → around.result ≡ h.result → around.loops ≡ h.looped
+        → DeclarationsFound (declared_in is) (scope_for living) → AreLocal w.unit (declared_in is) → around.result ≡ h.result → (around.loops ≡ h.looped) × (around.breaks ≡ h.looped)
         → ItemsCanDeclare w.unit living is → ItemsPlaced AreRangedAsserts is → ItemsTyped s around is → ItemsNoted s is → HaveNumbers is → low ≤ next_register r → next_register (after_items w.unit is r) ≤ w.registers
         → DoSame h spot low r.bound living (items_with T is w.call (suc n)) (items w.unit spot r is)
     items_follow NoItem s around h spot low r living stands g sees have local result looped c f q m l behind enough = nothing_does h spot low r.bound living

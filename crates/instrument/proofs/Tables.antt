@@ -70,6 +70,7 @@ mutual
   statement_begins p (Break at) r = begins_itself r.kinds
   statement_begins p (Continue at) r = begins_itself r.kinds
   statement_begins p (Return at e) r = begins_added r.kinds (any_temporaries returned_temporaries e)
+  statement_begins p _ r = begins_itself r.kinds
 
   pub else_begins : (p : TranslationUnit) (b : ElsePart) (r : RegisterTable) → Begins r.kinds (after_else p b r).kinds
   else_begins p NoElse r = begins_itself r.kinds
@@ -167,6 +168,7 @@ module _ (ts : Types) where
     statement_keeps p (Break at) r b x g h = h
     statement_keeps p (Continue at) r b x g h = h
     statement_keeps p (Return at e) r b x g h = h
+    statement_keeps p _ r b x g h = h
 
     pub else_keeps : (p : TranslationUnit) (c : ElsePart) (r : RegisterTable) → Begins (after_else p c r).kinds ts → Keeps r (after_else p c r)
     else_keeps p NoElse r b x g h = h

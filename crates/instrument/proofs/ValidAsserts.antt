@@ -1,9 +1,9 @@
 -- Translated annotations are valid, and how deep they stand.
-use Rattle.std.proofs.Common.{◌≡◌, ℕ, ℤ, pos, negsuc, false, List, [], ◌∷◌, Option, Some, slice_get, refl, arith}
+use Rattle.std.proofs.Common.{◌≡◌, ℕ, ℤ, pos, negsuc, false, List, [], ◌∷◌, Option, Some, slice_get, refl, ap, ◌∙◌, arith}
 use Rattle.std.proofs.lemmas.Bool.Decides.{nat_tests}
 use Rattle.std.proofs.lemmas.Int.{ints}
 use Rattle.std.specs.Ordering.{int_eq}
-use Rattle.c_syntax.specs.Logic.{LogicTerm, Number, Letter, Variable, Unary, Binary, Cast, Choice, Links, NoLink, Linked, Predicate, Truth, NonZero, Chain, Not, Connected, Branch, ClauseBody, Raw, Holds, Annotation}
+use Rattle.c_syntax.specs.Logic.{LogicTerm, Number, Letter, Variable, Unary, Binary, Cast, Choice, Links, NoLink, Linked, Predicate, Truth, NonZero, Chain, Not, Connected, Branch, ClauseBody, Raw, Holds, Value, Behaviors, Annotation}
 use Rattle.c_syntax.specs.Programs.{TranslationUnit}
 use Rattle.c_model.specs.ExpressionTyping.{Sight}
 use Rattle.c_model.specs.Formed.{IsLogicNumber, TermNumbered, LinksNumbered, PredicateNumbered, IsShortClause, IsAssert}
@@ -39,11 +39,14 @@ module _ (unit : TranslationUnit) (ts : Types) (bound : Bindings) (s : Sight) (k
     term_writable : (t : LogicTerm) → TermNumbered t → TermTyped s t → TermWritable unit bound globals ts t
     term_writable (Number at c r z) p q = number_writable z p
     term_writable (Letter at c r z) p q = number_writable z p
-    term_writable (Variable at c r x) p q = pointer_typed unit ts bound s knows x.decl (seen unit ts bound s knows x q.ctype q.denotes).has
+    term_writable (Variable at c r x) p q =
+        let i = q.int in
+        ((i.int, q.is ∙ ap Some i.is), pointer_typed unit ts bound s knows x.decl (seen unit ts bound s knows x q.ctype q.denotes).has)
     term_writable (Unary at c r op a) p q = term_writable a p q.2
     term_writable (Binary at c r op a b) p q = (term_writable a p.0 q.1, term_writable b p.1 q.2)
-    term_writable (Cast at c r to a) p q = term_writable a p q.2
+    term_writable (Cast at c r to a) p q = (q.1, term_writable a p q.2)
     term_writable (Choice at c r x a b) p q = (predicate_writable x p.0 q.1, term_writable a p.1 q.2, term_writable b p.2 q.3)
+    term_writable _ p q = absurd q
 
     links_writable : (l : Links) → LinksNumbered l → LinksTyped s l → LinksWritable unit bound globals ts l
     links_writable NoLink p q = tt
@@ -56,6 +59,7 @@ module _ (unit : TranslationUnit) (ts : Types) (bound : Bindings) (s : Sight) (k
     predicate_writable (Not at x) p q = predicate_writable x p q
     predicate_writable (Connected at c a b) p q = (predicate_writable a p.0 q.0, predicate_writable b p.1 q.1)
     predicate_writable (Branch at c a b) p q = (predicate_writable c p.0 q.0, predicate_writable a p.1 q.1, predicate_writable b p.2 q.2)
+    predicate_writable _ p q = absurd q
 
   -- ---- they are valid
 
@@ -69,6 +73,8 @@ module _ (unit : TranslationUnit) (ts : Types) (bound : Bindings) (s : Sight) (k
     clause_valid : (rs : Types) (c : ClauseBody) → IsShortClause c → ClauseTyped s c → ClauseRanged c → Begins (clause_judgement unit bound c rs).used ts → IsValidCode globals gs ts result ls (clause_judgement unit bound c rs)
     clause_valid rs (Raw f) p q r b = absurd p
     clause_valid rs (Holds c) p q r b = code_is_valid unit bound globals gs ts result ls c rs r (predicate_writable c p.numbered q) p.short b
+    clause_valid rs (Value t) p q r b = absurd q
+    clause_valid rs (Behaviors names) p q r b = absurd q
 
     assertion_valid : (rs : Types) (a : Annotation) → IsAssert a → ClauseTyped s a.body → ClauseRanged a.body → IsNumbered a → Begins (behind_assertion unit bound rs a) ts
         → AreStatements globals gs ts result ls (assertion unit bound rs a)

@@ -241,7 +241,7 @@ module _ (p : TranslationUnit) (q : IsTypedProgram p) where
         (around_body f.result) sees.knows.structs_are part.typed) (entered_from ts own r born)
         (items_valid p gs ts f.result part.sight.functions (λ s names seen. calls_valid p ts s names (subst (AreDefined p) (sym seen) part.file.functions)) (structs_fit p.structs q.structs) q.texts part.items sight (around_body f.result) deeper
         (record { inside = point_born ts (next_register r) own live (entered_from ts own r born) live_point; outside = tt })
-        inside (sees_later p ts part.sight.functions r inside sight (λ x g h. entered_keep ts x g own r born h) sees) refl (λ e. absurd cc) (entered_have ts own r born) part.formed part.typed part.noted part.numbers part.letters
+        inside (sees_later p ts part.sight.functions r inside sight (λ x g h. entered_keep ts x g own r born h) sees) refl (λ e. absurd cc, λ e. absurd cc) (entered_have ts own r born) part.formed part.typed part.noted part.numbers part.letters
         (omega (arith, shallow)) within_items)
 
     code_valid : Are (code_of p fr f)

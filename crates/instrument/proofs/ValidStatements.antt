@@ -242,7 +242,8 @@ module _ (p : TranslationUnit) (gs : List Signature) (ts : Types) (result : Plai
   first_small (First (Asserts annots)) s around e q = tt
 
   mutual
-    statement_valid : (a : Statement) (s : Sight) (around : Around) (spot : Spot) (k : Points ts spot) (r : RegisterTable) (v : See r s) → around.result ≡ result → (around.loops ≡ true → 0 < spot.loops) → StatementFormed p.structs a
+    statement_valid : (a : Statement) (s : Sight) (around : Around) (spot : Spot) (k : Points ts spot) (r : RegisterTable) (v : See r s) → around.result ≡ result
+        → (around.loops ≡ true → 0 < spot.loops) × (around.breaks ≡ true → 0 < spot.loops) → StatementFormed p.structs a
         → StatementTyped s around a → StatementNoted s a → StatementOwn a → HasNumbers a → spot.loops + form.depth a ≤ 1000 → Within (after_statement p a r) → Are (labels spot.loops) (statement p spot r a)
     statement_valid (Empty at) s around spot k r v same o f q m w l d b = tt
     statement_valid (Eval at e) s around spot k r v same o f q m w l d b = effect_at s r v (labels spot.loops) e f q l b
@@ -276,13 +277,13 @@ module _ (p : TranslationUnit) (gs : List Signature) (ts : Types) (result : Plai
         let first = begins_then z.kinds (after_statement p a z).kinds ts (statement_begins p a z) b in
         loop_valid spot.loops (test p r.bound r.kinds loops e) (statement p (target.in_loop spot) z a) NoStatement (omega (arith, d)) (no_step_test p r.bound r.kinds loops e) refl
         (test_at s r v (ended spot.loops) loops e (own_end spot.loops) f.1 q.0 l.0 first)
-        (statement_valid a s (in_loop around) (target.in_loop spot) (points_loop spot k) z v same (λ t. omega arith) f.2 q.1 m.1 w l.1 (omega (arith, d)) b) tt
+        (statement_valid a s (in_loop around) (target.in_loop spot) (points_loop spot k) z v same (λ t. omega arith, λ t. omega arith) f.2 q.1 m.1 w l.1 (omega (arith, d)) b) tt
     statement_valid (Do at a e) s around spot k r v same o f q m w l d b =
         let loops = spot.loops + 1 in
         let z = after_statement p a r in
         let first = begins_front z.kinds (temporaries e) ts b in
         loop_valid spot.loops NoStatement (statement p (target.in_loop spot) r a) (test p z.bound z.kinds loops e) (omega (arith, d)) refl (no_step_test p z.bound z.kinds loops e) tt
-        (statement_valid a s (in_loop around) (target.in_loop spot) (points_loop spot k) r v same (λ t. omega arith) f.0 q.0 m w l.0 (omega (arith, d)) first)
+        (statement_valid a s (in_loop around) (target.in_loop spot) (points_loop spot k) r v same (λ t. omega arith, λ t. omega arith) f.0 q.0 m w l.0 (omega (arith, d)) first)
         (test_at s z (sees_later p ts functions r z s (statement_keeps ts p a r first) v) (ended spot.loops) loops e (own_end spot.loops) f.1 q.1 l.1 b)
     statement_valid (For at annots first e step a) s around spot k r v same o f q m w l d b =
         let own = declared_first first in
@@ -312,18 +313,21 @@ module _ (p : TranslationUnit) (gs : List Signature) (ts : Types) (result : Plai
         (first_valid first t y in_born around inside (labels spot.loops) have w.0 f.1 q.0 l.0 second)
         (loop_valid spot.loops tested body last (omega (arith, d)) (no_step_test_if_any p z.bound z.kinds loops e) (no_step_effect_if_any p z2.bound z2.kinds step)
         (test_if_any_at after z in_turns (ended spot.loops) loops e (own_end spot.loops) f.2 q.1 l.1 third)
-        (statement_valid a after (in_loop around) (target.in_loop inside) (points_loop inside points) u in_turns same (λ t. omega arith) f.4 q.3 m.1 w.1 l.2 (omega (arith, d)) fourth)
+        (statement_valid a after (in_loop around) (target.in_loop inside) (points_loop inside points) u in_turns same (λ t. omega arith, λ t. omega arith) f.4 q.3 m.1 w.1 l.2 (omega (arith, d)) fourth)
         (effect_if_any_at after z2 behind (ended spot.loops) step f.3 q.2 l.3 b)))
-    statement_valid (Break at) s around spot k r v same o f q m w l d b = jump_valid spot (labels spot.loops) (end_label spot.loops) k (inside_end spot.loops (o q))
-    statement_valid (Continue at) s around spot k r v same o f q m w l d b = jump_valid spot (labels spot.loops) (next_label spot.loops) k (inside_next spot.loops (o q))
+    statement_valid (Break at) s around spot k r v same o f q m w l d b = jump_valid spot (labels spot.loops) (end_label spot.loops) k (inside_end spot.loops (o.1 q))
+    statement_valid (Continue at) s around spot k r v same o f q m w l d b = jump_valid spot (labels spot.loops) (next_label spot.loops) k (inside_next spot.loops (o.0 q))
     statement_valid (Return at e) s around spot k r v same o f q m w l d b = returned_valid spot s r v (labels spot.loops) e k f (subst (λ t. Returned s t e) same q) l b
+    statement_valid _ s around spot k r v same o f q m w l d b = absurd f
 
-    else_valid : (y : ElsePart) (s : Sight) (around : Around) (spot : Spot) (k : Points ts spot) (r : RegisterTable) (v : See r s) → around.result ≡ result → (around.loops ≡ true → 0 < spot.loops) → ElseFormed p.structs y → ElseTyped s around y
+    else_valid : (y : ElsePart) (s : Sight) (around : Around) (spot : Spot) (k : Points ts spot) (r : RegisterTable) (v : See r s) → around.result ≡ result
+        → (around.loops ≡ true → 0 < spot.loops) × (around.breaks ≡ true → 0 < spot.loops) → ElseFormed p.structs y → ElseTyped s around y
         → ElseNoted s y → ElseOwn y → ElseHasNumbers y → spot.loops + form.depth_of_else y ≤ 1000 → Within (after_else p y r) → Are (labels spot.loops) (else_part p spot r y)
     else_valid NoElse s around spot k r v same o f q m w l d b = tt
     else_valid (Else a) s around spot k r v same o f q m w l d b = statement_valid a s around spot k r v same o f q m w l d b
 
-    pub items_valid : (is : BlockItems) (s : Sight) (around : Around) (spot : Spot) (k : Points ts spot) (r : RegisterTable) (v : See r s) → around.result ≡ result → (around.loops ≡ true → 0 < spot.loops) → Have r (declared_in is)
+    pub items_valid : (is : BlockItems) (s : Sight) (around : Around) (spot : Spot) (k : Points ts spot) (r : RegisterTable) (v : See r s) → around.result ≡ result
+        → (around.loops ≡ true → 0 < spot.loops) × (around.breaks ≡ true → 0 < spot.loops) → Have r (declared_in is)
         → ItemsFormed p.structs is → ItemsTyped s around is → ItemsNoted s is → ItemsOwn is → HaveNumbers is → spot.loops + form.depth_of_items is ≤ 1000 → Within (after_items p is r) → Are (labels spot.loops) (items p spot r is)
     items_valid NoItem s around spot k r v same o h f q m w l d b = tt
     items_valid (Then (Declare ds) rest) s around spot k r v same o h f q m w l d b =

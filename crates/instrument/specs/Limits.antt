@@ -2,7 +2,7 @@
 -- What the numbers of a tree's types bound, in the parts that are translated: the number and the line of an annotation are of 32
 -- bits, a letter is a value of `char`, and registers can be numbered.
 use Rattle.std.specs.Prelude.{◌≡◌, true, ℕ, suc, ◌<◌, ◌^◌, if◌then◌else◌, nat_eq, length, List, [], ◌∷◌, Option, Some, None}
-use Rattle.c_syntax.specs.Statements.{Statement, Empty, Eval, Block, If, While, Do, For, Break, Continue, Return}
+use Rattle.c_syntax.specs.Statements.{Statement, Empty, Eval, Block, If, While, Do, For, Break, Continue, Return, Labelled, Switch}
 use Rattle.c_syntax.specs.Statements.{ElsePart, NoElse, Else, ForFirst, NoFirst, First, BlockItem, Declare, Run, Asserts, BlockItems, NoItem, Then}
 use Rattle.c_syntax.specs.Programs.{Function, TranslationUnit}
 use Rattle.c_model.specs.Meaning.{is_definition}
@@ -25,6 +25,8 @@ abbrev mutual
   HasNumbers (Break at) = Unit {0}
   HasNumbers (Continue at) = Unit {0}
   HasNumbers (Return at e) = Any FullHasLetters e
+  HasNumbers (Labelled at l a) = ⊥
+  HasNumbers (Switch at e cases) = ⊥
 
   pub ElseHasNumbers : ElsePart → Type 0
   ElseHasNumbers NoElse = Unit {0}

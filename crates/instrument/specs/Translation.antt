@@ -80,6 +80,8 @@ abbrev mutual
   after_statement p (source_statement.Break at) r = r
   after_statement p (source_statement.Continue at) r = r
   after_statement p (source_statement.Return at e) r = with_kinds (any_temporaries returned_temporaries e) r
+  after_statement p (source_statement.Labelled at l a) r = r
+  after_statement p (source_statement.Switch at e cases) r = r
 
   pub after_else : TranslationUnit → ElsePart → RegisterTable → RegisterTable
   after_else p NoElse r = r
@@ -177,6 +179,8 @@ module _ (p : TranslationUnit) where
     statement spot r (source_statement.Break at) = before (deaths spot.inside) (one (Goto (end_label spot.loops)))
     statement spot r (source_statement.Continue at) = before (deaths spot.inside) (one (Goto (next_label spot.loops)))
     statement spot r (source_statement.Return at e) = returned spot r e
+    statement spot r (source_statement.Labelled at l a) = NoStatement
+    statement spot r (source_statement.Switch at e cases) = NoStatement
 
     pub else_part : Spot → RegisterTable → ElsePart → MonStatements
     else_part spot r NoElse = NoStatement
