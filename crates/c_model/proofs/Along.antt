@@ -32,7 +32,7 @@ use Rattle.c_syntax.specs.Layouts.{Scalar, scalar_size, scalar_of, size_of}
 use Rattle.c_model.specs.Integers.{bits_of, truth, byte_of}
 use Rattle.c_model.specs.Memory.{Pointer, Null, Into, Value, Integer, Points, NoValue, Byte, new_block, Store, load, bytes_from, save_bytes, copy_all, moved, shifted, standard_sizes, full_at_stack_birth}
 use Rattle.c_model.specs.Memory.{Unwritten, Number as NumberByte, Room, At, NoRoom, heap_room, heap_block, freed}
-use Rattle.c_model.specs.State.{Scope, Mark, Input, InputTail, EndOfInput, InputFault, ReadFault, Exits, print, read_byte, State, Breaks, Continues, Returns, End, Leaves, Over, Undefined, Fault, Spent, Full, Outcome, Normal, Stop, Evaluation}
+use Rattle.c_model.specs.State.{Scope, Mark, Input, InputTail, EndOfInput, InputFault, ReadFault, Exits, print, read_byte, State, Breaks, Continues, Returns, End, Leaves, Over, Stuck, Undefined, Spent, Full, Outcome, Normal, Stop, Evaluation}
 use Rattle.c_model.specs.State.{on_outcome, ◌>>=◌, ◌>>◌, give, done, stop, defined, computed, as_scalar, step_from, step, find, start_of, object, read, read_any, put_store, changed, write, write_bytes, copy_object, tested, birth_of, birth, births}
 use Rattle.c_model.specs.State.{heap_birth, allocate}
 use Rattle.c_model.specs.State.{write_youngest, alone, frame, mark, back_to, restored, within, answered, called}
@@ -216,7 +216,7 @@ module _ (R : State → State → Type 0) (r : Lasts R) where
   along_object at x = record { at = λ s. (defined_along at (start_of (find x s.scope))).at s }
 
   pub along_as_scalar : {A : Type 0} (o : Option Scalar) (go : Scalar → Evaluation A) → ((k : Scalar) → Along (go k)) → Along (as_scalar o go)
-  along_as_scalar None go h = along_stop (Over Fault)
+  along_as_scalar None go h = along_stop Stuck
   along_as_scalar (Some k) go h = h k
 
   pub along_read_any : (at : Place) (p : Pointer) (o : Option Scalar) → Along (read_any at p o)
@@ -377,6 +377,7 @@ module _ (R : State → State → Type 0) (r : Lasts R) where
   body_along s (Stop (Leaves Breaks) t) again w h = w
   body_along s (Stop (Leaves (Returns v)) t) again w h = w
   body_along s (Stop (Over e) t) again w h = w
+  body_along s (Stop Stuck t) again w h = w
 
   switch_along : (s : State) (o : Outcome (Unit {0})) → R s (state_after o) → R s (state_after (after_switch o))
   switch_along s (Normal u t) w = w
@@ -384,6 +385,7 @@ module _ (R : State → State → Type 0) (r : Lasts R) where
   switch_along s (Stop (Leaves Continues) t) w = w
   switch_along s (Stop (Leaves (Returns v)) t) w = w
   switch_along s (Stop (Over e) t) w = w
+  switch_along s (Stop Stuck t) w = w
 
   pub along_after_switch : (m : Evaluation (Unit {0})) → Along m → Along (λ s. after_switch (m s))
   along_after_switch m h = record { at = λ s. switch_along s (m s) (h.at s) }
@@ -412,8 +414,8 @@ module _ (R : State → State → Type 0) (r : Lasts R) where
 
   pub along_pointed : (v : Value) → Along (pointed_to v)
   along_pointed (Points p) = along_give p
-  along_pointed (Integer z) = along_stop (Over Fault)
-  along_pointed NoValue = along_stop (Over Fault)
+  along_pointed (Integer z) = along_stop Stuck
+  along_pointed NoValue = along_stop Stuck
 
   pub along_member : (at : Place) (p : Pointer) (offset : ℕ) → Along (member at p offset)
   along_member at Null offset = along_stop (Over (Undefined at))
@@ -579,7 +581,7 @@ module _ (R : State → State → Type 0) (r : Lasts R) where
       along_items (Then i rest) n = along_then _ _ (along_item i n) (along_items rest n)
 
     pub along_body : (body : Option Statement) (n : ℕ) → Along (body_with T body call n)
-    along_body None n = along_stop (Over Fault)
+    along_body None n = along_stop Stuck
     along_body (Some a) n = along_exec a n
 
     pub along_parameters : (at : Place) (ds : List Declaration) (vs : List Value) → Along (parameters T at ds vs)
@@ -661,6 +663,7 @@ module _ (R : State → State → Type 0) (r : Lasts R) where
   returned_along f s (Stop (Leaves (Returns None)) t) w = w
   returned_along f s (Stop (Leaves (Returns (Some v))) t) w = w
   returned_along f s (Stop (Over e) t) w = w
+  returned_along f s (Stop Stuck t) w = w
 
   abbrev CalleeAlong : Callee → Type 0
   CalleeAlong call = (at : Place) (f : Use) (vs : List Value) → Along (call at f vs)
@@ -687,9 +690,10 @@ module _ (R : State → State → Type 0) (r : Lasts R) where
   after_main_along c hs s (Stop (Leaves (Returns None)) t) w = r.onward s t _ w ((along_then (ending c hs NoValue) (stop {A = Unit {0}} (Leaves (Returns None))) (along_ending c hs NoValue) (along_stop (Leaves (Returns None)))).at t)
   after_main_along c hs s (Stop (Leaves (Returns (Some v))) t) w = r.onward s t _ w ((along_then (ending c hs v) (stop {A = Unit {0}} (Leaves (Returns (Some v)))) (along_ending c hs v) (along_stop (Leaves (Returns (Some v))))).at t)
   after_main_along c hs s (Stop (Over e) t) w = w
+  after_main_along c hs s (Stop Stuck t) w = w
 
   pub along_main : (T : Tables) (f : Option Function) (call : Callee) (n : ℕ) → CalleeAlong call → Along (main_with T f call n)
-  along_main T None call n c = along_stop (Over Fault)
+  along_main T None call n c = along_stop Stuck
   along_main T (Some f) call n c =
       along_called _ (along_then _ _ (along_then _ _ (along_then _ _ along_frame (along_births T.structs f.params)) (along_mark None))
       (along_bind (entry f.contract) (λ hs s. after_main f.contract hs (body_with T f.body call n s)) (along_entry f.contract)

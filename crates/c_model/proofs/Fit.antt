@@ -16,7 +16,7 @@ use Rattle.c_syntax.specs.Programs.{StructType, FunctionContract, Function, Tran
 use Rattle.c_syntax.specs.Layouts.{Scalar, scalar_of}
 use Rattle.c_model.specs.Integers.{truth}
 use Rattle.c_model.specs.Memory.{Pointer, Value, Integer, Points, NoValue, Byte, Store, shifted}
-use Rattle.c_model.specs.State.{Scope, Input, State, Breaks, Continues, Returns, End, Leaves, Over, Undefined, Fault, Outcome, Normal, Stop, Evaluation}
+use Rattle.c_model.specs.State.{Scope, Input, State, Breaks, Continues, Returns, End, Leaves, Over, Stuck, Undefined, Outcome, Normal, Stop, Evaluation}
 use Rattle.c_model.specs.State.{on_outcome, ◌>>=◌, ◌>>◌, give, done, stop, defined, computed, as_scalar, step_from, step, find, object, read, read_any, write, write_bytes, copy_object, tested, birth, births}
 use Rattle.c_model.specs.State.{write_youngest, alone, frame, mark, restored, within, answered, called}
 use Rattle.c_model.specs.Predicates.{checks, invariants, variant, value_of}
@@ -153,7 +153,7 @@ fit_write_give : (k : ℕ) (at : Place) (p : Pointer) (i : Scalar) (v w : Value)
 fit_write_give k at p i v w = fit_then k _ _ _ _ (fit_write k at p i v) (fit_give k w)
 
 fit_as_scalar : {A : Type 0} (k : ℕ) (o : Option Scalar) (go go' : Scalar → Evaluation A) → ((i : Scalar) → Fit k (go i) (go' i)) → Fit k (as_scalar o go) (as_scalar o go')
-fit_as_scalar k None go go' h = fit_stop k (Over Fault)
+fit_as_scalar k None go go' h = fit_stop k Stuck
 fit_as_scalar k (Some i) go go' h = h i
 
 fit_cond : {A : Type 0} (k : ℕ) (t : Bool) (a a' b b' : Evaluation A) → Fit k a a' → Fit k b b' → Fit k (cond t a b) (cond t a' b')
@@ -206,6 +206,7 @@ fit_body_outcome k n (Stop (Leaves Continues) s) f f' le h g = let q : s.steps �
 fit_body_outcome k n (Stop (Leaves Breaks) s) f f' le h g = (refl, h)
 fit_body_outcome k n (Stop (Leaves (Returns v)) s) f f' le h g = (refl, h)
 fit_body_outcome k n (Stop (Over e) s) f f' le h g = (refl, h)
+fit_body_outcome k n (Stop Stuck s) f f' le h g = (refl, h)
 
 pub fit_after_body : (k : ℕ) (m m' f f' : Evaluation (Unit {0})) → Fit k m m' → Fit k f f' → Fit k (λ s. after_body (m s) f) (λ s. after_body (m' s) f')
 fit_after_body k m m' f f' h g = record {
@@ -219,6 +220,7 @@ steps_switch (Stop (Leaves Breaks) s) = refl
 steps_switch (Stop (Leaves Continues) s) = refl
 steps_switch (Stop (Leaves (Returns v)) s) = refl
 steps_switch (Stop (Over e) s) = refl
+steps_switch (Stop Stuck s) = refl
 
 pub fit_after_switch : (k : ℕ) (m m' : Evaluation (Unit {0})) → Fit k m m' → Fit k (λ s. after_switch (m s)) (λ s. after_switch (m' s))
 fit_after_switch k m m' h = record {
@@ -402,7 +404,7 @@ module _ (T : Tables) (k : ℕ) (call call' : Callee) (c : CalleesFit k call cal
     fit_items (Then i rest) n n' l l' = fit_then k _ _ _ _ (fit_item i n n' l l') (fit_items rest n n' l l')
 
   fit_body : (body : Option Statement) (n n' : ℕ) → k < n → k < n' → Fit k (body_with T body call n) (body_with T body call' n')
-  fit_body None n n' l l' = fit_stop k (Over Fault)
+  fit_body None n n' l l' = fit_stop k Stuck
   fit_body (Some a) n n' l l' = fit_exec a n n' l l'
 
   fit_parameters : (at : Place) (ds : List Declaration) (vs : List Value) → Fit k (parameters T at ds vs) (parameters T at ds vs)
@@ -425,6 +427,7 @@ steps_returned f (Stop (Leaves Continues) s) = omega arith
 steps_returned f (Stop (Leaves (Returns None)) s) = omega arith
 steps_returned f (Stop (Leaves (Returns (Some v))) s) = omega arith
 steps_returned f (Stop (Over e) s) = omega arith
+steps_returned f (Stop Stuck s) = omega arith
 
 fit_returned : (f : Function) (k : ℕ) (m m' : Evaluation (Unit {0})) → Fit k m m' → Fit k (λ s. returned_by f (m s)) (λ s. returned_by f (m' s))
 fit_returned f k m m' h = record {
@@ -461,6 +464,7 @@ steps_after_main c hs (Stop (Leaves (Returns (Some v))) s) =
     let m : Evaluation (Unit {0}) = ending c hs v >> stop (Leaves (Returns (Some v))) in
     omega (arith, steps_state (m s), (along_then Fewer steps_last (ending c hs v) (stop {A = Unit {0}} (Leaves (Returns (Some v)))) (along_ending Fewer steps_last c hs v) (along_stop Fewer steps_last (Leaves (Returns (Some v))))).at s)
 steps_after_main c hs (Stop (Over e) s) = omega arith
+steps_after_main c hs (Stop Stuck s) = omega arith
 
 fit_after_main : (c : Option FunctionContract) (hs : List Bool) (k : ℕ) (m m' : Evaluation (Unit {0})) → Fit k m m' → Fit k (λ s. after_main c hs (m s)) (λ s. after_main c hs (m' s))
 fit_after_main c hs k m m' h = record {
@@ -469,7 +473,7 @@ fit_after_main c hs k m m' h = record {
 }
 
 fit_main : (T : Tables) (f : Option Function) (k m n : ℕ) (call call' : Callee) → k < m → k < n → CalleesFit k call call' → Fit k (main_with T f call m) (main_with T f call' n)
-fit_main T None k m n call call' lm ln h = fit_stop k (Over Fault)
+fit_main T None k m n call call' lm ln h = fit_stop k Stuck
 fit_main T (Some f) k m n call call' lm ln h =
     fit_called k _ _ (fit_then k _ _ _ _ (fit_then k _ _ _ _ (fit_then k _ _ _ _ (fit_frame k) (fit_births k T.structs f.params)) (fit_mark k None))
     (fit_bind k _ _ _ _ (fit_entry k f.contract) (λ hs. fit_after_main f.contract hs k _ _ (fit_body T k call call' h f.body m n lm ln))))
@@ -553,6 +557,7 @@ left-ran (Stop (Leaves (Returns (Some NoValue))) s) = refl
 left-ran (Stop (Leaves (Returns (Some (Points p)))) s) = refl
 left-ran (Stop (Leaves (Returns (Some (Integer z)))) s) = refl
 left-ran (Stop (Over e) s) = refl
+left-ran (Stop Stuck s) = refl
 
 -- a run leaves no more steps than it had
 pub run_spends : (p : TranslationUnit) (input : Input) (n : ℕ) → (run p input n).left ≤ n

@@ -77,12 +77,12 @@ pub mod AcceptedFiles
 pub mod FileOrder
 pub mod TypedFileSights
 pub mod TypedFileItems
-pub mod NoFaultsRuns
-pub mod NoFaultsValues
-pub mod NoFaultsExpressions
-pub mod NoFaultsStatements
-pub mod NoFaultsItems
-pub mod NoFaults
+pub mod NeverStuckRuns
+pub mod NeverStuckValues
+pub mod NeverStuckExpressions
+pub mod NeverStuckStatements
+pub mod NeverStuckItems
+pub mod NeverStuck
 -- tokens of monitored texts
 pub mod Spelling
 pub mod BrokenPieces

@@ -23,7 +23,7 @@ use Rattle.c_syntax.specs.Layouts.{scalar_of, size_of, members_of, member_among}
 use Rattle.c_model.specs.Integers.{fits, integer_type}
 use Rattle.c_model.specs.Conversions.{promoted, common, is_shift, is_relation, result_type}
 use Rattle.c_model.specs.Memory.{Value, Integer}
-use Rattle.c_model.specs.State.{EndOfInput, State, Outcome, Normal, Over, Fault as FaultEnd, stop}
+use Rattle.c_model.specs.State.{EndOfInput, State, Outcome, Normal, Stuck, stop}
 use Rattle.c_model.specs.Meaning.{Tables, Callee, eval_with, is_pointer, is_of_library}
 use Rattle.c_model.specs.Library.{library_constant, is_there}
 use Rattle.c_model.specs.Checked.{Fault, Checked, Good, Bad, faulty, one_part, both_parts, given, where_so}
@@ -308,7 +308,7 @@ has_object e = is_place e
 -- ---- constant expressions (C99 6.6): a form, and a value by the meaning of expressions, where nothing is called and no object is there
 
 abbrev pub no_callee : Callee
-no_callee at f vs = stop (Over FaultEnd)
+no_callee at f vs = stop Stuck
 
 abbrev pub nowhere : State
 nowhere = record { store = []; scope = []; marks = []; calls = 0; steps = 0; input = record { bytes = []; tail = EndOfInput }; output = [] }

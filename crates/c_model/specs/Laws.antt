@@ -1,5 +1,5 @@
 -- Laws that the definitions meet: of integers and memory, of runs, and of the order of runs.
-use Rattle.std.specs.Prelude.{◌≡◌, ℕ, ◌+◌, ◌%◌, ◌^◌, ◌<◌, ◌≤◌, ◌≢◌, ℤ, pos, true, false, if◌then◌else◌, List, [], ◌∷◌, length, take, drop, Option, Some, None}
+use Rattle.std.specs.Prelude.{◌≡◌, ℕ, suc, ◌+◌, ◌%◌, ◌^◌, ◌<◌, ◌≤◌, ◌≢◌, ℤ, pos, true, false, if◌then◌else◌, List, [], ◌∷◌, length, take, drop, Option, Some, None}
 use Rattle.c_syntax.specs.declared.place.Place.{Place}
 use Rattle.c_syntax.specs.declared.types.CInt.{CInt}
 use Rattle.c_syntax.specs.declared.types.CInt.TheVariants.{I32}
@@ -13,12 +13,14 @@ use Rattle.c_syntax.specs.Programs.{TranslationUnit}
 use Rattle.c_syntax.specs.Layouts.{Scalar, IntegerType, PointerType, scalar_size}
 use Rattle.c_model.specs.Integers.{fits, is_signed, value_bits, bits_of, value_of_bits, convert, result_in, operate_in, operate_one_in}
 use Rattle.c_model.specs.Conversions.{is_shift, is_relation}
-use Rattle.c_model.specs.Memory.{Pointer, Into, Value, Integer, Points, Block, Store, block_at, load, save}
-use Rattle.c_model.specs.State.{Input, State, Fault, Outcome, Normal, Stop, Evaluation, ◌>>=◌, ◌>>◌, done, step}
+use Rattle.c_model.specs.Memory.{Pointer, Into, Value, Integer, Points, NoValue, Block, Store, block_at, load, save}
+use Rattle.c_model.specs.State.{Input, State, Breaks, Continues, Returns, Leaves, Over, Stuck, Outcome, Normal, Stop, Evaluation, ◌>>=◌, ◌>>◌, done, step}
 use Rattle.c_model.specs.Predicates.{invariants, variant}
 use Rattle.c_model.specs.Meaning.{choose, after_body, turn_with, turns, condition_with, effect_with, call_of, tables_of, condition, exec, whole, start, ran}
-use Rattle.c_model.specs.Meaning.{run, Ran}
-use Rattle.c_model.specs.Reports.{Agrees}
+use Rattle.c_model.specs.Meaning.{run}
+use Rattle.c_model.specs.Meaning as source
+use Rattle.c_model.specs.MonitoredRuns.{Ran}
+use Rattle.c_model.specs.Reports.{Agrees, AgreesToFault}
 use Rattle.c_model.specs.AcceptedPrograms.{IsProgram}
 use Rattle.c_model.specs.Growth.{Grows}
 use Rattle.c_model.specs.Steps.{steps_after}
@@ -168,22 +170,38 @@ OutputGrows = (p : TranslationUnit) (n : ℕ) → Grows (whole p n)
 abbrev pub RunsSpendSteps : Type 0
 RunsSpendSteps = (p : TranslationUnit) (input : Input) (n : ℕ) → (run p input n).left ≤ n
 
--- No run of the program ends in a fault, which is no end that C has: it would come of a jump outside loops, a definition without a body,
--- an operand of a type that its operator doesn't take, as of `*` one that is no address, or a `main` that is missing or returns no number
+-- what a run comes to: the closing brace of `main`, a number that `main` returns, or an end before that
+abbrev pub EndsProperly : Outcome (Unit {0}) → Type 0
+EndsProperly (Normal u s) = Unit {0}
+EndsProperly (Stop (Leaves Breaks) s) = ⊥
+EndsProperly (Stop (Leaves Continues) s) = ⊥
+EndsProperly (Stop (Leaves (Returns None)) s) = ⊥
+EndsProperly (Stop (Leaves (Returns (Some NoValue))) s) = ⊥
+EndsProperly (Stop (Leaves (Returns (Some (Points p)))) s) = ⊥
+EndsProperly (Stop (Leaves (Returns (Some (Integer z)))) s) = Unit {0}
+EndsProperly (Stop (Over e) s) = Unit {0}
+EndsProperly (Stop Stuck s) = ⊥
+
+-- No run of the program comes to what typing rules out: a jump outside loops, a definition without a body, an operand of a type that its
+-- operator doesn't take, as of `*` one that is no address, or a `main` that is missing or returns no number
 -- (C99 6.8.6.2, 6.8.6.3, 6.9.1, 6.5.3.2, 6.5.16, 5.1.2.2.1, 5.1.2.2.3).
-abbrev pub NeverFaults : TranslationUnit → Type 0
-NeverFaults p = (input : Input) (n : ℕ) → (run p input n).final ≡ Fault → ⊥
+abbrev pub NeverStuck : TranslationUnit → Type 0
+NeverStuck p = (input : Input) (n : ℕ) → EndsProperly (whole p (suc n) (start p input n))
 
 -- so it is with each program of an accepted text
-abbrev pub ProgramsNeverFault : Type 0
-ProgramsNeverFault = (p : TranslationUnit) → IsProgram p → NeverFaults p
+abbrev pub ProgramsNeverStuck : Type 0
+ProgramsNeverStuck = (p : TranslationUnit) → IsProgram p → NeverStuck p
 
 -- ---- agreement
 
--- each run agrees with itself
+-- each run of a monitored program agrees with itself
 abbrev pub AgreementIsReflexive : Type 0
-AgreementIsReflexive = (a : Ran) → Agrees a a
+AgreementIsReflexive = (a : Ran) → AgreesToFault a a
 
 -- what agrees with a run in two steps agrees with it
 abbrev pub AgreementIsTransitive : Type 0
-AgreementIsTransitive = (a b c : Ran) → Agrees a b → Agrees b c → Agrees a c
+AgreementIsTransitive = (a b c : Ran) → AgreesToFault a b → AgreesToFault b c → AgreesToFault a c
+
+-- and so it is if that is the source's run
+abbrev pub AgreementGoesOn : Type 0
+AgreementGoesOn = (a : source.Ran) (b c : Ran) → Agrees a b → AgreesToFault b c → Agrees a c

@@ -12,6 +12,7 @@ pub mod BasicTerms
 pub mod ContractChecks
 pub mod Meaning
 pub mod Statuses
+pub mod MonitoredRuns
 pub mod Reports
 pub mod Words
 pub mod Arguments

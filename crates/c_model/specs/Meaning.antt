@@ -28,11 +28,12 @@ use Rattle.c_model.specs.Conversions.{operation_type, is_shift}
 use Rattle.c_model.specs.Operators.{quotient}
 use Rattle.c_model.specs.Memory.{Pointer, Null, Into, Value, Integer, Points, NoValue, Byte, Unwritten, Number as NumberByte}
 use Rattle.c_model.specs.Memory.{Block as MemoryBlock, block_of, Store, freed, moved, distance, equal_pointers, shifted}
-use Rattle.c_model.specs.State.{Scope, Input, State, Breaks, Continues, Returns, Final, Exits, Undefined, Fault, Spent, Leaves, Over, Outcome, Normal}
+use Rattle.c_model.specs.State.{Scope, Input, State, Breaks, Continues, Returns, Final, Exits, Undefined, Spent, Leaves, Over, Stuck, Outcome, Normal}
 use Rattle.c_model.specs.State.{Stop, Evaluation, ◌>>=◌, ◌>>◌, give, done, stop, defined, step, print, read_byte, computed, as_scalar, find, object, read}
 use Rattle.c_model.specs.State.{read_any, changed, write, write_bytes, copy_object, allocate, tested, write_youngest, birth, births, alone, frame, mark, within}
 use Rattle.c_model.specs.State.{called}
 use Rattle.c_model.specs.Library.{is_there}
+use Rattle.c_model.specs.Places.{first_place}
 use Rattle.c_syntax.specs.Logic.{LogicTerm, Annotation}
 use Rattle.c_model.specs.Predicates.{checks, invariants, variant, value_of, compared}
 use Rattle.c_model.specs.ContractChecks.{entry, ending}
@@ -178,8 +179,8 @@ is_of_library f = nat_eq f.decl 4294967295
 -- the place that a pointer's value names (C99 6.5.3.2 p4)
 abbrev pub pointed_to : Value → Evaluation Pointer
 pointed_to (Points p) = give p
-pointed_to (Integer z) = stop (Over Fault)
-pointed_to NoValue = stop (Over Fault)
+pointed_to (Integer z) = stop Stuck
+pointed_to NoValue = stop Stuck
 
 -- a member of an object; null has none (C99 6.5.2.3)
 abbrev pub member : Place → Pointer → ℕ → Evaluation Pointer
@@ -336,6 +337,7 @@ after_body (Stop (Leaves Continues) s) again = again s
 after_body (Stop (Leaves Breaks) s) again = Normal tt s
 after_body (Stop (Leaves (Returns v)) s) again = Stop (Leaves (Returns v)) s
 after_body (Stop (Over e) s) again = Stop (Over e) s
+after_body (Stop Stuck s) again = Stop Stuck s
 
 -- a turn behind its step, and what comes after it: the variant is kept, the body, what stands behind that, and the variant is compared
 abbrev pub turn_with : Option (Annotation × LogicTerm) → Evaluation (Unit {0}) → Evaluation (Unit {0}) → Evaluation (Unit {0}) → Evaluation (Unit {0})
@@ -386,6 +388,7 @@ after_switch (Stop (Leaves Breaks) s) = Normal tt s
 after_switch (Stop (Leaves Continues) s) = Stop (Leaves Continues) s
 after_switch (Stop (Leaves (Returns v)) s) = Stop (Leaves (Returns v)) s
 after_switch (Stop (Over e) s) = Stop (Over e) s
+after_switch (Stop Stuck s) = Stop Stuck s
 
 -- the declarations that stand directly in a block
 abbrev pub declared_in : BlockItems → List Declaration
@@ -494,11 +497,12 @@ at_close close t = elim (scalar_of t) [ None ↦ give NoValue | Some k ↦ stop 
 -- what a call gives, from the way in which the body ends (C99 6.8.6.4)
 abbrev pub returned_by : Function → Outcome (Unit {0}) → Outcome Value
 returned_by f (Normal u s) = at_close f.close f.result s
-returned_by f (Stop (Leaves Breaks) s) = Stop (Over Fault) s
-returned_by f (Stop (Leaves Continues) s) = Stop (Over Fault) s
+returned_by f (Stop (Leaves Breaks) s) = Stop Stuck s
+returned_by f (Stop (Leaves Continues) s) = Stop Stuck s
 returned_by f (Stop (Leaves (Returns None)) s) = Normal NoValue s
 returned_by f (Stop (Leaves (Returns (Some v))) s) = Normal v s
 returned_by f (Stop (Over e) s) = Stop (Over e) s
+returned_by f (Stop Stuck s) = Stop Stuck s
 
 -- the demands on what main gives, which is 0 at its closing brace (C99 5.1.2.2.3)
 abbrev pub after_main : Option FunctionContract → List Bool → Outcome (Unit {0}) → Outcome (Unit {0})
@@ -508,6 +512,7 @@ after_main c hs (Stop (Leaves Continues) s) = Stop (Leaves Continues) s
 after_main c hs (Stop (Leaves (Returns None)) s) = (ending c hs NoValue >> stop (Leaves (Returns None))) s
 after_main c hs (Stop (Leaves (Returns (Some v))) s) = (ending c hs v >> stop (Leaves (Returns (Some v)))) s
 after_main c hs (Stop (Over e) s) = Stop (Over e) s
+after_main c hs (Stop Stuck s) = Stop Stuck s
 
 module _ (T : Tables) where
   abbrev pub fill_one : Place → PlainType → Pointer → Option ℕ → Evaluation Value → Evaluation (Unit {0})
@@ -604,7 +609,7 @@ module _ (T : Tables) where
   parameters at (d ∷ ds) (v ∷ vs) = birth T.structs d >> as_scalar (scalar_of d.ctype) (λ k. write_youngest at k v) >> parameters at ds vs
 
   abbrev pub body_with : Option Statement → Callee → ℕ → Evaluation (Unit {0})
-  body_with None call n = stop (Over Fault)
+  body_with None call n = stop Stuck
   body_with (Some a) call n = exec_with a call n
 
   -- what a call gives, where these behaviors hold: the body, and then the demands on its value
@@ -620,7 +625,7 @@ module _ (T : Tables) where
 
   -- A call of main: the same without a step and arguments.
   abbrev pub main_with : Option Function → Callee → ℕ → Evaluation (Unit {0})
-  main_with None call n = stop (Over Fault)
+  main_with None call n = stop Stuck
   main_with (Some f) call n =
       called (frame >> births T.structs f.params >> mark None >> (entry f.contract >>= λ hs s. after_main f.contract hs (body_with f.body call n s)))
 
@@ -694,16 +699,17 @@ pub record Ran : Type 0 where
 abbrev pub ran_to : Final → State → Ran
 ran_to e s = record { final = e; output = s.output; left = s.steps }
 
--- main returns 0 at its closing brace (C99 5.1.2.2.3)
+-- Main returns 0 at its closing brace (C99 5.1.2.2.3). What typing rules out counts as undefined; no program of an accepted text comes to it.
 abbrev pub ran : Outcome (Unit {0}) → Ran
 ran (Normal u s) = ran_to (Exits (pos 0)) s
-ran (Stop (Leaves Breaks) s) = ran_to Fault s
-ran (Stop (Leaves Continues) s) = ran_to Fault s
+ran (Stop (Leaves Breaks) s) = ran_to (Undefined first_place) s
+ran (Stop (Leaves Continues) s) = ran_to (Undefined first_place) s
 ran (Stop (Leaves (Returns None)) s) = ran_to (Exits (pos 0)) s
-ran (Stop (Leaves (Returns (Some NoValue))) s) = ran_to Fault s
-ran (Stop (Leaves (Returns (Some (Points p)))) s) = ran_to Fault s
+ran (Stop (Leaves (Returns (Some NoValue))) s) = ran_to (Undefined first_place) s
+ran (Stop (Leaves (Returns (Some (Points p)))) s) = ran_to (Undefined first_place) s
 ran (Stop (Leaves (Returns (Some (Integer z)))) s) = ran_to (Exits z) s
 ran (Stop (Over e) s) = ran_to e s
+ran (Stop Stuck s) = ran_to (Undefined first_place) s
 
 -- the run of a program on an input with n steps
 abbrev pub run : TranslationUnit → Input → ℕ → Ran

@@ -56,15 +56,13 @@ pub data Leave : Type 0 where
   Continues : Leave
   Returns : Option Value → Leave
 
--- how a run ends
+-- how a run of the source ends
 pub data Final : Type 0 where
   Exits : ℤ → Final
   -- the annotation's number, its line, its kind, and how it is broken
   Broken : ℕ → ℕ → Kind → How → Final
-  -- an undefined operation of the source, at its place
+  -- an undefined operation, at its place
   Undefined : Place → Final
-  -- a fault of the machine
-  Fault : Final
   Spent : Final
   Full : Segment → Final
   ReadFault : Final
@@ -72,6 +70,8 @@ pub data Final : Type 0 where
 pub data End : Type 0 where
   Leaves : Leave → End
   Over : Final → End
+  -- what typing rules out has no meaning, and is no end of a run
+  Stuck : End
 
 -- a value and the state after it, or an end and the state there
 pub data Outcome (A : Type 0) : Type 0 where
@@ -146,7 +146,7 @@ computed at f = λ s. defined at (f s.store) s
 
 -- goes on with a scalar type, which typing promises
 abbrev pub as_scalar : {A : Type 0} → Option Scalar → (Scalar → Evaluation A) → Evaluation A
-as_scalar None go = stop (Over Fault)
+as_scalar None go = stop Stuck
 as_scalar (Some k) go = go k
 
 -- the value of an object (C99 6.3.2.1 p2)

@@ -10,7 +10,7 @@ ghost use Rattle.c_model.specs.HeapLaws.{AllocatedBlocksAreNew, NoBytesGiveNull,
 ghost use Rattle.c_model.specs.HeapLaws.{StatementsKeepBlocks, StatementsKeepPlaces, ScalarsStandInOrder, AssignedStructsAreCopies, AssignedStructsKeepTheRest};
 ghost use Rattle.c_model.specs.Laws.{FuelIsEnough, StepsFall, LoopsTurn, DoLoopsTurn, ForLoopsTurn, RunsNeedNoFuel, RunsSpendSteps, OutputGrows};
 ghost use Rattle.c_model.specs.TypedPredicates.{TypedAnnotationsAreKnown};
-ghost use Rattle.c_model.specs.Laws.{ProgramsNeverFault, AgreementIsReflexive, AgreementIsTransitive};
+ghost use Rattle.c_model.specs.Laws.{ProgramsNeverStuck, AgreementIsReflexive, AgreementIsTransitive, AgreementGoesOn};
 
 /// Integers: a value is the value of its bits, a result that fits stands, one that does not is undefined in a signed
 /// type and wraps in an unsigned one. Conversions and operators give values of their types.
@@ -74,9 +74,9 @@ pub fn runs()
     ensures output { OutputGrows }
 {}
 
-/// Programs of accepted texts: no run of one ends in a fault.
+/// Programs of accepted texts: no run of one comes to what typing rules out.
 pub fn programs()
-    ensures faultless { ProgramsNeverFault }
+    ensures never_stuck { ProgramsNeverStuck }
 {}
 
 /// Annotations: what typing makes of those that are read is well typed.
@@ -84,10 +84,11 @@ pub fn annotations()
     ensures typed { TypedAnnotationsAreKnown }
 {}
 
-/// Agreement of runs: each agrees with itself, and what agrees with a run in two steps agrees with it.
+/// Agreement of runs: each agrees with itself, and what agrees with a run in two steps agrees with it, also with the source's.
 pub fn agreement()
     ensures reflexive { AgreementIsReflexive }
     ensures transitive { AgreementIsTransitive }
+    ensures from_source { AgreementGoesOn }
 {}
 
 /// Ranges: a term or predicate with ranges is the same but for its ranges, each of which is that of its form, and it means the same.

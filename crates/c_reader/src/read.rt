@@ -3,7 +3,7 @@
 ghost use Rattle.std.specs.Prelude.{ℕ, List, ◌≡◌, ◌<◌, length, IfOk, IfErr, MatchResult};
 ghost use Rattle.c_syntax.specs.Programs.{TranslationUnit, PlainRefusal, plain_program};
 ghost use Rattle.c_model.specs.AcceptedPrograms.{IsProgram};
-ghost use Rattle.c_model.specs.Laws.{NeverFaults};
+ghost use Rattle.c_model.specs.Laws.{NeverStuck};
 ghost use Rattle.c_model.specs.ReadTree.{AreBytes};
 ghost use Rattle.c_model.specs.Phases.{AcceptedText, RefusedText};
 ghost use Rattle.c_model.specs.AnnotationRanges.{ranged_unit};
@@ -86,12 +86,12 @@ pub fn read_text(alloc: Global, text: &[u8]) -> Result<Program, FrontFault>
 }
 
 /// A text has one program at most, and then it has no refusal, and it has one refusal at most. An accepted program is one that can be
-/// translated, whose annotations have their ranges, and no run of it ends in a fault.
+/// translated, whose annotations have their ranges, and no run of it gets stuck at what typing rules out.
 pub fn about_texts()
     ensures one { (text : List ℕ) (p q : TranslationUnit) → AcceptedText text p → AcceptedText text q → p ≡ q }
     ensures apart { (text : List ℕ) (p : TranslationUnit) (r : PlainRefusal) → AcceptedText text p → RefusedText text r → ⊥ }
     ensures single { (text : List ℕ) (r s : PlainRefusal) → RefusedText text r → RefusedText text s → r ≡ s }
     ensures program { (text : List ℕ) (p : TranslationUnit) → AcceptedText text p → IsProgram p }
     ensures ranged { (text : List ℕ) (p : TranslationUnit) → AcceptedText text p → FunctionsRanged p.funcs }
-    ensures faultless { (text : List ℕ) (p : TranslationUnit) → AcceptedText text p → NeverFaults p }
+    ensures never_stuck { (text : List ℕ) (p : TranslationUnit) → AcceptedText text p → NeverStuck p }
 {}

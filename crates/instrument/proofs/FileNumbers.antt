@@ -12,7 +12,7 @@ use Rattle.instrument.proofs.Births.{names_of}
 use Rattle.instrument.proofs.Own.{AreOwn}
 use Rattle.instrument.proofs.Starts.{Ascending}
 use Rattle.instrument.proofs.Numbers.{numbers_in, parted, in_bounds, IsOutside, Under, Over, AllOutside}
-use Rattle.c_model.proofs.NoFaultsItems.{IsAmong, global_in_file, function_in_file}
+use Rattle.c_model.proofs.NeverStuckItems.{IsAmong, global_in_file, function_in_file}
 
 -- ---- a global among items
 

@@ -17,7 +17,7 @@ use Rattle.c_model.specs.AcceptedPrograms.{ItemNoted, FileNoted, AreDefined, Ite
 use Rattle.instrument.proofs.Births.{names_of}
 use Rattle.instrument.proofs.Scenes.{IsFound, AreFound, DeclarationsFound, found_end, found_more, found_with}
 use Rattle.instrument.proofs.Sight.{scope_for}
-use Rattle.c_model.proofs.NoFaultsItems.{IsAmong, global_in_file, function_in_file}
+use Rattle.c_model.proofs.NeverStuckItems.{IsAmong, global_in_file, function_in_file}
 
 -- ---- items that declare no object but those of a scope
 

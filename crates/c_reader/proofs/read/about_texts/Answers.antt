@@ -1,4 +1,4 @@
-use Rattle.c_model.proofs.NoFaults.{programs_never_fault}
+use Rattle.c_model.proofs.NeverStuck.{programs_never_stuck}
 use Rattle.c_reader.proofs.AcceptedTexts.{accepted_program, accepted_ranges}
 use Rattle.c_reader.proofs.Texts.{one_program, apart, one_refusal}
 use Rattle.c_reader.proofs.read.about_texts.Goals as goal
@@ -15,8 +15,8 @@ returns-clause-single c = one_refusal
 pub returns-clause-program : goal.returns-clause-program
 returns-clause-program c = accepted_program
 
-pub returns-clause-faultless : goal.returns-clause-faultless
-returns-clause-faultless c = λ text p a. programs_never_fault p (accepted_program text p a)
+pub returns-clause-never_stuck : goal.returns-clause-never_stuck
+returns-clause-never_stuck c = λ text p a. programs_never_stuck p (accepted_program text p a)
 
 pub returns-clause-ranged : goal.returns-clause-ranged
 returns-clause-ranged c = accepted_ranges

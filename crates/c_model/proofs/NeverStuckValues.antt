@@ -25,8 +25,8 @@ use Rattle.c_model.specs.TypedTrees.{WhereAny, IsScalar, IsInteger, BinaryTypes,
 use Rattle.c_model.specs.TypedTrees.{CastTypes, ToVoid, OfInteger, OfPointer, OfNullConstant, OfArray}
 use Rattle.c_syntax.specs.declared.expression.Use.{Use}
 use Rattle.c_syntax.specs.Layouts.{Scalar, IntegerType, PointerType, scalar_size, scalar_of, scalars_of, size_of, target_of}
-use Rattle.c_model.proofs.NoFaultsRuns.{Anything, IsNumber, IsAddress, IsValueOf, EndsWell, Gives, gives_bind, gives_then}
-use Rattle.c_model.proofs.NoFaultsRuns.{gives_give, gives_over, gives_values, gives_cond, gives_computed, gives_changed, gives_written}
+use Rattle.c_model.proofs.NeverStuckRuns.{Anything, IsNumber, IsAddress, IsValueOf, EndsWell, Gives, gives_bind, gives_then}
+use Rattle.c_model.proofs.NeverStuckRuns.{gives_give, gives_over, gives_values, gives_cond, gives_computed, gives_changed, gives_written}
 
 -- ---- values of types that equal these
 
@@ -220,7 +220,7 @@ gives_pointed (Integer z) h = absurd h
 gives_pointed NoValue h = absurd h
 
 pub gives_member : {L : Leave → Type 0} (at : Place) (p : Pointer) (offset : ℕ) → Gives Anything L (member at p offset)
-gives_member at Null offset = gives_over (Undefined at) tt
+gives_member at Null offset = gives_over (Undefined at)
 gives_member at (Into n i) offset = gives_give _ tt
 
 -- an object is copied, and gives no value

@@ -1,4 +1,4 @@
--- Evaluations that end in no fault, whatever is typed: births, blocks, annotations, loops and the library.
+-- Evaluations that never get stuck, whatever is typed: births, blocks, annotations, loops and the library.
 use Rattle.std.proofs.Common.{◌≡◌, ℕ, zero, suc, ◌+◌, ◌*◌, pos, Bool, true, false, cond, if◌then◌else◌, nat_eq, nat_lt, ℤ, List, [], ◌∷◌, length, replicate, Option, Some, None, codes, bytes_eq, subst}
 use Rattle.c_syntax.specs.declared.place.Place.{Place}
 use Rattle.c_syntax.specs.declared.types.Segment.{Segment}
@@ -13,8 +13,8 @@ use Rattle.c_syntax.specs.Layouts.{Scalar, size_of}
 use Rattle.c_model.specs.Integers.{bits_of, byte_of}
 use Rattle.c_model.specs.Memory.{Pointer, Null, Into, Value, Integer, Points, NoValue, Byte, Unwritten, Number as NumberByte, Store, save, tested_value}
 use Rattle.c_model.specs.Memory.{standard_sizes, full_at_stack_birth, Room, At, NoRoom, heap_room, freed}
-use Rattle.c_model.specs.State.{InputTail, EndOfInput, InputFault, State, Leave, Breaks, Continues, Returns, Final, Undefined, Fault, Spent, Full}
-use Rattle.c_model.specs.State.{Exits, Leaves, Over, Outcome, Normal, Stop, Evaluation, on_outcome, ◌>>=◌, ◌>>◌, give, done}
+use Rattle.c_model.specs.State.{InputTail, EndOfInput, InputFault, State, Leave, Breaks, Continues, Returns, Final, Undefined, Spent, Full}
+use Rattle.c_model.specs.State.{Exits, Leaves, Over, Stuck, Outcome, Normal, Stop, Evaluation, on_outcome, ◌>>=◌, ◌>>◌, give, done}
 use Rattle.c_model.specs.State.{Scope, stop, defined, computed, changed, step_from, step, read_byte, print, find}
 use Rattle.c_model.specs.State.{start_of, object, put_store, write, tested, birth_of, birth, births, heap_birth, allocate, write_youngest, alone}
 use Rattle.c_model.specs.State.{frame, mark, restored, within, answered, called}
@@ -29,11 +29,6 @@ use Rattle.c_model.specs.Meaning.{is_zero, choose, after_body, turn_with, turns,
 use Rattle.c_model.specs.Meaning.{put_char, get_char, exit_with, malloc_with, calloc_with, free_with, library_call}
 
 -- ---- what evaluations give
-
--- an end that the meaning of C names
-abbrev pub IsNamed : Final → Type 0
-IsNamed Fault = ⊥
-IsNamed _ = Unit {0}
 
 abbrev pub Anything : {A : Type 0} → A → Type 0
 Anything a = Unit {0}
@@ -57,11 +52,12 @@ IsValueOf (Int k) v = IsNumber v
 IsValueOf (Ptr t) v = IsAddress v
 IsValueOf _ v = Unit {0}
 
--- a value of which P holds, a jump of which L holds, or an end that the meaning names
+-- a value of which P holds, a jump of which L holds, or an end of the run
 abbrev pub EndsWell : {A : Type 0} → (A → Type 0) → (Leave → Type 0) → Outcome A → Type 0
 EndsWell P L (Normal a s) = P a
 EndsWell P L (Stop (Leaves l) s) = L l
-EndsWell P L (Stop (Over e) s) = IsNamed e
+EndsWell P L (Stop (Over e) s) = Unit {0}
+EndsWell P L (Stop Stuck s) = ⊥
 
 -- so from every state
 pub record Gives {A : Type 0} (P : A → Type 0) (L : Leave → Type 0) (m : Evaluation A) : Type 0 where
@@ -71,6 +67,7 @@ pub bound : {A B : Type 0} (P : A → Type 0) (Q : B → Type 0) (L : Leave → 
 bound P Q L (Normal a s) f g h = (h a g).at s
 bound P Q L (Stop (Leaves l) s) f g h = g
 bound P Q L (Stop (Over e) s) f g h = g
+bound P Q L (Stop Stuck s) f g h = g
 
 pub gives_bind : {A B : Type 0} {P : A → Type 0} {Q : B → Type 0} {L : Leave → Type 0} (m : Evaluation A) (f : A → Evaluation B) → Gives P L m → ((a : A) → P a → Gives Q L (f a)) → Gives Q L (m >>= f)
 gives_bind {P = P} {Q = Q} {L = L} m f g h = record { at = λ s. bound P Q L (m s) f (g.at s) h }
@@ -81,8 +78,8 @@ gives_then m f g h = gives_bind m (λ _. f) g (λ _ _. h)
 pub gives_give : {A : Type 0} {P : A → Type 0} {L : Leave → Type 0} (a : A) → P a → Gives P L (give a)
 gives_give a h = record { at = λ s. h }
 
-pub gives_over : {A : Type 0} {P : A → Type 0} {L : Leave → Type 0} (e : Final) → IsNamed e → Gives P L (stop (Over e))
-gives_over e h = record { at = λ s. h }
+pub gives_over : {A : Type 0} {P : A → Type 0} {L : Leave → Type 0} (e : Final) → Gives P L (stop (Over e))
+gives_over e = record { at = λ s. tt }
 
 pub gives_jump : {A : Type 0} {P : A → Type 0} {L : Leave → Type 0} (l : Leave) → L l → Gives P L (stop (Leaves l))
 gives_jump l h = record { at = λ s. h }
@@ -91,6 +88,7 @@ pub jumps : {A : Type 0} (P : A → Type 0) (L : Leave → Type 0) (r : Outcome 
 jumps P L (Normal a s) h = h
 jumps P L (Stop (Leaves l) s) h = absurd h
 jumps P L (Stop (Over e) s) h = h
+jumps P L (Stop Stuck s) h = h
 
 -- what makes no jump makes none but these
 pub gives_no_jump : {A : Type 0} {P : A → Type 0} {L : Leave → Type 0} (m : Evaluation A) → Gives P NoJump m → Gives P L m
@@ -100,6 +98,7 @@ pub values : {A : Type 0} (P Q : A → Type 0) (L : Leave → Type 0) (r : Outco
 values P Q L (Normal a s) h f = f a h
 values P Q L (Stop (Leaves l) s) h f = h
 values P Q L (Stop (Over e) s) h f = h
+values P Q L (Stop Stuck s) h f = h
 
 pub gives_anything : {A : Type 0} {P : A → Type 0} {L : Leave → Type 0} (m : Evaluation A) → Gives P L m → Gives Anything L m
 gives_anything {P = P} {L = L} m g = record { at = λ s. values P Anything L (m s) (g.at s) (λ _ _. tt) }
@@ -183,6 +182,7 @@ pub restored_well : {A : Type 0} (P : A → Type 0) (L : Leave → Type 0) (old 
 restored_well P L old (Normal a s) h = h
 restored_well P L old (Stop (Leaves l) s) h = h
 restored_well P L old (Stop (Over e) s) h = h
+restored_well P L old (Stop Stuck s) h = h
 
 pub gives_within : {A : Type 0} {P : A → Type 0} {L : Leave → Type 0} (m : Evaluation A) → Gives P L m → Gives P L (within m)
 gives_within {P = P} {L = L} m g = record { at = λ s. restored_well P L s (m s) (g.at s) }
@@ -191,6 +191,7 @@ pub answered_well : {A : Type 0} (P : A → Type 0) (L : Leave → Type 0) (old 
 answered_well P L old (Normal a s) h = h
 answered_well P L old (Stop (Leaves l) s) h = h
 answered_well P L old (Stop (Over e) s) h = h
+answered_well P L old (Stop Stuck s) h = h
 
 pub gives_called : {A : Type 0} {P : A → Type 0} {L : Leave → Type 0} (m : Evaluation A) → Gives P L m → Gives P L (called m)
 gives_called {P = P} {L = L} m g = record { at = λ s. answered_well P L s (m s) (g.at s) }
@@ -295,6 +296,7 @@ body_well r (Stop (Leaves Breaks) s) again h g = tt
 body_well r (Stop (Leaves (Returns None)) s) again h g = h
 body_well r (Stop (Leaves (Returns (Some v))) s) again h g = h
 body_well r (Stop (Over e) s) again h g = h
+body_well r (Stop Stuck s) again h g = h
 
 switch_well : (r : Around) (o : Outcome (Unit {0})) → EndsWell Anything (Allowed (in_switch r)) o → EndsWell Anything (Allowed r) (after_switch o)
 switch_well r (Normal u s) h = tt
@@ -303,6 +305,7 @@ switch_well r (Stop (Leaves Continues) s) h = h
 switch_well r (Stop (Leaves (Returns None)) s) h = h
 switch_well r (Stop (Leaves (Returns (Some v))) s) h = h
 switch_well r (Stop (Over e) s) h = h
+switch_well r (Stop Stuck s) h = h
 
 pub gives_after_switch : (r : Around) (m : Evaluation (Unit {0})) → Gives Anything (Allowed (in_switch r)) m → Gives Anything (Allowed r) (λ s. after_switch (m s))
 gives_after_switch r m g = record { at = λ s. switch_well r (m s) (g.at s) }
@@ -319,12 +322,12 @@ gives_turn r (Some v) body behind again b h g =
 
 pub gives_turns : (r : Around) (n : ℕ) (test : Evaluation Value) (turn : Evaluation (Unit {0}) → Evaluation (Unit {0})) → Gives Anything (Allowed r) test
     → ((again : Evaluation (Unit {0})) → Gives Anything (Allowed r) again → Gives Anything (Allowed r) (turn again)) → Gives Anything (Allowed r) (turns n test turn)
-gives_turns r zero test turn t b = gives_over Spent tt
+gives_turns r zero test turn t b = gives_over Spent
 gives_turns r (suc n) test turn t b =
     gives_bind test _ t (λ v _. gives_choose v _ _ (gives_then step _ gives_step (b (turns n test turn) (gives_turns r n test turn t b))) (gives_give tt tt))
 
 pub gives_do_turns : (r : Around) (n : ℕ) (test : Evaluation Value) (body : Evaluation (Unit {0})) → Gives Anything (Allowed r) test → Gives Anything (Allowed (in_loop r)) body → Gives Anything (Allowed r) (do_turns n test body)
-gives_do_turns r zero test body t b = gives_over Spent tt
+gives_do_turns r zero test body t b = gives_over Spent
 gives_do_turns r (suc n) test body t b =
     gives_bind step (λ _ s. after_body (body s) (test >>= λ v. choose v (do_turns n test body) done)) gives_step (λ _ _. record {
       at = λ s. body_well r (body s) (test >>= λ v. choose v (do_turns n test body) done) (b.at s)
@@ -334,12 +337,12 @@ gives_do_turns r (suc n) test body t b =
 -- ---- the library
 
 pub gives_put_char : (at : Place) (vs : List Value) → Gives IsNumber NoJump (put_char at vs)
-gives_put_char at [] = gives_over (Undefined at) tt
-gives_put_char at (NoValue ∷ []) = gives_over (Undefined at) tt
-gives_put_char at (Points p ∷ []) = gives_over (Undefined at) tt
+gives_put_char at [] = gives_over (Undefined at)
+gives_put_char at (NoValue ∷ []) = gives_over (Undefined at)
+gives_put_char at (Points p ∷ []) = gives_over (Undefined at)
 gives_put_char at (Integer z ∷ []) =
     gives_then {P = Anything} (print (byte_of z)) (give (Integer (pos (byte_of z)))) (record { at = λ s. tt }) (gives_give (Integer (pos (byte_of z))) tt)
-gives_put_char at (v ∷ w ∷ vs) = gives_over (Undefined at) tt
+gives_put_char at (v ∷ w ∷ vs) = gives_over (Undefined at)
 
 pub read_well : (bytes : List ℕ) (tail : InputTail) (s : State) → EndsWell IsNumber NoJump (read_byte bytes tail s)
 read_well [] EndOfInput s = tt
@@ -348,17 +351,17 @@ read_well (b ∷ bs) tail s = tt
 
 pub gives_get_char : (at : Place) (vs : List Value) → Gives IsNumber NoJump (get_char at vs)
 gives_get_char at [] = record { at = λ s. read_well s.input.bytes s.input.tail s }
-gives_get_char at (v ∷ vs) = gives_over (Undefined at) tt
+gives_get_char at (v ∷ vs) = gives_over (Undefined at)
 
 pub gives_exit : (at : Place) (vs : List Value) → Gives IsNumber NoJump (exit_with at vs)
-gives_exit at [] = gives_over (Undefined at) tt
-gives_exit at (NoValue ∷ []) = gives_over (Undefined at) tt
-gives_exit at (Points p ∷ []) = gives_over (Undefined at) tt
-gives_exit at (Integer z ∷ []) = gives_over (Exits z) tt
-gives_exit at (v ∷ w ∷ vs) = gives_over (Undefined at) tt
+gives_exit at [] = gives_over (Undefined at)
+gives_exit at (NoValue ∷ []) = gives_over (Undefined at)
+gives_exit at (Points p ∷ []) = gives_over (Undefined at)
+gives_exit at (Integer z ∷ []) = gives_over (Exits z)
+gives_exit at (v ∷ w ∷ vs) = gives_over (Undefined at)
 
 birth_gives : (room : Room) (bytes : List Byte) → Gives IsAddress NoJump (heap_birth room bytes)
-birth_gives (NoRoom full) bytes = gives_over (Full full) tt
+birth_gives (NoRoom full) bytes = gives_over (Full full)
 birth_gives (At place) bytes = record { at = λ s. tt }
 
 pub gives_allocate : (n : ℕ) (b : Byte) → Gives IsAddress NoJump (allocate n b)
@@ -367,15 +370,15 @@ gives_allocate n b =
 
 pub gives_malloc : (at : Place) (vs : List Value) → Gives IsAddress NoJump (malloc_with at vs)
 gives_malloc at (Integer n ∷ []) = gives_allocate (bits_of U64 n) Unwritten
-gives_malloc at _ = gives_over (Undefined at) tt
+gives_malloc at _ = gives_over (Undefined at)
 
 pub gives_calloc : (at : Place) (vs : List Value) → Gives IsAddress NoJump (calloc_with at vs)
 gives_calloc at (Integer n ∷ Integer m ∷ []) = gives_allocate (bits_of U64 n * bits_of U64 m) (NumberByte 0)
-gives_calloc at _ = gives_over (Undefined at) tt
+gives_calloc at _ = gives_over (Undefined at)
 
 pub gives_free : (at : Place) (vs : List Value) → Gives Anything NoJump (free_with at vs)
 gives_free at (Points p ∷ []) = gives_then _ _ (gives_changed at (λ store. freed store p)) (gives_give NoValue tt)
-gives_free at _ = gives_over (Undefined at) tt
+gives_free at _ = gives_over (Undefined at)
 
 -- a call of a function of the library gives a value of its result
 pub gives_library_call : (at : Place) (x : ℕ) (w : List ℕ) (vs : List Value) (g : Signature) → library_function x w ≡ Some g → Gives (IsValueOf g.result) NoJump (library_call at (Some w) vs)

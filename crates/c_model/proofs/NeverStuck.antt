@@ -1,4 +1,4 @@
--- No run of an accepted program ends in a fault: jumps stay in their loops, what is called is defined, addresses are pointed to, and `main` gives a number.
+-- No run of an accepted program gets stuck: jumps stay in their loops, what is called is defined, addresses are pointed to, and `main` gives a number.
 use Rattle.std.proofs.Common.{pos, ◌≡◌, ℕ, zero, suc, Bool, true, false, cond, ◌&&◌, if◌then◌else◌, nat_eq, List, [], ◌∷◌, ◌++◌, Option, Some, None, slice_get, codes, bytes_eq, refl, sym, ap, ◌∙◌, subst}
 use Rattle.std.proofs.Common.{append_assoc}
 use Rattle.c_syntax.specs.declared.place.Place.{Place}
@@ -8,24 +8,24 @@ use Rattle.c_syntax.specs.Expressions.{Expressions}
 use Rattle.c_syntax.specs.Statements.{Declaration}
 use Rattle.c_syntax.specs.Programs.{FunctionContract, Function, TranslationUnit}
 use Rattle.c_model.specs.Memory.{Value, Integer, Points, NoValue}
-use Rattle.c_model.specs.State.{Leave, Breaks, Continues, Returns, Final, Undefined, Fault, Spent, Leaves, Over, Outcome, Normal, Stop, ◌>>◌, stop}
+use Rattle.c_model.specs.State.{Leave, Breaks, Continues, Returns, Undefined, Spent, Leaves, Over, Stuck, Outcome, Normal, Stop, ◌>>◌, stop}
 use Rattle.c_model.specs.ContractChecks.{entry, ending}
 use Rattle.c_model.specs.Meaning.{is_definition, Callee, is_of_library, library_call, definition_at, body_with, call_with, initialise_all, tables_of}
-use Rattle.c_model.specs.Meaning.{global_scope, call_of, has_name, function_named, after_main, main_with, start, ran, run}
+use Rattle.c_model.specs.Meaning.{global_scope, call_of, has_name, function_named, after_main, main_with, start}
 use Rattle.c_model.specs.ExpressionTyping.{Sight, Signature, name_at, or_else, function_called, library_function, same_type, inner}
 use Rattle.c_model.specs.UnitTyping.{with_parameters, main_fault, no_main, has_no_parameters}
 use Rattle.c_model.specs.TypedTrees.{Calls, around_body}
 use Rattle.c_model.specs.Formed.{AreAsserts}
 use Rattle.c_model.specs.ReadTree.{FunctionRead, FunctionsRead}
 use Rattle.c_model.specs.AcceptedPrograms.{IsProgram}
-use Rattle.c_model.specs.Laws.{NeverFaults}
+use Rattle.c_model.specs.Laws.{EndsProperly, NeverStuck}
 use Rattle.c_model.proofs.LibraryFunctions.{each_of_library}
 use Rattle.c_model.proofs.TypedParts.{and_true, same_type_is}
-use Rattle.c_model.proofs.NoFaultsRuns.{IsNamed, Anything, NoJump, IsValueOf, EndsWell, Gives, gives_then, gives_give}
-use Rattle.c_model.proofs.NoFaultsRuns.{gives_over, gives_births, gives_frame, gives_mark, gives_called, gives_bind, gives_jump, gives_entry, gives_ending, gives_library_call, Allowed}
-use Rattle.c_model.proofs.NoFaultsExpressions.{Sees, CallsGive, gives_declared}
-use Rattle.c_model.proofs.NoFaultsStatements.{sees_inner, sees_parameters, gives_body, gives_call}
-use Rattle.c_model.proofs.NoFaultsItems.{function_in_sight, global_in_sight}
+use Rattle.c_model.proofs.NeverStuckRuns.{Anything, NoJump, IsValueOf, EndsWell, Gives, gives_then, gives_give}
+use Rattle.c_model.proofs.NeverStuckRuns.{gives_over, gives_births, gives_frame, gives_mark, gives_called, gives_bind, gives_jump, gives_entry, gives_ending, gives_library_call, Allowed}
+use Rattle.c_model.proofs.NeverStuckExpressions.{Sees, CallsGive, gives_declared}
+use Rattle.c_model.proofs.NeverStuckStatements.{sees_inner, sees_parameters, gives_body, gives_call}
+use Rattle.c_model.proofs.NeverStuckItems.{function_in_sight, global_in_sight}
 
 -- ---- what is called
 
@@ -40,7 +40,7 @@ library_number x w g e = each_of_library (λ (h : Signature). nat_eq h.decl 4294
 
 -- what a call of a function of the library gives, by its name among those of the text
 library_gives : (x : ℕ) (o : Option (List ℕ)) (g : Signature) → library_function x (elim o [ None ↦ [] | Some w ↦ w ]) ≡ Some g → (at : Place) (vs : List Value) → Gives (IsValueOf g.result) NoJump (library_call at o vs)
-library_gives x None g e at vs = gives_over (Undefined at) tt
+library_gives x None g e at vs = gives_over (Undefined at)
 library_gives x (Some w) g e at vs = gives_library_call at x w vs g e
 
 called : (p : TranslationUnit) (s : Sight) → Sees p s → (f : Use) (t : PlainType) (es : Expressions) → Calls s f t es → IsCalled p f t
@@ -119,7 +119,7 @@ module _ (p : TranslationUnit) where
       where
         by : IsCalled p f t → Gives (IsValueOf t) NoJump (call_of p zero at f vs)
         by (CallsFunction g other found result) =
-            subst (λ b. Gives (IsValueOf t) NoJump (if b then library_call at (slice_get p.names f.name) vs else stop (Over Spent))) (sym other) (gives_over Spent tt)
+            subst (λ b. Gives (IsValueOf t) NoJump (if b then library_call at (slice_get p.names f.name) vs else stop (Over Spent))) (sym other) (gives_over Spent)
         by (CallsLibrary is gives) =
             subst (λ b. Gives (IsValueOf t) NoJump (if b then library_call at (slice_get p.names f.name) vs else stop (Over Spent))) (sym is)
             (gives at vs)
@@ -177,18 +177,16 @@ main_is p (f ∷ fs) e = by (λ h. main_is p fs h) (is_definition f && bytes_eq 
 
 -- ---- whole runs
 
-named_is : (e : Final) → IsNamed e → e ≡ Fault → ⊥
-named_is e h f = subst IsNamed f h
-
-ran_named : (r : Outcome (Unit {0})) → EndsWell Anything (Allowed (around_body int_type)) r → IsNamed (ran r).final
-ran_named (Normal u s) h = tt
-ran_named (Stop (Leaves Breaks) s) h = absurd cc
-ran_named (Stop (Leaves Continues) s) h = absurd cc
-ran_named (Stop (Leaves (Returns None)) s) h = tt
-ran_named (Stop (Leaves (Returns (Some NoValue))) s) h = absurd h
-ran_named (Stop (Leaves (Returns (Some (Points p)))) s) h = absurd h
-ran_named (Stop (Leaves (Returns (Some (Integer z)))) s) h = tt
-ran_named (Stop (Over e) s) h = h
+ends_properly : (r : Outcome (Unit {0})) → EndsWell Anything (Allowed (around_body int_type)) r → EndsProperly r
+ends_properly (Normal u s) h = tt
+ends_properly (Stop (Leaves Breaks) s) h = absurd cc
+ends_properly (Stop (Leaves Continues) s) h = absurd cc
+ends_properly (Stop (Leaves (Returns None)) s) h = h
+ends_properly (Stop (Leaves (Returns (Some NoValue))) s) h = h
+ends_properly (Stop (Leaves (Returns (Some (Points p)))) s) h = h
+ends_properly (Stop (Leaves (Returns (Some (Integer z)))) s) h = tt
+ends_properly (Stop (Over e) s) h = h
+ends_properly (Stop Stuck s) h = h
 
 after_main_well : (c : Option FunctionContract) (hs : List Bool) (r : Outcome (Unit {0})) → EndsWell Anything (Allowed (around_body int_type)) r → EndsWell Anything (Allowed (around_body int_type)) (after_main c hs r)
 after_main_well c hs (Normal u s) h = (gives_ending c hs (Integer (pos 0))).at s
@@ -197,10 +195,11 @@ after_main_well c hs (Stop (Leaves Continues) s) h = absurd cc
 after_main_well c hs (Stop (Leaves (Returns None)) s) h = (gives_then (ending c hs NoValue) (stop {A = Unit {0}} (Leaves (Returns None))) (gives_ending c hs NoValue) (gives_jump (Returns None) h)).at s
 after_main_well c hs (Stop (Leaves (Returns (Some v))) s) h = (gives_then (ending c hs v) (stop {A = Unit {0}} (Leaves (Returns (Some v)))) (gives_ending c hs v) (gives_jump (Returns (Some v)) h)).at s
 after_main_well c hs (Stop (Over e) s) h = h
+after_main_well c hs (Stop Stuck s) h = h
 
--- the run of an accepted program never ends in a fault
-pub programs_never_fault : (p : TranslationUnit) → IsProgram p → NeverFaults p
-programs_never_fault p q input n =
+-- the run of an accepted program never gets stuck
+pub programs_never_stuck : (p : TranslationUnit) → IsProgram p → NeverStuck p
+programs_never_stuck p q input n =
     let call = call_of p (suc n) in
     let calls = calls_give p q (suc n) in
     let m = main_is p p.funcs q.main in
@@ -214,5 +213,5 @@ programs_never_fault p q input n =
     (λ hs _. record { at = λ s. after_main_well f.contract hs (body_with T f.body call (suc n) s) (body.at s) }))) in
     let of_globals : Gives Anything (Allowed (around_body int_type)) (initialise_all T p.globals call) = gives_globals p q call calls [] p.globals refl in
     let all = gives_then (initialise_all T p.globals call) (main_with T (Some f) call (suc n)) of_globals of_main in
-    let named = ran_named _ (all.at (start p input n)) in
-    named_is (run p input n).final (subst (λ o. IsNamed (ran ((initialise_all T p.globals call >> main_with T o call (suc n)) (start p input n))).final) (sym m.found) named)
+    let proper = ends_properly _ (all.at (start p input n)) in
+    subst (λ o. EndsProperly ((initialise_all T p.globals call >> main_with T o call (suc n)) (start p input n))) (sym m.found) proper

@@ -9,7 +9,7 @@ use Rattle.c_model.specs.UnitTyping.{sight_with, with_function, with_enumerators
 use Rattle.c_model.specs.TypedTrees.{IsDeclared, FunctionTyped}
 use Rattle.c_model.specs.TypedPrograms.{ItemTyped, ItemsTyped, ProgramTyped}
 use Rattle.c_model.specs.FileItems.{AreDefined, ItemResolved, FileResolved}
-use Rattle.c_model.proofs.NoFaultsExpressions.{Sees}
+use Rattle.c_model.proofs.NeverStuckExpressions.{Sees}
 
 abbrev pub IsAmong : FileItem → List FileItem → Type 0
 IsAmong i [] = ⊥

@@ -22,10 +22,10 @@ use Rattle.c_model.specs.Meaning.{fill, fill_parts, initialise, initialise_all, 
 use Rattle.c_model.specs.ExpressionTyping.{Sight, with_object, tables_in}
 use Rattle.c_model.specs.TypedTrees.{WhereAny, IsPromoted, WellTyped, AreWellTyped, Calls, IsCondition, InitialisedBy, ByText, ByValue, Initialises, PartsInitialised, IsDeclared, AreDeclared}
 use Rattle.c_model.specs.FileItems.{AreDefined}
-use Rattle.c_model.proofs.NoFaultsRuns.{Anything, NoJump, IsValueOf, Gives, gives_bind, gives_then, gives_give, gives_over, gives_no_jump, gives_values}
-use Rattle.c_model.proofs.NoFaultsRuns.{gives_object, gives_computed, gives_tested, gives_changed, gives_write, gives_written, gives_defined, gives_choose, anything}
-use Rattle.c_model.proofs.NoFaultsValues.{number_in, address_in, address_by, number_of_one, value_of_two, value_of_compound, scalar_of_compound, value_of_bump, gives_read_any}
-use Rattle.c_model.proofs.NoFaultsValues.{gives_read, gives_scalar, gives_pointed, gives_member, gives_assigned, named_well, gives_address, gives_cast}
+use Rattle.c_model.proofs.NeverStuckRuns.{Anything, NoJump, IsValueOf, Gives, gives_bind, gives_then, gives_give, gives_over, gives_no_jump, gives_values}
+use Rattle.c_model.proofs.NeverStuckRuns.{gives_object, gives_computed, gives_tested, gives_changed, gives_write, gives_written, gives_defined, gives_choose, anything}
+use Rattle.c_model.proofs.NeverStuckValues.{number_in, address_in, address_by, number_of_one, value_of_two, value_of_compound, scalar_of_compound, value_of_bump, gives_read_any}
+use Rattle.c_model.proofs.NeverStuckValues.{gives_read, gives_scalar, gives_pointed, gives_member, gives_assigned, named_well, gives_address, gives_cast}
 
 -- ---- what is in sight
 
@@ -141,23 +141,23 @@ module _ (p : TranslationUnit) (T : Tables) (structs : T.structs ≡ p.structs) 
         gives_bind _ _ (gives_place s see a w.0) (λ q _. gives_then _ _ (gives_assigned T.structs at t q _ _ (subst (λ u. Gives (IsValueOf u) NoJump (eval_with T b call)) w.4 (gives_eval s see b w.1)) (gives_place s see b w.1))
         (gives_give q tt))
     gives_place s see (Node at t (Comma a b)) w = gives_then _ _ (gives_eval s see a w.0) (gives_place s see b w.1)
-    gives_place s see (Node at t (Assign (Some op) a b)) w = gives_over (Undefined at) tt
-    gives_place s see (Node at t (Number n k)) w = gives_over (Undefined at) tt
-    gives_place s see (Node at t (Letter n)) w = gives_over (Undefined at) tt
-    gives_place s see (Node at t (Unary unary.Not a)) w = gives_over (Undefined at) tt
-    gives_place s see (Node at t (Unary unary.Plus a)) w = gives_over (Undefined at) tt
-    gives_place s see (Node at t (Unary unary.Minus a)) w = gives_over (Undefined at) tt
-    gives_place s see (Node at t (Unary unary.Flip a)) w = gives_over (Undefined at) tt
-    gives_place s see (Node at t (Unary unary.Address a)) w = gives_over (Undefined at) tt
-    gives_place s see (Node at t (Binary op a b)) w = gives_over (Undefined at) tt
-    gives_place s see (Node at t (Both a b)) w = gives_over (Undefined at) tt
-    gives_place s see (Node at t (Either a b)) w = gives_over (Undefined at) tt
-    gives_place s see (Node at t (Choice a b c)) w = gives_over (Undefined at) tt
-    gives_place s see (Node at t (Bump op a)) w = gives_over (Undefined at) tt
-    gives_place s see (Node at t (Call f args)) w = gives_over (Undefined at) tt
-    gives_place s see (Node at t (Cast to a)) w = gives_over (Undefined at) tt
-    gives_place s see (Node at t (SizeOfType u)) w = gives_over (Undefined at) tt
-    gives_place s see (Node at t (SizeOfExpr a)) w = gives_over (Undefined at) tt
+    gives_place s see (Node at t (Assign (Some op) a b)) w = gives_over (Undefined at)
+    gives_place s see (Node at t (Number n k)) w = gives_over (Undefined at)
+    gives_place s see (Node at t (Letter n)) w = gives_over (Undefined at)
+    gives_place s see (Node at t (Unary unary.Not a)) w = gives_over (Undefined at)
+    gives_place s see (Node at t (Unary unary.Plus a)) w = gives_over (Undefined at)
+    gives_place s see (Node at t (Unary unary.Minus a)) w = gives_over (Undefined at)
+    gives_place s see (Node at t (Unary unary.Flip a)) w = gives_over (Undefined at)
+    gives_place s see (Node at t (Unary unary.Address a)) w = gives_over (Undefined at)
+    gives_place s see (Node at t (Binary op a b)) w = gives_over (Undefined at)
+    gives_place s see (Node at t (Both a b)) w = gives_over (Undefined at)
+    gives_place s see (Node at t (Either a b)) w = gives_over (Undefined at)
+    gives_place s see (Node at t (Choice a b c)) w = gives_over (Undefined at)
+    gives_place s see (Node at t (Bump op a)) w = gives_over (Undefined at)
+    gives_place s see (Node at t (Call f args)) w = gives_over (Undefined at)
+    gives_place s see (Node at t (Cast to a)) w = gives_over (Undefined at)
+    gives_place s see (Node at t (SizeOfType u)) w = gives_over (Undefined at)
+    gives_place s see (Node at t (SizeOfExpr a)) w = gives_over (Undefined at)
 
     gives_evals : (s : Sight) → Sees p s → (es : Expressions) → AreWellTyped s es → Gives Anything NoJump (evals_with T es call)
     gives_evals s see NoExpression w = gives_give [] tt

@@ -9,7 +9,7 @@ use Rattle.c_syntax.specs.Statements.{Cases, NoCase, AnotherCase}
 use Rattle.c_syntax.specs.Statements.{NoElse, Else, ForFirst, NoFirst, First, BlockItem, Declare, Run, Asserts, BlockItems, NoItem, Then}
 use Rattle.c_syntax.specs.Programs.{Function, TranslationUnit}
 use Rattle.c_model.specs.Memory.{Value, NoValue}
-use Rattle.c_model.specs.State.{Scope, Breaks, Continues, Returns, Undefined, Leave, Leaves, Over, Outcome, Normal, Stop, State, ◌>>◌, give}
+use Rattle.c_model.specs.State.{Scope, Breaks, Continues, Returns, Undefined, Leave, Leaves, Over, Stuck, Outcome, Normal, Stop, State, ◌>>◌, give}
 use Rattle.c_model.specs.ContractChecks.{ending}
 use Rattle.c_model.specs.Library.{is_there}
 use Rattle.c_model.specs.Meaning.{Callee, Tables, chosen_case, cases_with, declared_in, declared_first, exec_with, else_with, first_with, item_with, items_with, parameters, body_with, at_close, returned_by, call_with}
@@ -19,13 +19,13 @@ use Rattle.c_model.specs.UnitTyping.{with_parameter, with_parameters}
 use Rattle.c_model.specs.TypedTrees.{AreParameters, StatementTyped, ElseTyped, FirstTyped, ItemTyped, ItemsTyped, CasesTyped, around_body, BodyTyped}
 use Rattle.c_model.specs.Formed.{AreAsserts}
 use Rattle.c_model.specs.ReadTree.{BodyRead}
-use Rattle.c_model.proofs.NoFaultsRuns.{Anything, NoJump, IsValueOf, EndsWell, Gives, gives_bind, gives_then, gives_give, gives_over, gives_jump, gives_birth, gives_births}
+use Rattle.c_model.proofs.NeverStuckRuns.{Anything, NoJump, IsValueOf, EndsWell, Gives, gives_bind, gives_then, gives_give, gives_over, gives_jump, gives_birth, gives_births}
 use Rattle.c_model.specs.Predicates.{variant}
-use Rattle.c_model.proofs.NoFaultsRuns.{gives_write_youngest, gives_frame, gives_alone, gives_mark, gives_within, gives_step, gives_checks, gives_invariants}
-use Rattle.c_model.proofs.NoFaultsRuns.{gives_choose, Allowed, gives_turn, gives_turns, gives_do_turns, gives_called, gives_entry, gives_ending}
-use Rattle.c_model.proofs.NoFaultsRuns.{gives_after_switch}
-use Rattle.c_model.proofs.NoFaultsValues.{gives_scalar}
-use Rattle.c_model.proofs.NoFaultsExpressions.{Sees, CallsGive, sees_object, gives_value, gives_condition_of, gives_condition, gives_effect, gives_initialise_all}
+use Rattle.c_model.proofs.NeverStuckRuns.{gives_write_youngest, gives_frame, gives_alone, gives_mark, gives_within, gives_step, gives_checks, gives_invariants}
+use Rattle.c_model.proofs.NeverStuckRuns.{gives_choose, Allowed, gives_turn, gives_turns, gives_do_turns, gives_called, gives_entry, gives_ending}
+use Rattle.c_model.proofs.NeverStuckRuns.{gives_after_switch}
+use Rattle.c_model.proofs.NeverStuckValues.{gives_scalar}
+use Rattle.c_model.proofs.NeverStuckExpressions.{Sees, CallsGive, sees_object, gives_value, gives_condition_of, gives_condition, gives_effect, gives_initialise_all}
 
 -- ---- what is in sight
 
@@ -120,8 +120,8 @@ module _ (p : TranslationUnit) (T : Tables) (structs : T.structs ≡ p.structs) 
 
 gives_parameters : {L : Leave → Type 0} (T : Tables) (at : Place) (s : Sight) (ds : List Declaration) (vs : List Value) → AreParameters s ds → Gives Anything L (parameters T at ds vs)
 gives_parameters T at s [] [] w = gives_give tt tt
-gives_parameters T at s [] (v ∷ vs) w = gives_over (Undefined at) tt
-gives_parameters T at s (d ∷ ds) [] w = gives_over (Undefined at) tt
+gives_parameters T at s [] (v ∷ vs) w = gives_over (Undefined at)
+gives_parameters T at s (d ∷ ds) [] w = gives_over (Undefined at)
 gives_parameters T at s (d ∷ ds) (v ∷ vs) w =
     gives_then _ _ (gives_then _ _ (gives_birth T.structs d) (gives_scalar d.ctype _ w.0.scalar (λ k _. gives_write_youngest at k v))) (gives_parameters T at (with_parameter s d) ds vs w.1)
 
@@ -137,6 +137,7 @@ returned_well f (Stop (Leaves Continues) s) h = absurd cc
 returned_well f (Stop (Leaves (Returns None)) s) h = h
 returned_well f (Stop (Leaves (Returns (Some v))) s) h = h
 returned_well f (Stop (Over e) s) h = h
+returned_well f (Stop Stuck s) h = h
 
 pub gives_call : (T : Tables) (globals : Scope) (s : Sight) (f : Function) (call : Callee) (n : ℕ) (at : Place) (vs : List Value) → AreParameters s f.params → Gives Anything (Allowed (around_body f.result)) (body_with T f.body call n)
     → Gives (IsValueOf f.result) NoJump (call_with T globals (Some f) call n at vs)
