@@ -5,8 +5,9 @@ use Rattle.std.specs.Ordering.{int_eq}
 use Rattle.std.specs.Fmt.{signed_decimal}
 use Rattle.c_syntax.specs.declared.types.How.TheVariants as how
 use Rattle.c_model.specs.Integers.{byte_of}
-use Rattle.c_model.specs.State.{Input, Final, Exits, Broken, Undefined, Fault, Spent, Full, ReadFault}
-use Rattle.c_model.specs.Reports.{Extends, Agrees}
+use Rattle.c_model.specs.State.{Input}
+use Rattle.c_model.specs.MonitoredRuns.{Final, Exits, Broken, Fault, Spent, Full, ReadFault}
+use Rattle.c_model.specs.Reports.{Extends, AgreesToFault}
 use Rattle.mon_syntax.specs.declared.tree.MonType.{MonType}
 use Rattle.mon_syntax.specs.declared.tree.MonOp.{MonOp}
 use Rattle.mon_syntax.specs.Trees.{MonExpression, Register, Global, Constant, Binary, Minus, Flip, Cast, Load, MonStatement, Set, Store, Step, Assert, PutChar, GetChar, Exit}
@@ -33,11 +34,10 @@ extends-then : {S A B : Type 0} (x : Result S A) (go : A → S → Result S B) �
 extends-then (Done a s o) go = record { rest = output_of (go a s); is = output-writes o (go a s) }
 extends-then (Stops e n o) go = record { rest = []; is = sym (append-nil o) }
 
--- what a part does where another stops so: the same, or anything after the same output where the other is undefined
+-- what a part does where another stops so: the same, or anything after the same output where the other faults
 abbrev StopsAs : {S A : Type 0} → Final → ℕ → List ℕ → Result S A → Type 0
 StopsAs (Exits z) n o r = r ≡ Stops (Exits z) n o
 StopsAs (Broken number line kind how) n o r = r ≡ Stops (Broken number line kind how) n o
-StopsAs (Undefined at) n o r = Extends o (output_of r)
 StopsAs Fault n o r = Extends o (output_of r)
 StopsAs Spent n o r = r ≡ Stops Spent n o
 StopsAs (Full g) n o r = r ≡ Stops (Full g) n o
@@ -49,7 +49,6 @@ extends-writes o p y h = record { rest = h.rest; is = output-writes o y ∙ ap (
 stops_as-writes : {S A : Type 0} (e : Final) (n : ℕ) (o p : List ℕ) (y : Result S A) → StopsAs e n p y → StopsAs e n (o ++ p) (writes o y)
 stops_as-writes (Exits z) n o p y h = ap (writes o) h
 stops_as-writes (Broken number line kind how) n o p y h = ap (writes o) h
-stops_as-writes (Undefined at) n o p y h = extends-writes o p y h
 stops_as-writes Fault n o p y h = extends-writes o p y h
 stops_as-writes Spent n o p y h = ap (writes o) h
 stops_as-writes (Full g) n o p y h = ap (writes o) h
@@ -63,7 +62,6 @@ extends-more o y go h =
 stops_as-then : {S A B : Type 0} (e : Final) (n : ℕ) (o : List ℕ) (y : Result S A) (go : A → S → Result S B) → StopsAs e n o y → StopsAs e n o (then_do y go)
 stops_as-then (Exits z) n o y go h = ap (λ r. then_do r go) h
 stops_as-then (Broken number line kind how) n o y go h = ap (λ r. then_do r go) h
-stops_as-then (Undefined at) n o y go h = extends-more o y go h
 stops_as-then Fault n o y go h = extends-more o y go h
 stops_as-then Spent n o y go h = ap (λ r. then_do r go) h
 stops_as-then (Full g) n o y go h = ap (λ r. then_do r go) h
@@ -450,19 +448,18 @@ module _ (L F : Memory) (S : Follows L F) (gsL : List L.Val) (gsF : List F.Val) 
   extends_ran : (o : List ℕ) (y : Result (State F.Mem) F.Val) → Extends o (output_of y) → Extends o (ran F y).output
   extends_ran o y h = subst (Extends o) (sym (output-ran F y)) h
 
-  exits_agree : (i : Option ℤ) (j : Option ℤ) (m n : ℕ) (o p : List ℕ) → Kept (λ x y. x ≡ y) i j → m ≡ n → p ≡ o → Agrees (exit_of L i m o) (exit_of F j n p)
+  exits_agree : (i : Option ℤ) (j : Option ℤ) (m n : ℕ) (o p : List ℕ) → Kept (λ x y. x ≡ y) i j → m ≡ n → p ≡ o → AgreesToFault (exit_of L i m o) (exit_of F j n p)
   exits_agree None None m n o p k e q = record { rest = []; is = q ∙ sym (append-nil o) }
   exits_agree None (Some j) m n o p k e q = record { rest = []; is = q ∙ sym (append-nil o) }
   exits_agree (Some i) None m n o p k e q = absurd k
   exits_agree (Some i) (Some j) m n o p k e q =
       ap (λ z. record { final = Exits z; output = p; left = n }) (sym k) ∙ ap (λ z. record { final = Exits i; output = z; left = n }) q ∙ ap (λ z. record { final = Exits i; output = o; left = z }) (sym e)
 
-  ran_agrees : (w : S.World) (x : Result (State L.Mem) L.Val) (y : Result (State F.Mem) F.Val) → Related w S.Same x y → Agrees (ran L x) (ran F y)
+  ran_agrees : (w : S.World) (x : Result (State L.Mem) L.Val) (y : Result (State F.Mem) F.Val) → Related w S.Same x y → AgreesToFault (ran L x) (ran F y)
   ran_agrees w (Done v s o) (Done z t p) k = exits_agree (L.number_of v) (F.number_of z) s.steps t.steps o p (S.number_of k.0 v z k.3) k.2.1 k.4
   ran_agrees w (Done v s o) (Stops e n p) k = absurd k
   ran_agrees w (Stops (Exits i) n o) y k = ap (ran F) k
   ran_agrees w (Stops (Broken number line kind how) n o) y k = ap (ran F) k
-  ran_agrees w (Stops (Undefined at) n o) y k = extends_ran o y k
   ran_agrees w (Stops Fault n o) y k = extends_ran o y k
   ran_agrees w (Stops Spent n o) y k = ap (ran F) k
   ran_agrees w (Stops (Full g) n o) y k = ap (ran F) k
@@ -470,7 +467,7 @@ module _ (L F : Memory) (S : Follows L F) (gsL : List L.Val) (gsF : List F.Val) 
 
 -- runs from two memories of which the second stands for the first agree, where the pointers to the globals do
 pub runs_agree : (L F : Memory) (S : Follows L F) (p : MonitoredProgram) (w : S.World) (m : L.Mem) (n : F.Mem) (input : Input) (steps : ℕ)
-    → AllKept (S.Same w) (L.starts p.globals) (F.starts p.globals) → S.Holds w m n → Agrees (run L p m input steps) (run F p n input steps)
+    → AllKept (S.Same w) (L.starts p.globals) (F.starts p.globals) → S.Holds w m n → AgreesToFault (run L p m input steps) (run F p n input steps)
 runs_agree L F S p w m n input steps k h =
     let gsL = L.starts p.globals in
     let gsF = F.starts p.globals in

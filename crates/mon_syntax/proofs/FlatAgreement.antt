@@ -4,7 +4,7 @@ use Rattle.c_syntax.specs.Programs.{TranslationUnit}
 use Rattle.c_model.specs.Memory.{Value}
 use Rattle.c_model.specs.State.{Input}
 use Rattle.c_model.specs.Meaning as source
-use Rattle.c_model.specs.Reports.{Agrees}
+use Rattle.c_model.specs.Reports.{Agrees, AgreesToFault}
 use Rattle.c_model.proofs.Agreement.{Agrees-trans}
 use Rattle.mon_syntax.specs.declared.tree.MemoryCall.{MemoryCall}
 use Rattle.mon_syntax.specs.declared.tree.MemoryCall.TheVariants as call
@@ -58,7 +58,7 @@ flat_follows_blocks = record {
   leave = leave_alike;
 }
 
-pub blocks_agree_with_flat : (m : MonitoredProgram) → IsValid m → (input : Input) (n : ℕ) → Agrees (block_run m input n) (flat_run m input n)
+pub blocks_agree_with_flat : (m : MonitoredProgram) → IsValid m → (input : Input) (n : ℕ) → AgreesToFault (block_run m input n) (flat_run m input n)
 unfolding flat_follows_blocks
 blocks_agree_with_flat m valid input n =
     let start = both_start m.globals valid.globals valid.room in

@@ -1,7 +1,8 @@
 -- More turns and deeper calls than steps change nothing, and no step is gained.
 use Rattle.std.proofs.Common.{◌≡◌, ℕ, zero, suc, ◌≤◌, ◌<◌, ℤ, pos, Bool, true, false, if◌then◌else◌, List, [], Option, Some, None, slice_get, bytes_eq, codes, refl, ap, ◌∙◌, arith}
 use Rattle.std.specs.Ordering.{int_eq}
-use Rattle.c_model.specs.State.{Input, Spent}
+use Rattle.c_model.specs.State.{Input}
+use Rattle.c_model.specs.MonitoredRuns.{Spent}
 use Rattle.mon_syntax.specs.Trees.{MonStatement, Set, Store, Step, Assert, PutChar, GetChar, Exit, PrintText, PrintSigned, PrintUnsigned, Act, Call, If, Loop, Labelled, Goto, Return, MonStatements, NoStatement, Then}
 use Rattle.mon_syntax.specs.Trees.{MonFunction, MonitoredProgram}
 use Rattle.mon_syntax.specs.Memory.{Memory, Reply, Gives, IsFull, Faults}

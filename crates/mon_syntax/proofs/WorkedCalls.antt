@@ -2,8 +2,8 @@
 use Rattle.std.proofs.Common.{◌≡◌, ℕ, ◌+◌, ◌*◌, ◌^◌, pos, negsuc, List, [], ◌∷◌, ◌++◌, map, Option, Some, None, codes, refl, arith}
 use Rattle.std.specs.Fmt.{digits}
 use Rattle.c_syntax.specs.declared.types.Segment.TheVariants.{Frames, Stack, Numbers}
-use Rattle.c_model.specs.State.{Input, InputTail, EndOfInput, InputFault, Exits, Fault, Spent, Full, ReadFault}
-use Rattle.c_model.specs.Meaning.{Ran}
+use Rattle.c_model.specs.State.{Input, InputTail, EndOfInput, InputFault}
+use Rattle.c_model.specs.MonitoredRuns.{Exits, Fault, Spent, Full, ReadFault, Ran}
 use Rattle.mon_syntax.specs.declared.tree.MonType.{MonType}
 use Rattle.mon_syntax.specs.declared.tree.MonType.TheVariants.{I32, U64, Ptr}
 use Rattle.mon_syntax.specs.declared.tree.MonOp.TheVariants.{Add, Sub, Gt}

@@ -3,7 +3,7 @@ use Rattle.std.proofs.Common.{◌≡◌, ℕ, false, ◌+◌, ◌*◌, ◌^◌, 
 use Rattle.c_syntax.specs.declared.types.BlockKind.TheVariants as kind
 use Rattle.c_syntax.specs.declared.types.Segment.TheVariants.{Heap}
 use Rattle.c_model.specs.Memory.{Into, Unwritten, Block, Sizes, At, NoRoom, heap_place, heap_room, heap_block, freed, new_block}
-use Rattle.c_model.specs.State.{Exits, Fault, Full}
+use Rattle.c_model.specs.MonitoredRuns.{Exits, Fault, Full}
 use Rattle.shadow_segments.specs.declared.BlockNote.{BlockNote}
 use Rattle.mon_syntax.specs.declared.tree.MonType.TheVariants.{I32, I64, U64, Ptr}
 use Rattle.mon_syntax.specs.declared.tree.MonOp.TheVariants.{Eq}

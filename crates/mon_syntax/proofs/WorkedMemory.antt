@@ -3,7 +3,7 @@ use Rattle.std.proofs.Common.{◌≡◌, ℕ, ◌^◌, ℤ, pos, negsuc, neg_ℤ
 use Rattle.std.specs.Fmt.{digits}
 use Rattle.c_syntax.specs.declared.annotation.Kind.TheVariants as kind
 use Rattle.c_syntax.specs.declared.types.How.TheVariants as how
-use Rattle.c_model.specs.State.{Exits, Broken, Fault}
+use Rattle.c_model.specs.MonitoredRuns.{Exits, Broken, Fault}
 use Rattle.mon_syntax.specs.declared.tree.MonType.{MonType}
 use Rattle.mon_syntax.specs.declared.tree.MonType.TheVariants.{I8, U8, I16, I32, I64, I128, Ptr}
 use Rattle.mon_syntax.specs.declared.tree.MonOp.TheVariants.{Add, Sub, Shr, Eq, Ne, Lt, Ge}

@@ -4,8 +4,8 @@ use Rattle.std.specs.Fmt.{digits}
 use Rattle.c_syntax.specs.declared.annotation.Kind.TheVariants as kind
 use Rattle.c_syntax.specs.declared.types.How.TheVariants as how
 use Rattle.c_syntax.specs.declared.types.Segment.TheVariants.{Frames}
-use Rattle.c_model.specs.State.{Input, EndOfInput, Final, Exits, Broken, Fault, Spent, Full}
-use Rattle.c_model.specs.Meaning.{Ran}
+use Rattle.c_model.specs.State.{Input, EndOfInput}
+use Rattle.c_model.specs.MonitoredRuns.{Final, Exits, Broken, Fault, Spent, Full, Ran}
 use Rattle.mon_syntax.specs.declared.tree.MonType.TheVariants.{I8, U8, I32, U32, I64, U64, I128}
 use Rattle.mon_syntax.specs.declared.tree.MonOp.TheVariants.{Add, Sub, Mul, Div, Rem, Shl, Shr, And, Or, Xor, Eq, Gt}
 use Rattle.mon_syntax.specs.Trees.{MonExpression, Register, Constant, Binary, Minus, Flip, Cast, MonStatement, Set, Step, Assert, PutChar, Exit, PrintText, PrintSigned, PrintUnsigned, If, Loop, Labelled, Goto, Return, MonStatements, NoStatement}

@@ -13,7 +13,7 @@ use Rattle.c_model.specs.Memory.{Pointer, Null, Into, Value, Integer, Points, No
 use Rattle.c_model.specs.Memory.{standard_sizes, full_at_stack_birth, number_of, bytes_of, load_bytes, save_bytes, load, save, moved, distance, equal_pointers}
 use Rattle.c_model.specs.Memory.{copy, Room, At, NoRoom, heap_room, heap_block, freed}
 use Rattle.c_model.specs.State.{Input}
-use Rattle.c_model.specs.Meaning.{Ran}
+use Rattle.c_model.specs.MonitoredRuns.{Ran}
 use Rattle.mon_syntax.specs.declared.tree.MonType.{MonType}
 use Rattle.mon_syntax.specs.declared.tree.MonType.TheVariants.{I8, U8, I16, U16, I32, U32, I64, U64, I128, Ptr}
 use Rattle.mon_syntax.specs.declared.tree.MonOp.{MonOp}

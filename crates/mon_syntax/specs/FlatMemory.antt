@@ -5,7 +5,7 @@ use Rattle.c_model.specs.Integers.{truth}
 use Rattle.c_model.specs.Limits.{globals_bytes, stack_bytes, heap_bytes, most_frames}
 use Rattle.c_model.specs.Memory.{rounded}
 use Rattle.c_model.specs.State.{Input}
-use Rattle.c_model.specs.Meaning.{Ran}
+use Rattle.c_model.specs.MonitoredRuns.{Ran}
 use Rattle.mon_syntax.specs.declared.spot.RegionName.TheVariants.{Globals}
 use Rattle.mon_syntax.specs.declared.tree.MonType.{MonType}
 use Rattle.mon_syntax.specs.declared.tree.MonType.TheVariants.{U32, U64, Ptr}

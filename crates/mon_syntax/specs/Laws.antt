@@ -4,7 +4,7 @@ use Rattle.std.specs.Prelude.{◌≡◌, ℕ, ◌*◌, ◌/◌, ◌^◌, ◌≤�
 use Rattle.c_syntax.specs.Programs.{TranslationUnit}
 use Rattle.c_model.specs.State.{Input}
 use Rattle.c_model.specs.Meaning as source
-use Rattle.c_model.specs.Reports.{Agrees}
+use Rattle.c_model.specs.Reports.{Agrees, AgreesToFault}
 use Rattle.shadow_segments.specs.declared.BlockNote.{BlockNote}
 use Rattle.shadow_segments.specs.Shadow.{AreWhole}
 use Rattle.mon_syntax.specs.declared.spot.RegionName.TheVariants.{Heap}
@@ -76,7 +76,7 @@ RunsSpendSteps M = (m : MonitoredProgram) (mem : M.Mem) (input : Input) (n : ℕ
 
 -- a valid program does over flat memory what it does over blocks, up to its first fault there
 abbrev pub BlocksAgreeWithFlat : Type 0
-BlocksAgreeWithFlat = (m : MonitoredProgram) → IsValid m → (input : Input) (n : ℕ) → Agrees (block_run m input n) (flat_run m input n)
+BlocksAgreeWithFlat = (m : MonitoredProgram) → IsValid m → (input : Input) (n : ℕ) → AgreesToFault (block_run m input n) (flat_run m input n)
 
 -- a valid program that does over blocks what the source does is a translation of it
 abbrev pub AgreementTranslates : Type 0

@@ -6,8 +6,8 @@ use Rattle.std.specs.Ordering.{int_eq}
 use Rattle.std.specs.Fmt.{signed_decimal}
 use Rattle.c_syntax.specs.declared.types.How.TheVariants as how
 use Rattle.c_model.specs.Integers.{byte_of}
-use Rattle.c_model.specs.State.{Input, InputTail, EndOfInput, InputFault, Final, Exits, Broken, Fault, Spent, Full, ReadFault}
-use Rattle.c_model.specs.Meaning.{Ran}
+use Rattle.c_model.specs.State.{Input, InputTail, EndOfInput, InputFault}
+use Rattle.c_model.specs.MonitoredRuns.{Final, Exits, Broken, Fault, Spent, Full, ReadFault, Ran}
 use Rattle.mon_syntax.specs.declared.tree.MonType.{MonType}
 use Rattle.mon_syntax.specs.declared.tree.MonOp.{MonOp}
 use Rattle.mon_syntax.specs.Trees.{MonExpression, Register, Global, Constant, Binary, Minus, Flip, Cast, Load, MonStatement, Set, Store, Step, Assert}
