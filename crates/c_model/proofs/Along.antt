@@ -681,7 +681,7 @@ module _ (R : State → State → Type 0) (r : Lasts R) where
       along_if (is_of_library f) _ _ (along_library_call at (slice_get p.names f.name) vs) (along_stop (Over Spent))
   along_call_of p (suc n) at f vs =
       along_if (is_of_library f) _ _ (along_library_call at (slice_get p.names f.name) vs)
-      (along_call_with (tables_of p) (global_scope 1 p.globals) (definition_at f.decl p.funcs) (call_of p n) n at vs (along_call_of p n))
+      (along_call_with (tables_of p) (global_scope p) (definition_at f.decl p.funcs) (call_of p n) n at vs (along_call_of p n))
 
   after_main_along : (c : Option FunctionContract) (hs : List Bool) (s : State) (o : Outcome (Unit {0})) → R s (state_after o) → R s (state_after (after_main c hs o))
   after_main_along c hs s (Normal u t) w = r.onward s t _ w ((along_ending c hs (Integer (pos 0))).at t)

@@ -9,6 +9,7 @@ pub mod OperatorResults
 pub mod Cells
 pub mod Blocks
 pub mod Together
+pub mod StaticObjects
 -- runs
 pub mod Fit
 pub mod Along
@@ -118,6 +119,7 @@ mod WorkedAnnotationTypes
 mod WorkedPredicateTyping
 mod WorkedOperators
 mod WorkedMemory
+mod WorkedObjects
 mod WorkedQuestions
 mod WorkedHeap
 mod WorkedEffects

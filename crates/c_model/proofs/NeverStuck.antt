@@ -103,15 +103,15 @@ module _ (p : TranslationUnit) where
         gives_body p (tables_of p) refl call calls (with_parameters own f.params) (sees_parameters p f.params own (sees_inner p here.sight here.sees)) f.result f.body n i.read.body here.typed.body i.definition
 
     gives_placed_call : (g : Function) (i : IsPlaced p g) (call : Callee) (n : ℕ) (at : Place) (vs : List Value) → CallsGive p call
-        → Gives (IsValueOf g.result) NoJump (call_with (tables_of p) (global_scope 1 p.globals) (Some g) call n at vs)
+        → Gives (IsValueOf g.result) NoJump (call_with (tables_of p) (global_scope p) (Some g) call n at vs)
     gives_placed_call g i call n at vs calls =
         let here = function_in_sight p q.typed q.resolved i.before i.after g i.is in
-        gives_call (tables_of p) (global_scope 1 p.globals) (inner here.sight) g call n at vs here.typed.params (gives_definition g i call n calls)
+        gives_call (tables_of p) (global_scope p) (inner here.sight) g call n at vs here.typed.params (gives_definition g i call n calls)
 
     -- a call by whether it is one of the library, and by what it calls
     abbrev Ends : ℕ → Use → PlainType → Place → List Value → Bool → Option Function → Type 0
     Ends n f t at vs b o =
-        Gives (IsValueOf t) NoJump (if b then library_call at (slice_get p.names f.name) vs else call_with (tables_of p) (global_scope 1 p.globals) o (call_of p n) n at vs)
+        Gives (IsValueOf t) NoJump (if b then library_call at (slice_get p.names f.name) vs else call_with (tables_of p) (global_scope p) o (call_of p n) n at vs)
 
     -- calls so deep
     calls_give : (n : ℕ) → CallsGive p (call_of p n)
@@ -129,7 +129,7 @@ module _ (p : TranslationUnit) where
         by below (CallsFunction g other found result) =
             let i = placed (λ h. nat_eq h.place.offset f.decl) g (sym (number_first f.decl p.funcs) ∙ found) in
             let own : Ends n f t at vs false (Some g) =
-            subst (λ u. Gives (IsValueOf u) NoJump (call_with (tables_of p) (global_scope 1 p.globals) (Some g) (call_of p n) n at vs)) (sym result) (gives_placed_call g i (call_of p n) n at vs below) in
+            subst (λ u. Gives (IsValueOf u) NoJump (call_with (tables_of p) (global_scope p) (Some g) (call_of p n) n at vs)) (sym result) (gives_placed_call g i (call_of p n) n at vs below) in
             subst (λ b. Ends n f t at vs b (definition_at f.decl p.funcs)) (sym other) (subst (λ o. Ends n f t at vs false o) (sym found) own)
         by below (CallsLibrary is gives) =
             let own : Ends n f t at vs true (definition_at f.decl p.funcs) = gives at vs in

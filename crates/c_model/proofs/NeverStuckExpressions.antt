@@ -58,7 +58,7 @@ gives_write_each at q (b ∷ bytes) = gives_then _ _ (gives_changed at _) (gives
 
 -- parts depend on structs alone
 abbrev parts_among : List StructType → PlainType → List (ℕ × PlainType)
-parts_among structs t = parts_or_itself (record { structs = structs; texts = []; globals = 0 }) t
+parts_among structs t = parts_or_itself (record { structs = structs; texts = []; literals = [] }) t
 
 parts_same : (t : PlainType) (a b : List StructType) → a ≡ b → parts_among a t ≡ parts_among b t
 parts_same t a b e = ap (λ l. parts_among l t) e

@@ -2,26 +2,27 @@
 use Rattle.std.proofs.Common.{◌≡◌, ℕ, zero, suc, ◌+◌, ◌*◌, ◌≤◌, ℤ, pos, ◌+ℤ◌, refl, ap, subst, List, [], ◌∷◌, ◌++◌, map, length, Option, Some, None, Bool, true, false}
 use Rattle.std.proofs.Common.{not, ◌&&◌, if◌then◌else◌, nat_le, nat_lt, slice_get, arith}
 use Rattle.std.proofs.lemmas.Bool.Decides.{nat_tests}
-use Rattle.c_syntax.specs.declared.place.Place.{Place}
 use Rattle.c_syntax.specs.RefusalCodes.{globals_code}
 use Rattle.c_syntax.specs.Ctypes.{PlainType}
 use Rattle.c_syntax.specs.Statements.{Declaration}
-use Rattle.c_syntax.specs.Programs.{StructMember, StructType, StringLiteral, EnumConstant, Function, TranslationUnit}
+use Rattle.c_syntax.specs.Programs.{StructMember, StructType, EnumConstant, Function, TranslationUnit}
 use Rattle.c_syntax.specs.Layouts.{size_of, align_of, aligned, member_among}
 use Rattle.c_model.specs.Limits.{globals_bytes}
 use Rattle.c_model.specs.Memory.{rounded}
+use Rattle.c_model.specs.StaticObjects.{StaticObject, OfGlobal, OfLiteral, place_of_object, static_objects}
 use Rattle.c_model.specs.Library.{is_there}
 use Rattle.c_model.specs.Checked.{Checked, Good, Bad, one_part, both_parts, where_so}
 use Rattle.c_model.specs.ExpressionTyping.{no_name, too_large, Sight, Entity, AnObject, AnEnumerator, Enumerator, TypeName, most_bytes, limited, typed_type}
 use Rattle.c_model.specs.DeclarationTyping.{placed_from, is_declared_in_file, own_name, object_type, typed_global, typed_typedef, member_added, with_member, typed_member_type, typed_member, typed_value, with_enumerator, typed_enumerators}
 use Rattle.c_model.specs.UnitTyping.{FileItem, StructHead, Member, AnEnum, ATypedef, AGlobal, AFunction, unknown, typed_function, Progress, new_tag, typed_item_of_file, typed_items_of_file, at_start, items_of_file}
-use Rattle.c_model.specs.UnitTyping.{with_progress, typed_unit, pieces_of_room, room_fault_from, room_fault}
+use Rattle.c_model.specs.UnitTyping.{with_progress, typed_unit, room_with, room_fault_from, room_fault}
 use Rattle.c_model.specs.PlacedTrees.{MembersInOrder}
 use Rattle.c_model.specs.TextOrder.{InTextOrder}
 use Rattle.c_model.specs.TypedPrograms.{AreLaidOut}
 use Rattle.c_model.specs.FullExpressions.{EachInDeclaration, EachDeclared, EachInBody, EachInFunctions}
 use Rattle.c_model.specs.SmallTypes.{TypesSmall}
 use Rattle.c_model.specs.AcceptedPrograms.{EachExpression}
+use Rattle.c_model.proofs.StaticObjects.{literals_of, literals_are}
 use Rattle.c_model.proofs.TypedParts.{Gives, gives_of, gives_one, gives_both, gives_where, gives_sized}
 use Rattle.c_model.proofs.TypedSoundness.{gives_limited}
 use Rattle.c_model.proofs.TypedDeclarations.{anything}
@@ -215,31 +216,24 @@ items_small p ended r h (i ∷ is) m =
 
 -- ---- literals, which have room
 
-abbrev HaveRoom : List (Place × ℕ) → Type 0
-HaveRoom [] = Unit {0}
-HaveRoom (x ∷ xs) = (rounded x.1 ≤ globals_bytes) × HaveRoom xs
+text_small : (n : ℕ) → rounded n ≤ globals_bytes → (nat_le (n * 1) most_bytes && true) ≡ true
+text_small n r =
+    let less : n ≤ rounded n = omega arith in
+    let most : nat_le (n * 1) most_bytes ≡ true = grind (arith, nat_tests, less, r) in ap (λ b. b && true) most
 
-have_room : (taken : ℕ) (xs : List (Place × ℕ)) → room_fault_from taken xs ≡ None → HaveRoom xs
-have_room taken [] e = tt
-have_room taken (x ∷ xs) e = by (nat_lt globals_bytes (taken + rounded x.1)) refl (have_room (taken + rounded x.1) xs) e
-  where
-    by : (b : Bool) → nat_lt globals_bytes (taken + rounded x.1) ≡ b → (room_fault_from (taken + rounded x.1) xs ≡ None → HaveRoom xs)
-        → (if b then Some (record { code = globals_code; place = x.0 }) else room_fault_from (taken + rounded x.1) xs) ≡ None → HaveRoom (x ∷ xs)
-    by true t next e = absurd cc
-    by false t next e = (grind (arith, nat_tests, t), next e)
+-- one more object, which has room
+one_with_room : (structs new : List StructType) (taken : ℕ) (o : StaticObject) (os : List StaticObject) → (room_fault_from structs (room_with structs taken o) os ≡ None → AreSmallTexts new (literals_of os))
+    → (b : Bool) → nat_lt globals_bytes (room_with structs taken o) ≡ b
+    → (if b then Some (record { code = globals_code; place = place_of_object o }) else room_fault_from structs (room_with structs taken o) os) ≡ None → AreSmallTexts new (literals_of (o ∷ os))
+one_with_room structs new taken o os next true t e = absurd cc
+one_with_room structs new taken (OfGlobal d) os next false t e = next e
+one_with_room structs new taken (OfLiteral l) os next false t e =
+    let r : rounded (length l.bytes + 1) ≤ globals_bytes = grind (arith, nat_tests, t) in (text_small (length l.bytes + 1) r, next e)
 
-behind_room : (xs ys : List (Place × ℕ)) → HaveRoom (xs ++ ys) → HaveRoom ys
-behind_room [] ys h = h
-behind_room (x ∷ xs) ys h = behind_room xs ys h.1
-
-texts_small : (new : List StructType) (ls : List StringLiteral) → HaveRoom (map (λ (l : StringLiteral). (l.place, length l.bytes + 1)) ls) → AreSmallTexts new ls
-texts_small new [] h = tt
-texts_small new (l ∷ ls) h = (text_small (length l.bytes + 1) h.0, texts_small new ls h.1)
-  where
-    text_small : (n : ℕ) → rounded n ≤ globals_bytes → (nat_le (n * 1) most_bytes && true) ≡ true
-    text_small n r =
-        let less : n ≤ rounded n = omega arith in
-        let most : nat_le (n * 1) most_bytes ≡ true = grind (arith, nat_tests, less, r) in ap (λ b. b && true) most
+texts_small : (structs new : List StructType) (taken : ℕ) (os : List StaticObject) → room_fault_from structs taken os ≡ None → AreSmallTexts new (literals_of os)
+texts_small structs new taken [] e = tt
+texts_small structs new taken (o ∷ os) e =
+    one_with_room structs new taken o os (texts_small structs new (room_with structs taken o) os) (nat_lt globals_bytes (room_with structs taken o)) refl e
 
 -- ---- files
 
@@ -273,4 +267,4 @@ types_small p q o is room =
           record { globals = far.globals; funcs = far.funcs };
     })) is in
     file.small (laid_small q.structs q.structs (structs_laid_out p q o is))
-    (subst (AreSmallTexts q.structs) file.texts (texts_small q.structs q.texts (behind_room _ (map (λ (l : StringLiteral). (l.place, length l.bytes + 1)) q.texts) (have_room 0 (pieces_of_room q) room))))
+    (subst (AreSmallTexts q.structs) file.texts (subst (AreSmallTexts q.structs) (literals_are q) (texts_small q.structs q.structs 0 (static_objects q) room)))

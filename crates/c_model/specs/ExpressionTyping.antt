@@ -354,7 +354,7 @@ module _ (T : Tables) where
 
 -- what constant expressions need of a program
 abbrev pub tables_in : Sight → Tables
-tables_in s = record { structs = s.structs; texts = map (λ (l : StringLiteral). l.bytes) s.texts; globals = 0 }
+tables_in s = record { structs = s.structs; texts = map (λ (l : StringLiteral). l.bytes) s.texts; literals = [] }
 
 -- the value of a typed integer constant expression
 abbrev pub constant : Sight → Expression → Option ℤ

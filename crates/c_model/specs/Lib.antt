@@ -5,6 +5,8 @@ pub mod Memory
 pub mod MemoryQuestions
 pub mod Together
 pub mod State
+pub mod StaticObjects
+pub mod ObjectsLeft
 pub mod Logic
 pub mod Quantifiers
 pub mod Predicates

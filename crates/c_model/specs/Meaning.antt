@@ -1,6 +1,6 @@
 -- What expressions, statements and whole programs do (C99 6.5, 6.8, 5.1.2.2.3; evaluation goes from left to right).
 use Rattle.std.specs.Prelude.{ℕ, zero, suc, int_lt, int_le, ◌+◌, ◌*◌, pos, ℤ, ◌*ℤ◌, ◌-ℤ◌, Bool, true, false, cond, not, ◌&&◌, if◌then◌else◌, nat_eq, List, []}
-use Rattle.std.specs.Prelude.{◌∷◌, ◌++◌, length, map, replicate, Option, Some, None, option_map, slice_get, codes, bytes_eq}
+use Rattle.std.specs.Prelude.{◌∷◌, ◌++◌, map, replicate, Option, Some, None, option_map, slice_get, codes, bytes_eq}
 use Rattle.std.specs.Ordering.{int_eq}
 use Rattle.c_syntax.specs.declared.place.Place.{Place}
 use Rattle.c_syntax.specs.declared.expression.Use.{Use}
@@ -32,6 +32,7 @@ use Rattle.c_model.specs.State.{Scope, Input, State, Breaks, Continues, Returns,
 use Rattle.c_model.specs.State.{Stop, Evaluation, ◌>>=◌, ◌>>◌, give, done, stop, defined, step, print, read_byte, computed, as_scalar, find, object, read}
 use Rattle.c_model.specs.State.{read_any, changed, write, write_bytes, copy_object, allocate, tested, write_youngest, birth, births, alone, frame, mark, within}
 use Rattle.c_model.specs.State.{called}
+use Rattle.c_model.specs.StaticObjects.{StaticObject, OfGlobal, OfLiteral, static_objects, scope_from, literals_from}
 use Rattle.c_model.specs.Library.{is_there}
 use Rattle.c_model.specs.Places.{first_place}
 use Rattle.c_syntax.specs.Logic.{LogicTerm, Annotation}
@@ -46,16 +47,15 @@ is_definition f = is_there f.body
 abbrev pub Callee : Type 0
 Callee = Place → Use → List Value → Evaluation Value
 
--- what doesn't change in a run: the layouts of the structs, the bytes of the string literals, and how many globals there are. The
--- blocks of the globals come first, and then those of the literals
+-- what doesn't change in a run: the layouts of the structs, and of each string literal its bytes and the number of its block
 pub record Tables : Type 0 where
   pub structs : List StructType
   pub texts : List (List ℕ)
-  pub globals : ℕ
+  pub literals : List ℕ
 
 -- where a string literal stands
 abbrev pub literal : Tables → ℕ → Pointer
-literal T n = Into (T.globals + n + 1) 0
+literal T n = elim (slice_get T.literals n) [ None ↦ Null | Some k ↦ Into k 0 ]
 
 -- ---- values
 
@@ -632,27 +632,23 @@ module _ (T : Tables) where
 -- ---- whole programs
 
 abbrev pub tables_of : TranslationUnit → Tables
-tables_of p = record { structs = p.structs; texts = map (λ l. l.bytes) p.texts; globals = length p.globals }
+tables_of p = record { structs = p.structs; texts = map (λ l. l.bytes) p.texts; literals = literals_from 1 (static_objects p) }
 
--- the globals, whose blocks have the numbers from k on
-abbrev pub global_scope : ℕ → List Declaration → Scope
-global_scope k [] = []
-global_scope k (d ∷ ds) = (d.place.offset, k) ∷ global_scope (suc k) ds
+-- the globals, each with the number of its block
+abbrev pub global_scope : TranslationUnit → Scope
+global_scope p = scope_from 1 (static_objects p)
 
--- the blocks of globals, all of zeros (C99 6.7.8 p10), and those of literals with a zero after them (C99 6.4.5 p5)
-abbrev pub global_blocks : List StructType → List Declaration → Store
-global_blocks structs [] = []
-global_blocks structs (d ∷ ds) = block_of block.Global (zeros (size_of structs d.ctype)) ∷ global_blocks structs ds
-
-abbrev pub literal_block : List ℕ → MemoryBlock
-literal_block bytes = block_of block.Literal (map NumberByte bytes ++ NumberByte 0 ∷ [])
+-- the block of a global, all of zeros (C99 6.7.8 p10), and that of a literal with a zero after its bytes (C99 6.4.5 p5)
+abbrev pub block_of_object : List StructType → StaticObject → MemoryBlock
+block_of_object structs (OfGlobal d) = block_of block.Global (zeros (size_of structs d.ctype))
+block_of_object structs (OfLiteral l) = block_of block.Literal (map NumberByte l.bytes ++ NumberByte 0 ∷ [])
 
 -- what calls do in a program, at most n deep
 abbrev pub call_of : TranslationUnit → ℕ → Callee
 call_of p zero at f vs = if is_of_library f then library_call at (slice_get p.names f.name) vs else stop (Over Spent)
 call_of p (suc n) at f vs =
     if is_of_library f then library_call at (slice_get p.names f.name) vs
-    else call_with (tables_of p) (global_scope 1 p.globals) (definition_at f.decl p.funcs) (call_of p n) n at vs
+    else call_with (tables_of p) (global_scope p) (definition_at f.decl p.funcs) (call_of p n) n at vs
 
 abbrev pub eval : TranslationUnit → ℕ → Expression → Evaluation Value
 eval p n e = eval_with (tables_of p) e (call_of p n)
@@ -676,8 +672,8 @@ function_named p name (f ∷ fs) =
 -- the state in which a run begins
 abbrev pub start : TranslationUnit → Input → ℕ → State
 start p input n = record {
-  store = global_blocks p.structs p.globals ++ map (λ l. literal_block l.bytes) p.texts;
-  scope = global_scope 1 p.globals;
+  store = map (block_of_object p.structs) (static_objects p);
+  scope = global_scope p;
   marks = [];
   calls = 0;
   steps = n;

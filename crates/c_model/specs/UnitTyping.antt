@@ -7,10 +7,10 @@ use Rattle.c_syntax.specs.declared.place.Place.{Place}
 use Rattle.c_syntax.specs.Ctypes.{PlainType, int_type}
 use Rattle.c_syntax.specs.Expressions.{Expression}
 use Rattle.c_syntax.specs.Statements.{Declaration, Statement, Block}
-use Rattle.c_syntax.specs.Programs.{StructMember, StructType, EnumConstant, EnumType, StringLiteral, Function, TranslationUnit}
-use Rattle.c_syntax.specs.Layouts.{size_of}
+use Rattle.c_syntax.specs.Programs.{StructMember, StructType, EnumConstant, EnumType, Function, TranslationUnit}
 use Rattle.c_model.specs.Limits.{globals_bytes}
 use Rattle.c_model.specs.Memory.{rounded}
+use Rattle.c_model.specs.StaticObjects.{StaticObject, place_of_object, size_of_object, static_objects}
 use Rattle.c_model.specs.Places.{first_place}
 use Rattle.c_model.specs.Meaning.{is_definition}
 use Rattle.c_model.specs.Library.{is_there}
@@ -250,19 +250,20 @@ typed_unit p = one_part (typed_items_of_file p (at_start p) (items_of_file p)) (
 
 -- ---- the room of globals and literals (C99 5.2.4.1 leaves it to the implementation)
 
--- what takes room before a run, at its place and with its size: globals in the order of the text, and then literals
-abbrev pub pieces_of_room : TranslationUnit → List (Place × ℕ)
-pieces_of_room p =
-    map (λ (d : Declaration). (d.place, size_of p.structs d.ctype)) p.globals ++ map (λ (l : StringLiteral). (l.place, length l.bytes + 1)) p.texts
+-- what is taken with one more object
+abbrev pub room_with : List StructType → ℕ → StaticObject → ℕ
+room_with structs taken o = taken + rounded (size_of_object structs o)
 
--- the first that takes the sum past the segment
-abbrev pub room_fault_from : ℕ → List (Place × ℕ) → Option Fault
-room_fault_from taken [] = None
-room_fault_from taken (x ∷ xs) =
-    if nat_lt globals_bytes (taken + rounded x.1) then Some (record { code = globals_code; place = x.0 }) else room_fault_from (taken + rounded x.1) xs
+-- the first object that takes the sum past the segment
+abbrev pub room_fault_from : List StructType → ℕ → List StaticObject → Option Fault
+room_fault_from structs taken [] = None
+room_fault_from structs taken (o ∷ os) =
+    if nat_lt globals_bytes (room_with structs taken o) then Some (record { code = globals_code; place = place_of_object o })
+    else room_fault_from structs (room_with structs taken o) os
 
+-- globals and literals take room before a run, in the order of the text
 abbrev pub room_fault : TranslationUnit → Option Fault
-room_fault p = room_fault_from 0 (pieces_of_room p)
+room_fault p = room_fault_from p.structs 0 (static_objects p)
 
 -- ---- `main`
 

@@ -15,6 +15,7 @@ pub mod vocabulary;
 pub mod declarations;
 pub mod formulas;
 pub mod laws;
+pub mod objects;
 pub mod operands;
 
 // limits of files and runs
