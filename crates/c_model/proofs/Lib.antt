@@ -108,6 +108,7 @@ pub mod CListLaws
 mod MonitoredTexts
 mod CTexts
 pub mod WorkedTrees
+pub mod WorkedTerms
 mod WorkedAnnotationGrammar
 mod WorkedExpressionTyping
 mod WorkedStructTyping
@@ -119,8 +120,12 @@ mod WorkedAnnotationTypes
 mod WorkedPredicateTyping
 mod WorkedOperators
 mod WorkedMemory
+mod WorkedConnectives
 mod WorkedObjects
 mod WorkedQuestions
+mod WorkedPlaces
+mod WorkedZones
+mod WorkedQuantifiers
 mod WorkedHeap
 mod WorkedEffects
 mod WorkedRuns

@@ -1,95 +1,25 @@
--- Predicates about memory (ACSL 2.7), by computation: over a global array of four ints, a pointer one past its end, a string, an unwritten int, two blocks
--- of the heap of which the first is dead, and a struct of a char that is unwritten and an int.
-use Rattle.std.proofs.Common.{◌≡◌, ℕ, ℤ, Bool, pos, negsuc, true, false, [], ◌∷◌, ◌++◌, replicate, Some, None, refl}
-use Rattle.c_syntax.specs.declared.place.Place.{Place}
-use Rattle.c_syntax.specs.declared.annotation.Range.{Range}
-use Rattle.c_syntax.specs.declared.annotation.Relation.TheVariants.{Eq, Lt}
-use Rattle.c_syntax.specs.declared.types.CInt.TheVariants.{I8, I32}
+-- Predicates about memory (ACSL 2.7), by computation.
+use Rattle.std.proofs.Common.{◌≡◌, Bool, pos, negsuc, true, false, [], ◌∷◌, ◌++◌, replicate, Some, None, refl}
+use Rattle.c_syntax.specs.declared.annotation.Relation.TheVariants.{Lt}
+use Rattle.c_syntax.specs.declared.types.CInt.TheVariants.{I8}
 use Rattle.c_syntax.specs.declared.types.BlockKind.TheVariants as block
 use Rattle.c_syntax.specs.declared.logic.BlockFact.TheVariants.{BaseAddr, BlockLength, Offset}
 use Rattle.c_syntax.specs.declared.logic.MemoryQuestion.TheVariants.{Valid, ValidRead, Initialized}
 use Rattle.c_syntax.specs.declared.logic.PointerOp.TheVariants.{Plus}
-use Rattle.c_syntax.specs.Ctypes.{PlainType, Int, Ptr, Array, Struct, Count}
-use Rattle.c_syntax.specs.Logic.{LogicTerm, Number, Variable, Null, Deref, Member, Address, Moved, Difference, Told, Cast, Zone, Object, Elements, NoZone, Another}
+use Rattle.c_syntax.specs.Ctypes.{Int, Ptr}
+use Rattle.c_syntax.specs.Logic.{LogicTerm, Null, Deref, Member, Address, Moved, Difference, Told, Cast, Object, Elements, NoZone, Another}
 use Rattle.c_syntax.specs.Logic.{Predicate, Asks, Separated, Chain, Linked, NoLink, Named, At, Connected, Quantified, Guarded, NoGuard, Binder}
 use Rattle.c_syntax.specs.declared.logic.Connective.TheVariants.{Iff}
 use Rattle.c_syntax.specs.declared.logic.Label.TheVariants.{Pre, Marked}
 use Rattle.c_syntax.specs.declared.logic.Quantifier.TheVariants.{ForAll}
 use Rattle.c_syntax.specs.Formulas.{Integers, OfC}
 use Rattle.c_model.specs.ContractChecks.{result_is}
-use Rattle.c_model.specs.Memory.{Pointer, Points, Into, Block, Byte, Unwritten, pieces, block_of, bytes_of, heap_block}
+use Rattle.c_model.specs.Memory.{Points, Into, block_of, bytes_of}
 use Rattle.c_model.specs.Memory as memory
-use Rattle.c_model.specs.State.{State, EndOfInput}
+use Rattle.c_model.specs.State.{State}
 use Rattle.c_model.specs.Logic.{Says, SaysNothing, Mathematical}
 use Rattle.c_model.specs.Predicates.{term, pred}
-use Rattle.c_model.specs.Ranges.{from_to}
-
-abbrev here : Place
-here = record { line = 1; column = 1; offset = 0 }
-
-abbrev any : Range
-any = from_to (pos 0) (pos 0)
-
-abbrev int : PlainType
-int = Int I32
-
-abbrev variable : PlainType → ℕ → LogicTerm
-variable t x = Variable here (Some t) any (record { name = x; decl = x })
-
-abbrev number : ℤ → LogicTerm
-number n = Number here None any n
-
-abbrev dead : Block → Block
-dead b = record b { live = false }
-
--- 1: int a[4];  2: "ab";  3: int *p = a + 4;  4: int x;  5: heap, dead;  6: heap;  7: int *q, to 5;  8: struct { char c; int n; } s, with s.n = 7;
--- 9: char *w, to 2
-abbrev now : State
-now = record {
-  store = block_of block.Global (replicate 16 (memory.Number 0)) ∷ block_of block.Literal (memory.Number 97 ∷ memory.Number 98 ∷ memory.Number 0 ∷ [])
-      ∷ block_of block.Stack (pieces (Into 1 16) 0 8) ∷ block_of block.Stack (replicate 4 Unwritten) ∷ dead (heap_block 0 (replicate 8 Unwritten))
-      ∷ heap_block 0 (replicate 8 Unwritten) ∷ block_of block.Stack (pieces (Into 5 0) 0 8)
-      ∷ block_of block.Stack (replicate 4 Unwritten ++ bytes_of 4 7) ∷ block_of block.Stack (pieces (Into 2 0) 0 8) ∷ [];
-  scope = (10, 1) ∷ (30, 3) ∷ (40, 4) ∷ (70, 7) ∷ (80, 8) ∷ (90, 9) ∷ [];
-  marks = [];
-  calls = 1;
-  steps = 5;
-  input = record { bytes = []; tail = EndOfInput };
-  output = [];
-}
-
-abbrev a : LogicTerm
-a = variable (Array int (Count 4)) 10
-
-abbrev p : LogicTerm
-p = variable (Ptr int) 30
-
-abbrev x : LogicTerm
-x = variable int 40
-
-abbrev q : LogicTerm
-q = variable (Ptr int) 70
-
-abbrev s : LogicTerm
-s = variable (Struct 0) 80
-
-abbrev w : LogicTerm
-w = variable (Ptr (Int I8)) 90
-
-abbrev at_address : LogicTerm → LogicTerm
-at_address t = Address here (Some (Ptr int)) any t
-
-abbrev plus : LogicTerm → ℤ → LogicTerm
-plus t i = Moved here (Some (Ptr int)) any Plus 4 t (number i)
-
-abbrev object : LogicTerm → Zone
-object t = Object here 4 4 t
-
-abbrev elements : LogicTerm → ℤ → ℤ → Zone
-elements t lo hi = Elements here 4 4 t (number lo) (number hi)
-
-abbrev same : LogicTerm → LogicTerm → Predicate
-same t u = Chain here t (Linked here Eq u NoLink)
+use Rattle.c_model.proofs.WorkedTerms.{here, any, int, number, at_address, plus, object, elements, same, now, a, p, x, q, s, w}
 
 -- a pointer one past the end isn't valid, and the one before it is
 one_past : pred (Asks here Valid (object p)) now [] 5 ≡ Says false 5
