@@ -25,7 +25,7 @@ use Rattle.c_syntax.specs.Expressions.{type_of}
 use Rattle.c_syntax.specs.Statements.{Initialiser, One, Many, Initialisers, NoInitialiser, Listed, Declaration, Statement, Empty, Eval, Block, If, While, Do}
 use Rattle.c_syntax.specs.Statements.{For, Break, Continue, Return, Labelled, ElsePart, NoElse, Else, ForFirst, NoFirst, First, BlockItem, Switch, Cases}
 use Rattle.c_syntax.specs.Statements.{NoCase, AnotherCase}
-use Rattle.c_syntax.specs.Statements.{Declare, Run, Asserts, BlockItems, NoItem, Then}
+use Rattle.c_syntax.specs.Statements.{Declare, Specify, Run, Asserts, BlockItems, NoItem, Then}
 use Rattle.c_syntax.specs.Programs.{StructType, NamedBehavior, FunctionContract, Function, TranslationUnit}
 use Rattle.c_syntax.specs.declared.types.CInt.TheVariants.{U64}
 use Rattle.c_syntax.specs.Layouts.{Scalar, scalar_size, scalar_of, size_of}
@@ -573,6 +573,7 @@ module _ (R : State → State → Type 0) (r : Lasts R) where
 
       pub along_item : (i : BlockItem) (n : ℕ) → Along (item_with T i call n)
       along_item (Declare ds) n = along_initialise_all ds
+      along_item (Specify at t) n = along_give tt
       along_item (Run a) n = along_exec a n
       along_item (Asserts annots) n = along_checks annots
 

@@ -142,8 +142,8 @@ global_no_call : (s : Sight) (d : Declaration) → Gives (λ (e : Declaration). 
 global_no_call s d =
     gives_one (λ t. Unit {0}) (λ (e : Declaration). MaybeNoCall e.init) (both_parts (own_name s (is_declared_in_file s d.name) d.place d.name) (typed_object_type s d) (λ n t. Good t)) _ (anything _) (λ t u.
     gives_one MaybeNoCall (λ (e : Declaration). MaybeNoCall e.init)
-    (typed_maybe_initialiser (with_object s (record d { ctype = t.0 })) (is_static (with_object s (record d { ctype = t.1 }))) t.1 d.init) _
-    (maybe_no_call (with_object s (record d { ctype = t.0 })) (with_object s (record d { ctype = t.1 })) t.1 d.init) (λ i h. h))
+    (typed_maybe_initialiser (with_object s (record d { ctype = t })) (is_static (with_object s (record d { ctype = t }))) t d.init) _
+    (maybe_no_call (with_object s (record d { ctype = t })) (with_object s (record d { ctype = t })) t d.init) (λ i h. h))
 
 -- ---- globals
 

@@ -1,30 +1,30 @@
 -- A type that is written or declared within the limits has few enough bytes, with the types in it, also among the structs of the whole file.
-use Rattle.std.proofs.Common.{◌≡◌, ℕ, nat_eq, ◌*◌, refl, sym, ap, ◌∙◌, subst, List, [], ◌∷◌, Option, Some, None, Bool, true, false, not, ◌&&◌, cond, nat_le, slice_get, arith}
-use Rattle.std.proofs.lemmas.Bool.Decides.{nat_tests}
+use Rattle.std.proofs.Common.{◌≡◌, ℕ, nat_eq, ◌^◌, ℤ, pos, negsuc, refl, sym, ap, ◌∙◌, subst, List, [], ◌∷◌, Option, Some, None, Bool, true, false, not, ◌&&◌, cond, nat_le, nat_lt, slice_get}
 use Rattle.c_syntax.specs.declared.place.Place.{Place}
 use Rattle.c_syntax.specs.Ctypes.{PlainType, Void, Int, Ptr, Array, Struct, Named, StructTag, EnumTag, PlainLength, Left, Written, Count}
 use Rattle.c_syntax.specs.Statements.{Initialiser, Declaration}
 use Rattle.c_syntax.specs.Programs.{StructType}
-use Rattle.c_syntax.specs.Layouts.{size_of, count_of, size_of_struct}
+use Rattle.c_syntax.specs.Layouts.{size_of, size_of_struct}
 use Rattle.c_model.specs.Library.{is_there}
 use Rattle.c_model.specs.Checked.{Checked, Good, Bad, faulty, one_part, both_parts}
+use Rattle.c_syntax.specs.Expressions.{place_of}
 use Rattle.c_model.specs.ExpressionTyping.{no_name, no_type, too_large, Sight, TypeName, type_named, tagged, is_among, is_void, is_scalar, is_struct, Sized, HasSize, HasNoSize, NotYet, sized, most_bytes, most_levels}
-use Rattle.c_model.specs.ExpressionTyping.{levels_of, has_small_parts, is_within_limits, limited, array_of, unknown_struct, typed_type, typed_length}
-use Rattle.c_model.specs.DeclarationTyping.{typed_outer, completed, object_type, typed_object_type, elements_of_parameter, typed_parameter_type, is_unknown, scalar_type, typed_result, parameter_name, typed_parameter}
+use Rattle.c_model.specs.ExpressionTyping.{levels_of, has_small_parts, is_within_limits, limited, constant, counted, array_of, unknown_struct, typed, typed_type, typed_length}
+use Rattle.c_model.specs.DeclarationTyping.{typed_outer, completed, typed_object_type, elements_of_parameter, typed_parameter_type, is_unknown, scalar_type, typed_result, parameter_name, typed_parameter}
 use Rattle.c_model.proofs.TypedParts.{Gives, gives_one, gives_both, gives_given, gives_where, gives_sized, and_true}
 use Rattle.c_model.proofs.TypedSoundness.{gives_besides}
 use Rattle.c_model.proofs.TypedDeclarations.{anything}
 use Rattle.c_model.proofs.StableConstants.{Grows, size_kept}
 
--- a type whose arrays have elements with a size, where these structs are known
+-- a type whose arrays have a size, where these structs are known: their lengths are counts
 abbrev pub Firm : List StructType → PlainType → Type 0
 Firm ss Void = Unit {0}
 Firm ss (Int k) = Unit {0}
 Firm ss (Ptr t) = Firm ss t
-Firm ss (Array t n) = (sized ss t ≡ HasSize) × Firm ss t
+Firm ss (Array t n) = (sized ss (Array t n) ≡ HasSize) × Firm ss t
 Firm ss (Struct n) = Unit {0}
 Firm ss (Named x) = Unit {0}
-Firm ss (StructTag x) = Unit {0}
+Firm ss (StructTag x tag) = Unit {0}
 Firm ss (EnumTag x at) = Unit {0}
 
 abbrev pub AreFirm : List StructType → List TypeName → Type 0
@@ -35,10 +35,10 @@ pub firm_later : (old new : List StructType) → Grows old new → (t : PlainTyp
 firm_later old new g Void f = tt
 firm_later old new g (Int k) f = tt
 firm_later old new g (Ptr t) f = firm_later old new g t f
-firm_later old new g (Array t n) f = ((size_kept old new g t f.0).known, firm_later old new g t f.1)
+firm_later old new g (Array t n) f = ((size_kept old new g (Array t n) f.0).known, firm_later old new g t f.1)
 firm_later old new g (Struct n) f = tt
 firm_later old new g (Named x) f = tt
-firm_later old new g (StructTag x) f = tt
+firm_later old new g (StructTag x tag) f = tt
 firm_later old new g (EnumTag x at) f = tt
 
 pub are_firm_later : (old new : List StructType) → Grows old new → (ts : List TypeName) → AreFirm old ts → AreFirm new ts
@@ -55,37 +55,48 @@ named_firm ss x (u ∷ ts) t f e = by (nat_eq x u.name) (named_firm ss x ts t f.
 
 -- ---- types as they are written
 
+abbrev IsCount : PlainLength → Type 0
+IsCount Left = ⊥
+IsCount (Written e) = ⊥
+IsCount (Count n) = Unit {0}
+
+counted_sized : (ss : List StructType) (t : PlainType) (n : PlainLength) → IsCount n → sized ss t ≡ HasSize → sized ss (Array t n) ≡ HasSize
+counted_sized ss t Left c k = absurd c
+counted_sized ss t (Written e) c k = absurd c
+counted_sized ss t (Count n) c k = k
+
+counted_is : (at : Place) (o : Option ℤ) → Gives IsCount (counted at o)
+counted_is at None = tt
+counted_is at (Some (pos n)) = gives_where IsCount (nat_lt 0 n && nat_lt n (2 ^ 31)) (no_type at) (Good (Count n)) (λ e. tt)
+counted_is at (Some (negsuc n)) = tt
+
+length_counted : (s : Sight) (at : Place) (n : PlainLength) → Gives IsCount (typed_length s at n)
+length_counted s at Left = tt
+length_counted s at (Written e) = gives_one (λ x. Unit {0}) IsCount (typed s e) (λ x. counted (place_of e) (constant s x)) (anything (typed s e)) (λ x v. counted_is (place_of e) (constant s x))
+length_counted s at (Count n) = tt
+
 pub typed_firm : (s : Sight) → AreFirm s.structs s.types → (at : Place) (t : PlainType) → Gives (Firm s.structs) (typed_type s at t)
 typed_firm s f at Void = tt
 typed_firm s f at (Int k) = tt
 typed_firm s f at (Ptr t) = gives_one (Firm s.structs) (Firm s.structs) (typed_type s at t) (λ u. Good (Ptr u)) (typed_firm s f at t) (λ u h. h)
-typed_firm s f at (Array t n) = gives_both (Firm s.structs) (λ u. Unit {0}) (Firm s.structs) (typed_type s at t) (typed_length s at n) (array_of s at) (typed_firm s f at t) (anything (typed_length s at n))
-    (λ u n h v. gives_sized (Firm s.structs) s at u (Good (Array u n)) (λ k. (k, h)))
+typed_firm s f at (Array t n) = gives_both (Firm s.structs) IsCount (Firm s.structs) (typed_type s at t) (typed_length s at n) (array_of s at) (typed_firm s f at t) (length_counted s at n)
+    (λ u n h v. gives_sized (Firm s.structs) s at u (Good (Array u n)) (λ k. (counted_sized s.structs u n v k, h)))
 typed_firm s f at (Struct n) = tt
 typed_firm s f at (Named x) = gives_given (Firm s.structs) (type_named x s.types) (no_name at) Good (λ t e. named_firm s.structs x s.types t f e)
-typed_firm s f at (StructTag x) = gives_where (Firm s.structs) (not (is_among x s.enum_tags)) (no_name at) _ (λ e. by (tagged x 0 s.structs))
+typed_firm s f at (StructTag x tag) = gives_where (Firm s.structs) (not (is_among x s.enum_tags)) (no_name tag) _ (λ e. by (tagged x 0 s.structs))
   where
     by : (o : Option ℕ) → Firm s.structs (elim o [ None ↦ unknown_struct s x | Some n ↦ Struct n ])
     by None = tt
     by (Some n) = tt
 typed_firm s f at (EnumTag x tag) = gives_where (Firm s.structs) (is_among x s.enums) (no_name tag) _ (λ e. tt)
 
-outer_firm : (may_leave : Bool) (s : Sight) → AreFirm s.structs s.types → (at : Place) (t : PlainType) → Gives (Firm s.structs) (typed_outer may_leave s at t)
-outer_firm true s f at (Array t Left) = gives_one (Firm s.structs) (Firm s.structs) (typed_type s at t) (λ u. array_of s at u Left) (typed_firm s f at t)
-    (λ u h. gives_sized (Firm s.structs) s at u (Good (Array u Left)) (λ k. (k, h)))
-outer_firm true s f at (Array t (Written e)) = typed_firm s f at (Array t (Written e))
-outer_firm true s f at (Array t (Count n)) = typed_firm s f at (Array t (Count n))
-outer_firm true s f at Void = typed_firm s f at Void
-outer_firm true s f at (Int k) = typed_firm s f at (Int k)
-outer_firm true s f at (Ptr t) = typed_firm s f at (Ptr t)
-outer_firm true s f at (Struct n) = typed_firm s f at (Struct n)
-outer_firm true s f at (Named x) = typed_firm s f at (Named x)
-outer_firm true s f at (StructTag x) = typed_firm s f at (StructTag x)
-outer_firm true s f at (EnumTag x tag) = typed_firm s f at (EnumTag x tag)
-outer_firm false s f at t = typed_firm s f at t
+gives_so : {A : Type 0} (P R : A → Type 0) (c : Checked A) → Gives P c → ((a : A) → P a → R a) → Gives R c
+gives_so P R (Good a) h k = k a h
+gives_so P R (Bad f fs) h k = tt
 
+-- a type as it is written is whole
 completed_firm : (s : Sight) (t : PlainType) (i : Option (Place × Initialiser)) → Firm s.structs t → Firm s.structs (completed s t i)
-completed_firm s (Array t Left) (Some i) h = h
+completed_firm s (Array t Left) (Some i) h = let none = h.0 in absurd cc
 completed_firm s (Array t Left) None h = h
 completed_firm s (Array t (Written e)) i h = h
 completed_firm s (Array t (Count n)) i h = h
@@ -94,8 +105,26 @@ completed_firm s (Int k) i h = h
 completed_firm s (Ptr t) i h = h
 completed_firm s (Struct n) i h = h
 completed_firm s (Named x) i h = h
-completed_firm s (StructTag x) i h = h
-completed_firm s (EnumTag x at) i h = h
+completed_firm s (StructTag x tag) i h = h
+completed_firm s (EnumTag x tag) i h = h
+
+written_firm : (s : Sight) → AreFirm s.structs s.types → (at : Place) (t : PlainType) (i : Place × Initialiser) → Gives (λ u. Firm s.structs (completed s u (Some i))) (typed_type s at t)
+written_firm s f at t i = gives_so (Firm s.structs) (λ u. Firm s.structs (completed s u (Some i))) (typed_type s at t) (typed_firm s f at t) (λ u h. completed_firm s u (Some i) h)
+
+-- and so is one whose length the initialiser gives
+outer_firm : (s : Sight) → AreFirm s.structs s.types → (at : Place) (t : PlainType) (o : Option (Place × Initialiser)) → Gives (λ u. Firm s.structs (completed s u o)) (typed_outer (is_there o) s at t)
+outer_firm s f at t None = gives_so (Firm s.structs) (λ u. Firm s.structs (completed s u None)) (typed_type s at t) (typed_firm s f at t) (λ u h. completed_firm s u None h)
+outer_firm s f at (Array t Left) (Some i) = gives_one (Firm s.structs) (λ u. Firm s.structs (completed s u (Some i))) (typed_type s at t) (λ u. array_of s at u Left) (typed_firm s f at t)
+    (λ u h. gives_sized (λ u. Firm s.structs (completed s u (Some i))) s at u (Good (Array u Left)) (λ k. (k, h)))
+outer_firm s f at (Array t (Written e)) (Some i) = written_firm s f at (Array t (Written e)) i
+outer_firm s f at (Array t (Count n)) (Some i) = written_firm s f at (Array t (Count n)) i
+outer_firm s f at Void (Some i) = written_firm s f at Void i
+outer_firm s f at (Int k) (Some i) = written_firm s f at (Int k) i
+outer_firm s f at (Ptr t) (Some i) = written_firm s f at (Ptr t) i
+outer_firm s f at (Struct n) (Some i) = written_firm s f at (Struct n) i
+outer_firm s f at (Named x) (Some i) = written_firm s f at (Named x) i
+outer_firm s f at (StructTag x tag) (Some i) = written_firm s f at (StructTag x tag) i
+outer_firm s f at (EnumTag x tag) (Some i) = written_firm s f at (EnumTag x tag) i
 
 -- a parameter's type is the type as it is written, but that an array is a pointer
 abbrev as_pointer : PlainType → Checked PlainType
@@ -109,7 +138,7 @@ pointer_firm ss (Int i) f = tt
 pointer_firm ss (Ptr t) f = f
 pointer_firm ss (Struct n) f = tt
 pointer_firm ss (Named x) f = tt
-pointer_firm ss (StructTag x) f = tt
+pointer_firm ss (StructTag x tag) f = tt
 pointer_firm ss (EnumTag x at) f = tt
 
 plain_firm : (s : Sight) → AreFirm s.structs s.types → (at : Place) (t : PlainType) → Gives (Firm s.structs) (one_part (typed_type s at t) as_pointer)
@@ -134,7 +163,7 @@ parameter_firm s f at (Int k) = plain_firm s f at (Int k)
 parameter_firm s f at (Ptr t) = plain_firm s f at (Ptr t)
 parameter_firm s f at (Struct n) = plain_firm s f at (Struct n)
 parameter_firm s f at (Named x) = plain_firm s f at (Named x)
-parameter_firm s f at (StructTag x) = plain_firm s f at (StructTag x)
+parameter_firm s f at (StructTag x tag) = plain_firm s f at (StructTag x tag)
 parameter_firm s f at (EnumTag x tag) = plain_firm s f at (EnumTag x tag)
 
 -- ---- small types
@@ -152,22 +181,6 @@ module _ (new : List StructType)
     pub elements_small : (t : PlainType) (n : PlainLength) → Small (Array t n) → Small t
     elements_small t n h = (and_true (nat_le (size_of new (Array t n)) most_bytes) (has_small_parts new t) h).1
 
-    -- in its own initialiser an object may lack its length
-    uncompleted_small : (s : Sight) (t : PlainType) (i : Option (Place × Initialiser)) → Small (completed s t i) → Small t
-    uncompleted_small s (Array t Left) (Some i) h =
-        let size : nat_le (count_of Left * size_of new t) most_bytes ≡ true = grind (arith, nat_tests) in
-        ap (λ b. b && has_small_parts new t) size ∙ elements_small t (Count _) h
-    uncompleted_small s (Array t Left) None h = h
-    uncompleted_small s (Array t (Written e)) i h = h
-    uncompleted_small s (Array t (Count n)) i h = h
-    uncompleted_small s Void i h = h
-    uncompleted_small s (Int k) i h = h
-    uncompleted_small s (Ptr t) i h = h
-    uncompleted_small s (Struct n) i h = h
-    uncompleted_small s (Named x) i h = h
-    uncompleted_small s (StructTag x) i h = h
-    uncompleted_small s (EnumTag x at) i h = h
-
     module _ (all : AreSmallStructs new)
       where
         struct_small : (n : ℕ) → nat_le (size_of_struct (slice_get new n)) most_bytes ≡ true
@@ -183,11 +196,11 @@ module _ (new : List StructType)
         small_later old g (Ptr t) f h = small_later old g t f h
         small_later old g (Array t n) f h =
             let p = and_true (nat_le (size_of old (Array t n)) most_bytes) (has_small_parts old t) h in
-            let size = (size_kept old new g t f.0).size in
-            ap (λ b. b && has_small_parts new t) (ap (λ z. nat_le (count_of n * z) most_bytes) (sym size) ∙ p.0) ∙ small_later old g t f.1 p.1
+            let size = (size_kept old new g (Array t n) f.0).size in
+            ap (λ b. b && has_small_parts new t) (ap (λ z. nat_le z most_bytes) (sym size) ∙ p.0) ∙ small_later old g t f.1 p.1
         small_later old g (Struct n) f h = struct_small n
         small_later old g (Named x) f h = refl
-        small_later old g (StructTag x) f h = refl
+        small_later old g (StructTag x tag) f h = refl
         small_later old g (EnumTag x at) f h = refl
 
         module _ (s : Sight) (g : Grows s.structs new)
@@ -216,13 +229,10 @@ module _ (new : List StructType)
 
             module _ (types : AreFirm s.structs s.types)
               where
-                pub object_small : (d : Declaration) → Gives (λ (t : PlainType × PlainType). Small t.0 × Small t.1) (typed_object_type s d)
-                object_small d = gives_one (Firm s.structs) (λ (t : PlainType × PlainType). Small t.0 × Small t.1) (typed_outer (is_there d.init) s d.place d.ctype) _
-                    (outer_firm (is_there d.init) s types d.place d.ctype) (λ t f.
-                    gives_besides (λ (t : PlainType × PlainType). Small t.0 × Small t.1) (is_within_limits s (completed s t d.init)) (too_large d.place) _ (λ w.
-                    gives_one Small (λ (t : PlainType × PlainType). Small t.0 × Small t.1) (object_type s d.place (completed s t d.init)) (λ u. Good (t, u))
-                    (gives_sized Small s d.place (completed s t d.init) (Good (completed s t d.init)) (λ k. within_small (completed s t d.init) (completed_firm s t d.init f) w))
-                    (λ u h. (uncompleted_small s t d.init (within_small (completed s t d.init) (completed_firm s t d.init f) w), h))))
+                pub object_small : (d : Declaration) → Gives Small (typed_object_type s d)
+                object_small d = gives_one (λ t. Firm s.structs (completed s t d.init)) Small (typed_outer (is_there d.init) s d.place d.ctype) _ (outer_firm s types d.place d.ctype d.init) (λ t f.
+                    gives_besides Small (is_within_limits s (completed s t d.init)) (too_large d.place) _ (λ w.
+                    gives_sized Small s d.place (completed s t d.init) (Good (completed s t d.init)) (λ k. within_small (completed s t d.init) f w)))
 
                 scalar_small : (defined : Bool) (at : Place) (t : PlainType) → Small t → Gives Small (scalar_type s defined at t)
                 scalar_small defined at t h = gives_where Small (not (defined && is_struct t && is_unknown (sized s.structs t))) _ _ (λ k. gives_where Small (is_scalar t) _ _ (λ e. h))

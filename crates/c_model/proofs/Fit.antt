@@ -11,7 +11,7 @@ use Rattle.c_syntax.specs.Expressions.{type_of}
 use Rattle.c_syntax.specs.Statements.{Initialiser, One, Many, Initialisers, NoInitialiser, Listed, Declaration, Statement, Empty, Eval, Block, If, While, Do}
 use Rattle.c_syntax.specs.Statements.{For, Break, Continue, Return, Labelled, ElsePart, NoElse, Else, ForFirst, NoFirst, First, BlockItem, Switch, Cases}
 use Rattle.c_syntax.specs.Statements.{NoCase, AnotherCase}
-use Rattle.c_syntax.specs.Statements.{Declare, Run, Asserts, BlockItems, NoItem, Then}
+use Rattle.c_syntax.specs.Statements.{Declare, Specify, Run, Asserts, BlockItems, NoItem, Then}
 use Rattle.c_syntax.specs.Programs.{StructType, FunctionContract, Function, TranslationUnit}
 use Rattle.c_syntax.specs.Layouts.{Scalar, scalar_of}
 use Rattle.c_model.specs.Integers.{truth}
@@ -396,6 +396,7 @@ module _ (T : Tables) (k : ℕ) (call call' : Callee) (c : CalleesFit k call cal
 
     pub fit_item : (i : BlockItem) (n n' : ℕ) → k < n → k < n' → Fit k (item_with T i call n) (item_with T i call' n')
     fit_item (Declare ds) n n' l l' = fit_initialise_all ds
+    fit_item (Specify at t) n n' l l' = fit_give k tt
     fit_item (Run a) n n' l l' = fit_exec a n n' l l'
     fit_item (Asserts annots) n n' l l' = fit_checks k annots
 

@@ -282,7 +282,7 @@ module _ (s : Sight) (known : SeesResults s) where
   no_array at (Array t n) k (GivesScalar i) = absurd (let e = i.is in cc)
   no_array at (Struct n) k r = refl
   no_array at (Named x) k r = refl
-  no_array at (StructTag x) k r = refl
+  no_array at (StructTag x tag) k r = refl
   no_array at (EnumTag x tag) k r = refl
 
   call_decayed : (e : Expression) → IsCallAlone e → IsBare (decayed e)

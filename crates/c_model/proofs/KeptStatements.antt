@@ -1,14 +1,11 @@
 -- Typing keeps the forms of declarations, statements and functions: effects stay where they may stand, and statements are as deep.
-use Rattle.std.proofs.Common.{ℤ}
 use Rattle.c_syntax.specs.declared.types.CInt.{CInt}
 use Rattle.c_syntax.specs.Ctypes.{Int}
 use Rattle.c_syntax.specs.Expressions.{place_of}
-use Rattle.c_model.specs.StatementTyping.{in_switch, controlling, case_value, case_number, typed_cases}
+use Rattle.c_model.specs.StatementTyping.{controlling}
 use Rattle.c_model.specs.Conversions.{promoted}
 use Rattle.c_model.specs.Integers.{integer_type}
 use Rattle.c_model.specs.ExpressionTyping.{in_int}
-use Rattle.c_model.specs.FullExpressions.{EachInCases}
-use Rattle.c_model.specs.Formed.{depth_of_cases}
 use Rattle.c_model.proofs.TypedParts.{gives_given}
 use Rattle.c_model.proofs.KeptExpressions.{in_type_pure}
 use Rattle.std.proofs.Common.{◌≡◌, suc, ◌+◌, ◌≤◌, max, List, [], ◌∷◌, Option, Some, None, Bool, true, false, not, ◌&&◌, if◌then◌else◌, cond, refl, sym, ap, ◌∙◌, subst}
@@ -16,14 +13,14 @@ use Rattle.c_syntax.specs.declared.place.Place.{Place}
 use Rattle.c_syntax.specs.Ctypes.{PlainType}
 use Rattle.c_syntax.specs.Expressions.{Expression, type_of}
 use Rattle.c_syntax.specs.Statements.{Initialiser, One, Many, Initialisers, NoInitialiser, Listed, Declaration, Statement, Empty, Eval, Block, If, While, Do}
-use Rattle.c_syntax.specs.Statements.{For, Break, Continue, Return, Labelled, Switch, Cases, NoCase, AnotherCase}
-use Rattle.c_syntax.specs.Statements.{ElsePart, NoElse, Else, ForFirst, NoFirst, First, BlockItem, Declare, Run, Asserts, BlockItems, NoItem, Then}
+use Rattle.c_syntax.specs.Statements.{For, Break, Continue, Return, Labelled, Switch}
+use Rattle.c_syntax.specs.Statements.{ElsePart, NoElse, Else, ForFirst, NoFirst, First, BlockItem, Declare, Specify, Run, Asserts, BlockItems, NoItem, Then}
 use Rattle.c_syntax.specs.Programs.{Function, TranslationUnit}
 use Rattle.c_model.specs.Meaning.{string_in, is_definition}
 use Rattle.c_model.specs.Library.{is_there}
 use Rattle.c_model.specs.Checked.{Checked, Good, Bad, one_part, both_parts, where_so}
 use Rattle.c_model.specs.ExpressionGrammar.{most_nested}
-use Rattle.c_model.specs.ExpressionTyping.{no_name, no_type, Sight, with_object, with_objects, inner, is_void, is_scalar, decayed, in_type, is_assigned, decayed_of, typed, declared_here}
+use Rattle.c_model.specs.ExpressionTyping.{no_name, no_type, Sight, with_object, with_objects, inner, is_void, is_scalar, decayed, in_type, is_assigned, decayed_of, typed, typed_type, declared_here}
 use Rattle.c_model.specs.DeclarationTyping.{takes_text, initial_value, typed_initialiser, typed_maybe_initialiser, is_anything, is_static, own_name, typed_object_type, typed_variable, typed_global, is_declared_in_file, typed_result}
 use Rattle.c_model.specs.StatementTyping.{Around, in_loop, behind, behind_first, condition, typed_condition, typed_maybe, returned, typed_declarations, typed_statement, typed_else, typed_first, typed_item, typed_items}
 use Rattle.c_model.specs.UnitTyping.{with_function, with_parameter, with_parameters, is_compatible_with_all, function_name, typed_parameters, typed_type_of_function, typed_heading, typed_body, typed_function}
@@ -49,6 +46,7 @@ results_of_objects s (d ∷ ds) k = results_of_objects (with_object s d) ds k
 
 results_behind : (s : Sight) (i : BlockItem) → SeesResults s → SeesResults (behind s i)
 results_behind s (Declare ds) k = results_of_objects s ds k
+results_behind s (Specify at t) k = k
 results_behind s (Run a) k = k
 results_behind s (Asserts annots) k = k
 
@@ -114,17 +112,17 @@ variable_kept : (s : Sight) → SeesResults s → (d : Declaration) → IsInitia
 variable_kept s known d p h =
     let c = both_parts (own_name s (is_there (declared_here s d.name)) d.place d.name) (typed_object_type s d) (λ n t. Good t) in
     gives_one (λ t. Unit {0}) IsInitialised c (λ t.
-    one_part (typed_maybe_initialiser (with_object s (record d { ctype = t.0 })) is_anything t.1 d.init) (λ i. Good (record d { ctype = t.1; init = i }))) (anything c) (λ t u.
-    gives_one IsInitialiser IsInitialised (typed_maybe_initialiser (with_object s (record d { ctype = t.0 })) is_anything t.1 d.init) (λ i. Good (record d { ctype = t.1; init = i }))
-    (maybe_initial_kept (with_object s (record d { ctype = t.0 })) known is_anything t.1 d.init p h) (λ i k. k))
+    one_part (typed_maybe_initialiser (with_object s (record d { ctype = t })) is_anything t d.init) (λ i. Good (record d { ctype = t; init = i }))) (anything c) (λ t u.
+    gives_one IsInitialiser IsInitialised (typed_maybe_initialiser (with_object s (record d { ctype = t })) is_anything t d.init) (λ i. Good (record d { ctype = t; init = i }))
+    (maybe_initial_kept (with_object s (record d { ctype = t })) known is_anything t d.init p h) (λ i k. k))
 
 pub global_kept : (s : Sight) → SeesResults s → (d : Declaration) → IsInitialised d → EachInDeclaration HasBareCall d → Gives IsInitialised (typed_global s d)
 global_kept s known d p h =
     let c = both_parts (own_name s (is_declared_in_file s d.name) d.place d.name) (typed_object_type s d) (λ n t. Good t) in
     gives_one (λ t. Unit {0}) IsInitialised c (λ t.
-    one_part (typed_maybe_initialiser (with_object s (record d { ctype = t.0 })) (is_static (with_object s (record d { ctype = t.1 }))) t.1 d.init) (λ i. Good (record d { ctype = t.1; init = i }))) (anything c) (λ t u.
-    gives_one IsInitialiser IsInitialised (typed_maybe_initialiser (with_object s (record d { ctype = t.0 })) (is_static (with_object s (record d { ctype = t.1 }))) t.1 d.init) (λ i. Good (record d { ctype = t.1; init = i }))
-    (maybe_initial_kept (with_object s (record d { ctype = t.0 })) known (is_static (with_object s (record d { ctype = t.1 }))) t.1 d.init p h) (λ i k. k))
+    one_part (typed_maybe_initialiser (with_object s (record d { ctype = t })) (is_static (with_object s (record d { ctype = t }))) t d.init) (λ i. Good (record d { ctype = t; init = i }))) (anything c) (λ t u.
+    gives_one IsInitialiser IsInitialised (typed_maybe_initialiser (with_object s (record d { ctype = t })) (is_static (with_object s (record d { ctype = t }))) t d.init) (λ i. Good (record d { ctype = t; init = i }))
+    (maybe_initial_kept (with_object s (record d { ctype = t })) known (is_static (with_object s (record d { ctype = t }))) t d.init p h) (λ i k. k))
 
 declarations_kept : (s : Sight) → SeesResults s → (ds : List Declaration) → ArePlaced ds → EachDeclared HasBareCall ds → Gives ArePlaced (typed_declarations s ds)
 declarations_kept s known [] p h = tt
@@ -229,6 +227,7 @@ mutual
 
   item_kept : (s : Sight) → SeesResults s → (r : Around) (i : BlockItem) → ItemPlaced AreReadAsserts i → EachInItem HasBareCall i → Gives (IsItemKept i) (typed_item s r i)
   item_kept s known r (Declare ds) p h = gives_one ArePlaced (IsItemKept (Declare ds)) (typed_declarations s ds) (λ ds. Good (Declare ds)) (declarations_kept s known ds p h) (λ xs k. record { placed = k; deep = refl })
+  item_kept s known r (Specify at t) p h = gives_one (λ u. Unit {0}) (IsItemKept (Specify at t)) (typed_type s at t) (λ u. Good (Specify at u)) (anything (typed_type s at t)) (λ u v. record { placed = tt; deep = refl })
   item_kept s known r (Run a) p h = gives_one (IsKept a) (IsItemKept (Run a)) (typed_statement s r a) (λ a. Good (Run a)) (statement_kept s known r a p h) (λ x k. record { placed = k.placed; deep = k.deep })
   item_kept s known r (Asserts annots) p h = record { placed = p; deep = refl }
 
@@ -245,7 +244,7 @@ body_kept : (s : Sight) → SeesResults s → (t : PlainType) (b : Option Statem
 body_kept s known t None p h = tt
 body_kept s known t (Some (Block at items)) p h =
     gives_one (AreKept items) (BodyRead AreReadAsserts) (typed_items s (record { result = t; breaks = false; loops = false }) items) (λ items. Good (Some (Block at items)))
-        (items_kept s known (record { result = t; breaks = false; loops = false }) items p.0 h)
+    (items_kept s known (record { result = t; breaks = false; loops = false }) items p.0 h)
     (λ x k. (k.placed, subst (λ n. 1 + n ≤ suc most_nested) (sym k.deep) p.1))
 body_kept s known t (Some _) p h = absurd p
 

@@ -115,6 +115,8 @@ mod WorkedStructTyping
 mod WorkedDeclarationTyping
 mod WorkedTypingFaults
 mod WorkedDeclarationFaults
+mod WorkedSpecifiers
+mod WorkedOwnInitialisers
 mod WorkedAnnotationTyping
 mod WorkedAnnotationTypes
 mod WorkedPredicateTyping

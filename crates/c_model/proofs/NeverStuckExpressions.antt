@@ -204,9 +204,7 @@ module _ (p : TranslationUnit) (T : Tables) (structs : T.structs ≡ p.structs) 
   gives_initialise s see d (Some (at, i)) w = gives_bind _ _ (gives_object at d.place.offset) (λ q _. gives_fill s see at d.ctype q i w)
 
   pub gives_declared : {L : Leave → Type 0} (s : Sight) → Sees p s → (d : Declaration) → IsDeclared s d → Gives Anything L (initialise T d d.init call)
-  gives_declared s see d w =
-      let own = record d { ctype = w.first } in
-      gives_initialise (with_object s own) (sees_object p own s see) d d.init w.init
+  gives_declared s see d w = gives_initialise (with_object s d) (sees_object p d s see) d d.init w.init
 
   pub gives_initialise_all : {L : Leave → Type 0} (s : Sight) → Sees p s → (ds : List Declaration) → AreDeclared s ds → Gives Anything L (initialise_all T ds call)
   gives_initialise_all s see [] w = gives_give tt tt

@@ -6,7 +6,7 @@ use Rattle.c_model.specs.Conversions.{promoted}
 use Rattle.c_syntax.specs.Ctypes.{PlainType, Int, Ptr}
 use Rattle.c_syntax.specs.Statements.{Declaration, Statement, Empty, Eval, Block, If, While, Do, For, Break, Continue, Return, Labelled, ElsePart, Switch}
 use Rattle.c_syntax.specs.Statements.{Cases, NoCase, AnotherCase}
-use Rattle.c_syntax.specs.Statements.{NoElse, Else, ForFirst, NoFirst, First, BlockItem, Declare, Run, Asserts, BlockItems, NoItem, Then}
+use Rattle.c_syntax.specs.Statements.{NoElse, Else, ForFirst, NoFirst, First, BlockItem, Declare, Specify, Run, Asserts, BlockItems, NoItem, Then}
 use Rattle.c_syntax.specs.Programs.{Function, TranslationUnit}
 use Rattle.c_model.specs.Memory.{Value, NoValue}
 use Rattle.c_model.specs.State.{Scope, Breaks, Continues, Returns, Undefined, Leave, Leaves, Over, Stuck, Outcome, Normal, Stop, State, ◌>>◌, give}
@@ -39,6 +39,7 @@ module _ (p : TranslationUnit) where
 
   sees_behind : (i : BlockItem) (s : Sight) → Sees p s → Sees p (behind s i)
   sees_behind (Declare ds) s see = sees_objects ds s see
+  sees_behind (Specify at t) s see = see
   sees_behind (Run a) s see = see
   sees_behind (Asserts annots) s see = see
 
@@ -102,6 +103,7 @@ module _ (p : TranslationUnit) (T : Tables) (structs : T.structs ≡ p.structs) 
 
     gives_item : (s : Sight) → Sees p s → (r : Around) (i : BlockItem) (n : ℕ) → ItemTyped s r i → Gives Anything (Allowed r) (item_with T i call n)
     gives_item s see r (Declare ds) n w = gives_initialise_all p T structs call calls s see ds w
+    gives_item s see r (Specify at t) n w = gives_give tt tt
     gives_item s see r (Run a) n w = gives_exec s see r a n w
     gives_item s see r (Asserts annots) n w = gives_checks annots
 

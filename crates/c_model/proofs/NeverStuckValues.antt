@@ -204,7 +204,7 @@ gives_read_any at p Void = gives_give NoValue tt
 gives_read_any at p (Array t n) = gives_give NoValue tt
 gives_read_any at p (Struct n) = gives_give NoValue tt
 gives_read_any at p (Named x) = gives_give NoValue tt
-gives_read_any at p (StructTag x) = gives_give NoValue tt
+gives_read_any at p (StructTag x tag) = gives_give NoValue tt
 gives_read_any at p (EnumTag x place) = gives_give NoValue tt
 
 pub gives_read : {L : Leave → Type 0} (at : Place) (p : Pointer) (t : PlainType) (k : Scalar) → scalar_of t ≡ Some k → Gives (IsValueOf t) L (read at p k)
@@ -242,7 +242,7 @@ gives_assigned structs at Void p v q g h = gives_copied structs at Void p v q tt
 gives_assigned structs at (Array t n) p v q g h = gives_copied structs at (Array t n) p v q tt h
 gives_assigned structs at (Struct n) p v q g h = gives_copied structs at (Struct n) p v q tt h
 gives_assigned structs at (Named x) p v q g h = gives_copied structs at (Named x) p v q tt h
-gives_assigned structs at (StructTag x) p v q g h = gives_copied structs at (StructTag x) p v q tt h
+gives_assigned structs at (StructTag x tag) p v q g h = gives_copied structs at (StructTag x tag) p v q tt h
 gives_assigned structs at (EnumTag x place) p v q g h = gives_copied structs at (EnumTag x place) p v q tt h
 
 -- ---- names, addresses and casts

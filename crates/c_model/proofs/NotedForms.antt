@@ -5,7 +5,7 @@ use Rattle.c_model.specs.Formed.{depth_of_cases, declared_in_cases}
 use Rattle.std.proofs.Common.{◌≡◌, ℕ, suc, ◌+◌, ◌≤◌, max, Bool, true, false, cond, List, [], ◌∷◌, ◌++◌, Option, Some, None, refl, sym, ap, subst}
 use Rattle.c_syntax.specs.Expressions.{Expression}
 use Rattle.c_syntax.specs.Statements.{Declaration, Statement, Empty, Eval, Block, If, While, Do, For, Break, Continue, Return, Labelled, ElsePart, NoElse}
-use Rattle.c_syntax.specs.Statements.{Else, ForFirst, NoFirst, First, BlockItem, Declare, Run, Asserts, BlockItems, NoItem, Then, Switch, Cases, NoCase}
+use Rattle.c_syntax.specs.Statements.{Else, ForFirst, NoFirst, First, BlockItem, Declare, Specify, Run, Asserts, BlockItems, NoItem, Then, Switch, Cases, NoCase}
 use Rattle.c_syntax.specs.Statements.{AnotherCase}
 use Rattle.c_model.specs.Checked.{Good, one_part}
 use Rattle.c_model.specs.ExpressionTyping.{Entity, AnObject, AnEnumerator, Sight, entity_named, with_object, with_objects, inner}
@@ -44,6 +44,7 @@ after_objects s (d ∷ ds) k = after_objects (with_object s d) ds (after_object 
 
 values_behind : (s : Sight) (i : BlockItem) → SeesValues s → SeesValues (behind s i)
 values_behind s (Declare ds) k = after_objects s ds k
+values_behind s (Specify at t) k = k
 values_behind s (Run a) k = k
 values_behind s (Asserts annots) k = k
 
@@ -153,6 +154,7 @@ module _ (P : Expression → Type 0) where
     item_kept s (Declare ds) = record { deep = refl; declares = refl; each = λ h. h; placed = λ k h. h; sight = refl }
     item_kept s (Run a) =
         gives_one (IsKept s a) (IsItemKept s (Run a)) (noted_statement s a) (λ x. Good (Run x)) (statement_kept s a) (λ x p. record { deep = p.deep; declares = p.declares; each = p.each; placed = p.placed; sight = refl })
+    item_kept s (Specify at t) = record { deep = refl; declares = refl; each = λ h. h; placed = λ k h. h; sight = refl }
     item_kept s (Asserts annots) = gives_one (AreSameNotes s annots) (IsItemKept s (Asserts annots)) (typed_annotations s annots) (λ x. Good (Asserts x)) (annotations_kept s annots)
         (λ x p. record { deep = refl; declares = refl; each = λ h. h; placed = p.asserts; sight = refl })
 

@@ -4,12 +4,11 @@ use Rattle.c_syntax.specs.declared.types.CInt.{CInt}
 use Rattle.c_model.specs.StatementTyping.{in_switch}
 use Rattle.c_model.specs.Conversions.{promoted}
 use Rattle.c_model.specs.TypedTrees.{CasesTyped}
-use Rattle.c_model.specs.TypedAnnotations.{CasesNoted}
 use Rattle.c_model.specs.AnnotationTyping.{noted_cases}
 use Rattle.std.proofs.Common.{◌≡◌, refl, sym, subst, List, [], ◌∷◌, map, Option, Some, None}
 use Rattle.c_syntax.specs.Ctypes.{PlainType}
 use Rattle.c_syntax.specs.Logic.{ClauseBody, Raw, Holds, Value, Annotation, Behaviors}
-use Rattle.c_syntax.specs.Statements.{Statement, Empty, Eval, Block, If, While, Do, For, Break, Continue, Return, ElsePart, NoElse, Else, BlockItem, Declare}
+use Rattle.c_syntax.specs.Statements.{Statement, Empty, Eval, Block, If, While, Do, For, Break, Continue, Return, ElsePart, NoElse, Else, BlockItem, Declare, Specify}
 use Rattle.c_syntax.specs.Statements.{Run, Asserts, BlockItems, NoItem, Then, Labelled, Switch, Cases, NoCase, AnotherCase}
 use Rattle.c_syntax.specs.Programs.{Function, TranslationUnit}
 use Rattle.c_model.specs.Checked.{Good, one_part}
@@ -117,6 +116,7 @@ mutual
 
   item_noted : (s : Sight) (i : BlockItem) → Gives (IsItemNoted s i) (noted_item s i)
   item_noted s (Declare ds) = record { noted = λ p. tt; kept = λ u r w. w; sight = λ u. refl }
+  item_noted s (Specify at t) = record { noted = λ p. tt; kept = λ u r w. w; sight = λ u. refl }
   item_noted s (Run a) = gives_one (IsNoted s a) (IsItemNoted s (Run a)) (noted_statement s a) (λ a. Good (Run a)) (statement_noted s a) (λ c w. record { noted = w.noted; kept = w.kept; sight = λ u. refl })
   item_noted s (Asserts annots) =
       gives_one (WellNoted s annots) (IsItemNoted s (Asserts annots)) (typed_annotations s annots) (λ annots. Good (Asserts annots)) (annotations_noted s annots) (λ n w.

@@ -6,7 +6,7 @@ use Rattle.c_syntax.specs.Ctypes.{PlainType}
 use Rattle.c_syntax.specs.Logic.{LogicTerm, Number, Letter, Variable, Unary, Binary, Cast, Choice, Named, Links, NoLink, Linked, Predicate, Truth, NonZero}
 use Rattle.c_syntax.specs.Logic.{Chain, Not, Connected, Branch, Quantified, ClauseBody, Raw, Holds, Value, Annotation, At, Behaviors, Null, Deref, Member}
 use Rattle.c_syntax.specs.Logic.{Address, Moved, Difference, Told, Asks, Separated}
-use Rattle.c_syntax.specs.Statements.{Statement, Empty, Eval, Block, If, While, Do, For, Break, Continue, Return, ElsePart, NoElse, Else, BlockItem, Declare}
+use Rattle.c_syntax.specs.Statements.{Statement, Empty, Eval, Block, If, While, Do, For, Break, Continue, Return, ElsePart, NoElse, Else, BlockItem, Declare, Specify}
 use Rattle.c_syntax.specs.Statements.{Run, Asserts, BlockItems, NoItem, Then, Labelled, Switch, Cases, NoCase, AnotherCase}
 use Rattle.c_syntax.specs.Programs.{StructType, Function}
 use Rattle.c_model.specs.ExpressionTyping.{Sight, inner}
@@ -105,6 +105,7 @@ module _ (structs : List StructType) (levels tags enums : List ℕ)
 
       item_wider : (s : Sight) (i : BlockItem) → ItemNoted (narrow s) i → ItemNoted s i
       item_wider s (Declare ds) h = tt
+      item_wider s (Specify at t) h = tt
       item_wider s (Run a) h = statement_wider s a h
       item_wider s (Asserts annots) h = annotations_wider s annots h
 

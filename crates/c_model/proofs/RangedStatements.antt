@@ -3,7 +3,7 @@ use Rattle.c_model.specs.AnnotationRanges.{ranged_cases}
 use Rattle.c_model.specs.UnrangedPrograms.{unranged_cases, CasesRanged}
 use Rattle.std.proofs.Common.{◌≡◌, List, [], ◌∷◌, map, Option, Some, None, option_map, refl, ap}
 use Rattle.c_syntax.specs.Statements.{Statement, Empty, Eval, Block, If, While, Do, For, Break, Continue, Return, Labelled, ElsePart, NoElse, Else, BlockItem}
-use Rattle.c_syntax.specs.Statements.{Declare, Run, Asserts, BlockItems, NoItem, Then, Switch, Cases, NoCase, AnotherCase}
+use Rattle.c_syntax.specs.Statements.{Declare, Specify, Run, Asserts, BlockItems, NoItem, Then, Switch, Cases, NoCase, AnotherCase}
 use Rattle.c_syntax.specs.Programs.{Function}
 use Rattle.c_model.specs.Checked.{Good, one_part}
 use Rattle.c_model.specs.TermRanges.{ranged_annotations}
@@ -75,6 +75,7 @@ mutual
 
   item_ranged : (x : BlockItem) → Gives (IsRangedItem x) (ranged_item x)
   item_ranged (Declare ds) = record { ranged = tt; same = refl }
+  item_ranged (Specify at t) = record { ranged = tt; same = refl }
   item_ranged (Run a) = gives_one (IsRanged a) (IsRangedItem (Run a)) (ranged_statement a) (λ x. Good (Run x)) (statement_ranged a) (λ x p. record { ranged = p.ranged; same = ap Run p.same })
   item_ranged (Asserts annots) =
       gives_one (AreRangedAnnotations annots) (IsRangedItem (Asserts annots)) (ranged_annotations annots) (λ xs. Good (Asserts xs)) (annotations_ranged annots) (λ xs p. record { ranged = p.ranged; same = ap Asserts p.same })

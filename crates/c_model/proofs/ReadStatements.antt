@@ -6,14 +6,14 @@ use Rattle.c_model.specs.Conversions.{promoted}
 use Rattle.c_model.specs.Integers.{integer_type}
 use Rattle.c_model.specs.ExpressionTyping.{in_int}
 use Rattle.c_model.specs.TypedReadings.{CasesTypedAs}
-use Rattle.std.proofs.Common.{◌≡◌, ℤ, pos, ◌+ℤ◌, refl, sym, subst, List, [], ◌∷◌, Option, Some, None, Bool, true, false, not, ◌&&◌, if◌then◌else◌}
+use Rattle.std.proofs.Common.{cond, ◌≡◌, ℤ, pos, ◌+ℤ◌, refl, sym, subst, List, [], ◌∷◌, Option, Some, None, Bool, true, false, not, ◌&&◌, if◌then◌else◌}
 use Rattle.c_syntax.specs.declared.place.Place.{Place}
 use Rattle.c_syntax.specs.declared.types.CInt.TheVariants.{I32}
 use Rattle.c_syntax.specs.Ctypes.{PlainType, Array}
 use Rattle.c_syntax.specs.Expressions.{Expression, Node, Text, place_of, type_of}
 use Rattle.c_syntax.specs.Statements.{Initialiser, One, Many, Initialisers, NoInitialiser, Listed, Declaration, Statement, Empty, Eval, Block, If, While, Do}
 use Rattle.c_syntax.specs.Statements.{For, Break, Continue, Return, Labelled, Switch, Cases, NoCase, AnotherCase}
-use Rattle.c_syntax.specs.Statements.{ElsePart, NoElse, Else, ForFirst, NoFirst, First, BlockItem, Declare, Run, Asserts, BlockItems, NoItem, Then}
+use Rattle.c_syntax.specs.Statements.{ElsePart, NoElse, Else, ForFirst, NoFirst, First, BlockItem, Declare, Specify, Run, Asserts, BlockItems, NoItem, Then}
 use Rattle.c_syntax.specs.Programs.{EnumConstant, Function, TranslationUnit}
 use Rattle.c_model.specs.Integers.{fits}
 use Rattle.c_model.specs.Meaning.{string_in, is_definition}
@@ -127,19 +127,19 @@ module _ (s : Sight) (is_allowed : Expression → Expression → Bool)
 
 -- ---- declarations
 
-declared_as : (s : Sight) (d : Declaration) (declared : Bool) (is_allowed : PlainType × PlainType → Expression → Expression → Bool) → Gives (DeclarationTypedAs d)
+declared_as : (s : Sight) (d : Declaration) (declared : Bool) (is_allowed : PlainType → Expression → Expression → Bool) → Gives (DeclarationTypedAs d)
     (one_part (both_parts (own_name s declared d.place d.name) (typed_object_type s d) (λ n t. Good t)) (λ t.
-    one_part (typed_maybe_initialiser (with_object s (record d { ctype = t.0 })) (is_allowed t) t.1 d.init) (λ i. Good (record d { ctype = t.1; init = i }))))
+    one_part (typed_maybe_initialiser (with_object s (record d { ctype = t })) (is_allowed t) t d.init) (λ i. Good (record d { ctype = t; init = i }))))
 declared_as s d declared is_allowed =
     gives_one (λ t. Unit {0}) (DeclarationTypedAs d) (both_parts (own_name s declared d.place d.name) (typed_object_type s d) (λ n t. Good t)) _ (anything _) (λ t u.
-    gives_one (MaybeInitialiserTypedAs d.init) (DeclarationTypedAs d) (typed_maybe_initialiser (with_object s (record d { ctype = t.0 })) (is_allowed t) t.1 d.init) _
-    (maybe_initialiser_as (with_object s (record d { ctype = t.0 })) (is_allowed t) t.1 d.init) (λ j v. record { place = refl; name = refl; named = refl; init = v }))
+    gives_one (MaybeInitialiserTypedAs d.init) (DeclarationTypedAs d) (typed_maybe_initialiser (with_object s (record d { ctype = t })) (is_allowed t) t d.init) _
+    (maybe_initialiser_as (with_object s (record d { ctype = t })) (is_allowed t) t d.init) (λ j v. record { place = refl; name = refl; named = refl; init = v }))
 
 pub variable_as : (s : Sight) (d : Declaration) → Gives (DeclarationTypedAs d) (typed_variable s d)
 variable_as s d = declared_as s d (is_there (declared_here s d.name)) (λ t. is_anything)
 
 pub global_as : (s : Sight) (d : Declaration) → Gives (DeclarationTypedAs d) (typed_global s d)
-global_as s d = declared_as s d (is_declared_in_file s d.name) (λ t. is_static (with_object s (record d { ctype = t.1 })))
+global_as s d = declared_as s d (is_declared_in_file s d.name) (λ t. is_static (with_object s (record d { ctype = t })))
 
 declarations_as : (s : Sight) (ds : List Declaration) → Gives (DeclarationsTypedAs ds) (typed_declarations s ds)
 declarations_as s [] = refl
@@ -148,9 +148,15 @@ declarations_as s (d ∷ ds) =
     gives_one (DeclarationsTypedAs ds) (DeclarationsTypedAs (d ∷ ds)) (typed_declarations (with_object s e) ds) (λ ds. Good (e ∷ ds)) (declarations_as (with_object s e) ds) (λ es w. (e, es, refl, v, w)))
 
 pub typedef_as : (s : Sight) (d : Declaration) → Gives (SameDeclaration d) (typed_typedef s d)
-typedef_as s d = gives_both (λ u. Unit {0}) (λ u. Unit {0}) (SameDeclaration d) (own_name s (is_declared_in_file s d.name) d.place d.name)
-    (limited s d.place (typed_type s d.place d.ctype) (typed_type s d.place d.ctype)) (λ n t. Good (record d { ctype = t })) (anything _) (anything _)
-    (λ n t u v. record { place = refl; name = refl; named = refl; init = refl })
+typedef_as s d = by d.named
+  where
+    by : (b : Bool) → Gives (SameDeclaration d) (cond b (both_parts (own_name s (is_declared_in_file s d.name) d.place d.name)
+        (limited s d.place (typed_type s d.place d.ctype) (typed_type s d.place d.ctype)) (λ n t. Good (record d { ctype = t })))
+        (one_part (typed_type s d.place d.ctype) (λ t. Good (record d { ctype = t }))))
+    by true = gives_both (λ u. Unit {0}) (λ u. Unit {0}) (SameDeclaration d) (own_name s (is_declared_in_file s d.name) d.place d.name)
+        (limited s d.place (typed_type s d.place d.ctype) (typed_type s d.place d.ctype)) (λ n t. Good (record d { ctype = t })) (anything _) (anything _)
+        (λ n t u v. record { place = refl; name = refl; named = refl; init = refl })
+    by false = gives_one (λ u. Unit {0}) (SameDeclaration d) (typed_type s d.place d.ctype) (λ t. Good (record d { ctype = t })) (anything _) (λ t u. record { place = refl; name = refl; named = refl; init = refl })
 
 parameter_as : (s : Sight) (defined : Bool) (d : Declaration) → Gives (SameDeclaration d) (typed_parameter s defined d)
 parameter_as s defined d = gives_both (λ u. Unit {0}) (λ u. Unit {0}) (SameDeclaration d) (parameter_name s d)
@@ -263,6 +269,7 @@ mutual
 
   item_as : (s : Sight) (r : Around) (i : BlockItem) → Gives (ItemTypedAs i) (typed_item s r i)
   item_as s r (Declare ds) = gives_one (DeclarationsTypedAs ds) (ItemTypedAs (Declare ds)) (typed_declarations s ds) (λ ds. Good (Declare ds)) (declarations_as s ds) (λ es v. (es, refl, v))
+  item_as s r (Specify at t) = gives_one (λ u. Unit {0}) (ItemTypedAs (Specify at t)) (typed_type s at t) (λ u. Good (Specify at u)) (anything (typed_type s at t)) (λ u v. (u, refl))
   item_as s r (Run a) = gives_one (StatementTypedAs a) (ItemTypedAs (Run a)) (typed_statement s r a) (λ a. Good (Run a)) (statement_as s r a) (λ y v. (y, refl, v))
   item_as s r (Asserts annots) = refl
 

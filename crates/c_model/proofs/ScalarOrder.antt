@@ -59,7 +59,7 @@ module _ (structs : List StructType) where
     align_some (Struct n) = struct_align (slice_get structs n) (λ s e. laid_at structs n s laid e)
     align_some Void = omega arith
     align_some (Named x) = omega arith
-    align_some (StructTag x) = omega arith
+    align_some (StructTag x tag) = omega arith
     align_some (EnumTag x at) = omega arith
 
     -- ---- members
@@ -134,7 +134,7 @@ module _ (structs : List StructType) (laid : AreLaidOut structs structs) where
   from_in_order (suc deep) (Struct n) offset = struct_in_order (scalars_from structs deep) (from_in_order deep) offset (slice_get structs n) (λ s e. laid_at structs structs n s laid e)
   from_in_order deep Void offset = omega arith
   from_in_order deep (Named x) offset = omega arith
-  from_in_order deep (StructTag x) offset = omega arith
+  from_in_order deep (StructTag x tag) offset = omega arith
   from_in_order deep (EnumTag x at) offset = omega arith
 
   pub scalars_in_order : (t : PlainType) → StandInOrder 0 (scalars_of structs t) (size_of structs t)

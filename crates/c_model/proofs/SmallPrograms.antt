@@ -23,7 +23,7 @@ use Rattle.c_model.proofs.SmallStatements.{IsShort, global_small, items_small}
 body_small : (s : Sight) (t : PlainType) (b : Option Statement) → EachInBody IsShort b → Gives (EachInBody IsSmall) (typed_body s t b)
 body_small s t (Some (Block at items)) h =
     gives_one (EachInItems IsSmall) (EachInBody IsSmall) (typed_items s (record { result = t; breaks = false; loops = false }) items) (λ items. Good (Some (Block at items)))
-        (items_small s (record { result = t; breaks = false; loops = false }) items h) (λ x f. f)
+    (items_small s (record { result = t; breaks = false; loops = false }) items h) (λ x f. f)
 body_small s t None h = tt
 body_small s t (Some (Empty at)) h = tt
 body_small s t (Some (Eval at e)) h = tt

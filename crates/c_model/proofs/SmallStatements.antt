@@ -15,12 +15,12 @@ use Rattle.c_syntax.specs.Ctypes.{PlainType}
 use Rattle.c_syntax.specs.Expressions.{Expression, place_of, type_of}
 use Rattle.c_syntax.specs.Statements.{Switch, Cases, NoCase, AnotherCase}
 use Rattle.c_syntax.specs.Statements.{Initialiser, One, Many, Initialisers, NoInitialiser, Listed, Declaration, Statement, Empty, Eval, Block, If, While, Do}
-use Rattle.c_syntax.specs.Statements.{For, Break, Continue, Return, Labelled, ElsePart, NoElse, Else, ForFirst, NoFirst, First, BlockItem, Declare, Run, Asserts, BlockItems, NoItem, Then}
+use Rattle.c_syntax.specs.Statements.{For, Break, Continue, Return, Labelled, ElsePart, NoElse, Else, ForFirst, NoFirst, First, BlockItem, Declare, Specify, Run, Asserts, BlockItems, NoItem, Then}
 use Rattle.c_model.specs.Meaning.{string_in}
 use Rattle.c_model.specs.Library.{is_there}
 use Rattle.c_model.specs.Checked.{Checked, Good, faulty, one_part, both_parts, where_so}
 use Rattle.c_model.specs.Formed.{nodes_of, most_read}
-use Rattle.c_model.specs.ExpressionTyping.{no_type, Sight, with_object, inner, is_void, is_scalar, decayed, in_type, is_assigned, decayed_of, typed, declared_here}
+use Rattle.c_model.specs.ExpressionTyping.{no_type, Sight, with_object, inner, is_void, is_scalar, decayed, in_type, is_assigned, decayed_of, typed, typed_type, declared_here}
 use Rattle.c_model.specs.DeclarationTyping.{Slots, next_slot, slots_of, takes_text, is_text_array, no_more, initial_value, typed_alone, typed_initialiser, typed_text, place_of_initialiser}
 use Rattle.c_model.specs.DeclarationTyping.{typed_maybe_initialiser, is_anything, is_static, own_name, typed_object_type, typed_variable, typed_global, is_declared_in_file}
 use Rattle.c_model.specs.DeclarationTyping as declaration
@@ -108,17 +108,17 @@ variable_small : (s : Sight) (d : Declaration) → EachInDeclaration IsShort d �
 variable_small s d h =
     let c = both_parts (own_name s (is_there (declared_here s d.name)) d.place d.name) (typed_object_type s d) (λ n t. Good t) in
     gives_one (λ t. Unit {0}) (EachInDeclaration IsSmall) c (λ t.
-    one_part (typed_maybe_initialiser (with_object s (record d { ctype = t.0 })) is_anything t.1 d.init) (λ i. Good (record d { ctype = t.1; init = i }))) (anything c) (λ t u.
-    gives_one InitialSmall (EachInDeclaration IsSmall) (typed_maybe_initialiser (with_object s (record d { ctype = t.0 })) is_anything t.1 d.init) (λ i. Good (record d { ctype = t.1; init = i }))
-    (maybe_initial_small (with_object s (record d { ctype = t.0 })) is_anything t.1 d.init h) (λ i g. g))
+    one_part (typed_maybe_initialiser (with_object s (record d { ctype = t })) is_anything t d.init) (λ i. Good (record d { ctype = t; init = i }))) (anything c) (λ t u.
+    gives_one InitialSmall (EachInDeclaration IsSmall) (typed_maybe_initialiser (with_object s (record d { ctype = t })) is_anything t d.init) (λ i. Good (record d { ctype = t; init = i }))
+    (maybe_initial_small (with_object s (record d { ctype = t })) is_anything t d.init h) (λ i g. g))
 
 pub global_small : (s : Sight) (d : Declaration) → EachInDeclaration IsShort d → Gives (EachInDeclaration IsSmall) (typed_global s d)
 global_small s d h =
     let c = both_parts (own_name s (is_declared_in_file s d.name) d.place d.name) (typed_object_type s d) (λ n t. Good t) in
     gives_one (λ t. Unit {0}) (EachInDeclaration IsSmall) c (λ t.
-    one_part (typed_maybe_initialiser (with_object s (record d { ctype = t.0 })) (is_static (with_object s (record d { ctype = t.1 }))) t.1 d.init) (λ i. Good (record d { ctype = t.1; init = i }))) (anything c) (λ t u.
-    gives_one InitialSmall (EachInDeclaration IsSmall) (typed_maybe_initialiser (with_object s (record d { ctype = t.0 })) (is_static (with_object s (record d { ctype = t.1 }))) t.1 d.init) (λ i. Good (record d { ctype = t.1; init = i }))
-    (maybe_initial_small (with_object s (record d { ctype = t.0 })) (is_static (with_object s (record d { ctype = t.1 }))) t.1 d.init h) (λ i g. g))
+    one_part (typed_maybe_initialiser (with_object s (record d { ctype = t })) (is_static (with_object s (record d { ctype = t }))) t d.init) (λ i. Good (record d { ctype = t; init = i }))) (anything c) (λ t u.
+    gives_one InitialSmall (EachInDeclaration IsSmall) (typed_maybe_initialiser (with_object s (record d { ctype = t })) (is_static (with_object s (record d { ctype = t }))) t d.init) (λ i. Good (record d { ctype = t; init = i }))
+    (maybe_initial_small (with_object s (record d { ctype = t })) (is_static (with_object s (record d { ctype = t }))) t d.init h) (λ i g. g))
 
 declarations_small : (s : Sight) (ds : List Declaration) → EachDeclared IsShort ds → Gives (EachDeclared IsSmall) (typed_declarations s ds)
 declarations_small s [] h = tt
@@ -211,6 +211,7 @@ mutual
 
   item_small : (s : Sight) (r : Around) (i : BlockItem) → EachInItem IsShort i → Gives (EachInItem IsSmall) (typed_item s r i)
   item_small s r (Declare ds) h = gives_one (EachDeclared IsSmall) (EachInItem IsSmall) (typed_declarations s ds) (λ ds. Good (Declare ds)) (declarations_small s ds h) (λ x f. f)
+  item_small s r (Specify at t) h = gives_one (λ u. Unit {0}) (EachInItem IsSmall) (typed_type s at t) (λ u. Good (Specify at u)) (anything (typed_type s at t)) (λ u v. tt)
   item_small s r (Run a) h = gives_one Small (EachInItem IsSmall) (typed_statement s r a) (λ a. Good (Run a)) (statement_small s r a h) (λ x f. f)
   item_small s r (Asserts annots) h = tt
 

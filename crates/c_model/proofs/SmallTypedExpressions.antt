@@ -158,7 +158,7 @@ module _ (new : List StructType)
     decayed_small (Node at (Ptr t) k) h = h
     decayed_small (Node at (Struct n) k) h = h
     decayed_small (Node at (Named x) k) h = h
-    decayed_small (Node at (StructTag x) k) h = h
+    decayed_small (Node at (StructTag x tag) k) h = h
     decayed_small (Node at (EnumTag x tag) k) h = h
 
     pub pointed_small : (e : Expression) (t : PlainType) → AreTypesSmall e → pointed (type_of e) ≡ Some t → Small new t
@@ -344,7 +344,7 @@ module _ (new : List StructType)
         members_small (Ptr t) = tt
         members_small (Array t n) = tt
         members_small (Named x) = tt
-        members_small (StructTag x) = tt
+        members_small (StructTag x tag) = tt
         members_small (EnumTag x at) = tt
 
         member_small : (at : Place) (t : PlainType) (m : ℕ) → Gives (Small new) (member s at t m)

@@ -1,5 +1,5 @@
 -- The types in the expressions of a typed file have few enough bytes.
-use Rattle.std.proofs.Common.{◌≡◌, ℕ, zero, suc, ◌+◌, ◌*◌, ◌≤◌, ℤ, pos, ◌+ℤ◌, refl, ap, subst, List, [], ◌∷◌, ◌++◌, map, length, Option, Some, None, Bool, true, false}
+use Rattle.std.proofs.Common.{cond, ◌≡◌, ℕ, zero, suc, ◌+◌, ◌*◌, ◌≤◌, ℤ, pos, ◌+ℤ◌, refl, ap, subst, List, [], ◌∷◌, ◌++◌, map, length, Option, Some, None, Bool, true, false}
 use Rattle.std.proofs.Common.{not, ◌&&◌, if◌then◌else◌, nat_le, nat_lt, slice_get, arith}
 use Rattle.std.proofs.lemmas.Bool.Decides.{nat_tests}
 use Rattle.c_syntax.specs.RefusalCodes.{globals_code}
@@ -135,10 +135,20 @@ one_more_type : (ss : List StructType) (ts : List TypeName) (t : TypeName) → A
 one_more_type ss [] t h k = (k, tt)
 one_more_type ss (x ∷ ts) t h k = (h.0, one_more_type ss ts t h.1 k)
 
+one_named_type : (ss : List StructType) (ts : List TypeName) (t : TypeName) (named : Bool) → AreFirm ss ts → Firm ss t.ctype → AreFirm ss (cond named (ts ++ t ∷ []) ts)
+one_named_type ss ts t true h k = one_more_type ss ts t h k
+one_named_type ss ts t false h k = h
+
 typedef_firm : (s : Sight) → AreFirm s.structs s.types → (d : Declaration) → Gives (λ (e : Declaration). Firm s.structs e.ctype) (typed_typedef s d)
-typedef_firm s f d = gives_both (λ u. Unit {0}) (Firm s.structs) (λ (e : Declaration). Firm s.structs e.ctype) (own_name s (is_declared_in_file s d.name) d.place d.name)
-    (limited s d.place (typed_type s d.place d.ctype) (typed_type s d.place d.ctype)) (λ n t. Good (record d { ctype = t })) (anything _)
-    (gives_limited (Firm s.structs) s d.place (typed_type s d.place d.ctype) (typed_type s d.place d.ctype) (typed_firm s f d.place d.ctype)) (λ n t u h. h)
+typedef_firm s f d = by d.named
+  where
+    by : (b : Bool) → Gives (λ (e : Declaration). Firm s.structs e.ctype) (cond b (both_parts (own_name s (is_declared_in_file s d.name) d.place d.name)
+        (limited s d.place (typed_type s d.place d.ctype) (typed_type s d.place d.ctype)) (λ n t. Good (record d { ctype = t })))
+        (one_part (typed_type s d.place d.ctype) (λ t. Good (record d { ctype = t }))))
+    by true = gives_both (λ u. Unit {0}) (Firm s.structs) (λ (e : Declaration). Firm s.structs e.ctype) (own_name s (is_declared_in_file s d.name) d.place d.name)
+        (limited s d.place (typed_type s d.place d.ctype) (typed_type s d.place d.ctype)) (λ n t. Good (record d { ctype = t })) (anything _)
+        (gives_limited (Firm s.structs) s d.place (typed_type s d.place d.ctype) (typed_type s d.place d.ctype) (typed_firm s f d.place d.ctype)) (λ n t u h. h)
+    by false = gives_one (Firm s.structs) (λ (e : Declaration). Firm s.structs e.ctype) (typed_type s d.place d.ctype) (λ t. Good (record d { ctype = t })) (typed_firm s f d.place d.ctype) (λ t h. h)
 
 -- ---- items
 
@@ -169,7 +179,7 @@ module _ (p : TranslationUnit) (r : Progress) (h : IsSmallAt r)
         entities = h.sight.entities;
         functions = h.sight.functions;
         texts = h.sight.texts;
-        types = one_more_type r.sight.structs r.sight.types (record { name = x.name; ctype = x.ctype }) h.sight.types w;
+        types = one_named_type r.sight.structs r.sight.types (record { name = x.name; ctype = x.ctype }) x.named h.sight.types w;
         members = h.sight.members;
       };
       far = record { globals = h.far.globals; funcs = h.far.funcs };

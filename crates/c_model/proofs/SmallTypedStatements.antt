@@ -13,12 +13,12 @@ use Rattle.c_syntax.specs.Ctypes.{PlainType, Void, Int, Ptr, Array, Struct, Name
 use Rattle.c_syntax.specs.Expressions.{Expression, place_of, type_of}
 use Rattle.c_syntax.specs.Statements.{Switch, Cases, NoCase, AnotherCase}
 use Rattle.c_syntax.specs.Statements.{Initialiser, One, Many, Initialisers, NoInitialiser, Listed, Declaration, Statement, Empty, Eval, Block, If, While, Do}
-use Rattle.c_syntax.specs.Statements.{For, Break, Continue, Return, Labelled, ElsePart, NoElse, Else, ForFirst, NoFirst, First, BlockItem, Declare, Run, Asserts, BlockItems, NoItem, Then}
+use Rattle.c_syntax.specs.Statements.{For, Break, Continue, Return, Labelled, ElsePart, NoElse, Else, ForFirst, NoFirst, First, BlockItem, Declare, Specify, Run, Asserts, BlockItems, NoItem, Then}
 use Rattle.c_syntax.specs.Programs.{StructMember, StructType, Function, TranslationUnit}
 use Rattle.c_model.specs.Meaning.{string_in, is_definition}
 use Rattle.c_model.specs.Library.{is_there}
 use Rattle.c_model.specs.Checked.{Checked, Good, faulty, one_part, both_parts, where_so}
-use Rattle.c_model.specs.ExpressionTyping.{no_name, no_type, Sight, Entity, AnObject, AnEnumerator, Object, Signature, with_object, with_objects, inner, is_void, is_scalar, decayed, in_type, is_assigned, decayed_of, typed}
+use Rattle.c_model.specs.ExpressionTyping.{no_name, no_type, Sight, Entity, AnObject, AnEnumerator, Object, Signature, with_object, with_objects, inner, is_void, is_scalar, decayed, in_type, is_assigned, decayed_of, typed, typed_type}
 use Rattle.c_model.specs.ExpressionTyping.{declared_here}
 use Rattle.c_model.specs.DeclarationTyping.{Slots, Each, Members, next_slot, slots_of, member_types, takes_text, is_text_array, no_more, initial_value, typed_alone, typed_initialiser, typed_text}
 use Rattle.c_model.specs.DeclarationTyping.{place_of_initialiser, typed_maybe_initialiser, is_anything, is_static, own_name, typed_object_type, typed_variable, typed_global, is_declared_in_file, typed_result, typed_parameter}
@@ -103,7 +103,7 @@ module _ (new : List StructType) (all : AreSmallStructs new)
         slots_small (Int l) k = k
         slots_small (Ptr t) k = k
         slots_small (Named x) k = k
-        slots_small (StructTag x) k = k
+        slots_small (StructTag x tag) k = k
         slots_small (EnumTag x at) k = k
 
         -- an object with a small type, and those behind it
@@ -159,24 +159,24 @@ module _ (new : List StructType) (all : AreSmallStructs new)
       pub init : EachInDeclaration E d
       pub sight : IsSmallSight new (with_object s d)
 
-    declared_small : (s : Sight) → IsSmallSight new s → Grows s.structs new → (d : Declaration) (declared : Bool) (allowed : PlainType × PlainType → Expression → Expression → Bool) → Gives (IsSmallThen s)
+    declared_small : (s : Sight) → IsSmallSight new s → Grows s.structs new → (d : Declaration) (declared : Bool) (allowed : PlainType → Expression → Expression → Bool) → Gives (IsSmallThen s)
         (one_part (both_parts (own_name s declared d.place d.name) (typed_object_type s d) (λ n t. Good t)) (λ t.
-        one_part (typed_maybe_initialiser (with_object s (record d { ctype = t.0 })) (allowed t) t.1 d.init) (λ i. Good (record d { ctype = t.1; init = i }))))
+        one_part (typed_maybe_initialiser (with_object s (record d { ctype = t })) (allowed t) t d.init) (λ i. Good (record d { ctype = t; init = i }))))
     declared_small s i g d declared allowed =
-        gives_one (λ (t : PlainType × PlainType). Small new t.0 × Small new t.1) (IsSmallThen s) (both_parts (own_name s declared d.place d.name) (typed_object_type s d) (λ n t. Good t)) _
-        (gives_both (λ u. Unit {0}) (λ (t : PlainType × PlainType). Small new t.0 × Small new t.1) (λ (t : PlainType × PlainType). Small new t.0 × Small new t.1)
+        gives_one (Small new) (IsSmallThen s) (both_parts (own_name s declared d.place d.name) (typed_object_type s d) (λ n t. Good t)) _
+        (gives_both (λ u. Unit {0}) (Small new) (Small new)
         (own_name s declared d.place d.name) (typed_object_type s d) (λ n t. Good t) (anything _) (object_small new all s g i.types d) (λ n t u k. k))
         (λ t k.
-        let before = sees_object s i (record d { ctype = t.0 }) k.0 in
-        gives_one (InitialSmall (with_object s (record d { ctype = t.0 })) before g (allowed t)) (IsSmallThen s) (typed_maybe_initialiser (with_object s (record d { ctype = t.0 })) (allowed t) t.1 d.init) _
-        (maybe_initial (with_object s (record d { ctype = t.0 })) before g (allowed t) t.1 d.init k.1) (λ j h.
-        record { init = h; sight = sees_object s i (record d { ctype = t.1; init = j }) k.1 }))
+        let before = sees_object s i (record d { ctype = t }) k in
+        gives_one (InitialSmall (with_object s (record d { ctype = t })) before g (allowed t)) (IsSmallThen s) (typed_maybe_initialiser (with_object s (record d { ctype = t })) (allowed t) t d.init) _
+        (maybe_initial (with_object s (record d { ctype = t })) before g (allowed t) t d.init k) (λ j h.
+        record { init = h; sight = sees_object s i (record d { ctype = t; init = j }) k }))
 
     variable_small : (s : Sight) → IsSmallSight new s → Grows s.structs new → (d : Declaration) → Gives (IsSmallThen s) (typed_variable s d)
     variable_small s i g d = declared_small s i g d (is_there (declared_here s d.name)) (λ t. is_anything)
 
     pub global_small : (s : Sight) → IsSmallSight new s → Grows s.structs new → (d : Declaration) → Gives (IsSmallThen s) (typed_global s d)
-    global_small s i g d = declared_small s i g d (is_declared_in_file s d.name) (λ t. is_static (with_object s (record d { ctype = t.1 })))
+    global_small s i g d = declared_small s i g d (is_declared_in_file s d.name) (λ t. is_static (with_object s (record d { ctype = t })))
 
     record AreSmallThen (s : Sight) (ds : List Declaration) : Type 0 where
       each : EachDeclared E ds
@@ -283,6 +283,7 @@ module _ (new : List StructType) (all : AreSmallStructs new)
       item_small : (s : Sight) → IsSmallSight new s → Grows s.structs new → (r : Around) → Small new r.result → (j : BlockItem) → Gives (IsItemThen s) (typed_item s r j)
       item_small s i g r k (Declare ds) = gives_one (AreSmallThen s) (IsItemThen s) (typed_declarations s ds) (λ ds. Good (Declare ds)) (declarations_small s i g ds) (λ x f.
           record { each = f.each; sight = f.sight; structs = f.structs })
+      item_small s i g r k (Specify at t) = gives_one (λ u. Unit {0}) (IsItemThen s) (typed_type s at t) (λ u. Good (Specify at u)) (anything (typed_type s at t)) (λ u v. record { each = tt; sight = i; structs = refl })
       item_small s i g r k (Run a) = gives_one A (IsItemThen s) (typed_statement s r a) (λ a. Good (Run a)) (statement_small s i g r k a) (λ x f. record { each = f; sight = i; structs = refl })
       item_small s i g r k (Asserts annots) = record { each = tt; sight = i; structs = refl }
 

@@ -9,7 +9,7 @@ use Rattle.c_syntax.specs.Ctypes.{PlainType, Int, Ptr, Array, Struct, Count}
 use Rattle.c_syntax.specs.Expressions.{Expression}
 use Rattle.c_syntax.specs.Statements.{Initialiser, One, Many, Initialisers, NoInitialiser, Listed, Declaration, Statement, Empty, Eval, Block, If, While, Do}
 use Rattle.c_syntax.specs.Statements.{For, Break, Continue, Return, Labelled, Switch, Cases, NoCase, AnotherCase}
-use Rattle.c_syntax.specs.Statements.{ElsePart, NoElse, Else, ForFirst, NoFirst, First, BlockItem, Declare, Run, Asserts, BlockItems, NoItem, Then}
+use Rattle.c_syntax.specs.Statements.{ElsePart, NoElse, Else, ForFirst, NoFirst, First, BlockItem, Declare, Specify, Run, Asserts, BlockItems, NoItem, Then}
 use Rattle.c_syntax.specs.Programs.{StructMember, StructType, Function}
 use Rattle.c_syntax.specs.Layouts.{size_of, elements, member_parts, members_of_struct}
 use Rattle.c_model.specs.Meaning.{parts_or_itself}
@@ -118,9 +118,7 @@ module _ (new : List StructType) (levels tags enums : List ℕ)
       own_name = h.own_name;
       new = h.new;
       size = known_size_kept s new levels tags enums w.grows d.ctype h.size;
-      first = h.first;
-      completed = h.completed;
-      init = maybe_kept (with_object s (record d { ctype = h.first })) w d.ctype h.size.known d.init h.init;
+      init = maybe_kept (with_object s d) w d.ctype h.size.known d.init h.init;
     }
 
     all_declared_kept : (s : Sight) → Widens s.structs new → (ds : List Declaration) → AreDeclared s ds → AreDeclared (at_last s) ds
@@ -137,11 +135,13 @@ module _ (new : List StructType) (levels tags enums : List ℕ)
 
     pub behind_last : (s : Sight) (i : BlockItem) → behind (at_last s) i ≡ at_last (behind s i)
     behind_last s (Declare ds) = objects_last s ds
+    behind_last s (Specify at t) = refl
     behind_last s (Run a) = refl
     behind_last s (Asserts annots) = refl
 
     behind_structs : (s : Sight) (i : BlockItem) → (behind s i).structs ≡ s.structs
     behind_structs s (Declare ds) = objects_structs s ds
+    behind_structs s (Specify at t) = refl
     behind_structs s (Run a) = refl
     behind_structs s (Asserts annots) = refl
 
@@ -205,6 +205,7 @@ module _ (new : List StructType) (levels tags enums : List ℕ)
 
       item_kept : (s : Sight) → Widens s.structs new → (r : Around) (i : BlockItem) → ItemTyped s r i → ItemTyped (at_last s) r i
       item_kept s w r (Declare ds) h = all_declared_kept s w ds h
+      item_kept s w r (Specify at t) h = tt
       item_kept s w r (Run a) h = statement_kept s w r a h
       item_kept s w r (Asserts annots) h = tt
 

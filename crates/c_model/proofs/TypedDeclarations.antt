@@ -1,17 +1,17 @@
 -- What typing makes of a declared object is declared, and what is in sight after it is as it is to be.
-use Rattle.std.proofs.Common.{◌≡◌, ℕ, refl, sym, ap, ◌∙◌, subst, List, [], ◌∷◌, ◌++◌, Option, Some, None, Bool, true, false, not, ◌&&◌, ◌||◌, cond}
+use Rattle.std.proofs.Common.{◌≡◌, ℕ, refl, ap, ◌∙◌, subst, List, [], ◌∷◌, ◌++◌, Option, Some, None, Bool, true, false, not, ◌&&◌, ◌||◌, cond}
 use Rattle.c_syntax.specs.declared.place.Place.{Place}
 use Rattle.c_syntax.specs.declared.types.CInt.TheVariants.{I32}
-use Rattle.c_syntax.specs.Ctypes.{PlainType, Array, Left, Written, Count}
+use Rattle.c_syntax.specs.Ctypes.{PlainType}
 use Rattle.c_syntax.specs.Expressions.{Expression}
 use Rattle.c_syntax.specs.Statements.{Initialiser, Declaration}
 use Rattle.c_model.specs.Integers.{fits}
 use Rattle.c_model.specs.Library.{is_library_name, is_there}
 use Rattle.c_model.specs.Checked.{Checked, Good, Bad, one_part, both_parts}
-use Rattle.c_model.specs.ExpressionTyping.{Sight, Entity, AnObject, AnEnumerator, name_at, or_else, has_name, entity_named, function_called, type_named, with_object, declared_here, HasSize, sized}
+use Rattle.c_model.specs.ExpressionTyping.{Sight, Entity, AnObject, AnEnumerator, name_at, or_else, has_name, entity_named, function_called, type_named, with_object, declared_here}
 use Rattle.c_model.specs.ExpressionTyping.{is_within_limits, too_large}
-use Rattle.c_model.specs.DeclarationTyping.{is_declared_in_file, own_name, typed_outer, completed, object_type, typed_object_type, typed_maybe_initialiser, is_static, is_anything, typed_variable, typed_global}
-use Rattle.c_model.specs.TypedTrees.{HasKnownSize, Initialises, WhereAny, CompletedTo, IsDeclared, IsSight}
+use Rattle.c_model.specs.DeclarationTyping.{is_declared_in_file, own_name, typed_outer, completed, typed_object_type, typed_maybe_initialiser, is_static, is_anything, typed_variable, typed_global}
+use Rattle.c_model.specs.TypedTrees.{HasKnownSize, Initialises, WhereAny, IsDeclared, IsSight}
 use Rattle.c_model.specs.PlacedTrees.{IsOffset}
 use Rattle.c_model.specs.TextTypingLaws.{IsWholeSight}
 use Rattle.c_model.proofs.TypedParts.{Gives, gives_of, gives_one, gives_both, gives_where, gives_sized, and_true}
@@ -90,26 +90,10 @@ own_name_is s declared at x =
     gives_where (λ u. (is_library_name (name_at s.names x) ≡ false) × (declared ≡ false)) (not (is_library_name (name_at s.names x)) && not declared) _ _ (λ t.
     let p = and_true (not (is_library_name (name_at s.names x))) (not declared) t in (not_true _ p.0, not_true _ p.1))
 
-completed_is : (s : Sight) (t : PlainType) (i : Option (Place × Initialiser)) → sized s.structs (completed s t i) ≡ HasSize → CompletedTo t (completed s t i)
-completed_is s (Array t Left) (Some i) k = (_, refl)
-completed_is s (Array t Left) None k = absurd cc
-completed_is s (Array t (Written e)) i k = refl
-completed_is s (Array t (Count n)) i k = refl
-completed_is s _ i k = refl
-
--- the type of an object in its own initialiser, and behind it
-record IsObjectType (s : Sight) (t : PlainType × PlainType) : Type 0 where
-  size : HasKnownSize s t.1
-  completed : CompletedTo t.0 t.1
-
-object_type_is : (s : Sight) (d : Declaration) → Gives (IsObjectType s) (typed_object_type s d)
-object_type_is s d = gives_one (λ t. Unit {0}) (IsObjectType s) (typed_outer (is_there d.init) s d.place d.ctype) _ (anything (typed_outer (is_there d.init) s d.place d.ctype)) (λ t v.
-    gives_besides (IsObjectType s) (is_within_limits s (completed s t d.init)) (too_large d.place) _ (λ w.
-    gives_one (λ u. (u ≡ completed s t d.init) × (sized s.structs u ≡ HasSize)) (IsObjectType s) (object_type s d.place (completed s t d.init)) (λ u. Good (t, u))
-    (gives_sized (λ u. (u ≡ completed s t d.init) × (sized s.structs u ≡ HasSize)) s d.place (completed s t d.init) (Good (completed s t d.init)) (λ k. (refl, k)))
-    (λ u q. subst (λ u. IsObjectType s (t, u)) (sym q.0) (
-    let k : sized s.structs (completed s t d.init) ≡ HasSize = subst (λ u. sized s.structs u ≡ HasSize) q.0 q.1 in
-    record { size = known_size s (completed s t d.init) k w; completed = completed_is s t d.init k }))))
+object_type_is : (s : Sight) (d : Declaration) → Gives (HasKnownSize s) (typed_object_type s d)
+object_type_is s d = gives_one (λ t. Unit {0}) (HasKnownSize s) (typed_outer (is_there d.init) s d.place d.ctype) _ (anything (typed_outer (is_there d.init) s d.place d.ctype)) (λ t v.
+    gives_besides (HasKnownSize s) (is_within_limits s (completed s t d.init)) (too_large d.place) _ (λ w.
+    gives_sized (HasKnownSize s) s d.place (completed s t d.init) (Good (completed s t d.init)) (λ k. known_size s (completed s t d.init) k w)))
 
 -- what is declared, and what is in sight behind it
 pub record IsDeclaredThen (s : Sight) (d : Declaration) : Type 0 where
@@ -119,22 +103,22 @@ pub record IsDeclaredThen (s : Sight) (d : Declaration) : Type 0 where
 module _ (s : Sight) (i : IsWholeSight s) (d : Declaration) (o : IsOffset d.place.offset)
   where
     -- an object that isn't declared in this sense, with an initialiser of such a form
-    declared_as : (declared : Bool) → (declared ≡ false → declared_here s d.name ≡ None) → (is_allowed : PlainType × PlainType → Expression → Expression → Bool) → Gives (IsDeclaredThen s)
+    declared_as : (declared : Bool) → (declared ≡ false → declared_here s d.name ≡ None) → (is_allowed : PlainType → Expression → Expression → Bool) → Gives (IsDeclaredThen s)
         (one_part (both_parts (own_name s declared d.place d.name) (typed_object_type s d) (λ n t. Good t)) (λ t.
-        one_part (typed_maybe_initialiser (with_object s (record d { ctype = t.0 })) (is_allowed t) t.1 d.init) (λ i. Good (record d { ctype = t.1; init = i }))))
+        one_part (typed_maybe_initialiser (with_object s (record d { ctype = t })) (is_allowed t) t d.init) (λ i. Good (record d { ctype = t; init = i }))))
     declared_as declared new is_allowed =
-        gives_one (λ t. ((is_library_name (name_at s.names d.name) ≡ false) × (declared ≡ false)) × IsObjectType s t) (IsDeclaredThen s)
+        gives_one (λ t. ((is_library_name (name_at s.names d.name) ≡ false) × (declared ≡ false)) × HasKnownSize s t) (IsDeclaredThen s)
         (both_parts (own_name s declared d.place d.name) (typed_object_type s d) (λ n t. Good t)) _
-        (gives_both (λ u. (is_library_name (name_at s.names d.name) ≡ false) × (declared ≡ false)) (IsObjectType s)
-        (λ t. ((is_library_name (name_at s.names d.name) ≡ false) × (declared ≡ false)) × IsObjectType s t)
+        (gives_both (λ u. (is_library_name (name_at s.names d.name) ≡ false) × (declared ≡ false)) (HasKnownSize s)
+        (λ t. ((is_library_name (name_at s.names d.name) ≡ false) × (declared ≡ false)) × HasKnownSize s t)
         (own_name s declared d.place d.name) (typed_object_type s d) (λ n t. Good t) (own_name_is s declared d.place d.name) (object_type_is s d) (λ n t v w. (v, w)))
         (λ t v.
-        gives_one (WhereAny (λ (x : Place × Initialiser). Initialises (with_object s (record d { ctype = t.0 })) t.1 x.1)) (IsDeclaredThen s)
-        (typed_maybe_initialiser (with_object s (record d { ctype = t.0 })) (is_allowed t) t.1 d.init) _
-        (maybe_initialises (with_object s (record d { ctype = t.0 })) (after_object s i (record d { ctype = t.0 }) o) (is_allowed t) t.1 (sized_is_whole s.structs t.1 v.1.size.known) d.init)
+        gives_one (WhereAny (λ (x : Place × Initialiser). Initialises (with_object s (record d { ctype = t })) t x.1)) (IsDeclaredThen s)
+        (typed_maybe_initialiser (with_object s (record d { ctype = t })) (is_allowed t) t d.init) _
+        (maybe_initialises (with_object s (record d { ctype = t })) (after_object s i (record d { ctype = t }) o) (is_allowed t) t (sized_is_whole s.structs t v.1.known) d.init)
         (λ j w. record {
-          declared = record { own_name = v.0.0; new = new v.0.1; size = v.1.size; first = t.0; completed = v.1.completed; init = w };
-          sight = after_object s i (record d { ctype = t.1; init = j }) o;
+          declared = record { own_name = v.0.0; new = new v.0.1; size = v.1; init = w };
+          sight = after_object s i (record d { ctype = t; init = j }) o;
         }))
 
     pub variable_declared : Gives (IsDeclaredThen s) (typed_variable s d)
@@ -144,7 +128,7 @@ module _ (s : Sight) (i : IsWholeSight s) (d : Declaration) (o : IsOffset d.plac
     global_declared = declared_as (is_declared_in_file s d.name)
         (λ e. let p = or_false (is_there (declared_here s d.name) || is_there (function_called d.name s.functions)) (is_there (type_named d.name s.types)) e in
         let q = or_false (is_there (declared_here s d.name)) (is_there (function_called d.name s.functions)) p.0 in none_there (declared_here s d.name) q.0)
-        (λ t. is_static (with_object s (record d { ctype = t.1 })))
+        (λ t. is_static (with_object s (record d { ctype = t })))
 
 -- the law of block declarations
 pub variable_is_declared : (s : Sight) (d e : Declaration) → IsWholeSight s → IsOffset d.place.offset → typed_variable s d ≡ Good e → IsDeclared s e

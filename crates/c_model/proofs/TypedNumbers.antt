@@ -5,7 +5,7 @@ use Rattle.std.proofs.Common.{◌≡◌, ℕ, suc, ◌≤◌, refl, sym, ap, ◌
 use Rattle.c_syntax.specs.declared.place.Place.{Place}
 use Rattle.c_syntax.specs.Statements.{Declaration, Statement, Empty, Eval, Block, If, While, Do, For, Break, Continue, Return, Labelled, ElsePart, NoElse}
 use Rattle.c_syntax.specs.Statements.{Else, Switch, Cases, NoCase, AnotherCase}
-use Rattle.c_syntax.specs.Statements.{ForFirst, NoFirst, First, BlockItem, Declare, Run, Asserts, BlockItems, NoItem, Then}
+use Rattle.c_syntax.specs.Statements.{ForFirst, NoFirst, First, BlockItem, Declare, Specify, Run, Asserts, BlockItems, NoItem, Then}
 use Rattle.c_syntax.specs.Programs.{StructMember, StructType, EnumConstant, EnumType, Function, TranslationUnit}
 use Rattle.c_model.specs.Checked.{Good}
 use Rattle.c_model.specs.UnitTyping.{FileItem, StructHead, Member, AnEnum, ATypedef, AGlobal, AFunction, offset_of_item, member_items, struct_items, inserted, in_order, items_of_file}
@@ -80,6 +80,7 @@ mutual
 
   item_kept : (a b : BlockItem) → ItemTypedAs a b → AreKept (declared_in_item a) (declared_in_item b)
   item_kept (Declare ds) b h = subst (λ b. AreKept ds (declared_in_item b)) (sym h.1) (declarations_kept ds h.0 h.2)
+  item_kept (Specify at t) b h = subst (λ b. AreKept [] (declared_in_item b)) (sym h.1) tt
   item_kept (Run a) b h = subst (λ b. AreKept (declared_within a) (declared_in_item b)) (sym h.1) (within_kept a h.0 h.2)
   item_kept (Asserts annots) b h = subst (λ b. AreKept [] (declared_in_item b)) (sym h) tt
 

@@ -46,7 +46,7 @@ decayed_sound s (Node at (Ptr t) k) h = record { sound = h; flat = refl }
 decayed_sound s (Node at (Array t n) k) h = record { sound = record { well = (h.well, refl, OfArray t n refl refl (h.object refl)); object = λ b. absurd cc }; flat = refl }
 decayed_sound s (Node at (Struct n) k) h = record { sound = h; flat = refl }
 decayed_sound s (Node at (Named x) k) h = record { sound = h; flat = refl }
-decayed_sound s (Node at (StructTag x) k) h = record { sound = h; flat = refl }
+decayed_sound s (Node at (StructTag x tag) k) h = record { sound = h; flat = refl }
 decayed_sound s (Node at (EnumTag x tag) k) h = record { sound = h; flat = refl }
 
 -- ---- casts

@@ -42,7 +42,7 @@ decayed_as r (Node at (Ptr t) k) h = h
 decayed_as r (Node at (Array t n) k) h = cast_as r (Node at (Array t n) k) (Ptr t) h
 decayed_as r (Node at (Struct n) k) h = h
 decayed_as r (Node at (Named x) k) h = h
-decayed_as r (Node at (StructTag x) k) h = h
+decayed_as r (Node at (StructTag x tag) k) h = h
 decayed_as r (Node at (EnumTag x tag) k) h = h
 
 -- a form at its place, in no cast

@@ -84,7 +84,7 @@ decayed_light n (Node at (Int j) k) h = record { few = h.few; light = let l = h.
 decayed_light n (Node at (Ptr t) k) h = record { few = h.few; light = let l = h.light in omega (arith, l); plain = λ i is. h.light }
 decayed_light n (Node at (Struct m) k) h = record { few = h.few; light = let l = h.light in omega (arith, l); plain = λ i is. h.light }
 decayed_light n (Node at (Named x) k) h = record { few = h.few; light = let l = h.light in omega (arith, l); plain = λ i is. h.light }
-decayed_light n (Node at (StructTag x) k) h = record { few = h.few; light = let l = h.light in omega (arith, l); plain = λ i is. h.light }
+decayed_light n (Node at (StructTag x tag) k) h = record { few = h.few; light = let l = h.light in omega (arith, l); plain = λ i is. h.light }
 decayed_light n (Node at (EnumTag x tag) k) h = record { few = h.few; light = let l = h.light in omega (arith, l); plain = λ i is. h.light }
 
 value_of : (n : ℕ) (c : Checked Expression) → Gives (IsLight n) c → Gives (IsLightValue n) (decayed_of c)

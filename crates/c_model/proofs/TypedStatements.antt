@@ -18,12 +18,12 @@ use Rattle.c_syntax.specs.Ctypes.{PlainType, Void, Int, Ptr}
 use Rattle.c_syntax.specs.Expressions.{Expression, type_of}
 use Rattle.c_syntax.specs.Statements.{Declaration, Statement, Empty, Eval, Block, If, While, Do, For, Break, Continue, Return, Labelled, Switch, Cases}
 use Rattle.c_syntax.specs.Statements.{NoCase, AnotherCase}
-use Rattle.c_syntax.specs.Statements.{ElsePart, NoElse, Else, ForFirst, NoFirst, First, BlockItem, Declare, Run, Asserts, BlockItems, NoItem, Then}
+use Rattle.c_syntax.specs.Statements.{ElsePart, NoElse, Else, ForFirst, NoFirst, First, BlockItem, Declare, Specify, Run, Asserts, BlockItems, NoItem, Then}
 use Rattle.c_model.specs.Integers.{integer_type}
 use Rattle.c_model.specs.Meaning.{is_pointer}
 use Rattle.c_model.specs.Library.{is_there}
 use Rattle.c_model.specs.Checked.{Checked, Good, Bad, one_part}
-use Rattle.c_model.specs.ExpressionTyping.{Sight, with_object, with_objects, inner, is_void, is_scalar, is_null, are_compatible, are_integers, is_assigned, decayed, decayed_of, typed}
+use Rattle.c_model.specs.ExpressionTyping.{Sight, with_object, with_objects, inner, is_void, is_scalar, is_null, are_compatible, are_integers, is_assigned, decayed, decayed_of, typed, typed_type}
 use Rattle.c_model.specs.StatementTyping.{Around, in_loop, behind, behind_first, condition, typed_condition, typed_maybe, returned, typed_declarations, typed_statement, typed_else, typed_first}
 use Rattle.c_model.specs.StatementTyping.{typed_item, typed_items}
 use Rattle.c_model.specs.DeclarationTyping.{typed_variable}
@@ -192,6 +192,7 @@ mutual
   item_typed : (s : Sight) → IsWholeSight s → (r : Around) (b : BlockItem) → ItemPlaced b → Gives (IsItemThen s r) (typed_item s r b)
   item_typed s i r (Declare ds) o =
       gives_one (AreDeclaredThen s) (IsItemThen s r) (typed_declarations s ds) (λ ds. Good (Declare ds)) (declarations_typed s i ds o) (λ ds w. record { typed = w.declared; sight = w.sight })
+  item_typed s i r (Specify at t) o = gives_one (λ u. Unit {0}) (IsItemThen s r) (typed_type s at t) (λ u. Good (Specify at u)) (anything (typed_type s at t)) (λ u v. record { typed = tt; sight = i })
   item_typed s i r (Run a) o = gives_one (StatementTyped s r) (IsItemThen s r) (typed_statement s r a) (λ a. Good (Run a)) (statement_typed s i r a o) (λ a w. record { typed = w; sight = i })
   item_typed s i r (Asserts annots) o = record { typed = tt; sight = i }
 

@@ -14,7 +14,7 @@ use Rattle.c_model.specs.Meaning.{case_of, is_case_of, default_of, chosen_case, 
 use Rattle.c_model.specs.Memory.{Integer, Points, NoValue, Value}
 use Rattle.std.proofs.Common.{◌≡◌, ℕ, ◌+◌, max, ◌++◌, Some, None, refl, ap, ◌∙◌}
 use Rattle.c_syntax.specs.Expressions.{Expression}
-use Rattle.c_syntax.specs.Statements.{Statement, Empty, Eval, Block, If, While, Do, For, Break, Continue, Return, ElsePart, NoElse, Else, BlockItem, Declare}
+use Rattle.c_syntax.specs.Statements.{Statement, Empty, Eval, Block, If, While, Do, For, Break, Continue, Return, ElsePart, NoElse, Else, BlockItem, Declare, Specify}
 use Rattle.c_syntax.specs.Statements.{Run, Asserts, BlockItems, NoItem, Then, Labelled, Switch, Cases, NoCase, AnotherCase}
 use Rattle.c_model.specs.State.{◌>>=◌, ◌>>◌, done, births, within, mark}
 use Rattle.c_model.specs.Predicates.{variant}
@@ -34,6 +34,7 @@ use Rattle.c_model.proofs.UnrangedTerms.{Alike, itself, beside, annotations_type
 
 pub same_behind : (s : Sight) (i : BlockItem) → behind s (unranged_item i) ≡ behind s i
 same_behind s (Declare ds) = refl
+same_behind s (Specify at t) = refl
 same_behind s (Run a) = refl
 same_behind s (Asserts annots) = refl
 
@@ -64,6 +65,7 @@ mutual
 
   item_typed : (s : Sight) (r : Around) (x : BlockItem) → ItemTyped s r (unranged_item x) ≡ ItemTyped s r x
   item_typed s r (Declare ds) = refl
+  item_typed s r (Specify at t) = refl
   item_typed s r (Run a) = statement_typed s r a
   item_typed s r (Asserts annots) = refl
 
@@ -96,6 +98,7 @@ mutual
 
   item_noted : (s : Sight) (x : BlockItem) → ItemNoted s (unranged_item x) ≡ ItemNoted s x
   item_noted s (Declare ds) = refl
+  item_noted s (Specify at t) = refl
   item_noted s (Run a) = statement_noted s a
   item_noted s (Asserts annots) = annotations_typed s annots
 
@@ -131,6 +134,7 @@ module _ (P : Expression → Type 0) where
 
     each_in_item : (x : BlockItem) → EachInItem P (unranged_item x) ≡ EachInItem P x
     each_in_item (Declare ds) = refl
+    each_in_item (Specify at t) = refl
     each_in_item (Run a) = each_in a
     each_in_item (Asserts annots) = refl
 
@@ -163,6 +167,7 @@ mutual
 
   item_depth : (x : BlockItem) → depth_of_item (unranged_item x) ≡ depth_of_item x
   item_depth (Declare ds) = refl
+  item_depth (Specify at t) = refl
   item_depth (Run a) = same_depth a
   item_depth (Asserts annots) = refl
 
@@ -195,6 +200,7 @@ mutual
 
   item_declared : (x : BlockItem) → declared_in_item (unranged_item x) ≡ declared_in_item x
   item_declared (Declare ds) = refl
+  item_declared (Specify at t) = refl
   item_declared (Run a) = same_declared a
   item_declared (Asserts annots) = refl
 
@@ -234,6 +240,7 @@ mutual
 
   item_placed : (x : BlockItem) → Alike (ItemPlaced AreAsserts (unranged_item x)) (ItemPlaced AreAsserts x)
   item_placed (Declare ds) = itself
+  item_placed (Specify at t) = itself
   item_placed (Run a) = statement_placed a
   item_placed (Asserts annots) = are_asserts annots
 
@@ -246,6 +253,7 @@ mutual
 same_births : (xs : BlockItems) → declared_in (unranged_items xs) ≡ declared_in xs
 same_births NoItem = refl
 same_births (Then (Declare ds) rest) = λ i. ds ++ same_births rest i
+same_births (Then (Specify at t) rest) = same_births rest
 same_births (Then (Run a) rest) = same_births rest
 same_births (Then (Asserts annots) rest) = same_births rest
 
@@ -295,6 +303,7 @@ module _ (T : Tables) (call : Callee) (n : ℕ) where
 
     item_exec : (x : BlockItem) → item_with T (unranged_item x) call n ≡ item_with T x call n
     item_exec (Declare ds) = refl
+    item_exec (Specify at t) = refl
     item_exec (Run a) = same_exec a
     item_exec (Asserts annots) = same_checks annots
 

@@ -74,18 +74,22 @@ noted_unit-sizes_of_a_later_enum = refl
 
 -- ---- structs
 
-noted_unit-sizes_of_a_struct : noted_unit (sizes (StructTag 0)) ≡ Good (with_term (literal_term (place 4 14 79) 4))
+noted_unit-sizes_of_a_struct : noted_unit (sizes (StructTag 0 (place 4 28 93))) ≡ Good (with_term (literal_term (place 4 14 79) 4))
 noted_unit-sizes_of_a_struct = refl
 
-noted_unit-sizes_of_a_pointer_to_a_later_struct : noted_unit (sizes (Ptr (StructTag 5))) ≡ Good (with_term (literal_term (place 4 14 79) 8))
+noted_unit-sizes_of_a_pointer_to_a_later_struct : noted_unit (sizes (Ptr (StructTag 5 (place 4 28 93)))) ≡ Good (with_term (literal_term (place 4 14 79) 8))
 noted_unit-sizes_of_a_pointer_to_a_later_struct = refl
 
+-- an enum's tag
+noted_unit-sizes_of_an_enum_as_a_struct : refusing (noted_unit (sizes (StructTag 2 (place 4 28 93)))) ≡ Some (record { code = 5; place = place 4 28 93 })
+noted_unit-sizes_of_an_enum_as_a_struct = refl
+
 -- one that is defined behind the assert, an array of it behind a pointer, and its size as a length
-noted_unit-sizes_of_a_later_struct : refusing (noted_unit (sizes (StructTag 5))) ≡ Some (record { code = 5; place = place 4 14 79 })
+noted_unit-sizes_of_a_later_struct : refusing (noted_unit (sizes (StructTag 5 (place 4 28 93)))) ≡ Some (record { code = 5; place = place 4 14 79 })
 noted_unit-sizes_of_a_later_struct = refl
 
-noted_unit-sizes_of_a_pointer_to_an_array : refusing (noted_unit (sizes (Ptr (Array (StructTag 5) (Written (literal (place 4 40 105) 2)))))) ≡ Some (record { code = 5; place = place 4 14 79 })
+noted_unit-sizes_of_a_pointer_to_an_array : refusing (noted_unit (sizes (Ptr (Array (StructTag 5 (place 4 28 93)) (Written (literal (place 4 40 105) 2)))))) ≡ Some (record { code = 5; place = place 4 14 79 })
 noted_unit-sizes_of_a_pointer_to_an_array = refl
 
-noted_unit-sizes_of_as_many_bytes : refusing (noted_unit (sizes (Array (Int I8) (Written (Node (place 4 26 91) int_type (SizeOfType (StructTag 5))))))) ≡ Some (record { code = 5; place = place 4 26 91 })
+noted_unit-sizes_of_as_many_bytes : refusing (noted_unit (sizes (Array (Int I8) (Written (Node (place 4 26 91) int_type (SizeOfType (StructTag 5 (place 4 40 105)))))))) ≡ Some (record { code = 5; place = place 4 26 91 })
 noted_unit-sizes_of_as_many_bytes = refl

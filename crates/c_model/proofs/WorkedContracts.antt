@@ -219,8 +219,8 @@ adds = record (unit_of (codes "add" ∷ codes "main" ∷ codes "g" ∷ []) (
     Run (Eval (at 5 50) (call Void (at 5 51) 0 10 (lit 2 ∷ []))) ∷ Run (Eval (at 5 52) (call Void (at 5 53) 0 10 (lit 4 ∷ []))) ∷
     Asserts (noted Assert 4 5 (is (at_label Pre (variable_term (at 1 2003) 0 5)) relation.Eq (number 1)) ∷ []) ∷
     returns (var 5) ∷ []) ∷ [])) {
-  globals = int_variable (at 1 5) 2 (at 1 6) (lit 1) ∷ [];
-}
+      globals = int_variable (at 1 5) 2 (at 1 6) (lit 1) ∷ [];
+    }
 
 run-adds : run adds no_input 10000000 ≡ record { final = Exits (pos 7); output = []; left = 9999998 }
 run-adds = refl

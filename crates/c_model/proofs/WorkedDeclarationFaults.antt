@@ -46,7 +46,7 @@ typed_unit-declares_void = refl
 
 --     struct s x;
 abbrev declares_an_unknown_struct : TranslationUnit
-declares_an_unknown_struct = file (codes "s" ∷ codes "x" ∷ []) [] [] [] [] ((record { place = (place 1 10 9); name = 1; named = true; ctype = (StructTag 0); init = None }) ∷ []) []
+declares_an_unknown_struct = file (codes "s" ∷ codes "x" ∷ []) [] [] [] [] ((record { place = (place 1 10 9); name = 1; named = true; ctype = (StructTag 0 (place 1 8 7)); init = None }) ∷ []) []
 
 typed_unit-declares_an_unknown_struct : refusing (typed_unit declares_an_unknown_struct) ≡ Some (record { code = 5; place = (place 1 10 9) })
 unfolding library_constant is_library_name
@@ -291,9 +291,9 @@ names_an_enum_as_a_struct = file (codes "e" ∷ codes "A" ∷ codes "p" ∷ []) 
   tag = (Some 0);
   items = ((record { place = (place 1 10 9); name = 1; value = None }) ∷
       []);
-}) ∷ []) [] ((record { place = (place 1 25 24); name = 2; named = true; ctype = (Ptr (StructTag 0)); init = None }) ∷ []) []
+}) ∷ []) [] ((record { place = (place 1 25 24); name = 2; named = true; ctype = (Ptr (StructTag 0 (place 1 22 21))); init = None }) ∷ []) []
 
-typed_unit-names_an_enum_as_a_struct : refusing (typed_unit names_an_enum_as_a_struct) ≡ Some (record { code = 5; place = (place 1 25 24) })
+typed_unit-names_an_enum_as_a_struct : refusing (typed_unit names_an_enum_as_a_struct) ≡ Some (record { code = 5; place = (place 1 22 21) })
 unfolding library_constant is_library_name
 typed_unit-names_an_enum_as_a_struct = refl
 
@@ -318,7 +318,7 @@ asks_for_a_later_size = file (codes "o" ∷ codes "c" ∷ codes "i" ∷ codes "k
     place = (place 1 17 16);
     name = 1;
     ctype = (Array (Int
-        I8) (Written (read (place 1 19 18) (SizeOfType (StructTag 2)))));
+        I8) (Written (read (place 1 19 18) (SizeOfType (StructTag 2 (place 1 33 32))))));
     offset = 0;
   }) ∷ (record { place = (place 1 58 57); name = 4; ctype = (Struct 0); offset = 0 }) ∷ []);
   size = 0;
@@ -459,7 +459,7 @@ gives_a_struct = file (codes "s" ∷ codes "n" ∷ codes "f" ∷ []) [] ((record
   }) ∷ []);
   size = 0;
   align = 0;
-}) ∷ []) [] [] [] ((record { place = (place 1 31 30); name = 2; result = (StructTag 0); params = []; contract = None; body = None; close = (place 1 38 37) }) ∷ [])
+}) ∷ []) [] [] [] ((record { place = (place 1 31 30); name = 2; result = (StructTag 0 (place 1 29 28)); params = []; contract = None; body = None; close = (place 1 38 37) }) ∷ [])
 
 typed_unit-gives_a_struct : refusing (typed_unit gives_a_struct) ≡ Some (record { code = 6; place = (place 1 31 30) })
 unfolding library_constant is_library_name
@@ -488,7 +488,7 @@ takes_a_struct = file (codes "s" ∷ codes "n" ∷ codes "f" ∷ codes "x" ∷ [
     name = 3;
     named =
         true;
-    ctype = (StructTag 0);
+    ctype = (StructTag 0 (place 1 35 34));
     init = None;
   }) ∷ []);
   contract = None;
@@ -511,7 +511,7 @@ takes_an_unknown_struct = file (codes "f" ∷ codes "s" ∷ codes "x" ∷ []) []
     name
         = 2;
     named = true;
-    ctype = (StructTag 1);
+    ctype = (StructTag 1 (place 1 14 13));
     init = None;
   }) ∷ []);
   contract = None;

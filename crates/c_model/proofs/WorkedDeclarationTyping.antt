@@ -66,7 +66,7 @@ declares_much = file (codes "s" ∷ codes "next" ∷ codes "n" ∷ codes "node" 
       place = (place 1 16 15);
       tag = (Some 0);
       members = ((record
-          { place = (place 1 30 29); name = 1; ctype = (Ptr (StructTag 0)); offset = 0 }) ∷ (record { place = (place 1 40 39); name = 2; ctype = int_type; offset = 0 }) ∷ []);
+          { place = (place 1 30 29); name = 1; ctype = (Ptr (StructTag 0 (place 1 27 26))); offset = 0 }) ∷ (record { place = (place 1 40 39); name = 2; ctype = int_type; offset = 0 }) ∷ []);
       size = 0;
       align = 0;
     }) ∷ [])
@@ -288,7 +288,7 @@ row_one_read = file (codes "s" ∷ codes "c" ∷ codes "n" ∷ codes "g" ∷ cod
   place = (place 2 10 38);
   name = 3;
   named = true;
-  ctype = (StructTag 0);
+  ctype = (StructTag 0 (place 2 8 36));
   init = None;
 }) ∷ (record {
   place = (place 3 5 45);
@@ -308,7 +308,7 @@ row_one_read = file (codes "s" ∷ codes "c" ∷ codes "n" ∷ codes "g" ∷ cod
         place = (place 5 13 83);
         name = 6;
         named = true;
-        ctype = (Ptr (StructTag 0));
+        ctype = (Ptr (StructTag 0 (place 5 10 80)));
         init = Some (
           (place 5 15 85),
           One (read (place 5 17 87) (Unary unary.Address (read (place 5 18 88) (named
@@ -337,7 +337,7 @@ row_one_read = file (codes "s" ∷ codes "c" ∷ codes "n" ∷ codes "g" ∷ cod
       (read (place 14 10 249) (Call (record { name = 10; decl = 0 }) (Following (read (place 14 12 251) (Index (read (place 14 11 250) (named 9)) (read (place 14 13 252) (Number (pos 1) (Some I32)))))
       NoExpression))))) ∷ (Run (Eval (place 15 3 259) (read (place 15 10 266) (Call (record { name = 10; decl = 0 }) (Following (read (place 15 19 275) (Binary operator.Add (read (place 15 15 271)
       (Index (read (place 15 12 268) (Index (read (place 15 11 267) (named 4)) (read (place 15 13 269) (Number (pos 1) (Some I32))))) (read (place 15 16 272) (Number (pos 2) (Some I32))))) (read (place
-      15 21 277) (Number (pos 58) (Some I32))))) NoExpression))))) ∷ (Run (Return (place 16 3 284) (Some (read (place 16 10 291) (SizeOfType (StructTag 0)))))) ∷ [])));
+      15 21 277) (Number (pos 58) (Some I32))))) NoExpression))))) ∷ (Run (Return (place 16 3 284) (Some (read (place 16 10 291) (SizeOfType (StructTag 0 (place 16 24 305))))))) ∷ [])));
   close = (place 17 1 309);
 }) ∷ [])
 

@@ -113,7 +113,7 @@ typed-cast_to_an_enum : typed sight (read.Cast (at 0) (OfC (EnumTag 8 (at 6))) (
 typed-cast_to_an_enum = refl
 
 -- `sizeof(struct s)`, `sizeof(letter[3])`
-typed-size_of_a_struct : typed sight (read.SizeOf (at 0) (StructTag 3)) ≡ Good (ATerm (number 0 4))
+typed-size_of_a_struct : typed sight (read.SizeOf (at 0) (StructTag 3 (at 14))) ≡ Good (ATerm (number 0 4))
 typed-size_of_a_struct = refl
 
 typed-size_of_an_array : typed sight (read.SizeOf (at 0) (Array (Named 4) (Count 3))) ≡ Good (ATerm (number 0 3))

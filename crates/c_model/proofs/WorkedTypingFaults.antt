@@ -76,7 +76,7 @@ asks_an_unknown_struct = file (codes "s" ∷ codes "p" ∷ codes "main" ∷ code
   place = (place 1 11 10);
   name = 1;
   named = true;
-  ctype = (Ptr (StructTag 0));
+  ctype = (Ptr (StructTag 0 (place 1 8 7)));
   init = None;
 }) ∷ []) ((record {
   place = (place 1 18 17);
@@ -187,7 +187,7 @@ typed_unit-goes_on_by_void = refl
 
 --     struct s *p; int main(void) { p++; return 0; }
 abbrev goes_on_by_an_unknown_struct : TranslationUnit
-goes_on_by_an_unknown_struct = file (codes "s" ∷ codes "p" ∷ codes "main" ∷ []) [] [] [] [] ((record { place = (place 1 11 10); name = 1; named = true; ctype = (Ptr (StructTag 0)); init = None }) ∷
+goes_on_by_an_unknown_struct = file (codes "s" ∷ codes "p" ∷ codes "main" ∷ []) [] [] [] [] ((record { place = (place 1 11 10); name = 1; named = true; ctype = (Ptr (StructTag 0 (place 1 8 7))); init = None }) ∷
     []) ((record {
       place = (place 1 18 17);
       name = 2;
@@ -253,7 +253,7 @@ typed_unit-assigns_another_struct = refl
 
 --     struct s *p; int main(void) { *p = *p; return 0; }
 abbrev assigns_an_unknown_struct : TranslationUnit
-assigns_an_unknown_struct = file (codes "s" ∷ codes "p" ∷ codes "main" ∷ []) [] [] [] [] ((record { place = (place 1 11 10); name = 1; named = true; ctype = (Ptr (StructTag 0)); init = None }) ∷ [])
+assigns_an_unknown_struct = file (codes "s" ∷ codes "p" ∷ codes "main" ∷ []) [] [] [] [] ((record { place = (place 1 11 10); name = 1; named = true; ctype = (Ptr (StructTag 0 (place 1 8 7))); init = None }) ∷ [])
     ((record {
       place = (place 1 18 17);
       name = 2;

@@ -2,7 +2,7 @@
 use Rattle.std.specs.Prelude.{List, [], ◌∷◌, Option, Some, None}
 use Rattle.c_syntax.specs.Statements.{Statement, Empty, Eval, Block, If, While, Do, For, Break, Continue, Return, Labelled, ElsePart, NoElse, Else, Switch}
 use Rattle.c_syntax.specs.Statements.{Cases, NoCase, AnotherCase}
-use Rattle.c_syntax.specs.Statements.{BlockItem, Declare, Run, Asserts, BlockItems, NoItem, Then}
+use Rattle.c_syntax.specs.Statements.{BlockItem, Declare, Specify, Run, Asserts, BlockItems, NoItem, Then}
 use Rattle.c_syntax.specs.Programs.{Function, TranslationUnit}
 use Rattle.c_model.specs.Checked.{Checked, Good, one_part}
 use Rattle.c_model.specs.TermRanges.{ranged_annotations}
@@ -35,6 +35,7 @@ abbrev mutual
 
   pub ranged_item : BlockItem → Checked BlockItem
   ranged_item (Declare ds) = Good (Declare ds)
+  ranged_item (Specify at t) = Good (Specify at t)
   ranged_item (Run a) = one_part (ranged_statement a) (λ a. Good (Run a))
   ranged_item (Asserts annots) = one_part (ranged_annotations annots) (λ annots. Good (Asserts annots))
 

@@ -3,7 +3,7 @@ use Rattle.std.specs.Prelude.{List, [], ◌∷◌, map, Option, Some, cond, nat_
 use Rattle.c_syntax.specs.declared.place.Place.{Place}
 use Rattle.c_syntax.specs.Statements.{Statement, Empty, Eval, Block, If, While, Do, For, Break, Continue, Return, Labelled, ElsePart, NoElse, Else, Switch}
 use Rattle.c_syntax.specs.Statements.{Cases, NoCase, AnotherCase}
-use Rattle.c_syntax.specs.Statements.{BlockItem, Declare, Run, Asserts, BlockItems, NoItem, Then}
+use Rattle.c_syntax.specs.Statements.{BlockItem, Declare, Specify, Run, Asserts, BlockItems, NoItem, Then}
 use Rattle.c_syntax.specs.Programs.{StructType, Function, TranslationUnit}
 use Rattle.c_model.specs.Checked.{Checked, Good, one_part}
 use Rattle.c_model.specs.ExpressionTyping.{Sight, inner}
@@ -44,6 +44,7 @@ abbrev mutual
 
   pub noted_item : Sight → BlockItem → Checked BlockItem
   noted_item s (Declare ds) = Good (Declare ds)
+  noted_item s (Specify at t) = Good (Specify at t)
   noted_item s (Run a) = one_part (noted_statement s a) (λ a. Good (Run a))
   noted_item s (Asserts annots) = one_part (typed_annotations s annots) (λ annots. Good (Asserts annots))
 

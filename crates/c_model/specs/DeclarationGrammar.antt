@@ -20,7 +20,7 @@ use Rattle.grammar.specs.Syntax.{Syntax, none, gives, one, ◌then◌, choice, m
 use Rattle.c_syntax.specs.declared.place.Place.{Place}
 use Rattle.c_syntax.specs.Ctypes.{PlainType, Void, Struct, StructTag, EnumTag, PlainLength, int_type}
 use Rattle.c_syntax.specs.Expressions.{Expression}
-use Rattle.c_syntax.specs.Statements.{Initialiser, One, Many, Initialisers, NoInitialiser, Listed, Declaration, BlockItem, Declare}
+use Rattle.c_syntax.specs.Statements.{Initialiser, One, Many, Initialisers, NoInitialiser, Listed, Declaration, BlockItem, Declare, Specify}
 use Rattle.c_syntax.specs.Programs.{StructMember, StructType, EnumConstant, EnumType}
 use Rattle.c_syntax.specs.Tokens.{PlainToken}
 use Rattle.c_model.specs.declared.declarations.Storage.{Storage}
@@ -75,6 +75,10 @@ names_function d = not d.stars.constant && not (has_lengths d.lengths)
 abbrev pub declared_by : PlainType → Declarator → Option (Place × Initialiser) → Declaration
 declared_by t d i = record { place = d.place; name = d.name; named = true; ctype = declared_type t d.stars d.lengths; init = i }
 
+-- a declaration without declarators, at its `;`
+abbrev pub nameless : PlainType → Place → Declaration
+nameless t at = record { place = at; name = 0; named = false; ctype = t; init = None }
+
 -- a parameter, which has the number and the place of its first word where it has no name
 abbrev pub parameter_of : PlainType → ℕ × Place → AbstractDeclarator → Declaration
 parameter_of t first d = elim d.name [
@@ -117,7 +121,7 @@ tag_word tagged.Enum = keyword.Enum
 
 -- the type with this tag (C99 6.7.2.3)
 abbrev pub tag_type : Tagged → ℕ × Place → PlainType
-tag_type tagged.Struct x = StructTag x.0
+tag_type tagged.Struct x = StructTag x.0 x.1
 tag_type tagged.Enum x = EnumTag x.0 x.1
 
 -- a struct, whose size and offsets are set by typing
@@ -235,13 +239,15 @@ module _ (ws : Vocabulary) where
   unfoldable pub more_declared : PlainType → List Declaration → Syntax PlainToken (List Declaration)
   more_declared t ds = many (kind ws) (λ _. mark_kind comma ∷ []) (next_declared t) ds then λ es. ended es
 
-  -- [ declared { "," declared } ] ";"
-  unfoldable pub declared_list : PlainType → Syntax PlainToken (List Declaration)
-  declared_list t = choice (kind ws) (mark_kind semicolon ∷ []) (ended []) (declared_once t [] then λ ds. more_declared t ds)
+  -- [ declared { "," declared } ] ";", after the words for a type
+  unfoldable pub declared_list : PlainType → Syntax PlainToken BlockItem
+  declared_list t =
+      choice (kind ws) (mark_kind semicolon ∷ []) (mark ws semicolon then λ at. gives (Specify at t))
+      (declared_once t [] then λ ds. more_declared t ds then λ es. gives (Declare es))
 
   -- a declaration in a function
   unfoldable pub declaration : Syntax PlainToken BlockItem
-  declaration = type_words ws then λ t. declared_list t then λ ds. gives (Declare ds)
+  declaration = type_words ws then λ t. declared_list t
 
   -- ---- parameters (C99 6.7.5.3)
 

@@ -83,7 +83,7 @@ items_in (Many at is) = count_items is
 abbrev pub length_by : Sight → PlainType → Initialiser → ℕ
 length_by s t i = elim (text_read s i) [ None ↦ items_in i | Some bytes ↦ cond (is_character t) (length bytes + 1) (items_in i) ]
 
--- the type of an object behind its initialiser
+-- the type of an object with its initialiser
 abbrev pub completed : Sight → PlainType → Option (Place × Initialiser) → PlainType
 completed s (Array t Left) (Some i) = Array t (Count (length_by s t i.1))
 completed s t i = t
@@ -92,12 +92,11 @@ completed s t i = t
 abbrev pub object_type : Sight → Place → PlainType → Checked PlainType
 object_type s at t = where_sized s at t (Good t)
 
--- the type of a declared object: in sight in its own initialiser, and behind it
-abbrev pub typed_object_type : Sight → Declaration → Checked (PlainType × PlainType)
+-- the type of a declared object, whose length its initialiser may give
+abbrev pub typed_object_type : Sight → Declaration → Checked PlainType
 typed_object_type s d =
     one_part (typed_outer (is_there d.init) s d.place d.ctype) (λ t.
-    let u = completed s t d.init in
-    limited s d.place (Good u) (one_part (object_type s d.place u) (λ u. Good (t, u))))
+    let u = completed s t d.init in limited s d.place (Good u) (object_type s d.place u))
 
 -- a type that only the first array's brackets make no pointer (C99 6.7.5.3 p7); elements of a struct that isn't known yet are pointed to
 abbrev pub elements_of_parameter : Sight → Place → PlainType → Checked PlainType
@@ -267,25 +266,27 @@ is_anything read e = true
 
 -- ---- declared objects
 
--- a declaration whose own name is in sight in its initialiser (C99 6.2.1 p7)
+-- a declaration whose own name is in sight in its initialiser (C99 6.2.1 p7), there with the length that the initialiser gives
 abbrev pub typed_variable : Sight → Declaration → Checked Declaration
 typed_variable s d =
     one_part (both_parts (own_name s (is_there (declared_here s d.name)) d.place d.name) (typed_object_type s d) (λ n t. Good t)) (λ t.
-    one_part (typed_maybe_initialiser (with_object s (record d { ctype = t.0 })) is_anything t.1 d.init) (λ i.
-    Good (record d { ctype = t.1; init = i })))
+    one_part (typed_maybe_initialiser (with_object s (record d { ctype = t })) is_anything t d.init) (λ i.
+    Good (record d { ctype = t; init = i })))
 
 -- a global, which is a block of its whole size in its own initialiser
 abbrev pub typed_global : Sight → Declaration → Checked Declaration
 typed_global s d =
     one_part (both_parts (own_name s (is_declared_in_file s d.name) d.place d.name) (typed_object_type s d) (λ n t. Good t)) (λ t.
-    one_part (typed_maybe_initialiser (with_object s (record d { ctype = t.0 })) (is_static (with_object s (record d { ctype = t.1 }))) t.1 d.init) (λ i.
-    Good (record d { ctype = t.1; init = i })))
+    one_part (typed_maybe_initialiser (with_object s (record d { ctype = t })) (is_static (with_object s (record d { ctype = t }))) t d.init) (λ i.
+    Good (record d { ctype = t; init = i })))
 
--- a name of a type, whose size need not be known (C99 6.7.7)
+-- a name of a type, whose size need not be known (C99 6.7.7); and the type of a declaration without declarators, which names nothing
 abbrev pub typed_typedef : Sight → Declaration → Checked Declaration
 typed_typedef s d =
-    both_parts (own_name s (is_declared_in_file s d.name) d.place d.name)
-    (limited s d.place (typed_type s d.place d.ctype) (typed_type s d.place d.ctype)) (λ n t. Good (record d { ctype = t }))
+    cond d.named
+    (both_parts (own_name s (is_declared_in_file s d.name) d.place d.name)
+    (limited s d.place (typed_type s d.place d.ctype) (typed_type s d.place d.ctype)) (λ n t. Good (record d { ctype = t })))
+    (one_part (typed_type s d.place d.ctype) (λ t. Good (record d { ctype = t })))
 
 -- a parameter (C99 6.7.5.3): its name, where it has one, is new
 abbrev pub parameter_name : Sight → Declaration → Checked (Unit {0})

@@ -3,7 +3,7 @@ use Rattle.std.specs.Prelude.{◌≡◌, List, [], ◌∷◌}
 use Rattle.c_syntax.specs.Logic.{Annotation}
 use Rattle.c_syntax.specs.Statements.{Declaration, Statement, Empty, Eval, Block, If, While, Do, For, Break, Continue, Return, Labelled, ElsePart, NoElse}
 use Rattle.c_syntax.specs.Statements.{Else, Switch}
-use Rattle.c_syntax.specs.Statements.{ForFirst, NoFirst, First, BlockItem, Declare, Run, Asserts, BlockItems, NoItem, Then}
+use Rattle.c_syntax.specs.Statements.{ForFirst, NoFirst, First, BlockItem, Declare, Specify, Run, Asserts, BlockItems, NoItem, Then}
 use Rattle.c_model.specs.Pure.{IsPure, IsPureOrCall, IsEffect, IsEffectOrCall, IsInitialiser}
 use Rattle.c_model.specs.TypedTrees.{WhereAny}
 
@@ -46,5 +46,6 @@ module _ (AreSo : List Annotation → Type 0) where
 
     pub ItemPlaced : BlockItem → Type 0
     ItemPlaced (Declare ds) = ArePlaced ds
+    ItemPlaced (Specify at t) = Unit {0}
     ItemPlaced (Run a) = StatementPlaced a
     ItemPlaced (Asserts annots) = AreSo annots

@@ -382,7 +382,7 @@ module _ (ws : Vocabulary) where
 
   -- "struct" ANYNAME (C99 6.7.2.3)
   unfoldable pub struct_tag : Syntax PlainToken PlainType
-  struct_tag = reserved keyword.Struct then λ _. any_name then λ x. gives (StructTag x.0)
+  struct_tag = reserved keyword.Struct then λ _. any_name then λ x. gives (StructTag x.0 x.1)
 
   -- "enum" ANYNAME
   unfoldable pub enum_tag : Syntax PlainToken PlainType
@@ -427,7 +427,7 @@ module _ (ws : Vocabulary) where
   unfoldable pub type_behind : TypeStart → Syntax PlainToken PlainType
   type_behind ConstStart = type_words
   type_behind VoidStart = consts Void
-  type_behind StructStart = any_name then λ x. consts (StructTag x.0)
+  type_behind StructStart = any_name then λ x. consts (StructTag x.0 x.1)
   type_behind EnumStart = any_name then λ x. consts (EnumTag x.0 x.1)
   type_behind (NameStart t) = consts t
   type_behind (IntegerStart x) = many (kind ws) words_behind integer_word x then λ y. consts (Int (integer_type y))

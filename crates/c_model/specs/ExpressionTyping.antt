@@ -637,7 +637,7 @@ array_of s at t n = where_sized s at t (Good (Array t n))
 abbrev pub unknown_struct : Sight → ℕ → PlainType
 unknown_struct s x = Struct (length s.structs + x)
 
--- the struct with a tag, which is no enum's (C99 6.7.2.3)
+-- the struct with a tag at this place, which is no enum's (C99 6.7.2.3)
 abbrev pub struct_tagged : Sight → Place → ℕ → Checked PlainType
 struct_tagged s at x =
     where_so (not (is_among x s.enum_tags)) (no_name at) (Good (elim (tagged x 0 s.structs) [ None ↦ unknown_struct s x | Some n ↦ Struct n ]))
@@ -689,7 +689,7 @@ abbrev mutual
   typed_type s at (Array t n) = both_parts (typed_type s at t) (typed_length s at n) (array_of s at)
   typed_type s at (Struct n) = Good (Struct n)
   typed_type s at (Named x) = given (type_named x s.types) (no_name at) Good
-  typed_type s at (StructTag x) = struct_tagged s at x
+  typed_type s at (StructTag x tag) = struct_tagged s tag x
   typed_type s at (EnumTag x tag) = where_so (is_among x s.enums) (no_name tag) (Good int_type)
 
   pub typed_length : Sight → Place → PlainLength → Checked PlainLength

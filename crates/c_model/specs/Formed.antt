@@ -12,7 +12,7 @@ use Rattle.c_syntax.specs.Logic.{LogicTerm, Predicate, Links, NoLink, Linked, Gu
 use Rattle.c_syntax.specs.Logic.{Zones}
 use Rattle.c_syntax.specs.Statements.{Declaration, Statement, Empty, Eval, Block, If, While, Do, For, Break, Continue, Return, ElsePart, Labelled, Switch}
 use Rattle.c_syntax.specs.Statements.{Cases, NoCase, AnotherCase}
-use Rattle.c_syntax.specs.Statements.{NoElse, Else, ForFirst, NoFirst, First, BlockItem, Declare, Run, Asserts, BlockItems, NoItem, Then}
+use Rattle.c_syntax.specs.Statements.{NoElse, Else, ForFirst, NoFirst, First, BlockItem, Declare, Specify, Run, Asserts, BlockItems, NoItem, Then}
 use Rattle.c_syntax.specs.Programs.{Function}
 use Rattle.c_model.specs.Characters.{is_part}
 use Rattle.c_model.specs.ExpressionTyping.{name_at}
@@ -55,6 +55,7 @@ abbrev mutual
 
   pub depth_of_item : BlockItem → ℕ
   depth_of_item (Declare decls) = 0
+  depth_of_item (Specify at t) = 0
   depth_of_item (Run a) = depth a
   depth_of_item (Asserts annots) = 0
 
@@ -311,6 +312,7 @@ abbrev mutual
 
   pub declared_in_item : BlockItem → List Declaration
   declared_in_item (Declare ds) = ds
+  declared_in_item (Specify at t) = []
   declared_in_item (Run a) = declared_within a
   declared_in_item (Asserts annots) = []
 

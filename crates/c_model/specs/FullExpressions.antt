@@ -5,7 +5,7 @@ use Rattle.c_syntax.specs.Expressions.{Expression}
 use Rattle.c_syntax.specs.Statements.{Switch, Cases, NoCase, AnotherCase}
 use Rattle.c_syntax.specs.Statements.{Initialiser, One, Many, Initialisers, NoInitialiser, Listed, Declaration, Statement, Empty, Eval, Block, If, While, Do}
 use Rattle.c_syntax.specs.Statements.{For, Break, Continue, Return, Labelled, ElsePart, NoElse, Else, ForFirst, NoFirst, First}
-use Rattle.c_syntax.specs.Statements.{BlockItem, Declare, Run, Asserts, BlockItems, NoItem, Then}
+use Rattle.c_syntax.specs.Statements.{BlockItem, Declare, Specify, Run, Asserts, BlockItems, NoItem, Then}
 use Rattle.c_syntax.specs.Programs.{Function}
 use Rattle.c_model.specs.TypedTrees.{WhereAny}
 
@@ -56,6 +56,7 @@ module _ (P : Expression → Type 0) where
 
     pub EachInItem : BlockItem → Type 0
     EachInItem (Declare ds) = EachDeclared ds
+    EachInItem (Specify at t) = Unit {0}
     EachInItem (Run a) = EachIn a
     EachInItem (Asserts annots) = Unit {0}
 

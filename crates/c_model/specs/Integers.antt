@@ -45,7 +45,7 @@ integer_type (Array t n) = None
 integer_type (Struct n) = None
 integer_type Void = None
 integer_type (Named x) = None
-integer_type (StructTag x) = None
+integer_type (StructTag x tag) = None
 integer_type (EnumTag x at) = None
 
 -- whether the type has the value

@@ -17,7 +17,7 @@ use Rattle.c_syntax.specs.Expressions.{Expression, Node, Number, Letter, Variabl
 use Rattle.c_syntax.specs.Expressions.{SizeOfExpr, Text, Index, Dot, Arrow, Comma, Expressions, NoExpression, Following, place_of, type_of}
 use Rattle.c_syntax.specs.Statements.{Switch, Cases, NoCase, AnotherCase}
 use Rattle.c_syntax.specs.Statements.{Initialiser, One, Many, Initialisers, NoInitialiser, Listed, Declaration, Statement, Empty, Eval, Block, If, While}
-use Rattle.c_syntax.specs.Statements.{Do, For, Break, Continue, Return, Labelled, ElsePart, NoElse, Else, ForFirst, NoFirst, First, BlockItem, Declare, Run}
+use Rattle.c_syntax.specs.Statements.{Do, For, Break, Continue, Return, Labelled, ElsePart, NoElse, Else, ForFirst, NoFirst, First, BlockItem, Declare, Specify, Run}
 use Rattle.c_syntax.specs.Statements.{Asserts}
 use Rattle.c_syntax.specs.Statements.{BlockItems, NoItem, Then}
 use Rattle.c_syntax.specs.Programs.{StructType, FunctionContract, Function, TranslationUnit}
@@ -394,6 +394,7 @@ after_switch (Stop Stuck s) = Stop Stuck s
 abbrev pub declared_in : BlockItems → List Declaration
 declared_in NoItem = []
 declared_in (Then (Declare ds) rest) = ds ++ declared_in rest
+declared_in (Then (Specify at t) rest) = declared_in rest
 declared_in (Then (Run a) rest) = declared_in rest
 declared_in (Then (Asserts annots) rest) = declared_in rest
 
@@ -401,6 +402,7 @@ declared_in (Then (Asserts annots) rest) = declared_in rest
 abbrev pub declared_first : ForFirst → List Declaration
 declared_first NoFirst = []
 declared_first (First (Declare ds)) = ds
+declared_first (First (Specify at t)) = []
 declared_first (First (Run a)) = []
 declared_first (First (Asserts annots)) = []
 
@@ -594,6 +596,7 @@ module _ (T : Tables) where
 
     pub item_with : BlockItem → Callee → ℕ → Evaluation (Unit {0})
     item_with (Declare ds) call n = initialise_all ds call
+    item_with (Specify at t) call n = done
     item_with (Run a) call n = exec_with a call n
     item_with (Asserts annots) call n = checks annots
 

@@ -2,7 +2,7 @@
 use Rattle.std.specs.Prelude.{◌≡◌, ℕ, nat_eq, false, if◌then◌else◌, List, [], ◌∷◌, Option, Some, None}
 use Rattle.c_syntax.specs.Statements.{Declaration, Statement, Empty, Eval, Block, If, While, Do, For, Break, Continue, Return, Labelled, ElsePart, NoElse}
 use Rattle.c_syntax.specs.Statements.{Else, Switch, Cases, NoCase, AnotherCase}
-use Rattle.c_syntax.specs.Statements.{ForFirst, NoFirst, First, BlockItem, Declare, Run, Asserts, BlockItems, NoItem, Then}
+use Rattle.c_syntax.specs.Statements.{ForFirst, NoFirst, First, BlockItem, Declare, Specify, Run, Asserts, BlockItems, NoItem, Then}
 use Rattle.c_syntax.specs.Programs.{Function}
 use Rattle.c_model.specs.ExpressionTyping.{is_among}
 use Rattle.c_model.specs.UnitTyping.{FileItem, StructHead, Member, AnEnum, ATypedef, AGlobal, AFunction}
@@ -43,6 +43,7 @@ abbrev mutual
 
   pub ItemPlaced : BlockItem → Type 0
   ItemPlaced (Declare ds) = ArePlaced ds
+  ItemPlaced (Specify at t) = Unit {0}
   ItemPlaced (Run a) = StatementPlaced a
   ItemPlaced (Asserts annots) = Unit {0}
 

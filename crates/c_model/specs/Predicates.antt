@@ -50,7 +50,7 @@ pointed (Array t n) x = None
 pointed (Struct n) x = None
 pointed Void x = None
 pointed (ctype.Named y) x = None
-pointed (StructTag y) x = None
+pointed (StructTag y tag) x = None
 pointed (EnumTag y at) x = None
 
 -- the value of an integer type that is congruent to an integer, or the pointer

@@ -42,7 +42,7 @@ use Rattle.c_model.specs.Terminals.{nesting_limit}
 use Rattle.c_model.specs.ExpressionGrammar.{annot_open_kind, keyword_kind, mark_kind, kind, first_type, first_expression, first_effect, pointers}
 use Rattle.c_model.specs.ExpressionGrammar.{most_nested, mark, reserved, closed}
 use Rattle.c_model.specs.ExpressionGrammar.{full_expression, full_expression_or_call, full_effect, full_effect_or_call}
-use Rattle.c_model.specs.DeclarationGrammar.{Declarator, Definitions, names_function, declared_by, ended, full_dtor, initialised, more_declared}
+use Rattle.c_model.specs.DeclarationGrammar.{Declarator, Definitions, names_function, declared_by, nameless, ended, full_dtor, initialised, more_declared}
 use Rattle.c_model.specs.DeclarationGrammar.{declaration, parameters, file_spec}
 use Rattle.c_model.specs.AnnotationGrammar.{annotations}
 
@@ -140,6 +140,10 @@ with_typedef t x d = record x {
   words = slice_set x.words d.name (word.TypeName Declared);
   typedefs = x.typedefs ++ declared_by t d None ∷ [];
 }
+
+-- a declaration without declarators, which stands among the names of types and names nothing
+abbrev pub with_nameless : PlainType → FileParts → Place → FileParts
+with_nameless t x at = record x { typedefs = x.typedefs ++ nameless t at ∷ [] }
 
 -- the string literals among tokens (C99 6.4.5)
 abbrev pub texts_of : List PlainToken → List StringLiteral
@@ -313,7 +317,7 @@ module _ (ws : Vocabulary) where
   -- what stands after the words for a type
   unfoldable pub declared_at_file : PlainType → FileParts → Syntax PlainToken FileParts
   declared_at_file t x =
-      choice (kind ws) (mark_kind semicolon ∷ []) (ended ws x) (full_dtor ws ordinary.Ordinary then λ d. behind_declarator t x d)
+      choice (kind ws) (mark_kind semicolon ∷ []) (mark ws semicolon then λ at. gives (with_nameless t x at)) (full_dtor ws ordinary.Ordinary then λ d. behind_declarator t x d)
 
 -- ---- what a typedef declares (C99 6.7.7), each name being that of a type from the end of its declarator on
 

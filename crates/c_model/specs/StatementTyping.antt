@@ -7,12 +7,12 @@ use Rattle.c_syntax.specs.Expressions.{Expression, place_of, type_of, Node, Numb
 use Rattle.c_syntax.specs.Statements.{Declaration, Statement, Empty, Eval, Block, If, While, Do, For, Break, Continue, Return, Labelled, ElsePart, NoElse}
 use Rattle.c_syntax.specs.Statements.{Else, Switch, Cases, NoCase, AnotherCase}
 use Rattle.c_syntax.specs.declared.types.CInt.{CInt}
-use Rattle.c_syntax.specs.Statements.{ForFirst, NoFirst, First, BlockItem, Declare, Run, Asserts, BlockItems, NoItem, Then}
+use Rattle.c_syntax.specs.Statements.{ForFirst, NoFirst, First, BlockItem, Declare, Specify, Run, Asserts, BlockItems, NoItem, Then}
 use Rattle.c_model.specs.Checked.{Checked, Good, one_part, given, where_so}
 use Rattle.c_model.specs.Integers.{convert, integer_type}
 use Rattle.c_model.specs.Conversions.{promoted}
 use Rattle.c_model.specs.ExpressionTyping.{no_type, Sight, with_object, with_objects, inner, is_void, is_scalar, in_type, in_int, is_assigned, constant}
-use Rattle.c_model.specs.ExpressionTyping.{decayed_of, typed}
+use Rattle.c_model.specs.ExpressionTyping.{decayed_of, typed, typed_type}
 use Rattle.c_model.specs.DeclarationTyping.{typed_variable}
 
 -- where a statement stands: what its function gives, whether `break` leaves something there, and whether it is inside a loop
@@ -30,6 +30,7 @@ in_switch r = record r { breaks = true }
 -- what is in sight after an item
 abbrev pub behind : Sight → BlockItem → Sight
 behind s (Declare ds) = with_objects s ds
+behind s (Specify at t) = s
 behind s (Run a) = s
 behind s (Asserts annots) = s
 
@@ -124,6 +125,7 @@ abbrev mutual
 
   pub typed_item : Sight → Around → BlockItem → Checked BlockItem
   typed_item s r (Declare ds) = one_part (typed_declarations s ds) (λ ds. Good (Declare ds))
+  typed_item s r (Specify at t) = one_part (typed_type s at t) (λ u. Good (Specify at u))
   typed_item s r (Run a) = one_part (typed_statement s r a) (λ a. Good (Run a))
   typed_item s r (Asserts annots) = Good (Asserts annots)
 

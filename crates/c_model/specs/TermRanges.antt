@@ -45,7 +45,7 @@ pointed_range (Struct n) a = Some a
 pointed_range (Int k) a = None
 pointed_range Void a = None
 pointed_range (ctype.Named x) a = None
-pointed_range (StructTag x) a = None
+pointed_range (StructTag x tag) a = None
 pointed_range (EnumTag x at) a = None
 
 -- the value that a place of a C type holds, where its address has a range
@@ -139,7 +139,7 @@ pointer_cast_range (Array t n) a = None
 pointer_cast_range (Struct n) a = None
 pointer_cast_range Void a = None
 pointer_cast_range (ctype.Named x) a = None
-pointer_cast_range (StructTag x) a = None
+pointer_cast_range (StructTag x tag) a = None
 pointer_cast_range (EnumTag x at) a = None
 
 -- a value that the type has stays as it is

@@ -2,7 +2,7 @@
 use Rattle.std.specs.Prelude.{◌≡◌, List, [], ◌∷◌, Option, Some}
 use Rattle.c_syntax.specs.Statements.{Statement, Empty, Eval, Block, If, While, Do, For, Break, Continue, Return, Labelled, ElsePart, NoElse, Else, Switch}
 use Rattle.c_syntax.specs.Statements.{Cases, NoCase, AnotherCase}
-use Rattle.c_syntax.specs.Statements.{BlockItem, Declare, Run, Asserts, BlockItems, NoItem, Then}
+use Rattle.c_syntax.specs.Statements.{BlockItem, Declare, Specify, Run, Asserts, BlockItems, NoItem, Then}
 use Rattle.c_syntax.specs.Programs.{Function, TranslationUnit}
 use Rattle.c_model.specs.ExpressionTyping.{Sight, inner}
 use Rattle.c_model.specs.StatementTyping.{behind, behind_first}
@@ -36,6 +36,7 @@ abbrev mutual
 
   pub ItemNoted : Sight → BlockItem → Type 0
   ItemNoted s (Declare ds) = Unit {0}
+  ItemNoted s (Specify at t) = Unit {0}
   ItemNoted s (Run a) = StatementNoted s a
   ItemNoted s (Asserts annots) = AnnotationsTyped s annots
 

@@ -3,11 +3,11 @@
 use Rattle.std.specs.Prelude.{◌≡◌, ℤ, List, [], ◌∷◌, Option, Some, None}
 use Rattle.c_syntax.specs.declared.place.Place.{Place}
 use Rattle.c_syntax.specs.declared.types.CInt.{CInt}
-use Rattle.c_syntax.specs.Ctypes.{Int}
+use Rattle.c_syntax.specs.Ctypes.{PlainType, Int}
 use Rattle.c_syntax.specs.Expressions.{Expression, Node, Number, place_of}
 use Rattle.c_syntax.specs.Statements.{Switch, Cases, NoCase, AnotherCase}
 use Rattle.c_syntax.specs.Statements.{Initialiser, One, Many, Initialisers, NoInitialiser, Listed, Declaration, Statement, Empty, Eval, Block, If, While, Do}
-use Rattle.c_syntax.specs.Statements.{For, Break, Continue, Return, Labelled, ElsePart, NoElse, Else, ForFirst, NoFirst, First, BlockItem, Declare, Run}
+use Rattle.c_syntax.specs.Statements.{For, Break, Continue, Return, Labelled, ElsePart, NoElse, Else, ForFirst, NoFirst, First, BlockItem, Declare, Specify, Run}
 use Rattle.c_syntax.specs.Statements.{Asserts}
 use Rattle.c_syntax.specs.Statements.{BlockItems, NoItem, Then}
 use Rattle.c_syntax.specs.Programs.{EnumConstant, EnumType, Function}
@@ -120,6 +120,7 @@ abbrev mutual
 
   pub ItemTypedAs : BlockItem → BlockItem → Type 0
   ItemTypedAs (Declare ds) b = (es : List Declaration) × (b ≡ Declare es) × DeclarationsTypedAs ds es
+  ItemTypedAs (Specify at t) b = (u : PlainType) × (b ≡ Specify at u)
   ItemTypedAs (Run a) b = (y : Statement) × (b ≡ Run y) × StatementTypedAs a y
   ItemTypedAs (Asserts annots) b = b ≡ Asserts annots
 

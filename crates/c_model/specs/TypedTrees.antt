@@ -10,13 +10,13 @@ use Rattle.c_syntax.specs.declared.expression.Use.{Use}
 use Rattle.c_syntax.specs.declared.expression.UnOp.TheVariants as unary
 use Rattle.c_syntax.specs.declared.expression.BinOp.{BinOp}
 use Rattle.c_syntax.specs.declared.expression.BinOp.TheVariants as operator
-use Rattle.c_syntax.specs.Ctypes.{PlainType, Void, Int, Ptr, Array, Struct, PlainLength, Left, Count, int_type}
+use Rattle.c_syntax.specs.Ctypes.{PlainType, Void, Int, Ptr, Array, Struct, PlainLength, Count, int_type}
 use Rattle.c_syntax.specs.Expressions.{Expression, Node, ExpressionKind, Number, Letter, Text, Variable, Unary, Binary, Both, Either, Choice}
 use Rattle.c_syntax.specs.Expressions.{Assign, Bump, Call}
 use Rattle.c_syntax.specs.Expressions.{Cast, SizeOfType, SizeOfExpr, Index, Dot, Arrow, Comma, Expressions, NoExpression, Following, place_of, type_of}
 use Rattle.c_syntax.specs.Statements.{Switch, Cases, NoCase, AnotherCase}
 use Rattle.c_syntax.specs.Statements.{Initialiser, One, Many, Initialisers, NoInitialiser, Listed, Declaration, Statement, Empty, Eval, Block, If, While, Do}
-use Rattle.c_syntax.specs.Statements.{For, Break, Continue, Return, Labelled, ElsePart, NoElse, Else, ForFirst, NoFirst, First, BlockItem, Declare, Run}
+use Rattle.c_syntax.specs.Statements.{For, Break, Continue, Return, Labelled, ElsePart, NoElse, Else, ForFirst, NoFirst, First, BlockItem, Declare, Specify, Run}
 use Rattle.c_syntax.specs.Statements.{Asserts}
 use Rattle.c_syntax.specs.Statements.{BlockItems, NoItem, Then}
 use Rattle.c_syntax.specs.Programs.{StructMember, StringLiteral, Function}
@@ -254,19 +254,12 @@ abbrev pub WhereAny : {A : Type 0} → (A → Type 0) → Option A → Type 0
 WhereAny P None = Unit {0}
 WhereAny P (Some x) = P x
 
--- the type that an object has in its own initialiser, which may say the length of an array (C99 6.7.8 p22)
-abbrev pub CompletedTo : PlainType → PlainType → Type 0
-CompletedTo (Array t Left) u = (n : ℕ) × (u ≡ Array t (Count n))
-CompletedTo t u = u ≡ t
-
 -- an object whose name is new in its scope, and which is in sight in its own initialiser (C99 6.2.1 p7, 6.7 p3)
 pub record IsDeclared (s : Sight) (d : Declaration) : Type 0 where
   pub own_name : is_library_name (name_at s.names d.name) ≡ false
   pub new : declared_here s d.name ≡ None
   pub size : HasKnownSize s d.ctype
-  pub first : PlainType
-  pub completed : CompletedTo first d.ctype
-  pub init : WhereAny (λ (i : Place × Initialiser). Initialises (with_object s (record d { ctype = first })) d.ctype i.1) d.init
+  pub init : WhereAny (λ (i : Place × Initialiser). Initialises (with_object s d) d.ctype i.1) d.init
 
 abbrev pub AreDeclared : Sight → List Declaration → Type 0
 AreDeclared s [] = Unit {0}
@@ -315,6 +308,7 @@ abbrev mutual
 
   pub ItemTyped : Sight → Around → BlockItem → Type 0
   ItemTyped s r (Declare ds) = AreDeclared s ds
+  ItemTyped s r (Specify at t) = Unit {0}
   ItemTyped s r (Run a) = StatementTyped s r a
   ItemTyped s r (Asserts annots) = Unit {0}
 

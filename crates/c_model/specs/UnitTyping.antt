@@ -92,8 +92,9 @@ sight_with p structs = record {
 abbrev pub first_sight : TranslationUnit → Sight
 first_sight p = sight_with p (map unknown p.structs)
 
+-- what is in sight after a name of a type; a declaration without declarators has none
 abbrev pub with_type : Sight → Declaration → Sight
-with_type s d = record s { types = s.types ++ record { name = d.name; ctype = d.ctype } ∷ [] }
+with_type s d = record s { types = cond d.named (s.types ++ record { name = d.name; ctype = d.ctype } ∷ []) s.types }
 
 abbrev pub with_tag : List ℕ → Option ℕ → List ℕ
 with_tag tags None = tags

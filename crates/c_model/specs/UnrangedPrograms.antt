@@ -3,7 +3,7 @@
 use Rattle.std.specs.Prelude.{◌≡◌, ℕ, List, [], ◌∷◌, map, Option, Some, None, option_map}
 use Rattle.c_syntax.specs.Statements.{Statement, Empty, Eval, Block, If, While, Do, For, Break, Continue, Return, Labelled, ElsePart, NoElse, Else, Switch}
 use Rattle.c_syntax.specs.Statements.{Cases, NoCase, AnotherCase}
-use Rattle.c_syntax.specs.Statements.{BlockItem, Declare, Run, Asserts, BlockItems, NoItem, Then}
+use Rattle.c_syntax.specs.Statements.{BlockItem, Declare, Specify, Run, Asserts, BlockItems, NoItem, Then}
 use Rattle.c_syntax.specs.Programs.{Function, TranslationUnit}
 use Rattle.c_model.specs.Checked.{Good}
 use Rattle.c_model.specs.State.{Input}
@@ -37,6 +37,7 @@ abbrev mutual
 
   pub unranged_item : BlockItem → BlockItem
   unranged_item (Declare ds) = Declare ds
+  unranged_item (Specify at t) = Specify at t
   unranged_item (Run a) = Run (unranged_statement a)
   unranged_item (Asserts annots) = Asserts (unranged_annotations annots)
 
@@ -77,6 +78,7 @@ abbrev mutual
 
   pub ItemRanged : BlockItem → Type 0
   ItemRanged (Declare ds) = Unit {0}
+  ItemRanged (Specify at t) = Unit {0}
   ItemRanged (Run a) = StatementRanged a
   ItemRanged (Asserts annots) = AnnotationsRanged annots
 

@@ -19,7 +19,7 @@ abbrev mutual
   plain_type (ctype.Array' p t n) = Array (plain_type t) (plain_length n)
   plain_type (ctype.Struct n) = Struct n
   plain_type (ctype.Named x) = Named x
-  plain_type (ctype.StructTag x) = StructTag x
+  plain_type (ctype.StructTag x at) = StructTag x at
   plain_type (ctype.EnumTag x at) = EnumTag x at
 
   pub plain_length : Length → PlainLength

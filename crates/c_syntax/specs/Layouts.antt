@@ -34,7 +34,7 @@ scalar_of Void = None
 scalar_of (Array t n) = None
 scalar_of (Struct n) = None
 scalar_of (Named x) = None
-scalar_of (StructTag x) = None
+scalar_of (StructTag x at) = None
 scalar_of (EnumTag x at) = None
 
 abbrev pub count_of : PlainLength → ℕ
@@ -58,7 +58,7 @@ size_of structs (Array t n) = count_of n * size_of structs t
 size_of structs (Struct n) = size_of_struct (slice_get structs n)
 size_of structs Void = 0
 size_of structs (Named x) = 0
-size_of structs (StructTag x) = 0
+size_of structs (StructTag x at) = 0
 size_of structs (EnumTag x at) = 0
 
 -- Ours: a number, where 32 bits hold it
@@ -72,7 +72,7 @@ align_of structs (Array t n) = align_of structs t
 align_of structs (Struct n) = align_of_struct (slice_get structs n)
 align_of structs Void = 1
 align_of structs (Named x) = 1
-align_of structs (StructTag x) = 1
+align_of structs (StructTag x at) = 1
 align_of structs (EnumTag x at) = 1
 
 -- ---- structs: each member stands at the next multiple of its alignment, and so does the end
@@ -97,7 +97,7 @@ members_of structs (Ptr t) = []
 members_of structs (Array t n) = []
 members_of structs Void = []
 members_of structs (Named x) = []
-members_of structs (StructTag x) = []
+members_of structs (StructTag x at) = []
 members_of structs (EnumTag x at) = []
 
 abbrev pub member_offset : Option StructMember → ℕ
@@ -120,7 +120,7 @@ target_of (Array t n) = Void
 target_of (Struct n) = Void
 target_of Void = Void
 target_of (Named x) = Void
-target_of (StructTag x) = Void
+target_of (StructTag x at) = Void
 target_of (EnumTag x at) = Void
 
 -- ---- parts
@@ -142,7 +142,7 @@ parts_of structs (Int k) = []
 parts_of structs (Ptr t) = []
 parts_of structs Void = []
 parts_of structs (Named x) = []
-parts_of structs (StructTag x) = []
+parts_of structs (StructTag x at) = []
 parts_of structs (EnumTag x at) = []
 
 -- the scalars in so many equal parts
@@ -163,7 +163,7 @@ scalars_from structs zero (Struct n) offset = []
 scalars_from structs (suc deep) (Struct n) offset = in_members (members_of_struct (slice_get structs n)) offset (scalars_from structs deep)
 scalars_from structs deep Void offset = []
 scalars_from structs deep (Named x) offset = []
-scalars_from structs deep (StructTag x) offset = []
+scalars_from structs deep (StructTag x at) offset = []
 scalars_from structs deep (EnumTag x at) offset = []
 
 abbrev pub scalars_of : List StructType → PlainType → List (ℕ × Scalar)

@@ -70,6 +70,7 @@ pub record TranslationUnit : Type 0 where
   pub texts : List StringLiteral
   pub structs : List StructType
   pub enums : List EnumType
+  -- what `typedef` declares, and declarations without declarators, each at its `;`, which have no name
   pub typedefs : List Declaration
   pub globals : List Declaration
   pub funcs : List Function

@@ -63,6 +63,8 @@ mutual
 
   pub data BlockItem : Type 0 where
     Declare : List Declaration → BlockItem
+    -- a declaration without declarators, at its `;`, of this type (C99 6.7 p2)
+    Specify : Place → PlainType → BlockItem
     Run : Statement → BlockItem
     Asserts : List Annotation → BlockItem
 
@@ -116,6 +118,7 @@ abbrev mutual
 
   pub plain_item : Item → BlockItem
   plain_item (item.Declare decls) = Declare (map plain_decl decls.items)
+  plain_item (item.Specify at t) = Specify at (plain_type t)
   plain_item (item.Run' at p s) = Run (plain_stmt_kind at s)
   plain_item (item.Asserts annots) = Asserts (map plain_annot annots.items)
 

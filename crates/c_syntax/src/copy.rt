@@ -26,7 +26,7 @@ pub fn copy_type(alloc: Global, t: &CType) -> Result<CType, AllocError>
         }
         CType::Struct(n) => Ok(CType::Struct(*n)),
         CType::Named(x) => Ok(CType::Named(*x)),
-        CType::StructTag(x) => Ok(CType::StructTag(*x)),
+        CType::StructTag(x, at) => Ok(CType::StructTag(*x, *at)),
         CType::EnumTag(x, place) => Ok(CType::EnumTag(*x, *place)),
     }
 }

@@ -63,7 +63,7 @@ pub fn checked_size(structs: &[Layout], t: &CType) -> Option<u32>
         CType::Ptr(_) => Some(8),
         CType::Array(t, n) => times(count_of(n), checked_size(structs, t)),
         CType::Struct(n) => Some(size_of_struct(structs, *n)),
-        CType::Void | CType::Named(_) | CType::StructTag(_) | CType::EnumTag(_, _) => Some(0),
+        CType::Void | CType::Named(_) | CType::StructTag(_, _) | CType::EnumTag(_, _) => Some(0),
     }
 }
 

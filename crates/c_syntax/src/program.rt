@@ -90,6 +90,7 @@ pub struct Program {
     pub texts: Vec<Text>,
     pub structs: Vec<Layout>,
     pub enums: Vec<EnumDef>,
+    /// What `typedef` declares, and declarations without declarators, each at its `;`, which have no name.
     pub typedefs: Vec<Decl>,
     pub globals: Vec<Decl>,
     pub funcs: Vec<Func>,

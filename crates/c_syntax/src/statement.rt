@@ -31,6 +31,8 @@ pub struct Decl {
 #[cycle(stmt)]
 pub enum Item {
     Declare(Vec<Decl>),
+    /// A declaration without declarators, at its `;`, of this type (C99 6.7 p2).
+    Specify(Place, CType),
     Run(Stmt),
     Asserts(Vec<Annot>),
 }

@@ -32,8 +32,8 @@ pub enum CType {
     Struct(u32),
     /// The type that a `typedef` of this name declares.
     Named(u32),
-    /// `struct` with a tag.
-    StructTag(u32),
+    /// `struct` with a tag, at its place.
+    StructTag(u32, Place),
     /// `enum` with a tag, at its place.
     EnumTag(u32, Place),
 }
