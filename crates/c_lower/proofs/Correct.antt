@@ -1,8 +1,8 @@
 -- Calls of functions, and whole programs: the code does what the program means.
 use Rattle.std.proofs.Common.{◌≡◌, ℕ, zero, suc, ◌+◌, ◌≤◌, ℤ, pos, List, [], ◌∷◌, ◌++◌, length, Option, Some, None, refl, sym, ap, ◌∙◌, subst, arith, append-nil, le_trans}
 use Rattle.std.specs.Prelude.{slice_get, codes}
-use Rattle.c_model.specs.State.{Input, Fault}
-use Rattle.c_model.specs.Meaning.{Ran}
+use Rattle.c_model.specs.State.{Input}
+use Rattle.c_model.specs.MonitoredRuns.{Fault, Ran}
 use Rattle.mon_syntax.specs.Trees.{MonFunction, MonitoredProgram}
 use Rattle.mon_syntax.specs.Memory.{Memory, Reply, Gives, IsFull, Faults}
 use Rattle.mon_syntax.specs.Meaning.{State, Result, Done, Stops, Next, Goes, Returns, writes, then_do, step_from, zero_result, replied, Calls, exec_all, left_frame, at_return, body_runs, level, exit_of, ran, function_named, run}

@@ -2,7 +2,7 @@
 -- Laws that the runs of code meet.
 use Rattle.std.specs.Prelude.{◌≡◌, ℕ, List, Option}
 use Rattle.c_model.specs.State.{Input}
-use Rattle.c_model.specs.Meaning.{Ran}
+use Rattle.c_model.specs.MonitoredRuns.{Ran}
 use Rattle.c_model.specs.Reports.{Extends}
 use Rattle.mon_syntax.specs.Memory.{Memory}
 use Rattle.c_lower.specs.declared.code.Entry.{Entry}
