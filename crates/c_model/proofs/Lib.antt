@@ -109,6 +109,7 @@ mod MonitoredTexts
 mod CTexts
 pub mod WorkedTrees
 pub mod WorkedTerms
+pub mod WorkedClauses
 mod WorkedAnnotationGrammar
 mod WorkedExpressionTyping
 mod WorkedStructTyping
@@ -133,4 +134,7 @@ mod WorkedEffects
 mod WorkedRuns
 mod WorkedCalls
 pub mod WorkedContracts
+mod WorkedBehaviors
+mod WorkedLabels
+mod WorkedLoops
 pub mod WorkedTypings

@@ -1,80 +1,20 @@
 -- Runs of small programs with contracts and labels, by computation.
-use Rattle.std.proofs.Common.{◌≡◌, ◌+◌, ℕ, pos, negsuc, List, [], ◌∷◌, Some, None, codes, refl}
+use Rattle.std.proofs.Common.{◌≡◌, ℕ, pos, [], ◌∷◌, None, codes, refl}
 use Rattle.c_syntax.specs.declared.types.How.TheVariants as how
 use Rattle.c_syntax.specs.declared.expression.BinOp.TheVariants.{Add, Sub, Mul, Div, Lt, Gt}
-use Rattle.c_syntax.specs.declared.annotation.Kind.{Kind}
 use Rattle.c_syntax.specs.declared.annotation.Kind.TheVariants.{Assert, Requires, Assumes, Ensures, Complete, Disjoint}
-use Rattle.c_syntax.specs.declared.annotation.Relation.{Relation}
 use Rattle.c_syntax.specs.declared.annotation.Relation.TheVariants as relation
 use Rattle.c_syntax.specs.declared.logic.Connective.TheVariants.{And}
-use Rattle.c_syntax.specs.declared.place.Place.{Place}
 use Rattle.c_syntax.specs.Ctypes.{Void, int_type}
-use Rattle.c_syntax.specs.Expressions.{Expression, Node, Number}
-use Rattle.c_syntax.specs.declared.logic.Label.{Label}
 use Rattle.c_syntax.specs.declared.logic.Label.TheVariants.{Pre, Marked}
-use Rattle.c_syntax.specs.Logic.{LogicTerm, Predicate, Named, At, Holds, Behaviors, Annotation, Connected}
-use Rattle.c_syntax.specs.Statements.{BlockItem, Eval, Block, If, While, Return, Labelled, NoElse, Declare, Run, Asserts}
-use Rattle.c_syntax.specs.Programs.{NamedBehavior, Function, TranslationUnit}
+use Rattle.c_syntax.specs.Logic.{Connected}
+use Rattle.c_syntax.specs.Statements.{Eval, Block, If, While, Return, Labelled, NoElse, Declare, Run, Asserts}
+use Rattle.c_syntax.specs.Programs.{TranslationUnit}
 use Rattle.c_model.specs.State.{Exits, Broken}
 use Rattle.c_model.specs.Meaning.{run}
-use Rattle.c_model.proofs.WorkedTrees.{place, literal, variable, binary, assignment, call, int_variable, int_parameter, items_of, literal_term, variable_term, binary_term, related_terms, no_range, definition, unit_of, no_input}
-
--- ---- trees; a place by its line and its offset
-
-abbrev at : ℕ → ℕ → Place
-at l o = place l 1 o
-
-abbrev result : LogicTerm
-result = Named (at 1 1) (Some int_type) no_range (record { name = 0; decl = 4294967294 })
-
-abbrev at_label : Label → LogicTerm → LogicTerm
-at_label l t = At (at 1 1) None no_range l t
-
-abbrev is : LogicTerm → Relation → LogicTerm → Predicate
-is a r b = related_terms (at 1 1) r a b
-
-abbrev plus : LogicTerm → LogicTerm → LogicTerm
-plus a b = binary_term (at 1 1) Add a b
-
-abbrev number : ℕ → LogicTerm
-number n = literal_term (at 1 1) n
-
-abbrev noted : Kind → ℕ → ℕ → Predicate → Annotation
-noted k number line p = record { number = number; kind = k; place = at line 1; body = Holds p }
-
-abbrev covers : Kind → ℕ → ℕ → Annotation
-covers k number line = record { number = number; kind = k; place = at line 1; body = Behaviors [] }
-
-abbrev contracted : List Annotation → List NamedBehavior → List Annotation → Function → Function
-contracted clauses behaviors covers f = record f { contract = Some (record { place = at 1 1; clauses = clauses; behaviors = behaviors; covers = covers }) }
-
-abbrev named : ℕ → List Annotation → NamedBehavior
-named name clauses = record { place = at 1 1; name = name; clauses = clauses }
-
-abbrev sets : ℕ → Expression → BlockItem
-sets decl e = Run (Eval (at 1 1) (assignment (at 1 1) (variable (at 1 1) 0 decl) e))
-
-abbrev calls : ℕ → Expression → BlockItem
-calls f e = Run (Eval (at 1 1) (call int_type (at 1 1) 0 f (e ∷ [])))
-
-abbrev returns : Expression → BlockItem
-returns e = Run (Return (at 1 1) (Some e))
-
-abbrev lit : ℕ → Expression
-lit n = literal (at 1 1) n
-
-abbrev var : ℕ → Expression
-var decl = variable (at 1 1) 0 decl
-
-abbrev minus_one : Expression
-minus_one = Node (at 1 1) int_type (Number (negsuc 0) None)
-
-abbrev x_of : ℕ → LogicTerm
-x_of decl = variable_term (at 1 (1000 + decl)) 0 decl
-
--- in an `ensures`
-abbrev formal : ℕ → LogicTerm
-formal decl = at_label Pre (x_of decl)
+use Rattle.c_model.proofs.WorkedTrees.{assignment, binary, call, int_variable, int_parameter, items_of, variable_term, binary_term, definition, unit_of, no_input}
+use Rattle.c_model.proofs.WorkedClauses.{at, result, at_label, is, plus, number, noted, covers, contracted, named, sets, calls, returns, lit, var, minus_one, x_of}
+use Rattle.c_model.proofs.WorkedClauses.{formal}
 
 -- ---- a parameter that changes
 --     /*@ requires n >= 0;
