@@ -9,6 +9,7 @@ use Rattle.c_syntax.specs.Layouts.{size_of}
 use Rattle.c_model.specs.Formed.{number_of}
 use Rattle.c_model.specs.Memory.{Store, Into, Value, Points, new_block, kill_from}
 use Rattle.c_model.specs.State.{State, Full, Over, Normal, Stop, births}
+use Rattle.c_model.specs.MonitoredRuns as machine
 use Rattle.mon_syntax.specs.Trees.{MonStatements}
 use Rattle.mon_syntax.specs.Meaning.{Result, Done, Stops, Flow, Next, exec_all}
 use Rattle.mon_syntax.specs.Meaning as monitored
@@ -52,7 +53,7 @@ pub data Births (structs : List StructType) (p : ℕ) (ds : List Declaration) (r
   AllAre : (after : List Value) → births structs ds s ≡ Normal tt (with_variables structs ds s)
       → q ≡ Done (Next after) (with_store (with_variables structs ds s).store t) [] → PointToBorn p ds s.store regs after → Births structs p ds regs s t q
   OneIsFull : (g : Segment) (to : State) → births structs ds s ≡ Stop (Over (Full g)) to → to.output ≡ s.output → to.steps ≡ s.steps
-      → q ≡ Stops (Full g) t.steps [] → Births structs p ds regs s t q
+      → q ≡ Stops (machine.Full g) t.steps [] → Births structs p ds regs s t q
 
 -- Statements enter the scope of these variables: from the program's blocks on they make those that the program has after the births.
 abbrev pub Enters : List StructType → ℕ → List Declaration → MonStatements → Type 0
