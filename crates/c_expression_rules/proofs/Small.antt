@@ -34,7 +34,7 @@ small_type structs (Ptr t) h = refl
 small_type structs (Array t n) h = and_first _ _ h
 small_type structs (Struct n) h = h
 small_type structs (Named x) h = refl
-small_type structs (StructTag x) h = refl
+small_type structs (StructTag x tag) h = refl
 small_type structs (EnumTag x at) h = refl
 
 -- an array that decays asks for no other size
@@ -45,5 +45,5 @@ small_decayed structs (Node at (Ptr t) k) h = h
 small_decayed structs (Node at (Array t n) k) h = h
 small_decayed structs (Node at (Struct n) k) h = h
 small_decayed structs (Node at (Named x) k) h = h
-small_decayed structs (Node at (StructTag x) k) h = h
+small_decayed structs (Node at (StructTag x tag) k) h = h
 small_decayed structs (Node at (EnumTag x place) k) h = h

@@ -359,10 +359,16 @@ fn put_named(
 }
 
 /// Puts the struct with a tag in its place (C99 6.7.2.3).
-fn put_struct(sight: &Sight, place: Place, tag: u32, t: &mut CType) -> Result<(), TypeFault>
-    ensures { Answers (λ _. plain_type t.new) (typed_type (plain_sight sight.now) place (StructTag tag)) result }
+fn put_struct(
+    sight: &Sight,
+    _place: Place,
+    name: u32,
+    tag: Place,
+    t: &mut CType,
+) -> Result<(), TypeFault>
+    ensures { Answers (λ _. plain_type t.new) (typed_type (plain_sight sight.now) _place (StructTag name tag)) result }
 {
-    let u = struct_tagged(sight, place, tag)?;
+    let u = struct_tagged(sight, tag, name)?;
     put_type(t, u);
     Ok(())
 }
@@ -403,9 +409,10 @@ pub fn type_written(
             let name = *x;
             put_named(alloc, sight, place, name, t)
         }
-        CType::StructTag(x) => {
-            let tag = *x;
-            put_struct(sight, place, tag, t)
+        CType::StructTag(x, at) => {
+            let name = *x;
+            let tag = *at;
+            put_struct(sight, place, name, tag, t)
         }
         CType::EnumTag(x, at) => {
             let name = *x;
