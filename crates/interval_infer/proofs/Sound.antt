@@ -169,7 +169,7 @@ held_of P (Some (Ptr t)) (Some a) r h n p e = subst P (some_is offset_range r e)
 held_of P (Some (Array t m)) (Some a) r h n p e = subst P (some_is a r e) (p a refl)
 held_of P (Some (Struct m)) (Some a) r h n p e = subst P (some_is a r e) (p a refl)
 held_of P (Some (ctype.Named x)) (Some a) r h n p e = absurd cc
-held_of P (Some (StructTag x)) (Some a) r h n p e = absurd cc
+held_of P (Some (StructTag x tag)) (Some a) r h n p e = absurd cc
 held_of P (Some (EnumTag x at)) (Some a) r h n p e = absurd cc
 
 place_of : (P : Range → Type 0) (t : Option PlainType) (r : Range) → ((k : CInt) → P (type_range k)) → P offset_range → place_range t ≡ Some r → P r
@@ -209,7 +209,7 @@ cast_of P (OfC t) a r p h e = by (integer_type t) e
     pointed (Array u n) f = absurd cc
     pointed (Struct n) f = absurd cc
     pointed (ctype.Named x) f = absurd cc
-    pointed (StructTag x) f = absurd cc
+    pointed (StructTag x tag) f = absurd cc
     pointed (EnumTag x at) f = absurd cc
 
     by : (o : Option CInt) → elim o [ None ↦ pointer_cast_range t a | Some k ↦ Some (if is_inside a (type_range k) then a else type_range k) ] ≡ Some r → P r
@@ -429,7 +429,7 @@ read_lies s (Some p) (Some (Array t n)) r z l e g = absurd cc
 read_lies s (Some p) (Some (Struct n)) r z l e g = absurd cc
 read_lies s (Some p) (Some Void) r z l e g = absurd cc
 read_lies s (Some p) (Some (ctype.Named x)) r z l e g = absurd cc
-read_lies s (Some p) (Some (StructTag x)) r z l e g = absurd cc
+read_lies s (Some p) (Some (StructTag x tag)) r z l e g = absurd cc
 read_lies s (Some p) (Some (EnumTag x at)) r z l e g = absurd cc
 
 -- each value that an operand has lies in its range
@@ -500,7 +500,7 @@ cast_lies (OfC t) (Some (Addressed x)) a r z e h g = by t g
     by (Array u n) g = absurd cc
     by (Struct n) g = absurd cc
     by (ctype.Named y) g = absurd cc
-    by (StructTag y) g = absurd cc
+    by (StructTag y tag) g = absurd cc
     by (EnumTag y at) g = absurd cc
 cast_lies (OfC t) (Some (Mathematical x)) a r z e h g = by (integer_type t) e g
   where

@@ -65,6 +65,7 @@ fn range_item(item: &mut Item) -> Result<(), TypeFault>
 {
     match item {
         Item::Declare(_) => Ok(()),
+        Item::Specify(..) => Ok(()),
         Item::Run(a) => range_statement(a),
         Item::Asserts(annots) => ranges(annots),
     }
