@@ -34,7 +34,7 @@ pub fn parts_of<'a>(structs: &'a [Layout], t: &'a CType) -> Result<Parts<'a>, Al
         CType::Array(_, Length::Left | Length::Written(_))
         | CType::Void
         | CType::Named(_)
-        | CType::StructTag(_)
+        | CType::StructTag(..)
         | CType::EnumTag(_, _) => Ok(Parts::Members(&[])),
     }
 }

@@ -141,7 +141,7 @@ pub fn each_scalar(
         CType::Array(_, Length::Left | Length::Written(_))
         | CType::Void
         | CType::Named(_)
-        | CType::StructTag(_)
+        | CType::StructTag(..)
         | CType::EnumTag(_, _) => Ok(()),
     }
 }
