@@ -136,21 +136,21 @@ has_body p f part e = by f.body refl
     by : (o : Option Statement) → f.body ≡ o → HasBody p f part
     by None g = absurd cc
     by (Some (Block at items)) g =
-        let formed : BodyRead AreRangedAsserts (Some (Block at items)) = subst (BodyRead AreRangedAsserts) g part.formed in
+        let formed : BodyRead AreRangedAsserts (Some (Block at items)) = subst (BodyRead AreRangedAsserts) g part.read.body in
         let typed : BodyTyped (with_parameters (inner part.sight) f.params) f.result (Some (Block at items)) = subst (BodyTyped (with_parameters (inner part.sight) f.params) f.result) g part.typed.body in
         let noted : BodyNoted (with_parameters (inner part.sight) f.params) (Some (Block at items)) = subst (BodyNoted (with_parameters (inner part.sight) f.params)) g part.noted in
         let numbers : BodyHasNumbers (Some (Block at items)) = subst BodyHasNumbers g (part.letters e) in
         record { at = at; items = items; is = g; formed = formed.0; typed = typed; noted = noted; letters = numbers }
-    by (Some (Empty at)) g = absurd (subst (BodyRead AreRangedAsserts) g part.formed)
-    by (Some (Eval at x)) g = absurd (subst (BodyRead AreRangedAsserts) g part.formed)
-    by (Some (If at x a b)) g = absurd (subst (BodyRead AreRangedAsserts) g part.formed)
-    by (Some (While at annots x a)) g = absurd (subst (BodyRead AreRangedAsserts) g part.formed)
-    by (Some (Do at a x)) g = absurd (subst (BodyRead AreRangedAsserts) g part.formed)
-    by (Some (For at annots first x step a)) g = absurd (subst (BodyRead AreRangedAsserts) g part.formed)
-    by (Some (Break at)) g = absurd (subst (BodyRead AreRangedAsserts) g part.formed)
-    by (Some (Continue at)) g = absurd (subst (BodyRead AreRangedAsserts) g part.formed)
-    by (Some (Return at x)) g = absurd (subst (BodyRead AreRangedAsserts) g part.formed)
-    by (Some _) g = absurd (subst (BodyRead AreRangedAsserts) g part.formed)
+    by (Some (Empty at)) g = absurd (subst (BodyRead AreRangedAsserts) g part.read.body)
+    by (Some (Eval at x)) g = absurd (subst (BodyRead AreRangedAsserts) g part.read.body)
+    by (Some (If at x a b)) g = absurd (subst (BodyRead AreRangedAsserts) g part.read.body)
+    by (Some (While at annots x a)) g = absurd (subst (BodyRead AreRangedAsserts) g part.read.body)
+    by (Some (Do at a x)) g = absurd (subst (BodyRead AreRangedAsserts) g part.read.body)
+    by (Some (For at annots first x step a)) g = absurd (subst (BodyRead AreRangedAsserts) g part.read.body)
+    by (Some (Break at)) g = absurd (subst (BodyRead AreRangedAsserts) g part.read.body)
+    by (Some (Continue at)) g = absurd (subst (BodyRead AreRangedAsserts) g part.read.body)
+    by (Some (Return at x)) g = absurd (subst (BodyRead AreRangedAsserts) g part.read.body)
+    by (Some _) g = absurd (subst (BodyRead AreRangedAsserts) g part.read.body)
 
 -- literals have their blocks after the globals, and are bytes
 pub record LiteralsStand (p : TranslationUnit) (globals : List Value) : Type 0 where
@@ -231,7 +231,7 @@ module _ (p : TranslationUnit) (globals : List Value) (main index : ℕ) (f : Fu
         (omega (arith, enough, f0, f1)) declared.born (λ old.
         items_follow w n body.items sight (around_body f.result) (behind_births p.structs here old ds) (with_variables (next_register r) ds spot) (next_register r + length ds) (entered ds r) (with_numbers ds living) refl scene
         (sees_born sight.entities ds living (found_parameters outer f.params (scope_for living) (sees_born part.sight.entities f.params names part.found) (declared_born f.params names))) (declared_born ds living) declared.born.local
-        refl refl declared.items_declare body.formed body.typed body.noted body.letters (omega (arith, f0)) enough)
+        refl (refl, refl) declared.items_declare body.formed body.typed body.noted body.letters (omega (arith, f0)) enough)
         regs s t m le
 
   pub body_follows : BodyFollows p globals main index f call calls n

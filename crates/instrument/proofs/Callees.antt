@@ -202,7 +202,7 @@ module _ (p : TranslationUnit) (parts : Parts p p.funcs) (gs : List Value)
           (parameters_are p gs main index g part body (call_of p (suc k)) deeper k literals calls_below)
           (parameters_own p gs main index g part body (call_of p (suc k)) deeper k literals calls_below)
           (body_follows p gs main index g part body (call_of p (suc k)) deeper k literals calls_below)
-          vs types at s t even bounded le)))
+          vs types at part.read.no_contract s t even bounded le)))
 
     -- what is called, so deep
     called_at : (k : ℕ) (f : Use) (t : PlainType) (es : Expressions) (callee : Signature) → HaveTypes callee.params es → bytes_eq (name_at p.names f.name) (codes "main") ≡ false

@@ -14,9 +14,10 @@ use Rattle.c_syntax.specs.Programs.{Function, TranslationUnit}
 use Rattle.c_model.specs.Integers.{fits}
 use Rattle.c_model.specs.Limits.{most_frames}
 use Rattle.c_model.specs.Memory.{Value, Integer, Store}
-use Rattle.c_model.specs.State.{State, Input, Outcome, Normal, on_outcome, ◌>>◌, frame, births, mark, within, restored}
+use Rattle.c_model.specs.State.{State, Input, Outcome, Normal, on_outcome, ◌>>=◌, ◌>>◌, frame, births, mark, called, answered}
 use Rattle.c_model.specs.State as source
-use Rattle.c_model.specs.Meaning.{Callee, Tables, tables_of, global_scope, initialise_all, is_definition, body_with, call_of, has_name, function_named, main_with, start, Ran, ran, run}
+use Rattle.c_model.specs.ContractChecks.{entry}
+use Rattle.c_model.specs.Meaning.{Callee, Tables, tables_of, global_scope, initialise_all, is_definition, body_with, call_of, has_name, function_named, after_main, main_with, start, Ran, ran, run}
 use Rattle.c_model.specs.Reports.{Extends, Agrees}
 use Rattle.c_model.specs.ExpressionTyping.{Sight, name_at, same_type}
 use Rattle.c_model.specs.UnitTyping.{room_fault, main_fault, has_no_parameters, no_main}
@@ -156,9 +157,9 @@ module _ (w : Setting) (base : ℕ) (blocks : List LiveBlock) (low : ℕ) (regs 
   abbrev ended : Did → Ran
   ended q = monitored.ran over_blocks (then_do q (at_return over_blocks (Integer (pos 0))))
 
-  ends_agree : (r : Outcome (Unit {0})) (q : Did) → Follows w (at_body base blocks int_type) low regs Next from r q → Agrees (ran (restored s0 r)) (ended q)
+  ends_agree : (r : Outcome (Unit {0})) (q : Did) → Follows w (at_body base blocks int_type) low regs Next from r q → Agrees (ran (answered s0 r)) (ended q)
   ends_agree r q (GoesOn s after t o same l b e e') =
-      subst (λ r. Agrees (ran (restored s0 r)) (ended q)) (sym e)
+      subst (λ r. Agrees (ran (answered s0 r)) (ended q)) (sym e)
       (same_agrees _ _ (ap ended e' ∙ ap (λ x. ran_with (source.Exits (pos 0)) x t.steps) (append-nil o ∙ sym (l.output ∙ ap (λ x. x ++ o) empty)) ∙ ap (ran_with (source.Exits (pos 0)) s.output) b.steps))
   ends_agree r q (Breaks s after t o i m l b e e') = absurd cc
   ends_agree r q (Continues s after t o i m l b e e') = absurd cc
@@ -167,16 +168,25 @@ module _ (w : Setting) (base : ℕ) (blocks : List LiveBlock) (low : ℕ) (regs 
       let is : (z : ℤ) × (v ≡ Integer z) × (fits I32 z ≡ true) = i in
       let returns : r ≡ source.Stop (source.Leaves (source.Returns (Some (Integer is.0)))) s = e ∙ ap (λ v. source.Stop (source.Leaves (source.Returns (Some v))) s) is.1 in
       let given : q ≡ Done (monitored.Returns (Some (Integer is.0))) t o = e' ∙ ap (λ v. Done (monitored.Returns (Some v)) t o) is.1 in
-      subst (λ r. Agrees (ran (restored s0 r)) (ended q)) (sym returns)
+      subst (λ r. Agrees (ran (answered s0 r)) (ended q)) (sym returns)
       (same_agrees _ _ (ap ended given ∙ ap (λ x. ran_with (source.Exits is.0) x t.steps) (append-nil o ∙ sym (l.output ∙ ap (λ x. x ++ o) empty)) ∙ ap (ran_with (source.Exits is.0) s.output) b.steps))
   ends_agree r q (IsOver y s o d e l e') =
-      subst (λ r. Agrees (ran (restored s0 r)) (ended q)) (sym e)
+      subst (λ r. Agrees (ran (answered s0 r)) (ended q)) (sym e)
       (same_agrees _ _ (ap ended e' ∙ ap (λ x. ran_with y x s.steps) (sym (l ∙ ap (λ x. x ++ o) empty))))
   ends_agree r q (IsUndefined at s o e l ext) =
       let end = then_do q (at_return over_blocks (Integer (pos 0))) in
       let far : Extends o (written end) = extends_trans o (written q) (written end) ext (written_then q (at_return over_blocks (Integer (pos 0)))) in
-      subst (λ r. Agrees (ran (restored s0 r)) (ended q)) (sym e)
+      subst (λ r. Agrees (ran (answered s0 r)) (ended q)) (sym e)
       (record { rest = far.rest; is = ran_output end ∙ far.is ∙ ap (λ x. x ++ far.rest) (sym (l ∙ ap (λ x. x ++ o) empty)) })
+
+-- without a contract nothing is asked of what main's body gives
+not_demanded : (r : Outcome (Unit {0})) → after_main None [] r ≡ r
+not_demanded (Normal u s) = refl
+not_demanded (source.Stop (source.Leaves source.Breaks) s) = refl
+not_demanded (source.Stop (source.Leaves source.Continues) s) = refl
+not_demanded (source.Stop (source.Leaves (source.Returns None)) s) = refl
+not_demanded (source.Stop (source.Leaves (source.Returns (Some v))) s) = refl
+not_demanded (source.Stop (source.Over e) s) = refl
 
 -- ---- the globals
 
@@ -352,16 +362,17 @@ module _ (p : TranslationUnit) (parts : Parts p p.funcs) (main_is : main_fault p
     framed_by b = cond b (Normal tt (record s { calls = s.calls + 1 })) (source.Stop (source.Over (source.Full Frames)) s)
 
     abbrev main_framed : Bool → Outcome (Unit {0})
-    main_framed b = restored s (on_outcome (on_outcome (on_outcome (framed_by b) (λ _. births T.structs [])) (λ _. mark None)) (λ _. body_with T f.body call (suc n)))
+    main_framed b = answered s (on_outcome (on_outcome (on_outcome (framed_by b) (λ _. births T.structs [])) (λ _. mark None)) (λ _ s. after_main None [] (body_with T f.body call (suc n) s)))
 
-    source_main : main_with T (function_named p (codes "main") p.funcs) call (suc n) s ≡ restored s (body_with T f.body call (suc n) entered)
+    source_main : main_with T (function_named p (codes "main") p.funcs) call (suc n) s ≡ answered s (body_with T f.body call (suc n) entered)
     source_main =
         ap (λ o. main_with T o call (suc n) s) (source_finds p p.funcs ∙ found.first)
-        ∙ ap (λ ds. within (frame >> births T.structs ds >> mark None >> body_with T f.body call (suc n)) s) found.params
+        ∙ ap (λ ds. called (frame >> births T.structs ds >> mark None >> (entry f.contract >>= λ hs s. after_main f.contract hs (body_with T f.body call (suc n) s))) s) found.params
+        ∙ ap (λ c. called (frame >> births T.structs [] >> mark None >> (entry c >>= λ hs s. after_main c hs (body_with T f.body call (suc n) s))) s) main_picked.part.read.no_contract
         ∙ framed (nat_lt s.calls most_frames) (ap (λ k. nat_lt k most_frames) no_calls)
       where
-        framed : (b : Bool) → b ≡ true → main_framed b ≡ restored s (body_with T f.body call (suc n) entered)
-        framed true e = refl
+        framed : (b : Bool) → b ≡ true → main_framed b ≡ answered s (body_with T f.body call (suc n) entered)
+        framed true e = ap (answered s) (not_demanded (body_with T f.body call (suc n) entered))
         framed false e = absurd cc
 
     -- the target's
@@ -386,7 +397,7 @@ module _ (p : TranslationUnit) (parts : Parts p p.funcs) (main_is : main_fault p
     main_agrees : Agrees (ran (main_with T (function_named p (codes "main") p.funcs) call (suc n) s)) (monitored.ran over_blocks (then_do (writes o (runs (w s.store) n t (code_of p mine f) after)) (at_return over_blocks (zero_of f))))
     main_agrees =
         subst (λ a. Agrees (ran a) (monitored.ran over_blocks (then_do (writes o (runs (w s.store) n t (code_of p mine f) after)) (at_return over_blocks (zero_of f))))) (sym source_main)
-        (subst (λ b. Agrees (ran (restored s (body_with T f.body call (suc n) entered))) (monitored.ran over_blocks b)) (sym target_main)
+        (subst (λ b. Agrees (ran (answered s (body_with T f.body call (suc n) entered))) (monitored.ran over_blocks b)) (sym target_main)
         (ends_agree (w s.store) (length s.store) [] low after s silent refl _ (writes o did) from_silent))
 
   index_is : m ≡ 0 + index_by (has_bytes p.names (codes "main")) p.funcs

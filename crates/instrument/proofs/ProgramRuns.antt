@@ -5,7 +5,7 @@ use Rattle.c_model.specs.State.{Input}
 use Rattle.c_model.specs.Meaning.{is_definition, run}
 use Rattle.c_model.specs.Reports.{Agrees}
 use Rattle.c_model.specs.UnitTyping.{items_of_file}
-use Rattle.c_model.specs.ReadTree.{BodyRead, FunctionsRead, AreBytes, TextsAreBytes}
+use Rattle.c_model.specs.ReadTree.{FunctionRead, FunctionsRead, AreBytes, TextsAreBytes}
 use Rattle.c_model.specs.AcceptedPrograms.{AreDefined, IsProgram}
 use Rattle.c_model.specs.UnrangedPrograms.{FunctionsRanged}
 use Rattle.mon_syntax.specs.BlockMemory.{block_run}
@@ -30,8 +30,8 @@ texts_are [] h = tt
 texts_are (x ∷ xs) h = (octets x.bytes h.0, texts_are xs h.1)
 
 module _ (p : TranslationUnit) (q : IsProgram p) where
-  part_of : (f : Function) → FunctionInPlace p f → IsNumbered (items_of_file p) 0 4294967295 f → BodyRead AreRangedAsserts f.body → (is_definition f ≡ true → BodyHasNumbers f.body) → Part p f
-  part_of f here n formed letters = record {
+  part_of : (f : Function) → FunctionInPlace p f → IsNumbered (items_of_file p) 0 4294967295 f → FunctionRead AreRangedAsserts f → (is_definition f ≡ true → BodyHasNumbers f.body) → Part p f
+  part_of f here n read letters = record {
     sight = here.sight;
     names = here.place.names;
     texts = here.place.texts;
@@ -39,7 +39,7 @@ module _ (p : TranslationUnit) (q : IsProgram p) where
     found = here.place.found;
     typed = here.typed;
     noted = here.noted;
-    formed = formed;
+    read = read;
     letters = letters;
     high = n.high;
     between = n.between;
@@ -49,10 +49,10 @@ module _ (p : TranslationUnit) (q : IsProgram p) where
   }
 
   parts_of : (main k : ℕ) (front fs : List Function) → front ++ fs ≡ p.funcs → FunctionsRead AreRangedAsserts fs → FunctionsHaveNumbers p main k fs → Parts p fs
-  parts_of main k front [] is formed numbers = tt
-  parts_of main k front (f ∷ fs) is formed numbers = (
-    part_of f (function_in_place p q front fs f is) (function_is_numbered p q.numbered front fs f is) formed.0.body (λ e. (numbers.0 e).body),
-    parts_of main (if is_definition f then suc k else k) (front ++ f ∷ []) fs (append_assoc front (f ∷ []) fs ∙ is) formed.1 numbers.1,
+  parts_of main k front [] is read numbers = tt
+  parts_of main k front (f ∷ fs) is read numbers = (
+    part_of f (function_in_place p q front fs f is) (function_is_numbered p q.numbered front fs f is) read.0 (λ e. (numbers.0 e).body),
+    parts_of main (if is_definition f then suc k else k) (front ++ f ∷ []) fs (append_assoc front (f ∷ []) fs ∙ is) read.1 numbers.1,
   )
 
   globals_known : InitialsHaveLetters p.globals → GlobalsKnown p

@@ -11,7 +11,7 @@ use Rattle.c_model.specs.UnitTyping.{with_parameters, has_no_parameters}
 use Rattle.c_model.specs.TypedTrees.{FunctionTyped, Calls}
 use Rattle.c_model.specs.Formed.{declared_in_body}
 use Rattle.c_model.proofs.TypedParts.{and_true}
-use Rattle.c_model.specs.ReadTree.{BodyRead}
+use Rattle.c_model.specs.ReadTree.{FunctionRead}
 use Rattle.instrument.proofs.RangedTrees.{AreRangedAsserts}
 use Rattle.instrument.specs.Limits.{BodyHasNumbers}
 use Rattle.instrument.specs.Translation.{function_of, functions_from, index_of_main}
@@ -37,7 +37,7 @@ pub record Part (p : TranslationUnit) (f : Function) : Type 0 where
   pub found : AreFound sight.entities (scope_for (names_of (global_scope 1 p.globals)))
   pub typed : FunctionTyped sight f
   pub noted : BodyNoted (with_parameters (inner sight) f.params) f.body
-  pub formed : BodyRead AreRangedAsserts f.body
+  pub read : FunctionRead AreRangedAsserts f
   pub letters : is_definition f ≡ true → BodyHasNumbers f.body
   -- the numbers of what it declares are its own
   pub high : ℕ
