@@ -8,6 +8,7 @@ use Rattle.c_model.specs.Formed.{IsAssert, IsShortClause}
 use Rattle.c_model.specs.Integers.{truth}
 use Rattle.c_model.specs.Memory.{Value}
 use Rattle.c_model.specs.State.{State, Broken}
+use Rattle.c_model.specs.MonitoredRuns as machine
 use Rattle.c_model.specs.Logic.{Says, SaysNothing}
 use Rattle.c_model.specs.Logic as source
 use Rattle.c_model.specs.Predicates.{clause, check, checks}
@@ -52,7 +53,7 @@ module _ (w : Setting) (n : ℕ) (low : ℕ) (bound : Bindings) (s : State) (t :
   -- what an assertion comes to
   abbrev judges : Annotation → ℤ → ℤ → List Value → Did
   judges a d v regs =
-      monitored.judged over_blocks d v (Broken a.number a.place.line a.kind how.Undefined) (Broken a.number a.place.line a.kind how.False) (Done (Next regs) t []) t.steps
+      monitored.judged over_blocks d v (machine.Broken a.number a.place.line a.kind how.Undefined) (machine.Broken a.number a.place.line a.kind how.False) (Done (Next regs) t []) t.steps
 
   assert_runs : (a : Annotation) (d v : MonExpression) (i j : ℤ) (regs : List Value) → HasNumber w regs t.mem d i → HasNumber w regs t.mem v j → runs w n t (one (Assert d v a.number a.place.line a.kind)) regs ≡ judges a i j regs
   assert_runs a d v i j regs p q =
@@ -64,11 +65,13 @@ module _ (w : Setting) (n : ℕ) (low : ℕ) (bound : Bindings) (s : State) (t :
     says_follows : (a : Annotation) (regs after : List Value) (says : Bool) → Same low regs after → Follows w h low regs Next s (source.judged a (Says says s.steps) s) (judges a (pos 1) (truth says) after)
     says_follows a regs after true same = onward w h low regs after Next s s [] _ (Done (Next after) t []) same (later_same s bounded) (stays w h low after s t bounded b)
     says_follows a regs after false same =
-        IsOver (Broken a.number a.place.line a.kind how.False) s [] (λ h. absurd cc) refl (sym (append-nil s.output)) (ap (λ k. Stops (Broken a.number a.place.line a.kind how.False) k []) b.steps)
+        IsOver (Broken a.number a.place.line a.kind how.False) (machine.Broken a.number a.place.line a.kind how.False) s [] refl refl (sym (append-nil s.output))
+        (ap (λ k. Stops (machine.Broken a.number a.place.line a.kind how.False) k []) b.steps)
 
     nothing_follows : (a : Annotation) (regs after : List Value) (v : ℤ) → Follows w h low regs Next s (source.judged a (SaysNothing s.steps) s) (judges a (pos 0) v after)
     nothing_follows a regs after v =
-        IsOver (Broken a.number a.place.line a.kind how.Undefined) s [] (λ h. absurd cc) refl (sym (append-nil s.output)) (ap (λ k. Stops (Broken a.number a.place.line a.kind how.Undefined) k []) b.steps)
+        IsOver (Broken a.number a.place.line a.kind how.Undefined) (machine.Broken a.number a.place.line a.kind how.Undefined) s [] refl refl (sym (append-nil s.output))
+        (ap (λ k. Stops (machine.Broken a.number a.place.line a.kind how.Undefined) k []) b.steps)
 
     answer_follows : (a : Annotation) (regs after : List Value) (o : Option Bool) → Same low regs after
         → Follows w h low regs Next s (source.judged a (said o s.steps) s) (judges a (truth (is_some o)) (truth (is_true o)) after)

@@ -6,6 +6,7 @@ use Rattle.c_model.specs.Memory.{Value, kill_from}
 use Rattle.c_model.specs.State.{State, Full, Outcome, Normal, Evaluation, on_outcome, ◌>>◌, births, within, restored, back_to}
 use Rattle.c_model.proofs.Agreement.{extends_trans}
 use Rattle.mon_syntax.specs.Registers.{Bindings, RegisterTable}
+use Rattle.c_model.specs.MonitoredRuns as machine
 use Rattle.mon_syntax.specs.Meaning.{Done, Stops, Next, Goes, Returns, then_do, at_next, writes, exec_all}
 use Rattle.mon_syntax.specs.BlockMemory.{over_blocks}
 use Rattle.mon_syntax.specs.LiveBlocks.{LiveBlock, live_in}
@@ -101,7 +102,7 @@ module _ (w : Setting) (h : Here) (n : ℕ) (old : State) (new : List LiveBlock)
   block_ends inner r q (IsLeft v s t o i l b e f) =
       IsLeft v (back_to old s) t o i (later_back s o l) (beside_back s o l w.base t (omega (arith, nested, deep)) b) (ap (restored old) e)
       (ap ends f ∙ ap (Done (Returns v) t) (append-nil o))
-  block_ends inner r q (IsOver x s o d e l f) = IsOver x (back_to old s) o d (ap (restored old) e) (l ∙ ap (λ x. x ++ o) output) (ap ends f)
+  block_ends inner r q (IsOver x z s o d e l f) = IsOver x z (back_to old s) o d (ap (restored old) e) (l ∙ ap (λ x. x ++ o) output) (ap ends f)
   block_ends inner r q (IsUndefined at s o e l ext) =
       IsUndefined at (back_to old s) o (ap (restored old) e) (l ∙ ap (λ x. x ++ o) output)
       (extends_trans o (written q) (written (ends q)) ext (written_then q (at_next (exec_all over_blocks w.globals code w.calls n))))
@@ -171,10 +172,10 @@ module _ (w : Setting) (h : Here) (spot : Spot) (low : ℕ) (r : RegisterTable) 
         by : Births w.unit.structs p ds regs s t (runs w n t (target.births w.unit.structs p ds) regs)
             → Follows w h low regs Next s (within (births w.unit.structs ds >> x) s) (then_do (runs w n t (target.births w.unit.structs p ds) regs) (at_next (λ r u. rest (runs w n u a r))))
         by (OneIsFull g to2 e o k f) =
-            IsOver (Full g) (back_to s to2) [] (λ x. absurd cc)
+            IsOver (Full g) (machine.Full g) (back_to s to2) [] refl
             (ap (λ r. restored s (on_outcome r (λ _. x))) e)
             (o ∙ sym (append-nil s.output))
-            (ap (λ q. then_do q (at_next (λ r u. rest (runs w n u a r)))) f ∙ ap (λ i. Stops (Full g) i []) (m.beside.steps ∙ sym k))
+            (ap (λ q. then_do q (at_next (λ r u. rest (runs w n u a r)))) f ∙ ap (λ i. Stops (machine.Full g) i []) (m.beside.steps ∙ sym k))
         by (AllAre after e f born) =
             let v = with_store to.store t in
             let b = besides w.unit.structs ds s in

@@ -15,6 +15,7 @@ use Rattle.c_model.specs.Memory.{Value, Store}
 use Rattle.c_model.specs.State.{State, Spent, Over, Stop, Evaluation, ◌>>=◌, ◌>>◌, on_outcome, step_from, frame, alone, mark, called as in_call}
 use Rattle.c_model.specs.Meaning.{Tables, tables_of, is_definition, global_scope, is_of_library, definition_at, call_with, call_of, library_call, parameters, result_with}
 use Rattle.c_model.specs.ContractChecks.{entry}
+use Rattle.c_model.specs.MonitoredRuns as machine
 use Rattle.c_model.specs.ExpressionTyping.{Sight, Signature, name_at, library_function, of_library, inner}
 use Rattle.c_model.specs.UnitTyping.{types_of}
 use Rattle.c_model.specs.TypedTrees.{HaveTypes, Calls, IsScalar}
@@ -172,10 +173,10 @@ module _ (p : TranslationUnit) (parts : Parts p p.funcs) (gs : List Value)
       -- no call is made where no step is left
       function_zero : AllDo (w 0) 0 f g.result (types_of g.params)
       function_zero vs types s t even bounded le at into regs args has =
-          DoesCall (Stops Spent 0 []) (calls_run 0 into args vs regs t has)
-          (EndsRun Spent s [] (λ h. absurd cc)
+          DoesCall (Stops machine.Spent 0 []) (calls_run 0 into args vs regs t has)
+          (EndsRun Spent machine.Spent s [] refl
           (source_is 0 at vs s ∙ spent s.steps (omega (arith, le)))
-          (sym (append-nil s.output)) (ap (λ k. Stops Spent k []) (omega (arith, le))))
+          (sym (append-nil s.output)) (ap (λ k. Stops machine.Spent k []) (omega (arith, le))))
         where
           inside : Evaluation Value
           inside = in_call (frame >> alone (global_scope 1 p.globals) >> parameters T at g.params vs >> mark None >> (entry g.contract >>= λ hs. result_with T g hs (call_of p 0) 0))

@@ -1,11 +1,13 @@
 -- What a call does on both sides: where the source's comes back, so does the target's, with the same value and the same blocks.
-use Rattle.std.proofs.Common.{◌≡◌, ◌≢◌, ℕ, ◌≤◌, List, [], ◌∷◌, ◌++◌, Option, Some, None, sym, ◌∙◌}
+use Rattle.std.proofs.Common.{◌≡◌, ℕ, ◌≤◌, List, [], ◌∷◌, ◌++◌, Option, Some, None, sym, ◌∙◌}
 use Rattle.c_syntax.specs.declared.place.Place.{Place}
 use Rattle.c_syntax.specs.declared.expression.Use.{Use}
 use Rattle.c_syntax.specs.Ctypes.{PlainType}
 use Rattle.c_syntax.specs.Expressions.{Expressions}
 use Rattle.c_model.specs.Memory.{Value, NoValue}
-use Rattle.c_model.specs.State.{State, Final, Fault, Undefined, Over, Outcome, Normal, Stop}
+use Rattle.c_model.specs.State.{State, Final, Undefined, Over, Outcome, Normal, Stop}
+use Rattle.c_model.specs.MonitoredRuns.{machine_end}
+use Rattle.c_model.specs.MonitoredRuns as machine
 use Rattle.c_model.specs.Reports.{Extends}
 use Rattle.c_model.specs.TypedTrees.{HaveTypes}
 use Rattle.c_model.specs.AcceptedPrograms.{AreScalar}
@@ -36,7 +38,7 @@ Alike (Some z) v = v ≡ z
 -- from these states a call of the source and one of the target do the same
 pub data Called (s : State) (result : PlainType) (r : Outcome Value) (q : Result Target Value) : Type 0 where
   Gives : (z : Option Value) (v : Value) (to : State) (u : Target) (o : List ℕ) → IsResult result z → Alike z v → Later s to o → Even to u → r ≡ Normal (value_of z) to → q ≡ Done v u o → Called s result r q
-  EndsRun : (e : Final) (to : State) (o : List ℕ) → e ≢ Fault → r ≡ Stop (Over e) to → to.output ≡ s.output ++ o → q ≡ Stops e to.steps o → Called s result r q
+  EndsRun : (e : Final) (z : machine.Final) (to : State) (o : List ℕ) → machine_end e ≡ Some z → r ≡ Stop (Over e) to → to.output ≡ s.output ++ o → q ≡ Stops z to.steps o → Called s result r q
   HasNoMeaning : (at : Place) (to : State) (o : List ℕ) → r ≡ Stop (Over (Undefined at)) to → to.output ≡ s.output ++ o → Extends o (written q) → Called s result r q
 
 -- values of these types

@@ -17,12 +17,14 @@ use Rattle.c_model.specs.Memory.{Value, Integer, Store}
 use Rattle.c_model.specs.State.{State, Input, Outcome, Normal, on_outcome, ◌>>=◌, ◌>>◌, frame, births, mark, called, answered}
 use Rattle.c_model.specs.State as source
 use Rattle.c_model.specs.ContractChecks.{entry}
-use Rattle.c_model.specs.Meaning.{Callee, Tables, tables_of, global_scope, initialise_all, is_definition, body_with, call_of, has_name, function_named, after_main, main_with, start, Ran, ran, run}
-use Rattle.c_model.specs.Reports.{Extends, Agrees}
+use Rattle.c_model.specs.Meaning.{Callee, Tables, tables_of, global_scope, initialise_all, is_definition, body_with, call_of, has_name, function_named, after_main, main_with, start, ran_to, ran, run}
+use Rattle.c_model.specs.MonitoredRuns.{machine_end}
+use Rattle.c_model.specs.MonitoredRuns as machine
+use Rattle.c_model.specs.Reports.{Extends, agrees_at, Agrees}
 use Rattle.c_model.specs.ExpressionTyping.{Sight, name_at, same_type}
 use Rattle.c_model.specs.UnitTyping.{room_fault, main_fault, has_no_parameters, no_main}
 use Rattle.c_model.specs.TypedTrees.{Calls}
-use Rattle.c_model.proofs.Agreement.{Agrees-same, extends_trans}
+use Rattle.c_model.proofs.Agreement.{extends_trans}
 use Rattle.c_model.proofs.TypedParts.{same_type_is}
 use Rattle.mon_syntax.specs.declared.tree.MonType.{MonType}
 use Rattle.mon_syntax.specs.Registers.{no_registers, with_kinds}
@@ -146,21 +148,22 @@ ran_output : (q : Result Target Value) → (monitored.ran over_blocks q).output 
 ran_output (Done v s o) = output_of_exit (integer_of v) s.steps o
 ran_output (Stops e n o) = refl
 
-same_agrees : (a b : Ran) → b ≡ a → Agrees a b
-same_agrees a b e = subst (Agrees a) (sym e) (Agrees-same a)
-
-abbrev ran_with : source.Final → List ℕ → ℕ → Ran
+abbrev ran_with : machine.Final → List ℕ → ℕ → machine.Ran
 ran_with e o n = record { final = e; output = o; left = n }
+
+-- the same end
+ends_alike : (e : source.Final) (z : machine.Final) (s : State) (b : machine.Ran) → machine_end e ≡ Some z → b ≡ ran_with z s.output s.steps → Agrees (ran_to e s) b
+ends_alike e z s b same h = subst (λ f. agrees_at f s.output s.steps b) (sym same) h
 
 -- what main's body does, and the call's end
 module _ (w : Setting) (base : ℕ) (blocks : List LiveBlock) (low : ℕ) (regs : List Value) (s0 from : State) (empty : from.output ≡ []) where
-  abbrev ended : Did → Ran
+  abbrev ended : Did → machine.Ran
   ended q = monitored.ran over_blocks (then_do q (at_return over_blocks (Integer (pos 0))))
 
   ends_agree : (r : Outcome (Unit {0})) (q : Did) → Follows w (at_body base blocks int_type) low regs Next from r q → Agrees (ran (answered s0 r)) (ended q)
   ends_agree r q (GoesOn s after t o same l b e e') =
       subst (λ r. Agrees (ran (answered s0 r)) (ended q)) (sym e)
-      (same_agrees _ _ (ap ended e' ∙ ap (λ x. ran_with (source.Exits (pos 0)) x t.steps) (append-nil o ∙ sym (l.output ∙ ap (λ x. x ++ o) empty)) ∙ ap (ran_with (source.Exits (pos 0)) s.output) b.steps))
+      (ap ended e' ∙ ap (λ x. ran_with (machine.Exits (pos 0)) x t.steps) (append-nil o ∙ sym (l.output ∙ ap (λ x. x ++ o) empty)) ∙ ap (ran_with (machine.Exits (pos 0)) s.output) b.steps)
   ends_agree r q (Breaks s after t o i m l b e e') = absurd cc
   ends_agree r q (Continues s after t o i m l b e e') = absurd cc
   ends_agree r q (IsLeft None s t o i l b e e') = absurd i
@@ -169,10 +172,10 @@ module _ (w : Setting) (base : ℕ) (blocks : List LiveBlock) (low : ℕ) (regs 
       let returns : r ≡ source.Stop (source.Leaves (source.Returns (Some (Integer is.0)))) s = e ∙ ap (λ v. source.Stop (source.Leaves (source.Returns (Some v))) s) is.1 in
       let given : q ≡ Done (monitored.Returns (Some (Integer is.0))) t o = e' ∙ ap (λ v. Done (monitored.Returns (Some v)) t o) is.1 in
       subst (λ r. Agrees (ran (answered s0 r)) (ended q)) (sym returns)
-      (same_agrees _ _ (ap ended given ∙ ap (λ x. ran_with (source.Exits is.0) x t.steps) (append-nil o ∙ sym (l.output ∙ ap (λ x. x ++ o) empty)) ∙ ap (ran_with (source.Exits is.0) s.output) b.steps))
-  ends_agree r q (IsOver y s o d e l e') =
+      (ap ended given ∙ ap (λ x. ran_with (machine.Exits is.0) x t.steps) (append-nil o ∙ sym (l.output ∙ ap (λ x. x ++ o) empty)) ∙ ap (ran_with (machine.Exits is.0) s.output) b.steps)
+  ends_agree r q (IsOver y z s o d e l e') =
       subst (λ r. Agrees (ran (answered s0 r)) (ended q)) (sym e)
-      (same_agrees _ _ (ap ended e' ∙ ap (λ x. ran_with y x s.steps) (sym (l ∙ ap (λ x. x ++ o) empty))))
+      (ends_alike y z s (ended q) d (ap ended e' ∙ ap (λ x. ran_with z x s.steps) (sym (l ∙ ap (λ x. x ++ o) empty))))
   ends_agree r q (IsUndefined at s o e l ext) =
       let end = then_do q (at_return over_blocks (Integer (pos 0))) in
       let far : Extends o (written end) = extends_trans o (written q) (written end) ext (written_then q (at_return over_blocks (Integer (pos 0)))) in
@@ -187,6 +190,7 @@ not_demanded (source.Stop (source.Leaves source.Continues) s) = refl
 not_demanded (source.Stop (source.Leaves (source.Returns None)) s) = refl
 not_demanded (source.Stop (source.Leaves (source.Returns (Some v))) s) = refl
 not_demanded (source.Stop (source.Over e) s) = refl
+not_demanded (source.Stop source.Stuck s) = refl
 
 -- ---- the globals
 
@@ -206,7 +210,7 @@ has_globals w k e = record { places = k.places; constant = k.constant; letters =
 
 -- what stands in front of main's body, and then main
 module _ (w : Setting) (low : ℕ) (regs : List Value) (from : State) (empty : from.output ≡ []) (x : State → Outcome (Unit {0})) (g : List Value → Target → Did) (z : Value) where
-  abbrev goes_on : Did → Ran
+  abbrev goes_on : Did → machine.Ran
   goes_on q = monitored.ran over_blocks (then_do (then_do q (at_next g)) (at_return over_blocks z))
 
   front_agrees : (r : Outcome (Unit {0})) (q : Did)
@@ -222,10 +226,10 @@ module _ (w : Setting) (low : ℕ) (regs : List Value) (from : State) (empty : f
       let returns : r ≡ source.Stop (source.Leaves (source.Returns (Some (Integer is.0)))) s = e ∙ ap (λ v. source.Stop (source.Leaves (source.Returns (Some v))) s) is.1 in
       let given : q ≡ Done (monitored.Returns (Some (Integer is.0))) t o = e' ∙ ap (λ v. Done (monitored.Returns (Some v)) t o) is.1 in
       subst (λ r. Agrees (ran (on_outcome r (λ _. x))) (goes_on q)) (sym returns)
-      (same_agrees _ _ (ap goes_on given ∙ ap (λ x. ran_with (source.Exits is.0) x t.steps) (append-nil (o ++ []) ∙ append-nil o ∙ sym (l.output ∙ ap (λ x. x ++ o) empty)) ∙ ap (ran_with (source.Exits is.0) s.output) b.steps))
-  front_agrees r q go (IsOver y s o d e l e') =
+      (ap goes_on given ∙ ap (λ x. ran_with (machine.Exits is.0) x t.steps) (append-nil (o ++ []) ∙ append-nil o ∙ sym (l.output ∙ ap (λ x. x ++ o) empty)) ∙ ap (ran_with (machine.Exits is.0) s.output) b.steps)
+  front_agrees r q go (IsOver y v s o d e l e') =
       subst (λ r. Agrees (ran (on_outcome r (λ _. x))) (goes_on q)) (sym e)
-      (same_agrees _ _ (ap goes_on e' ∙ ap (λ x. ran_with y x s.steps) (sym (l ∙ ap (λ x. x ++ o) empty))))
+      (ends_alike y v s (goes_on q) d (ap goes_on e' ∙ ap (λ x. ran_with v x s.steps) (sym (l ∙ ap (λ x. x ++ o) empty))))
   front_agrees r q go (IsUndefined at s o e l ext) =
       let mid = then_do q (at_next g) in
       let end = then_do mid (at_return over_blocks z) in

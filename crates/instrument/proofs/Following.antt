@@ -1,18 +1,20 @@
 -- How the target follows the source through statements, and how it goes on from part to part.
-use Rattle.std.proofs.Common.{◌≡◌, ◌≢◌, ℕ, ◌≤◌, ℤ, pos, Bool, true, false, cond, List, [], ◌++◌, length, Option, Some, None, refl, sym, ap, ◌∙◌, subst, arith, append_assoc}
+use Rattle.std.proofs.Common.{◌≡◌, ℕ, ◌≤◌, ℤ, pos, Bool, true, false, cond, List, [], ◌++◌, length, Option, Some, None, refl, sym, ap, ◌∙◌, subst, arith, append_assoc}
 use Rattle.std.proofs.lemmas.List.{append-nil}
 use Rattle.std.specs.Ordering.{int_eq}
 use Rattle.c_syntax.specs.declared.place.Place.{Place}
 use Rattle.c_syntax.specs.Ctypes.{PlainType}
 use Rattle.c_syntax.specs.Layouts.{Scalar, scalar_of}
 use Rattle.c_model.specs.Memory.{Pointer, Value, Integer, Points, kill_from}
-use Rattle.c_model.specs.State.{State, Scope, Final, Fault, Undefined, Leaves, Over, Outcome, Normal, Stop, Evaluation, on_outcome}
+use Rattle.c_model.specs.State.{State, Scope, Final, Undefined, Leaves, Over, Outcome, Normal, Stop, Evaluation, on_outcome}
 use Rattle.c_model.specs.State as source
 use Rattle.c_model.specs.Meaning.{is_zero}
 use Rattle.c_model.specs.Meaning as source_meaning
 use Rattle.c_model.specs.Reports.{Extends}
 use Rattle.c_model.proofs.Agreement.{extends_trans}
 use Rattle.mon_syntax.specs.Registers.{Bindings}
+use Rattle.c_model.specs.MonitoredRuns.{machine_end}
+use Rattle.c_model.specs.MonitoredRuns as machine
 use Rattle.mon_syntax.specs.Meaning.{Done, Stops, Flow, Next, Goes, Returns, writes, then_do, at_next, choose}
 use Rattle.mon_syntax.specs.LiveBlocks.{live_in}
 use Rattle.mon_syntax.specs.Trees.{MonExpression, MonStatements}
@@ -82,7 +84,7 @@ pub data Follows (w : Setting) (h : Here) (low : ℕ) (regs : List Value) (on : 
       → q ≡ Done (Goes (next_label h.loops) after) t o → Follows w h low regs on from r q
   IsLeft : (v : Option Value) (s : State) (t : Target) (o : List ℕ) → IsResult h.result v → Later from s o → Beside w (kill_from w.base s.store) s t → r ≡ Stop (Leaves (source.Returns v)) s → q ≡ Done (Returns v) t o
       → Follows w h low regs on from r q
-  IsOver : (e : Final) (s : State) (o : List ℕ) → e ≢ Fault → r ≡ Stop (Over e) s → s.output ≡ from.output ++ o → q ≡ Stops e s.steps o → Follows w h low regs on from r q
+  IsOver : (e : Final) (z : machine.Final) (s : State) (o : List ℕ) → machine_end e ≡ Some z → r ≡ Stop (Over e) s → s.output ≡ from.output ++ o → q ≡ Stops z s.steps o → Follows w h low regs on from r q
   IsUndefined : (at : Place) (s : State) (o : List ℕ) → r ≡ Stop (Over (Undefined at)) s → s.output ≡ from.output ++ o → Extends o (written q) → Follows w h low regs on from r q
 
 -- ---- later states
@@ -147,7 +149,7 @@ module _ (w : Setting) (h : Here) (low : ℕ) where
   onward regs mid on from s o r q same l (Continues u after t p i m k b e f) =
       Continues u after t (o ++ p) i (same_trans low low regs mid after (omega arith) same m) (later_trans from s u o p l k) b e (ap (writes o) f)
   onward regs mid on from s o r q same l (IsLeft v u t p i k b e f) = IsLeft v u t (o ++ p) i (later_trans from s u o p l k) b e (ap (writes o) f)
-  onward regs mid on from s o r q same l (IsOver x u p d e k f) = IsOver x u (o ++ p) d e (k ∙ ap (λ y. y ++ p) l.output ∙ append_assoc from.output o p) (ap (writes o) f)
+  onward regs mid on from s o r q same l (IsOver x z u p d e k f) = IsOver x z u (o ++ p) d e (k ∙ ap (λ y. y ++ p) l.output ∙ append_assoc from.output o p) (ap (writes o) f)
   onward regs mid on from s o r q same l (IsUndefined at u p e k x) =
       IsUndefined at u (o ++ p) e (k ∙ ap (λ y. y ++ p) l.output ∙ append_assoc from.output o p)
       (record { rest = x.rest; is = written_writes o q ∙ ap (λ y. o ++ y) x.is ∙ sym (append_assoc o p x.rest) })
@@ -191,8 +193,8 @@ module _ (w : Setting) (h : Here) (low : ℕ) where
       Continues s after t o i m l b (ap (λ r. on_outcome r (λ _. f)) e) (ap (λ q. then_do q (at_next g)) e' ∙ ap (Done (Goes (next_label h.loops) after) t) (append-nil o))
   follows_then regs on from r q f g (IsLeft v s t o i l b e e') k =
       IsLeft v s t o i l b (ap (λ r. on_outcome r (λ _. f)) e) (ap (λ q. then_do q (at_next g)) e' ∙ ap (Done (Returns v) t) (append-nil o))
-  follows_then regs on from r q f g (IsOver x s o d e l e') k =
-      IsOver x s o d (ap (λ r. on_outcome r (λ _. f)) e) l (ap (λ q. then_do q (at_next g)) e')
+  follows_then regs on from r q f g (IsOver x z s o d e l e') k =
+      IsOver x z s o d (ap (λ r. on_outcome r (λ _. f)) e) l (ap (λ q. then_do q (at_next g)) e')
   follows_then regs on from r q f g (IsUndefined at s o e l ext) k =
       IsUndefined at s o (ap (λ r. on_outcome r (λ _. f)) e) l (extends_trans o (written q) _ ext (written_then q (at_next g)))
 
@@ -202,7 +204,7 @@ module _ (w : Setting) (h : Here) (low : ℕ) where
   follows_lower high regs on from r q le (Breaks s after t o i m l b e f) = Breaks s after t o i (same_less low high regs after le m) l b e f
   follows_lower high regs on from r q le (Continues s after t o i m l b e f) = Continues s after t o i (same_less low high regs after le m) l b e f
   follows_lower high regs on from r q le (IsLeft v s t o i l b e f) = IsLeft v s t o i l b e f
-  follows_lower high regs on from r q le (IsOver x s o d e l f) = IsOver x s o d e l f
+  follows_lower high regs on from r q le (IsOver x z s o d e l f) = IsOver x z s o d e l f
   follows_lower high regs on from r q le (IsUndefined at s o e l ext) = IsUndefined at s o e l ext
 
 -- what leaves no loop stands anywhere in the call
@@ -212,5 +214,5 @@ anywhere w h there low regs on from r q outside same (GoesOn s after t o m l b e
 anywhere w h there low regs on from r q outside same (Breaks s after t o i m l b e f) = absurd cc
 anywhere w h there low regs on from r q outside same (Continues s after t o i m l b e f) = absurd cc
 anywhere w h there low regs on from r q outside same (IsLeft v s t o i l b e f) = IsLeft v s t o (subst (λ k. IsResult k v) same i) l b e f
-anywhere w h there low regs on from r q outside same (IsOver x s o d e l f) = IsOver x s o d e l f
+anywhere w h there low regs on from r q outside same (IsOver x z s o d e l f) = IsOver x z s o d e l f
 anywhere w h there low regs on from r q outside same (IsUndefined at s o e l ext) = IsUndefined at s o e l ext

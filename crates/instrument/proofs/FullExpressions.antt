@@ -179,8 +179,8 @@ module _ (w : Setting) (n : ℕ) (h : Here) (sight : Sight) (scene : Scene w n s
           (subst (λ d. Follows w h low regs on s (tail (value_of z) to) d) (sym (ap (λ q. then_code code (then_do q (takes into after))) f ∙ ap (λ l. writes l (runs w n u code given)) (append-nil o)))
           (onward w h low regs given on s to o (tail (value_of z) to) (runs w n u code given) (same_trans low low regs after given (omega arith) same (same_given low into after v above)) later
           (go z v to u o i like later (beside_even w to u (later.calls ∙ m.active) is_even))))
-      by (EndsRun x to o d e l f) =
-          IsOver x to o d (ap (λ r. on_outcome r tail) e) l (ap (λ q. then_code code (then_do q (takes into after))) f)
+      by (EndsRun x z to o d e l f) =
+          IsOver x z to o d (ap (λ r. on_outcome r tail) e) l (ap (λ q. then_code code (then_do q (takes into after))) f)
       by (HasNoMeaning at to o e l ext) =
           IsUndefined at to o (ap (λ r. on_outcome r tail) e) l
           (extends_trans o (written q) _ ext (extends_trans (written q) (written (then_do q (takes into after))) _ (written_then q (takes into after))

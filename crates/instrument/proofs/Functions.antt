@@ -12,6 +12,7 @@ use mathlib.Core.Path.{fun_ext}
 use Rattle.c_model.specs.ContractChecks.{entry, ending}
 use Rattle.c_model.specs.State.{State, Mark, Spent, Full, Over, Outcome, Normal, Stop, Evaluation, on_outcome, ◌>>=◌, ◌>>◌, done, give, step_from, frame, alone, mark, called, answered, back_from_call}
 use Rattle.c_model.specs.Meaning.{Callee, Tables, tables_of, global_scope, parameters, body_with, returned_by, at_close, call_with}
+use Rattle.c_model.specs.MonitoredRuns as machine
 use Rattle.c_model.specs.UnitTyping.{types_of}
 use Rattle.c_model.proofs.Agreement.{extends_trans}
 use Rattle.mon_syntax.specs.Registers.{Bindings, RegisterTable, no_registers, with_kinds}
@@ -136,8 +137,8 @@ module _ (w : Setting) (s from : State) (base : w.base ≡ length s.store) (arou
       calls.Gives (Some v) v (back_from_call s to) (left_frame over_blocks t) o i refl (came_back to o l) (even_there to o l t b)
       (ap (λ x. answered s (returned_by f x)) e)
       (ap ended g ∙ ap (Done v (left_frame over_blocks t)) (append-nil (o ++ []) ∙ append-nil o))
-  function_ends r q (IsOver x to o d e l g) =
-      EndsRun x (back_from_call s to) o d (ap (λ r. answered s (returned_by f r)) e) (l ∙ ap (λ x. x ++ o) output) (ap ended g)
+  function_ends r q (IsOver x z to o d e l g) =
+      EndsRun x z (back_from_call s to) o d (ap (λ r. answered s (returned_by f r)) e) (l ∙ ap (λ x. x ++ o) output) (ap ended g)
   function_ends r q (IsUndefined at to o e l ext) =
       HasNoMeaning at (back_from_call s to) o (ap (λ r. answered s (returned_by f r)) e) (l ∙ ap (λ x. x ++ o) output)
       (extends_trans o (written q) (written (ended q)) ext
@@ -317,7 +318,7 @@ module _ (p : TranslationUnit) (globals : List Value) (main index : ℕ) (f : Fu
       framed : BearsAll w (at_body (length s.store) [] f.result) first_spot first first_table names_around at f.params vs entered_source (runs w n entered_target (target.parameters p first 0 f.params) opens)
           → Called s f.result (finish (parameters T at f.params vs entered_source)) (tail (runs w n entered_target (target.parameters p first 0 f.params) opens))
       framed (SomeFull g to e o x) =
-          EndsRun (Full g) (back_from_call s to) [] (λ h. absurd cc) (ap finish e) (o ∙ sym (append-nil s.output)) (ap tail x)
+          EndsRun (Full g) (machine.Full g) (back_from_call s to) [] refl (ap finish e) (o ∙ sym (append-nil s.output)) (ap tail x)
       framed (SomeUndefined x to e o) =
           HasNoMeaning x (back_from_call s to) [] (ap finish e) (o ∙ sym (append-nil s.output)) (record { rest = written (tail (runs w n entered_target (target.parameters p first 0 f.params) opens)); is = refl })
       framed (AllBorn to regs u blocks e x m l) =
@@ -354,7 +355,7 @@ module _ (p : TranslationUnit) (globals : List Value) (main index : ℕ) (f : Fu
           (subst (λ q. Called s f.result (source_with true) (then_do q (at_return over_blocks (zero_of f)))) (sym code_runs)
           (framed (parameters_follow w n at f.params vs (at_body (length s.store) [] f.result) first_spot first 0 first_table names_around opens entered_source entered_target refl meets_first objects own_params holds count_fits
           enough)))
-      both false = EndsRun (Full segment.Frames) (back_from_call s s) [] (λ h. absurd cc) refl (sym (append-nil s.output)) (ap (λ k. Stops (Full segment.Frames) k []) even.steps)
+      both false = EndsRun (Full segment.Frames) (machine.Full segment.Frames) (back_from_call s s) [] refl refl (sym (append-nil s.output)) (ap (λ k. Stops (machine.Full segment.Frames) k []) even.steps)
 
       pub called_inside : Called s f.result (called inside_source s) (inside_target t)
       called_inside = subst (λ b. Called s f.result (called inside_source s) (target_with b)) (ap (λ k. nat_lt k most_frames) (sym even.frames)) (both (nat_lt s.calls 65536))
@@ -366,7 +367,7 @@ module _ (p : TranslationUnit) (globals : List Value) (main index : ℕ) (f : Fu
     stepped : (s : State) (k : ℕ) (r : Outcome Value) (q : Result Target Value) → s.steps ≡ suc k → Called (with_step s k) f.result r q → Called s f.result r q
     stepped s k r q e (calls.Gives z v to u o i x c d a b) =
         calls.Gives z v to u o i x (record { scope = c.scope; calls = c.calls; live = c.live; longer = c.longer; bounded = c.bounded; spent = omega (arith, e, c.spent); output = c.output }) d a b
-    stepped s k r q e (EndsRun x to o d a l b) = EndsRun x to o d a l b
+    stepped s k r q e (EndsRun x z to o d a l b) = EndsRun x z to o d a l b
     stepped s k r q e (HasNoMeaning x to o a l b) = HasNoMeaning x to o a l b
 
     -- a function without a contract, whose result is the value of its body
@@ -389,7 +390,7 @@ module _ (p : TranslationUnit) (globals : List Value) (main index : ℕ) (f : Fu
         (subst (λ m. Called s f.result (on_outcome (step_from s.steps s) (λ _. called inside_source)) (monitored.step_from m (λ k. inside_target (record t { steps = k })))) (sym even.steps) (by s.steps refl))
       where
         by : (m : ℕ) → s.steps ≡ m → Called s f.result (on_outcome (step_from m s) (λ _. called inside_source)) (monitored.step_from m (λ k. inside_target (record t { steps = k })))
-        by zero e = EndsRun Spent s [] (λ h. absurd cc) refl (sym (append-nil s.output)) (ap (λ k. Stops Spent k []) (sym e))
+        by zero e = EndsRun Spent machine.Spent s [] refl refl (sym (append-nil s.output)) (ap (λ k. Stops machine.Spent k []) (sym e))
         by (suc k) e =
             stepped s k _ _ e
             (called_inside (with_step s k) (record t { steps = k }) (record { store_is = even.store_is; frames = even.frames; steps = refl; input = even.input }) bounded (omega (arith, e, le)))

@@ -16,6 +16,7 @@ use Rattle.mon_syntax.specs.declared.tree.MonType.TheVariants.{U64}
 use Rattle.mon_syntax.specs.declared.tree.MemoryCall.{MemoryCall}
 use Rattle.mon_syntax.specs.declared.tree.MemoryCall.TheVariants.{Malloc, Calloc, Free}
 use Rattle.mon_syntax.specs.Arithmetic.{lowest_bits}
+use Rattle.c_model.specs.MonitoredRuns as machine
 use Rattle.mon_syntax.specs.Meaning.{Result, Done, Stops, Next, then_do, replied, given_to, got, with_read, with_value, eval, eval_all}
 use Rattle.mon_syntax.specs.Meaning.{◌>>=◌ as bind}
 use Rattle.mon_syntax.specs.BlockMemory.{Blocks, integer_of, over_blocks, act_on_blocks, becomes}
@@ -71,7 +72,7 @@ module _ (s : State) (t : Target) (even : Even s t) (bounded : Bounded s.store) 
   -- a birth, where there is room for so many bytes
   born : (room : Room) (bytes : List Byte) → ((place : ℕ) → room ≡ At place → length bytes ≤ 2 ^ 62) → AreBytes bytes
       → Called s (Ptr Void) (heap_birth room bytes s) (replied over_blocks (blocks.heap_birth room bytes t.mem) t)
-  born (NoRoom full) bytes small are = EndsRun (Full full) s [] (λ h. absurd cc) refl (sym (append-nil s.output)) (ap (λ k. Stops (Full full) k []) even.steps)
+  born (NoRoom full) bytes small are = EndsRun (Full full) (machine.Full full) s [] refl refl (sym (append-nil s.output)) (ap (λ k. Stops (machine.Full full) k []) even.steps)
   born (At place) bytes small are =
       let v = Points (Into (length s.store + 1) 0) in
       let to : State = record s { store = s.store ++ heap_block place bytes ∷ [] } in
@@ -192,7 +193,7 @@ module _ (w : Setting) (n depth : ℕ) (calls : w.call ≡ call_of w.unit depth)
   read_follows [] EndOfInput s t even bounded e =
       Gives (Some (Integer (negsuc 0))) (Integer (negsuc 0)) s (record t { input = record { bytes = []; tail = EndOfInput } }) [] (negsuc 0, refl, refl) refl (later_same s bounded)
       (record { store_is = even.store_is; frames = even.frames; steps = even.steps; input = sym e }) refl refl
-  read_follows [] InputFault s t even bounded e = EndsRun ReadFault s [] (λ h. absurd cc) refl (sym (append-nil s.output)) (ap (λ k. Stops ReadFault k []) even.steps)
+  read_follows [] InputFault s t even bounded e = EndsRun ReadFault machine.ReadFault s [] refl refl (sym (append-nil s.output)) (ap (λ k. Stops machine.ReadFault k []) even.steps)
   read_follows (b ∷ bytes) tail s t even bounded e =
       let rest : Input = record { bytes = bytes; tail = tail } in
       let v = Integer (pos (b % 256)) in
@@ -224,10 +225,10 @@ module _ (w : Setting) (n depth : ℕ) (calls : w.call ≡ call_of w.unit depth)
     where
       exits : (z : ℤ) → CallsWith (codes "exit") (Integer z ∷ []) Void
       exits z s t even bounded at into regs args has =
-          DoesCall (Stops (Exits z) t.steps [])
+          DoesCall (Stops (machine.Exits z) t.steps [])
           (one_is w.globals (Exit (effects.first_of args)) w.calls n regs t
-          ∙ ap (λ o. with_value (bind o integer_of) t.steps (λ i. Stops (Exits i) t.steps [])) (first_has w args regs t.mem (Integer z) has))
-          (EndsRun (Exits z) s [] (λ h. absurd cc) refl (sym (append-nil s.output)) (ap (λ k. Stops (Exits z) k []) even.steps))
+          ∙ ap (λ o. with_value (bind o integer_of) t.steps (λ i. Stops (machine.Exits i) t.steps [])) (first_has w args regs t.mem (Integer z) has))
+          (EndsRun (Exits z) (machine.Exits z) s [] refl refl (sym (append-nil s.output)) (ap (λ k. Stops (machine.Exits z) k []) even.steps))
 
   -- ---- malloc, calloc and free
 

@@ -11,6 +11,7 @@ use Rattle.c_model.specs.Meaning.{after_body, is_zero}
 use Rattle.c_model.specs.Meaning as source
 use Rattle.c_model.proofs.Agreement.{extends_trans}
 use Rattle.mon_syntax.specs.Registers.{Bindings}
+use Rattle.c_model.specs.MonitoredRuns as machine
 use Rattle.mon_syntax.specs.Meaning.{Result, Done, Stops, Flow, Next, Goes, Returns, writes, then_do, at_next, at_label, choose, with_value, eval_number}
 use Rattle.mon_syntax.specs.Meaning as monitored
 use Rattle.mon_syntax.specs.BlockMemory.{over_blocks}
@@ -80,7 +81,7 @@ from_stepped w h low regs on s k r q x (GoesOn to after t o m l b e f) = GoesOn 
 from_stepped w h low regs on s k r q x (Breaks to after t o i m l b e f) = Breaks to after t o i m (later_stepped s to k o x l) b e f
 from_stepped w h low regs on s k r q x (Continues to after t o i m l b e f) = Continues to after t o i m (later_stepped s to k o x l) b e f
 from_stepped w h low regs on s k r q x (IsLeft v to t o i l b e f) = IsLeft v to t o i (later_stepped s to k o x l) b e f
-from_stepped w h low regs on s k r q x (IsOver y to o d e l f) = IsOver y to o d e l f
+from_stepped w h low regs on s k r q x (IsOver y z to o d e l f) = IsOver y z to o d e l f
 from_stepped w h low regs on s k r q x (IsUndefined at to o e l ext) = IsUndefined at to o e l ext
 
 -- a loop, which begins where so many blocks were born
@@ -177,8 +178,8 @@ module _ (w : Setting) (h : Here) (base : ℕ) (spot : Spot) (low : ℕ) (bound 
       GoesOn s after t o m l (all_dead from s o t none l b) (ap (λ r. after_body r again) e) (ap (λ q. then_do (then_do q (at_label (next_label loops))) (at_next g)) e' ∙ body_breaks after t o g)
   follows_body regs from r q again g none (IsLeft v s t o i l b e e') k =
       IsLeft v s t o i l b (ap (λ r. after_body r again) e) (ap (λ q. then_do (then_do q (at_label (next_label loops))) (at_next g)) e' ∙ ap (Done (Returns v) t) (append-nil (o ++ []) ∙ append-nil o))
-  follows_body regs from r q again g none (IsOver y s o d e l e') k =
-      IsOver y s o d (ap (λ r. after_body r again) e) l (ap (λ q. then_do (then_do q (at_label (next_label loops))) (at_next g)) e')
+  follows_body regs from r q again g none (IsOver y z s o d e l e') k =
+      IsOver y z s o d (ap (λ r. after_body r again) e) l (ap (λ q. then_do (then_do q (at_label (next_label loops))) (at_next g)) e')
   follows_body regs from r q again g none (IsUndefined at s o e l ext) k =
       let labelled = then_do q (at_label (next_label loops)) in
       IsUndefined at s o (ap (λ r. after_body r again) e) l (extends_trans o (written labelled) _ (extends_trans o (written q) _ ext (written_then q (at_label (next_label loops)))) (written_then labelled (at_next g)))
@@ -195,7 +196,7 @@ module _ (w : Setting) (h : Here) (base : ℕ) (spot : Spot) (low : ℕ) (bound 
   follows_label regs from r q (Breaks s after t o i m l b e e') = absurd cc
   follows_label regs from r q (Continues s after t o i m l b e e') = absurd cc
   follows_label regs from r q (IsLeft v s t o i l b e e') = IsLeft v s t o i l b e (ap (λ q. then_do q (at_label (end_label loops))) e' ∙ ap (Done (Returns v) t) (append-nil o))
-  follows_label regs from r q (IsOver y s o d e l e') = IsOver y s o d e l (ap (λ q. then_do q (at_label (end_label loops))) e')
+  follows_label regs from r q (IsOver y z s o d e l e') = IsOver y z s o d e l (ap (λ q. then_do q (at_label (end_label loops))) e')
   follows_label regs from r q (IsUndefined at s o e l ext) = IsUndefined at s o e l (extends_trans o (written q) _ ext (written_then q (at_label (end_label loops))))
 
   -- a whole loop, from its turns
@@ -258,8 +259,8 @@ module _ (w : Setting) (h : Here) (base : ℕ) (spot : Spot) (low : ℕ) (bound 
     labelled b = monitored.exec_all over_blocks w.globals (Then (Labelled a (next_label loops)) b) w.calls n
 
     -- no step is left
-    spent : (regs : List Value) (s : State) (f : Evaluation (Unit {0})) (q : Did) → s.steps ≡ 0 → q ≡ Stops Spent s.steps [] → Turns regs s ((step >> f) s) q
-    spent regs s f q e x = IsOver Spent s [] (λ h. absurd cc) (ap (λ k. on_outcome (step_from k s) (λ _. f)) e) (sym (append-nil s.output)) x
+    spent : (regs : List Value) (s : State) (f : Evaluation (Unit {0})) (q : Did) → s.steps ≡ 0 → q ≡ Stops machine.Spent s.steps [] → Turns regs s ((step >> f) s) q
+    spent regs s f q e x = IsOver Spent machine.Spent s [] refl (ap (λ k. on_outcome (step_from k s) (λ _. f)) e) (sym (append-nil s.output)) x
 
     -- the step, the body, what stands after it, and the other turns
     round_follows : (b : MonStatements) (again : Evaluation (Unit {0})) (others : Go) (regs : List Value) (s : State) (t : Target) (k : ℕ) → s.steps ≡ suc k → Meet regs s t → s.steps ≤ n
@@ -298,7 +299,7 @@ module _ (w : Setting) (h : Here) (base : ℕ) (spot : Spot) (low : ℕ) (bound 
           subst (λ i. Turns regs s (turn (suc j) s) (monitored.step_from i (λ k. then_do (labelled b regs (target_stepped t k)) (at_next (others j))))) (sym m.beside.steps) (by s.steps refl)
         where
           by : (i : ℕ) → s.steps ≡ i → Turns regs s (turn (suc j) s) (monitored.step_from i (λ k. then_do (labelled b regs (target_stepped t k)) (at_next (others j))))
-          by zero e = spent regs s (λ s. after_body (body s) (behind >> source.turns (suc j) condition (source.turn_with None body behind))) (Stops Spent 0 []) e (ap (λ k. Stops Spent k []) (sym e))
+          by zero e = spent regs s (λ s. after_body (body s) (behind >> source.turns (suc j) condition (source.turn_with None body behind))) (Stops machine.Spent 0 []) e (ap (λ k. Stops machine.Spent k []) (sym e))
           by (suc k) e =
               round_follows b (behind >> source.turns (suc j) condition (source.turn_with None body behind)) (others j) regs s t k e m ln (λ to after u m2 l2.
               follows_then w in_turn low after (Goes (end_label loops)) to _ _ (source.turns (suc j) condition (source.turn_with None body behind)) (others j) (behind_follows after to u m2 (omega (arith, e, ln, l2)))
@@ -306,8 +307,8 @@ module _ (w : Setting) (h : Here) (base : ℕ) (spot : Spot) (low : ℕ) (bound 
 
       pub turns_follow : (j : ℕ) (regs : List Value) (s : State) (t : Target) → Meet regs s t → s.steps ≤ j → s.steps ≤ n → Turns regs s (source.turns (suc j) condition (source.turn_with None body behind) s) (others j regs t)
       turns_follow zero regs s t m le ln =
-          front_tests.goes regs s t m (turn 0) (λ r u. Stops Spent 0 []) (λ after same m2.
-          spent after s (λ s. after_body (body s) (behind >> source.turns 0 condition (source.turn_with None body behind))) (Stops Spent 0 []) (omega (arith, le)) (ap (λ k. Stops Spent k []) (omega (arith, le))))
+          front_tests.goes regs s t m (turn 0) (λ r u. Stops machine.Spent 0 []) (λ after same m2.
+          spent after s (λ s. after_body (body s) (behind >> source.turns 0 condition (source.turn_with None body behind))) (Stops machine.Spent 0 []) (omega (arith, le)) (ap (λ k. Stops machine.Spent k []) (omega (arith, le))))
       turns_follow (suc j) regs s t m le ln =
           front_tests.goes regs s t m (turn (suc j)) (next_turn j) (λ after same m2.
           turn_follows j after s t m2 le ln (λ to after2 u m3 l3 l4. turns_follow j after2 to u m3 l3 l4))
@@ -319,7 +320,7 @@ module _ (w : Setting) (h : Here) (base : ℕ) (spot : Spot) (low : ℕ) (bound 
 
       pub do_turns_follow : (j : ℕ) (regs : List Value) (s : State) (t : Target) → Meet regs s t → s.steps ≤ j → s.steps ≤ n → Turns regs s (source.do_turns (suc j) condition body s) (do_others j regs t)
       do_turns_follow zero regs s t m le ln =
-          spent regs s (λ s. after_body (body s) (condition >>= λ v. source.choose v (source.do_turns 0 condition body) done)) (Stops Spent 0 []) (omega (arith, le)) (ap (λ k. Stops Spent k []) (omega (arith, le)))
+          spent regs s (λ s. after_body (body s) (condition >>= λ v. source.choose v (source.do_turns 0 condition body) done)) (Stops machine.Spent 0 []) (omega (arith, le)) (ap (λ k. Stops machine.Spent k []) (omega (arith, le)))
       do_turns_follow (suc j) regs s t m le ln =
           subst (λ q. Turns regs s (source.do_turns (suc (suc j)) condition body s) q) (sym (writes_none (monitored.step_from t.steps (λ k. then_do (labelled b regs (target_stepped t k)) (at_next (do_others j))))))
           (subst (λ i. Turns regs s (source.do_turns (suc (suc j)) condition body s) (monitored.step_from i (λ k. then_do (labelled b regs (target_stepped t k)) (at_next (do_others j))))) (sym m.beside.steps)
@@ -327,7 +328,7 @@ module _ (w : Setting) (h : Here) (base : ℕ) (spot : Spot) (low : ℕ) (bound 
         where
           by : ((to : State) (after : List Value) (u : Target) → Meet after to u → to.steps ≤ j → to.steps ≤ n → Turns after to (source.do_turns (suc j) condition body to) (do_others j after u)) → (i : ℕ) → s.steps ≡ i
               → Turns regs s (source.do_turns (suc (suc j)) condition body s) (monitored.step_from i (λ k. then_do (labelled b regs (target_stepped t k)) (at_next (do_others j))))
-          by rest zero e = spent regs s (λ s. after_body (body s) (condition >>= λ v. source.choose v (source.do_turns (suc j) condition body) done)) (Stops Spent 0 []) e (ap (λ k. Stops Spent k []) (sym e))
+          by rest zero e = spent regs s (λ s. after_body (body s) (condition >>= λ v. source.choose v (source.do_turns (suc j) condition body) done)) (Stops machine.Spent 0 []) e (ap (λ k. Stops machine.Spent k []) (sym e))
           by rest (suc k) e =
               round_follows b (condition >>= λ v. source.choose v (source.do_turns (suc j) condition body) done) (do_others j) regs s t k e m ln (λ to after u m2 l2.
               b_tests.goes after to u m2 (source.do_turns (suc j) condition body) (do_others j) (λ after2 same m3. rest to after2 u m3 (omega (arith, e, le, l2)) (omega (arith, e, ln, l2))))

@@ -16,6 +16,7 @@ use Rattle.c_model.specs.State.{State, Full, Undefined, Over, Outcome, Normal, S
 use Rattle.c_model.specs.Meaning.{Tables, tables_of, parameters}
 use Rattle.mon_syntax.specs.declared.tree.MonType.TheVariants.{Ptr}
 use Rattle.mon_syntax.specs.Registers.{RegisterTable}
+use Rattle.c_model.specs.MonitoredRuns as machine
 use Rattle.mon_syntax.specs.Meaning.{Done, Stops, Next, then_do, at_next, exec}
 use Rattle.mon_syntax.specs.BlockMemory.{over_blocks}
 use Rattle.mon_syntax.specs.LiveBlocks.{LiveBlock}
@@ -82,7 +83,7 @@ pub record Since (s to : State) : Type 0 where
 pub data BearsAll (w : Setting) (h : Here) (spot : Spot) (p : ℕ) (r : RegisterTable) (living : List ℕ) (at : Place) (ds : List Declaration) (vs : List Value) (s : State) (q : Did) : Type 0 where
   AllBorn : (to : State) (after : List Value) (u : Target) (blocks : List LiveBlock) → parameters (tables_of w.unit) at ds vs s ≡ Normal tt to → q ≡ Done (Next after) u []
       → Meets w (record h { inner = blocks }) (with_variables p ds spot) (p + length ds) (entered ds r).bound (with_numbers ds living) after to u → Since s to → BearsAll w h spot p r living at ds vs s q
-  SomeFull : (g : Segment) (to : State) → parameters (tables_of w.unit) at ds vs s ≡ Stop (Over (Full g)) to → to.output ≡ s.output → q ≡ Stops (Full g) to.steps [] → BearsAll w h spot p r living at ds vs s q
+  SomeFull : (g : Segment) (to : State) → parameters (tables_of w.unit) at ds vs s ≡ Stop (Over (Full g)) to → to.output ≡ s.output → q ≡ Stops (machine.Full g) to.steps [] → BearsAll w h spot p r living at ds vs s q
   SomeUndefined : (x : Place) (to : State) → parameters (tables_of w.unit) at ds vs s ≡ Stop (Over (Undefined x)) to → to.output ≡ s.output → BearsAll w h spot p r living at ds vs s q
 
 end_done : (r : Outcome (Unit {0})) → on_outcome r (λ _. done) ≡ r
@@ -195,7 +196,7 @@ module _ (w : Setting) (n : ℕ)
           SomeFull g to
           (ap source_rest (sym (end_done (birth w.unit.structs d s)) ∙ e))
           o
-          (ap target_rest (sym (one_is w.globals (target_blocks.birth w.unit.structs p d) w.calls n regs t) ∙ f) ∙ ap (λ i. Stops (Full g) i []) (m.beside.steps ∙ sym steps))
+          (ap target_rest (sym (one_is w.globals (target_blocks.birth w.unit.structs p d) w.calls n regs t) ∙ f) ∙ ap (λ i. Stops (machine.Full g) i []) (m.beside.steps ∙ sym steps))
       parameter_follows (AllAre after e f b) = by_save after e f b (save born.store (Into (length born.store) 0) k v) refl
 
   pub parameters_follow : (ds : List Declaration) (vs : List Value) (h : Here) (spot : Spot) (p a : ℕ) (r : RegisterTable) (living : List ℕ) (regs : List Value) (s : State) (t : Target) → length r.kinds ≡ p → Meets w h spot p r.bound living regs s t
