@@ -4,7 +4,7 @@ use Rattle.std.proofs.lemmas.List.{length-append}
 use Rattle.std.specs.Prelude.{Result, Ok, Err, Vec, IfOk}
 use Rattle.std.specs.declared.alloc.Global.{Global}
 use Rattle.c_syntax.specs.Programs.{StructType}
-use Rattle.c_syntax.specs.Statements.{Declaration, BlockItem, Declare, Run, Asserts, BlockItems, Then}
+use Rattle.c_syntax.specs.Statements.{Declaration, BlockItem, Declare, Specify, Run, Asserts, BlockItems, Then}
 use Rattle.c_model.specs.Meaning.{declared_in}
 use Rattle.mon_syntax.specs.declared.tree.MonType.TheVariants.{Ptr}
 use Rattle.mon_syntax.specs.Registers.{Names, RegisterTable, next_register, with_table}
@@ -49,6 +49,7 @@ module _ (n n1 : Names) (ds es : List Declaration) (names : n1 ≡ entering ds n
 
 pub declared_first_item : (i : BlockItem) (rest : BlockItems) → declared_in (Then i rest) ≡ declared_by i ++ declared_in rest
 declared_first_item (Declare ds) rest = refl
+declared_first_item (Specify at t) rest = refl
 declared_first_item (Run a) rest = refl
 declared_first_item (Asserts annots) rest = refl
 

@@ -2,7 +2,7 @@
 use Rattle.std.proofs.Common.{◌≡◌, ℕ, ◌≤◌, Bool, true, false, cond, nat_eq, List, [], ◌∷◌, ◌++◌, length, length-append, Some, refl, sym, ◌∙◌, subst, arith}
 use Rattle.std.proofs.lemmas.Bool.Decides.{nat_tests}
 use Rattle.c_syntax.specs.Programs.{TranslationUnit}
-use Rattle.c_syntax.specs.Statements.{Declaration, Statement, Empty, Eval, Block, If, While, Do, For, Break, Continue, Return, ElsePart, NoElse, Else, ForFirst, NoFirst, First, BlockItem, Declare, Run, Asserts, BlockItems, NoItem, Then}
+use Rattle.c_syntax.specs.Statements.{Declaration, Statement, Empty, Eval, Block, If, While, Do, For, Break, Continue, Return, ElsePart, NoElse, Else, ForFirst, NoFirst, First, BlockItem, Declare, Specify, Run, Asserts, BlockItems, NoItem, Then}
 use Rattle.c_model.specs.Memory.{Value}
 use Rattle.c_model.specs.State.{State, Scope, find}
 use Rattle.c_model.specs.Meaning.{declared_in, declared_first}
@@ -55,6 +55,7 @@ abbrev mutual
 
   pub ItemCanDeclare : TranslationUnit → List ℕ → BlockItem → Type 0
   ItemCanDeclare p living (Declare ds) = Unit {0}
+  ItemCanDeclare p living (Specify at t) = Unit {0}
   ItemCanDeclare p living (Run a) = AreAbsent living (declared_within a) × CanDeclare p living a
   ItemCanDeclare p living (Asserts annots) = Unit {0}
 
@@ -83,12 +84,14 @@ not_both x (d ∷ ds) es h g = (h.0, not_both x ds es h.1 g)
 not_own : (x : ℕ) (is : BlockItems) → NotIn x (declared_in_items is) → NotIn x (declared_in is)
 not_own x NoItem h = tt
 not_own x (Then (Declare ds) rest) h = not_both x ds (declared_in rest) (not_front x ds (declared_in_items rest) h) (not_own x rest (not_back x ds (declared_in_items rest) h))
+not_own x (Then (Specify at t) rest) h = not_own x rest h
 not_own x (Then (Run a) rest) h = not_own x rest (not_back x (declared_within a) (declared_in_items rest) h)
 not_own x (Then (Asserts annots) rest) h = not_own x rest h
 
 not_first : (x : ℕ) (first : ForFirst) → NotIn x (declared_in_first first) → NotIn x (declared_first first)
 not_first x NoFirst h = tt
 not_first x (First (Declare ds)) h = h
+not_first x (First (Specify at t)) h = tt
 not_first x (First (Run a)) h = tt
 not_first x (First (Asserts annots)) h = tt
 
@@ -126,6 +129,7 @@ mutual
 
   item_other : (p : TranslationUnit) (x : ℕ) (i : BlockItem) (r : RegisterTable) → NotIn x (declared_in_item i) → register_of (after_item p i r).bound x ≡ register_of r.bound x
   item_other p x (Declare ds) r h = refl
+  item_other p x (Specify at t) r h = refl
   item_other p x (Run a) r h = statement_other p x a r h
   item_other p x (Asserts annots) r h = refl
 
@@ -212,6 +216,7 @@ mutual
 
   pub item_grows : (p : TranslationUnit) (i : BlockItem) (r : RegisterTable) → next_register r ≤ next_register (after_item p i r)
   item_grows p (Declare ds) r = more_kinds (declaration_temporaries ds) r
+  item_grows p (Specify at t) r = omega arith
   item_grows p (Run a) r = statement_grows p a r
   item_grows p (Asserts annots) r = behind_grows p r.bound r.kinds annots
 

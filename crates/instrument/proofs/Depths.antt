@@ -2,7 +2,7 @@
 use Rattle.std.proofs.Common.{◌≡◌, ℕ, suc, ◌+◌, ◌*◌, ◌≤◌, true, List, [], ◌∷◌, ◌++◌, length, Option, Some, None, max, refl, arith}
 use Rattle.std.proofs.Math.Nat.{max-le, le-max_left, le-max_right}
 use Rattle.c_syntax.specs.Expressions.{Expression}
-use Rattle.c_syntax.specs.Statements.{Declaration, Statement, Empty, Eval, Block, If, While, Do, For, Break, Continue, Return, ElsePart, NoElse, Else, ForFirst, NoFirst, First, BlockItem, Declare, Run, Asserts, BlockItems, NoItem, Then}
+use Rattle.c_syntax.specs.Statements.{Declaration, Statement, Empty, Eval, Block, If, While, Do, For, Break, Continue, Return, ElsePart, NoElse, Else, ForFirst, NoFirst, First, BlockItem, Declare, Specify, Run, Asserts, BlockItems, NoItem, Then}
 use Rattle.c_syntax.specs.Programs.{TranslationUnit}
 use Rattle.c_model.specs.Formed as form
 use Rattle.c_model.specs.Formed.{number_of}
@@ -165,6 +165,7 @@ module _ (p : TranslationUnit) where
 
     deep_item : (spot : Spot) (r : RegisterTable) (i : BlockItem) → ItemFormed p.structs i → depth_of_all (item p spot r i) ≤ 4 * form.depth_of_item i + most_deep
     deep_item spot r (Declare ds) f = let d = deep_initials r.bound r.kinds ds f in omega (arith, d)
+    deep_item spot r (Specify at t) f = omega arith
     deep_item spot r (Run a) f = deep spot r a f
     deep_item spot r (Asserts annots) f = let d = assertions_deep p r.bound r.kinds annots f.are in omega (arith, d)
 

@@ -3,7 +3,7 @@ use Rattle.std.proofs.Common.{List, [], ◌∷◌, Option, Some, None}
 use Rattle.c_syntax.specs.declared.place.Place.{Place}
 use Rattle.c_syntax.specs.Expressions.{Expression}
 use Rattle.c_syntax.specs.Statements.{Initialiser, Declaration, Statement, Empty, Eval, Block, If, While, Do}
-use Rattle.c_syntax.specs.Statements.{For, Break, Continue, Return, ElsePart, NoElse, Else, ForFirst, NoFirst, First, BlockItem, Declare, Run, Asserts, BlockItems, NoItem, Then}
+use Rattle.c_syntax.specs.Statements.{For, Break, Continue, Return, ElsePart, NoElse, Else, ForFirst, NoFirst, First, BlockItem, Declare, Specify, Run, Asserts, BlockItems, NoItem, Then}
 use Rattle.c_syntax.specs.Programs.{StructType}
 use Rattle.c_model.specs.TypedTrees.{WhereAny}
 use Rattle.c_model.specs.Pure.{IsPure, IsPureOrCall, IsEffect, IsInitialiser}
@@ -60,5 +60,6 @@ module _ (structs : List StructType) where
 
     item_formed : (i : BlockItem) → ItemPlaced AreRangedAsserts i → EachInItem IsSmall i → EachInItem Few i → ItemFormed structs i
     item_formed (Declare ds) p h t = declared_formed ds p h t
+    item_formed (Specify at u) p h t = tt
     item_formed (Run a) p h t = statement_formed a p h t
     item_formed (Asserts annots) p h t = p

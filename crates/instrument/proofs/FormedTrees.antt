@@ -3,7 +3,7 @@ use Rattle.std.proofs.Common.{◌≡◌, List, [], ◌∷◌, Option}
 use Rattle.c_syntax.specs.declared.place.Place.{Place}
 use Rattle.c_syntax.specs.Expressions.{Expression}
 use Rattle.c_syntax.specs.Statements.{Initialiser, Declaration, Statement, Empty, Eval, Block, If, While, Do, For}
-use Rattle.c_syntax.specs.Statements.{Break, Continue, Return, ElsePart, NoElse, Else, ForFirst, NoFirst, First, BlockItem, Declare, Run, Asserts, BlockItems, NoItem, Then}
+use Rattle.c_syntax.specs.Statements.{Break, Continue, Return, ElsePart, NoElse, Else, ForFirst, NoFirst, First, BlockItem, Declare, Specify, Run, Asserts, BlockItems, NoItem, Then}
 use Rattle.c_syntax.specs.Programs.{StructType}
 use Rattle.c_model.specs.TypedTrees.{WhereAny}
 use Rattle.c_model.specs.Pure.{IsPure, IsPureOrCall, IsEffect, IsEffectOrCall, IsInitialiser}
@@ -74,5 +74,6 @@ module _ (structs : List StructType) where
 
     pub ItemFormed : BlockItem → Type 0
     ItemFormed (Declare ds) = AreInitialised ds
+    ItemFormed (Specify at t) = Unit {0}
     ItemFormed (Run a) = StatementFormed a
     ItemFormed (Asserts annots) = AreRangedAsserts annots

@@ -94,10 +94,9 @@ module _ (w : Setting) (n : ℕ) (h : Here) (low : ℕ) (bound : Bindings) where
       let more : length (rs ++ (here ++ rest)) ≡ length (rs ++ here ++ rest) = omega (arith, length-append (rs ++ here) rest, length-append rs here, length-append rs (here ++ rest), length-append here rest) in
       let first = translation.initialise w.unit bound rs (block_of bound (number_of d)) d.ctype d.init in
       let others = translation.initialise_all w.unit bound (rs ++ here) ds in
-      let own = record d { ctype = q.0.first } in
       subst (λ q. Follows w h low regs Next s (initialise_all (tables_of w.unit) (d ∷ ds) w.call s) q) (sym (before_is w.globals first others w.calls n regs t))
       (follows_then w h low regs Next s (initialise (tables_of w.unit) d d.init w.call s) (runs w n t first regs) (initialise_all (tables_of w.unit) ds w.call) (λ r u. runs w n u others r)
-      (declared_follows w n h (with_object sight own) (scene_with w n sight own scene) low bound s t le rs behind regs m b d d.init local.0 f.0 q.0.init l.0 (omega (arith, more, room, longer (rs ++ here) rest)))
+      (declared_follows w n h (with_object sight d) (scene_with w n sight d scene) low bound s t le rs behind regs m b d d.init local.0 f.0 q.0.init l.0 (omega (arith, more, room, longer (rs ++ here) rest)))
       (λ to after u o same la be.
       initials_follow ds (with_object sight d) (scene_with w n sight d scene) local.1 f.1 q.1 l.1 (rs ++ here) (omega (arith, behind, longer rs here)) (omega (arith, more, room)) after to u (omega (arith, le, la.spent))
       (standing_later w h low bound regs after s to o same la m) be))
@@ -186,7 +185,6 @@ module _ (w : Setting) (n : ℕ) (h : Here) (low : ℕ) where
       → Anchored w low [] regs s.scope → Bounded s.store → Beside w s.store s t → Follows w h low regs Next s (initialise_all tables ds w.call s) (runs w n t (initialise_globals w.unit rs g ds) regs)
   globals_follow [] g q rs behind room regs s t long anchored bounded b = stays w h low regs s t bounded b
   globals_follow (d ∷ ds) g q rs behind room regs s t long anchored bounded b =
-      let own = record d { ctype = q.0.declared.first } in
       let here = global_temporaries d.init in
       let rest = all_global_temporaries ds in
       let more : length (rs ++ (here ++ rest)) ≡ length (rs ++ here ++ rest) = omega (arith, length-append (rs ++ here) rest, length-append rs here, length-append rs (here ++ rest), length-append here rest) in
@@ -194,7 +192,7 @@ module _ (w : Setting) (n : ℕ) (h : Here) (low : ℕ) where
       let others = initialise_globals w.unit (rs ++ here) (suc g) ds in
       subst (λ q. Follows w h low regs Next s (initialise_all tables (d ∷ ds) w.call s) q) (sym (before_is w.globals first others w.calls n regs t))
       (follows_then w h low regs Next s (initialise tables d d.init w.call s) (runs w n t first regs) (initialise_all tables ds w.call) (λ r u. runs w n u others r)
-      (global_follows d d.init g (with_object q.0.sight own) (knows_with w q.0.sight own q.0.knows) q.0.index q.0.pure q.0.declared.init q.0.letters rs behind (omega (arith, more, room, longer (rs ++ here) rest)) regs s t long
+      (global_follows d d.init g (with_object q.0.sight d) (knows_with w q.0.sight d q.0.knows) q.0.index q.0.pure q.0.declared.init q.0.letters rs behind (omega (arith, more, room, longer (rs ++ here) rest)) regs s t long
       anchored bounded b)
       (λ to after u o same la be.
       globals_follow ds (suc g) q.1 (rs ++ here) (omega (arith, behind, longer rs here)) (omega (arith, more, room)) after to u (same.long ∙ long)

@@ -5,7 +5,7 @@ use Rattle.std.proofs.lemmas.Bool.{leb-true}
 use Rattle.std.proofs.lemmas.Bool.Decides.{nat_tests}
 use Rattle.c_syntax.specs.Ctypes.{PlainType}
 use Rattle.c_syntax.specs.Programs.{StructType, TranslationUnit}
-use Rattle.c_syntax.specs.Statements.{Declaration, Statement, Empty, Eval, Block, If, While, Do, For, Break, Continue, Return, ElsePart, NoElse, Else, ForFirst, NoFirst, First, Declare, Run, Asserts, BlockItems, NoItem, Then}
+use Rattle.c_syntax.specs.Statements.{Declaration, Statement, Empty, Eval, Block, If, While, Do, For, Break, Continue, Return, ElsePart, NoElse, Else, ForFirst, NoFirst, First, Declare, Specify, Run, Asserts, BlockItems, NoItem, Then}
 use Rattle.c_syntax.specs.Layouts.{size_of}
 use Rattle.c_model.specs.Meaning.{global_scope, declared_in, declared_first}
 use Rattle.c_model.specs.Formed.{number_of, declared_within, declared_in_else, declared_in_first, declared_in_items}
@@ -97,6 +97,7 @@ items_small : (structs : List StructType) (s : Sight) (r : Around) (is : BlockIt
 items_small structs s r NoItem same q = tt
 items_small structs s r (Then (Declare ds) rest) same q =
     small_behind structs ds (declared_in rest) (declared_small structs s ds same q.0) (items_small structs (with_objects s ds) r rest (structs_behind s ds ∙ same) q.1)
+items_small structs s r (Then (Specify at t) rest) same q = items_small structs s r rest same q.1
 items_small structs s r (Then (Run a) rest) same q = items_small structs s r rest same q.1
 items_small structs s r (Then (Asserts annots) rest) same q = items_small structs s r rest same q.1
 
@@ -155,6 +156,7 @@ own_between (Then (Declare ds) rest) low high h =
     joined : (low middle high : ℕ) (ds es : List Declaration) → Between low (numbers_in ds) middle → Between middle (numbers_in es) high → Between low (numbers_in (ds ++ es)) high
     joined low middle high [] es a b = from_lower low middle high (numbers_in es) a b
     joined low middle high (d ∷ ds) es a b = (a.0, joined (suc (number_of d)) middle high ds es a.1 b)
+own_between (Then (Specify at t) rest) low high h = own_between rest low high h
 own_between (Then (Run a) rest) low high h =
     let x = parted_in low high (declared_within a) (declared_in_items rest) h in
     from_lower low x.middle high (numbers_in (declared_in rest)) (in_bounds low x.middle (numbers_in (declared_within a)) x.front) (own_between rest x.middle high x.back)
@@ -249,18 +251,21 @@ born_outside low high low2 high2 (d ∷ ds) xs b le h =
 first_between : (first : ForFirst) (low high : ℕ) → Between low (numbers_in (declared_in_first first)) high → Between low (numbers_in (declared_first first)) high
 first_between NoFirst low high b = b
 first_between (First (Declare ds)) low high b = b
+first_between (First (Specify at t)) low high b = b
 first_between (First (Run a)) low high b = in_bounds low high (numbers_in (declared_within a)) b
 first_between (First (Asserts annots)) low high b = b
 
 first_small : (structs : List StructType) (first : ForFirst) (s : Sight) (r : Around) → s.structs ≡ structs → FirstTyped s r first → AreSmall structs (declared_first first)
 first_small structs NoFirst s r same q = tt
 first_small structs (First (Declare ds)) s r same q = declared_small structs s ds same q
+first_small structs (First (Specify at t)) s r same q = tt
 first_small structs (First (Run a)) s r same q = tt
 first_small structs (First (Asserts annots)) s r same q = tt
 
 structs_behind_first : (s : Sight) (first : ForFirst) → (behind_first s first).structs ≡ s.structs
 structs_behind_first s NoFirst = refl
 structs_behind_first s (First (Declare ds)) = structs_behind s ds
+structs_behind_first s (First (Specify at t)) = refl
 structs_behind_first s (First (Run a)) = refl
 structs_behind_first s (First (Asserts annots)) = refl
 
@@ -316,6 +321,7 @@ module _ (p : TranslationUnit) where
           items_can_declare rest (with_objects s ds) r cut.middle high living (structs_behind s ds ∙ same) (λ n from to. free n (omega (arith, from, in_bounds low cut.middle (numbers_in (ds)) cut.front)) to) q.1 cut.back
               (live_behind low cut.middle high (in_bounds low cut.middle (numbers_in ds) cut.front) (in_bounds cut.middle high (numbers_in (declared_in_items rest)) cut.back) ds (declared_in rest) cut.front living o),
         )
+    items_can_declare (Then (Specify at t) rest) s r low high living same free q b o = (tt, items_can_declare rest s r low high living same free q.1 b o)
     items_can_declare (Then (Run a) rest) s r low high living same free q b o =
         let cut = parted_in low high (declared_within a) (declared_in_items rest) b in
         let le = in_bounds low cut.middle (numbers_in (declared_within a)) cut.front in

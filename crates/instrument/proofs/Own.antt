@@ -2,7 +2,7 @@
 use Rattle.std.proofs.Common.{◌≡◌, ◌≤◌, ℕ, suc, false, nat_eq, List, [], ◌∷◌, ◌++◌, map, length, arith}
 use Rattle.std.proofs.lemmas.Bool.Decides.{nat_tests}
 use Rattle.c_syntax.specs.Statements.{Declaration, Statement, Empty, Eval, Block, If, While, Do, For, Break, Continue, Return, ElsePart, NoElse, Else, ForFirst, NoFirst, First}
-use Rattle.c_syntax.specs.Statements.{BlockItem, Declare, Run, Asserts, BlockItems, NoItem, Then}
+use Rattle.c_syntax.specs.Statements.{BlockItem, Declare, Specify, Run, Asserts, BlockItems, NoItem, Then}
 use Rattle.c_model.specs.Formed.{number_of, declared_within, declared_in_else, declared_in_first, declared_in_item, declared_in_items}
 use Rattle.c_model.specs.Meaning.{declared_first}
 use Rattle.c_model.specs.TextOrder.{Between}
@@ -61,6 +61,7 @@ abbrev mutual
   pub ItemOwn : BlockItem → Type 0
   ItemOwn (Declare ds) = AreOwn ds
   ItemOwn (Run a) = StatementOwn a
+  ItemOwn (Specify at t) = Unit {0}
   ItemOwn (Asserts annots) = Unit {0}
 
   pub ItemsOwn : BlockItems → Type 0
@@ -71,6 +72,7 @@ first_own : (first : ForFirst) → AreOwn (declared_in_first first) → AreOwn (
 first_own NoFirst h = tt
 first_own (First (Declare ds)) h = h
 first_own (First (Run a)) h = tt
+first_own (First (Specify at t)) h = tt
 first_own (First (Asserts annots)) h = tt
 
 mutual
@@ -98,4 +100,5 @@ mutual
   item_own : (i : BlockItem) → AreOwn (declared_in_item i) → ItemOwn i
   item_own (Declare ds) h = h
   item_own (Run a) h = statement_own a h
+  item_own (Specify at t) h = tt
   item_own (Asserts annots) h = tt

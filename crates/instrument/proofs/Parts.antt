@@ -45,7 +45,7 @@ near structs fits (source_type.Ptr t) m = omega arith
 near structs fits (Array t n) m = omega arith
 near structs fits Void m = omega arith
 near structs fits (source_type.Named x) m = omega arith
-near structs fits (source_type.StructTag x) m = omega arith
+near structs fits (source_type.StructTag x tag) m = omega arith
 near structs fits (source_type.EnumTag x at) m = omega arith
 
 -- a member ends in its struct
@@ -105,7 +105,7 @@ parts_inside T (Array t n) fits = elements_inside T.structs 0 (count_of n) (coun
 parts_inside T (Struct n) fits = struct_inside T.structs (slice_get T.structs n) (λ s e. fits n s e)
 parts_inside T Void fits = tt
 parts_inside T (source_type.Named x) fits = tt
-parts_inside T (source_type.StructTag x) fits = tt
+parts_inside T (source_type.StructTag x tag) fits = tt
 parts_inside T (source_type.EnumTag x at) fits = tt
 
 -- ---- scalars
@@ -146,7 +146,7 @@ scalars_inside structs most (suc deep) (Struct n) offset fits h =
     struct_scalars structs offset most (slice_get structs n) (scalars_from structs deep) (λ s e. fits n s e) (λ t o k. scalars_inside structs most deep t o fits k) h
 scalars_inside structs most deep Void offset fits h = tt
 scalars_inside structs most deep (source_type.Named x) offset fits h = tt
-scalars_inside structs most deep (source_type.StructTag x) offset fits h = tt
+scalars_inside structs most deep (source_type.StructTag x tag) offset fits h = tt
 scalars_inside structs most deep (source_type.EnumTag x at) offset fits h = tt
 
 pub all_scalars_inside : (structs : List StructType) (t : PlainType) → StructsFit structs → ScalarsInside (size_of structs t) (scalars_of structs t)

@@ -81,12 +81,11 @@ module _ (p : TranslationUnit) (q : IsProgram p) where
 
   global_typed : (d : Declaration) → GlobalInPlace p d → AreConstant (d ∷ []) → EachDeclared IsSmall (d ∷ []) → EachDeclared (TypesSmall p.structs) (d ∷ []) → InitialHasLetters d.init → GlobalTyped p d
   global_typed d here constant small types letters =
-      let self : Declaration = record d { ctype = here.declared.first } in
-      let at : IsPlace p (own_scope p) (with_object here.sight self) =
-      record { names = here.place.names; texts = here.place.texts; structs = here.place.structs; found = found_with here.sight self (own_scope p) here.place.found here.itself } in
+      let at : IsPlace p (own_scope p) (with_object here.sight d) =
+      record { names = here.place.names; texts = here.place.texts; structs = here.place.structs; found = found_with here.sight d (own_scope p) here.place.found here.itself } in
       record {
-        sight = with_object here.sight self;
-        file = file_sight p (with_object here.sight self) own at here.defined;
+        sight = with_object here.sight d;
+        file = file_sight p (with_object here.sight d) own at here.defined;
         size = known_small p.structs here.sight d.ctype here.place.structs here.declared.size;
         init = here.declared.init;
         formed = initial_formed p.structs d.init (constant_is d.init constant.0) small.0 types.0;

@@ -1,7 +1,7 @@
 -- Asserts whose terms keep their ranges, in trees whose annotations are asserts and are ranged.
 use Rattle.std.proofs.Common.{List, [], ◌∷◌, Option, Some, None}
 use Rattle.c_syntax.specs.Logic.{Annotation}
-use Rattle.c_syntax.specs.Statements.{Statement, Empty, Eval, Block, If, While, Do, For, Break, Continue, Return, ElsePart, NoElse, Else, BlockItem, Declare, Run, Asserts, BlockItems, NoItem, Then}
+use Rattle.c_syntax.specs.Statements.{Statement, Empty, Eval, Block, If, While, Do, For, Break, Continue, Return, ElsePart, NoElse, Else, BlockItem, Declare, Specify, Run, Asserts, BlockItems, NoItem, Then}
 use Rattle.c_syntax.specs.Programs.{Function}
 use Rattle.c_model.specs.Formed.{AreAsserts}
 use Rattle.c_model.specs.EffectPlaces.{StatementPlaced, ElsePlaced, ItemsPlaced, ItemPlaced}
@@ -37,6 +37,7 @@ mutual
 
   item_ranged : (i : BlockItem) → ItemPlaced AreAsserts i → ItemRanged i → ItemPlaced AreRangedAsserts i
   item_ranged (Declare ds) p r = p
+  item_ranged (Specify at t) p r = tt
   item_ranged (Run a) p r = statement_ranged a p r
   item_ranged (Asserts annots) p r = record { are = p; ranged = r }
 

@@ -3,7 +3,7 @@ use Rattle.std.proofs.Common.{◌≡◌, ℕ, Bool, true, false, cond, nat_eq, L
 use Rattle.c_syntax.specs.declared.expression.Use.{Use}
 use Rattle.c_syntax.specs.Ctypes.{PlainType}
 use Rattle.c_syntax.specs.Expressions.{Expressions}
-use Rattle.c_syntax.specs.Statements.{Declaration, ForFirst, NoFirst, First, BlockItem, Declare, Run, Asserts}
+use Rattle.c_syntax.specs.Statements.{Declaration, ForFirst, NoFirst, First, BlockItem, Declare, Specify, Run, Asserts}
 use Rattle.c_model.specs.State.{Scope, find}
 use Rattle.c_model.specs.Formed.{number_of}
 use Rattle.c_model.specs.ExpressionTyping.{Sight, Entity, AnObject, AnEnumerator, has_name, or_else, entity_named, inner, with_object, with_objects}
@@ -66,6 +66,7 @@ module _ (w : Setting) (n : ℕ) where
 
   pub scene_behind : (sight : Sight) (i : BlockItem) → Scene w n sight → Scene w n (behind sight i)
   scene_behind sight (Declare ds) scene = scene_with_all sight ds scene
+  scene_behind sight (Specify at t) scene = scene
   scene_behind sight (Run a) scene = scene
   scene_behind sight (Asserts annots) scene = scene
 

@@ -12,7 +12,7 @@ use Rattle.c_syntax.specs.declared.statement.StmtKind as code
 use Rattle.c_syntax.specs.Logic.{Annotation, plain_annot}
 use Rattle.c_syntax.specs.Expressions.{Expression, plain_expr}
 use Rattle.c_syntax.specs.Statements.{plain_else_part}
-use Rattle.c_syntax.specs.Statements.{Declaration, Statement, Block, If, Do, For, ElsePart, ForFirst, NoFirst, First, Declare, Run, Asserts, plain_items, plain_stmt, plain_stmt_kind}
+use Rattle.c_syntax.specs.Statements.{Declaration, Statement, Block, If, Do, For, ElsePart, ForFirst, NoFirst, First, Declare, Specify, Run, Asserts, plain_items, plain_stmt, plain_stmt_kind}
 use Rattle.c_syntax.proofs.Rows.{block_is}
 use Rattle.c_model.specs.Meaning.{declared_in, declared_first}
 use Rattle.mon_syntax.specs.Registers.{Names, next_register}
@@ -69,6 +69,7 @@ alive_code n n1 live inside ds f t t1 t2 t3 names born inside_is done dead =
 pub declared_of_first : (first : ForFirst) → declared_in (items_of_first first) ≡ declared_first first
 declared_of_first NoFirst = refl
 declared_of_first (First (Declare ds)) = append-nil ds
+declared_of_first (First (Specify at t)) = refl
 declared_of_first (First (Run a)) = refl
 declared_of_first (First (Asserts annots)) = refl
 

@@ -4,7 +4,7 @@ use Rattle.std.proofs.lemmas.List.{length-append}
 use Rattle.c_syntax.specs.declared.place.Place.{Place}
 use Rattle.c_syntax.specs.Logic.{Annotation}
 use Rattle.c_syntax.specs.Expressions.{Expression, type_of}
-use Rattle.c_syntax.specs.Statements.{Declaration, Statement, Empty, Eval, Block, If, While, Do, For, Break, Continue, Return, ElsePart, NoElse, Else, ForFirst, NoFirst, First, Declare, Run, Asserts, BlockItems, NoItem, Then}
+use Rattle.c_syntax.specs.Statements.{Declaration, Statement, Empty, Eval, Block, If, While, Do, For, Break, Continue, Return, ElsePart, NoElse, Else, ForFirst, NoFirst, First, Declare, Specify, Run, Asserts, BlockItems, NoItem, Then}
 use Rattle.c_syntax.specs.Programs.{TranslationUnit}
 use Rattle.c_syntax.specs.Layouts.{Scalar, scalar_of}
 use Rattle.c_model.specs.Memory.{Value, kill_from}
@@ -344,6 +344,7 @@ module _ (w : Setting) (n : ℕ) where
   sees_first : (first : ForFirst) (s : Sight) (living : List ℕ) → AreFound s.entities (scope_for living) → AreFound (behind_first (inner s) first).entities (scope_for (with_numbers (declared_first first) living))
   sees_first NoFirst s living sees = sees
   sees_first (First (Declare ds)) s living sees = found_with_all (inner s) ds (scope_for (with_numbers ds living)) (sees_born s.entities ds living sees) (declared_born ds living)
+  sees_first (First (Specify at t)) s living sees = sees
   sees_first (First (Run a)) s living sees = sees
   sees_first (First (Asserts annots)) s living sees = sees
 
@@ -440,6 +441,8 @@ module _ (w : Setting) (n : ℕ) where
         (λ regs from t x le. initials_follow w n h low r.bound ds s g (local_front w.unit ds (declared_in rest) local) f.0 q.0 l.0 r.kinds behind (omega (arith, enough, f2)) regs from t le x.standing x.beside)
         (items_follow rest (with_objects s ds) around h spot low r1 living stands (scene_with_all w n s ds g) (found_with_all s ds (scope_for living) sees (declarations_found-append ds (declared_in rest) (scope_for living) have).0)
         (declarations_found-append ds (declared_in rest) (scope_for living) have).1 (local_back w.unit ds (declared_in rest) local) result looped c.1 f.1 q.1 m.1 l.1 (omega (arith, behind, f1)) enough)
+    items_follow (Then (Specify at t) rest) s around h spot low r living stands g sees have local result looped c f q m l behind enough =
+        items_follow rest s around h spot low r living stands g sees have local result looped c.1 f.1 q.1 m.1 l.1 behind enough
     items_follow (Then (Run a) rest) s around h spot low r living stands g sees have local result looped c f q m l behind enough =
         let r1 = after_statement w.unit a r in
         let f1 = statement_grows w.unit a r in

@@ -2,7 +2,7 @@
 use Rattle.std.proofs.Common.{◌≡◌, ℕ, suc, Bool, true, false, nat_eq, List, [], ◌∷◌, ◌++◌, length, Some, slice_get, refl, sym, ap, ◌∙◌, subst, arith, append_assoc}
 use Rattle.std.proofs.lemmas.List.{append-nil, length-append}
 use Rattle.std.proofs.lemmas.Bool.Decides.{nat_tests}
-use Rattle.c_syntax.specs.Statements.{Declaration, Statement, Empty, Eval, Block, If, While, Do, For, Break, Continue, Return, ElsePart, NoElse, Else, ForFirst, NoFirst, First, BlockItem, Declare, Run, Asserts, BlockItems, NoItem, Then}
+use Rattle.c_syntax.specs.Statements.{Declaration, Statement, Empty, Eval, Block, If, While, Do, For, Break, Continue, Return, ElsePart, NoElse, Else, ForFirst, NoFirst, First, BlockItem, Declare, Specify, Run, Asserts, BlockItems, NoItem, Then}
 use Rattle.c_syntax.specs.Logic.{Annotation}
 use Rattle.c_syntax.specs.Programs.{TranslationUnit}
 use Rattle.c_model.specs.Meaning.{declared_in, declared_first}
@@ -82,6 +82,7 @@ mutual
 
   pub item_begins : (p : TranslationUnit) (i : BlockItem) (r : RegisterTable) → Begins r.kinds (after_item p i r).kinds
   item_begins p (Declare ds) r = begins_added r.kinds (declaration_temporaries ds)
+  item_begins p (Specify at t) r = begins_itself r.kinds
   item_begins p (Run a) r = statement_begins p a r
   item_begins p (Asserts annots) r = behind_asserts p r.bound r.kinds annots
 
@@ -180,6 +181,7 @@ module _ (ts : Types) where
 
     pub item_keeps : (p : TranslationUnit) (i : BlockItem) (r : RegisterTable) → Begins (after_item p i r).kinds ts → Keeps r (after_item p i r)
     item_keeps p (Declare ds) r b x g h = h
+    item_keeps p (Specify at t) r b x g h = h
     item_keeps p (Run a) r b x g h = statement_keeps p a r b x g h
     item_keeps p (Asserts annots) r b x g h = h
 

@@ -197,7 +197,7 @@ scalar_is P Void h f g = let i = h.is in absurd cc
 scalar_is P (Array u n) h f g = let i = h.is in absurd cc
 scalar_is P (Struct n) h f g = let i = h.is in absurd cc
 scalar_is P (source_type.Named x) h f g = let i = h.is in absurd cc
-scalar_is P (source_type.StructTag x) h f g = let i = h.is in absurd cc
+scalar_is P (source_type.StructTag x tag) h f g = let i = h.is in absurd cc
 scalar_is P (source_type.EnumTag x at) h f g = let i = h.is in absurd cc
 
 pub int_scalar : (t : PlainType) (k : CInt) → t ≡ Int k → IsScalar t

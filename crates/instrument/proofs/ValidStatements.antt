@@ -5,7 +5,7 @@ use Rattle.std.proofs.Math.Nat.{le-max_left, le-max_right}
 use Rattle.std.specs.Prelude.{bytes_eq}
 use Rattle.c_syntax.specs.Ctypes.{PlainType}
 use Rattle.c_syntax.specs.Expressions.{Expression, type_of}
-use Rattle.c_syntax.specs.Statements.{Declaration, Statement, Empty, Eval, Block, If, While, Do, For, Break, Continue, Return, ElsePart, NoElse, Else, ForFirst, NoFirst, First, Declare, Run, Asserts, BlockItems, NoItem, Then}
+use Rattle.c_syntax.specs.Statements.{Declaration, Statement, Empty, Eval, Block, If, While, Do, For, Break, Continue, Return, ElsePart, NoElse, Else, ForFirst, NoFirst, First, Declare, Specify, Run, Asserts, BlockItems, NoItem, Then}
 use Rattle.c_syntax.specs.Programs.{TranslationUnit}
 use Rattle.c_model.specs.Formed as form
 use Rattle.c_model.specs.Formed.{number_of}
@@ -130,10 +130,6 @@ module _ (p : TranslationUnit) (gs : List Signature) (ts : Types) (result : Plai
   test_if_any_at s r v ls loops (Some e) jump f q l b = test_at s r v ls loops e jump f q l b
 
   -- declarations, of which each sees those in front
-  with_first : (bound : Bindings) (s : Sight) (d : Declaration) (t : PlainType) → nat_eq (number_of d) 4294967295 ≡ false → HasPointer ts bound (number_of d) → Sees p ts bound functions s
-      → Sees p ts bound functions (with_object s (record d { ctype = t }))
-  with_first bound s d t own h v = sees_one p ts functions bound s (record d { ctype = t }) own h v
-
   small_both : (a b : List Declaration) → AreSmall p.structs a → AreSmall p.structs b → AreSmall p.structs (a ++ b)
   small_both [] b h k = k
   small_both (d ∷ a) b h k = (h.0, small_both a b h.1 k)
@@ -147,12 +143,12 @@ module _ (p : TranslationUnit) (gs : List Signature) (ts : Types) (result : Plai
   initials_valid [] s bound v ls rs h own f q l b = tt
   initials_valid (d ∷ ds) s bound v ls rs h own f q l b =
       let here = initial_temporaries d.init in
-      let w = with_first bound s d q.0.first own.0 h.0 v in
+      let w = sees_one p ts functions bound s d own.0 h.0 v in
       and_then ls (initialise p bound rs (block_of bound (number_of d)) d.ctype d.init) (initialise_all p bound (rs ++ here) ds)
-      (initialise_valid p gs ts (result_of result) bound (with_object s (record d { ctype = q.0.first })) w.knows (calls (with_object s (record d { ctype = q.0.first })) w.names_are w.functions_are) ls fits texts rs
+      (initialise_valid p gs ts (result_of result) bound (with_object s d) w.knows (calls (with_object s d) w.names_are w.functions_are) ls fits texts rs
       (block_of bound (number_of d)) d.ctype d.init
       (block_points ts bound (number_of d) h.0) (declared_small s (d ∷ ds) v.knows.structs_are q).0 q.0.init f.0 (initial_letters d.init l.0) (begins_left rs here (declaration_temporaries ds) ts b))
-      (initials_valid ds (with_object s d) bound (sees_one p ts functions bound s d own.0 h.0 v) ls (rs ++ here) h.1 own.1 f.1 q.1 l.1 (begins_right rs here (declaration_temporaries ds) ts b))
+      (initials_valid ds (with_object s d) bound w ls (rs ++ here) h.1 own.1 f.1 q.1 l.1 (begins_right rs here (declaration_temporaries ds) ts b))
 
   -- ---- loops
 
@@ -223,6 +219,7 @@ module _ (p : TranslationUnit) (gs : List Signature) (ts : Types) (result : Plai
       → FirstFormed p.structs first → FirstTyped s around first → See r (behind_first s first)
   sees_first NoFirst s r v around h own f q = v
   sees_first (First (Run a)) s r v around h own f q = v
+  sees_first (First (Specify at t)) s r v around h own f q = v
   sees_first (First (Declare ds)) s r v around h own f q = sees_behind p ts functions r.bound s ds own h v
   sees_first (First (Asserts annots)) s r v around h own f q = v
 
@@ -232,12 +229,14 @@ module _ (p : TranslationUnit) (gs : List Signature) (ts : Types) (result : Plai
   pub items_small : (is : BlockItems) (s : Sight) (around : Around) → s.structs ≡ p.structs → ItemsTyped s around is → AreSmall p.structs (declared_in is)
   items_small NoItem s around e q = tt
   items_small (Then (Declare ds) rest) s around e q = small_both ds (declared_in rest) (declared_small s ds e q.0) (items_small rest (with_objects s ds) around (structs_behind s ds ∙ e) q.1)
+  items_small (Then (Specify at t) rest) s around e q = items_small rest s around e q.1
   items_small (Then (Run a) rest) s around e q = items_small rest s around e q.1
   items_small (Then (Asserts annots) rest) s around e q = items_small rest s around e q.1
 
   first_small : (first : ForFirst) (s : Sight) (around : Around) → s.structs ≡ p.structs → FirstTyped s around first → AreSmall p.structs (declared_first first)
   first_small NoFirst s around e q = tt
   first_small (First (Declare ds)) s around e q = declared_small s ds e q
+  first_small (First (Specify at t)) s around e q = tt
   first_small (First (Run a)) s around e q = tt
   first_small (First (Asserts annots)) s around e q = tt
 
@@ -338,6 +337,8 @@ module _ (p : TranslationUnit) (gs : List Signature) (ts : Types) (result : Plai
         and_then (labels spot.loops) (initialise_all p r.bound r.kinds ds) (items p spot z rest)
         (initials_valid ds s r.bound v (labels spot.loops) r.kinds own w.0 f.0 q.0 l.0 first)
         (items_valid rest (with_objects s ds) around spot k z (sees_behind p ts functions r.bound s ds w.0 own v) same o (pointers_back ts r.bound ds (declared_in rest) h) f.1 q.1 m.1 w.1 l.1 (omega (arith, d, right)) b)
+    items_valid (Then (Specify at t) rest) s around spot k r v same o h f q m w l d b =
+        let right = le-max_right 0 (form.depth_of_items rest) in items_valid rest s around spot k r v same o h f.1 q.1 m.1 w.1 l.1 (omega (arith, d, right)) b
     items_valid (Then (Run a) rest) s around spot k r v same o h f q m w l d b =
         let z = after_statement p a r in
         let first = begins_then z.kinds (after_items p rest z).kinds ts (items_begin p rest z) b in

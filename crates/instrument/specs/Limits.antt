@@ -3,7 +3,7 @@
 -- bits, a letter is a value of `char`, and registers can be numbered.
 use Rattle.std.specs.Prelude.{◌≡◌, true, ℕ, suc, ◌<◌, ◌^◌, if◌then◌else◌, nat_eq, length, List, [], ◌∷◌, Option, Some, None}
 use Rattle.c_syntax.specs.Statements.{Statement, Empty, Eval, Block, If, While, Do, For, Break, Continue, Return, Labelled, Switch}
-use Rattle.c_syntax.specs.Statements.{ElsePart, NoElse, Else, ForFirst, NoFirst, First, BlockItem, Declare, Run, Asserts, BlockItems, NoItem, Then}
+use Rattle.c_syntax.specs.Statements.{ElsePart, NoElse, Else, ForFirst, NoFirst, First, BlockItem, Declare, Specify, Run, Asserts, BlockItems, NoItem, Then}
 use Rattle.c_syntax.specs.Programs.{Function, TranslationUnit}
 use Rattle.c_model.specs.Meaning.{is_definition}
 use Rattle.c_effects.specs.Letters.{Any, HasLetters, FullHasLetters, EffectHasLetters, InitialsHaveLetters}
@@ -38,6 +38,7 @@ abbrev mutual
 
   pub ItemHasNumbers : BlockItem → Type 0
   ItemHasNumbers (Declare ds) = InitialsHaveLetters ds
+  ItemHasNumbers (Specify at t) = Unit {0}
   ItemHasNumbers (Run a) = HasNumbers a
   ItemHasNumbers (Asserts annots) = AreNumbered annots
 

@@ -9,7 +9,7 @@ use Rattle.c_syntax.specs.declared.expression.Expr.{Expr}
 use Rattle.c_syntax.specs.Ctypes.{PlainType}
 use Rattle.c_syntax.specs.Expressions.{Expression, plain_expr}
 use Rattle.c_syntax.specs.Programs.{Function, TranslationUnit}
-use Rattle.c_syntax.specs.Statements.{Declaration, Statement, ElsePart, ForFirst, NoFirst, First, BlockItem, Declare, Run, Asserts, BlockItems}
+use Rattle.c_syntax.specs.Statements.{Declaration, Statement, ElsePart, ForFirst, NoFirst, First, BlockItem, Declare, Specify, Run, Asserts, BlockItems}
 use Rattle.c_syntax.specs.Statements.{NoItem, Then, While, Do, Initialiser, plain_stmt, plain_item}
 use Rattle.mon_syntax.specs.declared.tree.MonType.TheVariants.{Ptr}
 use Rattle.mon_syntax.specs.Registers.{Names, next_register, with_kinds, with_table}
@@ -119,6 +119,7 @@ items_of_first (First i) = Then i NoItem
 -- what an item declares itself
 abbrev pub declared_by : BlockItem → List Declaration
 declared_by (Declare ds) = ds
+declared_by (Specify at t) = []
 declared_by (Run a) = []
 declared_by (Asserts annots) = []
 

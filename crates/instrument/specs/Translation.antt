@@ -8,7 +8,7 @@ use Rattle.c_syntax.specs.Ctypes as source_type
 use Rattle.c_syntax.specs.Ctypes.{PlainType, Int}
 use Rattle.c_syntax.specs.Expressions.{Expression, type_of}
 use Rattle.c_syntax.specs.Statements as source_statement
-use Rattle.c_syntax.specs.Statements.{Declaration, Statement, ElsePart, NoElse, Else, ForFirst, NoFirst, First, BlockItem, Declare, Run, Asserts, BlockItems}
+use Rattle.c_syntax.specs.Statements.{Declaration, Statement, ElsePart, NoElse, Else, ForFirst, NoFirst, First, BlockItem, Declare, Specify, Run, Asserts, BlockItems}
 use Rattle.c_syntax.specs.Statements.{NoItem, Initialiser}
 use Rattle.c_syntax.specs.Programs.{StringLiteral, Function, TranslationUnit}
 use Rattle.c_syntax.specs.Layouts.{size_of}
@@ -93,6 +93,7 @@ abbrev mutual
 
   pub after_item : TranslationUnit → BlockItem → RegisterTable → RegisterTable
   after_item p (Declare ds) r = with_kinds (declaration_temporaries ds) r
+  after_item p (Specify at t) r = r
   after_item p (Run a) r = after_statement p a r
   after_item p (Asserts annots) r = record r { kinds = behind_assertions p r.bound r.kinds annots }
 
@@ -192,6 +193,7 @@ module _ (p : TranslationUnit) where
 
     pub item : Spot → RegisterTable → BlockItem → MonStatements
     item spot r (Declare ds) = initialise_all p r.bound r.kinds ds
+    item spot r (Specify at t) = NoStatement
     item spot r (Run a) = statement spot r a
     item spot r (Asserts annots) = assertions p r.bound r.kinds annots
 

@@ -20,6 +20,7 @@ fn declared_by(item: &Item) -> &[Decl]
 {
     match item {
         Item::Declare(decls) => decls,
+        Item::Specify(..) => &[],
         Item::Run(_) => &[],
         Item::Asserts(_) => &[],
     }

@@ -534,6 +534,7 @@ fn turns(
 
 // Translates an item of a block.
 #[cycle(statement)]
+#[tactic(auto, using(c_effects::proofs::Sequences::before_none))]
 fn item(
     alloc: Global,
     spot: &Spot<'_>,
@@ -548,6 +549,7 @@ fn item(
 {
     match i {
         Item::Declare(decls) => initialise_all(alloc, decls, names, to),
+        Item::Specify(..) => Ok(()),
         Item::Run(a) => statement(alloc, spot, a, names, to),
         Item::Asserts(annots) => assertions(alloc, annots, names, to),
     }
