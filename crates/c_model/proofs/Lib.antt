@@ -129,8 +129,11 @@ mod WorkedQuestions
 mod WorkedPlaces
 mod WorkedZones
 mod WorkedQuantifiers
+mod WorkedTermRanges
 mod WorkedHeap
 mod WorkedEffects
+mod WorkedExpressions
+mod WorkedSwitches
 mod WorkedRuns
 mod WorkedCalls
 pub mod WorkedContracts

@@ -13,7 +13,7 @@ use Rattle.c_syntax.specs.declared.logic.Label.TheVariants.{Pre}
 use Rattle.c_syntax.specs.Logic.{LogicTerm, Predicate, Named, At, Holds, Behaviors, Annotation}
 use Rattle.c_syntax.specs.Statements.{Declaration, Statement, BlockItem, Eval, Block, Return, Declare, Run, Asserts}
 use Rattle.c_syntax.specs.Programs.{NamedBehavior, Function, TranslationUnit}
-use Rattle.c_model.specs.State.{Final, Exits, Broken, Undefined}
+use Rattle.c_model.specs.State.{Final, Exits, Broken}
 use Rattle.c_model.specs.Meaning.{Ran, run}
 use Rattle.c_model.proofs.WorkedTrees.{place, literal, variable, binary, assignment, call, library_call, int_variable, int_parameter, items_of, literal_term, variable_term}
 use Rattle.c_model.proofs.WorkedTrees.{binary_term, related_terms, no_range, definition, unit_of, no_input}

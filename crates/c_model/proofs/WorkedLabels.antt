@@ -2,7 +2,7 @@
 use Rattle.std.proofs.Common.{◌≡◌, ℕ, pos, negsuc, true, false, List, [], ◌∷◌, ◌++◌, Option, None, Some, replicate, refl}
 use Rattle.std.specs.Prelude.{slice_set}
 use Rattle.c_syntax.specs.declared.annotation.Kind.TheVariants.{Assert, Ensures}
-use Rattle.c_syntax.specs.declared.annotation.Relation.TheVariants.{Eq, Lt}
+use Rattle.c_syntax.specs.declared.annotation.Relation.TheVariants.{Eq}
 use Rattle.c_syntax.specs.declared.expression.BinOp.TheVariants as operator
 use Rattle.c_syntax.specs.declared.logic.BlockFact.TheVariants.{Offset}
 use Rattle.c_syntax.specs.declared.logic.Connective.TheVariants.{And, Or}
