@@ -5,6 +5,7 @@ ghost use Rattle.c_model.specs.UnrangedPrograms.{RangedProgramsArePrograms, Rang
 ghost use Rattle.c_model.specs.Laws.{BitsHoldValues, FittingResultsStand, SignedResultsFit, UnsignedResultsWrap, ResultsFit};
 ghost use Rattle.c_model.specs.Laws.{ConversionsFit, ConversionsKeepValues, OperatorsFit, OperatorsOfOneFit};
 ghost use Rattle.c_model.specs.Laws.{SavedPointersLoad, SavedValuesLoad, SavesKeepBlocks, SavesKeepBytes, SavesKeepWhole, StatementsKeepWhole};
+ghost use Rattle.c_model.specs.Together.{PointersLoad};
 ghost use Rattle.c_model.specs.HeapLaws.{HeapPlacesFit, HeapPlacesAreLeast, FullHeapsHaveNoPlace, HeapsWithNoPlaceAreFull, NumbersComeFirst};
 ghost use Rattle.c_model.specs.HeapLaws.{AllocatedBlocksAreNew, NoBytesGiveNull, FreedBlocksDie, LiveBlocksCanBeFreed, FreeLetsNullBe, DeadBlocksHaveNoUse};
 ghost use Rattle.c_model.specs.HeapLaws.{StatementsKeepBlocks, StatementsKeepPlaces, ScalarsStandInOrder, AssignedStructsAreCopies, AssignedStructsKeepTheRest};
@@ -26,10 +27,12 @@ pub fn integers()
     ensures operators_of_one { OperatorsOfOneFit }
 {}
 
-/// Memory: a number or a pointer that is saved is loaded again, and a save changes nothing else.
+/// Memory: a number or a pointer that is saved is loaded again, and a save changes nothing else. The question whether a pointer stands
+/// somewhere is answered as a load would answer it, where the pieces of pointers stand together.
 pub fn memory()
     ensures loads { SavedValuesLoad }
     ensures pointers { SavedPointersLoad }
+    ensures asked { PointersLoad }
     ensures blocks { SavesKeepBlocks }
     ensures bytes { SavesKeepBytes }
     ensures whole { SavesKeepWhole }
