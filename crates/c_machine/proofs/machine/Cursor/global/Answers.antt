@@ -1,7 +1,7 @@
 use Rattle.std.proofs.Common.{rules, FitsSigned, ◌≤◌, ◌<◌, ◌∷◌, length, get_or, pos, refl, arith}
 use Rattle.std.specs.Int.{w128}
 use Rattle.std.proofs.lemmas.Option.{slice_get-get_or, slice_get_past}
-use Rattle.c_model.specs.State.{Fault}
+use Rattle.c_model.specs.MonitoredRuns.{Fault}
 use Rattle.c_lower.specs.declared.code.Instr.TheVariants as instr
 use Rattle.c_machine.specs.Held.{links_of, from_top, machine_of}
 use Rattle.c_machine.proofs.Moves.{goes_by, goes_with, halts_by}

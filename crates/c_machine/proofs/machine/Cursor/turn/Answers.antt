@@ -3,7 +3,7 @@ use Rattle.std.specs.Int.{w64}
 use Rattle.std.proofs.lemmas.Int.{to_z-of_z}
 use Rattle.c_lower.specs.Sound.{target}
 use Rattle.c_lower.specs.declared.code.Instr.TheVariants as instr
-use Rattle.c_model.specs.State.{Fault}
+use Rattle.c_model.specs.MonitoredRuns.{Fault}
 use Rattle.c_machine.specs.Held.{links_of}
 use Rattle.c_machine.proofs.Moves.{halts_by}
 use Rattle.c_machine.proofs.machine.Cursor.turn.Goals as goal
