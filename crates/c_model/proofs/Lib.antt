@@ -140,4 +140,6 @@ pub mod WorkedContracts
 mod WorkedBehaviors
 mod WorkedLabels
 mod WorkedLoops
+mod WorkedSearch
+mod WorkedObjectAsserts
 pub mod WorkedTypings

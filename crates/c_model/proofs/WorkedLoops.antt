@@ -202,3 +202,9 @@ and_the_outer_one_is_compared = refl
 -- while (i < 2) { while (i < 1) i = i + 1; }: the inner loop makes the outer one's variant smaller, once
 an_inner_turn_counts_for_the_outer_loop : runs (loops 0 (variant 1 (less (number 2) i) ∷ []) (below 2) (while (variant 2 (less (number 1) i) ∷ []) (below 1) (up ∷ []) ∷ [])) ≡ false_at 1 Variant 6
 an_inner_turn_counts_for_the_outer_loop = refl
+
+-- int i = 0; /*@ loop invariant 0 <= i; loop variant 3 - i; */ while (i < 3) { putchar('a'); break; }
+-- /*@ loop variant 5 - i; */ while (i < 3) { putchar('b'); i = i - 1; }
+one_loop_behind_another : runs (program [] (main_of (int_of 50 (lit 0) ∷ while (invariant 1 (is (number 0) Le i) ∷ variant 2 (less (number 3) i) ∷ []) (below 3) (puts 97 ∷ breaks ∷ [])
+    ∷ while (variant 3 (less (number 5) i) ∷ []) (below 3) (puts 98 ∷ down ∷ []) ∷ returns (lit 0) ∷ []) ∷ [])) ≡ ends (Broken 3 3 Variant how.False) (codes "ab") 7
+one_loop_behind_another = refl

@@ -199,6 +199,16 @@ chars_from_a_square_to_another = refl
 chars_over_twice_a_square : refused (zone_of 1 (Unary here None any unary.Minus square) square) ≡ refused_at 7
 chars_over_twice_a_square = refl
 
+-- the bytes fit, and where they end has a range only from null on
+chars_up_to_the_greatest_number : refused (zone_of 1 (number (pos 0)) (number (pos (2 ^ 127 - 2)))) ≡ refused_at 7
+chars_up_to_the_greatest_number = refl
+
+from_null_on : refused (Asks here Valid (Elements (there 7) 1 1 null (number (pos 0)) (number (pos (2 ^ 127 - 2))))) ≡ None
+from_null_on = refl
+
+one_byte_more : refused (Asks here Valid (Elements (there 7) 1 1 null (number (pos 0)) (number (pos (2 ^ 127 - 1))))) ≡ refused_at 7
+one_byte_more = refl
+
 a_part_comes_first : refused (zone_of 4 (number (pos 0)) (Binary (there 3) None any Mul square l)) ≡ refused_at 3
 a_part_comes_first = refl
 
