@@ -46,7 +46,7 @@ plain_base words.Void = Void
 plain_base (words.Int k) = Int k
 plain_base (words.Struct n) = Struct n
 plain_base (words.Named x) = Named x
-plain_base (words.StructTag x) = StructTag x
+plain_base (words.StructTag x at) = StructTag x at
 plain_base (words.EnumTag x at) = EnumTag x at
 
 abbrev pub plain_brackets : List Bracket → List PlainLength

@@ -87,8 +87,8 @@ fn behind_struct<'a>(
     ensures shorter { IfOk result (λ t. length t.1.now ≤ length tokens.now) }
     ensures sure { IfErr result TakesNoMemory }
 {
-    let (tag, _, rest) = any_name(words, tokens)?;
-    constant(words, BaseType::StructTag(tag), rest)
+    let (tag, place, rest) = any_name(words, tokens)?;
+    constant(words, BaseType::StructTag(tag, place), rest)
 }
 
 /// `ANYNAME { "const" }`, after `enum`.

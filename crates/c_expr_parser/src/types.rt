@@ -32,8 +32,8 @@ pub enum BaseType {
     Struct(u32),
     /// The type that a `typedef` of this name declares.
     Named(u32),
-    /// `struct` with a tag.
-    StructTag(u32),
+    /// `struct` with a tag, at its place.
+    StructTag(u32, Place),
     /// `enum` with a tag, at its place.
     EnumTag(u32, Place),
 }
@@ -47,7 +47,7 @@ pub fn ctype_of(base: BaseType) -> CType
         BaseType::Int(kind) => CType::Int(kind),
         BaseType::Struct(number) => CType::Struct(number),
         BaseType::Named(name) => CType::Named(name),
-        BaseType::StructTag(tag) => CType::StructTag(tag),
+        BaseType::StructTag(tag, place) => CType::StructTag(tag, place),
         BaseType::EnumTag(tag, place) => CType::EnumTag(tag, place),
     }
 }
@@ -280,8 +280,8 @@ fn struct_tag<'a>(words: &[Word], tokens: &'a [Token]) -> Result<(BaseType, &'a 
     ensures sure { IfErr result TakesNoMemory }
 {
     let (_, rest) = skip(words, STRUCT, tokens)?;
-    let (tag, _, rest) = any_name(words, rest)?;
-    Ok((BaseType::StructTag(tag), rest))
+    let (tag, place, rest) = any_name(words, rest)?;
+    Ok((BaseType::StructTag(tag, place), rest))
 }
 
 /// `enum` with a tag.
