@@ -113,6 +113,7 @@ pub mod WorkedClauses
 mod WorkedAnnotationGrammar
 mod WorkedExpressionTyping
 mod WorkedStructTyping
+mod WorkedSwitchTyping
 mod WorkedDeclarationTyping
 mod WorkedTypingFaults
 mod WorkedDeclarationFaults
@@ -142,4 +143,5 @@ mod WorkedLabels
 mod WorkedLoops
 mod WorkedSearch
 mod WorkedObjectAsserts
+mod WorkedReports
 pub mod WorkedTypings

@@ -13,12 +13,13 @@ use Rattle.c_syntax.specs.Expressions as expression
 use Rattle.c_syntax.specs.Formulas.{Integers}
 use Rattle.c_syntax.specs.Logic.{LogicTerm, Predicate, Truth, Not, Asks, Object, Named, Quantified, Guarded, NoGuard, Annotation}
 use Rattle.c_syntax.specs.Logic as logic
-use Rattle.c_syntax.specs.Statements.{BlockItem, Declaration}
+use Rattle.c_syntax.specs.declared.expression.BinOp.TheVariants as operator
+use Rattle.c_syntax.specs.Statements.{BlockItem, Declaration, While, If, NoElse, Run}
 use Rattle.c_syntax.specs.Programs.{NamedBehavior, Function, TranslationUnit}
 use Rattle.c_model.specs.State.{Broken, Undefined, Spent}
 use Rattle.c_model.specs.Meaning.{run}
 use Rattle.c_model.proofs.WorkedTrees.{no_input, no_range}
-use Rattle.c_model.proofs.WorkedClauses.{at, result, is, by, number, x_of, clause, covers, covers_named, contracted, named, lit, var}
+use Rattle.c_model.proofs.WorkedClauses.{at, result, is, by, number, x_of, formal, operated, block_of, clause, covers, covers_named, contracted, named, lit, var}
 use Rattle.c_model.proofs.WorkedClauses.{call_of, does, sets, calls, puts, exits_with, returns, int_of, global_of, function_of, main_of, program, runs, ends, exits}
 use Rattle.c_model.proofs.WorkedClauses.{false_at, undefined_at}
 
@@ -182,6 +183,12 @@ at_the_brace_of_a_function_without_result :
     runs (program (global_of (lit 1) ∷ []) (contracted (clause Ensures 1 (is g Eq (number 2)) ∷ []) [] [] (function_of Void 10 (sets 5 (var 20) ∷ [])) ∷ main_of (all_calls (2 ∷ 3 ∷ [])) ∷ []))
     ≡ false_at 1 Ensures 7
 at_the_brace_of_a_function_without_result = refl
+
+-- while (1) { int k = n; if (k > 3) { int m = k; return m; } n = n + 1; }
+returns_from_inner_blocks :
+    runs (calling (f_does (Run (While (at 1 1) [] (lit 1) (block_of (int_of 50 (var 20) ∷ Run (If (at 1 1) (operated operator.Gt (var 50) (lit 3)) (block_of (int_of 60 (var 50) ∷ returns (var 60) ∷ [])) NoElse)
+    ∷ sets 20 (operated operator.Add (var 20) (lit 1)) ∷ []))) ∷ []) (clause Ensures 1 (is result Eq (formal 20)) ∷ []) [] []) (5 ∷ 2 ∷ [])) ≡ false_at 1 Ensures 3
+returns_from_inner_blocks = refl
 
 -- ---- objects at the end of a call: int *p; int f(int n) { int x = 1; p = &x, or p = &n; return n; }
 abbrev pointer : Declaration
