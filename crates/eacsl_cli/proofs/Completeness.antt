@@ -1,16 +1,14 @@
 -- Of the answers due, one is left where no port failed.
-use Rattle.std.proofs.Common.{◌≡◌, ◌⊎◌, ℕ, ◌≤◌, ◌<◌, List, length, Option, Some, None, refl, sym, ap, ◌∙◌, subst, arith, inl, inr}
-use Rattle.std.specs.Prelude.{IfSome}
+use Rattle.std.proofs.Common.{◌≡◌, ◌⊎◌, ℕ, ◌≤◌, ◌<◌, List, length, Option, Some, None, sym, ap, ◌∙◌, subst, arith, inl, inr}
+use Rattle.std.specs.Prelude.{IfSome, option_map}
 use Rattle.c_syntax.specs.Programs.{TranslationUnit, PlainRefusal}
 use Rattle.c_model.specs.declared.job.Job.{Job}
 use Rattle.c_model.specs.WordLaws.{file_named}
 use Rattle.c_model.specs.Phases.{AcceptedText, RefusedText}
-use Rattle.c_model.specs.State.{Input, Final, Exits, Broken, Undefined, Fault, Spent, Full, ReadFault}
-use Rattle.c_model.specs.Meaning.{Ran, run}
-use Rattle.c_model.specs.Laws.{NeverFaults}
-use Rattle.c_model.specs.Reports.{Report, report, agrees_at}
-use Rattle.c_model.proofs.NoFaults.{programs_never_fault}
-use Rattle.c_reader.proofs.AcceptedTexts.{accepted_program}
+use Rattle.c_model.specs.State.{Input}
+use Rattle.c_model.specs.Meaning.{run}
+use Rattle.c_model.specs.MonitoredRuns.{Final, machine_end}
+use Rattle.c_model.specs.Reports.{machine_report, agrees_at}
 use Rattle.c_reader.proofs.Texts.{one_program, apart, one_refusal}
 use Rattle.mon_syntax.specs.Trees.{MonitoredProgram}
 use Rattle.mon_syntax.specs.FlatMemory.{flat_run}
@@ -18,34 +16,20 @@ use Rattle.mon_syntax.specs.Translates.{Translates}
 use Rattle.mon_syntax.specs.Spelled.{Spells, IsMonitoredRefusal}
 use Rattle.mon_reader.proofs.Texts.{one_spelled, spelled_apart, one_monitored_refusal}
 use Rattle.c_machine.specs.Inputs.{Taking}
-use Rattle.eacsl_cli.specs.Answers.{Answer, AnswersRun, refused_answer, written_answer, file_limit, Change, IsDue, Usage, NoFile, TooLong, FolderFault, OfText, Begins, RunDue, RunRefused, Runs, InstrumentDue, InstrumentRefused, Writes, ExecDue}
+use Rattle.eacsl_cli.specs.Answers.{Answer, reported_answer, AnswersRun, refused_answer, written_answer, file_limit, Change, IsDue, Usage, NoFile, TooLong, FolderFault, OfText, Begins, RunDue, RunRefused, Runs, InstrumentDue, InstrumentRefused, Writes, ExecDue}
 use Rattle.eacsl_cli.specs.Answers.{ExecRefused, Executes, TextDue, Answered, Given, OutputFault, LineFault, NoMemory}
 use Rattle.eacsl_cli.specs.Complete.{Steady, IsGiven, answers_source, AnswersSource, IsAsked, IsAnswered, Complete}
 
 -- ---- the answer to a translation is the answer to its source
 
-said_once : (o : Option Report) (a b : Report) → o ≡ Some a → o ≡ Some b → a ≡ b
-said_once o a b e f = cc
-
 module _ (p : TranslationUnit) (m : MonitoredProgram) (t : Translates p m) (input : Input) (steps : ℕ) (a : Answer) (d : AnswersRun (flat_run m input steps) a) where
-  -- the two runs are the same, and the report of the source's end is this
-  same_answer : (said : Report) → report (run p input steps).final ≡ Some said → flat_run m input steps ≡ run p input steps → a ≡ record { status = said.status; output = (run p input steps).output; line = said.line }
-  same_answer said r same =
-      let h : report (flat_run m input steps).final ≡ Some said = ap (λ (x : Ran). report x.final) same ∙ r in
-      let k : d.said ≡ said = said_once (report (flat_run m input steps).final) d.said said d.reported h in
-      d.is ∙ (λ i. record { status = (k i).status; output = (same i).output; line = (k i).line })
+  -- where the source's end is one of the machine's, the two runs are the same
+  by_end : (e : Option Final) → agrees_at e (run p input steps).output (run p input steps).left (flat_run m input steps) → answers_source (option_map machine_report e) p input steps a
+  by_end None g = (m, t, d)
+  by_end (Some e) g = d ∙ ap reported_answer g
 
-  by_final : (f : Final) → (run p input steps).final ≡ f → (f ≡ Fault → ⊥) → agrees_at f (run p input steps) (flat_run m input steps) → answers_source (report f) p input steps a
-  by_final (Exits k) e n g = same_answer _ (ap report e) g
-  by_final (Broken number line kind how) e n g = same_answer _ (ap report e) g
-  by_final (Undefined at) e n g = (m, t, d)
-  by_final Fault e n g = absurd (n refl)
-  by_final Spent e n g = same_answer _ (ap report e) g
-  by_final (Full segment) e n g = same_answer _ (ap report e) g
-  by_final ReadFault e n g = same_answer _ (ap report e) g
-
-  source_answer : NeverFaults p → AnswersSource p input steps a
-  source_answer x = by_final (run p input steps).final refl (x input steps) (t.agrees input steps)
+  source_answer : AnswersSource p input steps a
+  source_answer = by_end (machine_end (run p input steps).final) (t.agrees input steps)
 
 -- ---- what is due for a text that is asked for
 
@@ -104,7 +88,7 @@ run_answer : {source : Taking} {text : List ℕ} {steps : ℕ} {a : Answer} {out
 run_answer {text = text} p x (RunRefused r h u e) g = absurd (apart text p r x h)
 run_answer {text = text} {steps} {a} p x (Runs q m y t d) g =
     let same : q ≡ p = one_program text q p y x in
-    record { input = d.input; was = d.was; answer = a; answers = subst (λ u. AnswersSource u d.input steps a) same (source_answer q m t d.input steps a d.answers (programs_never_fault q (accepted_program text q y))); given = g }
+    record { input = d.input; was = d.was; answer = a; answers = subst (λ u. AnswersSource u d.input steps a) same (source_answer q m t d.input steps a d.answers); given = g }
 
 run_refusal : {source : Taking} {text : List ℕ} {steps : ℕ} {a : Answer} (r : PlainRefusal) → RefusedText text r → RunDue source text steps a → a ≡ refused_answer r
 run_refusal {text = text} r h (RunRefused s k u e) = e ∙ ap refused_answer (one_refusal text s r k h)

@@ -3,10 +3,10 @@ use Rattle.std.proofs.Common.{◌≡◌, ℕ, List, [], ◌++◌, take, Option, 
 use Rattle.std.proofs.lemmas.List.{append-nil}
 use Rattle.c_syntax.specs.Programs.{PlainRefusal}
 use Rattle.c_model.specs.Phases.{RefusedText}
-use Rattle.c_model.specs.State.{Input, Final, ReadFault}
+use Rattle.c_model.specs.State.{Input}
+use Rattle.c_model.specs.MonitoredRuns.{Final, ReadFault, Ran}
 use Rattle.c_model.proofs.Agreement.{extends_trans}
-use Rattle.c_model.specs.Meaning.{Ran}
-use Rattle.c_model.specs.Reports.{Report, report, line_of, refused_words, Extends}
+use Rattle.c_model.specs.Reports.{Report, machine_report, line_of, refused_words, Extends}
 use Rattle.mon_syntax.specs.Trees.{MonitoredProgram}
 use Rattle.mon_syntax.specs.FlatMemory.{over_flat, flat_start, flat_run}
 use Rattle.mon_syntax.specs.Text.{text_of}
@@ -25,7 +25,7 @@ use Rattle.c_machine.specs.declared.stop.Ran as machine
 use Rattle.c_machine.specs.Inputs.{Taking, taking, Untouched, EndsAsRead}
 use Rattle.c_machine.specs.Reading.{fault_behind}
 use Rattle.c_machine.specs.Whole.{starts_of, memory_of, RunOn, FaultsBehind, TookBytes, RanAs, RanTo, RunCut}
-use Rattle.eacsl_cli.specs.Answers.{Answer, refused_answer, written_answer, memory_line, Change, change, IsSaid, Answered, Given, OutputFault, TookWanted, AnswersOnInput, BeginsOnInput, IsTranslated, RunDue, RunRefused, Runs, RunBegins}
+use Rattle.eacsl_cli.specs.Answers.{Answer, refused_answer, reported_answer, written_answer, memory_line, Change, change, IsSaid, Answered, Given, OutputFault, TookWanted, AnswersOnInput, BeginsOnInput, IsTranslated, RunDue, RunRefused, Runs, RunBegins}
 use Rattle.eacsl_cli.specs.Answers.{InstrumentDue, InstrumentRefused, Writes, InstrumentBegins, ExecDue, ExecRefused, Executes, ExecBegins}
 use Rattle.eacsl_cli.specs.Settled.{IsSettled, Said, Wanting, Reported}
 use Rattle.eacsl_cli.proofs.Sayings.{said_answer, said_memory, answered_by}
@@ -68,17 +68,16 @@ module _ (m : MonitoredProgram) (steps : ℕ) (source : Taking) (told told' : Op
           let l = lowered_on (fault_behind bytes) in
           ap (λ (x : Ran). x.final) (over_once over_flat (starts_of code) code.entries.items code.main code.instrs.items (memory_of code) (fault_behind bytes) steps l.0 f.turns _ _ l.1 f.run).1 ∙ f.ends
 
-  answers : {end : Final} {ran : machine.Ran} (r : RanTo code steps source (port_of told [] faults) (port_of told' [] faults') end ran) (said : Report) → report end ≡ Some said → AnswersOnInput source m steps (answer_of said r.wrote.sent)
-  answers r said e = record {
+  answers : {end : Final} {ran : machine.Ran} (r : RanTo code steps source (port_of told [] faults) (port_of told' [] faults') end ran) (said : Report) → Some (machine_report end) ≡ Some said
+      → AnswersOnInput source m steps (answer_of said r.wrote.sent)
+  answers {end} r said e = record {
     input = r.input;
     was = r.is_input;
     ends = subst (λ (x : Ran). EndsAsRead source x.final) (sym (run_is r)) r.ends_as_read;
     took = took r.took;
-    answers = record {
-      said = said;
-      reported = ap (λ (x : Ran). report x.final) (run_is r) ∙ e;
-      is = ap (λ l. answer_of said l) (sym (ap (λ (x : Ran). x.output) (run_is r) ∙ r.wrote.bytes_are ∙ append-nil r.wrote.sent));
-    };
+    answers =
+        let same : said ≡ machine_report end = cc in
+        ap (λ x. answer_of x r.wrote.sent) same ∙ ap (λ l. answer_of (machine_report end) l) (sym (r.wrote.bytes_are ∙ append-nil r.wrote.sent)) ∙ sym (ap reported_answer (run_is r));
   }
 
   sent_begins : {end : Final} {ran : machine.Ran} (r : RanTo code steps source (port_of told [] faults) (port_of told' [] faults') end ran) → BeginsOnInput source m steps r.wrote.sent
@@ -98,7 +97,7 @@ module _ (m : MonitoredProgram) (steps : ℕ) (source : Taking) (told told' : Op
 
   module _ (err : Change) (result : ℕ) where
     -- the run came to an end, and that was reported
-    ended : {end : Final} {ran : machine.Ran} → RanTo code steps source (port_of told [] faults) (port_of told' [] faults') end ran → (said : Report) → report end ≡ Some said → IsSettled said.line said.status err result
+    ended : {end : Final} {ran : machine.Ran} → RanTo code steps source (port_of told [] faults) (port_of told' [] faults') end ran → (said : Report) → Some (machine_report end) ≡ Some said → IsSettled said.line said.status err result
         → Answered (AnswersOnInput source m steps) (BeginsOnInput source m steps) (change told told' faults faults') err result
     ended r said e s = settled_answer (answer_of said r.wrote.sent) (answers r said e) (sent_begins r) r.wrote.told_is r.wrote.faults_is s
 

@@ -1,9 +1,9 @@
 -- Which statuses there are, and what shows them.
-use Rattle.std.proofs.Common.{◌≡◌, ◌⊎◌, ℕ, ◌≤◌, ◌<◌, List, Option, Some, refl, sym, subst, arith, inl, inr}
+use Rattle.std.proofs.Common.{◌≡◌, ◌⊎◌, ℕ, ◌≤◌, ◌<◌, List, Option, refl, sym, subst, arith, inl, inr}
 use Rattle.c_model.specs.declared.job.Job.{Job}
 use Rattle.c_model.specs.declared.job.Job.TheVariants.{Run, Instrument, Exec}
-use Rattle.c_model.specs.Reports.{Report, report}
-use Rattle.c_model.specs.State.{Final, Exits, Broken, Undefined, Fault, Spent, Full, ReadFault}
+use Rattle.c_model.specs.Reports.{machine_report}
+use Rattle.c_model.specs.MonitoredRuns.{Final, Exits, Broken, Fault, Spent, Full, ReadFault}
 use Rattle.mon_syntax.specs.Trees.{MonitoredProgram}
 use Rattle.mon_syntax.specs.FlatMemory.{flat_run}
 use Rattle.ea_ports.specs.Port.{Rose}
@@ -21,21 +21,14 @@ record Shows (end : Final) (status : ℕ) : Type 0 where
 shows_other : {end : Final} (status : ℕ) → status ≤ 11 → (status ≡ 7 → ⊥) → (end ≡ ReadFault → ⊥) → Shows end status
 shows_other status m n e = record { most = m; seven = λ s. absurd (n s); read = λ r. absurd (e r) }
 
-same_report : (said given : Report) → Some said ≡ Some given → given ≡ said
-same_report said given e = cc
-
-shown : {end : Final} {given : Report} (said : Report) → Some said ≡ Some given → Shows end said.status → Shows end given.status
-shown {end} {given} said e s = subst (λ (r : Report). Shows end r.status) (sym (same_report said given e)) s
-
 -- a report has status 0, 1, 4, 5, 6 or 7, and 7 just of a read fault
-shows : (end : Final) (said : Report) → report end ≡ Some said → Shows end said.status
-shows (Exits z) said e = shown _ e (shows_other 0 (omega arith) (λ s. absurd cc) (λ r. absurd cc))
-shows (Broken n l kind how) said e = shown _ e (shows_other 1 (omega arith) (λ s. absurd cc) (λ r. absurd cc))
-shows (Undefined at) said e = absurd cc
-shows Spent said e = shown _ e (shows_other 5 (omega arith) (λ s. absurd cc) (λ r. absurd cc))
-shows (Full segment) said e = shown _ e (shows_other 4 (omega arith) (λ s. absurd cc) (λ r. absurd cc))
-shows Fault said e = shown _ e (shows_other 6 (omega arith) (λ s. absurd cc) (λ r. absurd cc))
-shows ReadFault said e = shown _ e (record { most = omega arith; seven = λ s. refl; read = λ r. refl })
+shows : (end : Final) → Shows end (machine_report end).status
+shows (Exits z) = shows_other 0 (omega arith) (λ s. absurd cc) (λ r. absurd cc)
+shows (Broken n l kind how) = shows_other 1 (omega arith) (λ s. absurd cc) (λ r. absurd cc)
+shows Spent = shows_other 5 (omega arith) (λ s. absurd cc) (λ r. absurd cc)
+shows (Full segment) = shows_other 4 (omega arith) (λ s. absurd cc) (λ r. absurd cc)
+shows Fault = shows_other 6 (omega arith) (λ s. absurd cc) (λ r. absurd cc)
+shows ReadFault = record { most = omega arith; seven = λ s. refl; read = λ r. refl }
 
 not_touched : {source : Taking} → Untouched source → source.faults < source.faults' → ⊥
 not_touched u l = absurd (omega (arith, u.faults, l))
@@ -50,8 +43,8 @@ module _ {before now : ℕ} {source : Taking} where
 
   run_status : {m : MonitoredProgram} {steps : ℕ} {a : Answer} → AnswersOnInput source m steps a → IsStatus before now source a.status
   run_status {m} {steps} d =
-      let s = shows (flat_run m d.input steps).final d.answers.said d.answers.reported in
-      subst (λ (a : Answer). IsStatus before now source a.status) (sym d.answers.is) (record {
+      let s = shows (flat_run m d.input steps).final in
+      subst (λ (a : Answer). IsStatus before now source a.status) (sym d.answers) (record {
         most = s.most;
         read_fault = λ e. inr (d.ends.failed (s.seven e));
         source_fault = λ l. inl (s.read (d.ends.ends l));

@@ -8,11 +8,11 @@ use Rattle.c_model.specs.Limits.{most_annotated, most_monitored}
 use Rattle.c_model.specs.Words.{job_of}
 use Rattle.c_model.specs.WordLaws.{file_named}
 use Rattle.c_model.specs.Phases.{AcceptedText, RefusedText}
-use Rattle.c_model.specs.State.{Input, InputFault, ReadFault}
-use Rattle.c_model.specs.Meaning.{Ran}
+use Rattle.c_model.specs.State.{Input, InputFault}
+use Rattle.c_model.specs.MonitoredRuns.{ReadFault, Ran}
 use Rattle.c_model.specs.Statuses.{exited_status, refused_status, usage_status, read_fault_status, write_fault_status, no_memory_status, no_file_status}
 use Rattle.c_model.specs.Statuses.{too_long_status}
-use Rattle.c_model.specs.Reports.{Report, report, line_of, refused_words, Extends}
+use Rattle.c_model.specs.Reports.{machine_report, line_of, refused_words, Extends}
 use Rattle.mon_syntax.specs.Trees.{MonitoredProgram}
 use Rattle.mon_syntax.specs.FlatMemory.{flat_run}
 use Rattle.mon_syntax.specs.Text.{text_of}
@@ -56,10 +56,11 @@ file_limit (Instrument file rte) = most_annotated
 file_limit (Exec file steps) = most_monitored
 
 -- the answer to a run: its report, and all that it printed
-pub record AnswersRun (r : Ran) (a : Answer) : Type 0 where
-  pub said : Report
-  pub reported : report r.final ≡ Some said
-  pub is : a ≡ record { status = said.status; output = r.output; line = said.line }
+abbrev pub reported_answer : Ran → Answer
+reported_answer r = record { status = (machine_report r.final).status; output = r.output; line = (machine_report r.final).line }
+
+abbrev pub AnswersRun : Ran → Answer → Type 0
+AnswersRun r a = a ≡ reported_answer r
 
 -- the answer that a monitored program was written: its text, and no line
 abbrev pub written_answer : MonitoredProgram → Answer

@@ -1,9 +1,9 @@
 -- Ours: steps on the way to the answers of Answers.
 -- How a line was said, where there may be no memory for it, and what the end of a run reports.
 use Rattle.std.specs.Prelude.{◌≡◌, ℕ, List, Option, Some, None}
-use Rattle.c_model.specs.State.{Exits, Broken, Fault, Spent, Full, ReadFault}
+use Rattle.c_model.specs.MonitoredRuns.{Exits, Broken, Fault, Spent, Full, ReadFault}
 use Rattle.c_model.specs.Statuses.{write_fault_status, no_memory_status}
-use Rattle.c_model.specs.Reports.{Report, report}
+use Rattle.c_model.specs.Reports.{Report, machine_report}
 use Rattle.c_machine.specs.declared.stop.Stop.{Stop}
 use Rattle.c_machine.specs.declared.stop.Stop.TheVariants as stop
 use Rattle.eacsl_cli.specs.Answers.{Change, IsSaid, memory_line}
@@ -15,12 +15,12 @@ pub data IsSettled (line : List ℕ) (status : ℕ) (err : Change) (result : ℕ
 
 -- the report of an end; there is none where the sink refused, and where memory ran out
 abbrev pub report_of : Stop → Option Report
-report_of (stop.Exit z) = report (Exits z)
-report_of (stop.Broken number line kind how) = report (Broken number line kind how)
-report_of stop.Spent = report Spent
-report_of (stop.Full segment) = report (Full segment)
-report_of stop.Fault = report Fault
-report_of stop.ReadFault = report ReadFault
+report_of (stop.Exit z) = Some (machine_report (Exits z))
+report_of (stop.Broken number line kind how) = Some (machine_report (Broken number line kind how))
+report_of stop.Spent = Some (machine_report Spent)
+report_of (stop.Full segment) = Some (machine_report (Full segment))
+report_of stop.Fault = Some (machine_report Fault)
+report_of stop.ReadFault = Some (machine_report ReadFault)
 report_of stop.WriteFault = None
 report_of stop.OutOfMemory = None
 
