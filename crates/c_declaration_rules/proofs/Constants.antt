@@ -90,7 +90,7 @@ module _ (S : State)
     converts (Array t n) z e = absurd cc
     converts (Struct n) z e = absurd cc
     converts (Named x) z e = absurd cc
-    converts (StructTag x) z e = absurd cc
+    converts (StructTag x tag) z e = absurd cc
     converts (EnumTag x at) z e = absurd cc
 
     module _ (T : Tables)

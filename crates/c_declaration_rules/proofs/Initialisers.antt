@@ -45,7 +45,7 @@ text_is_alone (Ptr t) is h = absurd cc
 text_is_alone (Array t n) is h = and_first (is_text_alone is) (is_character t) (sym (text_array_is t n is) ∙ h)
 text_is_alone (Struct n) is h = absurd cc
 text_is_alone (Named x) is h = absurd cc
-text_is_alone (StructTag x) is h = absurd cc
+text_is_alone (StructTag x tag) is h = absurd cc
 text_is_alone (EnumTag x at) is h = absurd cc
 
 module _ (s : Sight) (ok : Expression → Expression → Bool) (here at : Place) (t : PlainType)

@@ -58,7 +58,7 @@ slot_is s Void k = one_at Void k
 slot_is s (Int i) k = one_at (Int i) k
 slot_is s (Ptr t) k = one_at (Ptr t) k
 slot_is s (Named x) k = one_at (Named x) k
-slot_is s (StructTag x) k = one_at (StructTag x) k
+slot_is s (StructTag x tag) k = one_at (StructTag x tag) k
 slot_is s (EnumTag x at) k = one_at (EnumTag x at) k
 
 pub slots_start : (s : Sight) (t : PlainType) → slots_at s t 0 ≡ slots_of s t
@@ -68,7 +68,7 @@ slots_start s Void = refl
 slots_start s (Int i) = refl
 slots_start s (Ptr t) = refl
 slots_start s (Named x) = refl
-slots_start s (StructTag x) = refl
+slots_start s (StructTag x tag) = refl
 slots_start s (EnumTag x at) = refl
 
 -- each of these items has an object, and behind them are these

@@ -59,12 +59,11 @@ one_made f p m (Ok x) h = ap (λ c. one_part c (λ a. Good (f a))) h
 one_made f p m (Err g) h = one_refused (λ a. Good (f a)) p (λ x. f (p x)) m g h
 
 -- an object of a type that has a size
-pub sized_object : {A : Type 0} (g : PlainType → A) (s : Sight) (at : Place) (v : PlainType) (a : Result (Unit {0}) TypeFault) → Answers (λ (u : Unit {0}). u) (has_size s at v) a
-    → Answers (λ (u : Unit {0}). g v) (one_part (object_type s at v) (λ w. Good (g w))) a
-sized_object g s at v a h = by (sized s.structs v) a h
+pub sized_object : (s : Sight) (at : Place) (v : PlainType) (a : Result (Unit {0}) TypeFault) → Answers (λ (u : Unit {0}). u) (has_size s at v) a → Answers (λ (u : Unit {0}). v) (object_type s at v) a
+sized_object s at v a h = by (sized s.structs v) a h
   where
     by : (k : Sized) (a : Result (Unit {0}) TypeFault) → Answers (λ (u : Unit {0}). u) (elim k [ HasSize ↦ Good tt | HasNoSize ↦ faulty (no_type at) | NotYet ↦ faulty (no_name at) ]) a
-        → Answers (λ (u : Unit {0}). g v) (one_part (elim k [ HasSize ↦ Good v | HasNoSize ↦ faulty (no_type at) | NotYet ↦ faulty (no_name at) ]) (λ w. Good (g w))) a
+        → Answers (λ (u : Unit {0}). v) (elim k [ HasSize ↦ Good v | HasNoSize ↦ faulty (no_type at) | NotYet ↦ faulty (no_name at) ]) a
     by HasSize (Ok u) h = refl
     by HasSize (Err (Refused f)) h = absurd cc
     by HasSize (Err Memory) h = tt
@@ -77,16 +76,16 @@ sized_object g s at v a h = by (sized s.structs v) a h
 
 module _ (s : Sight) (at : Place) (t : PlainType) (i : Option (Place × Initialiser))
   where
-    pub object_refused : {S T : Type 0} (p : S → PlainType) (q : T → PlainType × PlainType) (h : TypeFault) → Answers p (typed_outer (is_there i) s at t) (Err h) → Answers q (object_typed s at t i) (Err h)
+    pub object_refused : {S T : Type 0} (p : S → PlainType) (q : T → PlainType) (h : TypeFault) → Answers p (typed_outer (is_there i) s at t) (Err h) → Answers q (object_typed s at t i) (Err h)
     object_refused p q h x = one_refused _ p q (typed_outer (is_there i) s at t) h x
 
-    -- the type is known, and what is checked of it behind the initialiser
+    -- the type is known, and what is checked of it with its length
     pub object_checked : (u v : PlainType) (a b r : Result (Unit {0}) TypeFault) → typed_outer (is_there i) s at t ≡ Good u → v ≡ completed s u i → Answers (λ (w : Unit {0}). w) (has_size s at v) a
-        → Answers (λ (w : Unit {0}). w) (within_limits s at v) b → r ≡ both a b → Answers {A = PlainType × PlainType} (λ (w : Unit {0}). (u, v)) (object_typed s at t i) r
+        → Answers (λ (w : Unit {0}). w) (within_limits s at v) b → r ≡ both a b → Answers (λ (w : Unit {0}). v) (object_typed s at t i) r
     object_checked u v a b r is same ha hb j =
-        subst (λ c. Answers {A = PlainType × PlainType} (λ (w : Unit {0}). (u, v)) (one_part c (λ t. let u = completed s t i in limited s at (Good u) (one_part (object_type s at u) (λ u. Good (t, u))))) r) (sym is)
-        (subst (λ z. Answers {A = PlainType × PlainType} (λ (w : Unit {0}). (u, v)) (limited s at (Good z) (one_part (object_type s at z) (λ w. Good (u, w)))) r) same
-        (limited_answers {A = PlainType × PlainType} (λ (w : Unit {0}). (u, v)) s at v (one_part (object_type s at v) (λ w. Good (u, w))) a r b (sized_object {A = PlainType × PlainType} (λ (w : PlainType). (u, w)) s at v a ha) hb (sym j)))
+        subst (λ c. Answers (λ (w : Unit {0}). v) (one_part c (λ t. let u = completed s t i in limited s at (Good u) (object_type s at u))) r) (sym is)
+        (subst (λ z. Answers (λ (w : Unit {0}). v) (limited s at (Good z) (object_type s at z)) r) same
+        (limited_answers (λ (w : Unit {0}). v) s at v (object_type s at v) a r b (sized_object s at v a ha) hb (sym j)))
 
 -- the parts of a parameter's type that is written as an array
 pub elements_refused : {S : Type 0} (q : S → PlainType) (s : Sight) (at : Place) (t : PlainType) (n : PlainLength) (t' : PlainType) (n' : PlainLength) (a b : Result (Unit {0}) TypeFault) (h : TypeFault) → is_left n ≡ false

@@ -274,7 +274,7 @@ module _ (s : Sight) (free : object_size s.structs 4294967295 s.entities ≡ Non
     no_number (Node at t (Cast (Array u n) e)) a c = absurd cc
     no_number (Node at t (Cast (Struct n) e)) a c = absurd cc
     no_number (Node at t (Cast (Named x) e)) a c = absurd cc
-    no_number (Node at t (Cast (StructTag x) e)) a c = absurd cc
+    no_number (Node at t (Cast (StructTag x tag) e)) a c = absurd cc
     no_number (Node at t (Cast (EnumTag x tag) e)) a c = absurd cc
     no_number (Node at t (Number n k)) a c = absurd cc
     no_number (Node at t (Letter n)) a c = absurd cc
@@ -411,7 +411,7 @@ module _ (s : Sight) (free : object_size s.structs 4294967295 s.entities ≡ Non
       address_is (Node at t (Cast (Array u n) e)) a = absurd cc
       address_is (Node at t (Cast (Struct n) e)) a = absurd cc
       address_is (Node at t (Cast (Named x) e)) a = absurd cc
-      address_is (Node at t (Cast (StructTag x) e)) a = absurd cc
+      address_is (Node at t (Cast (StructTag x tag) e)) a = absurd cc
       address_is (Node at t (Cast (EnumTag x tag) e)) a = absurd cc
       address_is (Node at t (Number n k)) a = absurd cc
       address_is (Node at t (Letter n)) a = absurd cc
@@ -506,7 +506,7 @@ module _ (s : Sight) (free : object_size s.structs 4294967295 s.entities ≡ Non
       address_none (Node at t (Cast (Array u n) e)) a = refl
       address_none (Node at t (Cast (Struct n) e)) a = refl
       address_none (Node at t (Cast (Named x) e)) a = refl
-      address_none (Node at t (Cast (StructTag x) e)) a = refl
+      address_none (Node at t (Cast (StructTag x tag) e)) a = refl
       address_none (Node at t (Cast (EnumTag x tag) e)) a = refl
       address_none (Node at t (Number n k)) a = refl
       address_none (Node at t (Letter n)) a = refl

@@ -9,33 +9,20 @@ use Rattle.c_syntax.specs.Programs.{StructMember}
 use Rattle.c_syntax.specs.Layouts.{count_of, members_of_struct}
 use Rattle.c_model.specs.Library.{is_there}
 use Rattle.c_model.specs.Checked.{Checked, Good, where_so}
-use Rattle.c_model.specs.ExpressionTyping.{Sight, Entity, AnObject, AnEnumerator, constant, in_type, is_assigned, is_scalar, no_type}
+use Rattle.c_model.specs.ExpressionTyping.{Sight, constant, in_type, is_assigned, is_scalar, no_type}
 use Rattle.c_model.specs.DeclarationTyping.{is_address, is_anything, is_static, is_text}
 
 -- ---- which expressions may initialise
 
-abbrev pub with_type : PlainType → Entity → Entity
-with_type u (AnObject b) = AnObject (record b { ctype = u })
-with_type u (AnEnumerator c) = AnEnumerator c
-
--- the last of what is in sight with another type
-abbrev pub last_with : PlainType → List Entity → List Entity
-last_with u [] = []
-last_with u (e ∷ []) = with_type u e ∷ []
-last_with u (e ∷ f ∷ es) = e ∷ last_with u (f ∷ es)
-
-abbrev pub with_last : Sight → PlainType → Sight
-with_last s u = record s { entities = last_with u s.entities }
-
--- any expression, or a constant where the object that came in sight last has this type behind its initialiser
-abbrev pub allowed : Sight → Option PlainType → Expression → Expression → Bool
-allowed s None = is_anything
-allowed s (Some u) = is_static (with_last s u)
+-- any expression, or, where the initialiser is a global's, a constant
+abbrev pub allowed : Sight → Bool → Expression → Expression → Bool
+allowed s false = is_anything
+allowed s true = is_static s
 
 -- the same of an expression that was read as a string literal or wasn't
-abbrev pub allowed_where : Sight → Option PlainType → Bool → Expression → Bool
-allowed_where s None text e = true
-allowed_where s (Some u) text e = text || is_there (constant (with_last s u) e) || is_address (with_last s u) e
+abbrev pub allowed_where : Sight → Bool → Bool → Expression → Bool
+allowed_where s false text e = true
+allowed_where s true text e = text || is_there (constant s e) || is_address s e
 
 -- ---- items
 
@@ -59,9 +46,9 @@ without_braces (One e) = One e
 without_braces (Many at is) = last_item (Many at is) is
 
 -- a value, which is decayed, for an object of the type
-abbrev pub valued : Sight → Option PlainType → Bool → Place → PlainType → Expression → Checked Initialiser
-valued s own text here t e =
-    where_so (is_scalar t && is_assigned s e t && allowed_where s own text (in_type t e)) (no_type here) (Good (One (in_type t e)))
+abbrev pub valued : Sight → Bool → Bool → Place → PlainType → Expression → Checked Initialiser
+valued s global text here t e =
+    where_so (is_scalar t && is_assigned s e t && allowed_where s global text (in_type t e)) (no_type here) (Good (One (in_type t e)))
 
 -- whether a list is a string
 abbrev pub is_text_alone : Initialisers → Bool

@@ -25,17 +25,11 @@ abbrev pub leaves_length : PlainType → Bool
 leaves_length (Array t n) = is_left n
 leaves_length _ = false
 
--- the type of an object before its initialiser gave the length, where it did
-abbrev pub before : Bool → PlainType → PlainType
-before true (Array t n) = Array t Left
-before _ t = t
-
--- the type of a declared object: in sight in its own initialiser, and behind it
-abbrev pub object_typed : Sight → Place → PlainType → Option (Place × Initialiser) → Checked (PlainType × PlainType)
+-- the type of a declared object, whose length its initialiser may give
+abbrev pub object_typed : Sight → Place → PlainType → Option (Place × Initialiser) → Checked PlainType
 object_typed s at t i =
     one_part (typed_outer (is_there i) s at t) (λ t.
-    let u = completed s t i in
-    limited s at (Good u) (one_part (object_type s at u) (λ u. Good (t, u))))
+    let u = completed s t i in limited s at (Good u) (object_type s at u))
 
 -- an answer, and before it that of another part, which tells no more than its fault, as one
 abbrev pub behind : {T : Type 0} → Result (Unit {0}) TypeFault → Result T TypeFault → Result T TypeFault

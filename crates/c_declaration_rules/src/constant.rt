@@ -63,21 +63,19 @@ fn number(sight: &Sight, e: &Expr) -> Result<Option<i128>, AllocError>
     }
 }
 
-/// The size of the first of these objects with the number of a declaration; the last one has this type.
+/// The size of the first of these objects with the number of a declaration.
 fn object_size(
     structs: &[Layout],
-    own: &CType,
     entities: &[Declared],
     decl: u32,
 ) -> Result<Option<u32>, AllocError>
-    ensures { IfOk result (λ n. n ≡ object_size (map plain_layout structs.now) decl (last_with (plain_type own.now) (entities_of entities.now))) }
+    ensures { IfOk result (λ n. n ≡ object_size (map plain_layout structs.now) decl (entities_of entities.now)) }
 {
     let mut rest = entities;
     'turn: while let [entity, after @ ..] = rest {
         if let Entity::AnObject(object) = &entity.entity {
             if object.decl == decl {
-                let t = if after.is_empty() { own } else { &object.ctype };
-                let size = size_of(structs, t)?;
+                let size = size_of(structs, &object.ctype)?;
                 return Ok(Some(size));
             }
         }
@@ -153,18 +151,18 @@ fn unit_of(structs: &[Layout], t: &CType, u: &CType) -> Result<u32, AllocError>
 
 /// An address and a number of elements, on either side (C99 6.5.2.1, 6.5.6).
 #[cycle(spot)]
-fn element(sight: &Sight, own: &CType, a: &Expr, b: &Expr) -> Result<Option<Spot>, AllocError>
-    ensures { IfOk result (λ p. p ≡ element_of (with_last (plain_sight sight.now) (plain_type own.now)) (plain_expr a.now) (plain_expr b.now)) }
+fn element(sight: &Sight, a: &Expr, b: &Expr) -> Result<Option<Spot>, AllocError>
+    ensures { IfOk result (λ p. p ≡ element_of (plain_sight sight.now) (plain_expr a.now) (plain_expr b.now)) }
 {
     match number(sight, b)? {
         Some(y) => {
             let unit = unit_of(&sight.structs, &a.ctype, &b.ctype)?;
-            stepped(address(sight, own, a)?, unit, y)
+            stepped(address(sight, a)?, unit, y)
         }
         None => match number(sight, a)? {
             Some(x) => {
                 let unit = unit_of(&sight.structs, &a.ctype, &b.ctype)?;
-                stepped(address(sight, own, b)?, unit, x)
+                stepped(address(sight, b)?, unit, x)
             }
             None => Ok(None),
         },
@@ -173,8 +171,8 @@ fn element(sight: &Sight, own: &CType, a: &Expr, b: &Expr) -> Result<Option<Spot
 
 /// An address less a number of elements.
 #[cycle(spot)]
-fn difference(sight: &Sight, own: &CType, a: &Expr, b: &Expr) -> Result<Option<Spot>, AllocError>
-    ensures { IfOk result (λ p. p ≡ difference_of (with_last (plain_sight sight.now) (plain_type own.now)) (plain_expr a.now) (plain_expr b.now)) }
+fn difference(sight: &Sight, a: &Expr, b: &Expr) -> Result<Option<Spot>, AllocError>
+    ensures { IfOk result (λ p. p ≡ difference_of (plain_sight sight.now) (plain_expr a.now) (plain_expr b.now)) }
 {
     match number(sight, b)? {
         None => Ok(None),
@@ -182,7 +180,7 @@ fn difference(sight: &Sight, own: &CType, a: &Expr, b: &Expr) -> Result<Option<S
             None => Err(AllocError),
             Some(y) => {
                 let unit = unit_of(&sight.structs, &a.ctype, &b.ctype)?;
-                stepped(address(sight, own, a)?, unit, y)
+                stepped(address(sight, a)?, unit, y)
             }
         },
     }
@@ -190,22 +188,22 @@ fn difference(sight: &Sight, own: &CType, a: &Expr, b: &Expr) -> Result<Option<S
 
 /// A cast to a pointer: of an array, of a number, which is the null constant, or of an address (C99 6.3.2.1 p3, 6.3.2.3).
 #[cycle(spot)]
-fn pointer(sight: &Sight, own: &CType, a: &Expr) -> Result<Option<Spot>, AllocError>
-    ensures { IfOk result (λ p. p ≡ pointer_of (with_last (plain_sight sight.now) (plain_type own.now)) (plain_expr a.now)) }
+fn pointer(sight: &Sight, a: &Expr) -> Result<Option<Spot>, AllocError>
+    ensures { IfOk result (λ p. p ≡ pointer_of (plain_sight sight.now) (plain_expr a.now)) }
 {
     if is_array(&a.ctype) {
-        return taken(a, place(sight, own, a)?);
+        return taken(a, place(sight, a)?);
     }
     match number(sight, a)? {
         Some(_) => Ok(Some(Spot::Null)),
-        None => address(sight, own, a),
+        None => address(sight, a),
     }
 }
 
 /// Where a constant address points, where the expression is one that has a value (C99 6.6 p9).
 #[cycle(spot)]
-fn address(sight: &Sight, own: &CType, e: &Expr) -> Result<Option<Spot>, AllocError>
-    ensures { IfOk result (λ p. p ≡ address_spot (with_last (plain_sight sight.now) (plain_type own.now)) (plain_expr e.now)) }
+fn address(sight: &Sight, e: &Expr) -> Result<Option<Spot>, AllocError>
+    ensures { IfOk result (λ p. p ≡ address_spot (plain_sight sight.now) (plain_expr e.now)) }
 {
     match &*e.kind {
         ExprKind::Variable(x) => {
@@ -215,12 +213,12 @@ fn address(sight: &Sight, own: &CType, e: &Expr) -> Result<Option<Spot>, AllocEr
                 Ok(None)
             }
         }
-        ExprKind::Unary(UnOp::Address, a) => taken(a, place(sight, own, a)?),
-        ExprKind::Binary(BinOp::Add, a, b) => element(sight, own, a, b),
-        ExprKind::Binary(BinOp::Sub, a, b) => difference(sight, own, a, b),
+        ExprKind::Unary(UnOp::Address, a) => taken(a, place(sight, a)?),
+        ExprKind::Binary(BinOp::Add, a, b) => element(sight, a, b),
+        ExprKind::Binary(BinOp::Sub, a, b) => difference(sight, a, b),
         ExprKind::Cast(to, a) => {
             if is_pointer(to) {
-                pointer(sight, own, a)
+                pointer(sight, a)
             } else {
                 Ok(None)
             }
@@ -231,27 +229,27 @@ fn address(sight: &Sight, own: &CType, e: &Expr) -> Result<Option<Spot>, AllocEr
 
 /// Where an object stands whose address is constant.
 #[cycle(spot)]
-fn place(sight: &Sight, own: &CType, e: &Expr) -> Result<Option<Spot>, AllocError>
-    ensures { IfOk result (λ p. p ≡ place_spot (with_last (plain_sight sight.now) (plain_type own.now)) (plain_expr e.now)) }
+fn place(sight: &Sight, e: &Expr) -> Result<Option<Spot>, AllocError>
+    ensures { IfOk result (λ p. p ≡ place_spot (plain_sight sight.now) (plain_expr e.now)) }
 {
     match &*e.kind {
         ExprKind::Variable(x) => {
             if x.decl == Use::LIBRARY {
                 return Ok(None);
             }
-            match object_size(&sight.structs, own, &sight.entities.declared, x.decl)? {
+            match object_size(&sight.structs, &sight.entities.declared, x.decl)? {
                 None => Ok(None),
                 Some(size) => Ok(Some(Spot::Within(0, size))),
             }
         }
-        ExprKind::Unary(UnOp::Deref, a) => address(sight, own, a),
-        ExprKind::Index(a, b) => element(sight, own, a, b),
+        ExprKind::Unary(UnOp::Deref, a) => address(sight, a),
+        ExprKind::Index(a, b) => element(sight, a, b),
         ExprKind::Dot(a, m) => {
-            let p = place(sight, own, a)?;
+            let p = place(sight, a)?;
             member(offset_of_member(&sight.structs, &a.ctype, *m), p)
         }
         ExprKind::Arrow(a, m) => {
-            let p = address(sight, own, a)?;
+            let p = address(sight, a)?;
             member(offset_in_target(&sight.structs, &a.ctype, *m), p)
         }
         _ => Ok(None),
@@ -260,25 +258,25 @@ fn place(sight: &Sight, own: &CType, e: &Expr) -> Result<Option<Spot>, AllocErro
 
 /// Whether an expression is a constant address that has a value. An object with the number of the library, which no text has, wants
 /// memory.
-fn is_address(sight: &Sight, own: &CType, e: &Expr) -> Result<bool, AllocError>
-    ensures { IfOk result (λ b. b ≡ is_address (with_last (plain_sight sight.now) (plain_type own.now)) (plain_expr e.now)) }
+fn is_address(sight: &Sight, e: &Expr) -> Result<bool, AllocError>
+    ensures { IfOk result (λ b. b ≡ is_address (plain_sight sight.now) (plain_expr e.now)) }
 {
     if !is_pointer(&e.ctype) {
         return Ok(false);
     }
-    if object_size(&sight.structs, own, &sight.entities.declared, Use::LIBRARY)?.is_some() {
+    if object_size(&sight.structs, &sight.entities.declared, Use::LIBRARY)?.is_some() {
         return Err(AllocError);
     }
-    Ok(address(sight, own, e)?.is_some())
+    Ok(address(sight, e)?.is_some())
 }
 
 /// Whether a typed expression, which was read as a string literal or wasn't, initialises a global: the last object in sight, of this
 /// type.
-pub fn is_static(sight: &Sight, own: &CType, text: bool, e: &Expr) -> Result<bool, AllocError>
-    ensures { IfOk result (λ b. b ≡ allowed_where (plain_sight sight.now) (Some (plain_type own.now)) text (plain_expr e.now)) }
+pub fn is_static(sight: &Sight, text: bool, e: &Expr) -> Result<bool, AllocError>
+    ensures { IfOk result (λ b. b ≡ allowed_where (plain_sight sight.now) true text (plain_expr e.now)) }
 {
     if text || number(sight, e)?.is_some() {
         return Ok(true);
     }
-    is_address(sight, own, e)
+    is_address(sight, e)
 }

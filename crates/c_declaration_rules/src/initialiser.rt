@@ -116,12 +116,13 @@ fn is_text_array(t: &CType, items: &[Init]) -> bool
 }
 
 /// Whether a typed expression, which was read as a string literal or wasn't, may initialise.
-fn is_allowed(sight: &Sight, own: Option<&CType>, text: bool, e: &Expr) -> Result<bool, AllocError>
-    ensures { IfOk result (λ b. b ≡ allowed_where (plain_sight sight.now) (option_map (λ u. plain_type u.now) own.entry) text (plain_expr e.now)) }
+fn is_allowed(sight: &Sight, global: bool, text: bool, e: &Expr) -> Result<bool, AllocError>
+    ensures { IfOk result (λ b. b ≡ allowed_where (plain_sight sight.now) global text (plain_expr e.now)) }
 {
-    match own {
-        None => Ok(true),
-        Some(own) => is_static(sight, own, text, e),
+    if global {
+        is_static(sight, text, e)
+    } else {
+        Ok(true)
     }
 }
 
@@ -129,7 +130,7 @@ fn is_allowed(sight: &Sight, own: Option<&CType>, text: bool, e: &Expr) -> Resul
 fn put_value(
     alloc: Global,
     sight: &Sight,
-    own: Option<&CType>,
+    global: bool,
     text: bool,
     here: Place,
     t: &CType,
@@ -137,13 +138,13 @@ fn put_value(
 ) -> Result<(), TypeFault>
     requires { has_small_sizes (plain_sight sight.now).structs (plain_expr e.old) ≡ true }
     ensures { Answers (λ _. One (plain_expr e.new))
-        (valued (plain_sight sight.now) (option_map (λ u. plain_type u.now) own.entry) text here (plain_type t.now) (plain_expr e.old)) result }
+        (valued (plain_sight sight.now) global text here (plain_type t.now) (plain_expr e.old)) result }
 {
     if !(is_scalar(t) && is_assigned(sight, e, t)) {
         return Err(no_type(here));
     }
     in_type(alloc, t, e)?;
-    if is_allowed(sight, own, text, e)? {
+    if is_allowed(sight, global, text, e)? {
         Ok(())
     } else {
         Err(no_type(here))
@@ -154,13 +155,13 @@ fn put_value(
 fn type_one(
     alloc: Global,
     sight: &Sight,
-    own: Option<&CType>,
+    global: bool,
     here: Place,
     t: &CType,
     e: &mut Expr,
 ) -> Result<(), TypeFault>
     ensures { Answers (λ _. One (plain_expr e.new)) (one_part (typed (plain_sight sight.now) (plain_expr e.old))
-        (initial_value (plain_sight sight.now) (allowed (plain_sight sight.now) (option_map (λ u. plain_type u.now) own.entry)) here (plain_type t.now)
+        (initial_value (plain_sight sight.now) (allowed (plain_sight sight.now) global) here (plain_type t.now)
         (plain_expr e.old))) result }
 {
     let text = is_text(e);
@@ -169,7 +170,7 @@ fn type_one(
         return Ok(());
     }
     decay(alloc, e)?;
-    put_value(alloc, sight, own, text, here, t, e)
+    put_value(alloc, sight, global, text, here, t, e)
 }
 
 /// No item stands after the one of a scalar.
@@ -186,19 +187,19 @@ fn no_more(items: &[Init]) -> Result<(), TypeFault>
 fn type_first(
     alloc: Global,
     sight: &Sight,
-    own: Option<&CType>,
+    global: bool,
     t: &CType,
     more: Result<(), TypeFault>,
     first: &mut Init,
 ) -> Result<(), TypeFault>
     ensures { (is : Initialisers) → Answers (λ _. is) (no_more is) more → Answers (λ _. Listed (plain_init first.new) is)
-        (typed_alone (plain_sight sight.now) (allowed (plain_sight sight.now) (option_map (λ u. plain_type u.now) own.entry)) (plain_type t.now)
+        (typed_alone (plain_sight sight.now) (allowed (plain_sight sight.now) global) (plain_type t.now)
         (Listed (plain_init first.old) is)) result }
 {
     match first {
         Init::One(e) => {
             let place = e.place;
-            both(type_one(alloc, sight, own, place, t, e), more)
+            both(type_one(alloc, sight, global, place, t, e), more)
         }
         Init::Many(place, _) => Err(no_type(*place)),
     }
@@ -208,19 +209,19 @@ fn type_first(
 fn type_alone(
     alloc: Global,
     sight: &Sight,
-    own: Option<&CType>,
+    global: bool,
     t: &CType,
     items: &mut Vec<Init>,
 ) -> Result<(), TypeFault>
     ensures { Answers (λ _. plain_inits items.new.items)
-        (typed_alone (plain_sight sight.now) (allowed (plain_sight sight.now) (option_map (λ u. plain_type u.now) own.entry)) (plain_type t.now)
+        (typed_alone (plain_sight sight.now) (allowed (plain_sight sight.now) global) (plain_type t.now)
         (plain_inits items.old.items)) result }
 {
     if items.is_empty() {
         return Ok(());
     }
     let more = no_more(items.as_slice());
-    type_first(alloc, sight, own, t, more, &mut items[0])
+    type_first(alloc, sight, global, t, more, &mut items[0])
 }
 
 /// Types an initialiser for an object of the type; the fault of an expression is put here: at the `=`, and in braces at the item.
@@ -229,29 +230,29 @@ fn type_initialiser(
     alloc: Global,
     init: &mut Init,
     sight: &Sight,
-    own: Option<&CType>,
+    global: bool,
     here: Place,
     t: &CType,
 ) -> Result<(), TypeFault>
     ensures { Answers (λ _. plain_init init.new)
-        (typed_initialiser (plain_sight sight.now) (allowed (plain_sight sight.now) (option_map (λ u. plain_type u.now) own.entry)) here (plain_type t.now)
+        (typed_initialiser (plain_sight sight.now) (allowed (plain_sight sight.now) global) here (plain_type t.now)
         (plain_init init.old)) result }
 {
     match init {
-        Init::One(e) => type_one(alloc, sight, own, here, t, e),
+        Init::One(e) => type_one(alloc, sight, global, here, t, e),
         Init::Many(_brace, items) => {
             if is_scalar(t) {
-                type_alone(alloc, sight, own, t, items)
+                type_alone(alloc, sight, global, t, items)
             } else if is_text_array(t, items) {
                 match items.pop() {
                     None => Err(TypeFault::Memory),
                     Some(inner) => {
                         drop(replace(init, inner));
-                        type_bare(alloc, sight, own, t, init)
+                        type_bare(alloc, sight, global, t, init)
                     }
                 }
             } else {
-                type_items(alloc, items, sight, own, t)
+                type_items(alloc, items, sight, global, t)
             }
         }
     }
@@ -261,19 +262,19 @@ fn type_initialiser(
 fn type_bare(
     alloc: Global,
     sight: &Sight,
-    own: Option<&CType>,
+    global: bool,
     t: &CType,
     init: &mut Init,
 ) -> Result<(), TypeFault>
     ensures { (e : Expression) → plain_init init.old ≡ One e → Answers (λ _. plain_init init.new) (one_part (typed (plain_sight sight.now) e)
-        (initial_value (plain_sight sight.now) (allowed (plain_sight sight.now) (option_map (λ u. plain_type u.now) own.entry)) (place_of e)
+        (initial_value (plain_sight sight.now) (allowed (plain_sight sight.now) global) (place_of e)
         (plain_type t.now) e))
         result }
 {
     match init {
         Init::One(e) => {
             let place = e.place;
-            type_one(alloc, sight, own, place, t, e)
+            type_one(alloc, sight, global, place, t, e)
         }
         Init::Many(place, _) => Err(no_type(*place)),
     }
@@ -285,11 +286,11 @@ fn type_items(
     alloc: Global,
     items: &mut Vec<Init>,
     sight: &Sight,
-    own: Option<&CType>,
+    global: bool,
     t: &CType,
 ) -> Result<(), TypeFault>
     ensures { Answers (λ _. plain_inits items.new.items)
-        (typed_items (plain_sight sight.now) (allowed (plain_sight sight.now) (option_map (λ u. plain_type u.now) own.entry))
+        (typed_items (plain_sight sight.now) (allowed (plain_sight sight.now) global)
         (slots_of (plain_sight sight.now) (plain_type t.now)) (plain_inits items.old.items)) result }
 {
     let mut done = Ok(());
@@ -298,7 +299,7 @@ fn type_items(
             None => return both(done, Err(no_type(place_of(&items[i])))),
             Some(u) => {
                 let place = place_of(&items[i]);
-                let item = type_initialiser(alloc, &mut items[i], sight, own, place, u);
+                let item = type_initialiser(alloc, &mut items[i], sight, global, place, u);
                 done = both(done, item);
             }
         }
@@ -310,16 +311,16 @@ fn type_items(
 pub fn type_maybe_initialiser(
     alloc: Global,
     sight: &Sight,
-    own: Option<&CType>,
+    global: bool,
     t: &CType,
     init: &mut Option<(Place, Init)>,
 ) -> Result<(), TypeFault>
     ensures { Answers (λ _. plain_maybe_init init.new)
-        (typed_maybe_initialiser (plain_sight sight.now) (allowed (plain_sight sight.now) (option_map (λ u. plain_type u.now) own.entry)) (plain_type t.now)
+        (typed_maybe_initialiser (plain_sight sight.now) (allowed (plain_sight sight.now) global) (plain_type t.now)
         (plain_maybe_init init.old)) result }
 {
     match init {
         None => Ok(()),
-        Some((place, init)) => type_initialiser(alloc, init, sight, own, *place, t),
+        Some((place, init)) => type_initialiser(alloc, init, sight, global, *place, t),
     }
 }

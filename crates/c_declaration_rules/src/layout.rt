@@ -41,7 +41,7 @@ pub fn align_of(structs: &[Layout], t: &CType) -> u32
         CType::Ptr(_) => 8,
         CType::Array(u, _) => align_of(structs, u),
         CType::Struct(n) => align_of_struct(structs, *n),
-        CType::Void | CType::Named(_) | CType::StructTag(_) | CType::EnumTag(..) => 1,
+        CType::Void | CType::Named(_) | CType::StructTag(..) | CType::EnumTag(..) => 1,
     }
 }
 

@@ -9,7 +9,7 @@ ghost use Rattle.c_model.specs.DeclarationTyping.{completed, elements_of_paramet
 ghost use Rattle.c_model.specs.DeclarationTyping.{typed_outer, typed_parameter_type, typed_result};
 ghost use Rattle.c_expression_rules.specs.Answers.{Answers, IsRefusal};
 ghost use Rattle.c_expression_rules.specs.Sights.{plain_sight};
-ghost use Rattle.c_declaration_rules.specs.Objects.{before, bytes_alone, bytes_read, is_left, object_typed, plain_maybe_init};
+ghost use Rattle.c_declaration_rules.specs.Objects.{bytes_alone, bytes_read, is_left, object_typed, plain_maybe_init};
 ghost use Rattle.c_declaration_rules.specs.Objects.{pointed_to_elements, result_type};
 
 use c_expression_rules::conversion::{is_character, is_scalar, is_struct, is_void};
@@ -118,18 +118,17 @@ fn length_by(sight: &Sight, element: &CType, init: &Init) -> Result<u32, AllocEr
     }
 }
 
-/// Puts the length that an initialiser gives in its place, where it was left out. Gives whether it was.
-fn complete(sight: &Sight, init: &Option<(Place, Init)>, t: &mut CType) -> Result<bool, AllocError>
-    ensures completed { OnOk result (plain_type t.new ≡ completed (plain_sight sight.now) (plain_type t.old) (plain_maybe_init init.now)) }
-    ensures before { IfOk result (λ left. plain_type t.old ≡ before left (plain_type t.new)) }
+/// Puts the length that an initialiser gives in its place, where it was left out.
+fn complete(sight: &Sight, init: &Option<(Place, Init)>, t: &mut CType) -> Result<(), AllocError>
+    ensures { OnOk result (plain_type t.new ≡ completed (plain_sight sight.now) (plain_type t.old) (plain_maybe_init init.now)) }
 {
     match (init, t) {
         (Some((_, init)), CType::Array(u, n)) if is_left(n) => {
             let count = length_by(sight, u, init)?;
             drop(replace(n, Length::Count(count)));
-            Ok(true)
+            Ok(())
         }
-        _ => Ok(false),
+        _ => Ok(()),
     }
 }
 
@@ -139,22 +138,20 @@ fn has_initialiser(init: &Option<(Place, Init)>) -> bool
     init.is_some()
 }
 
-/// Types the type of a declared object (C99 6.7 p7). Gives whether its initialiser gave its length, so that it has none in its own
-/// initialiser.
+/// Types the type of a declared object, whose length its initialiser may give (C99 6.7 p7, 6.7.8 p22).
 pub fn type_object(
     alloc: Global,
     sight: &Sight,
     place: Place,
     init: &Option<(Place, Init)>,
     t: &mut CType,
-) -> Result<bool, TypeFault>
-    ensures { Answers (λ left. (before left (plain_type t.new), plain_type t.new))
+) -> Result<(), TypeFault>
+    ensures { Answers (λ _. plain_type t.new)
         (object_typed (plain_sight sight.now) place (plain_type t.old) (plain_maybe_init init.now)) result }
 {
     type_outer(alloc, sight, has_initialiser(init), place, t)?;
-    let left = complete(sight, init, t)?;
-    both(has_size(sight, place, t), within_limits(sight, place, t))?;
-    Ok(left)
+    complete(sight, init, t)?;
+    both(has_size(sight, place, t), within_limits(sight, place, t))
 }
 
 /// Puts a pointer to the elements in the place of an array's type.

@@ -1,17 +1,15 @@
 use Rattle.std.proofs.Common.{◌≡◌, ◌∙◌, rules, true, None}
-use Rattle.c_syntax.specs.Ctypes.{plain_type}
 use Rattle.c_syntax.specs.Expressions.{plain_expr, type_of}
 use Rattle.c_model.specs.Library.{is_there}
 use Rattle.c_model.specs.Meaning.{is_pointer}
 use Rattle.c_expression_rules.specs.Sights.{plain_sight}
-use Rattle.c_declaration_rules.specs.Initialisers.{with_last}
 use Rattle.c_declaration_rules.specs.Statics.{address_spot, object_size}
 use Rattle.c_declaration_rules.proofs.Statics.{spot_is}
 use Rattle.c_declaration_rules.proofs.constant.is_address.Goals as goal
 
 pub returns : goal.returns
 returns c =
-    let s = with_last (plain_sight c.args.sight.now) (plain_type c.args.own.now) in
+    let s = plain_sight c.args.sight.now in
     let e = plain_expr c.args.e.now in
     let free : object_size s.structs 4294967295 s.entities ≡ None = search rules in
     let p : is_pointer (type_of e) ≡ true = search rules in

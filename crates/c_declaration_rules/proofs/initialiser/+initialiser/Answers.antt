@@ -1,4 +1,4 @@
-use Rattle.std.proofs.Common.{◌≡◌, ◌∙◌, ◌<◌, ◌+◌, rules, arith, ap, sym, subst, suc, [], ◌∷◌, ◌++◌, drop, length, option_map, slice_set, take, true, false, None, Some, Err}
+use Rattle.std.proofs.Common.{◌≡◌, ◌∙◌, ◌<◌, ◌+◌, rules, arith, ap, sym, subst, suc, [], ◌∷◌, ◌++◌, drop, length, slice_set, take, true, false, None, Some, Err}
 use Rattle.c_syntax.specs.Ctypes.{plain_type}
 use Rattle.c_syntax.specs.declared.statement.Init as init
 use Rattle.c_syntax.specs.Statements.{One, plain_init, plain_inits}
@@ -18,7 +18,7 @@ use Rattle.c_declaration_rules.proofs.initialiser.+initialiser.Goals as goal
 pub type_initialiser-returns-then-is_scalar : goal.type_initialiser-returns-then-is_scalar
 type_initialiser-returns-then-is_scalar t c =
     let s = plain_sight c.args.sight.now in
-    let ok = allowed s (option_map (λ u. plain_type u.now) c.args.own) in
+    let ok = allowed s c.args.global in
     let ctype = plain_type c.args.t.now in
     let p : is_scalar ctype ≡ true = search rules in
     let h : Answers (λ (u : Unit {0}). plain_inits c.type_alone.new.items.items) (typed_alone s ok ctype (plain_inits c.in-Many.items.items)) c.type_alone.result = search rules in
@@ -29,7 +29,7 @@ type_initialiser-returns-then-is_scalar t c =
 pub type_initialiser-returns-else-is_text_array : goal.type_initialiser-returns-else-is_text_array
 type_initialiser-returns-else-is_text_array t c =
     let s = plain_sight c.args.sight.now in
-    let ok = allowed s (option_map (λ u. plain_type u.now) c.args.own) in
+    let ok = allowed s c.args.global in
     let ctype = plain_type c.args.t.now in
     let p : is_scalar ctype ≡ false = search rules in
     let q : is_text_array ctype (plain_inits c.in-Many.items.items) ≡ false = search rules in
@@ -41,7 +41,7 @@ type_initialiser-returns-else-is_text_array t c =
 pub type_items-loop-i-preserved : goal.type_items-loop-i-preserved
 type_items-loop-i-preserved t c =
     let s = plain_sight c.args.sight.now in
-    let ok = allowed s (option_map (λ u. plain_type u.now) c.args.own) in
+    let ok = allowed s c.args.global in
     let ctype = plain_type c.args.t.now in
     let old = c.args.items.now.items in
     let cur = c.loop-i.items.items in
@@ -73,7 +73,7 @@ type_items-loop-i-preserved t c =
 pub type_items-returns-in-None : goal.type_items-returns-in-None
 type_items-returns-in-None t c =
     let s = plain_sight c.args.sight.now in
-    let ok = allowed s (option_map (λ u. plain_type u.now) c.args.own) in
+    let ok = allowed s c.args.global in
     let ctype = plain_type c.args.t.now in
     let old = c.args.items.now.items in
     let cur = c.loop-i.items.items in
@@ -93,7 +93,7 @@ type_items-returns-in-None t c =
 pub type_initialiser-returns-in-Some : goal.type_initialiser-returns-in-Some
 type_initialiser-returns-in-Some t c =
     let s = plain_sight c.args.sight.now in
-    let ok = allowed s (option_map (λ u. plain_type u.now) c.args.own) in
+    let ok = allowed s c.args.global in
     let ctype = plain_type c.args.t.now in
     let p : is_scalar ctype ≡ false = search rules in
     let q : is_text_array ctype (plain_inits c.in-Many.items.items) ≡ true = search rules in

@@ -1,4 +1,4 @@
-use Rattle.std.proofs.Common.{◌≤◌, length, take, option_map}
+use Rattle.std.proofs.Common.{◌≤◌, length, take}
 use Rattle.c_syntax.specs.Ctypes.{plain_type}
 use Rattle.c_syntax.specs.Statements.{plain_inits}
 use Rattle.c_model.specs.DeclarationTyping.{slots_of, typed_items}
@@ -13,6 +13,6 @@ invariant-type_items-loop-i l = record {
   unvisited : goal.unvisited-type_items-loop-i l;
   within : l.i ≤ length l.items.items;
   slots : SlotsBehind (take l.i l.initial.items.items) (slots_of (plain_sight l.sight) (plain_type l.t)) (slots_at (plain_sight l.sight) (plain_type l.t) l.i);
-  done : Answers (λ u. plain_inits (take l.i l.items.items)) (typed_items (plain_sight l.sight) (allowed (plain_sight l.sight) (option_map (λ u. plain_type u.now) l.own))
+  done : Answers (λ u. plain_inits (take l.i l.items.items)) (typed_items (plain_sight l.sight) (allowed (plain_sight l.sight) l.global)
       (slots_of (plain_sight l.sight) (plain_type l.t)) (plain_inits (take l.i l.initial.items.items))) l.done;
 }

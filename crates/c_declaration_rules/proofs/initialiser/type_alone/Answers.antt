@@ -1,4 +1,4 @@
-use Rattle.std.proofs.Common.{◌<◌, rules, arith, option_map, length, drop}
+use Rattle.std.proofs.Common.{◌<◌, rules, arith, length, drop}
 use Rattle.c_syntax.specs.Ctypes.{plain_type}
 use Rattle.c_syntax.specs.Statements.{plain_init, plain_inits, Listed}
 use Rattle.c_model.specs.DeclarationTyping.{no_more, typed_alone}
@@ -11,7 +11,7 @@ use Rattle.c_declaration_rules.proofs.initialiser.type_alone.Goals as goal
 pub returns : goal.returns
 returns c =
     let s = plain_sight c.args.sight.now in
-    let ok = allowed s (option_map (λ u. plain_type u.now) c.args.own) in
+    let ok = allowed s c.args.global in
     let ctype = plain_type c.args.t.now in
     let old = c.args.items.now.items in
     let x = c.index_mut.result.now in

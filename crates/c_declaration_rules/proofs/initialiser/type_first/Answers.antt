@@ -1,4 +1,4 @@
-use Rattle.std.proofs.Common.{rules, subst, sym, option_map}
+use Rattle.std.proofs.Common.{rules, subst, sym}
 use Rattle.c_syntax.specs.Ctypes.{plain_type}
 use Rattle.c_syntax.specs.Expressions.{place_of, plain_expr}
 use Rattle.c_syntax.specs.Statements.{Initialiser, One, Initialisers, Listed, plain_init}
@@ -14,7 +14,7 @@ use Rattle.c_declaration_rules.proofs.initialiser.type_first.Goals as goal
 pub returns-in-One : goal.returns-in-One
 returns-in-One c = λ is h.
     let s = plain_sight c.args.sight.now in
-    let ok = allowed s (option_map (λ u. plain_type u.now) c.args.own) in
+    let ok = allowed s c.args.global in
     let ctype = plain_type c.args.t.now in
     let e = plain_expr c.in-One.e in
     let e' = plain_expr c.type_one.new.e in

@@ -1,5 +1,5 @@
-use Rattle.std.proofs.Common.{◌≡◌, ◌∙◌, ap, rules, Bool, Ok, Err}
-use Rattle.c_syntax.specs.Ctypes.{PlainType, plain_type}
+use Rattle.std.proofs.Common.{◌≡◌, rules, Err}
+use Rattle.c_syntax.specs.Ctypes.{plain_type}
 use Rattle.c_model.specs.Checked.{Good}
 use Rattle.c_model.specs.Library.{is_there}
 use Rattle.c_model.specs.DeclarationTyping.{completed, typed_outer}
@@ -7,8 +7,8 @@ use Rattle.c_expression_rules.specs.Answers.{Answers}
 use Rattle.c_expression_rules.specs.Operators.{has_size}
 use Rattle.c_expression_rules.specs.Sights.{plain_sight}
 use Rattle.c_expression_rules.specs.Structs.{within_limits}
-use Rattle.c_declaration_rules.specs.Objects.{before, object_typed, plain_maybe_init}
-use Rattle.c_declaration_rules.proofs.Parts.{object_checked, object_refused, other_tree}
+use Rattle.c_declaration_rules.specs.Objects.{plain_maybe_init}
+use Rattle.c_declaration_rules.proofs.Parts.{object_checked, object_refused}
 use Rattle.c_declaration_rules.proofs.object.type_object.Goals as goal
 
 pub returns-in_err-type_outer : goal.returns-in_err-type_outer
@@ -17,23 +17,7 @@ returns-in_err-type_outer c =
     let i = plain_maybe_init c.args.init.now in
     let t' = plain_type c.type_outer.new.t in
     let bad : Answers (λ (u : Unit {0}). t') (typed_outer (is_there i) (plain_sight c.args.sight.now) c.args.place (plain_type c.args.t.now)) (Err c.in_err-type_outer.field-0.0) = search rules in
-    let whole = object_refused (plain_sight c.args.sight.now) c.args.place (plain_type c.args.t.now) i {T = Bool} (λ (u : Unit {0}). t') (λ left. (before left t', t')) c.in_err-type_outer.field-0.0 bad in
-    search (rules, e, whole)
-
-pub returns-in_err-both : goal.returns-in_err-both
-returns-in_err-both c =
-    let e : c.from_residual-in_err-both.result ≡ Err c.in_err-both.field-0.0 = search rules in
-    let s = plain_sight c.args.sight.now in
-    let i = plain_maybe_init c.args.init.now in
-    let t = plain_type c.args.t.now in
-    let u = plain_type c.type_outer.new.t in
-    let v = plain_type c.complete.new.t in
-    let typed : typed_outer (is_there i) s c.args.place t ≡ Good u = search rules in
-    let same : v ≡ completed s u i = search rules in
-    let ha : Answers (λ (w : Unit {0}). w) (has_size s c.args.place v) c.has_size.result = search rules in
-    let hb : Answers (λ (w : Unit {0}). w) (within_limits s c.args.place v) c.within_limits.result = search rules in
-    let first = object_checked s c.args.place t i u v c.has_size.result c.within_limits.result (Err c.in_err-both.field-0.0) typed same ha hb c.in_err-both.ensures.is in
-    let whole = other_tree {A = PlainType × PlainType} {S = Bool} (λ (w : Unit {0}). (u, v)) (λ left. (before left v, v)) (object_typed s c.args.place t i) c.in_err-both.field-0.0 first in
+    let whole = object_refused (plain_sight c.args.sight.now) c.args.place (plain_type c.args.t.now) i {T = Unit {0}} (λ (u : Unit {0}). t') (λ u. t') c.in_err-type_outer.field-0.0 bad in
     search (rules, e, whole)
 
 pub returns : goal.returns
@@ -47,7 +31,5 @@ returns c =
     let same : v ≡ completed s u i = search rules in
     let ha : Answers (λ (w : Unit {0}). w) (has_size s c.args.place v) c.has_size.result = search rules in
     let hb : Answers (λ (w : Unit {0}). w) (within_limits s c.args.place v) c.within_limits.result = search rules in
-    let was : u ≡ before c.in_ok-left.left v = search rules in
-    let first = object_checked s c.args.place t i u v c.has_size.result c.within_limits.result (Ok c.in_ok-both.field-0) typed same ha hb c.in_ok-both.ensures.is in
-    let whole : object_typed s c.args.place t i ≡ Good (before c.in_ok-left.left v, v) = first ∙ ap (λ z. Good (z, v)) was in
+    let whole = object_checked s c.args.place t i u v c.has_size.result c.within_limits.result c.both.result typed same ha hb c.both.ensures.is in
     search (rules, whole)

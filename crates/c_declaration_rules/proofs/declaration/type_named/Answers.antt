@@ -6,7 +6,7 @@ use Rattle.c_expression_rules.specs.Answers.{Answers}
 use Rattle.c_expression_rules.specs.Sights.{plain_sight}
 use Rattle.c_declaration_rules.specs.Declarations.{limited_type}
 use Rattle.c_declaration_rules.proofs.Parts.{behind_made}
-use Rattle.c_declaration_rules.proofs.declaration.type_typedef.Goals as goal
+use Rattle.c_declaration_rules.proofs.declaration.type_named.Goals as goal
 
 pub returns : goal.returns
 returns c =
