@@ -30,7 +30,7 @@ parts_small structs (Array t n) e = small_is (size_of structs (Array t n)) (and_
 parts_small structs (Struct n) e = small_is (size_of structs (Struct n)) e
 parts_small structs Void e = refl
 parts_small structs (Named x) e = refl
-parts_small structs (StructTag x) e = refl
+parts_small structs (StructTag x tag) e = refl
 parts_small structs (EnumTag x at) e = refl
 
 -- the size of a type that passes no limit

@@ -3,7 +3,7 @@ use Rattle.std.proofs.Common.{◌≡◌, ℕ, List, [], ◌∷◌, ◌++◌, ref
 use Rattle.std.proofs.lemmas.List.{append-nil}
 use Rattle.std.proofs.Math.Seq.{take-append_seam}
 use Rattle.c_syntax.specs.declared.statement.Item.{Item}
-use Rattle.c_syntax.specs.Statements.{Declaration, BlockItem, Declare, Run, Asserts, BlockItems, NoItem, Then, ForFirst, NoFirst, First, plain_item, plain_items}
+use Rattle.c_syntax.specs.Statements.{Declaration, BlockItem, Declare, Specify, Run, Asserts, BlockItems, NoItem, Then, ForFirst, NoFirst, First, plain_item, plain_items}
 use Rattle.c_model.specs.ExpressionTyping.{Sight, Entity, inner, with_object, with_objects, AnObject}
 use Rattle.c_model.specs.StatementTyping.{behind, behind_first}
 use Rattle.c_model.specs.UnitTyping.{with_parameter, with_parameters}
@@ -49,6 +49,7 @@ widens_objects s t (d ∷ ds) w = widens_objects s (with_object t d) ds (widens_
 
 widens_behind : (s t : Sight) (i : BlockItem) → Widens s t → Widens s (behind t i)
 widens_behind s t (Declare ds) w = widens_objects s t ds w
+widens_behind s t (Specify at u) w = w
 widens_behind s t (Run a) w = w
 widens_behind s t (Asserts annots) w = w
 

@@ -277,9 +277,9 @@ not_named : (u : PlainType) (x : ℕ) → same_type u (Named x) ≡ false
 not_named Void x = refl
 not_named _ x = refl
 
-not_struct : (u : PlainType) (x : ℕ) → same_type u (StructTag x) ≡ false
-not_struct Void x = refl
-not_struct _ x = refl
+not_struct : (u : PlainType) (x : ℕ) (tag : Place) → same_type u (StructTag x tag) ≡ false
+not_struct Void x tag = refl
+not_struct _ x tag = refl
 
 not_enum : (u : PlainType) (x : ℕ) (at : Place) → same_type u (EnumTag x at) ≡ false
 not_enum Void x at = refl
@@ -292,7 +292,7 @@ type_sym (Ptr t) (Ptr u) = type_sym t u
 type_sym (Array t n) (Array u m) = (λ i. length_sym n m i && type_sym t u i)
 type_sym (Struct n) (Struct m) = eq_sym n m
 type_sym (Named x) u = sym (not_named u x)
-type_sym (StructTag x) u = sym (not_struct u x)
+type_sym (StructTag x tag) u = sym (not_struct u x tag)
 type_sym (EnumTag x at) u = sym (not_enum u x at)
 type_sym _ Void = refl
 type_sym _ _ = refl

@@ -105,15 +105,17 @@ fn type_enum(alloc: Global, course: &mut Course, e: &mut EnumDef) -> Result<(), 
     Ok(())
 }
 
-/// Brings a name of a type in sight.
+/// Brings a name of a type in sight, where the declaration has one.
 pub fn see_type(alloc: Global, sight: &mut Sight, d: &Decl) -> Result<(), AllocError>
     ensures { OnOk result (plain_sight sight.new ≡ with_type (plain_sight sight.old) (plain_decl d.now)) }
 {
-    let ctype = copy_type(alloc, &d.ctype)?;
-    sight.types.push(TypeName {
-        name: d.name,
-        ctype,
-    })?;
+    if d.named {
+        let ctype = copy_type(alloc, &d.ctype)?;
+        sight.types.push(TypeName {
+            name: d.name,
+            ctype,
+        })?;
+    }
     Ok(())
 }
 

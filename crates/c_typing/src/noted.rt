@@ -38,6 +38,7 @@ fn see(alloc: Global, sight: &mut Sight, item: &Item) -> Result<(), AllocError>
 {
     match item {
         Item::Declare(list) => see_objects(alloc, sight, list),
+        Item::Specify(..) => Ok(()),
         Item::Run(_) => Ok(()),
         Item::Asserts(_) => Ok(()),
     }
@@ -116,6 +117,7 @@ fn note_item(alloc: Global, sight: &mut Sight, item: &mut Item) -> Result<(), Ty
             see_objects(alloc, sight, list)?;
             Ok(())
         }
+        Item::Specify(..) => Ok(()),
         Item::Run(a) => note_statement(alloc, sight, a),
         Item::Asserts(annots) => type_clauses(alloc, sight, annots),
     }

@@ -3,9 +3,9 @@
 ghost use Rattle.std.specs.Prelude.{◌≡◌, IfErr, OnOk, Some, map, option_map, true};
 ghost use Rattle.c_syntax.specs.Ctypes.{plain_type};
 ghost use Rattle.c_syntax.specs.Expressions.{plain_expr};
-ghost use Rattle.c_syntax.specs.Statements.{Break, Continue, Return, plain_decl, plain_else_part, plain_item, plain_items, plain_stmt, plain_stmt_kind};
+ghost use Rattle.c_syntax.specs.Statements.{Break, Continue, Return, Specify, plain_decl, plain_else_part, plain_item, plain_items, plain_stmt, plain_stmt_kind};
 ghost use Rattle.c_model.specs.Checked.{Good, one_part, where_so};
-ghost use Rattle.c_model.specs.ExpressionTyping.{decayed_of, inner, no_type, typed, with_objects};
+ghost use Rattle.c_model.specs.ExpressionTyping.{decayed_of, inner, no_type, typed, typed_type, with_objects};
 ghost use Rattle.c_model.specs.StatementTyping.{behind, behind_first, condition, in_loop, returned, typed_condition, typed_declarations};
 ghost use Rattle.c_model.specs.StatementTyping.{typed_else, typed_first, typed_item, typed_items, typed_maybe, typed_statement};
 ghost use Rattle.c_expression_rules.specs.Answers.{Answers, IsRefusal};
@@ -17,7 +17,7 @@ ghost use Rattle.c_typing.specs.Trees.{plain_around, plain_for_first};
 use c_declaration_rules::declaration::type_variable;
 use c_expression_rules::assignment::is_assigned;
 use c_expression_rules::conversion::{is_scalar, is_void};
-use c_expression_rules::expression::{type_expr, type_value};
+use c_expression_rules::expression::{type_expr, type_value, type_written};
 use c_expression_rules::fault::{TypeFault, no_type};
 use c_expression_rules::operator::in_type;
 use c_expression_rules::sight::{Sight, enter, leave};
@@ -154,6 +154,19 @@ fn type_declarations(
     Ok(())
 }
 
+/// Types the type of a declaration without declarators, which is at its `;` (C99 6.7 p2).
+fn type_specified(
+    alloc: Global,
+    sight: &Sight,
+    place: Place,
+    t: &mut CType,
+) -> Result<(), TypeFault>
+    ensures { Answers (λ _. Specify place (plain_type t.new))
+        (one_part (typed_type (plain_sight sight.now) place (plain_type t.old)) (λ u. Good (Specify place u))) result }
+{
+    type_written(alloc, sight, place, t)
+}
+
 /// Types a statement, or gives its first fault. What was in sight before is in sight after it.
 #[cycle(statement)]
 pub fn type_statement(
@@ -261,6 +274,7 @@ fn type_item(
 {
     match item {
         Item::Declare(list) => type_declarations(alloc, sight, list),
+        Item::Specify(place, t) => type_specified(alloc, sight, *place, t),
         Item::Run(a) => type_statement(alloc, sight, around, a),
         Item::Asserts(_) => Ok(()),
     }
