@@ -1,20 +1,22 @@
 //! The room of globals and literals (C99 5.2.4.1 leaves it to the implementation).
 
-ghost use Rattle.std.specs.Prelude.{◌≡◌, ℕ, List, ◌++◌, ◌≤◌, IfOk, map, option_map};
+ghost use Rattle.std.specs.Prelude.{◌≡◌, ◌≤◌, map, option_map};
 ghost use Rattle.c_syntax.specs.RefusalCodes.{globals_code};
-ghost use Rattle.c_syntax.specs.declared.place.Place.{Place};
-ghost use Rattle.c_syntax.specs.Programs.{plain_layout, plain_program, plain_text};
+ghost use Rattle.c_syntax.specs.Programs.{plain_layout, plain_program};
 ghost use Rattle.c_syntax.specs.Statements.{plain_decl};
 ghost use Rattle.c_syntax.specs.Layouts.{size_of};
 ghost use Rattle.c_model.specs.Limits.{globals_bytes};
-ghost use Rattle.c_model.specs.UnitTyping.{room_fault, room_fault_from};
+ghost use Rattle.c_model.specs.ObjectsLeft.{plain_object};
+ghost use Rattle.c_model.specs.StaticObjects.{place_of_object, size_of_object};
+ghost use Rattle.c_model.specs.UnitTyping.{room_fault};
 ghost use Rattle.c_expression_rules.specs.Answers.{plain_fault};
-ghost use Rattle.c_typing.specs.Rooms.{after_globals, pieces_of_globals, pieces_of_texts, room_with};
+ghost use Rattle.c_typing.specs.Rooms.{room_with};
 
 use c_expression_rules::fault::Fault;
 use c_expression_rules::limits::small_size;
 use c_model::limits::GLOBALS_BYTES;
-use c_syntax::{Decl, Layout, Place, Program, Text, code};
+use c_model::objects::{Object, Objects, next};
+use c_syntax::{Decl, Layout, Place, Program, code};
 
 /// What is taken with one more block of a size, where the segment has the room.
 fn room_with(taken: u64, size: u64) -> Option<u64>
@@ -51,47 +53,41 @@ fn room_with_global(structs: &[Layout], taken: u64, d: &Decl) -> Option<u64>
     }
 }
 
-/// What globals take, or the first that takes the sum past the segment.
-fn globals_taken(structs: &[Layout], globals: &[Decl]) -> Result<u64, Fault>
-    ensures room { (more : List (Place × ℕ)) → room_fault_from 0 (pieces_of_globals (map plain_layout structs.now) (map plain_decl globals.now) ++ more)
-        ≡ after_globals result more }
-    ensures small { IfOk result (λ taken. taken ≤ globals_bytes) }
+/// What is taken with one more global or literal.
+fn room_with_object(structs: &[Layout], taken: u64, o: Object<'_>) -> Option<u64>
+    requires { taken ≤ globals_bytes }
+    ensures { result ≡ room_with taken (size_of_object (map plain_layout structs.now) (plain_object o.entry)) }
 {
-    let mut taken = 0;
-    let mut rest = globals;
-    'turn: while let [d, after @ ..] = rest {
-        match room_with_global(structs, taken, d) {
-            None => return Err(no_room(d.place)),
-            Some(with) => taken = with,
-        }
-        rest = after;
+    match o {
+        Object::Global(d) => room_with_global(structs, taken, d),
+        Object::Literal(l) => room_with(taken, l.bytes.bytes().len() as u64 + 1),
     }
-    Ok(taken)
 }
 
-/// The first literal that takes the sum past the segment.
-fn texts_fault(before: u64, texts: &[Text]) -> Option<Fault>
-    requires { before ≤ globals_bytes }
-    ensures { option_map plain_fault result ≡ room_fault_from before (pieces_of_texts (map plain_text texts.now)) }
+fn place_of(o: Object<'_>) -> Place
+    ensures { result ≡ place_of_object (plain_object o.entry) }
 {
-    let mut taken = before;
-    let mut rest = texts;
-    'turn: while let [l, after @ ..] = rest {
-        match room_with(taken, l.bytes.bytes().len() as u64 + 1) {
-            None => return Some(no_room(l.place)),
-            Some(with) => taken = with,
-        }
-        rest = after;
+    match o {
+        Object::Global(d) => d.place,
+        Object::Literal(l) => l.place,
     }
-    None
 }
 
-/// What is wrong with the room of globals and literals, in the order of the text: globals, and then literals.
+/// What is wrong with the room of globals and literals: the first in the order of the text that takes the sum past the segment.
 pub fn room_fault(program: &Program) -> Option<Fault>
     ensures { option_map plain_fault result ≡ room_fault (plain_program program.now) }
 {
-    match globals_taken(&program.structs, &program.globals) {
-        Ok(taken) => texts_fault(taken, &program.texts),
-        Err(fault) => Some(fault),
+    let mut taken = 0;
+    let mut left = Objects {
+        globals: &program.globals,
+        literals: &program.texts,
+    };
+    'turn: while let Some((o, rest)) = next(left) {
+        match room_with_object(&program.structs, taken, o) {
+            None => return Some(no_room(place_of(o))),
+            Some(with) => taken = with,
+        }
+        left = rest;
     }
+    None
 }
