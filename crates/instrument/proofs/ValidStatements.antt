@@ -1,6 +1,6 @@
 -- Translated statements are valid: their labels, their loops, and the types of what stands in them.
 use Rattle.instrument.proofs.Own.{AreOwn, ElseOwn, ItemsOwn, StatementOwn}
-use Rattle.std.proofs.Common.{◌≡◌, ℕ, zero, suc, ◌+◌, ◌<◌, ◌≤◌, Bool, true, false, nat_eq, ◌||◌, List, [], ◌∷◌, ◌++◌, length, Option, Some, None, slice_get, refl, sym, ap, ◌∙◌, subst, arith}
+use Rattle.std.proofs.Common.{◌≡◌, ℕ, zero, suc, ◌+◌, ◌<◌, ◌≤◌, Bool, true, false, ◌||◌, List, [], ◌∷◌, ◌++◌, length, Option, Some, None, slice_get, refl, sym, ap, ◌∙◌, subst, arith}
 use Rattle.std.proofs.Math.Nat.{le-max_left, le-max_right}
 use Rattle.std.specs.Prelude.{bytes_eq}
 use Rattle.c_syntax.specs.Ctypes.{PlainType}
@@ -29,7 +29,7 @@ use Rattle.instrument.specs.Translation.{Spot, leave_where_zero, test, test_if_a
 use Rattle.instrument.specs.Translation.{else_part, first_part, items, result_of}
 use Rattle.instrument.specs.Translation as target
 use Rattle.instrument.proofs.Names.{IsNumber, end_is_free, next_is_free, ends_differ, nexts_differ, same_bytes}
-use Rattle.instrument.proofs.Typed.{begins_left, begins_right, begins_front, register_at, HasPointer, count_of_globals, block_points, known_small, condition_valid}
+use Rattle.instrument.proofs.Typed.{begins_left, begins_right, begins_front, register_at, count_of_globals, block_points, known_small, condition_valid}
 use Rattle.instrument.proofs.Tables.{begins_then, statement_begins, else_begins, first_begins, items_begin, HavePointers, pointers_front, pointers_back, pointers_kept, entered_keep, entered_have, statement_keeps, first_keeps, AllPoint, point_both}
 use Rattle.instrument.proofs.Tables.{entered_from, point_born}
 use Rattle.instrument.proofs.ValidSetups.{HasValue, setup_valid}
