@@ -1,5 +1,5 @@
 -- The code of annotations: how deep it stands, and the registers that it takes.
-use Rattle.std.proofs.Common.{ℕ, ◌+◌, ◌≤◌, pos, false, List, [], ◌∷◌, ◌++◌, length, Option, Some, None, arith}
+use Rattle.std.proofs.Common.{ℕ, ◌≤◌, pos, false, List, [], ◌∷◌, ◌++◌, length, Option, Some, None, arith}
 use Rattle.c_syntax.specs.Logic.{ClauseBody, Raw, Holds, Value, Behaviors, Annotation}
 use Rattle.c_syntax.specs.Programs.{TranslationUnit}
 use Rattle.c_model.specs.Formed.{IsShortClause, AreAsserts}

@@ -31,7 +31,7 @@ use Rattle.mon_syntax.specs.Arithmetic.{fits}
 use Rattle.mon_syntax.specs.Registers.{Bindings, register_of}
 use Rattle.mon_syntax.specs.Trees.{MonExpression, Register, Global, Constant, Binary, Minus, Flip, Cast, Load, If, MonStatements}
 use Rattle.mon_syntax.specs.Valid.{Types, HasType, AreStatements, Labels, Signature, open_parens, is_whole, depth_of_all}
-use Rattle.c_effects.specs.Expressions.{before, one, set, in_type, register_type, pointer_of, pointer_to, global_index}
+use Rattle.c_effects.specs.Expressions.{before, one, set, in_type, register_type, pointer_of, pointer_to, object_of_global}
 use Rattle.annot_code.specs.Code.{term_type, Reading}
 use Rattle.term_guards.specs.Guards.{guard}
 use Rattle.annot_code.specs.Code.{Code, with_value, type_of_width, type_of, width_of, wider, working, is_total, binary_value, unary_value, relation_value, relation_code, cast_value, converted_to, operated, sure_code, variable_code, is_known}
@@ -47,6 +47,7 @@ use Rattle.annot_code.proofs.Depths.{deep_before, deep_if, deep_guarded, deep_ta
 use Rattle.annot_code.proofs.Prefixes.{operated_begins, connected_begins, term_begins, chain_begins, pred_begins, judged_begins}
 use Rattle.annot_code.proofs.ValidParts.{flag_more, before_valid, expression, set_valid, number_valid, register_valid, FlagValid, Valid, flag_both, guarded_valid, take_valid, take_none_valid, two_valid}
 use Rattle.annot_code.proofs.ValidParts.{changed_valid, branch_valid, truth_valid, connected_valid}
+use Rattle.c_model.specs.StaticObjects.{static_objects}
 
 -- ---- numbers
 
@@ -73,7 +74,7 @@ one_range r z e = by (range_in_bits 127 (from_to z z)) refl e
 pointer_parens : (p : TranslationUnit) (bound : Bindings) (x : ℕ) → open_parens (pointer_to p bound x) ≤ 0
 pointer_parens p bound x = by (register_of bound x)
   where
-    by : (o : Option ℕ) → open_parens (pointer_of o (global_index x p.globals)) ≤ 0
+    by : (o : Option ℕ) → open_parens (pointer_of o (object_of_global x (static_objects p))) ≤ 0
     by None = omega arith
     by (Some r) = omega arith
 

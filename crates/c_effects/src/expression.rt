@@ -11,7 +11,7 @@ ghost use Rattle.c_effects.specs.Named.{both_set_by, condition_by, either_set_by
 ghost use Rattle.c_effects.specs.Parts.{arrow_of, binary_of, both_of, cast_of, choice_of, dot_of, either_of, index_of, named_value, unary_of};
 
 use crate::conversion::value_type;
-use crate::layout::global_index;
+use crate::object_index::{object_of_global, object_of_literal};
 use crate::operator::{
     condition, constant, converted, farther, indexed, loaded, operated, register, truth, unary,
 };
@@ -19,7 +19,7 @@ use crate::part::{alone, choose, then};
 use c_expression_rules::conversion::is_array;
 use c_syntax::layout::{offset_in_target, offset_of_member};
 use c_syntax::{BinOp, CType, Expr, ExprKind, UnOp, Use};
-use mon_syntax::{MonExpr, MonExprKind, MonStmt, MonStmtKind, MonType, Registers, numbered};
+use mon_syntax::{MonExpr, MonExprKind, MonStmt, MonStmtKind, MonType, Registers};
 use std::alloc::{AllocError, Global};
 use track_scopes::size::size_constant;
 
@@ -30,18 +30,17 @@ pub fn pointer_to(alloc: Global, names: &Registers<'_>, x: u32) -> Result<MonExp
     match names.register_of(x) {
         Some(number) => register(alloc, number),
         None => {
-            let number = numbered(global_index(names.globals(), x))?;
+            let number = object_of_global(names.globals(), names.texts(), x)?;
             MonExpr::new(alloc, MonExprKind::Global(number))
         }
     }
 }
 
-// A string literal: they stand after the globals.
+// A string literal.
 fn literal(alloc: Global, names: &Registers<'_>, n: u32) -> Result<MonExpr, AllocError>
     ensures { IfOk result (λ m. plain_monitored m ≡ literal (unit_of names.now) n) }
 {
-    let first = numbered(names.globals().len())?;
-    let number = first.checked_add(n).ok_or(AllocError)?;
+    let number = object_of_literal(names.globals(), names.texts(), n)?;
     MonExpr::new(alloc, MonExprKind::Global(number))
 }
 
