@@ -6,10 +6,11 @@ use Rattle.c_model.specs.State.{Scope, find}
 use Rattle.mon_syntax.specs.Registers.{Bindings}
 use Rattle.mon_syntax.specs.Meaning.{eval}
 use Rattle.mon_syntax.specs.BlockMemory.{Blocks, over_blocks}
-use Rattle.c_effects.specs.Expressions.{global_index, pointer_of, pointer_to}
+use Rattle.c_effects.specs.Expressions.{global_index, pointer_of, pointer_to, object_of_global}
 use Rattle.c_effects.specs.Effects.{block_register, block_of}
 use Rattle.annot_code.specs.Does.{Same}
 use Rattle.instrument.proofs.Standing.{Setting, Has, IsAnchored, InRegister, AtGlobal, Anchored}
+use Rattle.c_model.specs.StaticObjects.{static_objects}
 
 -- the pointer to a block
 pub pointer_has : (w : Setting) (low n : ℕ) (bound : Bindings) (regs later : List Value) (mem : Blocks) (scope : Scope) (x number : ℕ) → low ≤ n → Same n regs later → Anchored w low bound regs scope → find x scope ≡ Some number
@@ -18,10 +19,10 @@ pointer_has w low n bound regs later mem scope x number le same h e = of_anchor 
   where
     of_anchor : IsAnchored w low bound regs x number → Has w (pointer_to w.unit bound x) later mem (Points (Into number 0))
     of_anchor (InRegister r is_bound below points) =
-        ap (λ o. eval over_blocks w.globals (pointer_of o (global_index x w.unit.globals)) later mem) is_bound
+        ap (λ o. eval over_blocks w.globals (pointer_of o (object_of_global x (static_objects w.unit))) later mem) is_bound
         ∙ same.below r (omega (arith, below, le))
         ∙ points
-    of_anchor (AtGlobal free is_global points) = ap (λ o. eval over_blocks w.globals (pointer_of o (global_index x w.unit.globals)) later mem) free ∙ points
+    of_anchor (AtGlobal free is_global points) = ap (λ o. eval over_blocks w.globals (pointer_of o (object_of_global x (static_objects w.unit))) later mem) free ∙ points
 
 -- the register that points to the block of a declaration that is no global's
 pub block_has : (w : Setting) (low n : ℕ) (bound : Bindings) (regs later : List Value) (scope : Scope) (x number : ℕ) → low ≤ n → Same n regs later → Anchored w low bound regs scope → find x scope ≡ Some number

@@ -11,9 +11,9 @@ use Rattle.c_syntax.specs.Programs.{Function, StringLiteral, TranslationUnit}
 use Rattle.c_syntax.specs.declared.types.CInt.TheVariants.{U64}
 use Rattle.c_syntax.specs.Layouts.{size_of}
 use Rattle.c_model.specs.Integers.{fits}
-use Rattle.c_model.specs.Memory.{Value, Points, Into, Store}
+use Rattle.c_model.specs.Memory.{Value, Points, Store}
 use Rattle.c_model.specs.State.{State}
-use Rattle.c_model.specs.Meaning.{text_at, Callee, Tables, tables_of, global_scope, items_with, body_with, declared_in, is_definition}
+use Rattle.c_model.specs.Meaning.{text_at, Callee, Tables, tables_of, items_with, body_with, declared_in, is_definition, literal}
 use Rattle.c_model.specs.ExpressionTyping.{Sight, inner, with_object}
 use Rattle.c_model.specs.UnitTyping.{with_parameter, with_parameters}
 use Rattle.c_model.specs.TypedTrees.{HasKnownSize, Calls, ItemsTyped, BodyTyped, around_body, AreParameters}
@@ -35,7 +35,7 @@ use Rattle.track_scopes.specs.Blocks.{entered, with_born}
 use Rattle.instrument.specs.Translation.{with_variables, value_types, registers_of_body, after_body, after_items, arguments_from, registers_from, items, body_part}
 use Rattle.instrument.proofs.Standing.{Target, Setting, AreOctets, Knows, runs}
 use Rattle.instrument.proofs.Following.{Follows}
-use Rattle.instrument.proofs.Births.{names_of, with_numbers, behind_births}
+use Rattle.instrument.proofs.Births.{with_numbers, behind_births}
 use Rattle.instrument.proofs.Declared.{AreBorn, ItemsCanDeclare, items_grow, statement_grows}
 use Rattle.instrument.proofs.Numbers.{numbers_in, parted_in, AllOutside, all_narrower, in_bounds, born_outside, body_can_declare, are_free, all_free, known_small}
 use Rattle.instrument.proofs.Calls.{IsCalled}
@@ -47,6 +47,8 @@ use Rattle.c_model.specs.TypedAnnotations.{BodyNoted}
 use Rattle.instrument.proofs.Programs.{Part}
 use Rattle.instrument.proofs.Own.{AreOwn}
 use Rattle.c_model.specs.TextOrder.{Between}
+use Rattle.c_effects.specs.Expressions.{object_of_literal}
+use Rattle.c_model.specs.StaticObjects.{static_objects}
 
 -- ---- how many registers there are
 
@@ -104,11 +106,11 @@ pub record CanBeDeclared (p : TranslationUnit) (f : Function) (living : List ℕ
   pub items_declare : ItemsCanDeclare p (with_numbers (declared_in items) (with_numbers f.params living)) items
 
 pub can_be_declared : (p : TranslationUnit) (f : Function) (part : Part p f) (items : BlockItems) → declared_in_body f.body ≡ declared_in_items items → ItemsTyped (with_parameters (inner part.sight) f.params) (around_body f.result) items
-    → CanBeDeclared p f (names_of (global_scope 1 p.globals)) items
+    → CanBeDeclared p f (numbers_in p.globals) items
 can_be_declared p f part items body typed =
     let first = suc f.place.offset in
     let high = part.high in
-    let living = names_of (global_scope 1 p.globals) in
+    let living = numbers_in p.globals in
     let free = all_free p first high part.below part.apart in
     let between : Between first (numbers_in (f.params ++ declared_in_items items)) high = subst (λ ds. Between first (numbers_in (f.params ++ ds)) high) body part.between in
     let parts = parted_in first high f.params (declared_in_items items) between in
@@ -152,9 +154,9 @@ has_body p f part e = by f.body refl
     by (Some (Return at x)) g = absurd (subst (BodyRead AreRangedAsserts) g part.read.body)
     by (Some _) g = absurd (subst (BodyRead AreRangedAsserts) g part.read.body)
 
--- literals have their blocks after the globals, and are bytes
+-- literals have their pointers, and are bytes
 pub record LiteralsStand (p : TranslationUnit) (globals : List Value) : Type 0 where
-  pub points : (m : ℕ) (x : StringLiteral) → slice_get p.texts m ≡ Some x → slice_get globals (length p.globals + m) ≡ Some (Points (Into (length p.globals + m + 1) 0))
+  pub points : (m : ℕ) (x : StringLiteral) → slice_get p.texts m ≡ Some x → slice_get globals (object_of_literal m (static_objects p)) ≡ Some (Points (literal (tables_of p) m))
   pub octets : (m : ℕ) → AreOctets (text_at (tables_of p).texts m)
 
 -- the sizes that a function asks for are values
@@ -169,7 +171,7 @@ module _ (p : TranslationUnit) (globals : List Value) (main index : ℕ) (f : Fu
   T = tables_of p
 
   abbrev names : List ℕ
-  names = names_of (global_scope 1 p.globals)
+  names = numbers_in p.globals
 
   abbrev mine : List MonType
   mine = own p globals main index f call calls n

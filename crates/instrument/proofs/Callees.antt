@@ -85,7 +85,7 @@ nothing_before n = omega arith
 
 -- what a program's text tells of its functions, and what stands where at the beginning of each call: the pointers to globals and literals
 module _ (p : TranslationUnit) (parts : Parts p p.funcs) (gs : List Value)
-    (anchored : (w : Setting) → w.unit ≡ p → w.globals ≡ gs → (low : ℕ) (regs : List Value) → Anchored w low [] regs (global_scope 1 p.globals))
+    (anchored : (w : Setting) → w.unit ≡ p → w.globals ≡ gs → (low : ℕ) (regs : List Value) → Anchored w low [] regs (global_scope p))
     (literals : LiteralsStand p gs) where
   abbrev pub main : ℕ
   main = index_of_main p.names p.funcs
@@ -148,10 +148,10 @@ module _ (p : TranslationUnit) (parts : Parts p p.funcs) (gs : List Value)
       index = 0 + index_by (has_number f.decl) p.funcs
 
       -- the source's call, and the target's
-      source_is : (k : ℕ) (at : Place) (vs : List Value) (s : State) → call_of p (suc k) at f vs s ≡ call_with T (global_scope 1 p.globals) (Some g) (call_of p k) k at vs s
+      source_is : (k : ℕ) (at : Place) (vs : List Value) (s : State) → call_of p (suc k) at f vs s ≡ call_with T (global_scope p) (Some g) (call_of p k) k at vs s
       source_is k at vs s =
-          ap (λ b. (if b then library_call at (slice_get p.names f.name) vs else call_with T (global_scope 1 p.globals) (definition_at f.decl p.funcs) (call_of p k) k at vs) s) l
-          ∙ ap (λ o. call_with T (global_scope 1 p.globals) o (call_of p k) k at vs s) found
+          ap (λ b. (if b then library_call at (slice_get p.names f.name) vs else call_with T (global_scope p) (definition_at f.decl p.funcs) (call_of p k) k at vs) s) l
+          ∙ ap (λ o. call_with T (global_scope p) o (call_of p k) k at vs s) found
 
       code_is : (k : ℕ) (into : Option ℕ) (args : List MonExpression) (regs : List Value) (t : Target) → runs (w k) k t (call p into f args) regs ≡ monitored.exec over_blocks gs (tree.Call into (index_of f.decl p.funcs) args) (w k).calls k regs t
       code_is k into args regs t =
@@ -179,7 +179,7 @@ module _ (p : TranslationUnit) (parts : Parts p p.funcs) (gs : List Value)
           (sym (append-nil s.output)) (ap (λ k. Stops machine.Spent k []) (omega (arith, le))))
         where
           inside : Evaluation Value
-          inside = in_call (frame >> alone (global_scope 1 p.globals) >> parameters T at g.params vs >> mark None >> (entry g.contract >>= λ hs. result_with T g hs (call_of p 0) 0))
+          inside = in_call (frame >> alone (global_scope p) >> parameters T at g.params vs >> mark None >> (entry g.contract >>= λ hs. result_with T g hs (call_of p 0) 0))
 
           spent : (k : ℕ) → k ≡ 0 → on_outcome (step_from k s) (λ _. inside) ≡ Stop (Over Spent) s
           spent k e = ap (λ i. on_outcome (step_from i s) (λ _. inside)) e
@@ -194,7 +194,7 @@ module _ (p : TranslationUnit) (parts : Parts p p.funcs) (gs : List Value)
           below inner.registers inner.base inner.around active g part s names signatures u t es c in
           DoesCall (level over_blocks gs functions (suc k) (index_of f.decl p.funcs) vs t) (calls_run (suc k) into args vs regs t has)
           (subst (λ r. Called s g.result r (level over_blocks gs functions (suc k) (index_of f.decl p.funcs) vs t)) (sym (source_is (suc k) at vs s))
-          (subst (λ o. Called s g.result (call_with T (global_scope 1 p.globals) (Some g) (call_of p (suc k)) (suc k) at vs s)
+          (subst (λ o. Called s g.result (call_with T (global_scope p) (Some g) (call_of p (suc k)) (suc k) at vs s)
           (monitored.step_from t.steps (λ j. body_runs over_blocks gs o deeper k vs (record t { steps = j }))))
           (sym function_is)
           (call_follows p gs main index g (call_of p (suc k)) deeper k not_main

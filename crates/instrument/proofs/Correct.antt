@@ -49,7 +49,7 @@ use Rattle.instrument.proofs.FileScope.{AreTexts, text_octets}
 use Rattle.c_model.specs.AcceptedPrograms.{AreConstant}
 use Rattle.instrument.proofs.Sights.{GlobalsInPlace}
 use Rattle.instrument.proofs.Globals.{HasGlobals, globals_at_start}
-use Rattle.instrument.proofs.Starts.{Ascending, pointers, literal_points, anchored_at_start, start_blocks}
+use Rattle.instrument.proofs.Starts.{pointers, literal_points, anchored_at_start, start_blocks}
 use Rattle.instrument.proofs.Registers.{same_all}
 use Rattle.c_effects.specs.Letters.{InitialsHaveLetters}
 use Rattle.annot_code.specs.Does.{Same}
@@ -57,6 +57,8 @@ use Rattle.instrument.proofs.Deaths.{all_before}
 use Rattle.instrument.proofs.Calls.{IsCalled}
 use Rattle.instrument.proofs.Callees.{main, functions, calls_at}
 use Rattle.instrument.proofs.Own.{AreOwn}
+use Rattle.instrument.proofs.Numbers.{numbers_in}
+use Rattle.instrument.proofs.Objects.{names_at_start}
 
 -- ---- main
 
@@ -202,11 +204,9 @@ pub record GlobalsKnown (p : TranslationUnit) : Type 0 where
   pub texts : AreTexts p.texts
   pub room : room_fault p ≡ None
   pub own : AreOwn p.globals
-  pub least : ℕ
-  pub ascend : Ascending least p.globals
 
 has_globals : (w : Setting) → GlobalsKnown w.unit → w.globals ≡ pointers w.unit → HasGlobals w
-has_globals w k e = record { places = k.places; constant = k.constant; letters = k.letters; texts = k.texts; room = k.room; own = k.own; least = k.least; ascend = k.ascend; pointers = e }
+has_globals w k e = record { places = k.places; constant = k.constant; letters = k.letters; texts = k.texts; room = k.room; own = k.own; pointers = e }
 
 -- what stands in front of main's body, and then main
 module _ (w : Setting) (low : ℕ) (regs : List Value) (from : State) (empty : from.output ≡ []) (x : State → Outcome (Unit {0})) (g : List Value → Target → Did) (z : Value) where
@@ -246,9 +246,9 @@ module _ (p : TranslationUnit) (parts : Parts p p.funcs) (main_is : main_fault p
   abbrev gs : List Value
   gs = pointers p
 
-  anchored : (w : Setting) → w.unit ≡ p → w.globals ≡ gs → (low : ℕ) (regs : List Value) → Anchored w low [] regs (global_scope 1 p.globals)
+  anchored : (w : Setting) → w.unit ≡ p → w.globals ≡ gs → (low : ℕ) (regs : List Value) → Anchored w low [] regs (global_scope p)
   anchored w e f low regs =
-      subst (λ (u : TranslationUnit). Anchored w low [] regs (global_scope 1 u.globals)) e
+      subst (λ (u : TranslationUnit). Anchored w low [] regs (global_scope u)) e
       (anchored_at_start w low regs (f ∙ ap pointers (sym e)) (subst (λ (u : TranslationUnit). AreOwn u.globals) (sym e) known.own))
 
   literals : LiteralsStand p gs
@@ -315,7 +315,7 @@ module _ (p : TranslationUnit) (parts : Parts p p.funcs) (main_is : main_fault p
   -- ---- after the initialisers of globals
 
   module _ (s : State) (after : List Value) (t : Target) (store_is : t.mem.store ≡ s.store) (frames : t.mem.frames ≡ 1) (steps : t.steps ≡ s.steps) (input_is : t.input ≡ s.input) (long : length after ≡ length opens) (bounded : Bounded s.store)
-      (scope : s.scope ≡ global_scope 1 p.globals) (no_calls : s.calls ≡ 0) (le : s.steps ≤ n) (o : List ℕ) (written_is : s.output ≡ o) where
+      (scope : s.scope ≡ global_scope p) (no_calls : s.calls ≡ 0) (le : s.steps ≤ n) (o : List ℕ) (written_is : s.output ≡ o) where
     abbrev entered : State
     entered = record s { calls = s.calls + 1; marks = record { label = None; scope = s.scope; store = s.store } ∷ s.marks }
 
@@ -323,7 +323,7 @@ module _ (p : TranslationUnit) (parts : Parts p p.funcs) (main_is : main_fault p
     abbrev MeetsWith : List Declaration → Type 0
     MeetsWith ds =
         Meets (w s.store) (at_body (length s.store) [] f.result) (record { loops = 0; inside = with_born (length (value_types ds ++ mine)) ds []; outside = [] }) (length (value_types ds ++ mine) + length ds)
-        (entered_with ds (with_kinds mine (with_kinds (value_types ds) no_registers))).bound (with_numbers ds (names_of (global_scope 1 p.globals))) after entered t
+        (entered_with ds (with_kinds mine (with_kinds (value_types ds) no_registers))).bound (with_numbers ds (numbers_in p.globals)) after entered t
 
     meets_none : MeetsWith []
     meets_none = record {
@@ -343,7 +343,7 @@ module _ (p : TranslationUnit) (parts : Parts p p.funcs) (main_is : main_fault p
       beside = record { store_is = store_is; frames = frames; steps = steps; input = input_is };
       inside = tt;
       outside = tt;
-      names = ap names_of scope;
+      names = ap names_of scope ∙ names_at_start p;
     }
 
     meets_first : MeetsBody p gs m m f call calls n s.store (0 + 1) [] after entered t
@@ -409,13 +409,13 @@ module _ (p : TranslationUnit) (parts : Parts p p.funcs) (main_is : main_fault p
 
   -- the target's run: the front, and then the body
   abbrev fronts : Did
-  fronts = exec_all over_blocks gs (initialise_globals p [] 0 p.globals) calls n opens entered_target
+  fronts = exec_all over_blocks gs (initialise_globals p [] p.globals) calls n opens entered_target
 
   abbrev ends : Did → Result Target Value
   ends q = then_do (then_do q (at_next (exec_all over_blocks gs (code_of p mine f) calls n))) (at_return over_blocks (zero_of f))
 
-  front_is : front p (nat_eq m m) f.params ≡ initialise_globals p [] 0 p.globals
-  front_is = ap (λ b. front p b f.params) its_own ∙ ap (λ ds. initialise_globals p (value_types ds) 0 p.globals) found.params
+  front_is : front p (nat_eq m m) f.params ≡ initialise_globals p [] p.globals
+  front_is = ap (λ b. front p b f.params) its_own ∙ ap (λ ds. initialise_globals p (value_types ds) p.globals) found.params
 
   target_is : block_run (translated p) input n ≡ monitored.ran over_blocks (ends fronts)
   target_is =

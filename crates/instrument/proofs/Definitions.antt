@@ -34,11 +34,11 @@ module _ (n : Names) (is_main : Bool) (f : Function) where
   abbrev fronted : Names
   fronted = with_registers (front_temporaries p is_main) (argued n f)
 
-  front_is : (if is_main then globals_initialised (argued n f) 0 p.globals else NoStatement) ≡ front p is_main f.params
-  front_is = ap (λ a. if is_main then a else NoStatement) (globals_are (argued n f) 0 p.globals refl)
+  front_is : (if is_main then globals_initialised (argued n f) p.globals else NoStatement) ≡ front p is_main f.params
+  front_is = ap (λ a. if is_main then a else NoStatement) (globals_are (argued n f) p.globals refl)
 
   pub code_is : (n0 n1 n2 : Names) (inside dying : List ℕ) (t0 t1 t2 t3 t4 : MonStatements) → n0 ≡ argued n f → n1 ≡ with_registers (front_temporaries (unit_of n0) is_main) n0 → n2 ≡ entering f.params n1
-      → t0 ≡ NoStatement → t1 ≡ before t0 (if is_main then globals_initialised n0 0 (unit_of n0).globals else NoStatement) → t2 ≡ before t1 (parameters (unit_of n1) (next_register n1.table) 0 f.params)
+      → t0 ≡ NoStatement → t1 ≡ before t0 (if is_main then globals_initialised n0 (unit_of n0).globals else NoStatement) → t2 ≡ before t1 (parameters (unit_of n1) (next_register n1.table) 0 f.params)
       → inside ≡ with_born (next_register n1.table) f.params [] → dying ≡ inside → t3 ≡ before t2 (body_by n2 (record { loops = 0; inside = inside; outside = [] }) f.body) → t4 ≡ before t3 (deaths dying)
       → t4 ≡ whole_code p is_main f
   code_is n0 n1 n2 inside dying t0 t1 t2 t3 t4 names0 names1 names2 none first born inside_is dying_is body last =
@@ -46,7 +46,7 @@ module _ (n : Names) (is_main : Bool) (f : Function) where
       let third : n2 ≡ entering f.params fronted = names2 ∙ ap (entering f.params) second in
       let inside_at : inside ≡ with_born (next_register fronted.table) f.params [] = inside_is ∙ ap (λ (m : Names). with_born (next_register m.table) f.params []) second in
       let start : t1 ≡ front p is_main f.params =
-      first ∙ (λ i. before (none i) (if is_main then globals_initialised (names0 i) 0 (unit_of (names0 i)).globals else NoStatement)) ∙ front_is in
+      first ∙ (λ i. before (none i) (if is_main then globals_initialised (names0 i) (unit_of (names0 i)).globals else NoStatement)) ∙ front_is in
       let entry = parameters p (next_register fronted.table) 0 f.params in
       let made = body_part p (with_born (next_register fronted.table) f.params []) (entering f.params fronted).table f.body in
       let end = deaths (with_born (next_register fronted.table) f.params []) in

@@ -1,6 +1,6 @@
 -- Expressions without effects: where the source has a value, the target has the same after the statements before it; and where the source has the place
 -- of an object, the target has the pointer to it.
-use Rattle.std.proofs.Common.{◌≡◌, ℕ, suc, ◌<◌, ◌≤◌, ℤ, pos, negsuc, Bool, true, false, cond, not, if◌then◌else◌, List, [], ◌∷◌, ◌++◌, length, Option, Some, None, option_map, refl, sym, ap, ◌∙◌, subst, arith}
+use Rattle.std.proofs.Common.{slice_get, ◌≡◌, ℕ, suc, ◌<◌, ◌≤◌, ℤ, pos, negsuc, Bool, true, false, cond, not, if◌then◌else◌, List, [], ◌∷◌, ◌++◌, length, Option, Some, None, option_map, refl, sym, ap, ◌∙◌, subst, arith}
 use Rattle.std.proofs.lemmas.Int.{ints}
 use Rattle.std.proofs.lemmas.Bool.{lt-ltb}
 use Rattle.std.proofs.lemmas.List.{length-append}
@@ -39,7 +39,7 @@ use Rattle.c_effects.specs.Letters.{IsLetter, HasLetters}
 use Rattle.c_effects.specs.Expressions.{register_type, value_type, before, set, setup, value, place, temporaries, condition, truth_of, condition_of, unary, binary, in_type, pointer_to, loaded, farther, element, indexed, operated, compared}
 use Rattle.c_effects.specs.Expressions as spec
 use Rattle.annot_code.specs.Does.{Same}
-use Rattle.instrument.proofs.Standing.{Setting, Target, runs, Has, IsOf, Bounded, Anchored, Knows}
+use Rattle.instrument.proofs.Standing.{Setting, Target, runs, Has, IsOf, Bounded, Anchored, Knows, small_literal}
 use Rattle.instrument.proofs.Following.{Evaluates, HasValue, HasNone, Places, HasPlace, HasNoPlace, Tests, anchored_same}
 use Rattle.instrument.proofs.Registers.{same_all, same_less, longer}
 use Rattle.instrument.proofs.Anchors.{pointer_has}
@@ -567,7 +567,7 @@ module _ (w : Setting) (n : ℕ) (sight : Sight) (knows : Knows w sight) (bound 
     pub places : (e : Expression) (rs : List MonType) → has_object e ≡ true → IsPure e → WellTyped sight e → HasLetters e → low ≤ length rs → PlacesAll e rs
     places (Node at t (Variable x)) rs o p q c behind regs h enough = object_follows at x.decl rs regs behind h
     places (Node at t (Text m)) rs o p q c behind regs h enough =
-        HasPlace (literal T m) (λ t. omega arith) refl regs (same_all (length rs) regs) refl (λ i later same. knows.literals m q.text q.found)
+        HasPlace (literal T m) (λ t. small_literal (slice_get T.literals m)) refl regs (same_all (length rs) regs) refl (λ i later same. knows.literals m q.text q.found)
     places (Node at t (Unary prefix.Deref a)) rs o p q c behind regs h enough = pointer_place a rs regs (evaluates a PointerType rs (ap scalar_of q.1) p q.0 c behind regs h enough)
     places (Node at t (Index a b)) rs o p q c behind regs h enough =
         index_follows at t operator.Add a b rs regs q.2 (λ i j f g.

@@ -1,16 +1,13 @@
 -- The numbers of a file's declarations lie in the order of its items: those of a function between its own and the next item's, and those of
 -- globals outside of these.
-use Rattle.std.proofs.Common.{◌≡◌, ℕ, suc, ◌≤◌, ◌<◌, false, nat_eq, List, [], ◌∷◌, ◌++◌, map, inl, inr, subst, append_assoc, ◌∙◌, arith}
+use Rattle.std.proofs.Common.{◌≡◌, ℕ, suc, ◌≤◌, ◌<◌, false, nat_eq, List, [], ◌∷◌, ◌++◌, inl, inr, subst, append_assoc, ◌∙◌, arith}
 use Rattle.std.proofs.lemmas.Bool.Decides.{nat_tests}
 use Rattle.c_syntax.specs.Statements.{Declaration}
 use Rattle.c_syntax.specs.Programs.{Function, TranslationUnit}
-use Rattle.c_model.specs.Meaning.{global_scope}
-use Rattle.c_model.specs.Formed.{number_of, numbers_of, declared_in_body, Ascend}
+use Rattle.c_model.specs.Formed.{number_of, numbers_of, declared_in_body}
 use Rattle.c_model.specs.UnitTyping.{FileItem, AGlobal, AFunction, items_of_file}
 use Rattle.c_model.specs.TextOrder.{Between, numbers_of_item, numbers_of_items}
-use Rattle.instrument.proofs.Births.{names_of}
 use Rattle.instrument.proofs.Own.{AreOwn}
-use Rattle.instrument.proofs.Starts.{Ascending}
 use Rattle.instrument.proofs.Numbers.{numbers_in, parted, in_bounds, IsOutside, Under, Over, AllOutside}
 use Rattle.c_model.proofs.NeverStuckItems.{IsAmong, global_in_file, function_in_file}
 
@@ -76,9 +73,9 @@ module _ (p : TranslationUnit) (numbered : Between 0 (numbers_of_items (items_of
   pub function_is_numbered : (front fs : List Function) (f : Function) → front ++ f ∷ fs ≡ p.funcs → IsNumbered (items_of_file p) 0 4294967295 f
   function_is_numbered front fs f is = function_numbered 0 4294967295 (items_of_file p) f numbered (function_in_file p front fs f is)
 
-  pub globals_apart : (f : Function) (n : IsNumbered (items_of_file p) 0 4294967295 f) (k : ℕ) (front ds : List Declaration) → front ++ ds ≡ p.globals → AllOutside (suc f.place.offset) n.high (names_of (global_scope k ds))
-  globals_apart f n k front [] is = tt
-  globals_apart f n k front (d ∷ ds) is = (n.apart d (global_in_file p front ds d is), globals_apart f n (suc k) (front ++ d ∷ []) ds (append_assoc front (d ∷ []) ds ∙ is))
+  pub globals_apart : (f : Function) (n : IsNumbered (items_of_file p) 0 4294967295 f) (front ds : List Declaration) → front ++ ds ≡ p.globals → AllOutside (suc f.place.offset) n.high (numbers_in ds)
+  globals_apart f n front [] is = tt
+  globals_apart f n front (d ∷ ds) is = (n.apart d (global_in_file p front ds d is), globals_apart f n (front ++ d ∷ []) ds (append_assoc front (d ∷ []) ds ∙ is))
 
   -- no global is the library's
   pub globals_own : (front ds : List Declaration) → front ++ ds ≡ p.globals → AreOwn ds
@@ -89,7 +86,3 @@ module _ (p : TranslationUnit) (numbered : Between 0 (numbers_of_items (items_of
     where
       differs : (n : ℕ) → n < 4294967295 → nat_eq n 4294967295 ≡ false
       differs n lt = grind (arith, nat_tests)
-
-pub ascending : (least : ℕ) (ds : List Declaration) → Ascend least (map number_of ds) → Ascending least ds
-ascending least [] h = tt
-ascending least (d ∷ ds) h = (h.0, ascending (suc (number_of d)) ds h.1)

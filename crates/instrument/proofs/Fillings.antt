@@ -120,7 +120,7 @@ module _ (w : Setting) (n : ℕ) (h : Here) (sight : Sight) (knows : Knows w sig
 
   -- a type has the same parts at a place of the text and in the whole program
   same_parts : (u : PlainType) → parts_or_itself (tables_in sight) u ≡ parts_or_itself T u
-  same_parts u = ap (λ structs. parts_or_itself (record { structs = structs; texts = []; globals = 0 }) u) knows.structs
+  same_parts u = ap (λ structs. parts_or_itself (record { structs = structs; texts = []; literals = [] }) u) knows.structs
 
   -- ---- all of them
 

@@ -36,12 +36,14 @@ use Rattle.instrument.proofs.Registers.{get-end}
 use Rattle.instrument.proofs.Lives.{length-killed}
 use Rattle.instrument.proofs.Deaths.{bounded_killed, all_before, live_killed}
 use Rattle.instrument.proofs.Following.{standing_as, Later, Follows, GoesOn, Breaks, Continues, IsLeft, IsOver, IsUndefined}
-use Rattle.instrument.proofs.Births.{names_of, with_numbers, pointed_point, pointed_same}
+use Rattle.instrument.proofs.Births.{with_numbers, pointed_point, pointed_same}
 use Rattle.instrument.proofs.Blocks.{Meets}
 use Rattle.instrument.proofs.Parameters.{AreScalars, HoldInOrder, BearsAll, AllBorn, SomeFull, SomeUndefined, parameters_follow}
 use Rattle.instrument.proofs.Calls.{Even, Called, EndsRun, HasNoMeaning, AreOf}
 use Rattle.instrument.proofs.Calls as calls
 use Rattle.instrument.proofs.Own.{AreOwn}
+use Rattle.instrument.proofs.Numbers.{numbers_in}
+use Rattle.instrument.proofs.Objects.{names_at_start}
 
 -- ---- marks don't matter
 
@@ -221,7 +223,7 @@ module _ (p : TranslationUnit) (globals : List Value) (main index : ℕ) (f : Fu
   spot_of_body = record { loops = 0; inside = with_born first f.params []; outside = [] }
 
   abbrev pub names_around : List ℕ
-  names_around = names_of (global_scope 1 p.globals)
+  names_around = numbers_in p.globals
 
   abbrev pub MeetsBody : Store → ℕ → List LiveBlock → List Value → State → Target → Type 0
   MeetsBody store active blocks regs s t =
@@ -236,7 +238,7 @@ module _ (p : TranslationUnit) (globals : List Value) (main index : ℕ) (f : Fu
       → Follows (setting store active) (at_body (length store) blocks f.result) (first + count) regs Next s (body_with T f.body call (suc n) s) (runs (setting store active) n t body_code regs)
 
   module _
-      (not_main : nat_eq index main ≡ false) (anchored_globals : (store : Store) (active : ℕ) (regs : List Value) → Anchored (setting store active) first [] regs (global_scope 1 p.globals)) (enough : first + count ≤ how_many)
+      (not_main : nat_eq index main ≡ false) (anchored_globals : (store : Store) (active : ℕ) (regs : List Value) → Anchored (setting store active) first [] regs (global_scope p)) (enough : first + count ≤ how_many)
       (objects : AreScalars f.params) (own_params : AreOwn f.params) (body : BodyFollows) (vs : List Value) (types : AreOf (types_of f.params) vs)
       (at : Place) where
     abbrev opens : List Value
@@ -254,7 +256,7 @@ module _ (p : TranslationUnit) (globals : List Value) (main index : ℕ) (f : Fu
 
     -- the source's call with its step and its frame after it, and the target's
     abbrev inside_source : Evaluation Value
-    inside_source = frame >> alone (global_scope 1 p.globals) >> parameters T at f.params vs >> mark None >> λ s. returned_by f (body_with T f.body call (suc n) s)
+    inside_source = frame >> alone (global_scope p) >> parameters T at f.params vs >> mark None >> λ s. returned_by f (body_with T f.body call (suc n) s)
 
     abbrev inside_target : Target → Result Target Value
     inside_target t = body_runs over_blocks globals (Some function) calls_below n vs t
@@ -276,7 +278,7 @@ module _ (p : TranslationUnit) (globals : List Value) (main index : ℕ) (f : Fu
       w = setting s.store (s.calls + 1)
 
       abbrev entered_source : State
-      entered_source = record s { calls = s.calls + 1; scope = global_scope 1 p.globals; marks = [] }
+      entered_source = record s { calls = s.calls + 1; scope = global_scope p; marks = [] }
 
       abbrev entered_target : Target
       entered_target = record t { mem = record t.mem { frames = t.mem.frames + 1 } }
@@ -302,7 +304,7 @@ module _ (p : TranslationUnit) (globals : List Value) (main index : ℕ) (f : Fu
         beside = record { store_is = even.store_is; frames = ap (λ k. k + 1) even.frames; steps = even.steps; input = even.input };
         inside = tt;
         outside = tt;
-        names = refl;
+        names = names_at_start p;
       }
 
       abbrev finish : Outcome (Unit {0}) → Outcome Value
@@ -342,7 +344,7 @@ module _ (p : TranslationUnit) (globals : List Value) (main index : ℕ) (f : Fu
       -- the frame is there on both sides, or on none
       abbrev source_with : Bool → Outcome Value
       source_with b =
-          answered s (on_outcome (on_outcome (on_outcome (on_outcome (framed_by b s) (λ _. alone (global_scope 1 p.globals))) (λ _. parameters T at f.params vs)) (λ _. mark None)) (λ _ s. returned_by f (body_with T f.body call (suc n) s)))
+          answered s (on_outcome (on_outcome (on_outcome (on_outcome (framed_by b s) (λ _. alone (global_scope p))) (λ _. parameters T at f.params vs)) (λ _. mark None)) (λ _ s. returned_by f (body_with T f.body call (suc n) s)))
 
       abbrev target_with : Bool → Result Target Value
       target_with b = then_do (replied over_blocks (if b then Gives (over_blocks.number (pos 0)) (record t.mem { frames = t.mem.frames + 1 }) else IsFull segment.Frames) t)
@@ -376,15 +378,15 @@ module _ (p : TranslationUnit) (globals : List Value) (main index : ℕ) (f : Fu
     given (Stop e s) = refl
 
     plain_call : f.contract ≡ None → (s : State)
-        → call_with T (global_scope 1 p.globals) (Some f) call (suc n) at vs s ≡ on_outcome (step_from s.steps s) (λ _. called inside_source)
+        → call_with T (global_scope p) (Some f) call (suc n) at vs s ≡ on_outcome (step_from s.steps s) (λ _. called inside_source)
     plain_call none s =
-        ap (λ c. on_outcome (step_from s.steps s) (λ _. called (frame >> alone (global_scope 1 p.globals) >> parameters T at f.params vs >> mark None
+        ap (λ c. on_outcome (step_from s.steps s) (λ _. called (frame >> alone (global_scope p) >> parameters T at f.params vs >> mark None
         >> (entry c >>= λ hs. (λ s. returned_by f (body_with T f.body call (suc n) s)) >>= λ v. ending c hs v >> give v)))) none
-        ∙ ap (λ g. on_outcome (step_from s.steps s) (λ _. called (frame >> alone (global_scope 1 p.globals) >> parameters T at f.params vs >> mark None >> g)))
+        ∙ ap (λ g. on_outcome (step_from s.steps s) (λ _. called (frame >> alone (global_scope p) >> parameters T at f.params vs >> mark None >> g)))
         (fun_ext (λ s. given (returned_by f (body_with T f.body call (suc n) s))))
 
     pub call_follows : f.contract ≡ None → (s : State) (t : Target) → Even s t → Bounded s.store → s.steps ≤ suc n
-        → Called s f.result (call_with T (global_scope 1 p.globals) (Some f) call (suc n) at vs s) (monitored.step_from t.steps (λ k. inside_target (record t { steps = k })))
+        → Called s f.result (call_with T (global_scope p) (Some f) call (suc n) at vs s) (monitored.step_from t.steps (λ k. inside_target (record t { steps = k })))
     call_follows none s t even bounded le =
         subst (λ r. Called s f.result r (monitored.step_from t.steps (λ k. inside_target (record t { steps = k })))) (sym (plain_call none s))
         (subst (λ m. Called s f.result (on_outcome (step_from s.steps s) (λ _. called inside_source)) (monitored.step_from m (λ k. inside_target (record t { steps = k })))) (sym even.steps) (by s.steps refl))

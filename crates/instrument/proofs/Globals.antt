@@ -1,8 +1,6 @@
 -- Globals are initialised at the beginning of a run.
-use Rattle.std.proofs.Common.{◌≡◌, ℕ, suc, ◌≤◌, List, [], ◌∷◌, ◌++◌, length, None, refl, sym, ap, ◌∙◌, subst, arith, append_assoc}
-use Rattle.std.proofs.lemmas.List.{length-append}
+use Rattle.std.proofs.Common.{◌≡◌, ℕ, ◌≤◌, List, [], ◌∷◌, ◌++◌, length, None, refl, ◌∙◌, arith, append_assoc}
 use Rattle.c_syntax.specs.Statements.{Declaration}
-use Rattle.c_model.specs.Formed.{number_of}
 use Rattle.c_model.specs.Memory.{Value}
 use Rattle.c_model.specs.State.{Input}
 use Rattle.c_model.specs.Meaning.{tables_of, initialise_all, start}
@@ -13,11 +11,10 @@ use Rattle.mon_syntax.specs.Meaning.{Next}
 use Rattle.c_model.specs.AcceptedPrograms.{AreConstant}
 use Rattle.instrument.proofs.Sights.{GlobalsInPlace}
 use Rattle.c_effects.specs.Letters.{InitialsHaveLetters}
-use Rattle.c_effects.specs.Expressions.{global_index}
 use Rattle.instrument.specs.Translation.{monitored_globals, all_global_temporaries, initialise_globals}
 use Rattle.instrument.proofs.Standing.{Setting, Target, runs, Here, Beside}
 use Rattle.instrument.proofs.Following.{Follows}
-use Rattle.instrument.proofs.Starts.{Ascending, index_of_global, anchored_at_start}
+use Rattle.instrument.proofs.Starts.{anchored_at_start}
 use Rattle.instrument.proofs.FileScope.{AreTexts, knows_at, bounded_at_start}
 use Rattle.instrument.proofs.InitialisedVariables.{AreGlobals, globals_follow}
 use Rattle.instrument.proofs.Own.{AreOwn}
@@ -32,31 +29,27 @@ pub record HasGlobals (w : Setting) : Type 0 where
   pub texts : AreTexts w.unit.texts
   pub room : room_fault w.unit ≡ None
   pub own : AreOwn w.unit.globals
-  pub least : ℕ
-  pub ascend : Ascending least w.unit.globals
   pub pointers : w.globals ≡ pointers_from 1 (monitored_globals w.unit)
 
 module _ (w : Setting) (has : HasGlobals w) where
-  all_known : (front ds : List Declaration) (g : ℕ) → length front ≡ g → front ++ ds ≡ w.unit.globals → AreConstant ds → InitialsHaveLetters ds → AreGlobals w g ds
-  all_known front [] g long is pure letters = tt
-  all_known front (d ∷ ds) g long is pure letters =
-      let t = has.places front ds d is in
-      let longer : length (front ++ d ∷ []) ≡ suc g = omega (arith, length-append front (d ∷ []), long) in (
+  all_known : (front ds : List Declaration) → front ++ ds ≡ w.unit.globals → AreConstant ds → InitialsHaveLetters ds → AreGlobals w ds
+  all_known front [] is pure letters = tt
+  all_known front (d ∷ ds) is pure letters =
+      let t = has.places front ds d is in (
         record {
-          index = sym (ap (global_index (number_of d)) is) ∙ index_of_global has.least front d ds (subst (Ascending has.least) (sym is) has.ascend) ∙ long;
           sight = t.sight;
           knows = knows_at w t.sight t.place.structs t.place.texts has.pointers has.texts;
           declared = t.declared;
           pure = pure.0;
           letters = letters.0;
         },
-        all_known (front ++ d ∷ []) ds (suc g) longer (append_assoc front (d ∷ []) ds ∙ is) pure.1 letters.1,
+        all_known (front ++ d ∷ []) ds (append_assoc front (d ∷ []) ds ∙ is) pure.1 letters.1,
       )
 
   -- the globals of a program take their initialisers, or keep the zeros in which they are born, before anything else is done
   pub globals_at_start : (n : ℕ) (h : Here) (rs : List MonType) (regs : List Value) (input : Input) (steps : ℕ) (t : Target) → length (rs ++ all_global_temporaries w.unit.globals) ≤ w.registers → length regs ≡ w.registers
       → Beside w (start w.unit input steps).store (start w.unit input steps) t
-      → Follows w h (length rs) regs Next (start w.unit input steps) (initialise_all (tables_of w.unit) w.unit.globals w.call (start w.unit input steps)) (runs w n t (initialise_globals w.unit rs 0 w.unit.globals) regs)
+      → Follows w h (length rs) regs Next (start w.unit input steps) (initialise_all (tables_of w.unit) w.unit.globals w.call (start w.unit input steps)) (runs w n t (initialise_globals w.unit rs w.unit.globals) regs)
   globals_at_start n h rs regs input steps t room long beside =
-      globals_follow w n h (length rs) w.unit.globals 0 (all_known [] w.unit.globals 0 refl refl has.constant has.letters) rs (omega arith) room regs (start w.unit input steps) t long
+      globals_follow w n h (length rs) w.unit.globals (all_known [] w.unit.globals refl has.constant has.letters) rs (omega arith) room regs (start w.unit input steps) t long
       (anchored_at_start w (length rs) regs has.pointers has.own) (bounded_at_start w.unit has.room has.texts) beside

@@ -17,7 +17,7 @@ use Rattle.mon_syntax.specs.Meaning.{Next}
 use Rattle.mon_syntax.specs.Trees.{MonStatements, Global}
 use Rattle.c_model.specs.Pure.{IsPureInitialiser, IsInitialiser}
 use Rattle.c_effects.specs.Letters.{InitialHasLetters, InitialsHaveLetters}
-use Rattle.c_effects.specs.Expressions.{global_index, set}
+use Rattle.c_effects.specs.Expressions.{set, object_of_global}
 use Rattle.c_effects.specs.Effects.{full_temporaries, block_of, initial_temporaries, declaration_temporaries}
 use Rattle.c_effects.specs.Effects as translation
 use Rattle.instrument.specs.Translation.{global_temporaries, all_global_temporaries, initialise_global, initialise_globals}
@@ -32,6 +32,7 @@ use Rattle.instrument.proofs.Initialisers.{initial_follows}
 use Rattle.instrument.proofs.Fillings.{Filling, object_text, object_parts, object_follows}
 use Rattle.instrument.proofs.Own.{IsLocal, AreLocal}
 use Rattle.c_model.specs.EffectPlaces.{ArePlaced}
+use Rattle.c_model.specs.StaticObjects.{static_objects}
 
 module _ (w : Setting) (n : ℕ) (h : Here) (sight : Sight) (scene : Scene w n sight) (low : ℕ) (bound : Bindings) (s : State) (t : Target) (le : s.steps ≤ n) (rs : List MonType) (behind : low ≤ length rs)
     (regs : List Value) (m : Standing w h low bound regs s) (b : Beside w s.store s t) where
@@ -103,18 +104,17 @@ module _ (w : Setting) (n : ℕ) (h : Here) (low : ℕ) (bound : Bindings) where
 
 -- ---- globals, in their order
 
--- a global with this index, and what is known of it where it stands in the file; its initialiser has no calls
-pub record IsGlobal (w : Setting) (g : ℕ) (d : Declaration) : Type 0 where
-  pub index : global_index (number_of d) w.unit.globals ≡ g
+-- what is known of a global where it stands in the file; its initialiser has no calls
+pub record IsGlobal (w : Setting) (d : Declaration) : Type 0 where
   pub sight : Sight
   pub knows : Knows w sight
   pub declared : IsDeclared sight d
   pub pure : WhereAny (λ (i : Place × Initialiser). IsPureInitialiser i.1) d.init
   pub letters : InitialHasLetters d.init
 
-abbrev pub AreGlobals : Setting → ℕ → List Declaration → Type 0
-AreGlobals w g [] = Unit {0}
-AreGlobals w g (d ∷ ds) = IsGlobal w g d × AreGlobals w (suc g) ds
+abbrev pub AreGlobals : Setting → List Declaration → Type 0
+AreGlobals w [] = Unit {0}
+AreGlobals w (d ∷ ds) = IsGlobal w d × AreGlobals w ds
 
 -- where no register is bound to a name, all names in sight are those of globals, whatever the registers hold
 pub anchored_anywhere : (w : Setting) (low high : ℕ) (regs after : List Value) (scope : Scope) → Anchored w low [] regs scope → Anchored w high [] after scope
@@ -124,10 +124,10 @@ anchored_anywhere w low high regs after scope m x number found = let a = m x num
     of_anchor (InRegister r is_bound below points) = absurd cc
     of_anchor (AtGlobal free is_global points) = AtGlobal free is_global points
 
-global_points : (w : Setting) (low : ℕ) (regs : List Value) (scope : Scope) (x number : ℕ) → Anchored w low [] regs scope → find x scope ≡ Some number → slice_get w.globals (global_index x w.unit.globals) ≡ Some (Points (Into number 0))
+global_points : (w : Setting) (low : ℕ) (regs : List Value) (scope : Scope) (x number : ℕ) → Anchored w low [] regs scope → find x scope ≡ Some number → slice_get w.globals (object_of_global x (static_objects w.unit)) ≡ Some (Points (Into number 0))
 global_points w low regs scope x number m found = of_anchor (m x number found).anchor
   where
-    of_anchor : IsAnchored w low [] regs x number → slice_get w.globals (global_index x w.unit.globals) ≡ Some (Points (Into number 0))
+    of_anchor : IsAnchored w low [] regs x number → slice_get w.globals (object_of_global x (static_objects w.unit)) ≡ Some (Points (Into number 0))
     of_anchor (InRegister r is_bound below points) = absurd cc
     of_anchor (AtGlobal free is_global points) = points
 
@@ -136,16 +136,19 @@ module _ (w : Setting) (n : ℕ) (h : Here) (low : ℕ) where
   tables = tables_of w.unit
 
   -- one that has no initialiser keeps the zeros in which it is born
-  global_follows : (d : Declaration) (o : Option (Place × Initialiser)) (g : ℕ) (sight : Sight) → Knows w sight → global_index (number_of d) w.unit.globals ≡ g
+  global_follows : (d : Declaration) (o : Option (Place × Initialiser)) (sight : Sight) → Knows w sight
       → WhereAny (λ (i : Place × Initialiser). IsPureInitialiser i.1) o → WhereAny (λ (i : Place × Initialiser). Initialises sight d.ctype i.1) o → InitialHasLetters o → (rs : List MonType) → low ≤ length rs
       → length (rs ++ global_temporaries o) ≤ w.registers
       → (regs : List Value) (s : State) (t : Target) → length regs ≡ w.registers → Anchored w low [] regs s.scope → Bounded s.store → Beside w s.store s t
-      → Follows w h low regs Next s (initialise tables d o w.call s) (runs w n t (initialise_global w.unit rs g d.ctype o) regs)
-  global_follows d None g sight knows index pure q l rs behind room regs s t long anchored bounded b = stays w h low regs s t bounded b
-  global_follows d (Some (at, i)) g sight knows index pure q l rs behind room regs s t long anchored bounded b = by (find (number_of d) s.scope) refl
+      → Follows w h low regs Next s (initialise tables d o w.call s) (runs w n t (initialise_global w.unit rs (object_of_global (number_of d) (static_objects w.unit)) d.ctype o) regs)
+  global_follows d None sight knows pure q l rs behind room regs s t long anchored bounded b = stays w h low regs s t bounded b
+  global_follows d (Some (at, i)) sight knows pure q l rs behind room regs s t long anchored bounded b = by (find (number_of d) s.scope) refl
     where
       j : ℕ
       j = length rs
+
+      g : ℕ
+      g = object_of_global (number_of d) (static_objects w.unit)
 
       code : MonStatements
       code = translation.initialise w.unit [] (rs ++ kind.Ptr ∷ []) j d.ctype (Some (at, i))
@@ -161,7 +164,7 @@ module _ (w : Setting) (n : ℕ) (h : Here) (low : ℕ) where
           let v = Points (Into number 0) in
           let after = slice_set regs j v in
           let same = same_set low j regs v behind in
-          let points : slice_get w.globals g ≡ Some v = subst (λ g. slice_get w.globals g ≡ Some v) index (global_points w low regs s.scope (number_of d) number anchored found) in
+          let points : slice_get w.globals g ≡ Some v = global_points w low regs s.scope (number_of d) number anchored found in
           let one_more : length (rs ++ kind.Ptr ∷ []) ≡ suc j = omega (arith, length-append rs (kind.Ptr ∷ [])) in
           let more : length (rs ++ kind.Ptr ∷ [] ++ initial_temporaries (Some (at, i))) ≡ length (rs ++ global_temporaries (Some (at, i))) =
           omega (arith, length-append (rs ++ kind.Ptr ∷ []) (initial_temporaries (Some (at, i))), one_more, length-append rs (global_temporaries (Some (at, i)))) in
@@ -180,20 +183,20 @@ module _ (w : Setting) (n : ℕ) (h : Here) (low : ℕ) where
           (follows_lower w h low (suc j) after Next s (fill tables at d.ctype (Into number 0) i w.call s) (runs w n t code after) (omega (arith, behind))
           (object_follows w n h sight knows [] (suc j) i at d.ctype number j (rs ++ kind.Ptr ∷ []) after s t (omega (arith, one_more)) pure q l (omega (arith, more, room)) filling))))
 
-  -- globals from the one with this index on, with nothing else in sight
-  pub globals_follow : (ds : List Declaration) (g : ℕ) → AreGlobals w g ds → (rs : List MonType) → low ≤ length rs → length (rs ++ all_global_temporaries ds) ≤ w.registers → (regs : List Value) (s : State) (t : Target) → length regs ≡ w.registers
-      → Anchored w low [] regs s.scope → Bounded s.store → Beside w s.store s t → Follows w h low regs Next s (initialise_all tables ds w.call s) (runs w n t (initialise_globals w.unit rs g ds) regs)
-  globals_follow [] g q rs behind room regs s t long anchored bounded b = stays w h low regs s t bounded b
-  globals_follow (d ∷ ds) g q rs behind room regs s t long anchored bounded b =
+  -- globals, with nothing else in sight
+  pub globals_follow : (ds : List Declaration) → AreGlobals w ds → (rs : List MonType) → low ≤ length rs → length (rs ++ all_global_temporaries ds) ≤ w.registers → (regs : List Value) (s : State) (t : Target) → length regs ≡ w.registers
+      → Anchored w low [] regs s.scope → Bounded s.store → Beside w s.store s t → Follows w h low regs Next s (initialise_all tables ds w.call s) (runs w n t (initialise_globals w.unit rs ds) regs)
+  globals_follow [] q rs behind room regs s t long anchored bounded b = stays w h low regs s t bounded b
+  globals_follow (d ∷ ds) q rs behind room regs s t long anchored bounded b =
       let here = global_temporaries d.init in
       let rest = all_global_temporaries ds in
       let more : length (rs ++ (here ++ rest)) ≡ length (rs ++ here ++ rest) = omega (arith, length-append (rs ++ here) rest, length-append rs here, length-append rs (here ++ rest), length-append here rest) in
-      let first = initialise_global w.unit rs g d.ctype d.init in
-      let others = initialise_globals w.unit (rs ++ here) (suc g) ds in
+      let first = initialise_global w.unit rs (object_of_global (number_of d) (static_objects w.unit)) d.ctype d.init in
+      let others = initialise_globals w.unit (rs ++ here) ds in
       subst (λ q. Follows w h low regs Next s (initialise_all tables (d ∷ ds) w.call s) q) (sym (before_is w.globals first others w.calls n regs t))
       (follows_then w h low regs Next s (initialise tables d d.init w.call s) (runs w n t first regs) (initialise_all tables ds w.call) (λ r u. runs w n u others r)
-      (global_follows d d.init g (with_object q.0.sight d) (knows_with w q.0.sight d q.0.knows) q.0.index q.0.pure q.0.declared.init q.0.letters rs behind (omega (arith, more, room, longer (rs ++ here) rest)) regs s t long
+      (global_follows d d.init (with_object q.0.sight d) (knows_with w q.0.sight d q.0.knows) q.0.pure q.0.declared.init q.0.letters rs behind (omega (arith, more, room, longer (rs ++ here) rest)) regs s t long
       anchored bounded b)
       (λ to after u o same la be.
-      globals_follow ds (suc g) q.1 (rs ++ here) (omega (arith, behind, longer rs here)) (omega (arith, more, room)) after to u (same.long ∙ long)
+      globals_follow ds q.1 (rs ++ here) (omega (arith, behind, longer rs here)) (omega (arith, more, room)) after to u (same.long ∙ long)
       (anchored_anywhere w low low regs after to.scope (subst (Anchored w low [] regs) (sym la.scope) anchored)) la.bounded be))

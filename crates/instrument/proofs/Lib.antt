@@ -49,6 +49,7 @@ pub mod Library
 pub mod Sights
 pub mod FileNumbers
 pub mod Resolved
+pub mod Objects
 pub mod Starts
 pub mod FileScope
 pub mod Globals

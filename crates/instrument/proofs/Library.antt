@@ -138,7 +138,7 @@ module _ (w : Setting) (n depth : ℕ) (calls : w.call ≡ call_of w.unit depth)
     where
       by : (k : ℕ) → call_of w.unit k at f vs s ≡ library_call at (slice_get names f.name) vs s
       by zero = ap (λ b. (if b then library_call at (slice_get names f.name) vs else stop (Over Spent)) s) library
-      by (suc k) = ap (λ b. (if b then library_call at (slice_get names f.name) vs else call_with (tables_of w.unit) (global_scope 1 w.unit.globals) (definition_at f.decl w.unit.funcs) (call_of w.unit k) k at vs) s) library
+      by (suc k) = ap (λ b. (if b then library_call at (slice_get names f.name) vs else call_with (tables_of w.unit) (global_scope w.unit) (definition_at f.decl w.unit.funcs) (call_of w.unit k) k at vs) s) library
 
   code_is : (into : Option ℕ) (args : List MonExpression) → call w.unit into f args ≡ effects.library_call into name args
   code_is into args = ap (λ b. if b then effects.library_call into name args else one (Call into (index_of f.decl w.unit.funcs) args)) library

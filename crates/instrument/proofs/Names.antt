@@ -331,6 +331,9 @@ texts_differ j k lj lk differ = unequal (text_name j) (text_name k) (λ e. diffe
 pub text_no_global : (j k : ℕ) (name : List ℕ) → bytes_eq (text_name j) (global_name k name) ≡ false
 text_no_global j k name = refl
 
+pub global_no_text : (j k : ℕ) (name : List ℕ) → bytes_eq (global_name j name) (text_name k) ≡ false
+global_no_text j k name = refl
+
 -- registers have letters that these haven't
 pub register_no_global : (j k : ℕ) (a b : List ℕ) → bytes_eq (register_name j a) (global_name k b) ≡ false
 register_no_global j k a b = refl

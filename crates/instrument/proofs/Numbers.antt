@@ -7,14 +7,14 @@ use Rattle.c_syntax.specs.Ctypes.{PlainType}
 use Rattle.c_syntax.specs.Programs.{StructType, TranslationUnit}
 use Rattle.c_syntax.specs.Statements.{Declaration, Statement, Empty, Eval, Block, If, While, Do, For, Break, Continue, Return, ElsePart, NoElse, Else, ForFirst, NoFirst, First, Declare, Specify, Run, Asserts, BlockItems, NoItem, Then}
 use Rattle.c_syntax.specs.Layouts.{size_of}
-use Rattle.c_model.specs.Meaning.{global_scope, declared_in, declared_first}
+use Rattle.c_model.specs.Meaning.{declared_in, declared_first}
 use Rattle.c_model.specs.Formed.{number_of, declared_within, declared_in_else, declared_in_first, declared_in_items}
 use Rattle.c_model.specs.ExpressionTyping.{Sight, inner, with_object, with_objects}
 use Rattle.c_model.specs.StatementTyping.{Around, in_loop, behind_first}
 use Rattle.c_model.specs.TypedTrees.{HasKnownSize, AreDeclared, StatementTyped, ElseTyped, ItemsTyped, FirstTyped}
 use Rattle.track_scopes.specs.Blocks.{AreSmall}
 use Rattle.c_effects.specs.Expressions.{global_index}
-use Rattle.instrument.proofs.Births.{names_of, with_numbers}
+use Rattle.instrument.proofs.Births.{with_numbers}
 use Rattle.instrument.proofs.Declared.{Absent, AreAbsent, AreBorn, CanDeclare, ElseCanDeclare, ItemsCanDeclare}
 use Rattle.instrument.proofs.Own.{AreOwn, AreLocal}
 use Rattle.c_model.specs.TextOrder.{Between}
@@ -135,13 +135,13 @@ pub are_born : (p : TranslationUnit) (ds : List Declaration) (low high : ℕ) �
 are_born p ds low high small b free = let h = are_free p ds low high b free in record { small = small; own = h.0; local = h.1 }
 
 -- numbers of a part of the text in which no global is declared
-pub all_free : (p : TranslationUnit) (low high : ℕ) → high ≤ 4294967295 → AllOutside low high (names_of (global_scope 1 p.globals)) → AllFree p low high
-all_free p low high le apart x from to = record { own = grind (arith, nat_tests); local = no_index 1 p.globals apart }
+pub all_free : (p : TranslationUnit) (low high : ℕ) → high ≤ 4294967295 → AllOutside low high (numbers_in p.globals) → AllFree p low high
+all_free p low high le apart x from to = record { own = grind (arith, nat_tests); local = no_index p.globals apart }
   where
-    no_index : (k : ℕ) (ds : List Declaration) → AllOutside low high (names_of (global_scope k ds)) → length ds ≤ global_index x ds
-    no_index k [] h = omega arith
-    no_index k (d ∷ ds) h =
-        let rest = no_index (suc k) ds h.1 in
+    no_index : (ds : List Declaration) → AllOutside low high (numbers_in ds) → length ds ≤ global_index x ds
+    no_index [] h = omega arith
+    no_index (d ∷ ds) h =
+        let rest = no_index ds h.1 in
         let other : nat_eq (number_of d) x ≡ false = outside_differs low high x (number_of d) from to h.0 in
         let there : global_index x (d ∷ ds) ≡ suc (global_index x ds) = ap (λ t. if t then 0 else suc (global_index x ds)) other in
         omega (arith, there, rest)

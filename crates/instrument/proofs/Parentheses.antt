@@ -24,7 +24,8 @@ use Rattle.mon_syntax.specs.Checking.{same_type}
 use Rattle.mon_syntax.specs.Valid.{result_type, open_parens}
 use Rattle.c_model.specs.Sizes.{weight_of}
 use Rattle.c_effects.specs.Expressions.{register_type, value_type, operand_type, operator_of, in_type, compared, condition, truth, unary, binary, compound_in, temporaries, scaled, farther, element, element_back, pointer_and_integer}
-use Rattle.c_effects.specs.Expressions.{two_pointers, operated, indexed, converted, compound, global_index, pointer_of, pointer_to, loaded, value, place}
+use Rattle.c_effects.specs.Expressions.{two_pointers, operated, indexed, converted, compound, object_of_global, pointer_of, pointer_to, loaded, value, place}
+use Rattle.c_model.specs.StaticObjects.{static_objects}
 
 -- ---- conversions and operators
 
@@ -172,7 +173,7 @@ parens_compound_of structs op t u a b n la lb one = omega (arith, one)
 pub few_parens_of_pointer : (p : TranslationUnit) (bound : Bindings) (x : ℕ) → open_parens (pointer_to p bound x) ≤ 0
 few_parens_of_pointer p bound x = by (register_of bound x)
   where
-    by : (o : Option ℕ) → open_parens (pointer_of o (global_index x p.globals)) ≤ 0
+    by : (o : Option ℕ) → open_parens (pointer_of o (object_of_global x (static_objects p))) ≤ 0
     by None = omega arith
     by (Some r) = omega arith
 

@@ -18,7 +18,7 @@ use Rattle.instrument.proofs.FileScope.{AreTexts}
 use Rattle.instrument.proofs.Resolved.{resolved}
 use Rattle.instrument.proofs.Programs.{Part, Parts}
 use Rattle.instrument.proofs.Sights.{FunctionInPlace, function_in_place, globals_in_place}
-use Rattle.instrument.proofs.FileNumbers.{IsNumbered, function_is_numbered, globals_apart, globals_own, ascending}
+use Rattle.instrument.proofs.FileNumbers.{IsNumbered, function_is_numbered, globals_apart, globals_own}
 use Rattle.instrument.proofs.Correct.{GlobalsKnown, main_below, translated_agrees}
 
 octets : (bytes : List ℕ) → AreBytes bytes → AreOctets bytes
@@ -44,7 +44,7 @@ module _ (p : TranslationUnit) (q : IsProgram p) where
     high = n.high;
     between = n.between;
     below = n.below;
-    apart = globals_apart p q.numbered f n 1 [] p.globals refl;
+    apart = globals_apart p q.numbered f n [] p.globals refl;
     resolves = λ s names functions u t es c. resolved p s (names ∙ here.place.names) (subst (AreDefined p) (sym functions) here.defined) u t es c;
   }
 
@@ -63,8 +63,6 @@ module _ (p : TranslationUnit) (q : IsProgram p) where
     texts = texts_are p.texts q.texts;
     room = q.room;
     own = globals_own p q.numbered [] p.globals refl;
-    least = 0;
-    ascend = ascending 0 p.globals q.globals_ascend;
   }
 
 -- what the code says of letters in initialisers of globals, where it translates `main`

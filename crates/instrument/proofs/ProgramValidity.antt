@@ -5,7 +5,7 @@ use Rattle.c_syntax.specs.declared.place.Place.{Place}
 use Rattle.c_syntax.specs.Statements.{Initialiser, One, Many, Declaration, Statement, Empty, Eval, Block, If, While, Do, For, Break, Continue, Return, BlockItems}
 use Rattle.c_syntax.specs.Programs.{Function, TranslationUnit}
 use Rattle.c_model.specs.State.{find}
-use Rattle.c_model.specs.Meaning.{is_definition, global_scope}
+use Rattle.c_model.specs.Meaning.{is_definition}
 use Rattle.c_model.specs.Formed.{number_of, FunctionNamed, FunctionsNamed, declared_in_body, declared_in_items}
 use Rattle.c_model.specs.ExpressionTyping.{Sight, AnObject, inner, with_object}
 use Rattle.c_model.specs.UnitTyping.{items_of_file, with_parameters}
@@ -24,7 +24,6 @@ use Rattle.c_effects.specs.Letters.{InitialHasLetters, InitialsHaveLetters}
 use Rattle.instrument.specs.Limits.{BodyHasNumbers, FunctionHasNumbers, FunctionsHaveNumbers}
 use Rattle.c_effects.specs.Expressions.{global_index}
 use Rattle.instrument.specs.Translation.{index_of_main, front_temporaries, translated}
-use Rattle.instrument.proofs.Births.{names_of}
 use Rattle.instrument.proofs.Sight.{scope_for}
 use Rattle.instrument.proofs.Scenes.{IsFound, found_named, found_with}
 use Rattle.instrument.proofs.Own.{AreOwn, between_own, own_parts, items_own}
@@ -38,16 +37,17 @@ use Rattle.instrument.proofs.Correct.{main_below}
 use Rattle.instrument.proofs.ProgramRuns.{GlobalsHaveLetters}
 use Rattle.instrument.proofs.FullForms.{pure_full}
 use Rattle.instrument.proofs.ValidInitialisers.{initial_letters}
+use Rattle.instrument.proofs.Numbers.{numbers_in}
 
 -- ---- what is in sight at file scope
 
 -- a number that is found among those of globals
-found_global : (x k : ℕ) (ds : List Declaration) → AreOwn ds → IsFound (scope_for (names_of (global_scope k ds))) x → (nat_eq x 4294967295 ≡ false) × (global_index x ds < length ds)
-found_global x k [] own (n, e) = absurd cc
-found_global x k (d ∷ ds) own h = by (λ f. found_global x (suc k) ds own.1 f) (nat_eq (number_of d) x) refl h
+found_global : (x : ℕ) (ds : List Declaration) → AreOwn ds → IsFound (scope_for (numbers_in ds)) x → (nat_eq x 4294967295 ≡ false) × (global_index x ds < length ds)
+found_global x [] own (n, e) = absurd cc
+found_global x (d ∷ ds) own h = by (λ f. found_global x ds own.1 f) (nat_eq (number_of d) x) refl h
   where
-    by : (IsFound (scope_for (names_of (global_scope (suc k) ds))) x → (nat_eq x 4294967295 ≡ false) × (global_index x ds < length ds)) → (t : Bool) → nat_eq (number_of d) x ≡ t
-        → ((number : ℕ) × (cond t (Some 0) (find x (scope_for (names_of (global_scope (suc k) ds)))) ≡ Some number)) → (nat_eq x 4294967295 ≡ false) × (global_index x (d ∷ ds) < suc (length ds))
+    by : (IsFound (scope_for (numbers_in ds)) x → (nat_eq x 4294967295 ≡ false) × (global_index x ds < length ds)) → (t : Bool) → nat_eq (number_of d) x ≡ t
+        → ((number : ℕ) × (cond t (Some 0) (find x (scope_for (numbers_in ds))) ≡ Some number)) → (nat_eq x 4294967295 ≡ false) × (global_index x (d ∷ ds) < suc (length ds))
     by rest true same f =
         let here : global_index x (d ∷ ds) ≡ 0 = ap (λ t. if t then 0 else suc (global_index x ds)) same in
         (subst (λ y. nat_eq y 4294967295 ≡ false) (eqb-true (number_of d) x same) own.0, omega (arith, here))
@@ -60,7 +60,7 @@ found_global x k (d ∷ ds) own h = by (λ f. found_global x (suc k) ds own.1 f)
 file_sight : (p : TranslationUnit) (s : Sight) → AreOwn p.globals → IsPlace p (own_scope p) s → AreDefined p s.functions → IsFileSight p s
 file_sight p s own at defined = record {
   objects = λ x b e.
-      let g = found_global b.decl 1 p.globals own (found_named x s.entities (AnObject b) (own_scope p) at.found e) in
+      let g = found_global b.decl p.globals own (found_named x s.entities (AnObject b) (own_scope p) at.found e) in
       (g.0, lt-ltb (global_index b.decl p.globals) (length p.globals) g.1);
   structs_are = at.structs;
   texts_are = at.texts;

@@ -5,7 +5,7 @@ use Rattle.c_syntax.specs.declared.expression.Use.{Use}
 use Rattle.c_syntax.specs.Ctypes.{PlainType}
 use Rattle.c_syntax.specs.Expressions.{Expressions}
 use Rattle.c_syntax.specs.Programs.{Function, TranslationUnit}
-use Rattle.c_model.specs.Meaning.{is_definition, definition_at, global_scope}
+use Rattle.c_model.specs.Meaning.{is_definition, definition_at}
 use Rattle.c_model.specs.ExpressionTyping.{Sight, name_at, inner}
 use Rattle.c_model.specs.UnitTyping.{with_parameters, has_no_parameters}
 use Rattle.c_model.specs.TypedTrees.{FunctionTyped, Calls}
@@ -16,7 +16,6 @@ use Rattle.instrument.proofs.RangedTrees.{AreRangedAsserts}
 use Rattle.instrument.specs.Limits.{BodyHasNumbers}
 use Rattle.instrument.specs.Translation.{function_of, functions_from, index_of_main}
 use Rattle.c_effects.specs.Effects.{index_of}
-use Rattle.instrument.proofs.Births.{names_of}
 use Rattle.instrument.proofs.Scenes.{AreFound}
 use Rattle.instrument.proofs.Sight.{scope_for}
 use Rattle.c_model.specs.TypedAnnotations.{BodyNoted}
@@ -34,7 +33,7 @@ pub record Part (p : TranslationUnit) (f : Function) : Type 0 where
   pub texts : sight.texts ≡ p.texts
   pub structs : sight.structs ≡ p.structs
   -- the objects in sight are globals
-  pub found : AreFound sight.entities (scope_for (names_of (global_scope 1 p.globals)))
+  pub found : AreFound sight.entities (scope_for (numbers_in p.globals))
   pub typed : FunctionTyped sight f
   pub noted : BodyNoted (with_parameters (inner sight) f.params) f.body
   pub read : FunctionRead AreRangedAsserts f
@@ -43,7 +42,7 @@ pub record Part (p : TranslationUnit) (f : Function) : Type 0 where
   pub high : ℕ
   pub between : Between (suc f.place.offset) (numbers_in (f.params ++ declared_in_body f.body)) high
   pub below : high ≤ 4294967295
-  pub apart : AllOutside (suc f.place.offset) high (names_of (global_scope 1 p.globals))
+  pub apart : AllOutside (suc f.place.offset) high (numbers_in p.globals)
   -- what is called in it
   pub resolves : (s : Sight) → s.names ≡ sight.names → s.functions ≡ sight.functions → (u : Use) (t : PlainType) (es : Expressions) (c : Calls s u t es) → IsResolved p u t c.callee
 

@@ -4,7 +4,6 @@ use Rattle.std.proofs.lemmas.Bool.{eq-eqb}
 use Rattle.c_syntax.specs.Statements.{Declaration}
 use Rattle.c_syntax.specs.Programs.{StructMember, StructType, EnumConstant, EnumType, Function, TranslationUnit}
 use Rattle.c_model.specs.State.{Scope, find}
-use Rattle.c_model.specs.Meaning.{global_scope}
 use Rattle.c_model.specs.Formed.{number_of}
 use Rattle.c_model.specs.ExpressionTyping.{Sight, AnEnumerator}
 use Rattle.c_model.specs.DeclarationTyping.{with_enumerator}
@@ -14,10 +13,10 @@ use Rattle.c_model.specs.TypedTrees.{IsDeclared, FunctionTyped}
 use Rattle.c_model.specs.TypedAnnotations.{FunctionNoted}
 use Rattle.c_model.specs.TypedPrograms.{ItemTyped, ItemsTyped}
 use Rattle.c_model.specs.AcceptedPrograms.{ItemNoted, FileNoted, AreDefined, ItemResolved, FileResolved, IsProgram}
-use Rattle.instrument.proofs.Births.{names_of}
 use Rattle.instrument.proofs.Scenes.{IsFound, AreFound, DeclarationsFound, found_end, found_more, found_with}
 use Rattle.instrument.proofs.Sight.{scope_for}
 use Rattle.c_model.proofs.NeverStuckItems.{IsAmong, global_in_file, function_in_file}
+use Rattle.instrument.proofs.Numbers.{numbers_in}
 
 -- ---- items that declare no object but those of a scope
 
@@ -75,11 +74,11 @@ found_behind : (x : ℕ) (ds : List Declaration) (scope : Scope) → Declaration
 found_behind x [] scope h = tt
 found_behind x (d ∷ ds) scope h = (found_more x (number_of d) 0 scope h.0, found_behind x ds scope h.1)
 
-globals_found : (k : ℕ) (ds : List Declaration) → DeclarationsFound ds (scope_for (names_of (global_scope k ds)))
-globals_found k [] = tt
-globals_found k (d ∷ ds) = (
-  (0, ap (λ t. cond t (Some 0) (find (number_of d) (scope_for (names_of (global_scope (suc k) ds))))) (eq-eqb (number_of d) (number_of d) refl)),
-  found_behind (number_of d) ds (scope_for (names_of (global_scope (suc k) ds))) (globals_found (suc k) ds),
+globals_found : (ds : List Declaration) → DeclarationsFound ds (scope_for (numbers_in ds))
+globals_found [] = tt
+globals_found (d ∷ ds) = (
+  (0, ap (λ t. cond t (Some 0) (find (number_of d) (scope_for (numbers_in ds)))) (eq-eqb (number_of d) (number_of d) refl)),
+  found_behind (number_of d) ds (scope_for (numbers_in ds)) (globals_found ds),
 )
 
 -- ---- places of the file
@@ -106,7 +105,7 @@ place_behind p scope (AFunction g) s f h = record { names = h.names; texts = h.t
 
 -- the scope of all globals
 abbrev pub own_scope : TranslationUnit → Scope
-own_scope p = scope_for (names_of (global_scope 1 p.globals))
+own_scope p = scope_for (numbers_in p.globals)
 
 -- a function, and what is in sight where it stands, itself included
 pub record FunctionInPlace (p : TranslationUnit) (f : Function) : Type 0 where
@@ -137,7 +136,7 @@ module _ (p : TranslationUnit) where
       (fine_append scope structs (enums ++ (typedefs ++ (globals ++ functions))) (fine_structs scope 0 p.structs)
       (fine_append scope enums (typedefs ++ (globals ++ functions)) (fine_enums scope p.enums)
       (fine_append scope typedefs (globals ++ functions) (fine_typedefs scope p.typedefs)
-      (fine_append scope globals functions (fine_globals scope p.globals (globals_found 1 p.globals)) (fine_functions scope p.funcs)))))
+      (fine_append scope globals functions (fine_globals scope p.globals (globals_found p.globals)) (fine_functions scope p.funcs)))))
 
   function_among : (is : List FileItem) (s : Sight) (f : Function) → IsPlace p (own_scope p) s → AreFine (own_scope p) is → ItemsTyped p s is → FileNoted p s is → FileResolved p s is → IsAmong (AFunction f) is → FunctionInPlace p f
   function_among [] s f at fine q n r h = absurd h

@@ -1,5 +1,5 @@
 -- How a call in monitored C stands beside one of the source: it has the source's blocks, and registers point to those of the names in sight.
-use Rattle.std.proofs.Common.{◌≡◌, ℕ, ◌+◌, ◌^◌, ◌<◌, ◌≤◌, ℤ, pos, Bool, true, false, nat_eq, List, [], ◌∷◌, ◌++◌, length, Some, None, slice_get}
+use Rattle.std.proofs.Common.{◌≡◌, ℕ, ◌^◌, ◌<◌, ◌≤◌, ℤ, pos, Bool, true, false, nat_eq, List, [], ◌∷◌, ◌++◌, length, Option, Some, None, slice_get, arith}
 use Rattle.c_syntax.specs.Ctypes.{PlainType}
 use Rattle.c_syntax.specs.Programs.{StringLiteral, TranslationUnit}
 use Rattle.c_syntax.specs.declared.types.CInt.TheVariants.{U64}
@@ -7,7 +7,7 @@ use Rattle.c_syntax.specs.Layouts.{Scalar, IntegerType, PointerType, size_of}
 use Rattle.c_model.specs.Integers.{fits}
 use Rattle.c_model.specs.Memory.{Pointer, Null, Into, Value, Integer, Points, Byte, Unwritten, Number, Piece, LoosePiece, Store}
 use Rattle.c_model.specs.State.{State, Scope, find}
-use Rattle.c_model.specs.Meaning.{Callee, tables_of, text_at}
+use Rattle.c_model.specs.Meaning.{Callee, tables_of, text_at, literal}
 use Rattle.mon_syntax.specs.Registers.{Bindings, register_of}
 use Rattle.mon_syntax.specs.Meaning.{Result, Flow, exec_all, eval}
 use Rattle.mon_syntax.specs.Meaning as monitored
@@ -16,8 +16,9 @@ use Rattle.mon_syntax.specs.LiveBlocks.{LiveBlock, live_in}
 use Rattle.mon_syntax.specs.Trees.{MonExpression, MonStatements}
 use Rattle.c_model.specs.ExpressionTyping.{Sight}
 use Rattle.c_model.specs.TypedTrees.{HasKnownSize}
-use Rattle.c_effects.specs.Expressions.{global_index}
+use Rattle.c_effects.specs.Expressions.{global_index, object_of_global, object_of_literal}
 use Rattle.track_scopes.specs.Lives.{AreFrom, AreBefore}
+use Rattle.c_model.specs.StaticObjects.{static_objects}
 
 -- a state of the target, and what statements of it did
 abbrev pub Target : Type 0
@@ -55,7 +56,8 @@ Has w e regs mem v = eval over_blocks w.globals e regs mem ≡ Some v
 -- start of the block, or else it is a global's
 pub data IsAnchored (w : Setting) (low : ℕ) (bound : Bindings) (regs : List Value) (x number : ℕ) : Type 0 where
   InRegister : (r : ℕ) → register_of bound x ≡ Some r → r < low → slice_get regs r ≡ Some (Points (Into number 0)) → IsAnchored w low bound regs x number
-  AtGlobal : register_of bound x ≡ None → global_index x w.unit.globals < length w.unit.globals → slice_get w.globals (global_index x w.unit.globals) ≡ Some (Points (Into number 0))
+  AtGlobal : register_of bound x ≡ None → global_index x w.unit.globals < length w.unit.globals
+      → slice_get w.globals (object_of_global x (static_objects w.unit)) ≡ Some (Points (Into number 0))
       → IsAnchored w low bound regs x number
 
 -- a name in sight is none of the library's, and is anchored
@@ -71,10 +73,10 @@ abbrev pub AreOctets : List ℕ → Type 0
 AreOctets [] = Unit {0}
 AreOctets (b ∷ bs) = (b < 256) × AreOctets bs
 
--- what typing knows of the program at a place of its text: its literals have their blocks after the globals, and are bytes, the sizes that are asked
+-- what typing knows of the program at a place of its text: the pointers to its literals, that these are bytes, the sizes that are asked
 -- for are values, and its structs are those of the whole program
 pub record Knows (w : Setting) (s : Sight) : Type 0 where
-  pub literals : (n : ℕ) (x : StringLiteral) → slice_get s.texts n ≡ Some x → slice_get w.globals (length w.unit.globals + n) ≡ Some (Points (Into (length w.unit.globals + n + 1) 0))
+  pub literals : (n : ℕ) (x : StringLiteral) → slice_get s.texts n ≡ Some x → slice_get w.globals (object_of_literal n (static_objects w.unit)) ≡ Some (Points (literal (tables_of w.unit) n))
   pub octets : (n : ℕ) → AreOctets (text_at (tables_of w.unit).texts n)
   pub sizes : (t : PlainType) → HasKnownSize s t → fits U64 (pos (size_of w.unit.structs t)) ≡ true
   pub structs : s.structs ≡ w.unit.structs
@@ -85,6 +87,11 @@ pub record Knows (w : Setting) (s : Sight) : Type 0 where
 abbrev pub IsSmall : Pointer → Type 0
 IsSmall Null = Unit {0}
 IsSmall (Into n i) = i ≤ 2 ^ 62
+
+-- that of a literal, which is its block's first byte
+pub small_literal : (o : Option ℕ) → IsSmall (elim o [ None ↦ Null | Some k ↦ Into k 0 ])
+small_literal None = tt
+small_literal (Some k) = omega arith
 
 -- a value of the scalar type
 abbrev pub IsOf : Scalar → Value → Type 0

@@ -1,50 +1,36 @@
 -- How a run begins: both sides have the blocks of globals and literals, to which the target has pointers.
-use Rattle.std.proofs.Common.{◌≡◌, ℕ, zero, suc, ◌+◌, ◌-◌, ◌<◌, ◌≤◌, Bool, true, false, cond, if◌then◌else◌, nat_eq, List, [], ◌∷◌, ◌++◌, length, map, replicate, Some, slice_get, refl, sym, ap, ◌∙◌, subst, arith}
-use Rattle.std.proofs.lemmas.Bool.{eqb-true, eq-eqb}
-use Rattle.std.proofs.lemmas.List.{length-append}
+use Rattle.std.proofs.Common.{◌≡◌, ℕ, zero, suc, ◌+◌, ◌-◌, ◌<◌, List, [], ◌∷◌, ◌++◌, length, map, replicate, Option, Some, None, slice_get, refl, sym, ap, ◌∙◌, arith}
 use Rattle.c_syntax.specs.declared.types.BlockKind.TheVariants as block
-use Rattle.c_syntax.specs.Statements.{Declaration}
 use Rattle.c_syntax.specs.Programs.{StringLiteral, TranslationUnit}
 use Rattle.c_syntax.specs.Layouts.{size_of}
-use Rattle.c_model.specs.Formed.{number_of}
-use Rattle.c_model.specs.Memory.{Into, Value, Points, block_of}
+use Rattle.c_model.specs.Memory.{Null, Into, Value, Points, block_of}
 use Rattle.c_model.specs.Memory.{Number as NumberByte}
-use Rattle.c_model.specs.State.{find}
-use Rattle.c_model.specs.Meaning.{global_blocks, global_scope, literal_block}
+use Rattle.c_model.specs.StaticObjects.{StaticObject, OfGlobal, OfLiteral, static_objects}
+use Rattle.c_model.specs.Meaning.{block_of_object, global_scope, literal, tables_of}
 use Rattle.mon_syntax.specs.BlockMemory.{block_of_global, pointers_from}
 use Rattle.mon_syntax.specs.Trees.{MonitoredGlobal}
-use Rattle.c_effects.specs.Expressions.{global_index}
-use Rattle.instrument.specs.Translation.{monitored_globals, globals_from, texts_from}
+use Rattle.c_effects.specs.Expressions.{object_of_global, object_of_literal}
+use Rattle.instrument.specs.Translation.{monitored_global, globals_with, literals_with, monitored_from, monitored_globals}
 use Rattle.instrument.proofs.Standing.{Setting, AtGlobal, Anchored}
 use Rattle.instrument.proofs.Own.{AreOwn}
+use Rattle.instrument.proofs.Objects.{global_found, global_inside, literal_is}
 use Rattle.instrument.proofs.Registers.{get-below}
 
 -- ---- blocks
 
 module _ (p : TranslationUnit) where
-  global_blocks_are : (k : ℕ) (ds : List Declaration) → map block_of_global (globals_from p k ds) ≡ global_blocks p.structs ds
-  global_blocks_are k [] = refl
-  global_blocks_are k (d ∷ ds) =
-      let size = size_of p.structs d.ctype in
-      let same : size - 0 ≡ size = omega arith in
-      ap (λ n. block_of block.Global (replicate n (NumberByte 0)) ∷ map block_of_global (globals_from p (suc k) ds)) same ∙ ap (λ bs. block_of block.Global (replicate size (NumberByte 0)) ∷ bs) (global_blocks_are (suc k) ds)
-
-  literal_blocks_are : (k : ℕ) (xs : List StringLiteral) → map block_of_global (texts_from k xs) ≡ map (λ (l : StringLiteral). literal_block l.bytes) xs
-  literal_blocks_are k [] = refl
-  literal_blocks_are k (x ∷ xs) =
+  block_is : (k n : ℕ) (o : StaticObject) → block_of_global (monitored_global p k n o) ≡ block_of_object p.structs o
+  block_is k n (OfGlobal d) = let same : size_of p.structs d.ctype - 0 ≡ size_of p.structs d.ctype = omega arith in ap (λ n. block_of block.Global (replicate n (NumberByte 0))) same
+  block_is k n (OfLiteral x) =
       let one : (length x.bytes + 1) - length x.bytes ≡ 1 = omega arith in
-      ap (λ n. block_of block.Literal (map NumberByte x.bytes ++ replicate n (NumberByte 0)) ∷ map block_of_global (texts_from (suc k) xs)) one ∙ ap (λ bs. literal_block x.bytes ∷ bs) (literal_blocks_are (suc k) xs)
+      ap (λ n. block_of block.Literal (map NumberByte x.bytes ++ replicate n (NumberByte 0))) one
 
-  map_both : (a b : List MonitoredGlobal) → map block_of_global (a ++ b) ≡ map block_of_global a ++ map block_of_global b
-  map_both [] b = refl
-  map_both (x ∷ a) b = ap (λ l. block_of_global x ∷ l) (map_both a b)
+  blocks_are : (k n : ℕ) (os : List StaticObject) → map block_of_global (monitored_from p k n os) ≡ map (block_of_object p.structs) os
+  blocks_are k n [] = refl
+  blocks_are k n (o ∷ os) = λ i. block_is k n o i ∷ blocks_are (globals_with k o) (literals_with n o) os i
 
-  -- globals of zeros, and then literals
-  pub start_blocks : map block_of_global (monitored_globals p) ≡ global_blocks p.structs p.globals ++ map (λ (l : StringLiteral). literal_block l.bytes) p.texts
-  start_blocks =
-      map_both (globals_from p 0 p.globals) (texts_from 0 p.texts)
-      ∙ ap (λ bs. bs ++ map block_of_global (texts_from 0 p.texts)) (global_blocks_are 0 p.globals)
-      ∙ ap (λ bs. global_blocks p.structs p.globals ++ bs) (literal_blocks_are 0 p.texts)
+  pub start_blocks : map block_of_global (monitored_globals p) ≡ map (block_of_object p.structs) (static_objects p)
+  start_blocks = blocks_are 0 0 (static_objects p)
 
 -- ---- pointers
 
@@ -53,73 +39,30 @@ pointer_at k [] i lt = absurd (omega (arith, lt))
 pointer_at k (g ∷ gs) zero lt = let same : k ≡ k + 0 = omega arith in ap (λ n. Some (Points (Into n 0))) same
 pointer_at k (g ∷ gs) (suc i) lt = let same : suc k + i ≡ k + suc i = omega arith in pointer_at (suc k) gs i (omega (arith, lt)) ∙ ap (λ n. Some (Points (Into n 0))) same
 
-globals_long : (p : TranslationUnit) (k : ℕ) (ds : List Declaration) → length (globals_from p k ds) ≡ length ds
-globals_long p k [] = refl
-globals_long p k (d ∷ ds) = ap suc (globals_long p (suc k) ds)
+all_long : (p : TranslationUnit) (k n : ℕ) (os : List StaticObject) → length (monitored_from p k n os) ≡ length os
+all_long p k n [] = refl
+all_long p k n (o ∷ os) = ap suc (all_long p (globals_with k o) (literals_with n o) os)
 
-texts_long : (k : ℕ) (xs : List StringLiteral) → length (texts_from k xs) ≡ length xs
-texts_long k [] = refl
-texts_long k (x ∷ xs) = ap suc (texts_long (suc k) xs)
-
-pub monitored_long : (p : TranslationUnit) → length (monitored_globals p) ≡ length p.globals + length p.texts
-monitored_long p = omega (arith, length-append (globals_from p 0 p.globals) (texts_from 0 p.texts), globals_long p 0 p.globals, texts_long 0 p.texts)
+pub monitored_long : (p : TranslationUnit) → length (monitored_globals p) ≡ length (static_objects p)
+monitored_long p = all_long p 0 0 (static_objects p)
 
 abbrev pub pointers : TranslationUnit → List Value
 pointers p = pointers_from 1 (monitored_globals p)
 
 -- the pointer to a literal
-pub literal_points : (p : TranslationUnit) (n : ℕ) (x : StringLiteral) → slice_get p.texts n ≡ Some x → slice_get (pointers_from 1 (monitored_globals p)) (length p.globals + n) ≡ Some (Points (Into (length p.globals + n + 1) 0))
+pub literal_points : (p : TranslationUnit) (n : ℕ) (x : StringLiteral) → slice_get p.texts n ≡ Some x
+    → slice_get (pointers_from 1 (monitored_globals p)) (object_of_literal n (static_objects p)) ≡ Some (Points (literal (tables_of p) n))
 literal_points p n x e =
-    let same : 1 + (length p.globals + n) ≡ length p.globals + n + 1 = omega arith in
-    pointer_at 1 (monitored_globals p) (length p.globals + n) (omega (arith, monitored_long p, get-below p.texts n x e)) ∙ ap (λ k. Some (Points (Into k 0))) same
+    let at = literal_is p n (get-below p.texts n x e) in
+    pointer_at 1 (monitored_globals p) (object_of_literal n (static_objects p)) (omega (arith, monitored_long p, at.below))
+    ∙ ap (λ (o : Option ℕ). Some (Points (elim o [ None ↦ Null | Some k ↦ Into k 0 ]))) (sym at.number)
 
 -- ---- names
 
--- what is found among globals
-record IsFound (x k : ℕ) (ds : List Declaration) (number : ℕ) : Type 0 where
-  pub own : nat_eq x 4294967295 ≡ false
-  pub index : number ≡ k + global_index x ds
-  pub below : global_index x ds < length ds
-
-found_global : (x k : ℕ) (ds : List Declaration) (number : ℕ) → AreOwn ds → find x (global_scope k ds) ≡ Some number → IsFound x k ds number
-found_global x k [] number own e = absurd cc
-found_global x k (d ∷ ds) number own e = by (λ f. found_global x (suc k) ds number own.1 f) (nat_eq (number_of d) x) refl e
-  where
-    by : (find x (global_scope (suc k) ds) ≡ Some number → IsFound x (suc k) ds number) → (t : Bool) → nat_eq (number_of d) x ≡ t → cond t (Some k) (find x (global_scope (suc k) ds)) ≡ Some number → IsFound x k (d ∷ ds) number
-    by rest true same f =
-        let here : global_index x (d ∷ ds) ≡ 0 = ap (λ t. if t then 0 else suc (global_index x ds)) same in
-        let is : k ≡ number = cc in
-        record { own = subst (λ y. nat_eq y 4294967295 ≡ false) (eqb-true (number_of d) x same) own.0; index = omega (arith, is, here); below = omega (arith, here) }
-    by rest false other f =
-        let r = rest f in
-        let here : global_index x (d ∷ ds) ≡ suc (global_index x ds) = ap (λ t. if t then 0 else suc (global_index x ds)) other in
-        record { own = r.own; index = omega (arith, r.index, here); below = omega (arith, r.below, here) }
-
 -- at the beginning of a run the names in sight are those of globals
-pub anchored_at_start : (w : Setting) (low : ℕ) (regs : List Value) → w.globals ≡ pointers_from 1 (monitored_globals w.unit) → AreOwn w.unit.globals → Anchored w low [] regs (global_scope 1 w.unit.globals)
+pub anchored_at_start : (w : Setting) (low : ℕ) (regs : List Value) → w.globals ≡ pointers_from 1 (monitored_globals w.unit) → AreOwn w.unit.globals → Anchored w low [] regs (global_scope w.unit)
 anchored_at_start w low regs pointers own x number e =
-    let f = found_global x 1 w.unit.globals number own e in
-    let there = pointer_at 1 (monitored_globals w.unit) (global_index x w.unit.globals) (omega (arith, monitored_long w.unit, f.below)) in
-    record { own = f.own; anchor = AtGlobal refl f.below (ap (λ l. slice_get l (global_index x w.unit.globals)) pointers ∙ there ∙ ap (λ n. Some (Points (Into n 0))) (sym f.index)) }
-
--- ---- indices
-
--- one after another, each from this number on
-abbrev pub Ascending : ℕ → List Declaration → Type 0
-Ascending least [] = Unit {0}
-Ascending least (d ∷ ds) = (least ≤ number_of d) × Ascending (suc (number_of d)) ds
-
-last_is_greatest : (least : ℕ) (front : List Declaration) (d : Declaration) (ds : List Declaration) → Ascending least (front ++ d ∷ ds) → least ≤ number_of d
-last_is_greatest least [] d ds a = a.0
-last_is_greatest least (c ∷ front) d ds a = let h = last_is_greatest (suc (number_of c)) front d ds a.1 in omega (arith, a.0, h)
-
--- a global stands at its index, where numbers ascend
-pub index_of_global : (least : ℕ) (front : List Declaration) (d : Declaration) (ds : List Declaration) → Ascending least (front ++ d ∷ ds) → global_index (number_of d) (front ++ d ∷ ds) ≡ length front
-index_of_global least [] d ds a = ap (λ t. if t then 0 else suc (global_index (number_of d) ds)) (eq-eqb (number_of d) (number_of d) refl)
-index_of_global least (c ∷ front) d ds a =
-    by (index_of_global (suc (number_of c)) front d ds a.1) (last_is_greatest (suc (number_of c)) front d ds a.1) (nat_eq (number_of c) (number_of d)) refl
-  where
-    by : global_index (number_of d) (front ++ d ∷ ds) ≡ length front → suc (number_of c) ≤ number_of d → (t : Bool) → nat_eq (number_of c) (number_of d) ≡ t
-        → (if t then 0 else suc (global_index (number_of d) (front ++ d ∷ ds))) ≡ suc (length front)
-    by rest less true same = absurd (omega (arith, eqb-true (number_of c) (number_of d) same, less))
-    by rest less false other = ap suc rest
+    let f = global_found w.unit x number own e in
+    let inside = global_inside w.unit x f.below in
+    let there = pointer_at 1 (monitored_globals w.unit) (object_of_global x (static_objects w.unit)) (omega (arith, monitored_long w.unit, inside)) in
+    record { own = f.own; anchor = AtGlobal refl f.below (ap (λ l. slice_get l (object_of_global x (static_objects w.unit))) pointers ∙ there ∙ ap (λ n. Some (Points (Into n 0))) (sym f.index)) }

@@ -41,7 +41,7 @@ use Rattle.c_model.specs.SmallTypes.{TypesSmall}
 use Rattle.c_model.specs.TypedTrees.{IsScalar, HasKnownSize, IsInteger, IsPromoted, Denotes, IsName, OfObject, OfNull, OnIntegers, BinaryTypes, OfIntegers, OfPointerAndInteger, OfIntegerAndPointer, OfDifference, OfPointers}
 use Rattle.c_model.specs.ExpressionTyping.{has_object}
 use Rattle.c_model.specs.TypedTrees.{IndexTypes, OnTheLeft, OnTheRight, CompoundTypes, ToInteger, ToPointer, CastTypes, ToVoid, OfInteger, OfPointer, OfNullConstant, OfArray, WellTyped}
-use Rattle.c_effects.specs.Expressions.{register_type, value_type, operand_type, operator_of, in_type, compared, condition, truth, binary, temporaries, scaled, farther, element, pointer_and_integer}
+use Rattle.c_effects.specs.Expressions.{register_type, value_type, operand_type, operator_of, in_type, compared, condition, truth, binary, temporaries, scaled, farther, element, pointer_and_integer, object_of_global}
 use Rattle.c_effects.specs.Expressions.{two_pointers, operated, indexed, converted, compound, global_index, pointer_of, pointer_to, loaded, value, place, truth_of, condition_of}
 use Rattle.c_effects.specs.Effects.{block_register, block_of, current}
 use Rattle.annot_code.specs.Validity.{Begins}
@@ -50,6 +50,8 @@ use Rattle.instrument.proofs.Parts.{StructsFit, near}
 use Rattle.instrument.proofs.Integers.{operand_is, is_number, number_result, number_second, number_operator}
 use Rattle.instrument.proofs.Registers.{get-below, get-end}
 use Rattle.instrument.proofs.Expressions.{letter_fits}
+use Rattle.c_model.specs.StaticObjects.{static_objects}
+use Rattle.instrument.proofs.Objects.{global_inside, literal_is}
 
 -- ---- constants
 
@@ -270,7 +272,7 @@ pub record Knows (p : TranslationUnit) (ts : Types) (bound : Bindings) (s : Sigh
 
 -- globals and literals
 abbrev pub count_of_globals : TranslationUnit → ℕ
-count_of_globals p = length p.globals + length p.texts
+count_of_globals p = length (static_objects p)
 
 pub block_points : (ts : Types) (bound : Bindings) (x : ℕ) → HasPointer ts bound x → slice_get ts (block_of bound x) ≡ Some Ptr
 block_points ts bound x h = ap (λ o. slice_get ts (block_register o)) h.is_bound ∙ h.points
@@ -548,9 +550,9 @@ module _ (p : TranslationUnit) (ts : Types) (bound : Bindings) (s : Sight) (know
   pub pointer_typed : (x : ℕ) → Reaches p ts bound x → Typed (pointer_to p bound x) Ptr
   pointer_typed x h = by (register_of bound x) h
     where
-      by : (o : Option ℕ) → Aim ts (is_global p x) o → Typed (pointer_of o (global_index x p.globals)) Ptr
+      by : (o : Option ℕ) → Aim ts (is_global p x) o → Typed (pointer_of o (object_of_global x (static_objects p))) Ptr
       by (Some r) k = k
-      by None k = let l = ltb-true (global_index x p.globals) (length p.globals) k in (refl, omega (arith, l))
+      by None k = (refl, global_inside p x (ltb-true (global_index x p.globals) (length p.globals) k))
 
   -- the variable that a name denotes
   pub seen : (x : Use) (t : PlainType) → Denotes s x t → Seen p ts bound x.decl
@@ -639,7 +641,7 @@ module _ (p : TranslationUnit) (ts : Types) (bound : Bindings) (s : Sight) (know
     pub placed : (e : Expression) (rs : Types) → has_object e ≡ true → IsPure e → WellTyped s e → TypesSmall p.structs e → HasLetters e → Begins (rs ++ temporaries e) ts → Typed (place p bound rs e) Ptr
     placed (Node at t (Text n)) rs h u q parts l b =
         let inside = get-below p.texts n q.text (ap (λ x. slice_get x n) (sym knows.texts_are) ∙ q.found) in
-        (refl, omega (arith, inside))
+        (refl, (literal_is p n inside).below)
     placed (Node at t (Variable x)) rs h u q parts l b = name_placed x t (not_true (is_of_library x) h) q
     placed (Node at t (Unary prefix.Deref a)) rs h u q parts l b = subst (λ x. Typed (value p bound rs a) (value_type x)) q.1 (typed a rs (pointer_scalar (type_of a) t q.1) u q.0 parts.1 l b)
     placed (Node at t (Index x y)) rs h u q parts l b =

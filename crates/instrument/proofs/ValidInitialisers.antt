@@ -185,7 +185,7 @@ module _ (p : TranslationUnit) (gs : List Signature) (ts : Types) (result : Opti
       (subst (λ u. IsExpression G ts (full_value p bound rs e) (value_type u)) val.ctype v.1)))
 
   own_parts : (t : PlainType) (is : Initialisers) → PartsInitialised s (parts_or_itself (tables_in s) t) is → PartsInitialised s (parts_or_itself (tables_of p) t) is
-  own_parts t is h = subst (λ x. PartsInitialised s (parts_or_itself (record { structs = x; texts = map (λ (l : StringLiteral). l.bytes) s.texts; globals = 0 }) t) is) knows.structs_are h
+  own_parts t is h = subst (λ x. PartsInitialised s (parts_or_itself (record { structs = x; texts = map (λ (l : StringLiteral). l.bytes) s.texts; literals = [] }) t) is) knows.structs_are h
 
   mutual
     fill_valid : (r d : ℕ) (rs : Types) (t : PlainType) (i : Initialiser) → IsPoint r → d + size_of p.structs t ≤ 2147483647 → Initialises s t i → IsPureInitialiser i → EachInitial IsSmall i → EachInitial (TypesSmall p.structs) i

@@ -1,6 +1,6 @@
 -- The translation of a typed program is valid: its globals, and its functions, each with a name of its own, one of which is `main`.
 pub use Rattle.instrument.proofs.TypedDefinitions.{IsFileSight, GlobalTyped, GlobalsTyped, DefinitionTyped, DefinitionsTyped, IsTypedProgram}
-use Rattle.std.proofs.Common.{◌≡◌, ℕ, suc, ◌+◌, ◌<◌, ◌≤◌, Bool, true, false, cond, if◌then◌else◌, ◌&&◌, ◌*◌, nat_eq, List, [], ◌∷◌, ◌++◌, length, Option, Some, None, slice_get, refl, sym, ap, ◌∙◌, subst, arith}
+use Rattle.std.proofs.Common.{◌≡◌, ℕ, suc, ◌+◌, ◌<◌, ◌≤◌, Bool, true, false, cond, if◌then◌else◌, ◌&&◌, ◌*◌, nat_eq, List, [], ◌∷◌, ◌++◌, length, Option, Some, None, slice_get, append_assoc, refl, sym, ap, ◌∙◌, subst, arith}
 use Rattle.std.proofs.lemmas.List.{length-append}
 use Rattle.std.proofs.lemmas.Bool.Decides.{nat_tests}
 use Rattle.std.proofs.lemmas.Bool.{eq-eqb}
@@ -13,7 +13,7 @@ use Rattle.c_syntax.specs.Ctypes.{PlainType, Int, int_type}
 use Rattle.c_syntax.specs.Statements.{Initialiser, Declaration, Block}
 use Rattle.c_syntax.specs.Programs.{Function, TranslationUnit}
 use Rattle.c_syntax.specs.Layouts.{size_of}
-use Rattle.c_model.specs.Formed.{FunctionNamed}
+use Rattle.c_model.specs.Formed.{FunctionNamed, number_of}
 use Rattle.c_model.specs.Meaning.{is_definition, declared_in}
 use Rattle.c_model.specs.ExpressionTyping.{name_at}
 use Rattle.c_model.specs.ExpressionTyping.{Sight, inner, with_object}
@@ -33,7 +33,7 @@ use Rattle.c_model.specs.AcceptedPrograms.{AreDefined}
 use Rattle.c_model.specs.TypedTrees.{WhereAny, IsScalar, Initialises, AreParameters, around_body}
 use Rattle.c_effects.specs.Letters.{InitialiserHasLetters}
 use Rattle.track_scopes.specs.Blocks.{entered, deaths, with_born}
-use Rattle.c_effects.specs.Expressions.{value_type, before, set}
+use Rattle.c_effects.specs.Expressions.{value_type, before, set, object_of_global, global_index}
 use Rattle.c_effects.specs.Effects.{initial_temporaries, initialise}
 use Rattle.instrument.specs.Translation.{Spot, value_types, registers_of_body, registers_of, after_body, after_items, with_variables, body_part, parameters, items, code_of, function_name, arguments_from, result_of}
 use Rattle.instrument.specs.Translation.{function_of, functions_from, translated}
@@ -55,6 +55,8 @@ use Rattle.instrument.proofs.ValidRegisters.{AllOf, all_of, not_among, kinds, fr
 use Rattle.instrument.proofs.Starts.{monitored_long}
 use Rattle.instrument.proofs.Own.{AreOwn}
 use Rattle.instrument.proofs.Programs.{no_parameters}
+use Rattle.c_model.specs.StaticObjects.{static_objects}
+use Rattle.instrument.proofs.Objects.{global_inside}
 
 -- ---- parameters
 
@@ -103,14 +105,24 @@ module _ (p : TranslationUnit) (gs : List Signature) (ts : Types) (result : Opti
 
 -- ---- globals before `main`
 
-deep_globals : (p : TranslationUnit) (rs : Types) (g : ℕ) (ds : List Declaration) → GlobalsTyped p ds → depth_of_all (initialise_globals p rs g ds) ≤ suc most_forms
-deep_globals p rs g [] h = omega arith
-deep_globals p rs g (d ∷ ds) h =
-    deep_before (initialise_global p rs g d.ctype d.init) (initialise_globals p (rs ++ global_temporaries d.init) (suc g) ds) (suc most_forms) (one d.init h.0.formed) (deep_globals p (rs ++ global_temporaries d.init) (suc g) ds h.1)
+-- a global is one of them
+index_below : (front : List Declaration) (d : Declaration) (ds : List Declaration) → global_index (number_of d) (front ++ d ∷ ds) < length (front ++ d ∷ ds)
+index_below [] d ds = let here : global_index (number_of d) (d ∷ ds) ≡ 0 = ap (λ t. if t then 0 else suc (global_index (number_of d) ds)) (eq-eqb (number_of d) (number_of d) refl) in omega (arith, here)
+index_below (c ∷ front) d ds = by (index_below front d ds) (nat_eq (number_of c) (number_of d))
   where
-    one : (o : Option (Place × Initialiser)) → InitialFormed p.structs o → depth_of_all (initialise_global p rs g d.ctype o) ≤ suc most_forms
-    one None f = omega arith
-    one (Some i) f =
+    by : global_index (number_of d) (front ++ d ∷ ds) < length (front ++ d ∷ ds) → (t : Bool) → (if t then 0 else suc (global_index (number_of d) (front ++ d ∷ ds))) < suc (length (front ++ d ∷ ds))
+    by rest true = omega arith
+    by rest false = omega (arith, rest)
+
+deep_globals : (p : TranslationUnit) (rs : Types) (ds : List Declaration) → GlobalsTyped p ds → depth_of_all (initialise_globals p rs ds) ≤ suc most_forms
+deep_globals p rs [] h = omega arith
+deep_globals p rs (d ∷ ds) h =
+    let g = object_of_global (number_of d) (static_objects p) in
+    deep_before (initialise_global p rs g d.ctype d.init) (initialise_globals p (rs ++ global_temporaries d.init) ds) (suc most_forms) (one g d.init h.0.formed) (deep_globals p (rs ++ global_temporaries d.init) ds h.1)
+  where
+    one : (g : ℕ) (o : Option (Place × Initialiser)) → InitialFormed p.structs o → depth_of_all (initialise_global p rs g d.ctype o) ≤ suc most_forms
+    one g None f = omega arith
+    one g (Some i) f =
         deep_before (set (length rs) (tree.Global g)) (initialise p [] (rs ++ Ptr ∷ []) (length rs) d.ctype (Some i)) (suc most_forms) (deep_set (length rs) (tree.Global g) (suc most_forms) (omega arith))
         (deep_initialise p [] (rs ++ Ptr ∷ []) (length rs) d.ctype (Some i) f)
 
@@ -130,7 +142,7 @@ module _ (p : TranslationUnit) (q : IsTypedProgram p) where
     abbrev Main : MonStatements → Type 0
     Main a = AreStatements (count_of_globals p) gs ts result [] a
 
-    global_valid : (rs : Types) (g : ℕ) (d : Declaration) (o : Option (Place × Initialiser)) → g < length p.globals → (k : GlobalTyped p d) → d.init ≡ o → Begins (rs ++ global_temporaries o) ts → Main (initialise_global p rs g d.ctype o)
+    global_valid : (rs : Types) (g : ℕ) (d : Declaration) (o : Option (Place × Initialiser)) → g < count_of_globals p → (k : GlobalTyped p d) → d.init ≡ o → Begins (rs ++ global_temporaries o) ts → Main (initialise_global p rs g d.ctype o)
     global_valid rs g d None lt k e b = tt
     global_valid rs g d (Some i) lt k e b =
         let here = begins_left rs (Ptr ∷ []) (initial_temporaries (Some i)) ts b in
@@ -142,13 +154,14 @@ module _ (p : TranslationUnit) (q : IsTypedProgram p) where
         (subst (WhereAny (λ (i : Place × Initialiser). Initialises k.sight d.ctype i.1)) e k.init) (subst (InitialFormed p.structs) e k.formed) (subst (WhereAny (λ (i : Place × Initialiser). InitialiserHasLetters i.1)) e k.letters)
         (begins_right rs (Ptr ∷ []) (initial_temporaries (Some i)) ts b))
 
-    globals_valid : (rs : Types) (g : ℕ) (ds : List Declaration) → g + length ds ≤ length p.globals → GlobalsTyped p ds → Begins (rs ++ all_global_temporaries ds) ts → Main (initialise_globals p rs g ds)
-    globals_valid rs g [] le h b = tt
-    globals_valid rs g (d ∷ ds) le h b =
+    globals_valid : (rs : Types) (front ds : List Declaration) → front ++ ds ≡ p.globals → GlobalsTyped p ds → Begins (rs ++ all_global_temporaries ds) ts → Main (initialise_globals p rs ds)
+    globals_valid rs front [] is h b = tt
+    globals_valid rs front (d ∷ ds) is h b =
+        let g = object_of_global (number_of d) (static_objects p) in
         let own = global_temporaries d.init in
-        before_valid (count_of_globals p) gs ts result [] (initialise_global p rs g d.ctype d.init) (initialise_globals p (rs ++ own) (suc g) ds)
-        (global_valid rs g d d.init (omega (arith, le)) h.0 refl (begins_left rs own (all_global_temporaries ds) ts b))
-        (globals_valid (rs ++ own) (suc g) ds (omega (arith, le)) h.1 (begins_right rs own (all_global_temporaries ds) ts b))
+        before_valid (count_of_globals p) gs ts result [] (initialise_global p rs g d.ctype d.init) (initialise_globals p (rs ++ own) ds)
+        (global_valid rs g d d.init (global_inside p (number_of d) (subst (λ l. global_index (number_of d) l < length l) is (index_below front d ds))) h.0 refl (begins_left rs own (all_global_temporaries ds) ts b))
+        (globals_valid (rs ++ own) (front ++ d ∷ []) ds (append_assoc front (d ∷ []) ds ∙ is) h.1 (begins_right rs own (all_global_temporaries ds) ts b))
 
   -- ---- a function
 
@@ -253,7 +266,7 @@ module _ (p : TranslationUnit) (q : IsTypedProgram p) where
 
     front_valid : (b : Bool) → Begins (value_types f.params ++ front_temporaries p b) ts → Are (front p b f.params)
     front_valid false h = tt
-    front_valid true h = globals_valid ts (result_of f.result) (value_types f.params) 0 p.globals (omega arith) q.globals h
+    front_valid true h = globals_valid ts (result_of f.result) (value_types f.params) [] p.globals refl q.globals h
 
     whole_valid : Are (before (front p is_main f.params) (code_of p fr f))
     whole_valid = before_valid (count_of_globals p) gs ts (result_of f.result) [] (front p is_main f.params) (code_of p fr f) (front_valid is_main (front_begins p fr f)) code_valid
@@ -272,7 +285,7 @@ module _ (p : TranslationUnit) (q : IsTypedProgram p) where
 
     deep_front : (b : Bool) → depth_of_all (front p b f.params) ≤ 1805
     deep_front false = omega arith
-    deep_front true = let d = deep_globals p (value_types f.params) 0 p.globals q.globals in omega (arith, d)
+    deep_front true = let d = deep_globals p (value_types f.params) p.globals q.globals in omega (arith, d)
 
     deep_whole : depth_of_all (before (front p is_main f.params) (code_of p fr f)) ≤ 1805
     deep_whole = deep_before (front p is_main f.params) (code_of p fr f) 1805 (deep_front is_main) deep_code
@@ -384,7 +397,7 @@ taken_of_globals : (gs : List MonitoredGlobal) → 16 * length gs ≤ globals_ta
 taken_of_globals [] = omega arith
 taken_of_globals (g ∷ gs) = let r = taken_of_globals gs in omega (arith, r)
 
-few_globals : (p : TranslationUnit) → room_fault p ≡ None → length p.globals + length p.texts ≤ 65536
+few_globals : (p : TranslationUnit) → room_fault p ≡ None → length (static_objects p) ≤ 65536
 few_globals p e =
     let r = room_is p e in
     let t = taken_of_globals (monitored_globals p) in
@@ -402,7 +415,7 @@ translated_valid p q =
     let few = q.few_functions in
     let count = few_globals p q.room in
     record {
-      globals = all_globals_valid p (omega (arith, count)) (omega (arith, count)) q.globals_named q.texts;
+      globals = all_globals_valid p (omega (arith, count)) q.globals_named q.texts;
       room = room_is p q.room;
       functions = functions_valid p q p.funcs 0 [] q.definitions (omega (arith, few)) tt;
       number = m;

@@ -1,27 +1,29 @@
 -- The registers of translated functions: their names are free, and each has its own; and their types.
 pub use Rattle.instrument.proofs.TypedDefinitions.{kinds}
-use Rattle.std.proofs.Common.{◌≡◌, ℕ, suc, ◌+◌, ◌<◌, ◌≤◌, ◌^◌, Bool, true, false, ◌||◌, if◌then◌else◌, List, [], ◌∷◌, ◌++◌, length, drop, map, nat_lt, Option, Some, None, refl, sym, ap, ◌∙◌, arith}
+use Rattle.std.proofs.Common.{◌≡◌, ℕ, suc, ◌+◌, ◌<◌, ◌≤◌, ◌^◌, Bool, true, false, ◌||◌, if◌then◌else◌, List, [], ◌∷◌, ◌++◌, length, drop, nat_lt, Option, Some, None, refl, sym, ap, ◌∙◌, subst, arith}
 use Rattle.std.proofs.lemmas.List.{length-append, length-map, map-append}
 use Rattle.std.specs.Prelude.{bytes_eq}
 use Rattle.c_syntax.specs.Statements.{Declaration, Statement}
-use Rattle.c_syntax.specs.Programs.{StringLiteral, Function, TranslationUnit}
-use Rattle.c_syntax.specs.Layouts.{size_of}
+use Rattle.c_syntax.specs.Programs.{Function, TranslationUnit}
 use Rattle.c_model.specs.ExpressionTyping.{name_at}
 use Rattle.std.proofs.lemmas.Bool.Decides.{nat_tests}
 use Rattle.c_model.specs.Limits.{globals_bytes}
 use Rattle.c_model.specs.Memory.{rounded}
 use Rattle.c_model.specs.Checked.{Fault}
-use Rattle.c_model.specs.UnitTyping.{room_fault, room_fault_from}
+use Rattle.c_model.specs.StaticObjects.{StaticObject, OfGlobal, OfLiteral, static_objects, size_of_object}
+use Rattle.c_model.specs.UnitTyping.{room_fault, room_fault_from, room_with}
+use Rattle.c_model.proofs.StaticObjects.{globals_of, literals_of, globals_are, literals_are}
 use Rattle.c_model.specs.Formed.{AreNamed, IsName, AreNamedParameters, FunctionNamed}
 use Rattle.mon_syntax.specs.declared.tree.MonType.{MonType}
 use Rattle.mon_syntax.specs.Registers.{RegisterTable, no_registers, with_kinds}
 use Rattle.mon_syntax.specs.Trees.{MonRegister, MonitoredGlobal}
-use Rattle.mon_syntax.specs.Globals.{globals_taken}
+use Rattle.mon_syntax.specs.Globals.{globals_taken, size_of_global}
 use Rattle.mon_syntax.specs.Valid.{Types, AreRegisters, AreGlobals, names_before, has_label, types_of}
 use Rattle.c_effects.specs.Expressions.{value_type}
-use Rattle.instrument.specs.Translation.{register_name, name_of_register, own_name, value_types, arguments_from, registers_from, registers_of, registers_of_body, after_body, global_name, text_name, globals_from, texts_from, monitored_globals}
+use Rattle.instrument.specs.Translation.{register_name, name_of_register, own_name, value_types, arguments_from, registers_from, registers_of, registers_of_body, after_body, global_name}
+use Rattle.instrument.specs.Translation.{text_name, monitored_global, globals_with, literals_with, monitored_from, monitored_globals}
 use Rattle.instrument.proofs.Names.{IsNumber, AllParts, register_is_free, registers_differ, named_free, named_differ, named_no_value, global_is_free}
-use Rattle.instrument.proofs.Names.{globals_differ, text_is_free, texts_differ, text_no_global, register_no_global, register_no_text, named_no_global, named_no_text}
+use Rattle.instrument.proofs.Names.{globals_differ, text_is_free, texts_differ, text_no_global, global_no_text, register_no_global, register_no_text, named_no_global, named_no_text}
 use Rattle.instrument.proofs.Typed.{begins_front}
 use Rattle.c_model.specs.ReadTree.{TextsAreBytes}
 use Rattle.annot_code.specs.Validity.{Begins}
@@ -107,64 +109,59 @@ names_are : (P : List ℕ → Type 0) (before : List (List ℕ)) (gs : List Moni
 names_are P before [] h k = h
 names_are P before (g ∷ gs) h k = names_are P (g.name ∷ before) gs (k.0, h) k.1
 
-both_are : (P : List ℕ → Type 0) (a b : List MonitoredGlobal) → NamesAre P a → NamesAre P b → NamesAre P (a ++ b)
-both_are P [] b h k = k
-both_are P (g ∷ a) b h k = (h.0, both_are P a b h.1 k)
-
 above_global : (k : ℕ) (name : List ℕ) → AboveArguments 0 (global_name k name)
 above_global k name = record { argument = λ j a le few. register_no_global j k a name; other = λ j t. named_no_global j k t name }
 
 above_text : (k : ℕ) → AboveArguments 0 (text_name k)
 above_text k = record { argument = λ j a le few. register_no_text j k a; other = λ j t. named_no_text j k t }
 
-globals_above : (p : TranslationUnit) (k : ℕ) (ds : List Declaration) → NamesAre (AboveArguments 0) (globals_from p k ds)
-globals_above p k [] = tt
-globals_above p k (d ∷ ds) = (above_global k (name_at p.names d.name), globals_above p (suc k) ds)
-
-texts_above : (k : ℕ) (xs : List StringLiteral) → NamesAre (AboveArguments 0) (texts_from k xs)
-texts_above k [] = tt
-texts_above k (x ∷ xs) = (above_text k, texts_above (suc k) xs)
+objects_above : (p : TranslationUnit) (k n : ℕ) (os : List StaticObject) → NamesAre (AboveArguments 0) (monitored_from p k n os)
+objects_above p k n [] = tt
+objects_above p k n (OfGlobal d ∷ os) = (above_global k (name_at p.names d.name), objects_above p (k + 1) n os)
+objects_above p k n (OfLiteral l ∷ os) = (above_text n, objects_above p k (n + 1) os)
 
 -- no register has the name of a global
 above_globals : (p : TranslationUnit) → AllOf (AboveArguments 0) (names_before [] (monitored_globals p))
-above_globals p = names_are (AboveArguments 0) [] (monitored_globals p) tt (both_are (AboveArguments 0) (globals_from p 0 p.globals) (texts_from 0 p.texts) (globals_above p 0 p.globals) (texts_above 0 p.texts))
+above_globals p = names_are (AboveArguments 0) [] (monitored_globals p) tt (objects_above p 0 0 (static_objects p))
 
--- names of globals in front, of which none with these numbers is one, nor that of a literal
-record AboveGlobals (k : ℕ) (w : List ℕ) : Type 0 where
+-- names in front, of which none is that of a global or of a literal with these numbers
+record AboveObjects (k n : ℕ) (w : List ℕ) : Type 0 where
   pub global : (j : ℕ) (name : List ℕ) → k ≤ j → IsNumber j → bytes_eq (global_name j name) w ≡ false
-  pub text : (j : ℕ) → bytes_eq (text_name j) w ≡ false
+  pub text : (j : ℕ) → n ≤ j → IsNumber j → bytes_eq (text_name j) w ≡ false
 
-record AboveTexts (k : ℕ) (w : List ℕ) : Type 0 where
-  pub text : (j : ℕ) → k ≤ j → IsNumber j → bytes_eq (text_name j) w ≡ false
-
-texts_valid : (k : ℕ) (xs : List StringLiteral) (before : List (List ℕ)) → IsNumber (k + length xs) → TextsAreBytes xs → AllOf (AboveTexts k) before → AreGlobals before (texts_from k xs)
-texts_valid k [] before few bytes h = tt
-texts_valid k (x ∷ xs) before few bytes h = (
-  text_is_free k (omega (arith, few)),
-  not_among (text_name k) before (all_of (AboveTexts k) (λ w. bytes_eq (text_name k) w ≡ false) before (λ w a. a.text k (omega arith) (omega (arith, few))) h),
+objects_valid : (p : TranslationUnit) (k n : ℕ) (os : List StaticObject) (before : List (List ℕ)) → IsNumber (k + length (globals_of os)) → IsNumber (n + length (literals_of os)) → AreNamed p.names (globals_of os) → TextsAreBytes (literals_of os)
+    → AllOf (AboveObjects k n) before → AreGlobals before (monitored_from p k n os)
+objects_valid p k n [] before few small named bytes h = tt
+objects_valid p k n (OfGlobal d ∷ os) before few small named bytes h =
+    let name = name_at p.names d.name in (
+      global_is_free k name (omega (arith, few)) named.0.parts,
+      not_among (global_name k name) before (all_of (AboveObjects k n) (λ w. bytes_eq (global_name k name) w ≡ false) before (λ w a. a.global k name (omega arith) (omega (arith, few))) h),
+      tt,
+      objects_valid p (k + 1) n os (global_name k name ∷ before) (omega (arith, few)) small named.1 bytes (
+        record { global = λ j other lt less. globals_differ j k other name less (omega (arith, few)) (λ e. omega (arith, e, lt)); text = λ j lt less. text_no_global j k name },
+        all_of (AboveObjects k n) (AboveObjects (k + 1) n) before (λ w a. record { global = λ j other lt less. a.global j other (omega (arith, lt)) less; text = a.text }) h,
+      ),
+    )
+objects_valid p k n (OfLiteral l ∷ os) before few small named bytes h = (
+  text_is_free n (omega (arith, small)),
+  not_among (text_name n) before (all_of (AboveObjects k n) (λ w. bytes_eq (text_name n) w ≡ false) before (λ w a. a.text n (omega arith) (omega (arith, small))) h),
   bytes.0,
-  texts_valid (suc k) xs (text_name k ∷ before) (omega (arith, few)) bytes.1 (
-    record { text = λ j lt small. texts_differ j k small (omega (arith, few)) (λ e. omega (arith, e, lt)) },
-    all_of (AboveTexts k) (AboveTexts (suc k)) before (λ w a. record { text = λ j lt small. a.text j (omega (arith, lt)) small }) h,
+  objects_valid p k (n + 1) os (text_name n ∷ before) few (omega (arith, small)) named bytes.1 (
+    record { global = λ j other lt less. global_no_text j n other; text = λ j lt less. texts_differ j n less (omega (arith, small)) (λ e. omega (arith, e, lt)) },
+    all_of (AboveObjects k n) (AboveObjects k (n + 1)) before (λ w a. record { global = a.global; text = λ j lt less. a.text j (omega (arith, lt)) less }) h,
   ),
 )
 
-globals_valid : (p : TranslationUnit) (k : ℕ) (ds : List Declaration) (before : List (List ℕ)) → IsNumber (k + length ds) → IsNumber (length p.texts) → AreNamed p.names ds → TextsAreBytes p.texts → AllOf (AboveGlobals k) before
-    → AreGlobals before (globals_from p k ds ++ texts_from 0 p.texts)
-globals_valid p k [] before few small named bytes h = texts_valid 0 p.texts before (omega (arith, small)) bytes (all_of (AboveGlobals k) (AboveTexts 0) before (λ w a. record { text = λ j lt less. a.text j }) h)
-globals_valid p k (d ∷ ds) before few small named bytes h =
-    let name = name_at p.names d.name in (
-      global_is_free k name (omega (arith, few)) named.0.parts,
-      not_among (global_name k name) before (all_of (AboveGlobals k) (λ w. bytes_eq (global_name k name) w ≡ false) before (λ w a. a.global k name (omega arith) (omega (arith, few))) h),
-      tt,
-      globals_valid p (suc k) ds (global_name k name ∷ before) (omega (arith, few)) small named.1 bytes (
-        record { global = λ j other lt less. globals_differ j k other name less (omega (arith, few)) (λ e. omega (arith, e, lt)); text = λ j. text_no_global j k name },
-        all_of (AboveGlobals k) (AboveGlobals (suc k)) before (λ w a. record { global = λ j other lt less. a.global j other (omega (arith, lt)) less; text = a.text }) h,
-      ),
-    )
+-- there are so many globals and so many literals
+parts_long : (os : List StaticObject) → length os ≡ length (globals_of os) + length (literals_of os)
+parts_long [] = refl
+parts_long (OfGlobal d ∷ os) = let h = parts_long os in omega (arith, h)
+parts_long (OfLiteral l ∷ os) = let h = parts_long os in omega (arith, h)
 
-pub all_globals_valid : (p : TranslationUnit) → IsNumber (length p.globals) → IsNumber (length p.texts) → AreNamed p.names p.globals → TextsAreBytes p.texts → AreGlobals [] (monitored_globals p)
-all_globals_valid p few small named bytes = globals_valid p 0 p.globals [] (omega (arith, few)) small named bytes tt
+pub all_globals_valid : (p : TranslationUnit) → IsNumber (length (static_objects p)) → AreNamed p.names p.globals → TextsAreBytes p.texts → AreGlobals [] (monitored_globals p)
+all_globals_valid p few named bytes =
+    let long = parts_long (static_objects p) in
+    objects_valid p 0 0 (static_objects p) [] (omega (arith, few, long)) (omega (arith, few, long)) (subst (AreNamed p.names) (sym (globals_are p)) named) (subst TextsAreBytes (sym (literals_are p)) bytes) tt
 
 -- ---- their room (C99 5.2.4.1)
 
@@ -175,26 +172,21 @@ room_here false x o e = (refl, e)
 not_less : (a b : ℕ) → nat_lt a b ≡ false → b ≤ a
 not_less a b e = grind (arith, nat_tests)
 
-texts_room : (k taken : ℕ) (xs : List StringLiteral) → room_fault_from taken (map (λ (l : StringLiteral). (l.place, length l.bytes + 1)) xs) ≡ None → taken ≤ globals_bytes → taken + globals_taken (texts_from k xs) ≤ globals_bytes
-texts_room k taken [] e le = omega (arith, le)
-texts_room k taken (x ∷ xs) e le =
-    let here = room_here (nat_lt globals_bytes (taken + rounded (length x.bytes + 1))) _ _ e in
-    let fits : taken + rounded (length x.bytes + 1) ≤ globals_bytes = not_less globals_bytes (taken + rounded (length x.bytes + 1)) here.0 in
-    let rest = texts_room (suc k) (taken + rounded (length x.bytes + 1)) xs here.1 fits in
-    omega (arith, rest)
+size_is : (p : TranslationUnit) (k n : ℕ) (o : StaticObject) → size_of_global (monitored_global p k n o) ≡ size_of_object p.structs o
+size_is p k n (OfGlobal d) = refl
+size_is p k n (OfLiteral l) = refl
 
-globals_room : (p : TranslationUnit) (k taken : ℕ) (ds : List Declaration)
-    → room_fault_from taken (map (λ (d : Declaration). (d.place, size_of p.structs d.ctype)) ds ++ map (λ (l : StringLiteral). (l.place, length l.bytes + 1)) p.texts) ≡ None → taken ≤ globals_bytes
-    → taken + globals_taken (globals_from p k ds ++ texts_from 0 p.texts) ≤ globals_bytes
-globals_room p k taken [] e le = texts_room 0 taken p.texts e le
-globals_room p k taken (d ∷ ds) e le =
-    let here = room_here (nat_lt globals_bytes (taken + rounded (size_of p.structs d.ctype))) _ _ e in
-    let fits : taken + rounded (size_of p.structs d.ctype) ≤ globals_bytes = not_less globals_bytes (taken + rounded (size_of p.structs d.ctype)) here.0 in
-    let rest = globals_room p (suc k) (taken + rounded (size_of p.structs d.ctype)) ds here.1 fits in
-    omega (arith, rest)
+objects_room : (p : TranslationUnit) (k n taken : ℕ) (os : List StaticObject) → room_fault_from p.structs taken os ≡ None → taken ≤ globals_bytes → taken + globals_taken (monitored_from p k n os) ≤ globals_bytes
+objects_room p k n taken [] e le = omega (arith, le)
+objects_room p k n taken (o ∷ os) e le =
+    let here = room_here (nat_lt globals_bytes (room_with p.structs taken o)) _ _ e in
+    let fits : room_with p.structs taken o ≤ globals_bytes = not_less globals_bytes (room_with p.structs taken o) here.0 in
+    let rest = objects_room p (globals_with k o) (literals_with n o) (room_with p.structs taken o) os here.1 fits in
+    let same : rounded (size_of_global (monitored_global p k n o)) ≡ rounded (size_of_object p.structs o) = ap rounded (size_is p k n o) in
+    omega (arith, rest, same)
 
 pub room_is : (p : TranslationUnit) → room_fault p ≡ None → globals_taken (monitored_globals p) ≤ globals_bytes
-room_is p e = let r = globals_room p 0 0 p.globals e (omega arith) in omega (arith, r)
+room_is p e = let r = objects_room p 0 0 0 (static_objects p) e (omega arith) in omega (arith, r)
 
 -- ---- those of a function
 

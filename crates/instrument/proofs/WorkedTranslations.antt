@@ -14,9 +14,10 @@ use Rattle.mon_syntax.specs.declared.tree.MemoryCall.TheVariants.{Malloc, Free}
 use Rattle.mon_syntax.specs.declared.tree.MonOp.TheVariants as mon
 use Rattle.mon_syntax.specs.declared.tree.MonType.TheVariants as kind
 use Rattle.mon_syntax.specs.Registers.{Bindings}
-use Rattle.mon_syntax.specs.Trees.{Register, Global, Constant, Binary, Minus, Cast, Load, Store, Act, Then, NoStatement}
+use Rattle.mon_syntax.specs.Trees.{Register, Global, Constant, Binary, Minus, Cast, Load, Store, Act, Then, NoStatement, Zeros, Literal}
 use Rattle.mon_syntax.specs.Valid.{open_parens}
-use Rattle.c_effects.specs.Expressions.{value}
+use Rattle.c_effects.specs.Expressions.{value, literal, pointer_to}
+use Rattle.instrument.specs.Translation.{text_name, global_name, monitored_globals}
 use Rattle.c_effects.specs.Effects.{effect}
 use Rattle.c_model.specs.Sizes.{weight_of}
 
@@ -100,3 +101,24 @@ malloc_is = refl
 -- `free(p)`
 free_is : effect heap_program bound [] (library 1 Void (variable (Ptr Void) 1)) ≡ Then (Act None Free (Load kind.Ptr (Register 0) ∷ [])) NoStatement
 free_is = refl
+
+-- ---- globals and literals in the order of the text
+
+-- one literal before the global, and one behind it
+abbrev with_literals : TranslationUnit
+with_literals = record program {
+  texts = record { place = here; bytes = codes "x" } ∷ record { place = record { line = 1; column = 1; offset = 9 }; bytes = codes "yz" } ∷ [];
+}
+
+monitored_globals-with_literals : monitored_globals with_literals
+    ≡ record { name = text_name 0; content = Literal (codes "x") } ∷ record { name = global_name 0 []; content = Zeros 12 } ∷ record { name = text_name 1; content = Literal (codes "yz") } ∷ []
+monitored_globals-with_literals = refl
+
+literal-first : literal with_literals 0 ≡ Global 0
+literal-first = refl
+
+pointer_to-global : pointer_to with_literals bound 5 ≡ Global 1
+pointer_to-global = refl
+
+literal-last : literal with_literals 1 ≡ Global 2
+literal-last = refl

@@ -11,12 +11,14 @@ use Rattle.c_syntax.specs.Expressions.{Expression, plain_expr}
 use Rattle.c_syntax.specs.Programs.{Function, TranslationUnit}
 use Rattle.c_syntax.specs.Statements.{Declaration, Statement, ElsePart, ForFirst, NoFirst, First, BlockItem, Declare, Specify, Run, Asserts, BlockItems}
 use Rattle.c_syntax.specs.Statements.{NoItem, Then, While, Do, Initialiser, plain_stmt, plain_item}
+use Rattle.c_model.specs.Formed.{number_of}
+use Rattle.c_model.specs.StaticObjects.{static_objects}
 use Rattle.mon_syntax.specs.declared.tree.MonType.TheVariants.{Ptr}
 use Rattle.mon_syntax.specs.Registers.{Names, next_register, with_kinds, with_table}
 use Rattle.mon_syntax.specs.Trees.{MonStatements, NoStatement, Global}
 use Rattle.track_scopes.specs.Blocks.{births, entered}
 use Rattle.c_effects.specs.Effects.{any_temporaries}
-use Rattle.c_effects.specs.Expressions.{before, set, temporaries}
+use Rattle.c_effects.specs.Expressions.{before, object_of_global, set, temporaries}
 use Rattle.c_effects.specs.Named.{initialise_by, unit_of, with_registers}
 use Rattle.instrument.specs.declared.spot.Spot as code
 use Rattle.instrument.specs.Translation.{Spot, after_body, after_else, after_first, after_item, after_items, after_statement, else_part, first_part, for_turns}
@@ -130,14 +132,13 @@ abbrev pub started : Names → ℕ → PlainType → Option (Place × Initialise
 started n g t None = NoStatement
 started n g t (Some i) = before (set (next_register n.table) (Global g)) (initialise_by (with_registers (Ptr ∷ []) n) (next_register n.table) t (Some i))
 
-abbrev pub global_initialised : Names → ℕ → Declaration → MonStatements
-global_initialised n g d = started n g d.ctype d.init
+abbrev pub global_initialised : Names → Declaration → MonStatements
+global_initialised n d = started n (object_of_global (number_of d) (static_objects (unit_of n))) d.ctype d.init
 
--- globals in order, from the one with this index on
-abbrev pub globals_initialised : Names → ℕ → List Declaration → MonStatements
-globals_initialised n g [] = NoStatement
-globals_initialised n g (d ∷ ds) =
-    before (global_initialised n g d) (globals_initialised (with_registers (global_temporaries d.init) n) (suc g) ds)
+-- globals in order
+abbrev pub globals_initialised : Names → List Declaration → MonStatements
+globals_initialised n [] = NoStatement
+globals_initialised n (d ∷ ds) = before (global_initialised n d) (globals_initialised (with_registers (global_temporaries d.init) n) ds)
 
 -- ---- functions
 

@@ -8,12 +8,15 @@ use Rattle.c_syntax.specs.Ctypes as source_type
 use Rattle.c_syntax.specs.Ctypes.{PlainType, Int}
 use Rattle.c_syntax.specs.Expressions.{Expression, type_of}
 use Rattle.c_syntax.specs.Statements as source_statement
-use Rattle.c_syntax.specs.Statements.{Declaration, Statement, ElsePart, NoElse, Else, ForFirst, NoFirst, First, BlockItem, Declare, Specify, Run, Asserts, BlockItems}
+use Rattle.c_syntax.specs.Statements.{Declaration, Statement, ElsePart, NoElse, Else, ForFirst, NoFirst, First, BlockItem}
+use Rattle.c_syntax.specs.Statements.{Declare, Specify, Run, Asserts, BlockItems}
 use Rattle.c_syntax.specs.Statements.{NoItem, Initialiser}
-use Rattle.c_syntax.specs.Programs.{StringLiteral, Function, TranslationUnit}
+use Rattle.c_syntax.specs.Programs.{Function, TranslationUnit}
 use Rattle.c_syntax.specs.Layouts.{size_of}
 use Rattle.c_model.specs.Meaning.{declared_in, declared_first, is_definition}
 use Rattle.c_model.specs.ExpressionTyping.{name_at}
+use Rattle.c_model.specs.Formed.{number_of}
+use Rattle.c_model.specs.StaticObjects.{StaticObject, OfGlobal, OfLiteral, static_objects}
 use Rattle.mon_syntax.specs.declared.tree.MonType.{MonType}
 use Rattle.mon_syntax.specs.declared.tree.MonType.TheVariants.{Ptr}
 use Rattle.mon_syntax.specs.Trees.{MonExpression, MonStatement, Register, Global, Store, If, Loop, Labelled, Goto, Return}
@@ -22,7 +25,7 @@ use Rattle.mon_syntax.specs.Trees.{Zeros, Literal, MonitoredGlobal, MonFunction,
 use Rattle.mon_syntax.specs.Registers.{Bindings, RegisterTable, no_registers, with_kinds, next_register}
 use Rattle.c_effects.specs.Effects.{any_temporaries, declaration_temporaries, effect_temporaries, full_temporaries, full_setup, full_value, effect}
 use Rattle.c_effects.specs.Effects.{effect_if_any, initial_temporaries, initialise, initialise_all}
-use Rattle.c_effects.specs.Expressions.{register_type, value_type, temporaries, before, one, set, condition_of, setup}
+use Rattle.c_effects.specs.Expressions.{object_of_global, register_type, value_type, temporaries, before, one, set, condition_of, setup}
 use Rattle.annot_code.specs.Code.{assertions, behind_assertions}
 use Rattle.track_scopes.specs.Blocks.{entered, birth, births, deaths, with_born}
 
@@ -260,18 +263,26 @@ global_name k name = take 255 (codes "g" ++ (decimal k ++ (codes "_" ++ name)))
 abbrev pub text_name : ℕ → List ℕ
 text_name k = codes "s" ++ decimal k
 
-abbrev pub globals_from : TranslationUnit → ℕ → List Declaration → List MonitoredGlobal
-globals_from p k [] = []
-globals_from p k (d ∷ ds) =
-    record { name = global_name k (name_at p.names d.name); content = Zeros (size_of p.structs d.ctype) } ∷ globals_from p (suc k) ds
+-- the global of an object, which so many globals and so many literals stand before
+abbrev pub monitored_global : TranslationUnit → ℕ → ℕ → StaticObject → MonitoredGlobal
+monitored_global p k n (OfGlobal d) = record { name = global_name k (name_at p.names d.name); content = Zeros (size_of p.structs d.ctype) }
+monitored_global p k n (OfLiteral l) = record { name = text_name n; content = Literal l.bytes }
 
-abbrev pub texts_from : ℕ → List StringLiteral → List MonitoredGlobal
-texts_from k [] = []
-texts_from k (x ∷ xs) = record { name = text_name k; content = Literal x.bytes } ∷ texts_from (suc k) xs
+abbrev pub globals_with : ℕ → StaticObject → ℕ
+globals_with k (OfGlobal d) = k + 1
+globals_with k (OfLiteral l) = k
 
--- globals first, and then literals, in text order
+abbrev pub literals_with : ℕ → StaticObject → ℕ
+literals_with n (OfGlobal d) = n
+literals_with n (OfLiteral l) = n + 1
+
+abbrev pub monitored_from : TranslationUnit → ℕ → ℕ → List StaticObject → List MonitoredGlobal
+monitored_from p k n [] = []
+monitored_from p k n (o ∷ os) = monitored_global p k n o ∷ monitored_from p (globals_with k o) (literals_with n o) os
+
+-- globals and literals in the order of the text
 abbrev pub monitored_globals : TranslationUnit → List MonitoredGlobal
-monitored_globals p = globals_from p 0 p.globals ++ texts_from 0 p.texts
+monitored_globals p = monitored_from p 0 0 (static_objects p)
 
 -- what a global that has an initialiser takes: a register that points to it, and those of the initialiser
 abbrev pub global_temporaries : Option (Place × Initialiser) → List MonType
@@ -286,11 +297,12 @@ abbrev pub initialise_global : TranslationUnit → List MonType → ℕ → Plai
 initialise_global p rs g t None = NoStatement
 initialise_global p rs g t (Some i) = before (set (length rs) (Global g)) (initialise p [] (rs ++ Ptr ∷ []) (length rs) t (Some i))
 
--- the globals are initialised in text order, from the one with this index on
-abbrev pub initialise_globals : TranslationUnit → List MonType → ℕ → List Declaration → MonStatements
-initialise_globals p rs g [] = NoStatement
-initialise_globals p rs g (d ∷ ds) =
-    before (initialise_global p rs g d.ctype d.init) (initialise_globals p (rs ++ global_temporaries d.init) (suc g) ds)
+-- the globals are initialised in text order
+abbrev pub initialise_globals : TranslationUnit → List MonType → List Declaration → MonStatements
+initialise_globals p rs [] = NoStatement
+initialise_globals p rs (d ∷ ds) =
+    before (initialise_global p rs (object_of_global (number_of d) (static_objects p)) d.ctype d.init)
+    (initialise_globals p (rs ++ global_temporaries d.init) ds)
 
 -- ---- programs
 
@@ -311,7 +323,7 @@ abbrev pub front_temporaries : TranslationUnit → Bool → List MonType
 front_temporaries p is_main = if is_main then all_global_temporaries p.globals else []
 
 abbrev pub front : TranslationUnit → Bool → List Declaration → MonStatements
-front p is_main params = if is_main then initialise_globals p (value_types params) 0 p.globals else NoStatement
+front p is_main params = if is_main then initialise_globals p (value_types params) p.globals else NoStatement
 
 -- the definition with the index k, where `main` has this index
 abbrev pub function_of : TranslationUnit → ℕ → ℕ → Function → MonFunction

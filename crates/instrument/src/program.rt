@@ -130,7 +130,7 @@ fn front(
     names: &mut Registers<'_>,
     to: &mut Vec<MonStmt>,
 ) -> Result<(), AllocError>
-    ensures code { OnOk result (plain_stmts to.new.items ≡ before (plain_stmts to.old.items) (if is_main then globals_initialised names.old 0
+    ensures code { OnOk result (plain_stmts to.new.items ≡ before (plain_stmts to.old.items) (if is_main then globals_initialised names.old
         (unit_of names.old).globals else NoStatement)) }
     ensures names { OnOk result (names.new ≡ with_registers (front_temporaries (unit_of names.old) is_main) names.old) }
     ensures letters { OnOk result (is_main ≡ true → InitialsHaveLetters (unit_of names.old).globals) }

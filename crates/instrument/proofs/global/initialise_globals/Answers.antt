@@ -1,4 +1,4 @@
-use Rattle.std.proofs.Common.{◌≡◌, suc, ◌+◌, drop, map, refl, ap, subst, sym, ◌∙◌, arith}
+use Rattle.std.proofs.Common.{◌+◌, drop, map, refl, ap, subst, sym, ◌∙◌}
 use Rattle.c_syntax.specs.Statements.{plain_decl}
 use Rattle.mon_syntax.specs.Trees.{plain_stmts}
 use Rattle.c_effects.specs.Letters.{InitialsHaveLetters}
@@ -12,22 +12,19 @@ use Rattle.instrument.proofs.global.initialise_globals.Goals as goal
 pub returns-clause-code : goal.returns-clause-code
 returns-clause-code c =
     let ds = c.globals-decls.result.now in
-    all_there (none_left (λ l. globals_initialised c.decls.names c.decls.index (map plain_decl l)) ds c.decls.d-index c.decls-test.false) c.decls.invariant.code
-    ∙ ap (λ l. before (plain_stmts c.args.to.now.items) (globals_initialised c.args.names.now 0 (map plain_decl l))) c.globals-decls.ensures
+    all_there (none_left (λ l. globals_initialised c.decls.names (map plain_decl l)) ds c.decls.d-index c.decls-test.false) c.decls.invariant.code
+    ∙ ap (λ l. before (plain_stmts c.args.to.now.items) (globals_initialised c.args.names.now (map plain_decl l))) c.globals-decls.ensures
 
 pub decls-preserved : goal.decls-preserved
 decls-preserved c =
     let n = c.decls.names in
-    let g = c.decls.index in
     let ds = c.globals-decls.result.now in
     let d = plain_decl c.d-item.result in
     let rest = map plain_decl (drop (c.decls.d-index + 1) ds) in
     let left = left_at (map plain_decl) ds c.decls.d-index _ _ c.decls-test.true c.d-item.is refl in
-    let next : c.in_ok-index.index ≡ suc g = c.in_ok-index.ensures ∙ omega arith in
     record {
       code =
-          ap (λ k. before (plain_stmts c.initialise_global.new.to.items) (globals_initialised c.initialise_global.new.names k rest)) next
-          ∙ more_behind (plain_stmts c.decls.to.items) (global_initialised n g d) (with_registers (global_temporaries d.init) n) (λ m. globals_initialised m (suc g) rest) (ap (globals_initialised n g) left)
+          more_behind (plain_stmts c.decls.to.items) (global_initialised n d) (with_registers (global_temporaries d.init) n) (λ m. globals_initialised m rest) (ap (globals_initialised n) left)
           c.in_ok-initialise_global.ensures.code c.in_ok-initialise_global.ensures.names c.decls.invariant.code;
       names = registers_grown n (global_temporaries d.init) (all_global_temporaries rest) (ap all_global_temporaries left) c.in_ok-initialise_global.ensures.names c.decls.invariant.names;
       letters = λ rest. c.decls.invariant.letters (subst InitialsHaveLetters (sym left) (c.in_ok-initialise_global.ensures.letters, rest));

@@ -10,7 +10,7 @@ use Rattle.instrument.proofs.global.initialise_globals.Given as goal
 
 abbrev pub invariant-decls : goal.invariant-decls
 invariant-decls l = record {
-  code : before (plain_stmts l.to.items) (globals_initialised l.names l.index (map plain_decl (drop l.d-index l.decls))) ≡ before (plain_stmts l.initial.to.items) (globals_initialised l.initial.names 0 (map plain_decl l.decls));
+  code : before (plain_stmts l.to.items) (globals_initialised l.names (map plain_decl (drop l.d-index l.decls))) ≡ before (plain_stmts l.initial.to.items) (globals_initialised l.initial.names (map plain_decl l.decls));
   names : with_registers (all_global_temporaries (map plain_decl (drop l.d-index l.decls))) l.names ≡ with_registers (all_global_temporaries (map plain_decl l.decls)) l.initial.names;
   letters : InitialsHaveLetters (map plain_decl (drop l.d-index l.decls)) → InitialsHaveLetters (map plain_decl l.decls);
 }
