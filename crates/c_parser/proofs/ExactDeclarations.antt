@@ -264,11 +264,12 @@ module _ (ws : Vocabulary) where
 
   declared_list_good : (t : PlainType) → IsRead ws (declared_list ws t) false (mark_kind semicolon ∷ first_dtor) []
   unfolding declared_list
-  declared_list_good t = declared (either (mark_kind semicolon ∷ []) (ended_good []) (seq (declared_once_good t []) (λ ds. more_declared_good t ds) refl) refl) refl
+  declared_list_good t = declared (either (mark_kind semicolon ∷ []) (seq (fixed_good ws (mark_kind semicolon)) (λ at. given _) refl)
+      (seq (declared_once_good t []) (λ ds. seq (more_declared_good t ds) (λ es. given _) refl) refl) refl) refl
 
   pub declaration_good : IsRead ws (declaration ws) false first_type []
   unfolding declaration
-  declaration_good = declared (seq (type_good ws) (λ t. seq (declared_list_good t) (λ ds. given _) refl) refl) refl
+  declaration_good = declared (seq (type_good ws) (λ t. declared_list_good t) refl) refl
 
   -- ---- parameters
 

@@ -85,7 +85,7 @@ module _ (ws : Vocabulary) where
 
   declared_at_file_good : (t : PlainType) (x : FileParts) → IsRead ws (declared_at_file ws t x) false (mark_kind semicolon ∷ first_dtor) []
   unfolding declared_at_file
-  declared_at_file_good t x = declared (either (mark_kind semicolon ∷ []) (ended_good ws x) (seq (full_dtor_good ws named.Ordinary) (λ d. behind_declarator_good t x d) refl) refl) refl
+  declared_at_file_good t x = declared (either (mark_kind semicolon ∷ []) (seq (fixed_good ws (mark_kind semicolon)) (λ at. given _) refl) (seq (full_dtor_good ws named.Ordinary) (λ d. behind_declarator_good t x d) refl) refl) refl
 
 -- ---- punctuators are told whatever the words are
 

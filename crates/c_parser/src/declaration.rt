@@ -11,7 +11,7 @@ use crate::declarator::{Declarator, declared_by, full_dtor};
 use crate::initialiser::initialiser;
 use c_expr_parser::kinds::{ASSIGN, COMMA, SEMICOLON};
 use c_expr_parser::terminals::{kept, next_is, skip};
-use c_expr_parser::types::{BaseType, type_words};
+use c_expr_parser::types::{BaseType, ctype_of, type_words};
 use c_model::declarations::Named;
 use c_model::vocabulary::Word;
 use c_syntax::fault::ReadFault;
@@ -113,23 +113,24 @@ pub fn more_declared<'a>(
     Ok((all, rest))
 }
 
-/// `[ declared { "," declared } ] ";"`
-#[tactic(auto, unfolding(c_model::specs::DeclarationGrammar::declared_list, c_model::specs::DeclarationGrammar::ended))]
+/// `[ declared { "," declared } ] ";"`, after the words for a type.
+#[tactic(auto, unfolding(c_model::specs::DeclarationGrammar::declared_list))]
 fn declared_list<'a>(
     alloc: Global,
     words: &[Word],
     base: BaseType,
     tokens: &'a [Token],
-) -> Result<(Vec<Decl>, &'a [Token]), ReadFault>
-    ensures { Gives (λ x. (map plain_decl x.0.items, plain_list x.1.now)) result
+) -> Result<(Item, &'a [Token]), ReadFault>
+    ensures { Gives (λ x. (plain_item x.0, plain_list x.1.now)) result
         ((declared_list words.now (plain_base base)).parse (plain_list tokens.now)) }
 {
     if next_is(words, SEMICOLON, tokens) {
-        let (_, rest) = skip(words, SEMICOLON, tokens)?;
-        Ok((Vec::new(alloc), rest))
+        let (place, rest) = skip(words, SEMICOLON, tokens)?;
+        Ok((Item::Specify(place, ctype_of(base)), rest))
     } else {
         let (all, rest) = declared_once(alloc, words, base, Vec::new(alloc), tokens)?;
-        more_declared(alloc, words, base, all, rest)
+        let (all, rest) = more_declared(alloc, words, base, all, rest)?;
+        Ok((Item::Declare(all), rest))
     }
 }
 
@@ -143,6 +144,5 @@ pub fn declaration<'a>(
     ensures { Gives (λ x. (plain_item x.0, plain_list x.1.now)) result ((declaration words.now).parse (plain_list tokens.now)) }
 {
     let (base, rest) = type_words(words, tokens)?;
-    let (all, rest) = declared_list(alloc, words, base, rest)?;
-    Ok((Item::Declare(all), rest))
+    declared_list(alloc, words, base, rest)
 }

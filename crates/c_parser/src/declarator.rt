@@ -3,7 +3,7 @@
 ghost use Rattle.std.specs.Prelude.{◌≡◌, ◌≤◌, ◌<◌, length, IfOk, IfErr, option_map};
 ghost use Rattle.c_syntax.specs.Statements.{plain_decl, plain_init};
 ghost use Rattle.c_syntax.specs.Programs.{plain_member};
-ghost use Rattle.c_model.specs.DeclarationGrammar.{names_function, is_nothing, declared_by, parameter_of, member_of};
+ghost use Rattle.c_model.specs.DeclarationGrammar.{names_function, is_nothing, declared_by, nameless, parameter_of, member_of};
 ghost use Rattle.c_model.specs.DeclarationGrammar.{declared_name, dtor, full_dtor, maybe_name, abstract_dtor, full_abstract_dtor};
 ghost use Rattle.c_expr_parser.specs.Reading.{plain_base};
 ghost use Rattle.token_reader.specs.Reading.{Gives, TakesNoMemory, plain_list};
@@ -14,7 +14,7 @@ use c_expr_parser::full::{MOST, behind, passed, resumed, window};
 use c_expr_parser::kinds::NAME;
 use c_expr_parser::lengths::brackets;
 use c_expr_parser::terminals::{any_name, name, next_is};
-use c_expr_parser::types::{BaseType, star_words};
+use c_expr_parser::types::{BaseType, ctype_of, star_words};
 use c_model::declarations::Named;
 use c_model::operands::Stars;
 use c_model::vocabulary::Word;
@@ -83,6 +83,19 @@ pub fn declared_by(
         ctype,
         init,
     })
+}
+
+/// A declaration without declarators, at its `;`.
+pub fn nameless(base: BaseType, place: Place) -> Decl
+    ensures { plain_decl result ≡ nameless (plain_base base) place }
+{
+    Decl {
+        place,
+        name: 0,
+        named: false,
+        ctype: ctype_of(base),
+        init: None,
+    }
 }
 
 /// A parameter, which has the number and the place of its first word where it has no name.

@@ -13,7 +13,7 @@ ghost use Rattle.c_parser.specs.Reading.{plain_declarator, plain_parts, other_ty
 
 use crate::annotation::misplaced;
 use crate::declaration::{initialised, more_declared};
-use crate::declarator::{Declarator, declared_by, full_dtor, names_function};
+use crate::declarator::{Declarator, declared_by, full_dtor, nameless, names_function};
 use crate::function::function_behind;
 use crate::specifier::file_spec;
 use crate::tagged::Definitions;
@@ -134,7 +134,7 @@ fn behind_declarator<'a>(
 }
 
 /// What stands after the words for a type.
-#[tactic(auto, unfolding(c_model::specs::ProgramGrammar::declared_at_file, c_model::specs::DeclarationGrammar::ended))]
+#[tactic(auto, unfolding(c_model::specs::ProgramGrammar::declared_at_file))]
 fn declared_at_file<'a>(
     alloc: Global,
     base: BaseType,
@@ -144,8 +144,10 @@ fn declared_at_file<'a>(
     ensures { Gives (λ x. (plain_parts x.0, plain_list x.1.now)) result
         ((declared_at_file (plain_parts parts).words (plain_base base) (plain_parts parts)).parse (plain_list tokens.now)) }
 {
+    let mut parts = parts;
     if next_is(parts.words.as_slice(), SEMICOLON, tokens) {
-        let (_, rest) = skip(parts.words.as_slice(), SEMICOLON, tokens)?;
+        let (place, rest) = skip(parts.words.as_slice(), SEMICOLON, tokens)?;
+        parts.typedefs.push(nameless(base, place))?;
         Ok((parts, rest))
     } else {
         let (d, rest) = full_dtor(alloc, parts.words.as_slice(), Named::Ordinary, tokens)?;

@@ -59,7 +59,7 @@ fn tag_type(defines: Tagged, name: u32, place: Place) -> BaseType
     ensures { plain_base result ≡ tag_type defines (name, place) }
 {
     match defines {
-        Tagged::Struct => BaseType::StructTag(name),
+        Tagged::Struct => BaseType::StructTag(name, place),
         Tagged::Enum => BaseType::EnumTag(name, place),
     }
 }
