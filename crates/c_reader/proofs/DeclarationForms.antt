@@ -7,7 +7,7 @@ use Rattle.std.specs.List.{AllByRecursion}
 use Rattle.grammar.specs.Syntax.{Syntax, none}
 use Rattle.c_syntax.specs.declared.place.Place.{Place}
 use Rattle.c_syntax.specs.Ctypes.{PlainType}
-use Rattle.c_syntax.specs.Statements.{Initialiser, Declaration, First, BlockItem, Declare}
+use Rattle.c_syntax.specs.Statements.{Initialiser, Declaration, First, BlockItem, Declare, Specify}
 use Rattle.c_syntax.specs.Tokens as token
 use Rattle.c_syntax.specs.Tokens.{PlainTokenKind, PlainToken}
 use Rattle.c_model.specs.declared.declarations.Named.TheVariants as named
@@ -296,21 +296,24 @@ module _ (size : ℕ) (old : Vocabulary) where
         from_then (from_many (kind ws) (λ _. mark_kind comma ∷ []) {P = AreMore before l} (λ j es q. next_from t before l j es q) m ds h) (λ j es q.
         ended_from (AreMore before l) es (λ n le. more_higher before l j n es le q))
 
-    list_declared_from : (t : PlainType) (l : ℕ) → From size l (declared_list ws t) (AreMore [] l)
-    unfolding declared_list
-    list_declared_from t l =
-        from_choice (kind ws) (mark_kind semicolon ∷ []) (ended_from (AreMore [] l) [] (λ n le. no_more l n le))
-        (from_then (once_from t [] l l [] (no_more l l (omega arith))) (λ j ds h. more_from t [] l j ds h))
-      where
-        no_more : (l n : ℕ) → l ≤ n → AreMore [] l n []
-        no_more l n le = record { new = []; is = refl; are = record { declares = declares_none l n le; initialised = record { are = tt; short = tt } } }
-
     declaration_is : (l m n : ℕ) (ds : List Declaration) → l ≤ m → AreMore [] m n ds → IsDeclaration l n (Declare ds)
     declaration_is l m n ds le p =
         let h : AreDeclarators m n ds = subst (λ (es : List Declaration). AreDeclarators m n es) (sym p.is) p.are in
         let placed = initialised_placed ds h.initialised.are in
         record { is = placed; first = placed; short = h.initialised.short; flat = refl; declares = declares_lower l m n ds le h.declares }
 
+    specified_is : (l n : ℕ) (at : Place) (t : PlainType) → l ≤ n → IsDeclaration l n (Specify at t)
+    specified_is l n at t le = record { is = tt; first = tt; short = tt; flat = refl; declares = declares_none l n le }
+
+    list_declared_from : (t : PlainType) (l m : ℕ) → l ≤ m → From size m (declared_list ws t) (IsDeclaration l)
+    unfolding declared_list
+    list_declared_from t l m le =
+        from_choice (kind ws) (mark_kind semicolon ∷ []) (from_then (from_any (mark ws semicolon)) (λ n at lf. from_gives _ (specified_is l n at t (omega (arith, le, lf)))))
+        (from_then (once_from t [] m m [] no_more) (λ j ds h. from_then (more_from t [] m j ds h) (λ n es g. from_gives _ (declaration_is l m n es le g))))
+      where
+        no_more : AreMore [] m m []
+        no_more = record { new = []; is = refl; are = record { declares = declares_none m m (omega arith); initialised = record { are = tt; short = tt } } }
+
     pub declaration_from : (l : ℕ) → From size l (declaration ws) (IsDeclaration l)
     unfolding declaration
-    declaration_from l = from_then (from_any (type_words ws)) (λ m t le. from_then (list_declared_from t m) (λ n ds h. from_gives _ (declaration_is l m n ds le h)))
+    declaration_from l = from_then (from_any (type_words ws)) (λ m t le. list_declared_from t l m le)

@@ -4,7 +4,7 @@ use Rattle.c_syntax.specs.declared.place.Place.{Place}
 use Rattle.c_syntax.specs.Expressions.{Expression}
 use Rattle.c_syntax.specs.Statements.{Initialiser, One, Many, Initialisers, NoInitialiser, Listed, Declaration, Statement, Empty, Eval, Block, If, While, Do}
 use Rattle.c_syntax.specs.Statements.{Labelled, Switch, Cases, NoCase, AnotherCase}
-use Rattle.c_syntax.specs.Statements.{For, Break, Continue, Return, ElsePart, NoElse, Else, ForFirst, NoFirst, First, BlockItem, Declare, Run, Asserts, BlockItems, NoItem, Then}
+use Rattle.c_syntax.specs.Statements.{For, Break, Continue, Return, ElsePart, NoElse, Else, ForFirst, NoFirst, First, BlockItem, Declare, Specify, Run, Asserts, BlockItems, NoItem, Then}
 use Rattle.c_syntax.specs.Programs.{Function}
 use Rattle.c_model.specs.TypedTrees.{WhereAny}
 use Rattle.c_model.specs.FullExpressions.{EachInitial, EachPart, EachDeclared, EachIn, EachInCases, EachInElse, EachInFirst, EachInItem, EachInItems, EachInBody, EachInFunctions}
@@ -60,6 +60,7 @@ module _ (P Q : Expression → Type 0) (follows : (e : Expression) → P e → Q
 
     item_follows : (i : BlockItem) → EachInItem P i → EachInItem Q i
     item_follows (Declare ds) h = declared_follow ds h
+    item_follows (Specify at t) h = tt
     item_follows (Run a) h = statement_follows a h
     item_follows (Asserts annots) h = tt
 

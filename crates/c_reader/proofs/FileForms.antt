@@ -1,5 +1,5 @@
 -- What is read of a file: its functions are formed, what it declares has names of C, and the places of all that it declares are apart and in order.
-use Rattle.std.proofs.Common.{◌≡◌, ℕ, suc, ◌+◌, ◌-◌, ◌≤◌, List, [], ◌∷◌, ◌++◌, map, Some, None, refl, sym, ap, subst, ◌∙◌, arith}
+use Rattle.std.proofs.Common.{◌≡◌, ℕ, suc, ◌+◌, ◌-◌, ◌<◌, ◌≤◌, slice_set, List, [], ◌∷◌, ◌++◌, map, Some, None, refl, sym, ap, subst, ◌∙◌, arith}
 use Rattle.std.proofs.lemmas.List.{map-append}
 use Rattle.std.specs.List.{AllByRecursion}
 use Rattle.c_syntax.specs.declared.place.Place.{Place}
@@ -9,17 +9,19 @@ use Rattle.c_syntax.specs.Programs.{Function, StringLiteral, TranslationUnit}
 use Rattle.c_model.specs.declared.declarations.AnnotationState.{AnnotationState}
 use Rattle.c_model.specs.declared.declarations.Storage.{Storage}
 use Rattle.c_model.specs.declared.declarations.Storage.TheVariants as storage
+use Rattle.c_model.specs.declared.vocabulary.TypeName.TheVariants.{Declared}
+use Rattle.c_model.specs.declared.vocabulary.Word.TheVariants as word
 use Rattle.c_model.specs.Vocabulary.{Vocabulary}
 use Rattle.c_model.specs.Punctuators.{semicolon, comma, left_paren, left_brace, right_brace}
 use Rattle.c_model.specs.ExpressionGrammar.{mark_kind, kind, mark, pointers, most_nested}
-use Rattle.c_model.specs.DeclarationGrammar.{Declarator, Definitions, names_function, ended, declared_by}
-use Rattle.c_model.specs.ProgramGrammar.{FileParts, no_parts, with_typedef, block_items, function_with, unit_with, function_rest, function, globals, behind_declarator, declared_at_file}
+use Rattle.c_model.specs.DeclarationGrammar.{Declarator, Definitions, names_function, ended, declared_by, nameless}
+use Rattle.c_model.specs.ProgramGrammar.{FileParts, no_parts, with_typedef, with_nameless, block_items, function_with, unit_with, function_rest, function, globals, behind_declarator, declared_at_file}
 use Rattle.c_model.specs.ProgramGrammar.{next_typedef, more_typedefs, typedefs, behind_spec, strays, declared_external, external, any_kind, more_external, unit}
 use Rattle.c_model.specs.Formed.{AreReadAsserts, declared_in_body, declared_in_items, number_of, numbers_of}
 use Rattle.c_model.specs.FullExpressions.{EachInBody}
 use Rattle.c_model.specs.UnitTyping.{AFunction}
 use Rattle.c_model.specs.ReadTree.{Between, FunctionRead}
-use Rattle.c_reader.proofs.PlacedReadings.{From, from_gives, from_then, from_choice, from_cond, from_any, from_many, between_lower, between_higher, between_joined}
+use Rattle.c_reader.proofs.PlacedReadings.{From, from_gives, from_then, from_choice, from_cond, from_any, from_many, between_lower, between_higher, between_joined, IsPlaceWithin, fixed_from}
 use Rattle.c_reader.proofs.ExpressionForms.{IsShortAndBare}
 use Rattle.c_reader.proofs.Covers.{held, IsApart, apart_held, apart_higher, apart_more, apart_same}
 use Rattle.c_reader.proofs.ItemOrder.{behind_between, between_on, end_of_item}
@@ -183,22 +185,30 @@ module _ (size : ℕ) (old : Vocabulary) where
             (declared_apart m n p.new (parts_cover x) p.are.declares.numbers h.apart);
       }
 
-  typedef_is : (t : PlainType) (m n : ℕ) (x : FileParts) (d : Declarator) → IsFile m x → IsNameWithin size old m n (d.name, d.place) → IsFile n (with_typedef t x d)
-  typedef_is t m n x d h p =
-      let new = declared_by t d None in
-      let numbers : Between m (map number_of (new ∷ [])) n = (p.from, p.to) in
-      let higher = file_higher m n x (omega (arith, p.from, p.to)) h in
+  -- one more name of a type, or declaration without declarators
+  one_more_type : (ws : Vocabulary) (m n : ℕ) (x : FileParts) (new : Declaration) → IsLater old ws → IsFile m x → m ≤ new.place.offset → new.place.offset < n
+      → IsFile n (record x { words = ws; typedefs = x.typedefs ++ new ∷ [] })
+  one_more_type ws m n x new later h from to =
+      let numbers : Between m (map number_of (new ∷ [])) n = (from, to) in
+      let higher = file_higher m n x (omega (arith, from, to)) h in
       record {
-        later = later_typedef old x.words d.name h.later;
+        later = later;
         definitions = higher.definitions;
         typedefs = subst (λ is. Between 0 is n) (sym (map-append number_of x.typedefs (new ∷ []))) (between_joined 0 m n (map number_of x.typedefs) (map number_of (new ∷ [])) h.typedefs numbers);
         globals = higher.globals;
         functions = higher.functions;
         ascend = higher.ascend;
-        apart = apart_same n (λ o. declared_cover o (new ∷ []) + parts_cover x o) (parts_cover (with_typedef t x d))
+        apart = apart_same n (λ o. declared_cover o (new ∷ []) + parts_cover x o) (parts_cover (record x { words = ws; typedefs = x.typedefs ++ new ∷ [] }))
             (λ o. (let e = declared_joined o x.typedefs (new ∷ []) in omega (arith, e)))
             (declared_apart m n (new ∷ []) (parts_cover x) numbers h.apart);
       }
+
+  typedef_is : (t : PlainType) (m n : ℕ) (x : FileParts) (d : Declarator) → IsFile m x → IsNameWithin size old m n (d.name, d.place) → IsFile n (with_typedef t x d)
+  typedef_is t m n x d h p =
+      one_more_type (slice_set x.words d.name (word.TypeName Declared)) m n x (declared_by t d None) (later_typedef old x.words d.name h.later) h p.from p.to
+
+  nameless_is : (t : PlainType) (m n : ℕ) (x : FileParts) (at : Place) → IsFile m x → IsPlaceWithin m n at → IsFile n (with_nameless t x at)
+  nameless_is t m n x at h p = one_more_type x.words m n x (nameless t at) h.later h p.from p.to
 
   with_definitions_is : (m n : ℕ) (x : FileParts) (d : Definitions) → IsFile m x → AreAdded m n x.definitions d → IsFile n (record x { definitions = d })
   with_definitions_is m n x d h p =
@@ -247,10 +257,10 @@ module _ (size : ℕ) (old : Vocabulary) where
         (λ _. globals_from t x d l m h p)
 
     at_file_from : (t : PlainType) (x : FileParts) (l : ℕ) → IsFile l x → From size l (declared_at_file ws t x) IsFile
-    unfolding declared_at_file ended
+    unfolding declared_at_file
     at_file_from t x l h =
         from_choice (kind ws) (mark_kind semicolon ∷ [])
-        (from_then (from_any (mark ws semicolon)) (λ n _ le. from_gives x (file_higher l n x le h)))
+        (from_then (fixed_from ws (mark_kind semicolon) l) (λ n at p. from_gives _ (nameless_is t l n x at h p)))
         (from_then (dtor_from size old ws later l) (λ m d p. behind_from t x d l m h p))
 
   -- ---- texts

@@ -3,7 +3,7 @@ use Rattle.std.proofs.Common.{◌≡◌, ℕ, suc, ◌<◌, Bool, true, false, n
 use Rattle.std.specs.List.{AllByRecursion}
 use Rattle.std.proofs.lemmas.Bool.{eqb-true}
 use Rattle.c_syntax.specs.Statements.{Declaration, Statement, Empty, Eval, Block, If, While, Do, For, Break, Continue, Return, ElsePart, NoElse, Else}
-use Rattle.c_syntax.specs.Statements.{Labelled, Switch, Cases, NoCase, AnotherCase, ForFirst, NoFirst, First, BlockItem, Declare, Run, Asserts, BlockItems, NoItem, Then}
+use Rattle.c_syntax.specs.Statements.{Labelled, Switch, Cases, NoCase, AnotherCase, ForFirst, NoFirst, First, BlockItem, Declare, Specify, Run, Asserts, BlockItems, NoItem, Then}
 use Rattle.c_syntax.specs.Programs.{Function}
 use Rattle.c_model.specs.Formed.{number_of, numbers_of, declared_within, declared_in_cases, declared_in_else, declared_in_first, declared_in_item, declared_in_items, declared_in_body}
 use Rattle.c_model.specs.PlacedTrees.{IsOffset, ArePlaced, StatementPlaced, CasesPlaced, ElsePlaced, FirstPlaced, ItemPlaced, ItemsPlaced, BodyPlaced, ParametersPlaced, FunctionPlaced}
@@ -70,6 +70,7 @@ mutual
 
   item_placed : (i : BlockItem) → AreBelow (declared_in_item i) → ItemPlaced i
   item_placed (Declare ds) h = placed ds h
+  item_placed (Specify at t) h = tt
   item_placed (Run a) h = statement_placed a h
   item_placed (Asserts annots) h = tt
 
