@@ -1,6 +1,6 @@
 //! Initialisers of globals, which are constant (C99 6.6 p7, 6.7.8 p4): numbers, strings, null, and addresses of globals plus constants.
 
-ghost use Rattle.std.specs.Prelude.{◌≡◌, IfOk, Some, map};
+ghost use Rattle.std.specs.Prelude.{◌≡◌, IfOk, map, true};
 ghost use Rattle.c_syntax.specs.Ctypes.{plain_type};
 ghost use Rattle.c_syntax.specs.Expressions.{plain_expr};
 ghost use Rattle.c_syntax.specs.Programs.{plain_layout};
@@ -10,7 +10,7 @@ ghost use Rattle.c_model.specs.DeclarationTyping.{is_address};
 ghost use Rattle.c_expression_rules.specs.Constants.{has_small_sizes};
 ghost use Rattle.c_expression_rules.specs.Newest.{entities_of};
 ghost use Rattle.c_expression_rules.specs.Sights.{plain_sight};
-ghost use Rattle.c_declaration_rules.specs.Initialisers.{allowed_where, last_with, with_last};
+ghost use Rattle.c_declaration_rules.specs.Initialisers.{allowed_where};
 ghost use Rattle.c_declaration_rules.specs.Statics.{address_spot, difference_of, element_of, member_spot, object_size, place_spot};
 ghost use Rattle.c_declaration_rules.specs.Statics.{pointer_of, stepped, taken_spot};
 

@@ -1,6 +1,6 @@
 //! Declarations of objects, of names of types and of parameters (C99 6.7, 6.7.5.3, 6.7.7).
 
-ghost use Rattle.std.specs.Prelude.{◌≡◌, IfOk, OnOk, option_map};
+ghost use Rattle.std.specs.Prelude.{◌≡◌, OnOk};
 ghost use Rattle.c_syntax.specs.Ctypes.{plain_type};
 ghost use Rattle.c_syntax.specs.Statements.{plain_decl};
 ghost use Rattle.c_model.specs.ExpressionTyping.{with_object};
