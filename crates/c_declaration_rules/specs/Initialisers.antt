@@ -1,6 +1,6 @@
 -- Ours: the typing of initialisers (c_model/specs/DeclarationTyping) as the code does it.
 -- Which expressions may initialise, and the objects that items initialise by their index.
-use Rattle.std.specs.Prelude.{ℕ, List, [], ◌∷◌, ◌&&◌, ◌||◌, cond, nat_lt, nat_eq, slice_get, Bool, true, false, Option, Some, None, option_map}
+use Rattle.std.specs.Prelude.{ℕ, List, ◌&&◌, ◌||◌, cond, nat_lt, nat_eq, slice_get, Bool, true, false, Option, Some, None, option_map}
 use Rattle.c_syntax.specs.declared.place.Place.{Place}
 use Rattle.c_syntax.specs.Ctypes.{PlainType, Array, Struct}
 use Rattle.c_syntax.specs.Expressions.{Expression}

@@ -1,5 +1,6 @@
 -- Laws that the definitions meet: of integers and memory, of runs, and of the order of runs.
-use Rattle.std.specs.Prelude.{◌≡◌, ℕ, suc, ◌+◌, ◌%◌, ◌^◌, ◌<◌, ◌≤◌, ◌≢◌, ℤ, pos, true, false, if◌then◌else◌, List, [], ◌∷◌, length, take, drop, Option, Some, None}
+use Rattle.std.specs.Prelude.{◌≡◌, ℕ, suc, ◌+◌, ◌%◌, ◌^◌, ◌<◌, ◌≤◌, ◌≢◌, ℤ, pos, true, false, if◌then◌else◌, List, [], ◌∷◌, length, take, drop, Option, Some}
+use Rattle.std.specs.Prelude.{None}
 use Rattle.c_syntax.specs.declared.place.Place.{Place}
 use Rattle.c_syntax.specs.declared.types.CInt.{CInt}
 use Rattle.c_syntax.specs.declared.types.CInt.TheVariants.{I32}

@@ -317,7 +317,8 @@ module _ (ws : Vocabulary) where
   -- what stands after the words for a type
   unfoldable pub declared_at_file : PlainType → FileParts → Syntax PlainToken FileParts
   declared_at_file t x =
-      choice (kind ws) (mark_kind semicolon ∷ []) (mark ws semicolon then λ at. gives (with_nameless t x at)) (full_dtor ws ordinary.Ordinary then λ d. behind_declarator t x d)
+      choice (kind ws) (mark_kind semicolon ∷ []) (mark ws semicolon then λ at. gives (with_nameless t x at))
+      (full_dtor ws ordinary.Ordinary then λ d. behind_declarator t x d)
 
 -- ---- what a typedef declares (C99 6.7.7), each name being that of a type from the end of its declarator on
 

@@ -7,7 +7,8 @@ use Rattle.c_syntax.specs.Ctypes.{PlainType, Int}
 use Rattle.c_syntax.specs.Expressions.{Expression, Node, Number, place_of}
 use Rattle.c_syntax.specs.Statements.{Switch, Cases, NoCase, AnotherCase}
 use Rattle.c_syntax.specs.Statements.{Initialiser, One, Many, Initialisers, NoInitialiser, Listed, Declaration, Statement, Empty, Eval, Block, If, While, Do}
-use Rattle.c_syntax.specs.Statements.{For, Break, Continue, Return, Labelled, ElsePart, NoElse, Else, ForFirst, NoFirst, First, BlockItem, Declare, Specify, Run}
+use Rattle.c_syntax.specs.Statements.{For, Break, Continue, Return, Labelled, ElsePart, NoElse, Else, ForFirst, NoFirst, First, BlockItem, Declare, Specify}
+use Rattle.c_syntax.specs.Statements.{Run}
 use Rattle.c_syntax.specs.Statements.{Asserts}
 use Rattle.c_syntax.specs.Statements.{BlockItems, NoItem, Then}
 use Rattle.c_syntax.specs.Programs.{EnumConstant, EnumType, Function}

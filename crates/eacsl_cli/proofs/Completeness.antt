@@ -16,7 +16,8 @@ use Rattle.mon_syntax.specs.Translates.{Translates}
 use Rattle.mon_syntax.specs.Spelled.{Spells, IsMonitoredRefusal}
 use Rattle.mon_reader.proofs.Texts.{one_spelled, spelled_apart, one_monitored_refusal}
 use Rattle.c_machine.specs.Inputs.{Taking}
-use Rattle.eacsl_cli.specs.Answers.{Answer, reported_answer, AnswersRun, refused_answer, written_answer, file_limit, Change, IsDue, Usage, NoFile, TooLong, FolderFault, OfText, Begins, RunDue, RunRefused, Runs, InstrumentDue, InstrumentRefused, Writes, ExecDue}
+use Rattle.eacsl_cli.specs.Answers.{Answer, reported_answer, AnswersRun, refused_answer, written_answer, file_limit, Change, IsDue, Usage, NoFile, TooLong, FolderFault, OfText, Begins, RunDue, RunRefused, Runs, InstrumentDue, InstrumentRefused}
+use Rattle.eacsl_cli.specs.Answers.{Writes, ExecDue}
 use Rattle.eacsl_cli.specs.Answers.{ExecRefused, Executes, TextDue, Answered, Given, OutputFault, LineFault, NoMemory}
 use Rattle.eacsl_cli.specs.Complete.{Steady, IsGiven, answers_source, AnswersSource, IsAsked, IsAnswered, Complete}
 

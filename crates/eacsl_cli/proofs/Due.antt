@@ -25,7 +25,8 @@ use Rattle.c_machine.specs.declared.stop.Ran as machine
 use Rattle.c_machine.specs.Inputs.{Taking, taking, Untouched, EndsAsRead}
 use Rattle.c_machine.specs.Reading.{fault_behind}
 use Rattle.c_machine.specs.Whole.{starts_of, memory_of, RunOn, FaultsBehind, TookBytes, RanAs, RanTo, RunCut}
-use Rattle.eacsl_cli.specs.Answers.{Answer, refused_answer, reported_answer, written_answer, memory_line, Change, change, IsSaid, Answered, Given, OutputFault, TookWanted, AnswersOnInput, BeginsOnInput, IsTranslated, RunDue, RunRefused, Runs, RunBegins}
+use Rattle.eacsl_cli.specs.Answers.{Answer, refused_answer, reported_answer, written_answer, memory_line, Change, change, IsSaid, Answered, Given, OutputFault, TookWanted, AnswersOnInput, BeginsOnInput, IsTranslated, RunDue, RunRefused, Runs}
+use Rattle.eacsl_cli.specs.Answers.{RunBegins}
 use Rattle.eacsl_cli.specs.Answers.{InstrumentDue, InstrumentRefused, Writes, InstrumentBegins, ExecDue, ExecRefused, Executes, ExecBegins}
 use Rattle.eacsl_cli.specs.Settled.{IsSettled, Said, Wanting, Reported}
 use Rattle.eacsl_cli.proofs.Sayings.{said_answer, said_memory, answered_by}

@@ -20,8 +20,8 @@ use Rattle.mon_syntax.specs.Trees.{MonRegister, MonitoredGlobal}
 use Rattle.mon_syntax.specs.Globals.{globals_taken, size_of_global}
 use Rattle.mon_syntax.specs.Valid.{Types, AreRegisters, AreGlobals, names_before, has_label, types_of}
 use Rattle.c_effects.specs.Expressions.{value_type}
-use Rattle.instrument.specs.Translation.{register_name, name_of_register, own_name, value_types, arguments_from, registers_from, registers_of, registers_of_body, after_body, global_name}
-use Rattle.instrument.specs.Translation.{text_name, monitored_global, globals_with, literals_with, monitored_from, monitored_globals}
+use Rattle.instrument.specs.Translation.{register_name, name_of_register, own_name, value_types, arguments_from, registers_from, registers_of, registers_of_body, after_body, global_name, text_name, monitored_global, globals_with, literals_with}
+use Rattle.instrument.specs.Translation.{monitored_from, monitored_globals}
 use Rattle.instrument.proofs.Names.{IsNumber, AllParts, register_is_free, registers_differ, named_free, named_differ, named_no_value, global_is_free}
 use Rattle.instrument.proofs.Names.{globals_differ, text_is_free, texts_differ, text_no_global, global_no_text, register_no_global, register_no_text, named_no_global, named_no_text}
 use Rattle.instrument.proofs.Typed.{begins_front}
