@@ -171,6 +171,9 @@ first_kept s known r (First (Run (Eval at e))) p h =
 first_kept s known r (First (Declare ds)) p h =
     gives_one (λ i. FirstPlaced (First i)) FirstPlaced (typed_item s r (Declare ds)) (λ i. Good (First i))
     (gives_one ArePlaced (λ i. FirstPlaced (First i)) (typed_declarations s ds) (λ ds. Good (Declare ds)) (declarations_kept s known ds p h) (λ xs k. k)) (λ i k. k)
+first_kept s known r (First (Specify at t)) p h =
+    gives_one (λ i. FirstPlaced (First i)) FirstPlaced (typed_item s r (Specify at t)) (λ i. Good (First i))
+    (gives_one (λ u. Unit {0}) (λ i. FirstPlaced (First i)) (typed_type s at t) (λ u. Good (Specify at u)) (anything (typed_type s at t)) (λ u v. tt)) (λ i k. k)
 first_kept s known r _ p h = absurd p
 
 controlling_kept : (s : Sight) (e : Expression) → IsPure e → Gives (λ (x : CInt × Expression). IsPure x.1) (one_part (decayed_of (typed s e)) controlling)

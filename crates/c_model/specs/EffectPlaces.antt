@@ -15,6 +15,7 @@ abbrev pub FirstPlaced : ForFirst → Type 0
 FirstPlaced NoFirst = Unit {0}
 FirstPlaced (First (Run (Eval at e))) = IsEffectOrCall e
 FirstPlaced (First (Declare ds)) = ArePlaced ds
+FirstPlaced (First (Specify at t)) = Unit {0}
 FirstPlaced _ = ⊥
 
 -- the annotations of a tree being so, those that are read or those that are typed
