@@ -100,6 +100,7 @@ module _ (p : TranslationUnit) where
   deep_first spot r NoFirst f = omega arith
   deep_first spot r (First (Run (Eval at e))) f = let d = deep_effect p r.bound r.kinds e in let s = f.small.few in omega (arith, d, s)
   deep_first spot r (First (Declare ds)) f = deep_initials r.bound r.kinds ds f
+  deep_first spot r (First (Specify at t)) f = omega arith
   deep_first spot r _ f = absurd f
 
   mutual

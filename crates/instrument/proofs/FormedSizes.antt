@@ -34,6 +34,7 @@ module _ (structs : List StructType) where
   first_formed NoFirst p h t = tt
   first_formed (First (Run (Eval at e))) p h t = record { is = p; small = h; types = t }
   first_formed (First (Declare ds)) p h t = declared_formed ds p h t
+  first_formed (First (Specify at u)) p h t = tt
   first_formed _ p h t = absurd p
 
   mutual

@@ -47,6 +47,7 @@ module _ (structs : List StructType) where
   FirstFormed NoFirst = Unit {0}
   FirstFormed (First (Run (Eval at e))) = IsFullEffectOrCall e
   FirstFormed (First (Declare ds)) = AreInitialised ds
+  FirstFormed (First (Specify at t)) = Unit {0}
   FirstFormed _ = ⊥
 
   abbrev mutual

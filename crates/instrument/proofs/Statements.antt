@@ -301,6 +301,7 @@ module _ (w : Setting) (n : ℕ) where
   first_then (First (Declare ds)) local h spot low living s g around r x code f q l behind enough go =
       in_order_same h spot low r.bound living (initialise_all T ds w.call) x (effects.initialise_all w.unit r.bound r.kinds ds) code
       (λ regs from t m le. initials_follow w n h low r.bound ds s g local f q l r.kinds behind enough regs from t le m.standing m.beside) go
+  first_then (First (Specify at t)) local h spot low living s g around r x code f q l behind enough go = go
   first_then _ local h spot low living s g around r x code f q l behind enough go = absurd f
 
   for_follows : (at : Place) (first : ForFirst) (s : Sight) (g : Scene w n s) (around : Around) (h : Here) (spot : Spot) (low : ℕ) (r : RegisterTable) (living : List ℕ) (e step : Option Expression) (a : Statement)

@@ -213,6 +213,7 @@ module _ (p : TranslationUnit) (gs : List Signature) (ts : Types) (result : Plai
   first_valid NoFirst s r v around spot ls h own f q l b = tt
   first_valid (First (Run (Eval at e))) s r v around spot ls h own f q l b = effect_at s r v ls e f q l b
   first_valid (First (Declare ds)) s r v around spot ls h own f q l b = initials_valid ds s r.bound v ls r.kinds h own f q l b
+  first_valid (First (Specify at t)) s r v around spot ls h own f q l b = tt
   first_valid _ s r v around spot ls h own f q l b = absurd f
 
   sees_first : (first : ForFirst) (s : Sight) (r : RegisterTable) (v : See r s) (around : Around) → Have r (declared_first first) → AreOwn (declared_first first)
