@@ -9,3 +9,4 @@ pub mod Taking
 pub mod Giving
 pub mod Empty
 pub mod Members
+pub mod Blocks

@@ -1,3 +1,4 @@
 pub mod Gaps
 pub mod Placement
 pub mod Tiles
+pub mod Zeros

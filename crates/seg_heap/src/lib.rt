@@ -8,6 +8,7 @@ use std::alloc::{AllocError, Global};
 use std::marker::Model;
 
 pub mod gaps;
+mod nodes;
 pub mod numbers;
 
 use gaps::Gaps;
