@@ -1,32 +1,48 @@
 // Raw bytes in one type.
 #![tactic(auto)]
 
-ghost use Rattle.std.specs.Prelude.{◌≡◌, ℕ, ◌+◌, ◌-◌, ◌*◌, ◌%◌, ◌^◌, ◌<◌, ◌≤◌, ◌⊎◌, length, replicate, slice_index, IfOk};
+ghost use Rattle.std.specs.Prelude.{◌≡◌, ℕ, ◌+◌, ◌-◌, ◌*◌, ◌%◌, ◌^◌, ◌<◌, ◌≤◌, ◌⊎◌, length, replicate, slice_index, get_or};
+ghost use Rattle.std.specs.Prelude.{nat_le, if◌then◌else◌, Some, None, IfOk, IfSome, MatchBool};
+ghost use Rattle.std.specs.Bool.{OnTrue};
+ghost use Rattle.std.specs.Vec.{vec_capacity, vec_len};
 ghost use Rattle.raw_seg.specs.Bytes.{number_of, bytes_of, bytes_at, with_bytes, IsWidth};
+ghost use Rattle.raw_seg.specs.Runs.{with_words, with_low_halves};
+ghost use Rattle.raw_seg.specs.Zeros.{zeros_to, IsReach};
 
 use std::alloc::{AllocError, Global};
 use std::marker::Model;
 use std::sync::ledger::Ledger;
 
+mod bytes;
 pub mod steps;
 
+use bytes::{fill_words, keep_low_halves, number_in, number_of_8, put, put_number};
 use steps::Steps;
 
-// So many bytes are filled at once.
-const BLOCK: usize = 32;
+// Zeros are written up to a multiple of so many bytes, where a place is reached for the first time.
+const PAGE: usize = 4096;
 
-/// A region of memory, seen as a list of bytes.
+// What was written ends with a unit of so many bytes, or with all.
+const UNIT: usize = 16;
+
+/// A region of memory, seen as a list of bytes. Its memory is reserved at once, and written only as far as something was stored.
 #[derive(Drop)]
 pub struct Seg {
+    // The first bytes. Those behind them are zeros, for which there is room.
     bytes: Vec<u8>,
+    len: usize,
 }
 
 impl Model for Seg {
-    ghost use Rattle.std.specs.Prelude.{◌≡◌, ℕ, List};
+    ghost use Rattle.std.specs.Prelude.{ℕ, List, ◌≤◌, length};
+    ghost use Rattle.std.specs.Vec.{vec_capacity};
+    ghost use Rattle.raw_seg.specs.Zeros.{zeros_to, IsReach};
 
     ghost Value = { List ℕ };
 
-    ghost view = { λ s. s.bytes.items };
+    ghost view = { λ s. zeros_to s.len s.bytes.items };
+
+    ghost invariant = { λ s. (length s.bytes.items ≤ s.len) × (s.len ≤ vec_capacity s.bytes) × IsReach s.len (length s.bytes.items) };
 }
 
 impl Seg {
@@ -35,12 +51,23 @@ impl Seg {
         ensures { IfOk result (λ seg. seg ≡ replicate len 0) }
     {
         Ok(Seg {
-            bytes: vec![in alloc; 0u8; len]?,
+            bytes: Vec::with_capacity(alloc, len)?,
+            len,
         })
     }
 
     pub fn len(&self) -> usize
         ensures { result ≡ length self.now }
+    {
+        self.len
+    }
+
+    /// How many of the first bytes were written: whole units of 16 bytes, or all. Those behind are zeros.
+    #[inline(always)]
+    pub fn reach(&self) -> usize
+        ensures inside { result ≤ length self.now }
+        ensures whole { IsReach (length self.now) result }
+        ensures zeros { (k : ℕ) → result ≤ k → get_or self.now k 0 ≡ 0 }
     {
         self.bytes.len()
     }
@@ -55,12 +82,30 @@ impl Seg {
         ensures bytes { bytes_of width result ≡ bytes_at self.now at width }
         ensures fits { result < 256 ^ width }
     {
-        match width {
-            1 => u128::from(self.byte(at)),
-            2 => u128::from(self.load_2(at)),
-            4 => u128::from(self.load_4(at)),
-            8 => u128::from(self.load_8(at)),
-            _ => self.load_16(at),
+        // One test for each place of a unit, so that the compiler sees that it is the same.
+        if at / UNIT * UNIT < self.bytes.len() {
+            number_in(&self.bytes, at, width)
+        } else {
+            // What lies behind is 0.
+            0
+        }
+    }
+
+    /// The same if these bytes lie inside.
+    #[inline(always)]
+    pub fn get(&self, at: usize, width: usize) -> Option<u128>
+        requires width { IsWidth width }
+        requires aligned { at % width ≡ 0 }
+        requires small { at + width < 2 ^ 64 }
+        ensures value { result ≡ (if nat_le (at + width) (length self.now) then Some (number_of (bytes_at self.now at width)) else None) }
+        ensures fits { IfSome result (λ value. value < 256 ^ width) }
+    {
+        if at + width <= self.bytes.len() {
+            Some(number_in(&self.bytes, at, width))
+        } else if at + width <= self.len {
+            Some(0)
+        } else {
+            None
         }
     }
 
@@ -75,12 +120,23 @@ impl Seg {
         ensures others { (k : ℕ) → (k < at) ⊎ (at + width ≤ k) → slice_index self.new k ≡ slice_index self.old k }
         ensures len { length self.new ≡ length self.old }
     {
-        match width {
-            1 => self.copy_in(at, &[(value % 256) as u8]),
-            2 => self.copy_in(at, &((value % 65536) as u16).to_le_bytes()),
-            4 => self.copy_in(at, &((value % 4294967296) as u32).to_le_bytes()),
-            8 => self.copy_in(at, &((value % 18446744073709551616) as u64).to_le_bytes()),
-            _ => self.copy_in(at, &value.to_le_bytes()),
+        self.set_number(at, width, value);
+    }
+
+    /// The same if these bytes were written before. `false` if not, and then nothing changes.
+    #[inline(always)]
+    pub fn store_again(&mut self, at: usize, width: usize, value: u128) -> bool
+        requires width { IsWidth width }
+        requires small { at + width < 2 ^ 64 }
+        ensures bytes { MatchBool result (self.new ≡ with_bytes self.old at (bytes_of width value)) (self.new ≡ self.old) }
+        ensures inside { OnTrue result (at + width ≤ length self.old) }
+        ensures len { length self.new ≡ length self.old }
+    {
+        if at + width <= self.bytes.len() {
+            put_number(&mut self.bytes, at, width, value);
+            true
+        } else {
+            false
         }
     }
 
@@ -91,9 +147,10 @@ impl Seg {
         ensures bytes { self.new ≡ with_bytes self.old from (replicate (to - from) byte) }
         ensures len { length self.new ≡ length self.old }
     {
-        let blocks = (to - from) / BLOCK;
-        self.fill_blocks(from, blocks, byte);
-        self.fill_bytes(from + BLOCK * blocks, to, byte);
+        // The length tells the check that no sum wraps, here and below.
+        let _ = self.len();
+        reach(&mut self.bytes, to, self.len);
+        self.bytes[from..to].fill(byte);
     }
 
     /// Copies the bytes from `from` on, as many as there is room for.
@@ -101,8 +158,7 @@ impl Seg {
         requires { from + length into.old ≤ length self.now }
         ensures { into.new ≡ bytes_at self.now from (length into.old) }
     {
-        // A use of a field tells the check that the region is shorter than 2^64 bytes.
-        let _ = &self.bytes;
+        let _ = self.len();
         for (i, byte) in into.iter_mut().enumerate() {
             *byte = self.byte(from + i);
         }
@@ -115,7 +171,10 @@ impl Seg {
         ensures bytes { self.new ≡ with_bytes self.old at bytes.now }
         ensures len { length self.new ≡ length self.old }
     {
-        self.bytes[at..at + bytes.len()].copy_from_slice(bytes);
+        let _ = self.len();
+        let end = at + bytes.len();
+        reach(&mut self.bytes, end, self.len);
+        self.bytes[at..end].copy_from_slice(bytes);
     }
 
     /// The eight bytes from a place on as a number, which is one step of work.
@@ -127,7 +186,7 @@ impl Seg {
         ensures step { steps.new ≡ steps.old + 1 }
     {
         steps.tick();
-        self.load_8(at)
+        self.number_8(at)
     }
 
     /// Writes a number over the eight bytes from a place on.
@@ -138,29 +197,104 @@ impl Seg {
         ensures bytes { self.new ≡ with_bytes self.old at (bytes_of 8 value) }
         ensures len { length self.new ≡ length self.old }
     {
+        if at / UNIT * UNIT < self.bytes.len() {
+            put(&mut self.bytes, at, &value.to_le_bytes());
+        } else {
+            self.set_word_behind(at, value);
+        }
+    }
+
+    /// Writes two numbers over each sixteen bytes from a place on, so many times.
+    pub fn fill_words(&mut self, at: usize, count: usize, first: u64, second: u64)
+        requires inside { at + 16 * count ≤ length self.old }
+        ensures bytes { self.new ≡ with_words self.old at first second count }
+        ensures len { length self.new ≡ length self.old }
+    {
+        let _ = self.len();
+        reach(&mut self.bytes, at + 16 * count, self.len);
+        fill_words(&mut self.bytes, at, count, first, second);
+    }
+
+    /// Writes zeros over the upper half of the first word of each sixteen bytes from a place on, so many times.
+    pub fn keep_low_halves(&mut self, at: usize, count: usize)
+        requires inside { at + 16 * count ≤ length self.old }
+        ensures bytes { self.new ≡ with_low_halves self.old at count }
+        ensures len { length self.new ≡ length self.old }
+    {
+        let _ = self.len();
+        reach(&mut self.bytes, at + 16 * count, self.len);
+        keep_low_halves(&mut self.bytes, at, count);
+    }
+
+    /// Writes two numbers over the sixteen bytes from a place on.
+    #[inline(always)]
+    pub fn set_words(&mut self, at: usize, first: u64, second: u64)
+        requires aligned { at % 16 ≡ 0 }
+        requires inside { at + 16 ≤ length self.old }
+        ensures bytes { self.new ≡ with_bytes (with_bytes self.old at (bytes_of 8 first)) (at + 8) (bytes_of 8 second) }
+        ensures len { length self.new ≡ length self.old }
+    {
+        let _ = self.len();
+        if at < self.bytes.len() {
+            put(&mut self.bytes, at, &first.to_le_bytes());
+            put(&mut self.bytes, at + 8, &second.to_le_bytes());
+        } else {
+            self.set_words_behind(at, first, second);
+        }
+    }
+
+    // The same, also where not all of these bytes were written.
+    #[cold]
+    #[inline(never)]
+    fn set_words_behind(&mut self, at: usize, first: u64, second: u64)
+        requires { at + 16 ≤ length self.old }
+        ensures bytes { self.new ≡ with_bytes (with_bytes self.old at (bytes_of 8 first)) (at + 8) (bytes_of 8 second) }
+        ensures len { length self.new ≡ length self.old }
+    {
+        let _ = self.len();
+        self.copy_in(at, &first.to_le_bytes());
+        self.copy_in(at + 8, &second.to_le_bytes());
+    }
+
+    // The same of one number.
+    #[cold]
+    #[inline(never)]
+    fn set_word_behind(&mut self, at: usize, value: u64)
+        requires { at + 8 ≤ length self.old }
+        ensures bytes { self.new ≡ with_bytes self.old at (bytes_of 8 value) }
+        ensures len { length self.new ≡ length self.old }
+    {
         self.copy_in(at, &value.to_le_bytes());
     }
 
-    fn fill_blocks(&mut self, from: usize, blocks: usize, byte: u8)
-        requires inside { from + BLOCK * blocks ≤ length self.old }
-        requires small { from + BLOCK * blocks < 2 ^ 64 }
-        ensures bytes { self.new ≡ with_bytes self.old from (replicate (BLOCK * blocks) byte) }
+    // What `store` does, by its first clause.
+    #[inline(always)]
+    fn set_number(&mut self, at: usize, width: usize, value: u128)
+        requires width { IsWidth width }
+        requires inside { at + width ≤ length self.old }
+        ensures bytes { self.new ≡ with_bytes self.old at (bytes_of width value) }
         ensures len { length self.new ≡ length self.old }
     {
-        for i in 0..blocks {
-            self.copy_in(from + BLOCK * i, &[byte; BLOCK]);
+        let _ = self.len();
+        if at + width <= self.bytes.len() {
+            put_number(&mut self.bytes, at, width, value);
+        } else {
+            self.set_number_behind(at, width, value);
         }
     }
 
-    fn fill_bytes(&mut self, from: usize, to: usize, byte: u8)
-        requires order { from ≤ to }
-        requires inside { to ≤ length self.old }
-        ensures bytes { self.new ≡ with_bytes self.old from (replicate (to - from) byte) }
+    // The same, also where not all of these bytes were written.
+    #[cold]
+    #[inline(never)]
+    fn set_number_behind(&mut self, at: usize, width: usize, value: u128)
+        requires width { IsWidth width }
+        requires inside { at + width ≤ length self.old }
+        ensures bytes { self.new ≡ with_bytes self.old at (bytes_of width value) }
         ensures len { length self.new ≡ length self.old }
     {
-        for at in from..to {
-            self.copy_in(at, &[byte]);
-        }
+        let _ = self.len();
+        reach(&mut self.bytes, at + width, self.len);
+        put_number(&mut self.bytes, at, width, value);
     }
 
     #[inline(always)]
@@ -168,73 +302,69 @@ impl Seg {
         requires { at < length self.now }
         ensures { result ≡ slice_index self.now at }
     {
-        self.bytes[at]
+        if at < self.bytes.len() {
+            self.bytes[at]
+        } else {
+            0
+        }
     }
 
     #[inline(always)]
-    fn load_2(&self, at: usize) -> u16
-        requires { at + 2 ≤ length self.now }
-        ensures value { result ≡ number_of (bytes_at self.now at 2) }
-        ensures bytes { bytes_of 2 result ≡ bytes_at self.now at 2 }
-        ensures small { result < 65536 }
+    fn number_8(&self, at: usize) -> u64
+        requires aligned { at % 8 ≡ 0 }
+        requires inside { at + 8 ≤ length self.now }
+        ensures { result ≡ number_of (bytes_at self.now at 8) }
     {
-        let _ = &self.bytes;
-        u16::from_le_bytes([self.byte(at), self.byte(at + 1)])
-    }
-
-    #[inline(always)]
-    fn load_4(&self, at: usize) -> u32
-        requires { at + 4 ≤ length self.now }
-        ensures value { result ≡ number_of (bytes_at self.now at 4) }
-        ensures bytes { bytes_of 4 result ≡ bytes_at self.now at 4 }
-        ensures small { result < 4294967296 }
-    {
-        number_of_4(&self.bytes[at..at + 4])
-    }
-
-    #[inline(always)]
-    fn load_8(&self, at: usize) -> u64
-        requires { at + 8 ≤ length self.now }
-        ensures value { result ≡ number_of (bytes_at self.now at 8) }
-        ensures bytes { bytes_of 8 result ≡ bytes_at self.now at 8 }
-        ensures small { result < 18446744073709551616 }
-    {
-        number_of_8(&self.bytes[at..at + 8])
-    }
-
-    #[inline(always)]
-    fn load_16(&self, at: usize) -> u128
-        requires { at + 16 ≤ length self.now }
-        ensures value { result ≡ number_of (bytes_at self.now at 16) }
-        ensures bytes { bytes_of 16 result ≡ bytes_at self.now at 16 }
-    {
-        let _ = &self.bytes;
-        u128::from(self.load_8(at)) + u128::from(self.load_8(at + 8)) * 18446744073709551616
+        let _ = self.len();
+        if at / UNIT * UNIT < self.bytes.len() {
+            number_of_8(&self.bytes[at..at + 8])
+        } else {
+            0
+        }
     }
 }
 
-// The number in four bytes. They are taken at once: a sum of them isn't always compiled to one load.
+// Zeros are written up to a place at least. There is room for so many bytes.
 #[inline(always)]
-fn number_of_4(bytes: &[u8]) -> u32
-    requires { length bytes.now ≡ 4 }
-    ensures value { result ≡ number_of bytes.now }
-    ensures bytes { bytes_of 4 result ≡ bytes.now }
-    ensures small { result < 4294967296 }
+fn reach(bytes: &mut Vec<u8>, to: usize, len: usize)
+    requires inside { (vec_len bytes.old ≤ len) × (to ≤ len) }
+    requires room { len ≤ vec_capacity bytes.old }
+    requires whole { IsReach len (vec_len bytes.old) }
+    ensures all { zeros_to len bytes.new.items ≡ zeros_to len bytes.old.items }
+    ensures to { to ≤ vec_len bytes.new }
+    ensures inside { vec_len bytes.new ≤ len }
+    ensures room { len ≤ vec_capacity bytes.new }
+    ensures whole { IsReach len (vec_len bytes.new) }
 {
-    let mut taken = [0u8; 4];
-    taken.copy_from_slice(bytes);
-    u32::from_le_bytes(taken)
+    if bytes.len() < to {
+        write_zeros(bytes, to, len);
+    }
 }
 
-// The number in eight bytes.
-#[inline(always)]
-fn number_of_8(bytes: &[u8]) -> u64
-    requires { length bytes.now ≡ 8 }
-    ensures value { result ≡ number_of bytes.now }
-    ensures bytes { bytes_of 8 result ≡ bytes.now }
-    ensures small { result < 18446744073709551616 }
+// The same, where they aren't written.
+#[cold]
+#[inline(never)]
+fn write_zeros(bytes: &mut Vec<u8>, to: usize, len: usize)
+    requires some { vec_len bytes.old < to }
+    requires inside { to ≤ len }
+    requires room { len ≤ vec_capacity bytes.old }
+    ensures all { zeros_to len bytes.new.items ≡ zeros_to len bytes.old.items }
+    ensures to { to ≤ vec_len bytes.new }
+    ensures inside { vec_len bytes.new ≤ len }
+    ensures room { len ≤ vec_capacity bytes.new }
+    ensures whole { IsReach len (vec_len bytes.new) }
 {
-    let mut taken = [0u8; 8];
-    taken.copy_from_slice(bytes);
-    u64::from_le_bytes(taken)
+    // There is room, so no memory is taken.
+    let _ = bytes.resize(page_end(to, len), 0);
+}
+
+// The end of the page in which a place lies, or of all.
+fn page_end(to: usize, len: usize) -> usize
+    requires inside { to ≤ len }
+    requires small { len < 2 ^ 63 }
+    ensures to { to ≤ result }
+    ensures inside { result ≤ len }
+    ensures whole { IsReach len result }
+{
+    ((to / PAGE + 1) * PAGE).min(len)
 }

@@ -2,7 +2,7 @@ use Rattle.std.proofs.Common.{ap, sym, ◌∙◌, arith}
 use Rattle.std.specs.Int.{w64, from_le_bytes}
 use Rattle.std.proofs.lemmas.Nat.{le_bytes_8}
 use Rattle.raw_seg.proofs.Numbers as numbers
-use Rattle.raw_seg.proofs.number_of_8.Goals as goal
+use Rattle.raw_seg.proofs.bytes.number_of_8.Goals as goal
 
 pub returns-clause-bytes : goal.returns-clause-bytes
 returns-clause-bytes c =
