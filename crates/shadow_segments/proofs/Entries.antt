@@ -16,6 +16,9 @@ unfolding list_by
 get_or-list_by f n i d lt = get_or-map-range_with_len f 0 n i i d lt (omega arith)
 
 -- a unit's words lie inside
+pub length-states : (bytes : List ℕ) (p : UnitWords) → words_of bytes ≡ p → length p.states ≡ length bytes / 16
+length-states bytes p is = sym (ap (λ q. length q.states) is) ∙ length-list_by (λ v. word_at bytes (16 * v)) (length bytes / 16)
+
 pub inside : (bytes : List ℕ) (p : UnitWords) (u : ℕ) → words_of bytes ≡ p → (16 * (length bytes / 16) ≡ length bytes) × (length bytes ≤ 268435456) → u < length p.states → (16 * u + 16 ≤ length bytes) × (16 * u + 16 ≤ 268435456)
 inside bytes p u is whole lt =
     let count : length p.states ≡ length bytes / 16 = sym (ap (λ q. length q.states) is) ∙ length-list_by (λ v. word_at bytes (16 * v)) (length bytes / 16) in
@@ -135,3 +138,14 @@ zero_words n =
         (λ k kl.
         let below : k < n = omega (arith, kl, length-list_by (λ u. word_at (replicate (16 * n) 0) (at u)) n) in
         get_or-list_by (λ u. word_at (replicate (16 * n) 0) (at u)) n k 0 below ∙ zero_word (16 * n) (at k) (fits k below) ∙ sym (get_or-replicate n k 0 0 below))
+
+-- both words of a unit are written
+pub both_set : (bytes : List ℕ) (p : UnitWords) (u v w : ℕ) → words_of bytes ≡ p → (16 * (length bytes / 16) ≡ length bytes) × (length bytes ≤ 268435456) → u < length p.states → v < 2 ^ 64 → w < 2 ^ 64
+    → words_of (with_bytes (with_bytes bytes (16 * u) (bytes_of 8 v)) (16 * u + 8) (bytes_of 8 w)) ≡ record { states = set p.states u v; places = set p.places u w }
+both_set bytes p u v w is whole lt small small_too =
+    let room = inside bytes p u is whole lt in
+    let eight = length-bytes_of 8 v in
+    let long = length-with_bytes bytes (16 * u) (bytes_of 8 v) (omega (arith, room.0, eight)) in
+    let whole_still : 16 * (length (with_bytes bytes (16 * u) (bytes_of 8 v)) / 16) ≡ length (with_bytes bytes (16 * u) (bytes_of 8 v)) = omega (arith, long, whole.0) in
+    let lt_still : u < length (set p.states u v) = omega (arith, lt, length-set p.states u v) in
+    place_set (with_bytes bytes (16 * u) (bytes_of 8 v)) (record { states = set p.states u v; places = p.places }) u w (state_set bytes p u v is whole lt small) (whole_still, omega (arith, long, whole.1)) lt_still small_too

@@ -3,6 +3,7 @@ pub mod Tests
 pub mod Changes
 pub mod Moved
 pub mod Entries
+pub mod Runs
 pub mod Lists
 pub mod Kept
 pub mod Marks

@@ -21,6 +21,9 @@ marks_long p s view = sym (ap (λ z. length z.marks) view) ∙ length-marks p
 pub unit_within : (p : UnitWords) (s : Shadowed) (u : ℕ) → shadow_in p ≡ s → u < length s.notes → u < length p.states
 unit_within p s u view lt = let e = ap (λ z. length z.notes) view in omega (arith, lt, e, length-notes p)
 
+pub unit_inside : (p : UnitWords) (s : Shadowed) (u : ℕ) → shadow_in p ≡ s → u < length p.states → u < length s.notes
+unit_inside p s u view lt = let e = ap (λ z. length z.notes) view in omega (arith, lt, e, length-notes p)
+
 -- a word changes at its marks alone, so the records stay
 pub notes_stay : (p : UnitWords) (u v : ℕ) → u < length p.states → v / 2 ^ 32 ≡ get_or p.states u 0 / 2 ^ 32
     → list_by (λ k. note_of (get_or (set p.states u v) k 0) (get_or p.places k 0)) (length p.states) ≡ notes_in p

@@ -62,7 +62,7 @@ impl Model for Shadow {
 }
 
 impl Shadow {
-    /// The shadow of a segment of so many bytes, in which nothing lives. All of its memory is taken here.
+    /// The shadow of a segment of so many bytes, in which nothing lives. All of its memory is reserved here.
     pub fn new(alloc: Global, len: u32) -> Result<Shadow, AllocError>
         requires units { len % 16 ≡ 0 }
         requires small { len ≤ longest_segment }
@@ -90,7 +90,8 @@ impl Shadow {
         ensures steps { steps.new ≤ steps.old + 2 }
     {
         let unit = addr as usize / 16;
-        if unit >= self.words.len() {
+        // Where nothing was ever written nothing lives.
+        if !self.words.has(unit) {
             return None;
         }
         let number = (self.words.state(unit, steps) / UPPER) as u32;
@@ -121,8 +122,11 @@ impl Shadow {
         ensures { self.new ≡ cleared_at self.old base }
     {
         let first = base as usize / 16;
-        let length = self.words.peek_place(first) % UPPER;
-        self.words.release(first, length as usize / 16 + 1);
+        // The words of a live block were written.
+        if self.words.has(first) {
+            let length = self.words.peek_place(first) % UPPER;
+            self.words.release(first, length as usize / 16 + 1);
+        }
     }
 }
 

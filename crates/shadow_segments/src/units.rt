@@ -1,6 +1,7 @@
 // The marks of one unit's bytes, by one word.
 
-ghost use Rattle.std.specs.Prelude.{◌≡◌, ◌+◌, ◌-◌, ◌*◌, ◌<◌, ◌≤◌, length};
+ghost use Rattle.std.specs.Prelude.{◌≡◌, ◌+◌, ◌-◌, ◌*◌, ◌^◌, ◌<◌, ◌≤◌, length, MatchBool};
+ghost use Rattle.std.specs.Bool.{OnTrue};
 ghost use Rattle.shadow_segments.specs.Shadow.{NumberByte, PieceByte, with_marks, with_part, all_in, test_of};
 
 use crate::bits::{copied, passes, with_numbers, with_pieces};
@@ -19,6 +20,23 @@ impl Shadow {
     {
         let state = self.words.peek(unit);
         self.words.set_state(unit, with_numbers(state, from, to));
+    }
+
+    /// The same if the unit's words were written before. `false` if not, and then nothing changes.
+    #[inline(always)]
+    pub fn set_number_again(&mut self, unit: usize, from: u32, to: u32) -> bool
+        requires unit { unit < 2 ^ 32 }
+        requires order { from ≤ to }
+        requires small { to ≤ 16 }
+        ensures inside { OnTrue result (unit < length self.old.notes) }
+        ensures marks { MatchBool result (self.new ≡ with_marks self.old (16 * unit + from) (to - from) NumberByte) (self.new ≡ self.old) }
+    {
+        if self.words.has(unit) {
+            self.set_number_in(unit, from, to);
+            true
+        } else {
+            false
+        }
     }
 
     /// The bytes from `from` up to `to` of a unit are pieces of a pointer.

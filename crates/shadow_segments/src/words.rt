@@ -1,6 +1,6 @@
 // Two words of 64 bits for each unit of 16 bytes.
 
-ghost use Rattle.std.specs.Prelude.{◌≡◌, ℕ, ◌+◌, ◌*◌, ◌<◌, ◌≤◌, length, replicate, get_or, set, IfOk, ◌%◌, ◌^◌};
+ghost use Rattle.std.specs.Prelude.{◌≡◌, ℕ, ◌+◌, ◌*◌, ◌<◌, ◌≤◌, length, replicate, get_or, set, IfOk, MatchBool, ◌%◌, ◌^◌};
 ghost use Rattle.shadow_segments.specs.Shadow.{longest_segment, changed, filled};
 
 use crate::UPPER;
@@ -47,6 +47,15 @@ impl Words {
         self.seg.len() / 16
     }
 
+    /// Whether the words of this unit were written. If not, they are 0, also past the end.
+    #[inline(always)]
+    pub fn has(&self, unit: usize) -> bool
+        requires { unit < 2 ^ 32 }
+        ensures { MatchBool result (unit < length self.now.states) (get_or self.now.states unit 0 ≡ 0) }
+    {
+        16 * unit < self.seg.reach()
+    }
+
     /// The first word of a unit.
     #[inline(always)]
     pub fn state<L: Ledger>(&self, unit: usize, steps: &mut Steps<L>) -> u64
@@ -75,12 +84,13 @@ impl Words {
         self.seg.set_word(16 * unit, value);
     }
 
+    /// Both words of a unit.
     #[inline(always)]
-    pub fn set_place(&mut self, unit: usize, value: u64)
+    pub fn set_both(&mut self, unit: usize, state: u64, place: u64)
         requires { unit < length self.old.states }
-        ensures { self.new ≡ record self.old { places = set self.old.places unit value } }
+        ensures { self.new ≡ record { states = set self.old.states unit state; places = set self.old.places unit place } }
     {
-        self.seg.set_word(16 * unit + 8, value);
+        self.seg.set_words(16 * unit, state, place);
     }
 
     /// The first word of a unit, for a change of it.
@@ -107,26 +117,23 @@ impl Words {
         requires { first + count ≤ length self.old.states }
         ensures { self.new ≡ record { states = filled self.old.states first count state; places = filled self.old.places first count place } }
     {
-        // Most blocks have one unit.
-        if count == 1 {
-            let _ = self.len();
-            self.set_state(first, state);
-            self.set_place(first, place);
+        let _ = self.len();
+        // Most blocks have one unit, that was written before.
+        if count == 1 && self.has(first) {
+            self.set_both(first, state, place);
         } else {
-            self.fill_each(first, count, state, place);
+            self.fill_run(first, count, state, place);
         }
     }
 
-    // The same, one by one.
-    fn fill_each(&mut self, first: usize, count: usize, state: u64, place: u64)
+    // The same of a run of units.
+    #[inline(never)]
+    fn fill_run(&mut self, first: usize, count: usize, state: u64, place: u64)
         requires { first + count ≤ length self.old.states }
         ensures { self.new ≡ record { states = filled self.old.states first count state; places = filled self.old.places first count place } }
     {
         let _ = self.len();
-        for i in 0..count {
-            self.set_state(first + i, state);
-            self.set_place(first + i, place);
-        }
+        self.seg.fill_words(16 * first, count, state, place);
     }
 
     /// Takes the high half of the first word away from so many units.
@@ -140,20 +147,17 @@ impl Words {
             let state = self.peek(first);
             self.set_state(first, state % UPPER);
         } else {
-            self.release_each(first, count);
+            self.release_run(first, count);
         }
     }
 
-    // The same, one by one.
+    // The same of a run of units.
     #[inline(never)]
-    fn release_each(&mut self, first: usize, count: usize)
+    fn release_run(&mut self, first: usize, count: usize)
         requires { first + count ≤ length self.old.states }
         ensures { self.new ≡ record self.old { states = changed 0 (λ s. s % 2 ^ 32) self.old.states first count } }
     {
         let _ = self.len();
-        for i in 0..count {
-            let state = self.peek(first + i);
-            self.set_state(first + i, state % UPPER);
-        }
+        self.seg.keep_low_halves(16 * first, count);
     }
 }
