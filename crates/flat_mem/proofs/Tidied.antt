@@ -1,10 +1,11 @@
 -- The stack stays tidy.
-use Rattle.std.proofs.Common.{ℕ, ◌≡◌, ◌+◌, ◌*◌, ◌/◌, ◌%◌, ◌<◌, ◌≤◌, ◌⊎◌, inl, inr, length, get_or, Some, None, sym, ap, ◌∙◌, arith, subst}
+use Rattle.std.proofs.Common.{ℕ, ◌≡◌, ◌+◌, ◌*◌, ◌/◌, ◌%◌, ◌<◌, ◌≤◌, ◌⊎◌, inl, inr, length, get_or, replicate, Option, Some, None, refl, sym, ap, ◌∙◌, arith, subst}
 use Rattle.std.proofs.lemmas.Bool.{cases_lt}
+use Rattle.std.proofs.lemmas.List.{get_or-replicate, get_or_past, length-replicate}
 use Rattle.shadow_segments.specs.declared.BlockNote.{BlockNote}
 use Rattle.shadow_segments.specs.Shadow.{first_unit, units, marked, cleared, cleared_by}
 use Rattle.shadow_segments.proofs.Lists.{filled_inside, filled_outside}
-use Rattle.mon_syntax.specs.Regions.{Region}
+use Rattle.mon_syntax.specs.Regions.{Region, empty_region}
 use Rattle.mon_syntax.specs.Flat.{Flat}
 use Rattle.flat_mem.specs.Deaths.{IsYoungest, without}
 use Rattle.flat_mem.specs.Tidy.{IsTidy}
@@ -54,3 +55,12 @@ tidy_deleted r q f at tidy same long young is =
     let aligned : n.base % 16 ≡ 0 = omega (arith, tidy.unit, young.base_is, young.ends) in
     let room : first_unit n + units n.length ≤ length r.shadow.notes = omega (arith, tidy.unit, tidy.inside, long, young.base_is, young.ends) in
     subst (λ b. IsTidy q b) young.base_is (tidy_died r q f.top n tidy aligned (omega (arith, young.base_is, young.ends)) gone room)
+
+-- nothing lives in an empty region
+pub tidy_empty : (r : Region) (len : ℕ) → r ≡ empty_region len → IsTidy r 0
+tidy_empty r len is =
+    subst (λ z. IsTidy z 0) (sym is) (record { unit = refl; inside = omega arith; free = λ u le. none u (cases_lt u (len / 16)) })
+  where
+    none : (u : ℕ) → (u < len / 16) ⊎ (len / 16 ≤ u) → get_or (replicate {A = Option BlockNote} (len / 16) None) u None ≡ None
+    none u (inl lt) = get_or-replicate {A = Option BlockNote} (len / 16) u None None lt
+    none u (inr ge) = get_or_past {X = Option BlockNote} (replicate (len / 16) None) u None (omega (arith, ge, length-replicate {A = Option BlockNote} (len / 16) None))

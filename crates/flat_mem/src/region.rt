@@ -1,6 +1,7 @@
 // A segment of memory: its bytes, with a record for each unit and a mark for each byte.
 
 ghost use Rattle.std.specs.Prelude.{◌≡◌, ◌+◌, ◌*◌, ◌/◌, ◌%◌, ◌^◌, ◌<◌, ◌≤◌, length, Some, None, false, true, IfOk, IfSome, MatchBool};
+ghost use Rattle.std.specs.Bool.{OnTrue, OnFalse};
 ghost use Rattle.raw_seg.specs.Bytes.{IsWidth};
 ghost use Rattle.shadow_segments.specs.Shadow.{longest_segment, IsFree, IsLiveBase, cleared_at, marked};
 ghost use Rattle.mon_syntax.specs.Regions.{empty_region, filled_with, region_load, region_store, region_copy, with_birth};
@@ -74,8 +75,8 @@ impl Region {
         ensures fits { IfSome result (λ value. value < 256 ^ width) }
     {
         let at = at as usize;
-        if at % width == 0 && at + width <= self.bytes.len() {
-            Some(self.bytes.load(at, width))
+        if at % width == 0 {
+            self.bytes.get(at, width)
         } else {
             None
         }
@@ -101,6 +102,39 @@ impl Region {
     /// Stores a number with its mark. `false` if its bytes don't lie inside, aligned. It is short where the width is known to its caller.
     #[inline(always)]
     pub fn store_number(&mut self, at: u32, width: usize, value: u128) -> bool
+        requires { IsWidth width }
+        ensures { MatchBool result
+            (region_store self.old at width value false ≡ Some self.new)
+            ((region_store self.old at width value false ≡ None) × (self.new ≡ self.old)) }
+    {
+        // Most bytes that are stored were written before, and then there is one test more.
+        self.store_again(at, width, value) || self.store_first(at, width, value)
+    }
+
+    // Stores a number with its mark if its bytes and their marks were written before. If not, all of it is still to be done.
+    #[inline(always)]
+    fn store_again(&mut self, at: u32, width: usize, value: u128) -> bool
+        requires { IsWidth width }
+        ensures stored { OnTrue result (region_store self.old at width value false ≡ Some self.new) }
+        ensures left { OnFalse result (region_store self.new at width value false ≡ region_store self.old at width value false) }
+        ensures none { OnFalse result (region_store self.old at width value false ≡ None → self.new ≡ self.old) }
+    {
+        let place = at as usize;
+        if place % width != 0 {
+            return false;
+        }
+        if !self.bytes.store_again(place, width, value) {
+            return false;
+        }
+        let from = at % 16;
+        self.shadow
+            .set_number_again(place / 16, from, from + width as u32)
+    }
+
+    // Stores a number with its mark, also where its bytes or marks weren't written.
+    #[cold]
+    #[inline(never)]
+    fn store_first(&mut self, at: u32, width: usize, value: u128) -> bool
         requires { IsWidth width }
         ensures { MatchBool result
             (region_store self.old at width value false ≡ Some self.new)
