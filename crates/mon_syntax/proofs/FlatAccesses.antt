@@ -10,7 +10,7 @@ use Rattle.mon_syntax.specs.Arithmetic.{byte_count, access_bytes}
 use Rattle.mon_syntax.specs.Regions.{fits_at}
 use Rattle.mon_syntax.specs.Flat.{Flat, region}
 use Rattle.mon_syntax.specs.BlockMemory.{Blocks}
-use Rattle.mon_syntax.proofs.FlatRelation.{Place, World, head_of, bytes_in, marks_in, Lain, Holds}
+use Rattle.mon_syntax.specs.FlatRelation.{Place, World, head_of, bytes_in, marks_in, Lain, Holds}
 use Rattle.mon_syntax.proofs.FlatLists.{head_at}
 
 -- a width of accesses: units are aligned to it

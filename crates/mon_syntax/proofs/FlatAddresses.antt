@@ -6,7 +6,7 @@ use Rattle.c_model.specs.Memory.{Pointer, Null, Into}
 use Rattle.mon_syntax.specs.Flat.{start_of}
 use Rattle.mon_syntax.specs.FlatMemory.{pointer_in}
 use Rattle.mon_syntax.proofs.FlatPointers.{address_fits}
-use Rattle.mon_syntax.proofs.FlatRelation.{most_bytes, Place, World, PointsTo, SamePointer}
+use Rattle.mon_syntax.specs.FlatRelation.{most_bytes, Place, World, PointsTo, SamePointer}
 
 -- it is a number of 64 bits
 pub pointer_below : (w : World) (p : Pointer) (x : ℕ) → SamePointer w p x → x < 18446744073709551616

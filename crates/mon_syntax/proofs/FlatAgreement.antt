@@ -16,7 +16,7 @@ use Rattle.mon_syntax.specs.Valid.{IsValid}
 use Rattle.mon_syntax.specs.Following.{AllKept, Follows}
 use Rattle.mon_syntax.specs.Translates.{Translates}
 use Rattle.mon_syntax.proofs.Agreement.{runs_agree}
-use Rattle.mon_syntax.proofs.FlatRelation.{World, Later, Same, Holds}
+use Rattle.mon_syntax.specs.FlatRelation.{World, Later, Same, Holds}
 use Rattle.mon_syntax.proofs.FlatWorlds.{later_refl, later_trans, same_later, same_number, same_null}
 use Rattle.mon_syntax.proofs.FlatValues.{load_alike}
 use Rattle.mon_syntax.proofs.FlatStores.{store_alike}
@@ -28,7 +28,7 @@ use Rattle.mon_syntax.proofs.FlatHeap.{malloc_alike, calloc_alike, free_alike}
 use Rattle.mon_syntax.proofs.FlatCopies.{copy_alike}
 use Rattle.mon_syntax.proofs.FlatStart.{both_start}
 
-act_alike : (w : World) (f : MemoryCall) (xs : List Value) (ys : List ℤ) (m : Blocks) (n : Flat) → AllKept (Same w) xs ys → Holds w m n
+pub act_alike : (w : World) (f : MemoryCall) (xs : List Value) (ys : List ℤ) (m : Blocks) (n : Flat) → AllKept (Same w) xs ys → Holds w m n
     → Answers w (act_on_blocks f xs m) (act_on_flat f ys n)
 act_alike w call.StoreBlock xs ys m n k h = store_block_alike w xs ys m n k h
 act_alike w call.DeleteBlock xs ys m n k h = delete_block_alike w xs ys m n k h

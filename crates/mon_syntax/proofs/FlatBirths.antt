@@ -5,14 +5,15 @@ use Rattle.std.proofs.lemmas.List.{take-append-le, take_at}
 use Rattle.std.proofs.lemmas.Option.{same_Some, slice_get_within}
 use Rattle.c_syntax.specs.declared.types.BlockKind.{BlockKind}
 use Rattle.c_model.specs.Memory.{Unwritten, Block, is_stack, is_heap, greatest_number, rounded}
+use Rattle.c_model.specs.Together.{AreTogether}
 use Rattle.shadow_segments.specs.declared.BlockNote.{BlockNote}
 use Rattle.shadow_segments.specs.Shadow as shadow
 use Rattle.shadow_segments.specs.Shadow.{units, filled}
 use Rattle.mon_syntax.specs.declared.spot.RegionName.{RegionName}
-use Rattle.mon_syntax.specs.declared.spot.RegionName.TheVariants.{Stack, Heap}
+use Rattle.mon_syntax.specs.declared.spot.RegionName.TheVariants.{Globals, Stack, Heap}
 use Rattle.mon_syntax.specs.Flat.{Flat, pointer_to}
 use Rattle.mon_syntax.specs.BlockMemory.{Blocks}
-use Rattle.mon_syntax.proofs.FlatRelation.{region_of, most_bytes, Place, World, Later, PointsTo, SameByte, Head, head_of, heads, is_on_stack, units_taken, note_of, notes_in, marks_in, bytes_in, Apart, Lain, Owner, Laid, Held, Holds}
+use Rattle.mon_syntax.specs.FlatRelation.{region_of, most_bytes, Place, World, Later, PointsTo, SameByte, Head, head_of, heads, is_on_stack, units_taken, note_of, notes_in, marks_in, bytes_in, Apart, Lain, Owner, Laid, Held, Holds}
 use Rattle.mon_syntax.proofs.FlatLists.{get_front, get_end, get_last, head_at, heads_append, length-heads, same_region}
 use Rattle.mon_syntax.proofs.FlatNotes.{Elsewhere, where_is, apart_units, apart_bytes, units_stay, note_elsewhere, note_here}
 use Rattle.mon_syntax.proofs.FlatWorlds.{byte_later}
@@ -236,12 +237,14 @@ module _ (w : World) (m : Blocks) (f g : Flat) (k : BlockKind) (u n stands : ℕ
       (subst (λ z. Held world_new place_new z g) (sym e.1) own)
 
   -- a block is born whose bytes are there
-  pub born : (new : Block) → head_of new ≡ head_for k n stands → Held world_new place_new new g → Holds world_new (record m { store = m.store ++ new ∷ [] }) g
-  born new same own = record {
+  pub born : (new : Block) → head_of new ≡ head_for k n stands → Held world_new place_new new g → AreTogether new.bytes → Holds world_new (record m { store = m.store ++ new ∷ [] }) g
+  born new same own together = record {
     frames = h.frames ∙ sym is.frames;
     most = is.most_frames ∙ h.most;
+    globals = long_stays w (heads m.store) f g k u n stands h.laid may is Globals ∙ h.globals;
     stack = long_stays w (heads m.store) f g k u n stands h.laid may is Stack ∙ h.stack;
     heap = long_stays w (heads m.store) f g k u n stands h.laid may is Heap ∙ h.heap;
     laid = subst (λ z. Laid world_new z g) (sym (heads_append m.store new ∙ ap (λ z. heads m.store ++ z ∷ []) same)) (laid_born w (heads m.store) f g k u n stands h.laid may is);
     held = λ b c p at pl live. held_after new own b c p (get_last m.store new b c at) pl live;
+    together = λ b c at. ⊎_elim (λ t. h.together b c t) (λ t. subst (λ (z : Block). (length z.bytes ≡ z.size) × AreTogether z.bytes) (sym t.1) (own.size, together)) (get_last m.store new b c at);
   }

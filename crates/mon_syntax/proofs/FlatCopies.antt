@@ -5,6 +5,8 @@ use Rattle.std.proofs.lemmas.Bool.{and_parts, and_from}
 use Rattle.std.proofs.lemmas.List.{length-map, get_or-map}
 use Rattle.c_model.specs.Memory.{Pointer, Null, Into, Value, Integer, Points, Byte, Unwritten, Number, Piece, LoosePiece, Block, is_accessible, is_literal, with_bytes, bytes_in, saved_block}
 use Rattle.c_model.specs.Memory.{with_block, save_bytes, loosened, copied, copy, ◌>>=◌}
+use Rattle.c_model.specs.Together.{FitAt}
+use Rattle.c_model.proofs.Together.{copy_fits}
 use Rattle.shadow_segments.specs.Shadow as shadow
 use Rattle.shadow_segments.specs.Shadow.{Mark, PieceByte, LooseByte, taken_from}
 use Rattle.shadow_segments.proofs.CopiedMarks.{length-put_from, put_outside, put_inside}
@@ -20,8 +22,8 @@ use Rattle.mon_syntax.specs.Flat.{Flat, region, with_region, with_region_if, cop
 use Rattle.mon_syntax.specs.BlockMemory.{Blocks, becomes, copy_block}
 use Rattle.mon_syntax.specs.FlatMemory.{pointer_in, changed, act_on_flat}
 use Rattle.mon_syntax.specs.Following.{AllKept}
-use Rattle.mon_syntax.proofs.FlatRelation as relation
-use Rattle.mon_syntax.proofs.FlatRelation.{World, PointsTo, SamePointer, Same, SameByte, marks_in, Held, Holds}
+use Rattle.mon_syntax.specs.FlatRelation as relation
+use Rattle.mon_syntax.specs.FlatRelation.{World, PointsTo, SamePointer, Same, SameByte, marks_in, Held, Holds}
 use Rattle.mon_syntax.proofs.FlatEntries.{length-replaced, replaced_inside, replaced_outside}
 use Rattle.mon_syntax.proofs.FlatWritten as written
 use Rattle.mon_syntax.proofs.FlatWritten.{Written, Changed, region_same, written_holds}
@@ -37,6 +39,12 @@ copy_wide One u off e = omega arith
 copy_wide Two u off e = omega (arith, e)
 copy_wide Four u off e = omega (arith, e)
 copy_wide Eight u off e = omega (arith, e)
+
+copy_few : (a : CopySize) → copy_bytes a ≤ 8
+copy_few One = omega arith
+copy_few Two = omega arith
+copy_few Four = omega arith
+copy_few Eight = omega arith
 
 -- ---- bytes that are copied
 
@@ -101,7 +109,7 @@ module _ (r : Region) (at n : ℕ) (bytes : List ℕ) (marks : ℕ → Mark) (lo
 -- ---- the copy
 
 -- from an offset in one block to an offset in another, which may be the same one
-module _ (w : World) (m : Blocks) (f : Flat) (h : Holds w m f) (n index off x source from y : ℕ) (wide : IsWide n) (q : PointsTo w (suc index) off x) (r : PointsTo w (suc source) from y)
+module _ (w : World) (m : Blocks) (f : Flat) (h : Holds w m f) (n index off x source from y : ℕ) (wide : IsWide n) (few : n ≤ 8) (q : PointsTo w (suc index) off x) (r : PointsTo w (suc source) from y)
     (c : Block) (there : slice_get m.store source ≡ Some c) (read : Accessed f c r.place from n) where
   abbrev first : ℕ
   first = 16 * r.place.unit + from
@@ -150,11 +158,14 @@ module _ (w : World) (m : Blocks) (f : Flat) (h : Holds w m f) (n index off x so
       (subst (λ z. SameByte w (if nat_lt n 8 then loosened byte else byte) (marks i) z) (sym (part_at (relation.bytes_in f r.place.name) first n i 0 lt))
       (byte_loosened w byte (get_or (marks_in f r.place.name) (first + i) shadow.Unwritten) (get_or (relation.bytes_in f r.place.name) (first + i) 0) n held))
 
+  copied_fit : (b : Block) → Accessed f b q.place off n → FitAt off (copied taken)
+  copied_fit b a = copy_fits c.bytes from off n (h.together source c there).1 (let room = read.room in let size = source_held.size in omega (arith, room, size)) few read.aligned a.aligned
+
   copy_holds : (b : Block) → slice_get m.store index ≡ Some b → Accessed f b q.place off n → Holds w (record m { store = slice_set m.store index (with_bytes b off (copied taken)) }) after
   copy_holds b at a =
       let name = q.place.name in
       let change : Changed f after name to n = written.changed f name written_region to n (copy_written (region f name) to n bytes marks length-bytes a.in_bytes a.in_marks) in
-      written_holds w m f after h index b q.place off (copied taken) at a.live (lies w index off x q) (let l = length-put in let i = a.room in omega (arith, l, i)) (subst (Changed f after name to) (sym length-put) change)
+      written_holds w m f after h index b q.place off (copied taken) (copied_fit b a) at a.live (lies w index off x q) (let l = length-put in let i = a.room in omega (arith, l, i)) (subst (Changed f after name to) (sym length-put) change)
       (λ i lt.
       let below : i < n = let l = length-put in omega (arith, l, lt) in
       let mark : marks i ≡ get_or (marks_in after name) (to + i) shadow.Unwritten =
@@ -182,39 +193,39 @@ module _ (w : World) (m : Blocks) (f : Flat) (h : Holds w m f) (n index off x so
   copied_inside = copy_to (slice_get m.store index) refl
 
 -- the bytes can be read; the target may be any pointer
-copied_bytes : (w : World) (m : Blocks) (f : Flat) (p : Pointer) (n x source from y : ℕ) → Holds w m f → IsWide n → SamePointer w p x → (r : PointsTo w (suc source) from y)
+copied_bytes : (w : World) (m : Blocks) (f : Flat) (p : Pointer) (n x source from y : ℕ) → Holds w m f → IsWide n → n ≤ 8 → SamePointer w p x → (r : PointsTo w (suc source) from y)
     → (c : Block) → slice_get m.store source ≡ Some c → Accessed f c r.place from n → Answers w (becomes m (save_bytes m.store p n (copied (take n (drop from c.bytes))))) (changed (flat_copy f x y n))
-copied_bytes w m f Null n x source from y h wide q r c there a = tt
-copied_bytes w m f (Into zero off) n x source from y h wide q r c there a = tt
-copied_bytes w m f (Into (suc index) off) n x source from y h wide q r c there a = copied_inside w m f h n index off x source from y wide q r c there a
+copied_bytes w m f Null n x source from y h wide few q r c there a = tt
+copied_bytes w m f (Into zero off) n x source from y h wide few q r c there a = tt
+copied_bytes w m f (Into (suc index) off) n x source from y h wide few q r c there a = copied_inside w m f h n index off x source from y wide few q r c there a
 
 -- what is copied where so many bytes are read
 abbrev put_at : Blocks → Pointer → ℕ → Option (List Byte) → Reply Blocks Value
 put_at m p n o = becomes m (o >>= λ bytes. save_bytes m.store p n (copied bytes))
 
-module _ (w : World) (m : Blocks) (f : Flat) (p : Pointer) (n x source from y : ℕ) (h : Holds w m f) (wide : IsWide n) (q : SamePointer w p x) (r : PointsTo w (suc source) from y) where
+module _ (w : World) (m : Blocks) (f : Flat) (p : Pointer) (n x source from y : ℕ) (h : Holds w m f) (wide : IsWide n) (few : n ≤ 8) (q : SamePointer w p x) (r : PointsTo w (suc source) from y) where
   copy_from_by : (c : Block) → slice_get m.store source ≡ Some c → (t : Bool) → is_accessible c from n ≡ t
       → Answers w (put_at m p n (if t then Some (take n (drop from c.bytes)) else None)) (changed (flat_copy f x y n))
   copy_from_by c at false e = tt
-  copy_from_by c at true e = copied_bytes w m f p n x source from y h wide q r c at (accessed w m f source from n c r.place h wide at (lies w source from y r) e)
+  copy_from_by c at true e = copied_bytes w m f p n x source from y h wide few q r c at (accessed w m f source from n c r.place h wide at (lies w source from y r) e)
 
   copy_from : (o : Option Block) → slice_get m.store source ≡ o → Answers w (put_at m p n (bytes_in o from n)) (changed (flat_copy f x y n))
   copy_from None at = tt
   copy_from (Some c) at = copy_from_by c at (is_accessible c from n) refl
 
 -- where blocks copy so many bytes, flat memory does
-copied_alike : (w : World) (m : Blocks) (f : Flat) (p q : Pointer) (n x y : ℕ) → Holds w m f → IsWide n → SamePointer w p x → SamePointer w q y
+copied_alike : (w : World) (m : Blocks) (f : Flat) (p q : Pointer) (n x y : ℕ) → Holds w m f → IsWide n → n ≤ 8 → SamePointer w p x → SamePointer w q y
     → Answers w (becomes m (copy m.store p q n)) (changed (flat_copy f x y n))
-copied_alike w m f p Null n x y h wide s r = tt
-copied_alike w m f p (Into zero from) n x y h wide s r = tt
-copied_alike w m f p (Into (suc source) from) n x y h wide s r = copy_from w m f p n x source from y h wide s r (slice_get m.store source) refl
+copied_alike w m f p Null n x y h wide few s r = tt
+copied_alike w m f p (Into zero from) n x y h wide few s r = tt
+copied_alike w m f p (Into (suc source) from) n x y h wide few s r = copy_from w m f p n x source from y h wide few s r (slice_get m.store source) refl
 
 pub copy_alike : (w : World) (a : CopySize) (xs : List Value) (ys : List ℤ) (m : Blocks) (f : Flat) → AllKept (Same w) xs ys → Holds w m f
     → Answers w (copy_block a xs m) (act_on_flat (call.Copy a) ys f)
 copy_alike w a (Points p ∷ Points q ∷ []) (y ∷ z ∷ []) m f k h =
     subst (λ i. Answers w (becomes m (copy m.store p q (copy_bytes a))) (changed (flat_copy f i (pointer_in z) (copy_bytes a)))) (sym (ap pointer_in k.0.1 ∙ pointer_is w p k.0.0 k.0.2))
     (subst (λ i. Answers w (becomes m (copy m.store p q (copy_bytes a))) (changed (flat_copy f k.0.0 i (copy_bytes a)))) (sym (ap pointer_in k.1.0.1 ∙ pointer_is w q k.1.0.0 k.1.0.2))
-    (copied_alike w m f p q (copy_bytes a) k.0.0 k.1.0.0 h (copy_wide a) k.0.2 k.1.0.2))
+    (copied_alike w m f p q (copy_bytes a) k.0.0 k.1.0.0 h (copy_wide a) (copy_few a) k.0.2 k.1.0.2))
 copy_alike w a (Points p ∷ Points q ∷ []) [] m f k h = absurd k
 copy_alike w a (Points p ∷ Points q ∷ []) (y ∷ []) m f k h = absurd k.1
 copy_alike w a (Points p ∷ Points q ∷ []) (y ∷ z ∷ v ∷ ys) m f k h = absurd k.1.1

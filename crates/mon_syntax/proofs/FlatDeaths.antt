@@ -4,14 +4,15 @@ use Rattle.std.proofs.lemmas.List.{length-set}
 use Rattle.std.proofs.lemmas.Option.{none-some, same_Some}
 use Rattle.std.proofs.lemmas.Bool.{false≢true, and_parts}
 use Rattle.c_model.specs.Memory.{Unwritten, Block, is_stack}
+use Rattle.c_model.specs.Together.{AreTogether}
 use Rattle.shadow_segments.specs.declared.BlockNote.{BlockNote}
 use Rattle.shadow_segments.specs.Shadow as shadow
 use Rattle.shadow_segments.specs.Shadow.{units, filled}
 use Rattle.mon_syntax.specs.declared.spot.RegionName.{RegionName}
-use Rattle.mon_syntax.specs.declared.spot.RegionName.TheVariants.{Stack, Heap}
+use Rattle.mon_syntax.specs.declared.spot.RegionName.TheVariants.{Globals, Stack, Heap}
 use Rattle.mon_syntax.specs.Flat.{Flat}
 use Rattle.mon_syntax.specs.BlockMemory.{Blocks}
-use Rattle.mon_syntax.proofs.FlatRelation.{most_bytes, Place, World, SameByte, Head, head_of, heads, is_on_stack, units_taken, notes_in, marks_in, bytes_in, Owner, Laid, Held, Holds}
+use Rattle.mon_syntax.specs.FlatRelation.{most_bytes, Place, World, SameByte, Head, head_of, heads, is_on_stack, units_taken, notes_in, marks_in, bytes_in, Owner, Laid, Held, Holds}
 use Rattle.mon_syntax.proofs.FlatLists.{get_other, get_after_set, head_at, heads_set}
 use Rattle.mon_syntax.proofs.FlatNotes.{Elsewhere, where_is, apart_units, units_stay, note_elsewhere, note_here}
 
@@ -128,8 +129,11 @@ module _ (w : World) (m : Blocks) (f g : Flat) (h : Holds w m f) (index : ℕ) (
   died = record {
     frames = h.frames ∙ sym is.frames;
     most = is.most_frames ∙ h.most;
+    globals = long_stays w (heads m.store) f g h.laid index (head_of k) p (head_at m.store index k at) live pl is tight Globals ∙ h.globals;
     stack = long_stays w (heads m.store) f g h.laid index (head_of k) p (head_at m.store index k at) live pl is tight Stack ∙ h.stack;
     heap = long_stays w (heads m.store) f g h.laid index (head_of k) p (head_at m.store index k at) live pl is tight Heap ∙ h.heap;
     laid = subst (λ z. Laid w z g) (sym (heads_set m.store index (dead_block k))) (laid_died w (heads m.store) f g h.laid index (head_of k) p (head_at m.store index k at) live pl is tight);
     held = λ a c q e aq cl. held_after a c q (get_after_set m.store index a k (dead_block k) c at e) aq cl;
+    together = λ a c e.
+        ⊎_elim (λ t. subst (λ (z : Block). (length z.bytes ≡ z.size) × AreTogether z.bytes) (sym t.1) (h.together index k at)) (λ t. h.together a c t.1) (get_after_set m.store index a k (dead_block k) c at e);
   }

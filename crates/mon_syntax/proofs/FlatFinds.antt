@@ -8,7 +8,7 @@ use Rattle.mon_syntax.specs.declared.spot.RegionName.{RegionName}
 use Rattle.mon_syntax.specs.Questions.{if_numbered, live_at}
 use Rattle.mon_syntax.specs.Flat.{Flat, region}
 use Rattle.mon_syntax.specs.BlockMemory.{Blocks}
-use Rattle.mon_syntax.proofs.FlatRelation.{region_of, Place, World, PointsTo, Head, head_of, heads, note_of, notes_in, Laid, Holds}
+use Rattle.mon_syntax.specs.FlatRelation.{region_of, Place, World, PointsTo, Head, head_of, heads, note_of, notes_in, Laid, Holds}
 use Rattle.mon_syntax.proofs.FlatLists.{head_at, length-heads}
 use Rattle.mon_syntax.proofs.FlatEntries.{missing}
 use Rattle.mon_syntax.proofs.FlatPointers.{note_live}

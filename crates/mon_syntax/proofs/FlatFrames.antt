@@ -13,7 +13,7 @@ use Rattle.mon_syntax.specs.Flat.{Flat, region, flat_enter, flat_leave}
 use Rattle.mon_syntax.specs.BlockMemory.{Blocks, enter_blocks}
 use Rattle.mon_syntax.specs.FlatMemory.{valued}
 use Rattle.mon_syntax.specs.Following.{Replied}
-use Rattle.mon_syntax.proofs.FlatRelation.{most_bytes, Place, World, Later, Same, SameByte, heads, Laid, Held, Holds}
+use Rattle.mon_syntax.specs.FlatRelation.{most_bytes, Place, World, Later, Same, SameByte, heads, Laid, Held, Holds}
 use Rattle.mon_syntax.proofs.FlatWorlds.{later_refl}
 
 abbrev pub Answers : World → Reply Blocks Value → Reply Flat ℤ → Type 0
@@ -53,10 +53,12 @@ with_frames : (w : World) (m : Blocks) (f : Flat) (j k : ℕ) → j ≡ k → Ho
 with_frames w m f j k e h = record {
   frames = e;
   most = h.most;
+  globals = h.globals;
   stack = h.stack;
   heap = h.heap;
   laid = laid_same w m f (record f { frames = k }) same refl refl h;
   held = held_same w m f (record f { frames = k }) same refl refl h;
+  together = h.together;
 }
   where
     same : (name : RegionName) → region (record f { frames = k }) name ≡ region f name

@@ -17,7 +17,7 @@ use Rattle.mon_syntax.specs.declared.spot.RegionName.TheVariants.{Globals, Stack
 use Rattle.mon_syntax.specs.Regions.{Region, filled_with, with_birth}
 use Rattle.mon_syntax.specs.Flat.{Flat, region, flat_begin}
 use Rattle.mon_syntax.specs.BlockMemory.{number_bytes}
-use Rattle.mon_syntax.proofs.FlatRelation.{region_of, World, SameByte, Held, marks_in, bytes_in}
+use Rattle.mon_syntax.specs.FlatRelation.{region_of, World, SameByte, Held, marks_in, bytes_in}
 use Rattle.mon_syntax.proofs.FlatEntries.{length-replaced, replaced_inside, replaced_outside}
 use Rattle.mon_syntax.proofs.FlatBirths.{IsBorn, place_for}
 use Rattle.mon_syntax.proofs.FlatRegions.{new_note, BornIn, is_born, born_in}

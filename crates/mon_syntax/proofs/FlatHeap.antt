@@ -25,9 +25,10 @@ use Rattle.mon_syntax.specs.Flat as flat
 use Rattle.mon_syntax.specs.BlockMemory.{Blocks, heap_birth, allocate, malloc_block, calloc_block, becomes, free_block}
 use Rattle.mon_syntax.specs.FlatMemory.{pointer_in, valued, changed, act_on_flat}
 use Rattle.mon_syntax.specs.Following.{AllKept}
-use Rattle.mon_syntax.proofs.FlatRelation.{Place, World, PointsTo, SamePointer, Same, SameByte, Head, head_of, heads, is_on_stack, note_of, notes_in, marks_in, bytes_in, Lain, Holds}
+use Rattle.mon_syntax.specs.FlatRelation.{Place, World, PointsTo, SamePointer, Same, SameByte, Head, head_of, heads, is_on_stack, note_of, notes_in, marks_in, bytes_in, Lain, Holds}
 use Rattle.mon_syntax.proofs.FlatLists.{head_at, block_of_head, length-heads}
 use Rattle.mon_syntax.proofs.FlatWorlds.{later_refl}
+use Rattle.mon_syntax.proofs.FlatTogether.{HaveNone, none_together, unwritten_have_none, zeros_have_none}
 use Rattle.mon_syntax.proofs.FlatFrames.{Answers}
 use Rattle.mon_syntax.proofs.FlatPointers.{number_is, address_is, spot_of_pointer, note_live}
 use Rattle.mon_syntax.proofs.FlatAddresses.{pointer_is, into_is_some, index_is, lies}
@@ -89,10 +90,10 @@ module _ (w : World) (m : Blocks) (f : Flat) (u n : ℕ) (h : Holds w m f) (numb
   in_marks = let marked = h.laid.marked Heap in let inside = room.inside in omega (arith, marked, inside)
 
   -- a block of one byte, so many times, is born whose bytes are there
-  block_born : (r : Region) (byte : Byte) → BornIn f.heap r note u
+  block_born : (r : Region) (byte : Byte) → HaveNone (replicate n byte) → BornIn f.heap r note u
       → ((i : ℕ) → i < n → SameByte (w ++ place ∷ []) byte (get_or r.shadow.marks (16 * u + i) shadow.Unwritten) (get_or r.bytes (16 * u + i) 0))
       → Answers w (Gives (Points (Into (length m.store + 1) 0)) (record m { store = m.store ++ heap_block u (replicate n byte) ∷ [] })) (Gives (pos (pointer_to (f.births + 1) Heap (16 * u))) (grown r))
-  block_born r byte here each = (
+  block_born r byte none here each = (
     w ++ place ∷ [],
     record { more = place ∷ []; is = refl },
     (pointer_to (f.births + 1) Heap (16 * u), refl, its_pointer r here),
@@ -101,20 +102,20 @@ module _ (w : World) (m : Blocks) (f : Flat) (u n : ℕ) (h : Holds w m f) (numb
       bytes = λ i lt.
           let below : i < n = let long = length-replicate n byte in omega (arith, lt, long) in
           subst (λ z. SameByte (w ++ place ∷ []) z (get_or r.shadow.marks (16 * u + i) shadow.Unwritten) (get_or r.bytes (16 * u + i) 0)) (sym (get_or-replicate n i byte Unwritten below)) (each i below);
-    }),
+    }) (none_together (replicate n byte) none),
   )
 
   -- none of its bytes is written
   pub unwritten_block : Answers w (Gives (Points (Into (length m.store + 1) 0)) (record m { store = m.store ++ heap_block u (replicate n Unwritten) ∷ [] }))
       (valued (Gives (pointer_to (f.births + 1) Heap (16 * u)) (born f Heap kind.Heap (16 * u) n)))
   unwritten_block =
-      block_born (with_birth f.heap note) Unwritten (born_in f.heap note u refl) (λ i lt. unwritten_born f.heap note u refl i in_marks (omega (arith, lt)))
+      block_born (with_birth f.heap note) Unwritten (unwritten_have_none n) (born_in f.heap note u refl) (λ i lt. unwritten_born f.heap note u refl i in_marks (omega (arith, lt)))
 
   -- all of them are 0
   zeros_block : Answers w (Gives (Points (Into (length m.store + 1) 0)) (record m { store = m.store ++ heap_block u (replicate n (Number 0)) ∷ [] }))
       (valued (Gives (pointer_to (f.births + 1) Heap (16 * u)) (zeroed (born f Heap kind.Heap (16 * u) n) (16 * u) n)))
   zeros_block =
-      block_born (filled_with (with_birth f.heap note) (16 * u) n []) (Number 0) (begun_in f.heap note u n [] refl refl (omega arith) in_bytes in_marks)
+      block_born (filled_with (with_birth f.heap note) (16 * u) n []) (Number 0) (zeros_have_none n) (begun_in f.heap note u n [] refl refl (omega arith) in_bytes in_marks)
       (λ i lt. (begun_mark f.heap note u n [] refl refl (omega arith) in_bytes in_marks i lt, begun_byte f.heap note u n [] refl refl (omega arith) in_bytes in_marks i lt, omega arith))
 
   -- where the zeros are put

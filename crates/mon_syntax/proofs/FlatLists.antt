@@ -5,7 +5,7 @@ use Rattle.std.proofs.lemmas.Option.{none-some, same_Some}
 use Rattle.c_model.specs.Memory.{Block, Store}
 use Rattle.mon_syntax.specs.declared.spot.RegionName.{RegionName}
 use Rattle.mon_syntax.specs.declared.spot.RegionName.TheVariants.{Globals, Stack, Heap}
-use Rattle.mon_syntax.proofs.FlatRelation.{Head, head_of, heads}
+use Rattle.mon_syntax.specs.FlatRelation.{Head, head_of, heads}
 
 -- ---- entries of a list that grows at its end
 

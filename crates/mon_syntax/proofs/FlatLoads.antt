@@ -9,8 +9,8 @@ use Rattle.raw_seg.specs.Bytes as raw
 use Rattle.mon_syntax.specs.Flat.{Flat, load_spot, flat_load}
 use Rattle.mon_syntax.specs.BlockMemory.{Blocks}
 use Rattle.mon_syntax.specs.Following.{Kept, AllKept}
-use Rattle.mon_syntax.proofs.FlatRelation as relation
-use Rattle.mon_syntax.proofs.FlatRelation.{Place, World, PointsTo, SamePointer, SameByte, marks_in, Held, Holds}
+use Rattle.mon_syntax.specs.FlatRelation as relation
+use Rattle.mon_syntax.specs.FlatRelation.{Place, World, PointsTo, SamePointer, SameByte, marks_in, Held, Holds}
 use Rattle.mon_syntax.proofs.FlatPointers.{spot_of_pointer}
 use Rattle.mon_syntax.proofs.FlatAddresses.{lies}
 use Rattle.mon_syntax.proofs.FlatAccesses.{IsWide, Accessed, accessed}

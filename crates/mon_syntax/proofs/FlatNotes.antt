@@ -6,7 +6,7 @@ use Rattle.shadow_segments.specs.Shadow.{units, filled}
 use Rattle.shadow_segments.proofs.Lists.{length-filled, filled_inside, filled_outside}
 use Rattle.mon_syntax.specs.declared.spot.RegionName.{RegionName}
 use Rattle.mon_syntax.specs.Flat.{Flat}
-use Rattle.mon_syntax.proofs.FlatRelation.{Place, Apart, notes_in}
+use Rattle.mon_syntax.specs.FlatRelation.{Place, Apart, notes_in}
 use Rattle.mon_syntax.proofs.FlatLists.{same_region, at_region}
 
 -- another region, or a place before or after so many

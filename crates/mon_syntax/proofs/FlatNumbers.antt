@@ -16,7 +16,7 @@ use Rattle.mon_syntax.specs.FlatMemory.{pointer_in, act_on_flat}
 use Rattle.mon_syntax.specs.BlockMemory.{Blocks, at_offset, is_some, holds_number, act_on_blocks}
 use Rattle.mon_syntax.specs.Meaning.{◌>>=◌}
 use Rattle.mon_syntax.specs.Following.{AllKept, Replied}
-use Rattle.mon_syntax.proofs.FlatRelation.{Place, World, Later, PointsTo, SamePointer, Same, SameByte, head_of, note_of, marks_in, Held, Holds}
+use Rattle.mon_syntax.specs.FlatRelation.{Place, World, Later, PointsTo, SamePointer, Same, SameByte, head_of, note_of, marks_in, Held, Holds}
 use Rattle.mon_syntax.proofs.FlatWorlds.{later_refl}
 use Rattle.mon_syntax.proofs.FlatPointers.{spot_of_pointer, number_is}
 use Rattle.mon_syntax.proofs.FlatAddresses.{lies, pointer_is}

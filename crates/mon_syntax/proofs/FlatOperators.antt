@@ -14,7 +14,7 @@ use Rattle.mon_syntax.specs.Flat.{Flat, start_of, number_in}
 use Rattle.mon_syntax.specs.FlatMemory.{pointer_in, address_in, farther, two_pointers, pointed_flat}
 use Rattle.mon_syntax.specs.BlockMemory.{Blocks, two_blocks, pointed_block}
 use Rattle.mon_syntax.specs.Following.{Kept}
-use Rattle.mon_syntax.proofs.FlatRelation.{most_bytes, Place, World, PointsTo, SamePointer, Same, head_of, Holds}
+use Rattle.mon_syntax.specs.FlatRelation.{most_bytes, Place, World, PointsTo, SamePointer, Same, head_of, Holds}
 use Rattle.mon_syntax.proofs.FlatLists.{head_at}
 use Rattle.mon_syntax.proofs.FlatPointers.{address_fits, number_is, address_is}
 use Rattle.mon_syntax.proofs.FlatAddresses.{pointer_is, one_place, into_is_some, lies}

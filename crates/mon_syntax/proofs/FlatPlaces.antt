@@ -12,7 +12,7 @@ use Rattle.mon_syntax.specs.declared.spot.RegionName.TheVariants.{Heap}
 use Rattle.mon_syntax.specs.Flat.{Flat, is_none, are_free}
 use Rattle.mon_syntax.specs.Flat as flat
 use Rattle.mon_syntax.specs.BlockMemory.{Blocks}
-use Rattle.mon_syntax.proofs.FlatRelation.{region_of, Place, World, head_of, heads, notes_in, Lain, Holds}
+use Rattle.mon_syntax.specs.FlatRelation.{region_of, Place, World, head_of, heads, notes_in, Lain, Holds}
 use Rattle.mon_syntax.proofs.FlatLists.{head_at, block_of_head, length-heads}
 
 -- ---- the least number

@@ -6,7 +6,7 @@ use Rattle.mon_syntax.specs.declared.spot.RegionName.TheVariants.{Globals, Stack
 use Rattle.mon_syntax.specs.declared.spot.Spot.TheVariants.{In}
 use Rattle.mon_syntax.specs.Questions.{if_numbered, live_at}
 use Rattle.mon_syntax.specs.Flat.{Flat, region, start_of, spot_at, spot_of, number_in}
-use Rattle.mon_syntax.proofs.FlatRelation.{World, PointsTo, Head, Laid, note_of, notes_in, most_bytes}
+use Rattle.mon_syntax.specs.FlatRelation.{World, PointsTo, Head, Laid, note_of, notes_in, most_bytes}
 
 -- an address of a region is one of 32 bits
 pub address_fits : (name : RegionName) (i : ℕ) → i < most_bytes name → start_of name + i < 2 ^ 32

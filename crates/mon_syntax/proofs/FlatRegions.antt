@@ -8,7 +8,7 @@ use Rattle.shadow_segments.proofs.Lists.{length-filled, filled_inside, filled_ou
 use Rattle.mon_syntax.specs.declared.spot.RegionName.{RegionName}
 use Rattle.mon_syntax.specs.Regions.{Region, with_birth, with_death}
 use Rattle.mon_syntax.specs.Flat.{Flat, region}
-use Rattle.mon_syntax.proofs.FlatRelation.{region_of}
+use Rattle.mon_syntax.specs.FlatRelation.{region_of}
 use Rattle.mon_syntax.proofs.FlatLists.{at_region}
 use Rattle.mon_syntax.proofs.FlatBirths.{IsBorn}
 

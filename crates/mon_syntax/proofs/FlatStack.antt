@@ -1,5 +1,5 @@
 -- The calls of the runtime that begin and end the life of stack blocks: flat memory goes on to stand for the blocks.
-use Rattle.std.proofs.Common.{◌≡◌, ◌≢◌, ℕ, zero, suc, ◌+◌, ◌*◌, ◌<◌, ◌≤◌, inl, ℤ, pos, Bool, true, false, ◌&&◌, nat_eq, nat_lt, nat_le, if◌then◌else◌, List, [], ◌∷◌, ◌++◌, length}
+use Rattle.std.proofs.Common.{◌≡◌, ◌≢◌, ℕ, zero, suc, ◌+◌, ◌*◌, ◌<◌, ◌≤◌, inl, ℤ, pos, Bool, true, false, ◌&&◌, nat_eq, nat_lt, nat_le, if◌then◌else◌, List, [], ◌∷◌, ◌++◌, length, replicate}
 use Rattle.std.proofs.Common.{Some, None, take, get_or, slice_get, refl, sym, ap, ap₂, ◌∙◌, subst, arith}
 use Rattle.std.proofs.lemmas.List.{length-replicate, get_or-replicate}
 use Rattle.std.proofs.lemmas.Bool.{false≢true, eq-eqb, leb-false, ltb-false, and_from, and_parts}
@@ -24,9 +24,10 @@ use Rattle.mon_syntax.specs.Flat.{Flat, region, pointer_to, note_for, born, dead
 use Rattle.mon_syntax.specs.BlockMemory.{Blocks, stack_block, birth_of, store_block, youngest, is_index, dead_at, delete_block}
 use Rattle.mon_syntax.specs.FlatMemory.{pointer_in, valued, changed, act_on_flat}
 use Rattle.mon_syntax.specs.Following.{AllKept}
-use Rattle.mon_syntax.proofs.FlatRelation.{region_of, Place, World, PointsTo, Same, SameByte, Head, head_of, heads, is_on_stack, units_taken, note_of, notes_in, marks_in, bytes_in, Lain, Held, Holds}
+use Rattle.mon_syntax.specs.FlatRelation.{region_of, Place, World, PointsTo, Same, SameByte, Head, head_of, heads, is_on_stack, units_taken, note_of, notes_in, marks_in, bytes_in, Lain, Held, Holds}
 use Rattle.mon_syntax.proofs.FlatLists.{head_at, block_of_head, length-heads}
 use Rattle.mon_syntax.proofs.FlatWorlds.{later_refl}
+use Rattle.mon_syntax.proofs.FlatTogether.{none_together, unwritten_have_none}
 use Rattle.mon_syntax.proofs.FlatFrames.{Answers}
 use Rattle.mon_syntax.proofs.FlatPointers.{number_is, spot_of_pointer, note_live}
 use Rattle.mon_syntax.proofs.FlatAddresses.{pointer_is, index_is, lies}
@@ -105,7 +106,7 @@ module _ (w : World) (m : Blocks) (f : Flat) (n : ℕ) (h : Holds w m f) (number
     w ++ at_top ∷ [],
     record { more = at_top ∷ []; is = refl },
     (pointer_to (f.births + 1) Stack f.top, refl, new_pointer w (heads m.store) f grown kind.Stack unit n 0 h.laid may stack_born (length m.store + 1) f.top (let long = length-heads m.store in omega (arith, long)) top_is),
-    birth.born w m f grown kind.Stack unit n 0 h may stack_born (new_block kind.Stack n) refl unwritten,
+    birth.born w m f grown kind.Stack unit n 0 h may stack_born (new_block kind.Stack n) refl unwritten (none_together (replicate n Unwritten) (unwritten_have_none n)),
   )
 
 -- what each side answers, where no number is left (t), or no room (u)

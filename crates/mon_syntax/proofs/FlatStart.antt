@@ -18,14 +18,16 @@ use Rattle.mon_syntax.specs.Globals.{kind_of_content, size_of_content, first_byt
 use Rattle.mon_syntax.specs.Valid.{IsContent, AreGlobals}
 use Rattle.mon_syntax.specs.Regions.{empty_region}
 use Rattle.mon_syntax.specs.Flat.{Flat, flat_empty, flat_begin, pointer_to}
-use Rattle.mon_syntax.specs.BlockMemory.{Blocks, content_block, block_of_global, blocks_start, over_blocks}
+use Rattle.mon_syntax.specs.BlockMemory.{Blocks, number_bytes, content_block, block_of_global, blocks_start, over_blocks}
 use Rattle.mon_syntax.specs.BlockMemory as block
 use Rattle.mon_syntax.specs.FlatMemory.{begun, begun_with, flat_nothing, flat_start, over_flat}
 use Rattle.mon_syntax.specs.FlatMemory as flat
 use Rattle.mon_syntax.specs.Following.{AllKept}
-use Rattle.mon_syntax.proofs.FlatRelation.{region_of, most_bytes, Place, World, Later, PointsTo, Same, Head, head_of, heads, Owner, notes_in, marks_in, bytes_in, Holds}
+use Rattle.mon_syntax.specs.FlatLaws.{StartsAlike}
+use Rattle.mon_syntax.specs.FlatRelation.{region_of, most_bytes, Place, World, Later, PointsTo, Same, Head, head_of, heads, Owner, notes_in, marks_in, bytes_in, Holds}
 use Rattle.mon_syntax.proofs.FlatLists.{get_last, heads_append, length-heads}
 use Rattle.mon_syntax.proofs.FlatWorlds.{later_refl, later_trans, same_later}
+use Rattle.mon_syntax.proofs.FlatTogether.{none_together, numbers_have_none}
 use Rattle.mon_syntax.proofs.FlatBirths.{MayBeBorn, IsBorn, place_for, head_for, long_stays, old_place, new_place, new_pointer, born}
 use Rattle.mon_syntax.proofs.FlatGlobals.{length-number_bytes, begun_born, begun_held}
 
@@ -72,10 +74,11 @@ module _ (g s h most : ℕ) (gu su hu : ℕ) (ag : AreUnits g gu Globals) (as' :
   only Stack u n e = absurd (no_note (s / 16) u n e)
   only Heap u n e = absurd (no_note (h / 16) u n e)
 
-  empty_holds : most ≡ 65536 → su ≡ 65536 → hu ≡ 1048576 → Holds [] nothing empty
-  empty_holds em es eh = record {
+  empty_holds : most ≡ 65536 → gu ≡ 65536 → su ≡ 65536 → hu ≡ 1048576 → Holds [] nothing empty
+  empty_holds em eg es eh = record {
     frames = refl;
     most = em;
+    globals = units_in g gu Globals ag ∙ eg;
     stack = units_in s su Stack as' ∙ es;
     heap = units_in h hu Heap ah ∙ eh;
     laid = record {
@@ -93,12 +96,13 @@ module _ (g s h most : ℕ) (gu su hu : ℕ) (ag : AreUnits g gu Globals) (as' :
       apart = λ a b i j p q ne x y il jl xp yq. absurd (none-some i x);
     };
     held = λ b k p at pl live. absurd (none-some k at);
+    together = λ b k at. absurd (none-some k at);
   }
 
 nothing_holds : Holds [] nothing flat_nothing
 nothing_holds =
     empty_holds 1048576 1048576 16777216 65536 65536 65536 1048576 (record { whole = refl; small = omega arith }) (record { whole = refl; small = omega arith }) (record { whole = refl; small = omega arith })
-    refl refl refl
+    refl refl refl refl
 
 -- ---- one more global
 
@@ -192,7 +196,8 @@ module _ (w : World) (m : Blocks) (f : Flat) (u : ℕ) (h : HasPlaced w m f u) (
 
   content_placed : HasPlaced grown more next (u + units_of n)
   content_placed = record {
-    holds = born w m f next k u n 0 h.holds may content_born (content_block c) content_head (begun_held grown f k u n (first_bytes c) (global_region c) h.placed (first_fits c) (first_small c is) in_bytes in_marks);
+    holds = born w m f next k u n 0 h.holds may content_born (content_block c) content_head (begun_held grown f k u n (first_bytes c) (global_region c) h.placed (first_fits c) (first_small c is) in_bytes in_marks)
+        (none_together (number_bytes n (first_bytes c)) (numbers_have_none n (first_bytes c)));
     placed = let placed = h.placed in omega (arith, placed);
     few = let few = h.few in let long = length-append m.store (content_block c ∷ []) in omega (arith, few, long);
     units = subst (λ z. length (notes_in next z) ≡ length (notes_in f z)) (global_region c) (long_stays w (heads m.store) f next k u n 0 h.holds.laid may content_born (region_of k)) ∙ h.units;
@@ -239,13 +244,7 @@ nothing_placed = record {
   under = λ b h p at pl live name. absurd (none-some h at);
 }
 
--- the world in which a run begins
-pub record Starts (gs : List MonitoredGlobal) : Type 0 where
-  pub world : World
-  pub holds : Holds world (blocks_start gs) (flat_start gs)
-  pub starts : AllKept (Same world) (over_blocks.starts gs) (over_flat.starts gs)
-
-pub both_start : (gs : List MonitoredGlobal) → AreGlobals [] gs → globals_taken gs ≤ globals_bytes → Starts gs
+pub both_start : (gs : List MonitoredGlobal) → AreGlobals [] gs → globals_taken gs ≤ globals_bytes → StartsAlike gs
 both_start gs are room =
     let within : globals_taken gs ≤ 1048576 = room in
     let ends = all_begun [] nothing flat_nothing 0 nothing_placed [] gs are (omega (arith, within)) 1 refl in

@@ -13,7 +13,9 @@ use Rattle.shadow_segments.specs.Shadow.{NumberByte, PieceByte}
 use Rattle.shadow_segments.proofs.Lists.{length-filled, filled_inside, filled_outside}
 use Rattle.raw_seg.specs.Bytes as raw
 use Rattle.raw_seg.proofs.Numbers as raw_proofs
+use Rattle.c_model.specs.Together.{FitAt}
 use Rattle.c_model.proofs.Cells as cells
+use Rattle.c_model.proofs.Together.{no_pieces_fit, numbers_have_none, pieces_fit}
 use Rattle.mon_syntax.specs.declared.tree.MonType.{MonType}
 use Rattle.mon_syntax.specs.declared.tree.MonType.TheVariants.{I8, U8, I16, U16, I32, U32, I64, U64, I128, Ptr}
 use Rattle.mon_syntax.specs.Regions.{Region, mark_for, stored}
@@ -22,7 +24,7 @@ use Rattle.mon_syntax.specs.BlockMemory.{Blocks, scalar_type, save_scalar, store
 use Rattle.mon_syntax.specs.FlatMemory.{pointer_in, store_flat}
 use Rattle.mon_syntax.specs.Arithmetic.{bit_count, byte_count, is_pointer, lowest_bits}
 use Rattle.mon_syntax.specs.Following.{Kept}
-use Rattle.mon_syntax.proofs.FlatRelation.{World, PointsTo, SamePointer, Same, SameByte, byte_at, marks_in, bytes_in, Holds}
+use Rattle.mon_syntax.specs.FlatRelation.{World, PointsTo, SamePointer, Same, SameByte, byte_at, marks_in, bytes_in, Holds}
 use Rattle.mon_syntax.proofs.FlatEntries.{length-replaced, replaced_inside, replaced_outside}
 use Rattle.mon_syntax.proofs.FlatWritten.{Written, Changed, changed, region_same, written_holds}
 use Rattle.mon_syntax.proofs.FlatPointers.{spot_of_pointer}
@@ -58,6 +60,7 @@ module _ (r : Region) (at n value : ℕ) (pointer : Bool) (in_bytes : at + n ≤
 -- these bytes of a block are those of the number, with its mark
 pub record SameBytes (w : World) (ys : List Byte) (n value : ℕ) (pointer : Bool) : Type 0 where
   pub long : length ys ≡ n
+  pub fit : (off : ℕ) → off % n ≡ 0 → FitAt off ys
   pub each : (i : ℕ) → i < n → SameByte w (get_or ys i Unwritten) (mark_for pointer) (get_or (raw.bytes_of n value) i 0)
 
 module _ (w : World) (m : Blocks) (f : Flat) (h : Holds w m f) (index off x n value : ℕ) (pointer : Bool) (ys : List Byte) (q : PointsTo w (suc index) off x) (wide : IsWide n)
@@ -71,7 +74,7 @@ module _ (w : World) (m : Blocks) (f : Flat) (h : Holds w m f) (index off x n va
       let s = stored r from n value pointer in
       let g = with_region f name s in
       let c : Changed f g name from n = changed f name s from n (stored_written r from n value pointer a.in_bytes a.in_marks) in
-      written_holds w m f g h index b q.place off ys at a.live (lies w index off x q) (let l = same.long in let i = a.room in omega (arith, l, i)) (subst (Changed f g name from) (sym same.long) c)
+      written_holds w m f g h index b q.place off ys (same.fit off a.aligned) at a.live (lies w index off x q) (let l = same.long in let i = a.room in omega (arith, l, i)) (subst (Changed f g name from) (sym same.long) c)
       (λ i lt.
       let below : i < n = let l = same.long in omega (arith, l, lt) in
       let mark : mark_for pointer ≡ get_or (marks_in g name) (from + i) shadow.Unwritten = sym (ap (λ z. get_or z.shadow.marks (from + i) shadow.Unwritten) (region_same f name s) ∙ stored_mark r from n value pointer a.in_bytes a.in_marks i below) in
@@ -109,7 +112,7 @@ number_each w (suc n) v zero lt = (refl, refl, mod-lt v (omega arith))
 number_each w (suc n) v (suc i) lt = number_each w n (v / 256) i (omega (arith, lt))
 
 number_bytes : (w : World) (n v : ℕ) → SameBytes w (bytes_of n v) n v false
-number_bytes w n v = record { long = cells.length-bytes_of n v; each = λ i lt. number_each w n v i lt }
+number_bytes w n v = record { long = cells.length-bytes_of n v; fit = λ off e. no_pieces_fit (bytes_of n v) off (numbers_have_none n v); each = λ i lt. number_each w n v i lt }
 
 -- the pieces from the k-th on, where u is what is left of the pointer's number then
 piece_each : (w : World) (p : Pointer) (v : ℕ) → SamePointer w p v → (n k u i : ℕ) → ((j : ℕ) → byte_at u j ≡ byte_at v (k + j)) → i < n
@@ -128,6 +131,7 @@ length-pieces p k (suc n) = ap suc (length-pieces p (suc k) n)
 pointer_bytes : (w : World) (p : Pointer) (v : ℕ) → SamePointer w p v → SameBytes w (pieces p 0 8) 8 v true
 pointer_bytes w p v q = record {
   long = length-pieces p 0 8;
+  fit = λ off e. pieces_fit p off e;
   each = λ i lt. piece_each w p v q 8 0 v i (λ j. let e : j ≡ 0 + j = omega arith in ap (byte_at v) e) lt;
 }
 

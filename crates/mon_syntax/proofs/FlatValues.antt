@@ -18,7 +18,7 @@ use Rattle.mon_syntax.specs.FlatMemory.{pointer_in, load_flat}
 use Rattle.mon_syntax.specs.BlockMemory.{Blocks, load_block}
 use Rattle.mon_syntax.specs.Meaning.{◌>>=◌}
 use Rattle.mon_syntax.specs.Following.{Kept, AllKept}
-use Rattle.mon_syntax.proofs.FlatRelation.{World, SamePointer, Same, byte_at, Holds}
+use Rattle.mon_syntax.specs.FlatRelation.{World, SamePointer, Same, byte_at, Holds}
 use Rattle.mon_syntax.proofs.FlatAddresses.{one_number, pointer_is, pointer_below}
 use Rattle.mon_syntax.proofs.FlatAccesses.{type_wide}
 use Rattle.mon_syntax.proofs.FlatLoads.{ReadByte, ReadBytes, read_alike, SameNumber, number_read}

@@ -5,7 +5,7 @@ use Rattle.c_model.specs.Memory.{Pointer, Null, Into, Value, Integer, Points, No
 use Rattle.shadow_segments.specs.Shadow.{Mark}
 use Rattle.mon_syntax.specs.BlockMemory.{integer_of}
 use Rattle.mon_syntax.specs.Following.{Kept}
-use Rattle.mon_syntax.proofs.FlatRelation.{World, Later, SamePointer, Same, SameByte}
+use Rattle.mon_syntax.specs.FlatRelation.{World, Later, SamePointer, Same, SameByte}
 use Rattle.mon_syntax.proofs.FlatLists.{get_front}
 
 pub later_refl : (w : World) → Later w w

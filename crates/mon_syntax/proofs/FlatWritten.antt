@@ -3,6 +3,8 @@ use Rattle.std.proofs.Common.{◌≡◌, ◌≢◌, ℕ, ◌+◌, ◌*◌, ◌-�
 use Rattle.std.proofs.lemmas.Option.{same_Some}
 use Rattle.std.proofs.lemmas.Bool.{cases_lt}
 use Rattle.c_model.specs.Memory.{Byte, Unwritten, Block, with_bytes}
+use Rattle.c_model.specs.Together.{AreTogether, FitAt}
+use Rattle.c_model.proofs.Together.{together_written}
 use Rattle.shadow_segments.specs.Shadow as shadow
 use Rattle.shadow_segments.specs.Shadow.{units}
 use Rattle.mon_syntax.specs.declared.spot.RegionName.{RegionName}
@@ -10,7 +12,7 @@ use Rattle.mon_syntax.specs.declared.spot.RegionName.TheVariants.{Globals, Stack
 use Rattle.mon_syntax.specs.Regions.{Region}
 use Rattle.mon_syntax.specs.Flat.{Flat, region, with_region}
 use Rattle.mon_syntax.specs.BlockMemory.{Blocks}
-use Rattle.mon_syntax.proofs.FlatRelation.{most_bytes, Place, World, SameByte, Head, head_of, heads, notes_in, marks_in, bytes_in, Apart, Lain, Laid, Held, Holds}
+use Rattle.mon_syntax.specs.FlatRelation.{most_bytes, Place, World, SameByte, Head, head_of, heads, notes_in, marks_in, bytes_in, Apart, Lain, Laid, Held, Holds}
 use Rattle.mon_syntax.proofs.FlatLists.{get_after_set, head_at, heads_stay, same_region}
 use Rattle.mon_syntax.proofs.FlatEntries.{length-replaced, replaced_inside, replaced_outside}
 
@@ -115,7 +117,7 @@ apart_bytes p q off n j (inr (inl d)) le lt = inr (inr (omega (arith, d, le, lt)
 apart_bytes p q off n j (inr (inr d)) le lt = inr (inl (omega (arith, d, le, lt)))
 
 -- the block with this index lives at its place, and these bytes of it are written
-module _ (w : World) (m : Blocks) (f g : Flat) (h : Holds w m f) (index : ℕ) (b : Block) (p : Place) (off : ℕ) (ys : List Byte)
+module _ (w : World) (m : Blocks) (f g : Flat) (h : Holds w m f) (index : ℕ) (b : Block) (p : Place) (off : ℕ) (ys : List Byte) (fit : FitAt off ys)
     (at : slice_get m.store index ≡ Some b) (live : b.live ≡ true) (pl : slice_get w index ≡ Some p) (room : off + length ys ≤ b.size)
     (c : Changed f g p.name (16 * p.unit + off) (length ys))
     (here : (i : ℕ) → i < length ys
@@ -172,12 +174,18 @@ module _ (w : World) (m : Blocks) (f g : Flat) (h : Holds w m f) (index : ℕ) (
         bytes = λ i lt. stays q (get_or l.bytes i Unwritten) i (apart_bytes p q off (length ys) i part (omega (arith, mine, room)) (omega (arith, size, lt))) (o.bytes i lt);
       }
 
+  together_after : (length (with_bytes b off ys).bytes ≡ b.size) × AreTogether (with_bytes b off ys).bytes
+  together_after = (length-replaced b.bytes off ys room_in_bytes ∙ was_held.size, together_written b.bytes ys off (h.together index b at).1 fit room_in_bytes)
+
   pub written_holds : Holds w (record m { store = slice_set m.store index (with_bytes b off ys) }) g
   written_holds = record {
     frames = h.frames ∙ sym c.frames;
     most = c.most_frames ∙ h.most;
+    globals = ap length (c.notes Globals) ∙ h.globals;
     stack = ap length (c.notes Stack) ∙ h.stack;
     heap = ap length (c.notes Heap) ∙ h.heap;
     laid = subst (λ z. Laid w z g) (sym (heads_stay m.store index b (with_bytes b off ys) at refl)) (laid_stays w (heads m.store) f g p.name (16 * p.unit + off) (length ys) c h.laid);
     held = λ a l q al aq ll. held_after a l q (get_after_set m.store index a b (with_bytes b off ys) l at al) aq ll;
+    together = λ a l al.
+        ⊎_elim (λ t. subst (λ (z : Block). (length z.bytes ≡ z.size) × AreTogether z.bytes) (sym t.1) together_after) (λ t. h.together a l t.1) (get_after_set m.store index a b (with_bytes b off ys) l at al);
   }

@@ -6,7 +6,7 @@ use Rattle.std.proofs.lemmas.Bool.{eqb-true, false≢true}
 use Rattle.c_model.specs.Memory.{Block, Store, rounded, stack_taken}
 use Rattle.shadow_segments.specs.Shadow.{units}
 use Rattle.mon_syntax.specs.BlockMemory.{is_live_on_stack, youngest_from, youngest, is_index}
-use Rattle.mon_syntax.proofs.FlatRelation.{Head, heads, is_on_stack, units_taken}
+use Rattle.mon_syntax.specs.FlatRelation.{Head, heads, is_on_stack, units_taken}
 use Rattle.mon_syntax.proofs.FlatDeaths.{dead_head, StaysTight}
 
 -- ---- which one it is

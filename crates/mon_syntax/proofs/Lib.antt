@@ -5,9 +5,9 @@ pub mod Wrapping
 pub mod FlatBlocks
 pub mod Agreement
 -- flat memory stands for blocks
-pub mod FlatRelation
 pub mod FlatLists
 pub mod FlatWorlds
+pub mod FlatTogether
 pub mod FlatPointers
 pub mod FlatAddresses
 pub mod FlatNotes
@@ -33,6 +33,7 @@ pub mod FlatCopies
 pub mod FlatFreed
 pub mod FlatOperators
 pub mod FlatAgreement
+pub mod FlatLaws
 -- the grammar is exact
 pub mod ExactTokens
 pub mod ExactExpressions

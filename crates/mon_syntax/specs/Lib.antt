@@ -20,6 +20,8 @@ pub mod Grammar
 pub mod Checking
 pub mod Spelled
 pub mod Following
+pub mod FlatRelation
+pub mod FlatLaws
 pub mod Translates
 pub mod Steps
 pub mod Laws

@@ -6,6 +6,8 @@ ghost use Rattle.mon_syntax.specs.Laws.{WrappedValuesFit, WrappedValuesAreCongru
 ghost use Rattle.mon_syntax.specs.Laws.{FuelIsEnough, StepsFall, LoopsTurn, RunsNeedNoFuel, RunsSpendSteps};
 ghost use Rattle.mon_syntax.specs.Laws.{BlocksAgreeWithFlat, AgreementTranslates};
 ghost use Rattle.mon_syntax.specs.Laws.{FreedBlocksHaveNoRecord};
+ghost use Rattle.mon_syntax.specs.FlatLaws.{RunsStartAlike, CallsKeep, FramesKeep, FrameEndsKeep, LoadsKeep, StoresKeep, OperatorsKeep};
+ghost use Rattle.mon_syntax.specs.FlatLaws.{PlacesStay, ValuesStay, DeadHaveNoRecord, PointersLieInUnits, PiecesHaveTheirBytes, PiecesAreOfOne};
 ghost use Rattle.mon_syntax.specs.Laws.{PrintedProgramsAreRead};
 
 /// Arithmetic: a result wraps to the one value of its type that is congruent to it, modulo 2 to the bits of the type.
@@ -38,6 +40,29 @@ pub fn flat_runs()
 pub fn agreement()
     ensures flat { BlocksAgreeWithFlat }
     ensures translates { AgreementTranslates }
+{}
+
+/// Flat memory stands for numbered blocks: a run begins so, and calls of the runtime, frames, loads, stores and operators keep
+/// it so, up to the first of them that has no meaning over blocks.
+pub fn flat_relation()
+    ensures start { RunsStartAlike }
+    ensures calls { CallsKeep }
+    ensures frames { FramesKeep }
+    ensures frame_ends { FrameEndsKeep }
+    ensures loads { LoadsKeep }
+    ensures stores { StoresKeep }
+    ensures operators { OperatorsKeep }
+{}
+
+/// Where it does, a block keeps its place when it is dead, and no record has its number any more; a pointer lies in the units of
+/// its block, and its pieces are the bytes of its number, each at its own place in an aligned group of eight.
+pub fn flat_places()
+    ensures places { PlacesStay }
+    ensures values { ValuesStay }
+    ensures dead { DeadHaveNoRecord }
+    ensures pointers { PointersLieInUnits }
+    ensures pieces { PiecesHaveTheirBytes }
+    ensures one { PiecesAreOfOne }
 {}
 
 /// The heap: after the death of a block no unit has its record.

@@ -1,9 +1,13 @@
+-- Ours: the relation of the two memories.
 -- When flat memory stands for numbered blocks: where each block ever born lies or lay, and what its units, its records and its bytes are there.
-use Rattle.std.proofs.Common.{◌≡◌, ◌≢◌, ℕ, zero, suc, ◌+◌, ◌*◌, ◌/◌, ◌%◌, ◌^◌, ◌<◌, ◌≤◌, ◌⊎◌, ℤ, pos, Bool, true, ◌&&◌, if◌then◌else◌, List, [], ◌∷◌, ◌++◌, length}
-use Rattle.std.proofs.Common.{Option, Some, None, map, take, get_or, slice_get}
+use Rattle.std.specs.Prelude.{◌≡◌, ◌≢◌, ℕ, zero, suc, ◌+◌, ◌*◌, ◌/◌, ◌%◌, ◌^◌, ◌<◌, ◌≤◌, ◌⊎◌, ℤ, pos, Bool, true, ◌&&◌, if◌then◌else◌, List, [], ◌∷◌, ◌++◌}
+use Rattle.std.specs.Prelude.{length, Option, Some, None, map, take, get_or, slice_get}
 use Rattle.c_syntax.specs.declared.types.BlockKind.{BlockKind}
 use Rattle.c_syntax.specs.declared.types.BlockKind.TheVariants as kind
-use Rattle.c_model.specs.Memory.{Pointer, Null, Into, Value, Integer, Points, NoValue, Byte, Unwritten, Number, Piece, LoosePiece, Block, Store, is_stack, is_heap, greatest_number}
+use Rattle.c_model.specs.Limits.{most_frames}
+use Rattle.c_model.specs.Memory.{Pointer, Null, Into, Value, Integer, Points, NoValue, Byte, Unwritten, Number, Piece, LoosePiece, Block, Store}
+use Rattle.c_model.specs.Memory.{is_stack, is_heap, greatest_number, Sizes, standard_sizes}
+use Rattle.c_model.specs.Together.{AllTogether}
 use Rattle.shadow_segments.specs.declared.BlockNote.{BlockNote}
 use Rattle.shadow_segments.specs.Shadow as shadow
 use Rattle.shadow_segments.specs.Shadow.{Mark, NumberByte, PieceByte, LooseByte, units}
@@ -163,11 +167,19 @@ pub record Held (w : World) (p : Place) (b : Block) (f : Flat) : Type 0 where
   pub bytes : (i : ℕ) → i < b.size
       → SameByte w (get_or b.bytes i Unwritten) (get_or (marks_in f p.name) (16 * p.unit + i) shadow.Unwritten) (get_or (bytes_in f p.name) (16 * p.unit + i) 0)
 
--- flat memory stands for blocks
-pub record Holds (w : World) (m : Blocks) (f : Flat) : Type 0 where
+-- flat memory stands for blocks, in segments of these sizes
+pub record HoldsIn (sizes : Sizes) (w : World) (m : Blocks) (f : Flat) : Type 0 where
   pub frames : m.frames ≡ f.frames
-  pub most : f.most_frames ≡ 65536
-  pub stack : length (notes_in f Stack) ≡ 65536
-  pub heap : length (notes_in f Heap) ≡ 1048576
+  pub most : f.most_frames ≡ most_frames
+  -- each segment has the units of its size
+  pub globals : length (notes_in f Globals) ≡ sizes.globals / 16
+  pub stack : length (notes_in f Stack) ≡ sizes.stack / 16
+  pub heap : length (notes_in f Heap) ≡ sizes.heap / 16
   pub laid : Laid w (heads m.store) f
   pub held : (b : ℕ) (k : Block) (p : Place) → slice_get m.store b ≡ Some k → slice_get w b ≡ Some p → k.live ≡ true → Held w p k f
+  -- in an aligned group of eight bytes the pieces are those of one pointer, each at its own place
+  pub together : AllTogether m.store
+
+-- in segments of this profile's sizes
+abbrev pub Holds : World → Blocks → Flat → Type 0
+Holds w m f = HoldsIn standard_sizes w m f
