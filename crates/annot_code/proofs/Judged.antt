@@ -16,7 +16,7 @@ use Rattle.annot_code.specs.Plain.{code_of, judgement_of, pred_by}
 use Rattle.annot_code.proofs.Theorem.{code_judges}
 use Rattle.annot_code.proofs.ValidCode.{code_is_valid}
 
-abbrev judgement_by : Names → Predicate → Judgement
+abbrev pub judgement_by : Names → Predicate → Judgement
 judgement_by n q = judgement (unit_of n) n.table.bound q n.table.kinds
 
 judges_in : (n : Names) (q : Predicate) → JudgesIn n q (judgement_by n q)

@@ -11,10 +11,12 @@ pub mod Theorem
 pub mod Typed
 pub mod Prefixes
 pub mod Depths
+pub mod Opens
 pub mod ValidParts
 pub mod ValidCode
 pub mod Rust
 pub mod Arms
 pub mod Forms
 pub mod Judged
+pub mod Inside
 pub mod Asserted

@@ -43,9 +43,11 @@ use Rattle.annot_code.proofs.Terms.{CastTo, cast_to}
 use Rattle.annot_code.proofs.Variables.{IsInteger, integer_of_range, some_same}
 use Rattle.annot_code.proofs.Typed.{begins_front, type_at, first_type, second_type_at, whole_width, whole_register, width_constant, zero_constant, in_type_typed, to_width, relation_typed, guard_typed, binary_typed, unary_typed, related_typed}
 use Rattle.annot_code.proofs.Typed.{in_type_parens, guard_parens, value_parens, unary_parens, related_parens, binary_less}
+use Rattle.annot_code.specs.Inside.{open_in_all}
+use Rattle.annot_code.proofs.Opens.{open_before, open_one, open_if, open_guarded, open_take, open_none}
 use Rattle.annot_code.proofs.Depths.{deep_before, deep_if, deep_guarded, deep_take, some_term, some_nodes}
 use Rattle.annot_code.proofs.Prefixes.{operated_begins, connected_begins, term_begins, chain_begins, pred_begins, judged_begins}
-use Rattle.annot_code.proofs.ValidParts.{flag_more, before_valid, expression, set_valid, number_valid, register_valid, FlagValid, Valid, flag_both, guarded_valid, take_valid, take_none_valid, two_valid}
+use Rattle.annot_code.proofs.ValidParts.{flag_open, flag_more, before_valid, expression, set_valid, number_valid, register_valid, FlagValid, Valid, flag_both, guarded_valid, take_valid, take_none_valid, two_valid}
 use Rattle.annot_code.proofs.ValidParts.{changed_valid, branch_valid, truth_valid, connected_valid}
 use Rattle.c_model.specs.StaticObjects.{static_objects}
 
@@ -89,6 +91,7 @@ module _ (p : TranslationUnit) (bound : Bindings) (g : ℕ) (gs : List Signature
       let one = one_range r z e in record {
         statements = tt;
         deep = omega arith;
+        opened = omega arith;
         flag = tt;
         typed = (refl, width_constant (width_of_range r) z (fits_width (width_of_range r) z (widths_fit r z one.within one.lies)) least);
         parens = omega arith;
@@ -119,12 +122,13 @@ module _ (p : TranslationUnit) (bound : Bindings) (g : ℕ) (gs : List Signature
 
       by : (b : Bool) → Begins (variable_code p bound b (type_of_width (width_of_range r)) (record { decl = x.decl; kind = term_type t }) rs).used ts
           → IsCode (variable_code p bound b (type_of_width (width_of_range r)) (record { decl = x.decl; kind = term_type t }) rs) (type_of_width (width_of_range r)) 1 1
-      by true h = record { statements = tt; deep = omega arith; flag = tt; typed = typed; parens = omega (arith, parens) }
+      by true h = record { statements = tt; deep = omega arith; opened = omega arith; flag = tt; typed = typed; parens = omega (arith, parens) }
       by false h =
           let at = type_at rs ts I32 h in
           let zero_p = pointer_parens p bound x.decl in record {
             statements = (((record { typed = pointer; within = omega (arith, zero_p) }, (record { typed = (refl, refl); within = omega arith }, tt)), at), tt);
             deep = omega arith;
+            opened = max-le (max-le (omega (arith, zero_p)) (omega arith)) (omega arith);
             flag = (at, omega arith);
             typed = typed;
             parens = omega (arith, parens);
@@ -231,6 +235,12 @@ module _ (p : TranslationUnit) (bound : Bindings) (g : ℕ) (gs : List Signature
                   deep_before both (guarded flag inner (take_none reg)) (all + all)
                   (deep_before x.stmts y.stmts (all + all) (omega (arith, vx.deep)) (omega (arith, vy.deep)))
                   (let d = deep_guarded flag inner (take_none reg) 2 (deep_take (Some test) made reg) (omega arith) in omega (arith, d, some_term a, some_term b));
+              opened =
+                  open_before both (guarded flag inner (take_none reg)) (4 * all) (open_before x.stmts y.stmts (4 * all) (omega (arith, vx.opened)) (omega (arith, vy.opened)))
+                  (open_guarded flag inner (take_none reg) (4 * all)
+                  (let both_open = flag_open g gs ts result ls flag all
+                  (flag_both g gs ts result ls x.flag y.flag (nodes_of_term a) (nodes_of_term b) all (omega (arith, some_term b)) (omega (arith, some_term a)) vx.flag vy.flag) in omega (arith, both_open))
+                  (open_take (Some test) made reg (4 * all) (omega arith) (omega (arith, test_parens)) (omega (arith, made_parens))) (open_none reg (4 * all) (omega arith)));
               flag = (at1, omega arith);
               typed = at2;
               parens = omega arith;
@@ -267,10 +277,10 @@ module _ (p : TranslationUnit) (bound : Bindings) (g : ℕ) (gs : List Signature
 
   -- a term that was computed already
   again_is_code : (u : LogicTerm) (y : Code) → IsCode y (type_of u) (nodes_of_term u) 1 → IsCode (sure_code y.value y.used) (type_of u) (nodes_of_term u) 1
-  again_is_code u y v = record { statements = tt; deep = omega arith; flag = tt; typed = v.typed; parens = v.parens }
+  again_is_code u y v = record { statements = tt; deep = omega arith; opened = omega arith; flag = tt; typed = v.typed; parens = v.parens }
 
   more_code : (c : Code) (t : MonType) (m n s : ℕ) → m ≤ n → IsCode c t m s → IsCode c t n s
-  more_code c t m n s le v = record { statements = v.statements; deep = omega (arith, v.deep, le); flag = flag_more g gs ts result ls c.flag m n le v.flag; typed = v.typed; parens = omega (arith, v.parens, le) }
+  more_code c t m n s le v = record { statements = v.statements; deep = omega (arith, v.deep, le); opened = omega (arith, v.opened, le); flag = flag_more g gs ts result ls c.flag m n le v.flag; typed = v.typed; parens = omega (arith, v.parens, le) }
 
   -- ---- everything
 
@@ -308,7 +318,7 @@ module _ (p : TranslationUnit) (bound : Bindings) (g : ℕ) (gs : List Signature
         → Begins (chain_code p bound t x l known).used ts
         → IsCode (chain_code p bound t x l known) I32 (m + nodes_of_links l) 0
     chain_valid t x NoLink m q f known some few v h =
-        record { statements = v.statements; deep = omega (arith, v.deep); flag = tt; typed = (refl, refl); parens = omega (arith, some) }
+        record { statements = v.statements; deep = omega (arith, v.deep); opened = omega (arith, v.opened); flag = tt; typed = (refl, refl); parens = omega (arith, some) }
     chain_valid t x (Linked at r u NoLink) m q f known some few v h =
         relation_is_code r t u x (term_code p bound u known x.used) m (nodes_of_term u) (m + suc (nodes_of_term u + 0)) v (term_valid u q.0 f.0 known x.used (omega (arith, few)) h) some (some_term u) (omega arith)
     chain_valid t x (Linked at r u (Linked at2 r2 v rest)) m q f known some few vx h =
@@ -357,9 +367,10 @@ module _ (p : TranslationUnit) (bound : Bindings) (g : ℕ) (gs : List Signature
 
   -- ---- the flag and the truth in registers
 
-  by_valid : (a : MonStatements) (f : ℕ) (e : MonExpression) (rs : Types) (n : ℕ) → n ≤ 2000 → AreStatements g gs ts result ls a → depth_of_all a ≤ 1300 → slice_get ts f ≡ Some I32 → HasType g ts e I32 → open_parens e ≤ n → Begins (rs ++ I32 ∷ []) ts
+  by_valid : (a : MonStatements) (f : ℕ) (e : MonExpression) (rs : Types) (n : ℕ) → n ≤ 1600 → AreStatements g gs ts result ls a → depth_of_all a ≤ 1300 → open_in_all a ≤ 1600 → slice_get ts f ≡ Some I32 → HasType g ts e I32
+      → open_parens e ≤ n → Begins (rs ++ I32 ∷ []) ts
       → IsValidCode g gs ts result ls (judged_by a f e rs)
-  by_valid a f e rs n few h d at typed parens b =
+  by_valid a f e rs n few h d o at typed parens b =
       let at2 = type_at rs ts I32 b in
       let on = set (length rs) e in
       let off = set (length rs) (Constant I32 (pos 0)) in record {
@@ -367,28 +378,32 @@ module _ (p : TranslationUnit) (bound : Bindings) (g : ℕ) (gs : List Signature
             before_valid g gs ts result ls a (one (If (Register f) on off)) h (
               (
                 register_valid g gs ts result ls f I32 at,
-                set_valid g gs ts result ls (length rs) e I32 at2 (expression g gs ts result ls e I32 n typed parens few),
+                set_valid g gs ts result ls (length rs) e I32 at2 (expression g gs ts result ls e I32 n typed parens (omega (arith, few))),
                 set_valid g gs ts result ls (length rs) (Constant I32 (pos 0)) I32 at2 (number_valid g gs ts result ls (pos 0) (refl, refl)),
               ),
               tt,
             );
         deep = deep_before a (one (If (Register f) on off)) 1300 d (let l = deep_if (Register f) on off 1 (omega arith) (omega arith) in omega (arith, l));
+        parens =
+            open_before a (one (If (Register f) on off)) 1600 o
+            (open_if (Register f) on off 1600 (omega arith) (open_one e (length rs) 1600 (omega (arith, parens, few))) (open_one (Constant I32 (pos 0)) (length rs) 1600 (omega arith)));
         flag_type = at;
         truth_type = at2;
       }
 
   module _ (c : Code) (n : ℕ) (few : n ≤ 400) (v : IsCode c I32 n 0) where
-    anew_valid : (e : MonExpression) → HasType g ts e I32 → open_parens e ≤ 2000 → Begins ((c.used ++ I32 ∷ []) ++ I32 ∷ []) ts → IsValidCode g gs ts result ls (judged_anew e c)
+    anew_valid : (e : MonExpression) → HasType g ts e I32 → open_parens e ≤ 1600 → Begins ((c.used ++ I32 ∷ []) ++ I32 ∷ []) ts → IsValidCode g gs ts result ls (judged_anew e c)
     anew_valid e typed parens b =
         let first = begins_front (c.used ++ I32 ∷ []) (I32 ∷ []) ts b in
         let at = type_at c.used ts I32 first in
         by_valid (before c.stmts (set (length c.used) e)) (length c.used) c.value (c.used ++ I32 ∷ []) (4 * n) (omega (arith, few))
-        (before_valid g gs ts result ls c.stmts (set (length c.used) e) v.statements (set_valid g gs ts result ls (length c.used) e I32 at (expression g gs ts result ls e I32 2000 typed parens (omega arith))))
-        (deep_before c.stmts (set (length c.used) e) 1300 (omega (arith, v.deep, few)) (omega arith)) at v.typed (omega (arith, v.parens)) b
+        (before_valid g gs ts result ls c.stmts (set (length c.used) e) v.statements (set_valid g gs ts result ls (length c.used) e I32 at (expression g gs ts result ls e I32 1600 typed parens (omega arith))))
+        (deep_before c.stmts (set (length c.used) e) 1300 (omega (arith, v.deep, few)) (omega arith))
+        (open_before c.stmts (set (length c.used) e) 1600 (omega (arith, v.opened, few)) (open_one e (length c.used) 1600 parens)) at v.typed (omega (arith, v.parens)) b
 
     flagged : (f : Option MonExpression) → FlagValid g gs ts result ls f n → Begins (judged_with f c).used ts → IsValidCode g gs ts result ls (judged_with f c)
     flagged None h b = anew_valid (Constant I32 (pos 1)) (refl, refl) (omega arith) b
-    flagged (Some (Register f)) h b = by_valid c.stmts f c.value c.used (4 * n) (omega (arith, few)) v.statements (omega (arith, v.deep, few)) h.0 v.typed (omega (arith, v.parens)) b
+    flagged (Some (Register f)) h b = by_valid c.stmts f c.value c.used (4 * n) (omega (arith, few)) v.statements (omega (arith, v.deep, few)) (omega (arith, v.opened, few)) h.0 v.typed (omega (arith, v.parens)) b
     flagged (Some (Global x)) h b = let l = h.1 in anew_valid (Global x) h.0 (omega (arith, few, l)) b
     flagged (Some (Constant t z)) h b = let l = h.1 in anew_valid (Constant t z) h.0 (omega (arith, few, l)) b
     flagged (Some (Binary op t x y)) h b = let l = h.1 in anew_valid (Binary op t x y) h.0 (omega (arith, few, l)) b

@@ -11,6 +11,8 @@ use Rattle.mon_syntax.specs.Valid.{Types, HasType, IsExpression, AreStatements, 
 use Rattle.c_effects.specs.Expressions.{before, one, set}
 use Rattle.annot_code.specs.Code.{Code, with_value, conjunction, guarded, two_code, take, take_none, branch, truth_code, is_sure, connective_operator, both_asked, left_first, connected}
 use Rattle.annot_code.specs.Validity.{Begins}
+use Rattle.annot_code.specs.Inside.{open_in_all, open_if_any}
+use Rattle.annot_code.proofs.Opens.{open_before, open_if, open_guarded, open_take, open_none}
 use Rattle.annot_code.proofs.Depths.{deep_before, deep_if, deep_guarded, deep_take}
 use Rattle.annot_code.proofs.Typed.{first_type, second_type_at, arithmetic_typed, relation_typed, binary_less}
 
@@ -44,9 +46,14 @@ module _ (g : ℕ) (gs : List Signature) (ts : Types) (result : Option MonType) 
   pub record Valid (c : Code) (t : MonType) (n s : ℕ) : Type 0 where
     pub statements : Stmts c.stmts
     pub deep : depth_of_all c.stmts ≤ n + n
+    pub opened : open_in_all c.stmts ≤ 4 * n
     pub flag : FlagValid c.flag n
     pub typed : HasType g ts c.value t
     pub parens : open_parens c.value + s ≤ 4 * n
+
+  pub flag_open : (f : Option MonExpression) (n : ℕ) → FlagValid f n → open_if_any f ≤ n
+  flag_open None n h = omega arith
+  flag_open (Some e) n h = h.1
 
   pub flag_more : (f : Option MonExpression) (m n : ℕ) → m ≤ n → FlagValid f m → FlagValid f n
   flag_more None m n le h = tt
@@ -77,6 +84,7 @@ module _ (g : ℕ) (gs : List Signature) (ts : Types) (result : Option MonType) 
   two_valid a b e ta tb t m n sa sb k s p q lm ln h l = record {
     statements = before_valid a.stmts b.stmts p.statements q.statements;
     deep = deep_before a.stmts b.stmts (k + k) (omega (arith, p.deep, lm)) (omega (arith, q.deep, ln));
+    opened = open_before a.stmts b.stmts (4 * k) (omega (arith, p.opened, lm)) (omega (arith, q.opened, ln));
     flag = flag_both a.flag b.flag m n k lm ln p.flag q.flag;
     typed = h;
     parens = l;
@@ -86,6 +94,7 @@ module _ (g : ℕ) (gs : List Signature) (ts : Types) (result : Option MonType) 
   changed_valid c e ta t n sa k s p le h l = record {
     statements = p.statements;
     deep = omega (arith, p.deep, le);
+    opened = omega (arith, p.opened, le);
     flag = flag_more c.flag n k le p.flag;
     typed = h;
     parens = l;
@@ -103,6 +112,10 @@ module _ (g : ℕ) (gs : List Signature) (ts : Types) (result : Option MonType) 
         (more (depth_of_all (guarded c.flag inner (take_none r))) (deep_guarded c.flag inner (take_none r) (suc l) (deep_if c.value (before a.stmts (take a.flag a.value r)) (before b.stmts (take b.flag b.value r)) l
         (deep_before a.stmts (take a.flag a.value r) l (omega (arith, va.deep, ll, la)) (omega (arith, deep_take a.flag a.value r, ll, la, some)))
         (deep_before b.stmts (take b.flag b.value r) l (omega (arith, vb.deep, ll, lb)) (omega (arith, deep_take b.flag b.value r, ll, la, some)))) (omega arith)));
+    opened =
+        open_before c.stmts (guarded c.flag inner (take_none r)) (4 * k) (omega (arith, vc.opened, lm))
+        (open_guarded c.flag inner (take_none r) (4 * k) (let l = flag_open c.flag m vc.flag in omega (arith, l, lm))
+        (open_if c.value (before a.stmts (take a.flag a.value r)) (before b.stmts (take b.flag b.value r)) (4 * k) (omega (arith, vc.parens, lm)) (side_open a na sa va la) (side_open b nb sb vb lb)) (open_none r (4 * k) (omega (arith, lm))));
     flag = (at, omega arith);
     typed = at2;
     parens = omega (arith, la, small);
@@ -125,6 +138,11 @@ module _ (g : ℕ) (gs : List Signature) (ts : Types) (result : Option MonType) 
           before_valid d.stmts (take d.flag d.value r) v.statements
           (take_valid d.flag d.value t r n (omega (arith, le, few)) v.flag (expression d.value t (4 * n) v.typed (omega (arith, v.parens)) (omega (arith, le, few))) at at2)
 
+      side_open : (d : Code) (n sd : ℕ) → Valid d t n sd → suc n ≤ k → open_in_all (before d.stmts (take d.flag d.value r)) ≤ 4 * k
+      side_open d n sd v le =
+          open_before d.stmts (take d.flag d.value r) (4 * k) (omega (arith, v.opened, le))
+          (open_take d.flag d.value r (4 * k) (omega (arith, le)) (let l = flag_open d.flag n v.flag in omega (arith, l, le)) (omega (arith, v.parens, le)))
+
       l : ℕ
       l = k + k - 2
 
@@ -137,8 +155,8 @@ module _ (g : ℕ) (gs : List Signature) (ts : Types) (result : Option MonType) 
   -- ---- connectives
 
   pub truth_valid : (b : Bool) (rs : Types) (s : ℕ) → s ≤ 1 → Valid (truth_code b rs) I32 1 s
-  truth_valid true rs s le = record { statements = tt; deep = omega arith; flag = tt; typed = (refl, refl); parens = omega (arith, le) }
-  truth_valid false rs s le = record { statements = tt; deep = omega arith; flag = tt; typed = (refl, refl); parens = omega (arith, le) }
+  truth_valid true rs s le = record { statements = tt; deep = omega arith; opened = omega arith; flag = tt; typed = (refl, refl); parens = omega (arith, le) }
+  truth_valid false rs s le = record { statements = tt; deep = omega arith; opened = omega arith; flag = tt; typed = (refl, refl); parens = omega (arith, le) }
 
   connective_typed : (c : Connective) (x y : MonExpression) → HasType g ts x I32 → HasType g ts y I32 → HasType g ts (Binary (connective_operator c) I32 x y) I32
   connective_typed And x y p q = arithmetic_typed g ts mon.And W32 x y refl p q

@@ -1,5 +1,6 @@
 pub mod Code
 pub mod Does
+pub mod Inside
 pub mod Validity
 pub mod Plain
 pub mod Judged

@@ -15,6 +15,7 @@ use Rattle.mon_syntax.specs.Valid.{Types, HasType, AreStatements, Labels, Signat
 use Rattle.c_effects.specs.Expressions.{pointer_to}
 use Rattle.annot_code.specs.Code.{Judgement, judgement}
 use Rattle.annot_code.specs.Does.{HasIntegers}
+use Rattle.annot_code.specs.Inside.{open_in_all}
 
 -- numbers can be written, and the pointers to variables, which have integer types, are pointers, where there are so many globals and registers of these
 -- types
@@ -52,10 +53,15 @@ pub record Begins (rs ts : Types) : Type 0 where
 abbrev pub most_deep : ℕ
 most_deep = 1300
 
+-- how many parentheses are open in them at once, at most: four for each term, relation and connective
+abbrev pub most_open : ℕ
+most_open = 1600
+
 -- among functions of these signatures, in a function of the result with registers of these types, inside bodies of these labels
 pub record IsValidCode (globals : ℕ) (gs : List Signature) (ts : Types) (result : Option MonType) (ls : Labels) (j : Judgement) : Type 0 where
   pub statements : AreStatements globals gs ts result ls j.stmts
   pub deep : depth_of_all j.stmts ≤ most_deep
+  pub parens : open_in_all j.stmts ≤ most_open
   pub flag_type : slice_get ts j.flag ≡ Some I32
   pub truth_type : slice_get ts j.truth ≡ Some I32
 

@@ -6,6 +6,7 @@ ghost use Rattle.c_effects.specs.Named.{unit_of};
 ghost use Rattle.mon_syntax.specs.Trees.{plain_expr, plain_stmts};
 ghost use Rattle.annot_code.specs.Code.{clause_judgement, judged_anew, judged_by, judged_with, judgement, nothing_said};
 ghost use Rattle.annot_code.specs.Plain.{code_of, judgement_of, number_of, written};
+ghost use Rattle.annot_code.specs.Inside.{AreInside};
 ghost use Rattle.annot_code.specs.Judged.{IsValidIn, JudgesIn};
 
 use crate::piece::{Code, take_none};
@@ -126,6 +127,7 @@ pub fn judge(alloc: Global, p: &Pred, names: &mut Registers<'_>) -> Result<Judge
     ensures program { OnOk result (names.new.program ≡ names.old.program) }
     ensures judges { IfOk result (λ j. JudgesIn names.old (plain_pred p.now) (judgement_of j names.new.table.kinds)) }
     ensures valid { IfOk result (λ j. IsValidIn names.old (plain_pred p.now) (judgement_of j names.new.table.kinds)) }
+    ensures inside { IfOk result (λ j. AreInside (judgement_of j names.new.table.kinds).stmts) }
 {
     let known: Vec<Reading> = Vec::new(alloc);
     let c = pred_code(alloc, p, &known, names)?;
