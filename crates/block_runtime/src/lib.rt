@@ -26,7 +26,7 @@ pub enum RunFault {
     Fault,
 }
 
-/// The memory of a run. All of it is taken by `new`.
+/// The memory of a run. All of it is reserved by `new`.
 #[derive(Drop)]
 pub struct Runtime {
     memory: FlatMem,

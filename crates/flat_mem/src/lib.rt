@@ -40,7 +40,7 @@ pub enum BirthFault {
     Full(Segment),
 }
 
-/// Flat memory: three regions, and what is taken of them. All of it is taken by `new`.
+/// Flat memory: three regions, and what is taken of them. All of it is reserved by `new`.
 #[derive(Drop)]
 pub struct FlatMem {
     globals: Region,

@@ -13,7 +13,7 @@ const LEAVES: usize = 1024;
 
 const DEPTH: u32 = 10;
 
-/// The units of the gap that begins at each unit, 0 where none does and past the end. The memory is taken at once, and written a block
+/// The units of the gap that begins at each unit, 0 where none does and past the end. The memory is reserved at once, and written a block
 /// at a time, when a gap begins in it for the first time.
 #[derive(Drop)]
 pub struct Gaps {

@@ -37,7 +37,7 @@ impl Model for Placer {
 }
 
 impl Placer {
-    /// An empty segment of so many units of 16 bytes. The memory for its records is taken here, and none later.
+    /// An empty segment of so many units of 16 bytes. The memory for its records is reserved here, and none later.
     pub fn new(alloc: Global, units: u32) -> Result<Placer, AllocError>
         requires { units ≤ 16777216 }
         ensures { IfOk result (λ placer. (placer.units ≡ units) × (placer.live ≡ [])) }

@@ -10,7 +10,7 @@ use std::marker::Model;
 // Zeros are written for so many units at least, where a number is set for the first time.
 const STEP: usize = 1024;
 
-/// A number for each unit of a segment, 0 past its end. Its memory is taken at once, and written only as far as numbers were set.
+/// A number for each unit of a segment, 0 past its end. Its memory is reserved at once, and written only as far as numbers were set.
 #[derive(Drop)]
 pub struct Numbers {
     // The first ones. Those behind them are zeros, for which there is room.
