@@ -129,18 +129,18 @@ run_not_begun m steps {left} {count} {told} s =
 module _ {source : Taking} {text : List ℕ} {err : Change} {result : ℕ} where
   module _ {steps : ℕ} {told : Option (List ℕ)} {faults : ℕ} where
     pub run_refused : (r : PlainRefusal) → RefusedText text r → Untouched source → IsSettled (line_of (refused_words r)) 2 err result → Answered (RunDue source text steps) (RunBegins source text steps) (change told told faults faults) err result
-    run_refused r h u s = settled_answer (refused_answer r) (RunRefused r h u refl) (inl refl) (sym (more-nil told)) refl s
+    run_refused r h u s = settled_answer (refused_answer r) (RunRefused r h u refl) (inl (refl, u)) (sym (more-nil told)) refl s
 
     -- nothing was put, since memory ran out
-    pub run_unread : IsSaid memory_line 9 err result → Answered (RunDue source text steps) (RunBegins source text steps) (change told told faults faults) err result
-    run_unread s = said_memory [] (inl refl) (sym (more-nil told)) refl s
+    pub run_unread : Untouched source → IsSaid memory_line 9 err result → Answered (RunDue source text steps) (RunBegins source text steps) (change told told faults faults) err result
+    run_unread u s = said_memory [] (inl (refl, u)) (sym (more-nil told)) refl s
 
     pub exec_refused : (r : PlainRefusal) → IsMonitoredRefusal text r → Untouched source → IsSettled (line_of (refused_words r)) 2 err result
         → Answered (ExecDue source text steps) (ExecBegins source text steps) (change told told faults faults) err result
-    exec_refused r h u s = settled_answer (refused_answer r) (ExecRefused r h u refl) (inl refl) (sym (more-nil told)) refl s
+    exec_refused r h u s = settled_answer (refused_answer r) (ExecRefused r h u refl) (inl (refl, u)) (sym (more-nil told)) refl s
 
-    pub exec_unread : IsSaid memory_line 9 err result → Answered (ExecDue source text steps) (ExecBegins source text steps) (change told told faults faults) err result
-    exec_unread s = said_memory [] (inl refl) (sym (more-nil told)) refl s
+    pub exec_unread : Untouched source → IsSaid memory_line 9 err result → Answered (ExecDue source text steps) (ExecBegins source text steps) (change told told faults faults) err result
+    exec_unread u s = said_memory [] (inl (refl, u)) (sym (more-nil told)) refl s
 
   module _ {told told' : Option (List ℕ)} {faults faults' : ℕ} where
     pub run_executed : {steps : ℕ} (m : MonitoredProgram) → IsTranslated text m → Answered (AnswersOnInput source m steps) (BeginsOnInput source m steps) (change told told' faults faults') err result
@@ -167,8 +167,8 @@ module _ {text : List ℕ} {err : Change} {result : ℕ} where
 
     -- no input was read besides
     pub unread_besides : {source : Taking} → Untouched source → Answered (InstrumentDue text) (InstrumentBegins text) (change told told' faults faults') err result
-        → Answered (λ a. InstrumentDue text a × Untouched source) (InstrumentBegins text) (change told told' faults faults') err result
-    unread_besides u x = answered_by (λ _ d. (d, u)) (λ _ b. b) x
+        → Answered (λ a. InstrumentDue text a × Untouched source) (λ sent. InstrumentBegins text sent × Untouched source) (change told told' faults faults') err result
+    unread_besides u x = answered_by (λ _ d. (d, u)) (λ _ b. (b, u)) x
 
 module _ {text : List ℕ} {told told' t' : Option (List ℕ)} {faults faults' n : ℕ} (m : MonitoredProgram) (t : IsTranslated text m) where
   -- the whole text was put

@@ -111,22 +111,24 @@ TextDue source (Run file steps rte) text a = RunDue source text steps a
 TextDue source (Instrument file rte) text a = InstrumentDue text a × Untouched source
 TextDue source (Exec file steps) text a = ExecDue source text steps a
 
--- ---- bytes that begin the output due: none, or a beginning of what is printed or written
+-- ---- bytes that begin the output due: none, where the source wasn't asked, or a beginning of what is printed, for what was taken from the source, or of
+-- what is written
 
 abbrev pub RunBegins : Taking → List ℕ → ℕ → List ℕ → Type 0
 RunBegins source text steps sent =
-    (sent ≡ []) ⊎ ((p : TranslationUnit) × (m : MonitoredProgram) × AcceptedText text p × Translates p m × BeginsOnInput source m steps sent)
+    ((sent ≡ []) × Untouched source)
+    ⊎ ((p : TranslationUnit) × (m : MonitoredProgram) × AcceptedText text p × Translates p m × BeginsOnInput source m steps sent)
 
 abbrev pub InstrumentBegins : List ℕ → List ℕ → Type 0
 InstrumentBegins text sent = (sent ≡ []) ⊎ ((p : TranslationUnit) × (m : MonitoredProgram) × AcceptedText text p × Translates p m × Extends sent (text_of m))
 
 abbrev pub ExecBegins : Taking → List ℕ → ℕ → List ℕ → Type 0
 ExecBegins source text steps sent =
-    (sent ≡ []) ⊎ ((m : MonitoredProgram) × Spells text m × BeginsOnInput source m steps sent)
+    ((sent ≡ []) × Untouched source) ⊎ ((m : MonitoredProgram) × Spells text m × BeginsOnInput source m steps sent)
 
 abbrev pub TextBegins : Taking → Job → List ℕ → List ℕ → Type 0
 TextBegins source (Run file steps rte) text sent = RunBegins source text steps sent
-TextBegins source (Instrument file rte) text sent = InstrumentBegins text sent
+TextBegins source (Instrument file rte) text sent = InstrumentBegins text sent × Untouched source
 TextBegins source (Exec file steps) text sent = ExecBegins source text steps sent
 
 -- ---- what is due for the words of a command line
@@ -148,7 +150,7 @@ pub data IsDue (words : List (List ℕ)) (content : Option (List ℕ → Option 
       → now ≡ before → TextDue source job text a → IsDue words content before now source a
 
 pub data Begins (words : List (List ℕ)) (content : Option (List ℕ → Option (List ℕ))) (before now : ℕ) (source : Taking) (sent : List ℕ) : Type 0 where
-  Nothing : sent ≡ [] → Begins words content before now source sent
+  Nothing : sent ≡ [] → Untouched source → Begins words content before now source sent
   BeginsText : (job : Job) (text : List ℕ) → job_of words ≡ Some job → IfSome content (λ files. files (file_named job) ≡ Some text)
       → length text ≤ file_limit job → now ≡ before → TextBegins source job text sent → Begins words content before now source sent
 

@@ -12,7 +12,7 @@ returns-in-Ok-None-clause-answered g c =
     usage_said e refl unasked c.say.ensures
 
 pub returns-in-Err-clause-answered : goal.returns-in-Err-clause-answered
-returns-in-Err-clause-answered g c = memory_said c.out_of_memory.ensures
+returns-in-Err-clause-answered g c = memory_said unasked c.out_of_memory.ensures
 
 pub returns-in-Ok-clause-answered : goal.returns-in-Ok-clause-answered
 returns-in-Ok-clause-answered g c =
@@ -38,7 +38,7 @@ returns-in-Err-Failed-clause-answered g c =
     fault_said c.in-Ok-Some.job c.text.result.now c.limit_of.result e (c.text.ensures ∙ c.file_name.ensures) c.limit_of.ensures unasked (rw c.in-Err-Failed.field-0-is at c.in-Err-Failed.ensures.count) c.say-in-Err-Failed.ensures
 
 pub returns-clause-answered : goal.returns-clause-answered
-returns-clause-answered g c = memory_said c.out_of_memory-in-Err-Memory.ensures
+returns-clause-answered g c = memory_said unasked c.out_of_memory-in-Err-Memory.ensures
 
 pub returns-in-Ok-None-clause-complete : goal.returns-in-Ok-None-clause-complete
 returns-in-Ok-None-clause-complete g c = complete (returns-in-Ok-None-clause-answered g c)

@@ -11,4 +11,4 @@ pub returns-in-Err-Refused : goal.returns-in-Err-Refused
 returns-in-Err-Refused g c = exec_refused (plain_refusal c.in-Err-Refused.refusal) (rw c.in-Err-Refused.field-0-is at c.in-Err-Refused.ensures.spelled) unasked c.refuse.ensures
 
 pub returns-in-Err-Memory : goal.returns-in-Err-Memory
-returns-in-Err-Memory g c = exec_unread c.out_of_memory.ensures
+returns-in-Err-Memory g c = exec_unread unasked c.out_of_memory.ensures
