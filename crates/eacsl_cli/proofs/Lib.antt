@@ -5,3 +5,4 @@ pub mod Due
 pub mod Jobs
 pub mod Completeness
 pub mod Statuses
+pub mod Faults

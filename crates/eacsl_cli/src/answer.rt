@@ -4,7 +4,7 @@ ghost use Rattle.std.specs.Prelude.{◌≡◌, ◌≤◌, List, MatchResult, Non
 ghost use Rattle.c_syntax.specs.Programs.{plain_refusal};
 ghost use Rattle.c_model.specs.Limits.{globals_bytes, most_annotated, most_monitored};
 ghost use Rattle.c_model.specs.Reports.{line_of, refused_words};
-ghost use Rattle.c_model.specs.Statuses.{no_memory_status, refused_status};
+ghost use Rattle.c_model.specs.Statuses.{fault_status, no_memory_status, refused_status};
 ghost use Rattle.c_model.specs.WordLaws.{file_named};
 ghost use Rattle.c_model.specs.Words.{job_of};
 ghost use Rattle.mon_syntax.specs.Globals.{globals_taken};
@@ -15,6 +15,7 @@ ghost use Rattle.eacsl_cli.specs.Answers.{Answered, AnswersOnInput, Begins, Begi
 ghost use Rattle.eacsl_cli.specs.Answers.{IsTranslated, RunBegins, RunDue, TextBegins, TextDue, change, file_limit, memory_line};
 ghost use Rattle.eacsl_cli.specs.Settled.{IsReported, IsSettled, IsTold, Reported};
 ghost use Rattle.eacsl_cli.specs.Complete.{Complete, IsStatus, LeavesSource};
+ghost use Rattle.eacsl_cli.specs.Faults.{ShowsFault};
 
 use crate::lines::{broken_line, exit_line, refused_line, say};
 use crate::status;
@@ -296,6 +297,8 @@ pub fn eacsl<F: Folder, I: Source, O: Sink, E: Sink>(
         result }
     ensures status { IsStatus (F.faults files.old) (F.faults files.new) (taking (I.left input.old) (I.left input.new) (I.faults input.old) (I.faults input.new))
         result }
+    ensures fault { result ≡ fault_status → ShowsFault (F.content files.old) (taking (I.left input.old) (I.left input.new) (I.faults input.old)
+        (I.faults input.new)) (job_of (map string_bytes words.items)) }
     ensures kept { F.content files.new ≡ F.content files.old }
     ensures unread { LeavesSource (job_of (map string_bytes words.items)) (taking (I.left input.old) (I.left input.new) (I.faults input.old)
         (I.faults input.new)) }

@@ -4,6 +4,7 @@ use Rattle.eacsl_cli.proofs.Jobs.{memory_said, usage_said, missing_said, too_lon
 use Rattle.eacsl_cli.proofs.Completeness.{complete}
 use Rattle.eacsl_cli.proofs.Sources.{unasked, unasked_leaves, leaves_by, has_job}
 use Rattle.eacsl_cli.proofs.Statuses.{answered_status}
+use Rattle.eacsl_cli.proofs.Faults.{fault_shown}
 use Rattle.eacsl_cli.proofs.answer.eacsl.Goals as goal
 
 pub returns-in-Ok-None-clause-answered : goal.returns-in-Ok-None-clause-answered
@@ -81,6 +82,27 @@ returns-in-Err-Failed-clause-status g c = answered_status (returns-in-Err-Failed
 
 pub returns-clause-status : goal.returns-clause-status
 returns-clause-status g c = answered_status (returns-clause-answered g c)
+
+pub returns-in-Ok-None-clause-fault : goal.returns-in-Ok-None-clause-fault
+returns-in-Ok-None-clause-fault g c e = fault_shown (returns-in-Ok-None-clause-answered g c) e
+
+pub returns-in-Err-clause-fault : goal.returns-in-Err-clause-fault
+returns-in-Err-clause-fault g c e = fault_shown (returns-in-Err-clause-answered g c) e
+
+pub returns-in-Ok-clause-fault : goal.returns-in-Ok-clause-fault
+returns-in-Ok-clause-fault g c e = fault_shown (returns-in-Ok-clause-answered g c) e
+
+pub returns-in-Err-Missing-clause-fault : goal.returns-in-Err-Missing-clause-fault
+returns-in-Err-Missing-clause-fault g c e = fault_shown (returns-in-Err-Missing-clause-answered g c) e
+
+pub returns-in-Err-TooLong-clause-fault : goal.returns-in-Err-TooLong-clause-fault
+returns-in-Err-TooLong-clause-fault g c e = fault_shown (returns-in-Err-TooLong-clause-answered g c) e
+
+pub returns-in-Err-Failed-clause-fault : goal.returns-in-Err-Failed-clause-fault
+returns-in-Err-Failed-clause-fault g c e = fault_shown (returns-in-Err-Failed-clause-answered g c) e
+
+pub returns-clause-fault : goal.returns-clause-fault
+returns-clause-fault g c e = fault_shown (returns-clause-answered g c) e
 
 pub returns-in-Ok-None-clause-unread : goal.returns-in-Ok-None-clause-unread
 returns-in-Ok-None-clause-unread g c = unasked_leaves (job_of (map string_bytes c.args.words.items)) _ _
