@@ -47,23 +47,45 @@ typed_leaf s at (Text offset) = plain.text s at offset
 typed_leaf s at (Variable x) = plain.named s at x.name
 typed_leaf s at _ = faulty (plain.no_type at)
 
+-- forms of one operand, and members of one
+abbrev pub typed_one : Sight → Place → ExpressionKind → Checked Expression
+typed_one s at (Unary op a) = one_part (typed s a) (plain.unary_on at op)
+typed_one s at (Bump op a) = one_part (typed s a) (plain.bump s at op)
+typed_one s at (Dot a m) = one_part (typed s a) (plain.dot s at m)
+typed_one s at (Arrow a m) = one_part (decayed_of (typed s a)) (plain.arrow s at m)
+typed_one s at _ = faulty (plain.no_type at)
+
+-- forms of two values
+abbrev pub typed_of_two : Sight → Place → ExpressionKind → Checked Expression
+typed_of_two s at (Binary op a b) = one_part (typed_two s a b) (λ p. plain.binary s at op p.0 p.1)
+typed_of_two s at (Both a b) = one_part (typed_two s a b) (λ p. plain.both_of at p.0 p.1)
+typed_of_two s at (Either a b) = one_part (typed_two s a b) (λ p. plain.either_of at p.0 p.1)
+typed_of_two s at (Index a b) = one_part (typed_two s a b) (λ p. plain.index s at p.0 p.1)
+typed_of_two s at _ = faulty (plain.no_type at)
+
+-- forms whose left operand is no value of its own
+abbrev pub typed_after_place : Sight → Place → ExpressionKind → Checked Expression
+typed_after_place s at (Assign op a b) = one_part (typed_place_and_value s a b) (λ p. plain.assign s at op p.0 p.1)
+typed_after_place s at (Comma a b) = one_part (typed_place_and_value s a b) (λ p. Good (Node at (type_of p.1) (Comma p.0 p.1)))
+typed_after_place s at _ = faulty (plain.no_type at)
+
 abbrev pub typed_kind : Sight → Place → ExpressionKind → Checked Expression
 typed_kind s at (Number n k) = typed_leaf s at (Number n k)
 typed_kind s at (Letter n) = typed_leaf s at (Letter n)
 typed_kind s at (Text offset) = typed_leaf s at (Text offset)
 typed_kind s at (Variable x) = typed_leaf s at (Variable x)
-typed_kind s at (Unary op a) = one_part (typed s a) (plain.unary_on at op)
-typed_kind s at (Binary op a b) = one_part (typed_two s a b) (λ p. plain.binary s at op p.0 p.1)
-typed_kind s at (Both a b) = one_part (typed_two s a b) (λ p. plain.both_of at p.0 p.1)
-typed_kind s at (Either a b) = one_part (typed_two s a b) (λ p. plain.either_of at p.0 p.1)
+typed_kind s at (Unary op a) = typed_one s at (Unary op a)
+typed_kind s at (Binary op a b) = typed_of_two s at (Binary op a b)
+typed_kind s at (Both a b) = typed_of_two s at (Both a b)
+typed_kind s at (Either a b) = typed_of_two s at (Either a b)
 typed_kind s at (Choice a b c) = one_part (typed_three s a b c) (λ p. plain.choice_of s at p.0 (p.1).0 (p.1).1)
-typed_kind s at (Assign op a b) = one_part (typed_place_and_value s a b) (λ p. plain.assign s at op p.0 p.1)
-typed_kind s at (Bump op a) = one_part (typed s a) (plain.bump s at op)
+typed_kind s at (Assign op a b) = typed_after_place s at (Assign op a b)
+typed_kind s at (Bump op a) = typed_one s at (Bump op a)
 typed_kind s at (Call f es) = typed_call s at f.name es
 typed_kind s at (Cast to a) = cast_of s at to a
 typed_kind s at (SizeOfType u) = size_of_written s at u
 typed_kind s at (SizeOfExpr a) = size_of_expr s at a
-typed_kind s at (Index a b) = one_part (typed_two s a b) (λ p. plain.index s at p.0 p.1)
-typed_kind s at (Dot a m) = one_part (typed s a) (plain.dot s at m)
-typed_kind s at (Arrow a m) = one_part (decayed_of (typed s a)) (plain.arrow s at m)
-typed_kind s at (Comma a b) = one_part (typed_place_and_value s a b) (λ p. Good (Node at (type_of p.1) (Comma p.0 p.1)))
+typed_kind s at (Index a b) = typed_of_two s at (Index a b)
+typed_kind s at (Dot a m) = typed_one s at (Dot a m)
+typed_kind s at (Arrow a m) = typed_one s at (Arrow a m)
+typed_kind s at (Comma a b) = typed_after_place s at (Comma a b)

@@ -9,7 +9,7 @@ ghost use Rattle.c_model.specs.ExpressionTyping.{typed_arguments, typed_length, 
 ghost use Rattle.c_expression_rules.specs.Answers.{Answers};
 ghost use Rattle.c_expression_rules.specs.Constants.{has_small_sizes};
 ghost use Rattle.c_expression_rules.specs.Forms.{cast_of, size_of_expr, size_of_written, typed_array, typed_call, typed_call_parts};
-ghost use Rattle.c_expression_rules.specs.Forms.{typed_kind, typed_leaf, typed_place_and_value, typed_three, typed_two};
+ghost use Rattle.c_expression_rules.specs.Forms.{typed_after_place, typed_kind, typed_leaf, typed_of_two, typed_one, typed_place_and_value, typed_three, typed_two};
 ghost use Rattle.c_expression_rules.specs.Sights.{plain_sight};
 
 use crate::assignment::{argument_for, assign, cast};
@@ -51,6 +51,35 @@ fn type_kind(
     ensures { Answers (λ t. Node place (plain_type t) (plain_kind kind.new)) (typed_kind (plain_sight sight.now) place (plain_kind kind.old)) result }
 {
     match kind {
+        ExprKind::Unary(..) | ExprKind::Bump(..) | ExprKind::Dot(..) | ExprKind::Arrow(..) =>
+            type_one(alloc, sight, place, kind),
+        ExprKind::Binary(..) | ExprKind::Both(..) | ExprKind::Either(..) | ExprKind::Index(..) =>
+            type_two(alloc, sight, place, kind),
+        ExprKind::Assign(..) | ExprKind::Comma(..) => type_after_place(alloc, sight, place, kind),
+        ExprKind::Choice(a, b, c) => {
+            type_three(alloc, sight, a, b, c)?;
+            choice_of(alloc, sight, place, a, b, c)
+        }
+        ExprKind::Call(x, arguments) => type_call(alloc, sight, place, x, arguments),
+        ExprKind::Cast(to, a) => type_cast(alloc, sight, place, to, a),
+        ExprKind::SizeOfType(u) => type_size_of_type(alloc, sight, place, u),
+        ExprKind::SizeOfExpr(a) => type_size_of_expr(alloc, sight, place, a),
+        ExprKind::Number(..) | ExprKind::Letter(_) | ExprKind::Text(_) | ExprKind::Variable(_) =>
+            type_leaf(alloc, sight, place, kind),
+    }
+}
+
+/// Types an operator of one operand, or a member of one.
+#[cycle(expression)]
+fn type_one(
+    alloc: Global,
+    sight: &Sight,
+    place: Place,
+    kind: &mut ExprKind,
+) -> Result<CType, TypeFault>
+    ensures { Answers (λ t. Node place (plain_type t) (plain_kind kind.new)) (typed_one (plain_sight sight.now) place (plain_kind kind.old)) result }
+{
+    match kind {
         ExprKind::Unary(op, a) => {
             type_expr(alloc, sight, a)?;
             unary(alloc, place, *op, a)
@@ -67,6 +96,21 @@ fn type_kind(
             type_value(alloc, sight, a)?;
             arrow(alloc, sight, place, *m, a)
         }
+        _ => Err(no_type(place)),
+    }
+}
+
+/// Types an operator of two values.
+#[cycle(expression)]
+fn type_two(
+    alloc: Global,
+    sight: &Sight,
+    place: Place,
+    kind: &mut ExprKind,
+) -> Result<CType, TypeFault>
+    ensures { Answers (λ t. Node place (plain_type t) (plain_kind kind.new)) (typed_of_two (plain_sight sight.now) place (plain_kind kind.old)) result }
+{
+    match kind {
         ExprKind::Binary(op, a, b) => {
             type_values(alloc, sight, a, b)?;
             binary(alloc, sight, place, *op, a, b)
@@ -83,6 +127,21 @@ fn type_kind(
             type_values(alloc, sight, a, b)?;
             index(alloc, sight, place, a, b)
         }
+        _ => Err(no_type(place)),
+    }
+}
+
+/// Types an operator whose left operand is no value of its own.
+#[cycle(expression)]
+fn type_after_place(
+    alloc: Global,
+    sight: &Sight,
+    place: Place,
+    kind: &mut ExprKind,
+) -> Result<CType, TypeFault>
+    ensures { Answers (λ t. Node place (plain_type t) (plain_kind kind.new)) (typed_after_place (plain_sight sight.now) place (plain_kind kind.old)) result }
+{
+    match kind {
         ExprKind::Assign(op, a, b) => {
             type_place_and_value(alloc, sight, a, b)?;
             assign(alloc, sight, place, *op, a, b)
@@ -92,16 +151,7 @@ fn type_kind(
             let ctype = copy_type(alloc, &b.ctype)?;
             Ok(ctype)
         }
-        ExprKind::Choice(a, b, c) => {
-            type_three(alloc, sight, a, b, c)?;
-            choice_of(alloc, sight, place, a, b, c)
-        }
-        ExprKind::Call(x, arguments) => type_call(alloc, sight, place, x, arguments),
-        ExprKind::Cast(to, a) => type_cast(alloc, sight, place, to, a),
-        ExprKind::SizeOfType(u) => type_size_of_type(alloc, sight, place, u),
-        ExprKind::SizeOfExpr(a) => type_size_of_expr(alloc, sight, place, a),
-        ExprKind::Number(..) | ExprKind::Letter(_) | ExprKind::Text(_) | ExprKind::Variable(_) =>
-            type_leaf(alloc, sight, place, kind),
+        _ => Err(no_type(place)),
     }
 }
 

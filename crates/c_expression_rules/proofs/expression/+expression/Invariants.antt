@@ -24,7 +24,16 @@ abbrev pub decreases-type_expr : goal.decreases-type_expr
 decreases-type_expr l = 8 * size-Expr l.e.now
 
 abbrev pub decreases-type_kind : goal.decreases-type_kind
-decreases-type_kind l = 8 * size-ExprKind l.kind.now
+decreases-type_kind l = 8 * size-ExprKind l.kind.now + 1
+
+abbrev pub decreases-type_one : goal.decreases-type_one
+decreases-type_one l = 8 * size-ExprKind l.kind.now
+
+abbrev pub decreases-type_two : goal.decreases-type_two
+decreases-type_two l = 8 * size-ExprKind l.kind.now
+
+abbrev pub decreases-type_after_place : goal.decreases-type_after_place
+decreases-type_after_place l = 8 * size-ExprKind l.kind.now
 
 abbrev pub decreases-type_value : goal.decreases-type_value
 decreases-type_value l = 8 * size-Expr l.e.now + 1
