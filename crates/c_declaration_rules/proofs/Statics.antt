@@ -13,9 +13,9 @@ use Rattle.c_syntax.specs.Programs.{StructType}
 use Rattle.c_syntax.specs.Layouts.{offset_of, size_of, target_of}
 use Rattle.c_model.specs.Library.{is_there}
 use Rattle.c_model.specs.Memory as memory
-use Rattle.c_model.specs.Memory.{Pointer, Into, Value, Integer, Points, Block, block_at, live_size, moved}
+use Rattle.c_model.specs.Memory.{Pointer, Into, Value, Integer, Points, Block, block_at, live_size, moved, shifted}
 use Rattle.c_model.specs.State.{End, State, Outcome, Normal, Stop, Evaluation, ◌>>=◌, on_outcome, give, defined, computed, find, start_of, stop, Over, Undefined}
-use Rattle.c_model.specs.Meaning.{address, converted, eval_with, indexed, is_array, is_member, is_of_library, is_pointer, member, named, operate_values, place_with, pointed_to, unit_of, zeros}
+use Rattle.c_model.specs.Meaning.{address, converted, eval_with, indexed, is_array, is_member, is_of_library, is_pointer, named, operate_values, place_with, pointed_to, unit_of, zeros}
 use Rattle.c_model.specs.ExpressionTyping.{Sight, Entity, AnObject, AnEnumerator, constant, is_constant, no_callee, tables_in}
 use Rattle.c_model.specs.DeclarationTyping.{blocks_of, has_value, is_address, is_static_address, is_static_place, numbers_from, with_globals}
 use Rattle.c_declaration_rules.specs.declared.constant.Spot.{Spot}
@@ -213,22 +213,22 @@ module _ (s : Sight) (free : object_size s.structs 4294967295 s.entities ≡ Non
         by false = (h.0, refl, h.2)
 
     -- a member
-    member_is : (at : Place) (offset : ℕ) (p : Spot) (q : Pointer) → Stands p q → PlaceAgrees (member_spot offset (Some p)) (member at q offset S)
-    member_is at offset Null q h = subst (λ q. PlaceAgrees None (member at q offset S)) (sym h) (_, refl)
-    member_is at offset (Within i z) q h = subst (λ q. PlaceAgrees (Some (Within (i + offset) z)) (member at q offset S)) (sym h.1) (Into h.0 (i + offset), refl, (h.0, refl, h.2))
+    member_is : (offset : ℕ) (p : Spot) (q : Pointer) → Stands p q → PlaceAgrees (member_spot offset (Some p)) (give (shifted q offset) S)
+    member_is offset Null q h = subst (λ q. PlaceAgrees (Some Null) (give (shifted q offset) S)) (sym h) (memory.Null, refl, refl)
+    member_is offset (Within i z) q h = subst (λ q. PlaceAgrees (Some (Within (i + offset) z)) (give (shifted q offset) S)) (sym h.1) (Into h.0 (i + offset), refl, (h.0, refl, h.2))
 
-    member_of : (at : Place) (offset : ℕ) (m : Evaluation Pointer) (p : Option Spot) → PlaceAgrees p (m S) → PlaceAgrees (member_spot offset p) ((m >>= λ q. member at q offset) S)
-    member_of at offset m None h = (h.0, ap (λ o. on_outcome o (λ q. member at q offset)) h.1)
-    member_of at offset m (Some p) h = subst (λ o. PlaceAgrees (member_spot offset (Some p)) (on_outcome o (λ q. member at q offset))) (sym h.1) (member_is at offset p h.0 h.2)
+    member_of : (offset : ℕ) (m : Evaluation Pointer) (p : Option Spot) → PlaceAgrees p (m S) → PlaceAgrees (member_spot offset p) ((m >>= λ q. give (shifted q offset)) S)
+    member_of offset m None h = (h.0, ap (λ o. on_outcome o (λ q. give (shifted q offset))) h.1)
+    member_of offset m (Some p) h = subst (λ o. PlaceAgrees (member_spot offset (Some p)) (on_outcome o (λ q. give (shifted q offset)))) (sym h.1) (member_is offset p h.0 h.2)
 
     behind : (m : Evaluation Value) (p : Option Spot) → AddressAgrees p (m S) → PlaceAgrees p ((m >>= pointed_to) S)
     behind m None h = (h.0, ap (λ o. on_outcome o pointed_to) h.1)
     behind m (Some p) h = (h.0, ap (λ o. on_outcome o pointed_to) h.1, h.2)
 
-    member_behind : (at : Place) (offset : ℕ) (m : Evaluation Value) (p : Option Spot) → AddressAgrees p (m S) → PlaceAgrees (member_spot offset p) ((m >>= λ x. pointed_to x >>= λ q. member at q offset) S)
-    member_behind at offset m None h = (h.0, ap (λ o. on_outcome o (λ x. pointed_to x >>= λ q. member at q offset)) h.1)
-    member_behind at offset m (Some p) h =
-        subst (λ o. PlaceAgrees (member_spot offset (Some p)) (on_outcome o (λ x. pointed_to x >>= λ q. member at q offset))) (sym h.1) (member_is at offset p h.0 h.2)
+    member_behind : (offset : ℕ) (m : Evaluation Value) (p : Option Spot) → AddressAgrees p (m S) → PlaceAgrees (member_spot offset p) ((m >>= λ x. pointed_to x >>= λ q. give (shifted q offset)) S)
+    member_behind offset m None h = (h.0, ap (λ o. on_outcome o (λ x. pointed_to x >>= λ q. give (shifted q offset))) h.1)
+    member_behind offset m (Some p) h =
+        subst (λ o. PlaceAgrees (member_spot offset (Some p)) (on_outcome o (λ x. pointed_to x >>= λ q. give (shifted q offset)))) (sym h.1) (member_is offset p h.0 h.2)
 
     -- a cast of an address or of null to a pointer
     cast_address : (u : PlainType) (m : Evaluation Value) (p : Option Spot) → AddressAgrees p (m S) → AddressAgrees p ((m >>= λ x. give (converted (Ptr u) x)) S)
@@ -440,8 +440,8 @@ module _ (s : Sight) (free : object_size s.structs 4294967295 s.entities ≡ Non
       place_is (Node at t (Unary unary.Minus e)) a = absurd cc
       place_is (Node at t (Unary unary.Flip e)) a = absurd cc
       place_is (Node at t (Index e f)) a = element_is at e f (address_is e) (address_is f) (sum_sides at e f a)
-      place_is (Node at t (Dot e m)) a = member_of at (offset_of s.structs (type_of e) m) (find_place e) (place_spot s e) (place_is e a)
-      place_is (Node at t (Arrow e m)) a = member_behind at (offset_of s.structs (target_of (type_of e)) m) (run e) (address_spot s e) (address_is e a)
+      place_is (Node at t (Dot e m)) a = member_of (offset_of s.structs (type_of e) m) (find_place e) (place_spot s e) (place_is e a)
+      place_is (Node at t (Arrow e m)) a = member_behind (offset_of s.structs (target_of (type_of e)) m) (run e) (address_spot s e) (address_is e a)
       place_is (Node at t (Number n k)) a = absurd cc
       place_is (Node at t (Letter n)) a = absurd cc
       place_is (Node at t (Text n)) a = absurd cc

@@ -41,10 +41,10 @@ abbrev pub taken_spot : Expression → Option Spot → Option Spot
 taken_spot e None = None
 taken_spot e (Some p) = if is_member e then moved_spot p (pos 0) else Some p
 
--- a member of an object; null has none
+-- a member of an object; of null it is null, whose address isn't taken
 abbrev pub member_spot : ℕ → Option Spot → Option Spot
 member_spot offset None = None
-member_spot offset (Some Null) = None
+member_spot offset (Some Null) = Some Null
 member_spot offset (Some (Within i size)) = Some (Within (i + offset) size)
 
 -- an address and a number, or a number and an address

@@ -134,7 +134,8 @@ fn member(offset: u32, p: Option<Spot>) -> Result<Option<Spot>, AllocError>
             None => Err(AllocError),
             Some(at) => Ok(Some(Spot::Within(at, size))),
         },
-        Some(Spot::Null) | None => Ok(None),
+        Some(Spot::Null) => Ok(Some(Spot::Null)),
+        None => Ok(None),
     }
 }
 

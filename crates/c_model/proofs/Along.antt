@@ -45,7 +45,7 @@ use Rattle.c_model.specs.Predicates.{variant, valued, value_of, is_smaller, comp
 use Rattle.c_model.specs.ContractChecks.{Check, assumed, demand, of_behavior, checked, all_checked, holds_at, is_assumes, entry_checks, leave_checks}
 use Rattle.c_model.specs.ContractChecks.{all_hold, result_is, entry, ending}
 use Rattle.c_model.specs.MemoryQuestions.{null_address}
-use Rattle.c_model.specs.Meaning.{Tables, literal, Callee, is_zero, choose, truth_value, size_value, converted, is_of_library, is_pointer, named, is_member, address, is_array, pointed_to, member, assigned, compound, bump_operator, bump_value}
+use Rattle.c_model.specs.Meaning.{Tables, literal, Callee, is_zero, choose, truth_value, size_value, converted, is_of_library, is_pointer, named, is_member, address, is_array, pointed_to, assigned, compound, bump_operator, bump_value}
 use Rattle.c_model.specs.Meaning.{eval_with, place_with}
 use Rattle.c_model.specs.Meaning.{evals_with, after_body, turn_with, turns, do_turns, declared_in, declared_first, zero_scalars, zero_parts, string_in}
 use Rattle.c_model.specs.Meaning.{write_each, fill_one, parts_or_itself, fill, fill_parts, initialise, initialise_all, condition_with, effect_with, exec_with}
@@ -417,10 +417,6 @@ module _ (R : State → State → Type 0) (r : Lasts R) where
   along_pointed (Integer z) = along_stop Stuck
   along_pointed NoValue = along_stop Stuck
 
-  pub along_member : (at : Place) (p : Pointer) (offset : ℕ) → Along (member at p offset)
-  along_member at Null offset = along_stop (Over (Undefined at))
-  along_member at (Into n i) offset = along_give (Into n (i + offset))
-
   pub along_address : (e : Expression) (p : Pointer) → Along (address e p)
   along_address e p = by (is_member e)
     where
@@ -477,8 +473,8 @@ module _ (R : State → State → Type 0) (r : Lasts R) where
       along_eval (Node at t (SizeOfType u)) = along_give (size_value T u)
       along_eval (Node at t (SizeOfExpr a)) = along_give (size_value T (type_of a))
       along_eval (Node at t (Index a b)) = along_bind _ _ (along_eval a) (λ x. along_bind _ _ (along_eval b) (λ y. along_bind _ _ (along_computed at _) (λ p. along_read_any at p (scalar_of t))))
-      along_eval (Node at t (Dot a m)) = along_bind _ _ (along_place a) (λ p. along_bind _ _ (along_member at p _) (λ q. along_read_any at q (scalar_of t)))
-      along_eval (Node at t (Arrow a m)) = along_bind _ _ (along_eval a) (λ x. along_bind _ _ (along_pointed x) (λ p. along_bind _ _ (along_member at p _) (λ q. along_read_any at q (scalar_of t))))
+      along_eval (Node at t (Dot a m)) = along_bind _ _ (along_place a) (λ p. along_read_any at (shifted p _) (scalar_of t))
+      along_eval (Node at t (Arrow a m)) = along_bind _ _ (along_eval a) (λ x. along_bind _ _ (along_pointed x) (λ p. along_read_any at (shifted p _) (scalar_of t)))
       along_eval (Node at t (Comma a b)) = along_then _ _ (along_eval a) (along_eval b)
 
       pub along_place : (e : Expression) → Along (place_with T e call)
@@ -486,8 +482,8 @@ module _ (R : State → State → Type 0) (r : Lasts R) where
       along_place (Node at t (Text n)) = along_give (literal T n)
       along_place (Node at t (Unary unary.Deref a)) = along_bind _ _ (along_eval a) along_pointed
       along_place (Node at t (Index a b)) = along_bind _ _ (along_eval a) (λ x. along_bind _ _ (along_eval b) (λ y. along_computed at _))
-      along_place (Node at t (Dot a m)) = along_bind _ _ (along_place a) (λ p. along_member at p _)
-      along_place (Node at t (Arrow a m)) = along_bind _ _ (along_eval a) (λ x. along_bind _ _ (along_pointed x) (λ p. along_member at p _))
+      along_place (Node at t (Dot a m)) = along_bind _ _ (along_place a) (λ p. along_give (shifted p _))
+      along_place (Node at t (Arrow a m)) = along_bind _ _ (along_eval a) (λ x. along_bind _ _ (along_pointed x) (λ p. along_give (shifted p _)))
       along_place (Node at t (Assign None a b)) = along_bind _ _ (along_place a) (λ p. along_then _ _ (along_assigned T.structs at t (scalar_of t) p _ _ (along_eval b) (along_place b)) (along_give p))
       along_place (Node at t (Comma a b)) = along_then _ _ (along_eval a) (along_place b)
       along_place (Node at t _) = along_stop (Over (Undefined at))

@@ -21,7 +21,7 @@ use Rattle.c_model.specs.State.{on_outcome, ◌>>=◌, ◌>>◌, give, done, sto
 use Rattle.c_model.specs.State.{write_youngest, alone, frame, mark, restored, within, answered, called}
 use Rattle.c_model.specs.Predicates.{checks, invariants, variant, value_of}
 use Rattle.c_model.specs.ContractChecks.{entry, ending}
-use Rattle.c_model.specs.Meaning.{Tables, literal, Callee, is_zero, choose, truth_value, size_value, converted, is_of_library, named, address, is_array, pointed_to, member, assigned, compound, bump_operator, bump_value, eval_with}
+use Rattle.c_model.specs.Meaning.{Tables, literal, Callee, is_zero, choose, truth_value, size_value, converted, is_of_library, named, address, is_array, pointed_to, assigned, compound, bump_operator, bump_value, eval_with}
 use Rattle.c_model.specs.Meaning.{place_with}
 use Rattle.c_model.specs.Meaning.{evals_with, after_body, turn_with, turns, do_turns, declared_in, declared_first, zero_scalars, zero_parts, string_in}
 use Rattle.c_model.specs.Meaning.{write_each, fill_one, parts_or_itself, fill, fill_parts, initialise, initialise_all, condition_with, chosen_case}
@@ -33,7 +33,7 @@ use Rattle.c_model.specs.Steps.{steps_after, Fit, CalleesFit}
 use Rattle.c_model.proofs.Along.{Along, along_exec, along_call_of, along_whole, Fewer, steps_last, state_after, defined_along, along_computed, along_object, along_named, along_read_any, along_write, along_write_bytes, along_write_youngest}
 use Rattle.c_model.proofs.Along.{along_copy}
 use Rattle.c_model.proofs.Along.{along_birth, along_births, along_alone, along_mark, along_frame, along_checks, along_invariants, along_value, along_compared}
-use Rattle.c_model.proofs.Along.{along_member, along_pointed, along_address, along_library_call, along_at_close, along_entry, along_ending, along_then}
+use Rattle.c_model.proofs.Along.{along_pointed, along_address, along_library_call, along_at_close, along_entry, along_ending, along_then}
 use Rattle.c_model.proofs.Along.{along_stop}
 
 pub fit_less : {A : Type 0} {m m' : Evaluation A} (j k : ℕ) → j ≤ k → Fit k m m' → Fit j m m'
@@ -139,9 +139,6 @@ fit_checks k annots = fit_still k _ (along_checks Fewer steps_last annots)
 
 fit_invariants : (k : ℕ) (annots : List Annotation) → Fit k (invariants annots) (invariants annots)
 fit_invariants k annots = fit_still k _ (along_invariants Fewer steps_last annots)
-
-fit_member : (k : ℕ) (at : Place) (p : Pointer) (d : ℕ) → Fit k (member at p d) (member at p d)
-fit_member k at p d = fit_still k _ (along_member Fewer steps_last at p d)
 
 fit_pointed : (k : ℕ) (v : Value) → Fit k (pointed_to v) (pointed_to v)
 fit_pointed k v = fit_still k _ (along_pointed Fewer steps_last v)
@@ -300,8 +297,8 @@ module _ (T : Tables) (k : ℕ) (call call' : Callee) (c : CalleesFit k call cal
     fit_eval (Node at t (SizeOfType u)) = fit_give k (size_value T u)
     fit_eval (Node at t (SizeOfExpr a)) = fit_give k (size_value T (type_of a))
     fit_eval (Node at t (Index a b)) = fit_bind k _ _ _ _ (fit_eval a) (λ x. fit_bind k _ _ _ _ (fit_eval b) (λ y. fit_bind k _ _ _ _ (fit_computed k at _) (λ p. fit_read_any k at p (scalar_of t))))
-    fit_eval (Node at t (Dot a m)) = fit_bind k _ _ _ _ (fit_place a) (λ p. fit_bind k _ _ _ _ (fit_member k at p _) (λ q. fit_read_any k at q (scalar_of t)))
-    fit_eval (Node at t (Arrow a m)) = fit_bind k _ _ _ _ (fit_eval a) (λ x. fit_bind k _ _ _ _ (fit_pointed k x) (λ p. fit_bind k _ _ _ _ (fit_member k at p _) (λ q. fit_read_any k at q (scalar_of t))))
+    fit_eval (Node at t (Dot a m)) = fit_bind k _ _ _ _ (fit_place a) (λ p. fit_read_any k at (shifted p _) (scalar_of t))
+    fit_eval (Node at t (Arrow a m)) = fit_bind k _ _ _ _ (fit_eval a) (λ x. fit_bind k _ _ _ _ (fit_pointed k x) (λ p. fit_read_any k at (shifted p _) (scalar_of t)))
     fit_eval (Node at t (Comma a b)) = fit_then k _ _ _ _ (fit_eval a) (fit_eval b)
 
     pub fit_place : (e : Expression) → Fit k (place_with T e call) (place_with T e call')
@@ -309,8 +306,8 @@ module _ (T : Tables) (k : ℕ) (call call' : Callee) (c : CalleesFit k call cal
     fit_place (Node at t (Text n)) = fit_give k (literal T n)
     fit_place (Node at t (Unary unary.Deref a)) = fit_bind k _ _ _ _ (fit_eval a) (fit_pointed k)
     fit_place (Node at t (Index a b)) = fit_bind k _ _ _ _ (fit_eval a) (λ x. fit_bind k _ _ _ _ (fit_eval b) (λ y. fit_computed k at _))
-    fit_place (Node at t (Dot a m)) = fit_bind k _ _ _ _ (fit_place a) (λ p. fit_member k at p _)
-    fit_place (Node at t (Arrow a m)) = fit_bind k _ _ _ _ (fit_eval a) (λ x. fit_bind k _ _ _ _ (fit_pointed k x) (λ p. fit_member k at p _))
+    fit_place (Node at t (Dot a m)) = fit_bind k _ _ _ _ (fit_place a) (λ p. fit_give k (shifted p _))
+    fit_place (Node at t (Arrow a m)) = fit_bind k _ _ _ _ (fit_eval a) (λ x. fit_bind k _ _ _ _ (fit_pointed k x) (λ p. fit_give k (shifted p _)))
     fit_place (Node at t (Assign None a b)) = fit_bind k _ _ _ _ (fit_place a) (λ p. fit_then k _ _ _ _ (fit_assigned k T.structs at t (scalar_of t) p _ _ _ _ (fit_eval b) (fit_place b)) (fit_give k p))
     fit_place (Node at t (Comma a b)) = fit_then k _ _ _ _ (fit_eval a) (fit_place b)
     fit_place (Node at t _) = fit_stop k (Over (Undefined at))

@@ -25,7 +25,7 @@ use Rattle.c_model.specs.FileItems.{AreDefined}
 use Rattle.c_model.proofs.NeverStuckRuns.{Anything, NoJump, IsValueOf, Gives, gives_bind, gives_then, gives_give, gives_over, gives_no_jump, gives_values}
 use Rattle.c_model.proofs.NeverStuckRuns.{gives_object, gives_computed, gives_tested, gives_changed, gives_write, gives_written, gives_defined, gives_choose, anything}
 use Rattle.c_model.proofs.NeverStuckValues.{number_in, address_in, address_by, number_of_one, value_of_two, value_of_compound, scalar_of_compound, value_of_bump, gives_read_any}
-use Rattle.c_model.proofs.NeverStuckValues.{gives_read, gives_scalar, gives_pointed, gives_member, gives_assigned, named_well, gives_address, gives_cast}
+use Rattle.c_model.proofs.NeverStuckValues.{gives_read, gives_scalar, gives_pointed, gives_assigned, named_well, gives_address, gives_cast}
 
 -- ---- what is in sight
 
@@ -122,10 +122,10 @@ module _ (p : TranslationUnit) (T : Tables) (structs : T.structs ≡ p.structs) 
     gives_eval s see (Node at t (SizeOfExpr a)) w = gives_give (size_value T (type_of a)) (number_in t U64 (size_value T (type_of a)) w.2 tt)
     gives_eval s see (Node at t (Index a b)) w =
         gives_bind _ _ (gives_eval s see a w.0) (λ x _. gives_bind _ _ (gives_eval s see b w.1) (λ y _. gives_bind {P = Anything} _ _ (gives_indexed at a b x y) (λ q _. gives_read_any at q t)))
-    gives_eval s see (Node at t (Dot a m)) w = gives_bind _ _ (gives_place s see a w.0) (λ q _. gives_bind _ _ (gives_member at q (offset_of T.structs (type_of a) m)) (λ r _. gives_read_any at r t))
+    gives_eval s see (Node at t (Dot a m)) w = gives_bind _ _ (gives_place s see a w.0) (λ q _. gives_read_any at (shifted q (offset_of T.structs (type_of a) m)) t)
     gives_eval s see (Node at t (Arrow a m)) w =
         gives_bind _ _ (gives_eval s see a w.0) (λ x h. gives_bind _ _ (gives_pointed x (address_by (type_of a) w.1.target x w.1.is h)) (λ q _.
-        gives_bind _ _ (gives_member at q (offset_of T.structs (target_of (type_of a)) m)) (λ r _. gives_read_any at r t)))
+        gives_read_any at (shifted q (offset_of T.structs (target_of (type_of a)) m)) t))
     gives_eval s see (Node at t (Comma a b)) w = gives_then _ _ (gives_eval s see a w.0) (subst (λ u. Gives (IsValueOf u) NoJump (eval_with T b call)) w.2 (gives_eval s see b w.1))
 
     -- where an expression designates an object
@@ -134,9 +134,9 @@ module _ (p : TranslationUnit) (T : Tables) (structs : T.structs ≡ p.structs) 
     gives_place s see (Node at t (Text n)) w = gives_give _ tt
     gives_place s see (Node at t (Unary unary.Deref a)) w = gives_bind _ _ (gives_eval s see a w.0) (λ x h. gives_pointed x (address_by (type_of a) t x w.1 h))
     gives_place s see (Node at t (Index a b)) w = gives_bind _ _ (gives_eval s see a w.0) (λ x _. gives_bind _ _ (gives_eval s see b w.1) (λ y _. gives_indexed at a b x y))
-    gives_place s see (Node at t (Dot a m)) w = gives_bind _ _ (gives_place s see a w.0) (λ q _. gives_member at q (offset_of T.structs (type_of a) m))
+    gives_place s see (Node at t (Dot a m)) w = gives_bind _ _ (gives_place s see a w.0) (λ q _. gives_give (shifted q (offset_of T.structs (type_of a) m)) tt)
     gives_place s see (Node at t (Arrow a m)) w =
-        gives_bind _ _ (gives_eval s see a w.0) (λ x h. gives_bind _ _ (gives_pointed x (address_by (type_of a) w.1.target x w.1.is h)) (λ q _. gives_member at q (offset_of T.structs (target_of (type_of a)) m)))
+        gives_bind _ _ (gives_eval s see a w.0) (λ x h. gives_bind _ _ (gives_pointed x (address_by (type_of a) w.1.target x w.1.is h)) (λ q _. gives_give (shifted q (offset_of T.structs (target_of (type_of a)) m)) tt))
     gives_place s see (Node at t (Assign None a b)) w =
         gives_bind _ _ (gives_place s see a w.0) (λ q _. gives_then _ _ (gives_assigned T.structs at t q _ _ (subst (λ u. Gives (IsValueOf u) NoJump (eval_with T b call)) w.4 (gives_eval s see b w.1)) (gives_place s see b w.1))
         (gives_give q tt))

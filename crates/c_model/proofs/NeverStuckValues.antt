@@ -18,7 +18,7 @@ use Rattle.c_model.specs.Memory.{Pointer, Null, Into, Value, Integer, Points, No
 use Rattle.c_model.specs.Memory as memory
 use Rattle.c_model.specs.State.{Leave, Undefined, Over, Evaluation, State, ◌>>=◌, give, stop, computed, as_scalar, read, read_any, copy_object}
 use Rattle.c_model.specs.Meaning.{operate_value, operate_values, pointer_and_integer, integer_and_pointer, elements_between, two_pointers, converted, compound}
-use Rattle.c_model.specs.Meaning.{bump_value, assigned, is_array, named, is_of_library, pointed_to, member}
+use Rattle.c_model.specs.Meaning.{bump_value, assigned, is_array, named, is_of_library, pointed_to}
 use Rattle.c_model.specs.Meaning.{address, is_member}
 use Rattle.c_model.specs.ExpressionTyping.{Sight}
 use Rattle.c_model.specs.TypedTrees.{WhereAny, IsScalar, IsInteger, BinaryTypes, OfIntegers, OfPointerAndInteger, OfIntegerAndPointer, OfDifference, OfPointers, CompoundTypes, ToInteger, ToPointer}
@@ -26,7 +26,7 @@ use Rattle.c_model.specs.TypedTrees.{CastTypes, ToVoid, OfInteger, OfPointer, Of
 use Rattle.c_syntax.specs.declared.expression.Use.{Use}
 use Rattle.c_syntax.specs.Layouts.{Scalar, IntegerType, PointerType, scalar_size, scalar_of, scalars_of, size_of, target_of}
 use Rattle.c_model.proofs.NeverStuckRuns.{Anything, IsNumber, IsAddress, IsValueOf, EndsWell, Gives, gives_bind, gives_then}
-use Rattle.c_model.proofs.NeverStuckRuns.{gives_give, gives_over, gives_values, gives_cond, gives_computed, gives_changed, gives_written}
+use Rattle.c_model.proofs.NeverStuckRuns.{gives_give, gives_values, gives_cond, gives_computed, gives_changed, gives_written}
 
 -- ---- values of types that equal these
 
@@ -218,10 +218,6 @@ pub gives_pointed : {L : Leave → Type 0} (v : Value) → IsAddress v → Gives
 gives_pointed (Points p) h = gives_give p tt
 gives_pointed (Integer z) h = absurd h
 gives_pointed NoValue h = absurd h
-
-pub gives_member : {L : Leave → Type 0} (at : Place) (p : Pointer) (offset : ℕ) → Gives Anything L (member at p offset)
-gives_member at Null offset = gives_over (Undefined at)
-gives_member at (Into n i) offset = gives_give _ tt
 
 -- an object is copied, and gives no value
 abbrev parts : List StructType → PlainType → List (ℕ × ℕ)

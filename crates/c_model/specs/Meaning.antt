@@ -1,5 +1,5 @@
 -- What expressions, statements and whole programs do (C99 6.5, 6.8, 5.1.2.2.3; evaluation goes from left to right).
-use Rattle.std.specs.Prelude.{ℕ, zero, suc, int_lt, int_le, ◌+◌, ◌*◌, pos, ℤ, ◌*ℤ◌, ◌-ℤ◌, Bool, true, false, cond, not, ◌&&◌, if◌then◌else◌, nat_eq, List, []}
+use Rattle.std.specs.Prelude.{ℕ, zero, suc, int_lt, int_le, ◌*◌, pos, ℤ, ◌*ℤ◌, ◌-ℤ◌, Bool, true, false, cond, not, ◌&&◌, if◌then◌else◌, nat_eq, List, []}
 use Rattle.std.specs.Prelude.{◌∷◌, ◌++◌, map, replicate, Option, Some, None, option_map, slice_get, codes, bytes_eq}
 use Rattle.std.specs.Ordering.{int_eq}
 use Rattle.c_syntax.specs.declared.place.Place.{Place}
@@ -183,11 +183,6 @@ pointed_to (Points p) = give p
 pointed_to (Integer z) = stop Stuck
 pointed_to NoValue = stop Stuck
 
--- a member of an object; null has none (C99 6.5.2.3)
-abbrev pub member : Place → Pointer → ℕ → Evaluation Pointer
-member at Null offset = stop (Over (Undefined at))
-member at (Into n i) offset = give (Into n (i + offset))
-
 -- `x[y]`, of which one is a pointer (C99 6.5.2.1 p2)
 abbrev pub indexed : ℕ → Store → Value → Value → Option Pointer
 indexed unit store (Points p) (Integer i) = farther store unit p i
@@ -289,13 +284,11 @@ module _ (T : Tables) where
       read_any at p (scalar_of t)
     eval_with (Node at t (Dot a m)) call = do
       p ← place_with a call
-      q ← member at p (offset_of T.structs (type_of a) m)
-      read_any at q (scalar_of t)
+      read_any at (shifted p (offset_of T.structs (type_of a) m)) (scalar_of t)
     eval_with (Node at t (Arrow a m)) call = do
       x ← eval_with a call
       p ← pointed_to x
-      q ← member at p (offset_of T.structs (target_of (type_of a)) m)
-      read_any at q (scalar_of t)
+      read_any at (shifted p (offset_of T.structs (target_of (type_of a)) m)) (scalar_of t)
     eval_with (Node at t (Comma a b)) call = eval_with a call >> eval_with b call
 
     pub place_with : Expression → Callee → Evaluation Pointer
@@ -306,11 +299,11 @@ module _ (T : Tables) where
       x ← eval_with a call
       y ← eval_with b call
       computed at (λ store. indexed (unit_of T.structs (type_of a) (type_of b)) store x y)
-    place_with (Node at t (Dot a m)) call = place_with a call >>= λ p. member at p (offset_of T.structs (type_of a) m)
+    place_with (Node at t (Dot a m)) call = place_with a call >>= λ p. give (shifted p (offset_of T.structs (type_of a) m))
     place_with (Node at t (Arrow a m)) call = do
       x ← eval_with a call
       p ← pointed_to x
-      member at p (offset_of T.structs (target_of (type_of a)) m)
+      give (shifted p (offset_of T.structs (target_of (type_of a)) m))
     -- a struct that was assigned stands where it was assigned
     place_with (Node at t (Assign None a b)) call =
         place_with a call >>= λ p. assigned T.structs at t (scalar_of t) p (eval_with b call) (place_with b call) >> give p

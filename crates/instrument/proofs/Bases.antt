@@ -7,8 +7,8 @@ use Rattle.c_syntax.specs.Programs.{StructType}
 use Rattle.c_syntax.specs.Expressions.{Expression, Node, Number, Letter, Variable, Unary, Binary, Both, Either, Choice, Assign, Bump, Call, Cast, SizeOfType, SizeOfExpr, Text, Index, Dot, Arrow, Comma, type_of}
 use Rattle.c_syntax.specs.Layouts.{PointerType, scalar_of, offset_of, target_of}
 use Rattle.c_model.specs.Memory.{Pointer, Null, Into, Value, Points, shifted}
-use Rattle.c_model.specs.State.{State, Normal, Stop, Over, Undefined, on_outcome}
-use Rattle.c_model.specs.Meaning.{Tables, tables_of, place_with, is_member, pointed_to, member}
+use Rattle.c_model.specs.State.{State, Normal, Stop, Over, Undefined, on_outcome, give}
+use Rattle.c_model.specs.Meaning.{Tables, tables_of, place_with, is_member, pointed_to}
 use Rattle.c_model.specs.ExpressionTyping.{Sight, has_object}
 use Rattle.c_model.specs.TypedTrees.{WellTyped}
 use Rattle.mon_syntax.specs.declared.tree.MonType.{MonType}
@@ -60,6 +60,11 @@ reached_at w a n i = by (is_member a) refl
     by true m = refl
     by false m = let none = no_offset w.unit.structs a m in let same : i ≡ i + offset_in w.unit.structs a = omega (arith, none) in ap (Into n) same
 
+-- what stands behind a part of an object
+shifted_twice : (p : Pointer) (i d : ℕ) → shifted (shifted p i) d ≡ shifted p (i + d)
+shifted_twice Null i d = refl
+shifted_twice (Into n k) i d = let same : (k + i) + d ≡ k + (i + d) = omega arith in ap (Into n) same
+
 pub reached_shifted : (w : Setting) (a : Expression) (p : Pointer) → reached_from w a p ≡ shifted p (offset_in w.unit.structs a)
 reached_shifted w a Null = reached_null w a
 reached_shifted w a (Into n i) = reached_at w a n i
@@ -75,35 +80,18 @@ module _ (w : Setting) (n : ℕ) (sight : Sight) (knows : Knows w sight) (bound 
     HasNoBase : (at : Place) → place_with T a w.call now ≡ Stop (Over (Undefined at)) now → Based a rs regs
 
   based_dot : (at : Place) (t : PlainType) (a : Expression) (m : ℕ) (rs : List MonType) (regs : List Value) → Based a rs regs → Based (Node at t (Dot a m)) rs regs
-  based_dot at t a m rs regs (HasNoBase there e) = HasNoBase there (ap (λ r. on_outcome r (λ p. member at p (offset_of T.structs (type_of a) m))) e)
-  based_dot at t a m rs regs (HasBase b e after same run has) = by b refl
-    where
-      d : ℕ
-      d = offset_of T.structs (type_of a) m
-
-      leads : place_with T (Node at t (Dot a m)) w.call now ≡ member at (reached_from w a b) d now
-      leads = ap (λ r. on_outcome r (λ p. member at p d)) e
-
-      by : (q : Pointer) → b ≡ q → Based (Node at t (Dot a m)) rs regs
-      by Null is = HasNoBase at (leads ∙ ap (λ b. member at (reached_from w a b) d now) is ∙ ap (λ p. member at p d now) (reached_null w a))
-      by (Into k i) is =
-          let further : (i + offset_in w.unit.structs a) + d ≡ i + (offset_in w.unit.structs a + d) = omega arith in
-          HasBase b (leads ∙ ap (λ b. member at (reached_from w a b) d now) is ∙ ap (λ p. member at p d now) (reached_at w a k i) ∙ ap (λ o. Normal (Into k o) now) further
-          ∙ sym (ap (λ b. Normal (reached_from w (Node at t (Dot a m)) b) now) is)) after same run has
+  based_dot at t a m rs regs (HasNoBase there e) = HasNoBase there (ap (λ r. on_outcome r (λ p. give (shifted p (offset_of T.structs (type_of a) m)))) e)
+  based_dot at t a m rs regs (HasBase b e after same run has) =
+      let d = offset_of T.structs (type_of a) m in
+      HasBase b
+      (ap (λ r. on_outcome r (λ p. give (shifted p d))) e ∙ ap (λ q. Normal (shifted q d) now) (reached_shifted w a b) ∙ ap (λ q. Normal q now) (shifted_twice b (offset_in w.unit.structs a) d)) after same run has
 
   based_arrow : (at : Place) (t : PlainType) (a : Expression) (m : ℕ) (rs : List MonType) (regs : List Value) → Followed w n sight knows bound now target store_is bounded low a PointerType rs regs → Based (Node at t (Arrow a m)) rs regs
-  based_arrow at t a m rs regs (HasNone there e) = HasNoBase there (ap (λ r. on_outcome r (λ x s. on_outcome (pointed_to x s) (λ p. member at p (offset_of T.structs (target_of (type_of a)) m)))) e)
-  based_arrow at t a m rs regs (HasValue v f e after same run has) = by f.0 refl
-    where
-      d : ℕ
-      d = offset_of T.structs (target_of (type_of a)) m
-
-      leads : (q : Pointer) → f.0 ≡ q → place_with T (Node at t (Arrow a m)) w.call now ≡ member at q d now
-      leads q is = ap (λ r. on_outcome r (λ x s. on_outcome (pointed_to x s) (λ p. member at p d))) e ∙ ap (λ v. on_outcome (pointed_to v now) (λ p. member at p d)) f.1 ∙ ap (λ p. member at p d now) is
-
-      by : (q : Pointer) → f.0 ≡ q → Based (Node at t (Arrow a m)) rs regs
-      by Null is = HasNoBase at (leads Null is)
-      by (Into k i) is = HasBase (Into k i) (leads (Into k i) is) after same run (λ later same2. has later same2 ∙ ap Some f.1 ∙ ap (λ p. Some (Points p)) is)
+  based_arrow at t a m rs regs (HasNone there e) = HasNoBase there (ap (λ r. on_outcome r (λ x s. on_outcome (pointed_to x s) (λ p. give (shifted p (offset_of T.structs (target_of (type_of a)) m))))) e)
+  based_arrow at t a m rs regs (HasValue v f e after same run has) =
+      let d = offset_of T.structs (target_of (type_of a)) m in
+      HasBase f.0 (ap (λ r. on_outcome r (λ x s. on_outcome (pointed_to x s) (λ p. give (shifted p d)))) e ∙ ap (λ v. on_outcome (pointed_to v now) (λ p. give (shifted p d))) f.1) after same run
+      (λ later same. has later same ∙ ap Some f.1)
 
   of_place : (e : Expression) (rs : List MonType) (regs : List Value) → is_member e ≡ false → base w.unit bound rs e ≡ place w.unit bound rs e → Placed w n sight knows bound now target store_is bounded low e rs regs → Based e rs regs
   of_place e rs regs m is (HasNoPlace at x) = HasNoBase at x

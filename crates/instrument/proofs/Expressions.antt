@@ -18,9 +18,9 @@ use Rattle.c_syntax.specs.Layouts.{Scalar, IntegerType, PointerType, scalar_of, 
 use Rattle.c_model.specs.Integers.{fits, convert, truth, operate, operate_one}
 use Rattle.c_model.specs.Conversions.{promoted}
 use Rattle.c_model.specs.Laws.{type_of_result}
-use Rattle.c_model.specs.Memory.{Null, Into, Value, Integer, Points}
+use Rattle.c_model.specs.Memory.{Null, Into, Value, Integer, Points, shifted}
 use Rattle.c_model.specs.State.{State, Outcome, Normal, Stop, Evaluation, on_outcome, ◌>>=◌, give, defined, computed, object, start_of, read_any, find}
-use Rattle.c_model.specs.Meaning.{Tables, tables_of, eval_with, place_with, truth_value, is_zero, operate_value, operate_values, unit_of, converted, named, is_array, is_of_library, is_member, address, pointed_to, member, literal}
+use Rattle.c_model.specs.Meaning.{Tables, tables_of, eval_with, place_with, truth_value, is_zero, operate_value, operate_values, unit_of, converted, named, is_array, is_of_library, is_member, address, pointed_to, literal}
 use Rattle.c_model.specs.Meaning as source
 use Rattle.c_model.specs.ExpressionTyping.{Sight}
 use Rattle.c_model.specs.ExpressionTyping.{has_object}
@@ -474,12 +474,12 @@ module _ (w : Setting) (n : ℕ) (sight : Sight) (knows : Knows w sight) (bound 
     pointer_place f =
         pointed_follows w n target now store_is bounded (eval_with T a w.call now) regs (length rs) (length (rs ++ temporaries a)) (runs w n target (setup w.unit bound rs a) regs) (value w.unit bound rs a) f
 
-    dot_place : (at : Place) (d : ℕ) → Placed a rs regs → Places w true now target (on_outcome (place_with T a w.call now) (λ p. member at p d)) regs (length rs) (length (rs ++ temporaries a))
+    dot_place : (at : Place) (d : ℕ) → Placed a rs regs → Places w true now target (on_outcome (place_with T a w.call now) (λ p. give (shifted p d))) regs (length rs) (length (rs ++ temporaries a))
         (runs w n target (setup w.unit bound rs a) regs) (farther (place w.unit bound rs a) d)
     dot_place at d f =
         member_follows w n target now store_is bounded (is_member a) at d (place_with T a w.call now) regs (length rs) (length (rs ++ temporaries a)) (runs w n target (setup w.unit bound rs a) regs) (place w.unit bound rs a) f
 
-    arrow_place : (at : Place) (d : ℕ) → Followed a PointerType rs regs → Places w true now target (on_outcome (on_outcome (eval_with T a w.call now) pointed_to) (λ p. member at p d)) regs (length rs) (length (rs ++ temporaries a))
+    arrow_place : (at : Place) (d : ℕ) → Followed a PointerType rs regs → Places w true now target (on_outcome (on_outcome (eval_with T a w.call now) pointed_to) (λ p. give (shifted p d))) regs (length rs) (length (rs ++ temporaries a))
         (runs w n target (setup w.unit bound rs a) regs) (farther (value w.unit bound rs a) d)
     arrow_place at d f =
         member_follows w n target now store_is bounded false at d (on_outcome (eval_with T a w.call now) pointed_to) regs (length rs) (length (rs ++ temporaries a)) (runs w n target (setup w.unit bound rs a) regs)
@@ -550,14 +550,14 @@ module _ (w : Setting) (n : ℕ) (sight : Sight) (knows : Knows w sight) (bound 
     evaluates (Node at t (Dot a m)) k rs is p q c behind regs h enough =
         let d = offset_of T.structs (type_of a) m in
         subst (λ r. Evaluates w k now target r regs (length rs) (length (rs ++ temporaries a)) (runs w n target (setup w.unit bound rs a) regs) (loaded t (farther (place w.unit bound rs a) d)))
-        (sym (handed_on (place_with T a w.call now) (λ p. member at p d) (λ q. read_any at q (scalar_of t))))
-        (read_at w n target now store_is bounded true at t k (on_outcome (place_with T a w.call now) (λ p. member at p d)) regs (length rs) (length (rs ++ temporaries a)) (runs w n target (setup w.unit bound rs a) regs)
+        (sym (handed_on (place_with T a w.call now) (λ p. give (shifted p d)) (λ q. read_any at q (scalar_of t))))
+        (read_at w n target now store_is bounded true at t k (on_outcome (place_with T a w.call now) (λ p. give (shifted p d))) regs (length rs) (length (rs ++ temporaries a)) (runs w n target (setup w.unit bound rs a) regs)
         (farther (place w.unit bound rs a) d) is (dot_place a rs regs at d (places a rs q.1 p q.0 c behind regs h enough)))
     evaluates (Node at t (Arrow a m)) k rs is p q c behind regs h enough =
         let d = offset_of T.structs (target_of (type_of a)) m in
         subst (λ r. Evaluates w k now target r regs (length rs) (length (rs ++ temporaries a)) (runs w n target (setup w.unit bound rs a) regs) (loaded t (farther (value w.unit bound rs a) d)))
-        (sym (handed_on_twice (eval_with T a w.call now) pointed_to (λ p. member at p d) (λ q. read_any at q (scalar_of t))))
-        (read_at w n target now store_is bounded true at t k (on_outcome (on_outcome (eval_with T a w.call now) pointed_to) (λ p. member at p d)) regs (length rs) (length (rs ++ temporaries a))
+        (sym (handed_on_twice (eval_with T a w.call now) pointed_to (λ p. give (shifted p d)) (λ q. read_any at q (scalar_of t))))
+        (read_at w n target now store_is bounded true at t k (on_outcome (on_outcome (eval_with T a w.call now) pointed_to) (λ p. give (shifted p d))) regs (length rs) (length (rs ++ temporaries a))
         (runs w n target (setup w.unit bound rs a) regs) (farther (value w.unit bound rs a) d) is (arrow_place a rs regs at d (evaluates a PointerType rs (ap scalar_of q.1.is) p q.0 c behind regs h enough)))
     evaluates (Node at t (Comma a b)) k rs is p q c behind regs h enough = absurd p
     evaluates (Node at t (Assign op a b)) k rs is p q c behind regs h enough = absurd p
@@ -576,7 +576,7 @@ module _ (w : Setting) (n : ℕ) (sight : Sight) (knows : Knows w sight) (bound 
     places (Node at t (Arrow a m)) rs o p q c behind regs h enough =
         let d = offset_of T.structs (target_of (type_of a)) m in
         subst (λ r. Places w true now target r regs (length rs) (length (rs ++ temporaries a)) (runs w n target (setup w.unit bound rs a) regs) (farther (value w.unit bound rs a) d))
-        (sym (handed_on (eval_with T a w.call now) pointed_to (λ p. member at p d)))
+        (sym (handed_on (eval_with T a w.call now) pointed_to (λ p. give (shifted p d))))
         (arrow_place a rs regs at d (evaluates a PointerType rs (ap scalar_of q.1.is) p q.0 c behind regs h enough))
     places (Node at t (Unary prefix.Plus a)) rs o p q c behind regs h enough = absurd cc
     places (Node at t (Unary prefix.Minus a)) rs o p q c behind regs h enough = absurd cc

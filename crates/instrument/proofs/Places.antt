@@ -12,9 +12,9 @@ use Rattle.c_syntax.specs.Layouts.{Scalar, IntegerType, PointerType, scalar_of}
 use Rattle.c_model.specs.Integers.{fits, truth}
 use Rattle.c_model.specs.Operators.{quotient}
 use Rattle.c_model.specs.Conversions.{is_relation}
-use Rattle.c_model.specs.Memory.{Pointer, Null, Into, Value, Integer, Points, load, moved, distance, apart, live_size, block_at, equal_pointers, tested_value}
+use Rattle.c_model.specs.Memory.{Pointer, Null, Into, Value, Integer, Points, load, moved, shifted, distance, apart, live_size, block_at, equal_pointers, tested_value}
 use Rattle.c_model.specs.State.{State, Outcome, Normal, Stop, Evaluation, on_outcome, give, defined, computed, read, read_any, tested}
-use Rattle.c_model.specs.Meaning.{pointed_to, member, address, is_member, unit_of, operate_values, elements_between}
+use Rattle.c_model.specs.Meaning.{pointed_to, address, is_member, unit_of, operate_values, elements_between}
 use Rattle.c_model.specs.Meaning as source
 use Rattle.c_model.specs.ExpressionTyping.{is_step, is_difference}
 use Rattle.mon_syntax.specs.declared.tree.MonType.{MonType}
@@ -30,7 +30,7 @@ use Rattle.instrument.proofs.Standing.{Setting, Target, Did, runs, Has, IsSmall,
 use Rattle.instrument.proofs.Following.{Evaluates, HasValue, HasNone, Places, HasPlace, HasNoPlace, Tests, HasTest, HasNoTest}
 use Rattle.instrument.proofs.Bounds.{loaded_is_of}
 use Rattle.instrument.proofs.Integers.{is_number, truth_fits}
-use Rattle.instrument.proofs.Pointers.{IsInside, loaded_inside, before_inside, inside_moved, unmoved, inside_small, bounded_live}
+use Rattle.instrument.proofs.Pointers.{IsInside, null_outside, loaded_inside, before_inside, inside_moved, unmoved, inside_small, bounded_live}
 use Rattle.instrument.proofs.Steps.{difference_fits}
 use Rattle.instrument.proofs.Values.{operation}
 use Rattle.instrument.proofs.PointerValues.{scalar_register, value_type_is, IsTested, load_has, farther_has, element_has, element_back_has, relation_has, pair, is_tested}
@@ -134,11 +134,12 @@ module _ (w : Setting) (n : ℕ) (t : Target) (s : State) (store_is : t.mem.stor
 
   -- a member of an object
   pub member_follows : (c : Bool) (at : Place) (d : ℕ) (r : Outcome Pointer) (regs : List Value) (low high : ℕ) (q : Did) (e : MonExpression) → Places w c s t r regs low high q e
-      → Places w true s t (on_outcome r (λ p. member at p d)) regs low high q (farther e d)
-  member_follows c at d r regs low high q e (HasNoPlace there x) = HasNoPlace there (ap (λ r. on_outcome r (λ p. member at p d)) x)
-  member_follows c at d r regs low high q e (HasPlace Null small x after same run has) = HasNoPlace at (ap (λ r. on_outcome r (λ p. member at p d)) x)
+      → Places w true s t (on_outcome r (λ p. give (shifted p d))) regs low high q (farther e d)
+  member_follows c at d r regs low high q e (HasNoPlace there x) = HasNoPlace there (ap (λ r. on_outcome r (λ p. give (shifted p d))) x)
+  member_follows c at d r regs low high q e (HasPlace Null small x after same run has) =
+      HasPlace Null (λ t. absurd cc) (ap (λ r. on_outcome r (λ p. give (shifted p d))) x) after same run (λ h later k. absurd (null_outside t.mem.store (h refl)))
   member_follows c at d r regs low high q e (HasPlace (Into m i) small x after same run has) =
-      HasPlace (Into m (i + d)) (λ t. absurd cc) (ap (λ r. on_outcome r (λ p. member at p d)) x) after same run (λ h later k.
+      HasPlace (Into m (i + d)) (λ t. absurd cc) (ap (λ r. on_outcome r (λ p. give (shifted p d))) x) after same run (λ h later k.
       farther_has w later t.mem e m i d (has (λ t. before_inside _ m i d (h refl)) later k) (h refl))
 
   -- an address that is taken

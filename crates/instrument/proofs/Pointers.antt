@@ -26,6 +26,13 @@ pub record IsInside (store : Store) (p : Pointer) : Type 0 where
   pub live : live_size (block_at store block) ≡ Some size
   pub within : offset ≤ size
 
+-- null lies in no block
+pub null_outside : (store : Store) → IsInside store Null → ⊥
+null_outside store h = none h.block h.offset h.is
+  where
+    none : (n i : ℕ) → Null ≡ Into n i → ⊥
+    none n i e = absurd cc
+
 accessible_inside : (store : Store) (n i size : ℕ) (b : Block) → block_at store n ≡ Some b → is_accessible b i size ≡ true → IsInside store (Into n i)
 accessible_inside store n i size b found a =
     let parts = and_true b.live _ a in

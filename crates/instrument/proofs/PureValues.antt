@@ -13,10 +13,10 @@ use Rattle.c_syntax.specs.Expressions.{Expression, Node, Number, Letter, Variabl
 use Rattle.c_syntax.specs.Layouts.{Scalar, IntegerType, PointerType, scalar_of, scalar_size, offset_of, target_of}
 use Rattle.c_model.specs.Conversions.{is_relation}
 use Rattle.c_model.specs.Integers.{operate, operate_one, truth, value_of_bits}
-use Rattle.c_model.specs.Memory.{◌>>=◌ as memory_then, Store, Byte, Pointer, Null, Into, Value, Integer, Points, NoValue, load, load_bytes, value_from, pointer_of, number_of, moved, tested_value, distance, equal_pointers}
+use Rattle.c_model.specs.Memory.{◌>>=◌ as memory_then, Store, Byte, Pointer, Null, Into, Value, Integer, Points, NoValue, load, load_bytes, value_from, pointer_of, number_of, moved, shifted, tested_value, distance, equal_pointers}
 use Rattle.c_model.specs.State.{State, Outcome, Normal, Stop, Over, Undefined, Evaluation, on_outcome, ◌>>=◌, give, stop, defined, computed, tested, read_any, find, start_of}
 use Rattle.c_model.specs.Meaning.{Tables, Callee, eval_with, place_with, condition_of, is_zero, choose, truth_value, operate_value, operate_values}
-use Rattle.c_model.specs.Meaning.{pointer_and_integer, integer_and_pointer, two_pointers, elements_between, unit_of, converted, named, is_pointer, is_of_library, is_array, is_member, address, pointed_to, member, literal, indexed}
+use Rattle.c_model.specs.Meaning.{pointer_and_integer, integer_and_pointer, two_pointers, elements_between, unit_of, converted, named, is_pointer, is_of_library, is_array, is_member, address, pointed_to, literal, indexed}
 use Rattle.c_model.specs.ExpressionTyping.{Sight}
 use Rattle.c_model.specs.Pure.{IsPure}
 use Rattle.c_model.specs.TypedTrees.{WellTyped, BinaryTypes, OfIntegers, OfPointerAndInteger, OfIntegerAndPointer, OfDifference, OfPointers, CastTypes, ToVoid, OfInteger, OfPointer, OfNullConstant, OfArray}
@@ -191,10 +191,6 @@ quiet_address e p s = by (is_member e)
     by true = quiet_defined IsPointed (place_of e) (option_map Points (moved s.store p (pos 0))) s (mapped_pointer (moved s.store p (pos 0)))
     by false = Gives (Points p) (p, refl) refl
 
-quiet_member : (at : Place) (p : Pointer) (d : ℕ) (s : State) → Quiet Any s (member at p d s)
-quiet_member at Null d s = IsUndefined at refl
-quiet_member at (Into n i) d s = Gives _ tt refl
-
 quiet_choice : {A : Type 0} (P : A → Type 0) (s : State) (v : Value) (a b : Evaluation A) → Quiet P s (a s) → Quiet P s (b s) → Quiet P s (choose v a b s)
 quiet_choice P s v a b h g = by (is_zero v)
   where
@@ -318,13 +314,13 @@ module _ (T : Tables) (call : Callee) (sight : Sight) (s : State) where
         (λ p h. quiet_read at p (scalar_of t) s)))
     pure_gives (Node at t (Dot a m)) p q =
         let d = offset_of T.structs (type_of a) m in
-        quiet_then Any (HasKind (scalar_of t)) s (place_with T a call s) (λ p. member at p d >>= λ r. read_any at r (scalar_of t)) (place_gives a p q.0)
-        (λ p h. quiet_then Any (HasKind (scalar_of t)) s (member at p d s) (λ r. read_any at r (scalar_of t)) (quiet_member at p d s) (λ r h. quiet_read at r (scalar_of t) s))
+        quiet_then Any (HasKind (scalar_of t)) s (place_with T a call s) (λ p. read_any at (shifted p d) (scalar_of t)) (place_gives a p q.0)
+        (λ p h. quiet_read at (shifted p d) (scalar_of t) s)
     pure_gives (Node at t (Arrow a m)) p q =
         let d = offset_of T.structs (target_of (type_of a)) m in
-        quiet_then IsPointed (HasKind (scalar_of t)) s (eval_with T a call s) (λ x. pointed_to x >>= λ p. member at p d >>= λ r. read_any at r (scalar_of t)) (pointed a q.1.target q.1.is (pure_gives a p q.0))
-        (λ x i. quiet_then Any (HasKind (scalar_of t)) s (pointed_to x s) (λ p. member at p d >>= λ r. read_any at r (scalar_of t)) (Gives i.0 tt (ap (λ v. pointed_to v s) i.1))
-        (λ p h. quiet_then Any (HasKind (scalar_of t)) s (member at p d s) (λ r. read_any at r (scalar_of t)) (quiet_member at p d s) (λ r h. quiet_read at r (scalar_of t) s)))
+        quiet_then IsPointed (HasKind (scalar_of t)) s (eval_with T a call s) (λ x. pointed_to x >>= λ p. read_any at (shifted p d) (scalar_of t)) (pointed a q.1.target q.1.is (pure_gives a p q.0))
+        (λ x i. quiet_then Any (HasKind (scalar_of t)) s (pointed_to x s) (λ p. read_any at (shifted p d) (scalar_of t)) (Gives i.0 tt (ap (λ v. pointed_to v s) i.1))
+        (λ p h. quiet_read at (shifted p d) (scalar_of t) s))
     pure_gives (Node at t (Comma a b)) p q = absurd p
     pure_gives (Node at t (Assign op a b)) p q = absurd p
     pure_gives (Node at t (Bump op a)) p q = absurd p
@@ -342,11 +338,11 @@ module _ (T : Tables) (call : Callee) (sight : Sight) (s : State) where
         (λ y hy. quiet_defined Any at (indexed (unit_of T.structs (type_of a) (type_of b)) s.store x y) s (λ a e. tt)))
     place_gives (Node at t (Dot a m)) p q =
         let d = offset_of T.structs (type_of a) m in
-        quiet_then Any Any s (place_with T a call s) (λ p. member at p d) (place_gives a p q.0) (λ p h. quiet_member at p d s)
+        quiet_then Any Any s (place_with T a call s) (λ p. give (shifted p d)) (place_gives a p q.0) (λ p h. Gives (shifted p d) tt refl)
     place_gives (Node at t (Arrow a m)) p q =
         let d = offset_of T.structs (target_of (type_of a)) m in
-        quiet_then IsPointed Any s (eval_with T a call s) (λ x. pointed_to x >>= λ p. member at p d) (pointed a q.1.target q.1.is (pure_gives a p q.0))
-        (λ x i. quiet_then Any Any s (pointed_to x s) (λ p. member at p d) (Gives i.0 tt (ap (λ v. pointed_to v s) i.1)) (λ p h. quiet_member at p d s))
+        quiet_then IsPointed Any s (eval_with T a call s) (λ x. pointed_to x >>= λ p. give (shifted p d)) (pointed a q.1.target q.1.is (pure_gives a p q.0))
+        (λ x i. quiet_then Any Any s (pointed_to x s) (λ p. give (shifted p d)) (Gives i.0 tt (ap (λ v. pointed_to v s) i.1)) (λ p h. Gives (shifted p d) tt refl))
     place_gives (Node at t (Number z k)) p q = IsUndefined at refl
     place_gives (Node at t (Letter z)) p q = IsUndefined at refl
     place_gives (Node at t (Unary prefix.Plus a)) p q = IsUndefined at refl
