@@ -3,7 +3,7 @@
 ghost use Rattle.std.specs.Prelude.{◌≡◌};
 ghost use Rattle.c_syntax.specs.Logic.{Linked, plain_links, plain_term};
 ghost use Rattle.c_model.specs.Checked.{Good};
-ghost use Rattle.c_model.specs.PredicateTyping.{chain};
+ghost use Rattle.c_model.specs.PredicateTyping.{related};
 ghost use Rattle.c_expression_rules.specs.Answers.{Answers};
 ghost use Rattle.annot_typing.specs.Relations.{is_predicate, right_side};
 ghost use Rattle.annot_typing.specs.Sorts.{plain_sorted};
@@ -50,8 +50,8 @@ pub fn linked(
     Ok(Links::Link(place, relation, t, rest))
 }
 
-pub fn chain(alloc: Global, place: Place, a: Sorted, links: Links) -> Result<Sorted, TypeFault>
-    ensures { Answers plain_sorted (chain place (plain_sorted a) (plain_links links)) result }
+pub fn related(alloc: Global, place: Place, a: Sorted, links: Links) -> Result<Sorted, TypeFault>
+    ensures { Answers plain_sorted (related place (plain_sorted a) (plain_links links)) result }
 {
     let a = as_term(place, a)?;
     predicate(alloc, place, PredKind::Chain(a, links))

@@ -5,7 +5,7 @@ ghost use Rattle.c_syntax.specs.Formulas.{plain_cast_type};
 ghost use Rattle.c_syntax.specs.Logic.{Branch, plain_pred, plain_term};
 ghost use Rattle.c_model.specs.Checked.{Good};
 ghost use Rattle.c_syntax.specs.declared.expression.UnOp.TheVariants as unary;
-ghost use Rattle.c_model.specs.PredicateTyping.{APredicate, as_predicate, as_term, cast, cast_as, choice, connected, on_integer, on_integers, unary_on};
+ghost use Rattle.c_model.specs.PredicateTyping.{APredicate, as_predicate, as_term, cast, cast_as, chosen, connected, on_integer, on_integers, unary_on};
 ghost use Rattle.c_expression_rules.specs.Answers.{Answers};
 ghost use Rattle.annot_typing.specs.Sorts.{plain_sorted};
 
@@ -125,14 +125,14 @@ fn branch(alloc: Global, place: Place, c: Pred, a: Sorted, b: Sorted) -> Result<
 }
 
 /// A choice is a term where both branches are terms.
-pub fn choice(
+pub fn chosen(
     alloc: Global,
     place: Place,
     c: Sorted,
     a: Sorted,
     b: Sorted,
 ) -> Result<Sorted, TypeFault>
-    ensures { Answers plain_sorted (Good (choice place (plain_sorted c) (plain_sorted a) (plain_sorted b))) result }
+    ensures { Answers plain_sorted (Good (chosen place (plain_sorted c) (plain_sorted a) (plain_sorted b))) result }
 {
     let c = as_predicate(alloc, c)?;
     match (a, b) {

@@ -4,17 +4,17 @@ ghost use Rattle.c_syntax.specs.Formulas.{Cast, OfC, plain_cast_type, plain_form
 ghost use Rattle.c_syntax.specs.Ctypes.{plain_type};
 ghost use Rattle.c_syntax.specs.Logic.{plain_links};
 ghost use Rattle.c_model.specs.Checked.{one_part, pair_of};
-ghost use Rattle.c_model.specs.PredicateTyping.{is_predicate, right_side, typed, typed_links};
+ghost use Rattle.c_model.specs.PredicateTyping.{is_predicate, right_side, typed_form, typed_links};
 ghost use Rattle.c_expression_rules.specs.Answers.{Answers};
 ghost use Rattle.c_expression_rules.specs.Sights.{plain_sight};
 ghost use Rattle.annot_typing.specs.Relations.{plain_chain, plain_link};
 ghost use Rattle.annot_typing.specs.Sorts.{plain_sorted, plain_three, plain_two};
 
 use crate::cast::{limits_of, type_size, written_type};
-use crate::chain::{chain, is_predicate, linked, right_side};
-use crate::demand::{cast, cast_as, choice, connected, on_integers, unary_on};
+use crate::chain::{is_predicate, linked, related, right_side};
+use crate::demand::{cast, cast_as, chosen, connected, on_integers, unary_on};
 use crate::joined::joined;
-use crate::name::named;
+use crate::name::term_named;
 use crate::sorted::{Sorted, predicate, term};
 use c_expression_rules::fault::{TypeFault, both};
 use c_expression_rules::sight::Sight;
@@ -27,7 +27,7 @@ use std::alloc::Global;
 /// What a form is, or its first fault.
 #[cycle(form)]
 pub fn type_form(alloc: Global, sight: &Sight, f: &Formula) -> Result<Sorted, TypeFault>
-    ensures { Answers plain_sorted (typed (plain_sight sight.now) (plain_form f.now)) result }
+    ensures { Answers plain_sorted (typed_form (plain_sight sight.now) (plain_form f.now)) result }
 {
     type_kind(alloc, sight, f.place, &f.kind)
 }
@@ -39,13 +39,13 @@ fn type_kind(
     place: Place,
     kind: &FormulaKind,
 ) -> Result<Sorted, TypeFault>
-    ensures { Answers plain_sorted (typed (plain_sight sight.now) (plain_form_kind place kind.now)) result }
+    ensures { Answers plain_sorted (typed_form (plain_sight sight.now) (plain_form_kind place kind.now)) result }
 {
     match kind {
         FormulaKind::Number(n) => term(alloc, place, TermKind::Number(*n)),
         FormulaKind::Letter(n) => term(alloc, place, TermKind::Letter(*n)),
         FormulaKind::Truth(b) => predicate(alloc, place, PredKind::Truth(*b)),
-        FormulaKind::Name(x) => named(alloc, sight, place, x.name),
+        FormulaKind::Name(x) => term_named(alloc, sight, place, x.name),
         FormulaKind::SizeOf(u) => type_size(alloc, sight, place, u),
         FormulaKind::Unary(op, a) => {
             let a = type_form(alloc, sight, a)?;
@@ -61,11 +61,11 @@ fn type_kind(
         }
         FormulaKind::Choice(c, a, b) => {
             let (c, (a, b)) = type_three(alloc, sight, c, a, b)?;
-            choice(alloc, place, c, a, b)
+            chosen(alloc, place, c, a, b)
         }
         FormulaKind::Chain(a, links) => {
             let (a, links) = type_chain(alloc, sight, a, links)?;
-            chain(alloc, place, a, links)
+            related(alloc, place, a, links)
         }
         FormulaKind::Cast(LogicType::Integer, a) => {
             let a = type_form(alloc, sight, a)?;
@@ -83,7 +83,7 @@ fn type_two(
     a: &Formula,
     b: &Formula,
 ) -> Result<(Sorted, Sorted), TypeFault>
-    ensures { Answers plain_two (pair_of (typed (plain_sight sight.now) (plain_form a.now)) (typed (plain_sight sight.now) (plain_form b.now))) result }
+    ensures { Answers plain_two (pair_of (typed_form (plain_sight sight.now) (plain_form a.now)) (typed_form (plain_sight sight.now) (plain_form b.now))) result }
 {
     let first = type_form(alloc, sight, a);
     let second = type_form(alloc, sight, b);
@@ -99,8 +99,8 @@ fn type_three(
     a: &Formula,
     b: &Formula,
 ) -> Result<(Sorted, (Sorted, Sorted)), TypeFault>
-    ensures { Answers plain_three (pair_of (typed (plain_sight sight.now) (plain_form c.now))
-        (pair_of (typed (plain_sight sight.now) (plain_form a.now)) (typed (plain_sight sight.now) (plain_form b.now)))) result }
+    ensures { Answers plain_three (pair_of (typed_form (plain_sight sight.now) (plain_form c.now))
+        (pair_of (typed_form (plain_sight sight.now) (plain_form a.now)) (typed_form (plain_sight sight.now) (plain_form b.now)))) result }
 {
     let first = type_form(alloc, sight, c);
     let second = type_two(alloc, sight, a, b);
@@ -116,7 +116,7 @@ fn type_cast(
     to: &CType,
     a: &Formula,
 ) -> Result<Sorted, TypeFault>
-    ensures { Answers plain_sorted (typed (plain_sight sight.now) (Cast place (OfC (plain_type to.now)) (plain_form a.now))) result }
+    ensures { Answers plain_sorted (typed_form (plain_sight sight.now) (Cast place (OfC (plain_type to.now)) (plain_form a.now))) result }
 {
     let written = written_type(alloc, sight, place, to);
     let operand = type_form(alloc, sight, a);
@@ -135,8 +135,8 @@ fn type_chain(
     a: &Formula,
     links: &FormulaLinks,
 ) -> Result<(Sorted, Links), TypeFault>
-    ensures { Answers plain_chain (pair_of (typed (plain_sight sight.now) (plain_form a.now))
-        (typed_links (plain_sight sight.now) (is_predicate (typed (plain_sight sight.now) (plain_form a.now))) (plain_form_links links.now))) result }
+    ensures { Answers plain_chain (pair_of (typed_form (plain_sight sight.now) (plain_form a.now))
+        (typed_links (plain_sight sight.now) (is_predicate (typed_form (plain_sight sight.now) (plain_form a.now))) (plain_form_links links.now))) result }
 {
     let first = type_form(alloc, sight, a);
     let links = type_links(alloc, sight, is_predicate(&first), links);
@@ -172,8 +172,8 @@ fn type_link(
     b: &Formula,
     rest: &FormulaLinks,
 ) -> Result<(Term, Links), TypeFault>
-    ensures { Answers plain_link (pair_of (one_part (typed (plain_sight sight.now) (plain_form b.now)) (right_side place left))
-        (typed_links (plain_sight sight.now) (is_predicate (typed (plain_sight sight.now) (plain_form b.now))) (plain_form_links rest.now))) result }
+    ensures { Answers plain_link (pair_of (one_part (typed_form (plain_sight sight.now) (plain_form b.now)) (right_side place left))
+        (typed_links (plain_sight sight.now) (is_predicate (typed_form (plain_sight sight.now) (plain_form b.now))) (plain_form_links rest.now))) result }
 {
     let right = type_form(alloc, sight, b);
     let rest = type_links(alloc, sight, is_predicate(&right), rest);

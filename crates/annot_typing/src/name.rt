@@ -1,6 +1,6 @@
 //! Names of annotations (ACSL 2.2): objects of integer types, enumerators, and constants of the library.
 
-ghost use Rattle.c_model.specs.PredicateTyping.{named, object_term};
+ghost use Rattle.c_model.specs.PredicateTyping.{object_term, term_named};
 ghost use Rattle.c_expression_rules.specs.Answers.{Answers};
 ghost use Rattle.c_expression_rules.specs.Entity.{plain_object};
 ghost use Rattle.c_expression_rules.specs.Sights.{plain_sight};
@@ -36,8 +36,13 @@ fn object_term(alloc: Global, place: Place, name: u32, object: &Object) -> Resul
 }
 
 /// What a name stands for; that of a function has no meaning in annotations.
-pub fn named(alloc: Global, sight: &Sight, place: Place, name: u32) -> Result<Sorted, TypeFault>
-    ensures { Answers plain_sorted (named (plain_sight sight.now) place name) result }
+pub fn term_named(
+    alloc: Global,
+    sight: &Sight,
+    place: Place,
+    name: u32,
+) -> Result<Sorted, TypeFault>
+    ensures { Answers plain_sorted (term_named (plain_sight sight.now) place name) result }
 {
     match sight.entities.named(name) {
         Some(Entity::AnObject(object)) => object_term(alloc, place, name, object),

@@ -1,5 +1,5 @@
 -- Initialisers that are lists.
-use Rattle.std.proofs.Common.{◌≡◌, ℕ, suc, ◌<◌, List, [], ◌∷◌, length, drop, get_or, slice_set, arith, refl, sym, ap, ◌∙◌, subst, Bool, true, false, ◌&&◌, if◌then◌else◌, Some, None, option_map, Result}
+use Rattle.std.proofs.Common.{◌≡◌, ℕ, suc, ◌<◌, List, [], ◌∷◌, length, drop, get_or, slice_set, arith, refl, sym, ap, ◌∙◌, subst, Bool, true, false, ◌&&◌, if◌then◌else◌, Some, None, option_map, Result, Ok, Err, ◌≤◌}
 use Rattle.std.specs.Prelude.{Vec}
 use Rattle.std.specs.declared.alloc.Global.{Global}
 use Rattle.c_syntax.specs.declared.place.Place.{Place}
@@ -9,11 +9,14 @@ use Rattle.c_syntax.specs.Ctypes.{PlainType, Void, Int, Ptr, Array, Struct, Name
 use Rattle.c_syntax.specs.Expressions.{Expression, place_of}
 use Rattle.c_syntax.specs.Statements.{Initialiser, One, Many, Initialisers, NoInitialiser, Listed, plain_init, plain_inits}
 use Rattle.c_syntax.proofs.Rows.{many_is}
-use Rattle.c_model.specs.Checked.{Checked, Good, one_part}
-use Rattle.c_model.specs.ExpressionTyping.{Sight, is_character, is_scalar, typed}
-use Rattle.c_model.specs.DeclarationTyping.{initial_value, is_text_array, next_slot, slots_of, typed_alone, typed_initialiser, typed_items, typed_text}
+use Rattle.c_syntax.specs.RefusalCodes.{type_code}
+use Rattle.c_model.specs.Checked.{Checked, Good, faulty, one_part, refusing}
+use Rattle.c_model.specs.ExpressionTyping.{Sight, is_character, is_scalar, no_type, typed}
+use Rattle.c_model.specs.DeclarationTyping.{initial_value, is_text_array, next_slot, no_more, slots_of, too_many, typed_alone, typed_initialiser, typed_items, typed_text}
 use Rattle.c_expression_rules.specs.declared.fault.TypeFault.{TypeFault}
+use Rattle.c_expression_rules.specs.declared.fault.TypeFault.TheVariants.{Refused}
 use Rattle.c_expression_rules.specs.Answers.{Answers}
+use Rattle.c_expression_rules.proofs.Least.{one_refused}
 use Rattle.c_declaration_rules.specs.Initialisers.{is_text_alone, slot, without_braces}
 use Rattle.c_declaration_rules.proofs.Parts.{one_made}
 use Rattle.c_declaration_rules.proofs.Lists.{text_array_is}
@@ -95,9 +98,36 @@ module _ (s : Sight) (ok : Expression → Expression → Bool) (here at : Place)
         (subst (λ is. Answers (λ (u : Unit {0}). x) (typed_text s ok t is) r) (sym a.1)
         (h a.0 (bare ∙ ap without_braces (many_is at v) ∙ ap (λ is. without_braces (Many at is)) a.1)))))
 
--- the first item in its place
-pub alone_in_place : (s : Sight) (ok : Expression → Expression → Bool) (t : PlainType) (old : List Init) (x y : Init) (r : Result (Unit {0}) TypeFault) → 0 < length old → x ≡ get_or old 0 x
-    → Answers (λ (u : Unit {0}). Listed (plain_init y) (plain_inits (drop 1 old))) (typed_alone s ok t (Listed (plain_init x) (plain_inits (drop 1 old)))) r
-    → Answers (λ (u : Unit {0}). plain_inits (slice_set old 0 y)) (typed_alone s ok t (plain_inits old)) r
-alone_in_place s ok t [] x y r lt at h = absurd (omega (arith, lt))
-alone_in_place s ok t (z ∷ zs) x y r lt at h = subst (λ w. Answers (λ (u : Unit {0}). Listed (plain_init y) (plain_inits zs)) (typed_alone s ok t (Listed (plain_init w) (plain_inits zs))) r) at h
+-- the first item in its place, where those after it may be others by now
+pub alone_in_place : (s : Sight) (ok : Expression → Expression → Bool) (t : PlainType) (old cur : List Init) (x y : Init) (r : Result (Unit {0}) TypeFault) → 0 < length old → length cur ≡ length old
+    → ((z : Init) → get_or cur 0 z ≡ get_or old 0 z) → x ≡ get_or cur 0 x
+    → Answers (λ (u : Unit {0}). Listed (plain_init y) (plain_inits (drop 1 cur))) (typed_alone s ok t (Listed (plain_init x) (plain_inits (drop 1 old)))) r
+    → Answers (λ (u : Unit {0}). plain_inits (slice_set cur 0 y)) (typed_alone s ok t (plain_inits old)) r
+alone_in_place s ok t [] cur x y r lt len same at h = absurd (omega (arith, lt))
+alone_in_place s ok t (z ∷ zs) [] x y r lt len same at h = absurd (omega (arith, len))
+alone_in_place s ok t (z ∷ zs) (w ∷ ws) x y r lt len same at h =
+    subst (λ w. Answers (λ (u : Unit {0}). Listed (plain_init y) (plain_inits ws)) (typed_alone s ok t (Listed (plain_init w) (plain_inits zs))) r) (at ∙ same x) h
+
+-- ---- items for which there is no object
+
+module _ (s : Sight) (e : Expression) (e' : Expression) (is : Initialisers)
+  where
+    -- its expression has a fault
+    pub item_refused : (f : TypeFault) → Answers (λ (u : Unit {0}). e') (typed s e) (Err f) → Answers {T = Unit {0}} (λ u. is) (too_many s (One e)) (Err f)
+    item_refused f h = one_refused (λ x. faulty (no_type (place_of e))) (λ (u : Unit {0}). e') (λ (u : Unit {0}). is) (typed s e) f h
+
+    -- it has none
+    pub item_told : (u : Unit {0}) → Answers (λ (u : Unit {0}). e') (typed s e) (Ok u) → Answers {T = Unit {0}} (λ u. is) (too_many s (One e)) (Err (Refused (record { code = type_code; place = place_of e })))
+    item_told u h = ap (λ c. refusing (one_part c (λ x. faulty {A = Initialisers} (no_type (place_of e))))) h
+
+-- what stands behind the first item of one that is alone
+pub none_behind : (s : Sight) (old : List Init) → length old < 2 → no_more s (plain_inits (drop 1 old)) ≡ Good (plain_inits (drop 1 old))
+none_behind s [] lt = refl
+none_behind s (x ∷ []) lt = refl
+none_behind s (x ∷ y ∷ ys) lt = absurd (omega (arith, lt))
+
+pub some_behind : (s : Sight) (old : List Init) (x : Init) (is : Initialisers) (r : Result (Unit {0}) TypeFault) → 2 ≤ length old → x ≡ get_or old 1 x
+    → Answers (λ (u : Unit {0}). is) (too_many s (plain_init x)) r → Answers (λ (u : Unit {0}). is) (no_more s (plain_inits (drop 1 old))) r
+some_behind s [] x is r le at h = absurd (omega (arith, le))
+some_behind s (y ∷ []) x is r le at h = absurd (omega (arith, le))
+some_behind s (y ∷ z ∷ zs) x is r le at h = subst (λ w. Answers (λ (u : Unit {0}). is) (too_many s (plain_init w)) r) at h

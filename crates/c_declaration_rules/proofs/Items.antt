@@ -4,14 +4,15 @@ use Rattle.std.proofs.lemmas.Bool.Decides.{nat_tests}
 use Rattle.std.proofs.lemmas.Option.{slice_get-map}
 use Rattle.c_syntax.specs.declared.statement.Init.{Init}
 use Rattle.c_syntax.specs.Ctypes.{PlainType, Void, Int, Ptr, Array, Struct, Named, StructTag, EnumTag}
-use Rattle.c_syntax.specs.Expressions.{Expression}
+use Rattle.c_syntax.specs.Expressions.{Expression, place_of}
 use Rattle.c_syntax.specs.Programs.{StructMember, StructType}
 use Rattle.c_syntax.specs.Layouts.{count_of, members_of_struct}
-use Rattle.c_syntax.specs.Statements.{Initialiser, Initialisers, NoInitialiser, Listed, plain_init, plain_inits}
-use Rattle.c_model.specs.Checked.{Checked, Good, Bad, both_parts, faulty}
-use Rattle.c_model.specs.ExpressionTyping.{Sight, no_type}
-use Rattle.c_model.specs.DeclarationTyping.{Slots, Each, Members, member_types, next_slot, place_of_initialiser, slots_of, typed_initialiser, typed_items}
+use Rattle.c_syntax.specs.Statements.{Initialiser, One, Many, Initialisers, NoInitialiser, Listed, plain_init, plain_inits}
+use Rattle.c_model.specs.Checked.{Checked, Good, Bad, both_parts, one_part, faulty}
+use Rattle.c_model.specs.ExpressionTyping.{Sight, no_type, typed}
+use Rattle.c_model.specs.DeclarationTyping.{Slots, Each, Members, member_types, next_slot, place_of_initialiser, slots_of, too_many, typed_initialiser, typed_items}
 use Rattle.c_expression_rules.specs.declared.fault.TypeFault.{TypeFault}
+use Rattle.c_expression_rules.specs.declared.fault.TypeFault.TheVariants.{Refused, Memory}
 use Rattle.c_expression_rules.specs.Answers.{Answers, both, first_of}
 use Rattle.c_expression_rules.proofs.Least.{both_refused}
 use Rattle.c_declaration_rules.specs.Initialisers.{slot, type_at}
@@ -105,24 +106,62 @@ snoc_only : (d : Checked Initialiser) → both_parts d (Good NoInitialiser) (λ 
 snoc_only (Good i) = refl
 snoc_only (Bad f fs) = refl
 
+-- ---- an item without an object
+
+module _ (s : Sight)
+  where
+    over_alone : (x : Initialiser) → too_many {A = Initialisers} s x ≡ both_parts (Good NoInitialiser) (too_many {A = Initialiser} s x) (λ is i. Good (snoc is i))
+    over_alone (One e) = by (typed s e)
+      where
+        by : (c : Checked Expression) → one_part c (λ x. faulty {A = Initialisers} (no_type (place_of e))) ≡ both_parts (Good NoInitialiser) (one_part c (λ x. faulty {A = Initialiser} (no_type (place_of e)))) (λ is i. Good (snoc is i))
+        by (Good x) = refl
+        by (Bad f fs) = refl
+    over_alone (Many at is) = refl
+
+    over_bad : {A : Type 0} (x : Initialiser) (a : A) → too_many s x ≡ Good a → ⊥
+    over_bad (One e) a h = by (typed s e) h
+      where
+        by : (c : Checked Expression) → one_part c (λ x. faulty (no_type (place_of e))) ≡ Good a → ⊥
+        by (Good x) h = cc
+        by (Bad f fs) h = cc
+    over_bad (Many at is) a h = cc
+
+    -- what is answered of it, whatever the list is
+    pub over_other : {A B T : Type 0} (p : T → A) (q : T → B) (x : Initialiser) (r : Result T TypeFault) → Answers p (too_many {A = A} s x) r → Answers q (too_many {A = B} s x) r
+    over_other p q (One e) r h = by (typed s e) r h
+      where
+        by : (c : Checked Expression) (r : Result _ TypeFault) → Answers p (one_part c (λ x. faulty (no_type (place_of e)))) r → Answers q (one_part c (λ x. faulty (no_type (place_of e)))) r
+        by (Good x) (Ok t) h = absurd cc
+        by (Good x) (Err (Refused f)) h = h
+        by (Good x) (Err Memory) h = tt
+        by (Bad f fs) (Ok t) h = absurd cc
+        by (Bad f fs) (Err (Refused g)) h = h
+        by (Bad f fs) (Err Memory) h = tt
+    over_other p q (Many at is) (Ok t) h = absurd cc
+    over_other p q (Many at is) (Err (Refused f)) h = h
+    over_other p q (Many at is) (Err Memory) h = tt
+
 module _ (s : Sight) (ok : Expression → Expression → Bool)
   where
     abbrev pub item : PlainType → Init → Checked Initialiser
     item u x = typed_initialiser s ok (place_of_initialiser (plain_init x)) u (plain_init x)
+
+    abbrev over : Init → Checked Initialiser
+    over x = too_many s (plain_init x)
 
     abbrev items : Slots → List Init → Checked Initialisers
     items sl xs = typed_items s ok sl (plain_inits xs)
 
     abbrev first_of_items : Init → List Init → Option (PlainType × Slots) → Checked Initialisers
     first_of_items x xs o = elim o [
-      | None ↦ faulty (no_type (place_of_initialiser (plain_init x)))
+      | None ↦ too_many s (plain_init x)
       | Some p ↦ both_parts (item p.0 x) (items p.1 xs) (λ i is. Good (Listed i is))
     ]
 
     item_first : (sl : Slots) (p : PlainType × Slots) (x : Init) (xs : List Init) → next_slot sl ≡ Some p → items sl (x ∷ xs) ≡ both_parts (item p.0 x) (items p.1 xs) (λ i is. Good (Listed i is))
     item_first sl p x xs e = ap (first_of_items x xs) e
 
-    item_none : (sl : Slots) (x : Init) (xs : List Init) → next_slot sl ≡ None → items sl (x ∷ xs) ≡ faulty (no_type (place_of_initialiser (plain_init x)))
+    item_none : (sl : Slots) (x : Init) (xs : List Init) → next_slot sl ≡ None → items sl (x ∷ xs) ≡ too_many s (plain_init x)
     item_none sl x xs e = ap (first_of_items x xs) e
 
     items_snoc : (xs : List Init) (x : Init) (sl tl tl' : Slots) (u : PlainType) → SlotsBehind xs sl tl → next_slot tl ≡ Some (u, tl')
@@ -135,13 +174,13 @@ module _ (s : Sight) (ok : Expression → Expression → Bool)
         ∙ ap (λ c. both_parts c (item u x) (λ is i. Good (snoc is i))) (sym (item_first sl b.0 y ys b.1))
 
     items_over : (xs : List Init) (x : Init) (rest : List Init) (sl tl : Slots) → SlotsBehind xs sl tl → next_slot tl ≡ None
-        → items sl (xs ++ x ∷ rest) ≡ both_parts (items sl xs) (faulty (no_type (place_of_initialiser (plain_init x)))) (λ is i. Good (snoc is i))
-    items_over [] x rest sl tl b e = item_none sl x rest (subst (λ z. next_slot z ≡ None) b e)
+        → items sl (xs ++ x ∷ rest) ≡ both_parts (items sl xs) (over x) (λ is i. Good (snoc is i))
+    items_over [] x rest sl tl b e = item_none sl x rest (subst (λ z. next_slot z ≡ None) b e) ∙ over_alone s (plain_init x)
     items_over (y ∷ ys) x rest sl tl b e =
         item_first sl b.0 y (ys ++ x ∷ rest) b.1
         ∙ ap (λ c. both_parts (item b.0.0 y) c (λ i is. Good (Listed i is))) (items_over ys x rest b.0.1 tl b.2 e)
-        ∙ snoc_in_turn (item b.0.0 y) (items b.0.1 ys) (faulty (no_type (place_of_initialiser (plain_init x))))
-        ∙ ap (λ c. both_parts c (faulty (no_type (place_of_initialiser (plain_init x)))) (λ is i. Good (snoc is i))) (sym (item_first sl b.0 y ys b.1))
+        ∙ snoc_in_turn (item b.0.0 y) (items b.0.1 ys) (over x)
+        ∙ ap (λ c. both_parts c (over x) (λ is i. Good (snoc is i))) (sym (item_first sl b.0 y ys b.1))
 
     -- one more item is typed
     pub items_step : (xs xs' ys ys' : List Init) (x y : Init) (sl tl tl' : Slots) (u : PlainType) (d r : Result (Unit {0}) TypeFault) → xs' ≡ xs ++ x ∷ [] → ys' ≡ ys ++ y ∷ []
@@ -169,20 +208,21 @@ module _ (s : Sight) (ok : Expression → Expression → Bool)
         by (Err f) (Err g) hd hr = refused (Err f) (Err g) (first_of f g) hd hr refl
 
     -- an item without an object
-    pub items_refused : (xs : List Init) (x : Init) (rest all : List Init) (ys : Initialisers) (new : Initialisers) (i : Initialiser) (sl tl : Slots) (d r : Result (Unit {0}) TypeFault) (g : TypeFault) → all ≡ xs ++ x ∷ rest
+    pub items_refused : (xs : List Init) (x : Init) (rest all : List Init) (ys : Initialisers) (new : Initialisers) (i : Initialiser) (sl tl : Slots) (d r b : Result (Unit {0}) TypeFault) → all ≡ xs ++ x ∷ rest
         → SlotsBehind xs sl tl → next_slot tl ≡ None
-        → Answers (λ (v : Unit {0}). ys) (items sl xs) d → Answers (λ (v : Unit {0}). i) (faulty (no_type (place_of_initialiser (plain_init x)))) (Err g)
-        → r ≡ both d (Err g) → Answers (λ (v : Unit {0}). new) (items sl all) r
-    items_refused xs x rest all ys new i sl tl d r g ea b e hd hg j =
+        → Answers (λ (v : Unit {0}). ys) (items sl xs) d → Answers (λ (v : Unit {0}). i) (over x) b
+        → r ≡ both d b → Answers (λ (v : Unit {0}). new) (items sl all) r
+    items_refused xs x rest all ys new i sl tl d r (Ok v) ea b e hd hg j = absurd (over_bad s (plain_init x) i hg)
+    items_refused xs x rest all ys new i sl tl d r (Err g) ea b e hd hg j =
         subst (λ q. Answers (λ (v : Unit {0}). new) (items sl all) q) (sym j)
         (subst (λ zs. Answers (λ (v : Unit {0}). new) (items sl zs) (both d (Err g))) (sym ea)
         (subst (λ c. Answers (λ (v : Unit {0}). new) c (both d (Err g))) (sym (items_over xs x rest sl tl b e)) (by d hd)))
       where
         refused : (d : Result (Unit {0}) TypeFault) (h : TypeFault) → Answers (λ (v : Unit {0}). ys) (items sl xs) d → both d (Err g) ≡ Err h
-            → Answers (λ (v : Unit {0}). new) (both_parts (items sl xs) (faulty (no_type (place_of_initialiser (plain_init x)))) (λ is i. Good (snoc is i))) (Err h)
-        refused d h hd j = both_refused (λ is i. Good (snoc is i)) (λ v. ys) (λ v. i) (λ (v : Unit {0}). new) (items sl xs) (faulty (no_type (place_of_initialiser (plain_init x)))) d (Err g) h hd hg j
+            → Answers (λ (v : Unit {0}). new) (both_parts (items sl xs) (over x) (λ is i. Good (snoc is i))) (Err h)
+        refused d h hd j = both_refused (λ is i. Good (snoc is i)) (λ v. ys) (λ v. i) (λ (v : Unit {0}). new) (items sl xs) (over x) d (Err g) h hd hg j
 
         by : (d : Result (Unit {0}) TypeFault) → Answers (λ (v : Unit {0}). ys) (items sl xs) d
-            → Answers (λ (v : Unit {0}). new) (both_parts (items sl xs) (faulty (no_type (place_of_initialiser (plain_init x)))) (λ is i. Good (snoc is i))) (both d (Err g))
+            → Answers (λ (v : Unit {0}). new) (both_parts (items sl xs) (over x) (λ is i. Good (snoc is i))) (both d (Err g))
         by (Ok v) hd = refused (Ok v) g hd refl
         by (Err f) hd = refused (Err f) (first_of f g) hd refl

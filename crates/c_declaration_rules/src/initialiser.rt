@@ -1,6 +1,6 @@
 //! Initialisers (C99 6.7.8).
 
-ghost use Rattle.std.specs.Prelude.{◌≡◌, IfOk, drop, map, option_map, true};
+ghost use Rattle.std.specs.Prelude.{◌≡◌, IfOk, drop, get_or, length, map, option_map, true};
 ghost use Rattle.c_syntax.specs.Ctypes.{plain_type};
 ghost use Rattle.c_syntax.specs.Expressions.{Expression, place_of, plain_expr};
 ghost use Rattle.c_syntax.specs.Programs.{plain_member};
@@ -9,7 +9,7 @@ ghost use Rattle.c_model.specs.Checked.{one_part};
 ghost use Rattle.c_model.specs.ExpressionTyping.{typed};
 ghost use Rattle.c_model.specs.Meaning.{string_in};
 ghost use Rattle.c_model.specs.DeclarationTyping.{bytes_of_text, initial_value, is_text, is_text_array, no_more, place_of_initialiser};
-ghost use Rattle.c_model.specs.DeclarationTyping.{slots_of, takes_text, typed_alone, typed_initialiser, typed_items, typed_maybe_initialiser};
+ghost use Rattle.c_model.specs.DeclarationTyping.{slots_of, takes_text, too_many, typed_alone, typed_initialiser, typed_items, typed_maybe_initialiser};
 ghost use Rattle.c_expression_rules.specs.Answers.{Answers};
 ghost use Rattle.c_expression_rules.specs.Constants.{has_small_sizes};
 ghost use Rattle.c_expression_rules.specs.Sights.{plain_sight};
@@ -173,14 +173,30 @@ fn type_one(
     put_value(alloc, sight, global, text, here, t, e)
 }
 
-/// No item stands after the one of a scalar.
-fn no_more(items: &[Init]) -> Result<(), TypeFault>
-    ensures { Answers (λ _. plain_inits (drop 1 items.now)) (no_more (plain_inits (drop 1 items.now))) result }
+/// An item for which there is no object, once its expression has no fault of its own.
+fn too_many(alloc: Global, sight: &Sight, item: &mut Init) -> Result<(), TypeFault>
+    ensures { (is : Initialisers) → Answers (λ _. is) (too_many (plain_sight sight.now) (plain_init item.old)) result }
 {
-    match items {
-        [_, second, ..] => Err(no_type(place_of(second))),
-        _ => Ok(()),
+    match item {
+        Init::One(e) => {
+            let place = e.place;
+            type_expr(alloc, sight, e)?;
+            Err(no_type(place))
+        }
+        Init::Many(place, _) => Err(no_type(*place)),
     }
+}
+
+/// No item stands after the one of a scalar.
+fn no_more(alloc: Global, sight: &Sight, items: &mut Vec<Init>) -> Result<(), TypeFault>
+    ensures typed { Answers (λ _. plain_inits (drop 1 items.new.items)) (no_more (plain_sight sight.now) (plain_inits (drop 1 items.old.items))) result }
+    ensures count { length items.new.items ≡ length items.old.items }
+    ensures first { (x : Init) → get_or items.new.items 0 x ≡ get_or items.old.items 0 x }
+{
+    if items.len() < 2 {
+        return Ok(());
+    }
+    too_many(alloc, sight, &mut items[1])
 }
 
 /// Types the first item in braces around a scalar, which has no braces of its own (C99 6.7.8 p11).
@@ -192,7 +208,7 @@ fn type_first(
     more: Result<(), TypeFault>,
     first: &mut Init,
 ) -> Result<(), TypeFault>
-    ensures { (is : Initialisers) → Answers (λ _. is) (no_more is) more → Answers (λ _. Listed (plain_init first.new) is)
+    ensures { (is js : Initialisers) → Answers (λ _. js) (no_more (plain_sight sight.now) is) more → Answers (λ _. Listed (plain_init first.new) js)
         (typed_alone (plain_sight sight.now) (allowed (plain_sight sight.now) global) (plain_type t.now)
         (Listed (plain_init first.old) is)) result }
 {
@@ -220,7 +236,7 @@ fn type_alone(
     if items.is_empty() {
         return Ok(());
     }
-    let more = no_more(items.as_slice());
+    let more = no_more(alloc, sight, items);
     type_first(alloc, sight, global, t, more, &mut items[0])
 }
 
@@ -296,7 +312,7 @@ fn type_items(
     let mut done = Ok(());
     for i in 0..items.len() {
         match slot(sight, t, i) {
-            None => return both(done, Err(no_type(place_of(&items[i])))),
+            None => return both(done, too_many(alloc, sight, &mut items[i])),
             Some(u) => {
                 let place = place_of(&items[i]);
                 let item = type_initialiser(alloc, &mut items[i], sight, global, place, u);

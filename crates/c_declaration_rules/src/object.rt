@@ -1,9 +1,10 @@
 //! The types of objects, parameters and results (C99 6.7 p7, 6.7.5.3, 6.7.8 p14, p22, 6.9.1 p3).
 
 ghost use Rattle.std.specs.Prelude.{◌≡◌, IfErr, IfOk, OnOk, length, option_map, true};
-ghost use Rattle.c_syntax.specs.Ctypes.{Array, Ptr, plain_length, plain_type};
+ghost use Rattle.c_syntax.specs.Ctypes.{Array, PlainType, Ptr, plain_length, plain_type};
 ghost use Rattle.c_syntax.specs.Expressions.{plain_expr};
 ghost use Rattle.c_syntax.specs.Statements.{plain_init, plain_inits};
+ghost use Rattle.c_model.specs.ExpressionTyping.{typed_type};
 ghost use Rattle.c_model.specs.Library.{is_there};
 ghost use Rattle.c_model.specs.DeclarationTyping.{completed, elements_of_parameter, items_in, length_by, scalar_type, text_read};
 ghost use Rattle.c_model.specs.DeclarationTyping.{typed_outer, typed_parameter_type, typed_result};
@@ -243,19 +244,22 @@ fn check_result(sight: &Sight, defined: bool, place: Place, t: &CType) -> Result
     }
 }
 
-/// Types what a function gives, at the place of its name.
-pub fn type_result(
-    alloc: Global,
+/// What a function gives, at the place of its name: a type that is written without a fault, or with one.
+pub fn result_of(
     sight: &Sight,
     defined: bool,
     place: Place,
-    t: &mut CType,
+    written: &Result<(), TypeFault>,
+    t: &CType,
 ) -> Result<(), TypeFault>
-    ensures { Answers (λ _. plain_type t.new) (typed_result (plain_sight sight.now) defined place (plain_type t.old)) result }
+    ensures { (u : PlainType) → Answers (λ _. plain_type t.now) (typed_type (plain_sight sight.now) place u) written.now
+        → Answers (λ _. plain_type t.now) (typed_result (plain_sight sight.now) defined place u) result }
 {
-    type_written(alloc, sight, place, t)?;
-    both(
-        check_result(sight, defined, place, t),
-        within_limits(sight, place, t),
-    )
+    match written {
+        Err(f) => Err(*f),
+        Ok(()) => both(
+            check_result(sight, defined, place, t),
+            within_limits(sight, place, t),
+        ),
+    }
 }

@@ -8,7 +8,7 @@ use Rattle.c_syntax.specs.Expressions.{Expression, Node, Index, type_of}
 use Rattle.c_model.specs.Integers.{integer_type}
 use Rattle.c_model.specs.Library.{is_there}
 use Rattle.c_model.specs.Checked.{Checked, Good, faulty, given, one_part, where_so}
-use Rattle.c_model.specs.ExpressionTyping.{Sight, Sized, HasSize, HasNoSize, NotYet, compounded, index, is_place, is_step, is_void, no_name, no_type, pointed, sized, where_elements, where_sized}
+use Rattle.c_model.specs.ExpressionTyping.{Sight, Sized, HasSize, HasNoSize, NotYet, element, operated_in_place, is_place, is_step, is_void, no_name, no_type, pointed, sized, where_elements, where_sized}
 use Rattle.c_expression_rules.specs.declared.fault.TypeFault.{TypeFault}
 use Rattle.c_expression_rules.specs.Answers.{Answers}
 use Rattle.c_expression_rules.proofs.Least.{one_refused}
@@ -33,8 +33,8 @@ module _ {A : Type 0} (s : Sight) (at : Place) (t : PlainType) (c : Checked A)
 
 module _ (s : Sight) (at : Place) (op : BinOp) (a b whole : Expression)
   where
-    pub compounded_by : compounded s at op a b whole ≡ one_part (compoundable s at op a (is_there (integer_type (type_of b)))) (λ u. Good whole)
-    compounded_by = by (integer_type (type_of a)) (pointed (type_of a)) (is_place a && is_there (integer_type (type_of b)))
+    pub operated_by : operated_in_place s at op a b whole ≡ one_part (compoundable s at op a (is_there (integer_type (type_of b)))) (λ u. Good whole)
+    operated_by = by (integer_type (type_of a)) (pointed (type_of a)) (is_place a && is_there (integer_type (type_of b)))
       where
         steps : (t : PlainType) (p : Bool) → where_so p (no_type at) (where_elements s at t (Good whole)) ≡ one_part (where_so p (no_type at) (elements s at t)) (λ u. Good whole)
         steps t true = elements_then s at t (Good whole)
@@ -48,20 +48,20 @@ module _ (s : Sight) (at : Place) (op : BinOp) (a b whole : Expression)
         by None None p = refl
         by None (Some t) p = steps t (p && is_step op true)
 
-    pub compounded_good : compoundable s at op a (is_there (integer_type (type_of b))) ≡ Good tt → compounded s at op a b whole ≡ Good whole
-    compounded_good e = compounded_by ∙ ap (λ c. one_part c (λ (u : Unit {0}). Good whole)) e
+    pub operated_good : compoundable s at op a (is_there (integer_type (type_of b))) ≡ Good tt → operated_in_place s at op a b whole ≡ Good whole
+    operated_good e = operated_by ∙ ap (λ c. one_part c (λ (u : Unit {0}). Good whole)) e
 
-    pub compounded_bad : {T : Type 0} (p : T → Expression) (f : TypeFault) → Answers (λ (u : Unit {0}). u) (compoundable s at op a (is_there (integer_type (type_of b)))) (Err f) → Answers p (compounded s at op a b whole) (Err f)
-    compounded_bad {T = T} p f h = let r : Result T TypeFault = Err f in
-        subst (λ c. Answers p c r) (sym compounded_by) (one_refused (λ (u : Unit {0}). Good whole) (λ (u : Unit {0}). u) p (compoundable s at op a (is_there (integer_type (type_of b)))) f h)
+    pub operated_bad : {T : Type 0} (p : T → Expression) (f : TypeFault) → Answers (λ (u : Unit {0}). u) (compoundable s at op a (is_there (integer_type (type_of b)))) (Err f) → Answers p (operated_in_place s at op a b whole) (Err f)
+    operated_bad {T = T} p f h = let r : Result T TypeFault = Err f in
+        subst (λ c. Answers p c r) (sym operated_by) (one_refused (λ (u : Unit {0}). Good whole) (λ (u : Unit {0}). u) p (compoundable s at op a (is_there (integer_type (type_of b)))) f h)
 
 module _ (s : Sight) (at : Place) (a b : Expression)
   where
     abbrev whole : PlainType → Expression
     whole t = Node at t (Index a b)
 
-    pub index_by : index s at a b ≡ one_part (indexed_type s at (type_of a) (type_of b)) (λ t. Good (whole t))
-    index_by = by (pointed (type_of a)) (pointed (type_of b)) (is_there (integer_type (type_of a))) (is_there (integer_type (type_of b)))
+    pub element_by : element s at a b ≡ one_part (indexed_type s at (type_of a) (type_of b)) (λ t. Good (whole t))
+    element_by = by (pointed (type_of a)) (pointed (type_of b)) (is_there (integer_type (type_of a))) (is_there (integer_type (type_of b)))
       where
         one : (t : PlainType) → where_elements s at t (Good (whole t)) ≡ one_part (element_type s at t) (λ t. Good (whole t))
         one t = sides (is_void t) (sized s.structs t)

@@ -106,7 +106,8 @@ module _ (s : Sight) (at : Place)
             (gives_where (IsSmall s) (is_relation op && same_type t u) (no_type at) (Good (Node at int_type (Binary op a b))) (λ e. pair_small a b ha hb)))
 
         binary_small : Gives (IsSmall s) (plain.binary s at op a b)
-        binary_small = by (integer_type (type_of a)) (integer_type (type_of b)) (plain.pointed (type_of a)) (plain.pointed (type_of b))
+        binary_small = gives_where (IsSmall s) (plain.knows_elements s op (type_of a) (type_of b)) (no_name at) (plain.operated s at op a b)
+            (λ z. by (integer_type (type_of a)) (integer_type (type_of b)) (plain.pointed (type_of a)) (plain.pointed (type_of b)))
           where
             by : (o q : Option CInt) (p r : Option PlainType) → Gives (IsSmall s) (elim o [
               | Some k ↦ elim q [ Some l ↦ Good (plain.on_integers at op k l a b) | None ↦ given r (no_type at) (λ t. plain.on_integer_and_pointer s at op t a b) ]
@@ -134,7 +135,8 @@ module _ (s : Sight) (at : Place)
         (and_both (has_small_sizes s.structs (in_type t b)) (has_small_sizes s.structs (in_type t c)) (in_type_small s t b hb) (in_type_small s t c hc))))
 
     compounded_small : (op : BinOp) (a b whole : Expression) → IsSmall s whole → Gives (IsSmall s) (plain.compounded s at op a b whole)
-    compounded_small op a b whole h = by (integer_type (type_of a)) (plain.pointed (type_of a)) (plain.is_place a && is_there (integer_type (type_of b)))
+    compounded_small op a b whole h = gives_where (IsSmall s) (plain.knows_elements s op (type_of a) (type_of b)) (no_name at) (plain.operated_in_place s at op a b whole)
+        (λ z. by (integer_type (type_of a)) (plain.pointed (type_of a)) (plain.is_place a && is_there (integer_type (type_of b))))
       where
         by : (o : Option CInt) (q : Option PlainType) (p : Bool) → Gives (IsSmall s) (elim o [
           | Some k ↦ where_so p (no_type at) (Good whole)
@@ -146,13 +148,14 @@ module _ (s : Sight) (at : Place)
 
     assign_small : (op : Option BinOp) (a b : Expression) → Gives (IsSmall s) (plain.assign s at op a b)
     assign_small None a b = gives_if (IsSmall s) (plain.is_struct (type_of a)) (plain.assigned_struct s at a b) (plain.assigned_scalar s at a b)
-        (gives_where (IsSmall s) (plain.is_place a && same_type (type_of b) (type_of a)) (no_type at) (where_sized s at (type_of a) (Good (Node at (type_of a) (Assign None a b))))
-        (λ e. gives_sized (IsSmall s) s at (type_of a) (Good (Node at (type_of a) (Assign None a b))) refl))
+        (gives_sized (IsSmall s) s at (type_of a) (where_so (plain.is_place a && same_type (type_of b) (type_of a)) (no_type at) (Good (Node at (type_of a) (Assign None a b))))
+        (gives_where (IsSmall s) (plain.is_place a && same_type (type_of b) (type_of a)) (no_type at) (Good (Node at (type_of a) (Assign None a b))) (λ e. refl)))
         (gives_where (IsSmall s) (plain.is_place a && plain.is_scalar (type_of a) && plain.is_assigned s b (type_of a)) (no_type at) (Good (Node at (type_of a) (Assign None a (in_type (type_of a) b)))) (λ e. refl))
     assign_small (Some op) a b = compounded_small op a b (Node at (type_of a) (Assign (Some op) a b)) refl
 
     index_small : (a b : Expression) → Gives (IsSmall s) (plain.index s at a b)
-    index_small a b = by (plain.pointed (type_of a)) (plain.pointed (type_of b)) (is_there (integer_type (type_of a))) (is_there (integer_type (type_of b)))
+    index_small a b = gives_where (IsSmall s) (plain.knows_elements s operator.Add (type_of a) (type_of b)) (no_name at) (plain.element s at a b)
+        (λ z. by (plain.pointed (type_of a)) (plain.pointed (type_of b)) (is_there (integer_type (type_of a))) (is_there (integer_type (type_of b))))
       where
         one : (t : PlainType) (x : Bool) → Gives (IsSmall s) (where_so x (no_type at) (plain.where_elements s at t (Good (Node at t (Index a b)))))
         one t x = gives_where (IsSmall s) x (no_type at) (plain.where_elements s at t (Good (Node at t (Index a b)))) (λ e. gives_elements (IsSmall s) s at t (Good (Node at t (Index a b))) refl)

@@ -121,8 +121,8 @@ fn assigned_struct(
     ensures { Answers (λ t. Node place (plain_type t) (Assign None (plain_expr a.now) (plain_expr b.now)))
         (assigned_struct (plain_sight sight.now) place (plain_expr a.now) (plain_expr b.now)) result }
 {
+    has_size(sight, place, &a.ctype)?;
     if is_place(a) && same_type(&b.ctype, &a.ctype) {
-        has_size(sight, place, &a.ctype)?;
         let ctype = copy_type(alloc, &a.ctype)?;
         Ok(ctype)
     } else {

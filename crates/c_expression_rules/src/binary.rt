@@ -5,7 +5,7 @@ ghost use Rattle.c_syntax.specs.Ctypes.{plain_type};
 ghost use Rattle.c_syntax.specs.Expressions.{Binary, Choice, Node, plain_expr, type_of};
 ghost use Rattle.c_model.specs.Checked.{given};
 ghost use Rattle.c_model.specs.ExpressionTyping.{binary, choice_of, choice_type, no_type, on_integer_and_pointer, on_pointer_and_integer};
-ghost use Rattle.c_model.specs.ExpressionTyping.{on_pointers, pointed, pointer_choice};
+ghost use Rattle.c_model.specs.ExpressionTyping.{on_pointers, operated, pointed, pointer_choice};
 ghost use Rattle.c_expression_rules.specs.Answers.{Answers};
 ghost use Rattle.c_expression_rules.specs.Constants.{has_small_sizes};
 ghost use Rattle.c_expression_rules.specs.Sights.{plain_sight};
@@ -15,8 +15,8 @@ use crate::conversion::{
     are_compatible, common, integer_type, is_equality, is_pointer, is_scalar, is_step, is_void,
     pointed, points_to_void,
 };
-use crate::fault::{TypeFault, no_type};
-use crate::operator::{elements, in_type, on_integers, on_pointers};
+use crate::fault::{TypeFault, no_name, no_type};
+use crate::operator::{elements, in_type, knows_elements, on_integers, on_pointers};
 use crate::sight::Sight;
 use c_syntax::copy::copy_type;
 use c_syntax::{BinOp, CInt, CType, Expr, Place};
@@ -105,7 +105,33 @@ fn without_integers(
     }
 }
 
-/// Binary operators (C99 6.5.5 to 6.5.12).
+/// Two values of types that fit the operator.
+fn operated(
+    alloc: Global,
+    sight: &Sight,
+    place: Place,
+    op: BinOp,
+    a: &mut Expr,
+    b: &mut Expr,
+) -> Result<CType, TypeFault>
+    requires left { has_small_sizes (plain_sight sight.now).structs (plain_expr a.old) ≡ true }
+    requires right { has_small_sizes (plain_sight sight.now).structs (plain_expr b.old) ≡ true }
+    ensures { Answers (λ t. Node place (plain_type t) (Binary op (plain_expr a.new) (plain_expr b.new)))
+        (operated (plain_sight sight.now) place op (plain_expr a.old) (plain_expr b.old)) result }
+{
+    match integer_type(&a.ctype) {
+        Some(k) => match integer_type(&b.ctype) {
+            Some(l) => on_integers(alloc, place, op, k, l, a, b),
+            None => on_integer_and_pointer(alloc, sight, place, op, a, b),
+        },
+        None => match integer_type(&b.ctype) {
+            Some(_) => on_pointer_and_integer(alloc, sight, place, op, a, b),
+            None => without_integers(sight, place, op, a, b),
+        },
+    }
+}
+
+/// Binary operators (C99 6.5.5 to 6.5.12). A struct whose members aren't known yet is told before the other demands.
 pub fn binary(
     alloc: Global,
     sight: &Sight,
@@ -119,16 +145,10 @@ pub fn binary(
     ensures { Answers (λ t. Node place (plain_type t) (Binary op (plain_expr a.new) (plain_expr b.new)))
         (binary (plain_sight sight.now) place op (plain_expr a.old) (plain_expr b.old)) result }
 {
-    match integer_type(&a.ctype) {
-        Some(k) => match integer_type(&b.ctype) {
-            Some(l) => on_integers(alloc, place, op, k, l, a, b),
-            None => on_integer_and_pointer(alloc, sight, place, op, a, b),
-        },
-        None => match integer_type(&b.ctype) {
-            Some(_) => on_pointer_and_integer(alloc, sight, place, op, a, b),
-            None => without_integers(sight, place, op, a, b),
-        },
+    if !knows_elements(sight, op, &a.ctype, &b.ctype) {
+        return Err(no_name(place));
     }
+    operated(alloc, sight, place, op, a, b)
 }
 
 /// The type of a choice between two pointers, of which one may be the null constant or point to void (C99 6.5.15 p6).

@@ -8,10 +8,10 @@ ghost use Rattle.c_syntax.specs.Expressions.{Node, SizeOfExpr, SizeOfType, Unary
 ghost use Rattle.c_syntax.specs.declared.expression.UnOp.TheVariants as unary;
 ghost use Rattle.c_model.specs.Checked.{Good};
 ghost use Rattle.c_model.specs.Conversions.{common, is_shift, promoted};
-ghost use Rattle.c_model.specs.ExpressionTyping.{assign, both_of, bump, decayed, either_of, in_int, in_type, is_place};
-ghost use Rattle.c_model.specs.ExpressionTyping.{index, on_integers, on_pointers, size_of_expression, size_of_type, unary_on};
+ghost use Rattle.c_model.specs.ExpressionTyping.{assign, both_of, bump, decayed, either_of, element, in_int, in_type, is_place};
+ghost use Rattle.c_model.specs.ExpressionTyping.{index, knows_elements, on_integers, on_pointers, points_to_unknown, size_of_expression, size_of_type, unary_on};
 ghost use Rattle.c_expression_rules.specs.Answers.{Answers, IsRefusal};
-ghost use Rattle.c_expression_rules.specs.Operators.{compoundable, element_of, element_type, elements, has_size, indexed_type, literal_of};
+ghost use Rattle.c_expression_rules.specs.Operators.{assigned_with, bumped, compoundable, element_of, element_type, elements, has_size, indexed_type, literal_of};
 ghost use Rattle.c_expression_rules.specs.Sights.{plain_sight};
 
 use crate::conversion::{
@@ -145,6 +145,23 @@ pub fn elements(sight: &Sight, place: Place, t: &CType) -> Result<(), TypeFault>
     }
 }
 
+/// Whether a type points to a struct whose members aren't known yet.
+fn points_to_unknown(sight: &Sight, t: &CType) -> bool
+    ensures { result ≡ points_to_unknown (plain_sight sight.now) (plain_type t.now) }
+{
+    match t {
+        CType::Ptr(t) => sized(&sight.structs, t) == KnownSize::NotYet,
+        _ => false,
+    }
+}
+
+/// Whether an operator knows the sizes that it needs of what its operands point to (C99 6.5.6 p2, p3).
+pub fn knows_elements(sight: &Sight, op: BinOp, t: &CType, u: &CType) -> bool
+    ensures { result ≡ knows_elements (plain_sight sight.now) op (plain_type t.now) (plain_type u.now) }
+{
+    !(is_step(op, true) && (points_to_unknown(sight, t) || points_to_unknown(sight, u)))
+}
+
 /// `a && b` and `a || b` (C99 6.5.13, 6.5.14).
 pub fn truth_of(place: Place, a: &Expr, b: &Expr) -> Result<CType, TypeFault>
     ensures both { Answers (λ t. Node place (plain_type t) (Both (plain_expr a.now) (plain_expr b.now)))
@@ -250,6 +267,23 @@ fn compoundable(
     }
 }
 
+/// `a op= b` of types that fit the operator.
+fn assigned_with(
+    alloc: Global,
+    sight: &Sight,
+    place: Place,
+    op: BinOp,
+    a: &Expr,
+    b: &Expr,
+) -> Result<CType, TypeFault>
+    ensures { Answers (λ t. Node place (plain_type t) (Assign (Some op) (plain_expr a.now) (plain_expr b.now)))
+        (assigned_with (plain_sight sight.now) place op (plain_expr a.now) (plain_expr b.now)) result }
+{
+    compoundable(sight, place, op, a, integer_type(&b.ctype).is_some())?;
+    let ctype = copy_type(alloc, &a.ctype)?;
+    Ok(ctype)
+}
+
 /// `a op= b` (C99 6.5.16.2).
 pub fn compounded(
     alloc: Global,
@@ -262,7 +296,23 @@ pub fn compounded(
     ensures { Answers (λ t. Node place (plain_type t) (Assign (Some op) (plain_expr a.now) (plain_expr b.now)))
         (assign (plain_sight sight.now) place (Some op) (plain_expr a.now) (plain_expr b.now)) result }
 {
-    compoundable(sight, place, op, a, integer_type(&b.ctype).is_some())?;
+    if !knows_elements(sight, op, &a.ctype, &b.ctype) {
+        return Err(no_name(place));
+    }
+    assigned_with(alloc, sight, place, op, a, b)
+}
+
+/// `++` and `--` of a type that fits.
+fn bumped(
+    alloc: Global,
+    sight: &Sight,
+    place: Place,
+    _op: BumpOp,
+    a: &Expr,
+) -> Result<CType, TypeFault>
+    ensures { Answers (λ t. Node place (plain_type t) (Bump _op (plain_expr a.now))) (bumped (plain_sight sight.now) place _op (plain_expr a.now)) result }
+{
+    compoundable(sight, place, BinOp::Add, a, true)?;
     let ctype = copy_type(alloc, &a.ctype)?;
     Ok(ctype)
 }
@@ -272,14 +322,16 @@ pub fn bump(
     alloc: Global,
     sight: &Sight,
     place: Place,
-    _op: BumpOp,
+    op: BumpOp,
     a: &Expr,
 ) -> Result<CType, TypeFault>
-    ensures { Answers (λ t. Node place (plain_type t) (Bump _op (plain_expr a.now))) (bump (plain_sight sight.now) place _op (plain_expr a.now)) result }
+    ensures { Answers (λ t. Node place (plain_type t) (Bump op (plain_expr a.now))) (bump (plain_sight sight.now) place op (plain_expr a.now)) result }
 {
-    compoundable(sight, place, BinOp::Add, a, true)?;
-    let ctype = copy_type(alloc, &a.ctype)?;
-    Ok(ctype)
+    let one = CType::Int(CInt::I32);
+    if !knows_elements(sight, BinOp::Add, &a.ctype, &one) {
+        return Err(no_name(place));
+    }
+    bumped(alloc, sight, place, op, a)
 }
 
 /// Prefix operators (C99 6.5.3.2, 6.5.3.3).
@@ -405,6 +457,20 @@ fn indexed_type(
     }
 }
 
+/// `a[b]` of types that fit.
+fn element(
+    alloc: Global,
+    sight: &Sight,
+    place: Place,
+    a: &Expr,
+    b: &Expr,
+) -> Result<CType, TypeFault>
+    ensures { Answers (λ t. Node place (plain_type t) (Index (plain_expr a.now) (plain_expr b.now)))
+        (element (plain_sight sight.now) place (plain_expr a.now) (plain_expr b.now)) result }
+{
+    indexed_type(alloc, sight, place, &a.ctype, &b.ctype)
+}
+
 /// `a[b]` (C99 6.5.2.1).
 pub fn index(
     alloc: Global,
@@ -416,5 +482,8 @@ pub fn index(
     ensures { Answers (λ t. Node place (plain_type t) (Index (plain_expr a.now) (plain_expr b.now)))
         (index (plain_sight sight.now) place (plain_expr a.now) (plain_expr b.now)) result }
 {
-    indexed_type(alloc, sight, place, &a.ctype, &b.ctype)
+    if !knows_elements(sight, BinOp::Add, &a.ctype, &b.ctype) {
+        return Err(no_name(place));
+    }
+    element(alloc, sight, place, a, b)
 }

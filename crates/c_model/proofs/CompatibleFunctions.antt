@@ -6,13 +6,15 @@ use Rattle.c_syntax.specs.Statements.{Statement, Block}
 use Rattle.c_syntax.specs.Programs.{StructMember, StructType, EnumConstant, EnumType, Function, TranslationUnit}
 use Rattle.c_model.specs.Meaning.{is_definition}
 use Rattle.c_model.specs.Library.{is_there}
-use Rattle.c_model.specs.Checked.{Good, one_part, where_so}
-use Rattle.c_model.specs.ExpressionTyping.{no_name, Sight, with_object, inner}
-use Rattle.c_model.specs.DeclarationTyping.{typed_global, typed_typedef, typed_member, typed_enumerators}
+use Rattle.c_model.specs.Checked.{Checked, Good, Bad, one_part, where_so}
+use Rattle.c_syntax.specs.declared.place.Place.{Place}
+use Rattle.c_model.specs.ExpressionTyping.{no_name, too_large, Sight, with_object, inner, is_void, is_struct, is_scalar, is_unknown, sized, is_within_limits, limited, typed_type}
+use Rattle.c_model.specs.DeclarationTyping.{scalar_type, typed_result, typed_global, typed_typedef, typed_member, typed_enumerators}
 use Rattle.c_model.specs.StatementTyping.{typed_items}
 use Rattle.c_model.specs.UnitTyping.{FileItem, StructHead, Member, AnEnum, ATypedef, AGlobal, AFunction, items_of_file, with_type, with_tag, with_function, with_parameters, same_signature, is_compatible, is_compatible_with_all}
-use Rattle.c_model.specs.UnitTyping.{function_name, typed_type_of_function, typed_heading, typed_body, typed_function, Progress, new_tag, typed_enum, typed_item_of_file, typed_items_of_file, at_start, with_progress, typed_unit}
-use Rattle.c_model.proofs.TypedParts.{Gives, gives_of, gives_one, gives_both, gives_where}
+use Rattle.c_model.specs.UnitTyping.{function_name, typed_parameters, fitting_type, typed_type_of_function, typed_heading, typed_body, typed_function, Progress, new_tag, typed_enum, typed_item_of_file, typed_items_of_file, at_start, with_progress, typed_unit}
+use Rattle.c_model.proofs.TypedParts.{Gives, gives_of, gives_one, gives_both, gives_where, gives_self}
+use Rattle.c_model.proofs.TypedSoundness.{gives_besides}
 use Rattle.c_model.proofs.TypedDeclarations.{anything}
 
 -- functions of which each fits those before it
@@ -42,10 +44,39 @@ body_there s t (Some _) = refl
 abbrev Fits : List Function → Function → Type 0
 Fits before g = is_compatible_with_all before g ≡ true
 
+-- a result is of the type as it is written
+limited_same : (s : Sight) (at : Place) (c : Checked PlainType) (k : PlainType → Checked PlainType) → ((t : PlainType) → Gives (λ u. u ≡ t) (k t)) → Gives (λ u. c ≡ Good u) (limited s at c (one_part c k))
+limited_same s at (Good t) k h = gives_besides (λ u. Good t ≡ Good u) (is_within_limits s t) (too_large at) (k t) (λ w. by (k t) (h t))
+  where
+    by : (c : Checked PlainType) → Gives (λ u. u ≡ t) c → Gives (λ u. Good t ≡ Good u) c
+    by (Good u) e = ap Good (sym e)
+    by (Bad f fs) e = tt
+limited_same s at (Bad f fs) k h = tt
+
+result_same : (s : Sight) (defined : Bool) (at : Place) (t : PlainType) → Gives (λ u. typed_type s at t ≡ Good u) (typed_result s defined at t)
+result_same s defined at t = limited_same s at (typed_type s at t) (λ u. cond (is_void u) (Good u) (scalar_type s defined at u)) (λ u. by u (is_void u))
+  where
+    by : (u : PlainType) (b : Bool) → Gives (λ v. v ≡ u) (cond b (Good u) (scalar_type s defined at u))
+    by u true = refl
+    by u false = gives_where (λ v. v ≡ u) (not (defined && is_struct u && is_unknown (sized s.structs u))) _ _ (λ k. gives_where (λ v. v ≡ u) (is_scalar u) _ _ (λ e. refl))
+
 heading_fits : (s : Sight) (before : List Function) (f : Function) → Gives (Fits before) (typed_heading s before f)
 heading_fits s before f =
-    gives_both (λ n. Unit {0}) (λ g. Unit {0}) (Fits before) (function_name s f) (typed_type_of_function s f) (λ n g. where_so (is_compatible_with_all before g) (no_name g.place) (Good g)) (anything _) (anything _)
-    (λ n g u v. gives_where (Fits before) (is_compatible_with_all before g) (no_name g.place) (Good g) (λ e. e))
+    let W = typed_type s f.place f.result in
+    gives_both (λ n. Unit {0}) (Fits before) (Fits before) (function_name s f) (typed_type_of_function s before f) (λ n g. Good g) (anything (function_name s f))
+    (gives_both (λ t. W ≡ Good t) Fitted (Fits before) (typed_result s (is_definition f) f.place f.result) (fitting_type s before f) (λ t g. Good (record g { result = t }))
+    (result_same s (is_definition f) f.place f.result)
+    (gives_both (λ t. Unit {0} × (W ≡ Good t)) (λ ds. Unit {0}) Fitted W (typed_parameters (inner s) (is_definition f) f.params)
+    (λ t ds. let g = record f { result = t; params = ds } in where_so (is_compatible_with_all before g) (no_name f.place) (Good g)) (gives_self (λ t. Unit {0}) W (anything W))
+    (anything (typed_parameters (inner s) (is_definition f) f.params))
+    (λ t ds e u. gives_where Fitted (is_compatible_with_all before (record f { result = t; params = ds })) (no_name f.place) (Good (record f { result = t; params = ds })) (λ h. (e.1, h))))
+    (λ t g e h. let same : g.result ≡ t = good_is (sym h.0 ∙ e) in subst (λ r. is_compatible_with_all before (record g { result = r }) ≡ true) same h.1)) (λ n g u h. h)
+  where
+    Fitted : Function → Type 0
+    Fitted g = (typed_type s f.place f.result ≡ Good g.result) × Fits before g
+
+    good_is : {t u : PlainType} → ◌≡◌ {A = Checked PlainType} (Good t) (Good u) → t ≡ u
+    good_is j = cc
 
 function_fits : (p : TranslationUnit) (s : Sight) (before : List Function) (f : Function) → Gives (Fits before) (typed_function p s before f)
 function_fits p s before f =

@@ -8,9 +8,9 @@ use Rattle.c_syntax.specs.Layouts.{size_of, size_of_struct}
 use Rattle.c_model.specs.Library.{is_there}
 use Rattle.c_model.specs.Checked.{Checked, Good, Bad, faulty, one_part, both_parts}
 use Rattle.c_syntax.specs.Expressions.{place_of}
-use Rattle.c_model.specs.ExpressionTyping.{no_name, no_type, too_large, Sight, TypeName, type_named, tagged, is_among, is_void, is_scalar, is_struct, Sized, HasSize, HasNoSize, NotYet, sized, most_bytes, most_levels}
+use Rattle.c_model.specs.ExpressionTyping.{is_unknown, no_name, no_type, too_large, Sight, TypeName, type_named, tagged, is_among, is_void, is_scalar, is_struct, Sized, HasSize, HasNoSize, NotYet, sized, most_bytes, most_levels}
 use Rattle.c_model.specs.ExpressionTyping.{levels_of, has_small_parts, is_within_limits, limited, constant, counted, array_of, unknown_struct, typed, typed_type, typed_length}
-use Rattle.c_model.specs.DeclarationTyping.{typed_outer, completed, typed_object_type, elements_of_parameter, typed_parameter_type, is_unknown, scalar_type, typed_result, parameter_name, typed_parameter}
+use Rattle.c_model.specs.DeclarationTyping.{typed_outer, completed, typed_object_type, elements_of_parameter, typed_parameter_type, scalar_type, typed_result, parameter_name, typed_parameter}
 use Rattle.c_model.proofs.TypedParts.{Gives, gives_one, gives_both, gives_given, gives_where, gives_sized, and_true}
 use Rattle.c_model.proofs.TypedSoundness.{gives_besides}
 use Rattle.c_model.proofs.TypedDeclarations.{anything}

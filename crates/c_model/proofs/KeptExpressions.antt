@@ -16,7 +16,7 @@ use Rattle.c_model.specs.Library.{library_constant, is_there}
 use Rattle.c_model.specs.Checked.{Checked, Good, Bad, faulty, one_part, given, where_so}
 use Rattle.c_model.specs.ExpressionTyping.{no_name, no_type, Sight, Entity, Signature, name_at, entity_named, function_called, library_function, or_else, use_as, same_type, is_scalar, pointed, is_place, is_struct, is_step}
 use Rattle.c_model.specs.ExpressionTyping.{decayed, in_type, decayed_of, is_assigned, is_null_word, no_function, callee, first_type, rest_types, argument_for, count_of, call, params_of, where_elements, assigned_struct, assigned_scalar}
-use Rattle.c_model.specs.ExpressionTyping.{compounded, assign, bump, typed, typed_arguments}
+use Rattle.c_model.specs.ExpressionTyping.{compounded, operated_in_place, knows_elements, assign, bump, typed, typed_arguments}
 use Rattle.c_model.specs.TypedTrees.{IsResult, GivesNothing, GivesScalar, AsUse, AsNumber, NameTypedAs, TypedAs, KindTypedAs, in_casts, kind_of}
 use Rattle.c_model.specs.Pure.{IsPure, ArePure, IsPureOrCall, IsEffect, IsEffectOrCall, HasBareCall}
 use Rattle.c_model.proofs.TypedParts.{Gives, gives_one, gives_both, gives_given, gives_where, gives_sized, gives_elements}
@@ -397,7 +397,7 @@ effect_or_call (Node x t (Arrow a m)) h = h
 effect_or_call (Node x t (Comma a b)) h = absurd h
 
 compounded_kept : (s : Sight) (R : Expression → Type 0) (at : Place) (op : BinOp) (x y whole : Expression) → R whole → Gives R (compounded s at op x y whole)
-compounded_kept s R at op x y whole h = by (integer_type (type_of x))
+compounded_kept s R at op x y whole h = gives_where R (knows_elements s op (type_of x) (type_of y)) (no_name at) (operated_in_place s at op x y whole) (λ z. by (integer_type (type_of x)))
   where
     by : (o : Option CInt) → Gives R (elim o [
       | Some k ↦ where_so (is_place x && is_there (integer_type (type_of y))) (no_type at) (Good whole)
@@ -411,7 +411,7 @@ assigned_kept : (s : Sight) (at : Place) (x y : Expression) → IsPure x → IsB
 assigned_kept s at x y p q = by (is_struct (type_of x))
   where
     by : (z : Bool) → Gives IsEffect (if z then assigned_struct s at x y else assigned_scalar s at x y)
-    by true = gives_where IsEffect (is_place x && same_type (type_of y) (type_of x)) _ _ (λ e. gives_sized IsEffect s at (type_of x) _ (λ k. (p, bare_value y q)))
+    by true = gives_sized IsEffect s at (type_of x) _ (λ k. gives_where IsEffect (is_place x && same_type (type_of y) (type_of x)) _ _ (λ e. (p, bare_value y q)))
     by false = gives_where IsEffect (is_place x && is_scalar (type_of x) && is_assigned s y (type_of x)) _ _ (λ e. (p, bare_in_type (type_of x) y q))
 
 module _ (s : Sight) (known : SeesResults s) where

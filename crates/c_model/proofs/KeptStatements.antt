@@ -20,10 +20,10 @@ use Rattle.c_model.specs.Meaning.{string_in, is_definition}
 use Rattle.c_model.specs.Library.{is_there}
 use Rattle.c_model.specs.Checked.{Checked, Good, Bad, one_part, both_parts, where_so}
 use Rattle.c_model.specs.ExpressionGrammar.{most_nested}
-use Rattle.c_model.specs.ExpressionTyping.{no_name, no_type, Sight, with_object, with_objects, inner, is_void, is_scalar, decayed, in_type, is_assigned, decayed_of, typed, typed_type, declared_here}
-use Rattle.c_model.specs.DeclarationTyping.{takes_text, initial_value, typed_initialiser, typed_maybe_initialiser, is_anything, is_static, own_name, typed_object_type, typed_variable, typed_global, is_declared_in_file, typed_result}
+use Rattle.c_model.specs.ExpressionTyping.{no_type, Sight, with_object, with_objects, inner, is_void, is_scalar, decayed, in_type, is_assigned, decayed_of, typed, typed_type, declared_here}
+use Rattle.c_model.specs.DeclarationTyping.{takes_text, initial_value, typed_initialiser, typed_maybe_initialiser, is_anything, is_static, own_name, typed_object_type, typed_variable, typed_global, is_declared_in_file}
 use Rattle.c_model.specs.StatementTyping.{Around, in_loop, behind, behind_first, condition, typed_condition, typed_maybe, returned, typed_declarations, typed_statement, typed_else, typed_first, typed_item, typed_items}
-use Rattle.c_model.specs.UnitTyping.{with_function, with_parameter, with_parameters, is_compatible_with_all, function_name, typed_parameters, typed_type_of_function, typed_heading, typed_body, typed_function}
+use Rattle.c_model.specs.UnitTyping.{with_function, with_parameter, with_parameters, function_name, typed_parameters, typed_heading, typed_body, typed_function}
 use Rattle.c_model.specs.TypedTrees.{WhereAny, IsResult}
 use Rattle.c_model.specs.TypedReadings.{InBraces, WithoutBraces, InitialiserTypedAs, InitialisersTypedAs, AloneTypedAs, MaybeInitialiserTypedAs}
 use Rattle.c_model.specs.TextTypingLaws.{IsWholeSight}
@@ -32,8 +32,9 @@ use Rattle.c_model.specs.Pure.{IsPure, IsPureOrCall, IsEffect, IsEffectOrCall, I
 use Rattle.c_model.specs.FullExpressions.{EachInitial, EachInDeclaration, EachDeclared, EachIn, EachInElse, EachInFirst, EachInItem, EachInItems, EachInBody}
 use Rattle.c_model.specs.EffectPlaces.{ArePlaced, FirstPlaced, StatementPlaced, ElsePlaced, ItemPlaced, ItemsPlaced}
 use Rattle.c_model.specs.ReadTree.{BodyRead, FunctionRead}
-use Rattle.c_model.proofs.TypedParts.{Gives, gives_one, gives_both, gives_where}
+use Rattle.c_model.proofs.TypedParts.{Gives, gives_one, gives_where}
 use Rattle.c_model.proofs.TypedDeclarations.{anything}
+use Rattle.c_model.proofs.TypedHeadings.{gives_heading}
 use Rattle.c_model.proofs.TypedFunctions.{result_is, after_function}
 use Rattle.c_model.proofs.ReadStatements.{maybe_initialiser_as}
 use Rattle.c_model.proofs.KeptExpressions.{IsBare, SeesResults, pure_as, value_pure, pure_bare, bare_value, bare_in_type, bare_read, value_bare, both_bare, effect_kept, effect_or_call_kept}
@@ -258,10 +259,8 @@ record IsHeading (f g : Function) : Type 0 where
 
 heading_kept : (s : Sight) (before : List Function) (f : Function) → Gives (IsHeading f) (typed_heading s before f)
 heading_kept s before f =
-    gives_both (λ n. Unit {0}) (IsHeading f) (IsHeading f) (function_name s f) (typed_type_of_function s f) (λ n g. where_so (is_compatible_with_all before g) (no_name g.place) (Good g)) (anything (function_name s f))
-    (gives_both IsResult (λ ds. Unit {0}) (IsHeading f) (typed_result s (is_definition f) f.place f.result) (typed_parameters (inner s) (is_definition f) f.params) (λ t ds. Good (record f { result = t; params = ds }))
-    (result_is s (is_definition f) f.place f.result) (anything (typed_parameters (inner s) (is_definition f) f.params)) (λ t ds i u. record { result = i; body = refl; contract = refl }))
-    (λ n g u k. gives_where (IsHeading f) (is_compatible_with_all before g) (no_name g.place) (Good g) (λ e. k))
+    gives_heading (λ n. Unit {0}) IsResult (λ ds. Unit {0}) (IsHeading f) s before f (anything (function_name s f)) (result_is s (is_definition f) f.place f.result)
+    (anything (typed_parameters (inner s) (is_definition f) f.params)) (λ n t ds u i v. record { result = i; body = refl; contract = refl })
 
 pub function_kept : (p : TranslationUnit) (s : Sight) → IsWholeSight s → (before : List Function) (f : Function) → FunctionRead AreReadAsserts f → EachInBody HasBareCall f.body → Gives (FunctionRead AreReadAsserts) (typed_function p s before f)
 function_kept p s w before f q h =

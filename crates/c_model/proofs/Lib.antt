@@ -28,6 +28,7 @@ pub mod TypedReading
 pub mod TypedInitialisers
 pub mod TypedDeclarations
 pub mod TypedStatements
+pub mod TypedHeadings
 pub mod TypedFunctions
 pub mod NotedWider
 pub mod NotedTrees

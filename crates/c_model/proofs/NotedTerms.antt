@@ -20,8 +20,8 @@ use Rattle.c_model.specs.Integers.{fits, integer_type}
 use Rattle.c_model.specs.Checked.{Checked, Good, Bad, given, one_part, pair_of}
 use Rattle.c_model.specs.Library.{Constants, constants, constant_in, library_constant, is_there}
 use Rattle.c_model.specs.ExpressionTyping.{no_name, no_type, Entity, AnObject, AnEnumerator, Sight, name_at, entity_named, typed_type}
-use Rattle.c_model.specs.PredicateTyping.{Sorted, ATerm, APredicate, as_term, as_predicate, object_term, number, named, on_integer, unary_on, on_integers, cast_as, cast, size_in, connected, choice}
-use Rattle.c_model.specs.PredicateTyping.{is_predicate, right_side, chain, typed, typed_links, typed_clause, typed_annotations}
+use Rattle.c_model.specs.PredicateTyping.{Sorted, ATerm, APredicate, as_term, as_predicate, object_term, number, term_named, on_integer, unary_on, on_integers, cast_as, cast, size_in, connected, chosen}
+use Rattle.c_model.specs.PredicateTyping.{is_predicate, right_side, related, typed_form, typed_links, typed_clause, typed_annotations}
 use Rattle.c_model.specs.Formed.{nodes_of_term, nodes_of_links, nodes_of_predicate, IsLogicNumber, TermNumbered, LinksNumbered, PredicateNumbered, IsShortClause, AreAsserts}
 use Rattle.c_model.specs.Formed.{nodes_of_form, nodes_of_form_links, FormNumbered, FormLinksNumbered, IsShortReading, AreReadAsserts}
 use Rattle.c_model.specs.FileItems.{SeesValues}
@@ -137,7 +137,7 @@ predicate_kept : (n : ℕ) (a : Sorted) → SortedKept n a → PredicateKept n (
 predicate_kept n (ATerm t) w = w
 predicate_kept n (APredicate p) w = w
 
-name_kept : (s : Sight) → SeesValues s → (at : Place) (x : ℕ) → Gives (SortedKept 1) (named s at x)
+name_kept : (s : Sight) → SeesValues s → (at : Place) (x : ℕ) → Gives (SortedKept 1) (term_named s at x)
 name_kept s k at x = by (entity_named x s.entities) refl
   where
     by : (o : Option Entity) → entity_named x s.entities ≡ o → Gives (SortedKept 1) (elim o [
@@ -173,7 +173,7 @@ cast_kept at to n a w = gives_where (SortedKept (suc n)) (is_there (integer_type
 connected_kept : (at : Place) (c : Connective) (m n : ℕ) (a b : Sorted) → SortedKept m a → SortedKept n b → SortedKept (suc (m + n)) (connected at c a b)
 connected_kept at c m n a b v w = let p = predicate_kept m a v in let q = predicate_kept n b w in ((p.0, q.0), λ i. suc (p.1 i + q.1 i))
 
-choice_kept : (at : Place) (k m n : ℕ) (c a b : Sorted) → SortedKept k c → SortedKept m a → SortedKept n b → SortedKept (suc (k + m + n)) (choice at c a b)
+choice_kept : (at : Place) (k m n : ℕ) (c a b : Sorted) → SortedKept k c → SortedKept m a → SortedKept n b → SortedKept (suc (k + m + n)) (chosen at c a b)
 choice_kept at k m n c (ATerm a) (ATerm b) u v w = let p = predicate_kept k c u in ((p.0, v.0, w.0), λ i. suc (p.1 i + v.1 i + w.1 i))
 choice_kept at k m n c (ATerm a) (APredicate b) u v w = let p = predicate_kept k c u in ((p.0, v.0, w.0), λ i. suc (p.1 i + v.1 i + w.1 i))
 choice_kept at k m n c (APredicate a) b u v w =
@@ -185,48 +185,48 @@ right_kept : (at : Place) (left : Bool) (n : ℕ) (a : Sorted) → SortedKept n 
 right_kept at true n a w = tt
 right_kept at false n a w = term_kept at n a w
 
-chain_kept : (at : Place) (m n : ℕ) (a : Sorted) (links : Links) → SortedKept m a → LinksKept n links → Gives (SortedKept (m + n)) (chain at a links)
+chain_kept : (at : Place) (m n : ℕ) (a : Sorted) (links : Links) → SortedKept m a → LinksKept n links → Gives (SortedKept (m + n)) (related at a links)
 chain_kept at m n a links v w = gives_one (TermKept m) (SortedKept (m + n)) (as_term at a) _ (term_kept at m a v) (λ t x. ((x.0, w.0), λ i. x.1 i + w.1 i))
 
 -- ---- forms
 
 mutual
-  form_kept : (s : Sight) → SeesValues s → (f : Form) → FormNumbered f → Gives (SortedKept (nodes_of_form f)) (typed s f)
+  form_kept : (s : Sight) → SeesValues s → (f : Form) → FormNumbered f → Gives (SortedKept (nodes_of_form f)) (typed_form s f)
   form_kept s k (read.Number at n) h = (h, refl)
   form_kept s k (read.Letter at n) h = (h, refl)
   form_kept s k (read.Truth at b) h = (tt, refl)
   form_kept s k (read.Name at x) h = name_kept s k at x.name
   form_kept s k (read.Unary at op a) h =
       let n = nodes_of_form a in
-      gives_one (SortedKept n) (SortedKept (suc n)) (typed s a) (unary_on at op) (form_kept s k a h) (unary_kept at op n)
+      gives_one (SortedKept n) (SortedKept (suc n)) (typed_form s a) (unary_on at op) (form_kept s k a h) (unary_kept at op n)
   form_kept s k (read.Binary at op a b) h =
       let m = nodes_of_form a in
       let n = nodes_of_form b in
-      gives_pair (SortedKept m) (SortedKept n) (SortedKept (suc (m + n))) (typed s a) (typed s b) (λ p. on_integers at op p.0 p.1) (form_kept s k a h.0) (form_kept s k b h.1) (integers_kept at op m n)
+      gives_pair (SortedKept m) (SortedKept n) (SortedKept (suc (m + n))) (typed_form s a) (typed_form s b) (λ p. on_integers at op p.0 p.1) (form_kept s k a h.0) (form_kept s k b h.1) (integers_kept at op m n)
   form_kept s k (read.Cast at Integers a) h =
       let n = nodes_of_form a in
-      gives_one (SortedKept n) (SortedKept (suc n)) (typed s a) (cast_as at Integers) (form_kept s k a h) (cast_as_kept at Integers n)
+      gives_one (SortedKept n) (SortedKept (suc n)) (typed_form s a) (cast_as at Integers) (form_kept s k a h) (cast_as_kept at Integers n)
   form_kept s k (read.Cast at (OfC to) a) h =
       let n = nodes_of_form a in
-      gives_limited (SortedKept (suc n)) s at (typed_type s at to) _ (gives_pair Any (SortedKept n) (SortedKept (suc n)) (typed_type s at to) (typed s a) (λ p. cast at p.0 p.1) (anything (typed_type s at to)) (form_kept s k a h)
+      gives_limited (SortedKept (suc n)) s at (typed_type s at to) _ (gives_pair Any (SortedKept n) (SortedKept (suc n)) (typed_type s at to) (typed_form s a) (λ p. cast at p.0 p.1) (anything (typed_type s at to)) (form_kept s k a h)
       (λ t x v w. cast_kept at t n x w))
   form_kept s k (read.SizeOf at u) h =
       gives_limited (SortedKept 1) s at (typed_type s at u) _ (gives_one Any (SortedKept 1) (typed_type s at u) (size_in s at) (anything (typed_type s at u)) (λ t v. gives_sized (SortedKept 1) s at t _ (λ e. (natural _, refl))))
   form_kept s k (read.Chain at a links) h =
       let m = nodes_of_form a in
       let n = nodes_of_form_links links in
-      gives_pair (SortedKept m) (LinksKept n) (SortedKept (m + n)) (typed s a) (typed_links s (is_predicate (typed s a)) links) (λ p. chain at p.0 p.1) (form_kept s k a h.0) (links_kept s k (is_predicate (typed s a)) links h.1)
+      gives_pair (SortedKept m) (LinksKept n) (SortedKept (m + n)) (typed_form s a) (typed_links s (is_predicate (typed_form s a)) links) (λ p. related at p.0 p.1) (form_kept s k a h.0) (links_kept s k (is_predicate (typed_form s a)) links h.1)
       (chain_kept at m n)
   form_kept s k (read.Connected at c a b) h =
       let m = nodes_of_form a in
       let n = nodes_of_form b in
-      gives_pair (SortedKept m) (SortedKept n) (SortedKept (suc (m + n))) (typed s a) (typed s b) (λ p. Good (connected at c p.0 p.1)) (form_kept s k a h.0) (form_kept s k b h.1) (connected_kept at c m n)
+      gives_pair (SortedKept m) (SortedKept n) (SortedKept (suc (m + n))) (typed_form s a) (typed_form s b) (λ p. Good (connected at c p.0 p.1)) (form_kept s k a h.0) (form_kept s k b h.1) (connected_kept at c m n)
   form_kept s k (read.Choice at c a b) h =
       let l = nodes_of_form c in
       let m = nodes_of_form a in
       let n = nodes_of_form b in
-      gives_pair (SortedKept l) (λ (p : Sorted × Sorted). SortedKept m p.0 × SortedKept n p.1) (SortedKept (suc (l + m + n))) (typed s c) (pair_of (typed s a) (typed s b)) (λ p. Good (choice at p.0 (p.1).0 (p.1).1)) (form_kept s k c h.0)
-      (gives_both (SortedKept m) (SortedKept n) (λ (p : Sorted × Sorted). SortedKept m p.0 × SortedKept n p.1) (typed s a) (typed s b) (λ a b. Good (a, b)) (form_kept s k a h.1) (form_kept s k b h.2) (λ a b v w. (v, w)))
+      gives_pair (SortedKept l) (λ (p : Sorted × Sorted). SortedKept m p.0 × SortedKept n p.1) (SortedKept (suc (l + m + n))) (typed_form s c) (pair_of (typed_form s a) (typed_form s b)) (λ p. Good (chosen at p.0 (p.1).0 (p.1).1)) (form_kept s k c h.0)
+      (gives_both (SortedKept m) (SortedKept n) (λ (p : Sorted × Sorted). SortedKept m p.0 × SortedKept n p.1) (typed_form s a) (typed_form s b) (λ a b. Good (a, b)) (form_kept s k a h.1) (form_kept s k b h.2) (λ a b v w. (v, w)))
       (λ x p u w. choice_kept at l m n x p.0 p.1 u w.0 w.1)
 
   links_kept : (s : Sight) → SeesValues s → (left : Bool) (links : FormLinks) → FormLinksNumbered links → Gives (LinksKept (nodes_of_form_links links)) (typed_links s left links)
@@ -234,13 +234,13 @@ mutual
   links_kept s k left (read.Linked at r b rest) h =
       let m = nodes_of_form b in
       let n = nodes_of_form_links rest in
-      gives_pair (TermKept m) (LinksKept n) (LinksKept (suc (m + n))) (one_part (typed s b) (right_side at left)) (typed_links s (is_predicate (typed s b)) rest) (λ p. Good (Linked at r p.0 p.1))
-      (gives_one (SortedKept m) (TermKept m) (typed s b) (right_side at left) (form_kept s k b h.0) (right_kept at left m)) (links_kept s k (is_predicate (typed s b)) rest h.1) (λ t rest v w. ((v.0, w.0), λ i. suc (v.1 i + w.1 i)))
+      gives_pair (TermKept m) (LinksKept n) (LinksKept (suc (m + n))) (one_part (typed_form s b) (right_side at left)) (typed_links s (is_predicate (typed_form s b)) rest) (λ p. Good (Linked at r p.0 p.1))
+      (gives_one (SortedKept m) (TermKept m) (typed_form s b) (right_side at left) (form_kept s k b h.0) (right_kept at left m)) (links_kept s k (is_predicate (typed_form s b)) rest h.1) (λ t rest v w. ((v.0, w.0), λ i. suc (v.1 i + w.1 i)))
 
 -- ---- clauses
 
 clause_kept : (s : Sight) → SeesValues s → (b : ClauseBody) → IsShortReading b → Gives IsShortClause (typed_clause s b)
-clause_kept s k (Raw f) h = gives_one (SortedKept (nodes_of_form f)) IsShortClause (typed s f) (λ a. Good (Holds (as_predicate a))) (form_kept s k f h.numbered) (λ a w.
+clause_kept s k (Raw f) h = gives_one (SortedKept (nodes_of_form f)) IsShortClause (typed_form s f) (λ a. Good (Holds (as_predicate a))) (form_kept s k f h.numbered) (λ a w.
     let p = predicate_kept (nodes_of_form f) a w in
     record { numbered = p.0; short = subst (λ n. n ≤ 400) (sym p.1) h.short })
 clause_kept s k (Holds p) h = absurd h

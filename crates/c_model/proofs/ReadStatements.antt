@@ -18,18 +18,19 @@ use Rattle.c_syntax.specs.Programs.{EnumConstant, Function, TranslationUnit}
 use Rattle.c_model.specs.Integers.{fits}
 use Rattle.c_model.specs.Meaning.{string_in, is_definition}
 use Rattle.c_model.specs.Library.{is_there}
-use Rattle.c_model.specs.Checked.{Checked, Good, Bad, faulty, one_part, both_parts, where_so}
+use Rattle.c_model.specs.Checked.{Checked, Good, Bad, one_part, both_parts, where_so}
 use Rattle.c_model.specs.ExpressionTyping.{no_type, Sight, with_object, inner, is_void, is_scalar, in_type, is_assigned, decayed, decayed_of, constant, limited, typed, typed_type, declared_here}
-use Rattle.c_model.specs.DeclarationTyping.{place_of_initialiser, Slots, next_slot, slots_of, takes_text, is_text_array, no_more, initial_value, typed_alone, typed_initialiser, typed_text, typed_items as typed_parts}
+use Rattle.c_model.specs.DeclarationTyping.{place_of_initialiser, Slots, next_slot, slots_of, takes_text, is_text_array, no_more, too_many, initial_value, typed_alone, typed_initialiser, typed_text, typed_items as typed_parts}
 use Rattle.c_model.specs.DeclarationTyping.{typed_maybe_initialiser, own_name, typed_object_type, is_anything, is_static, is_declared_in_file, typed_variable, typed_global, typed_typedef, typed_parameter, parameter_name}
 use Rattle.c_model.specs.DeclarationTyping.{scalar_type, typed_parameter_type, typed_result, typed_value, with_enumerator, typed_enumerators}
 use Rattle.c_model.specs.StatementTyping.{Around, in_loop, behind, behind_first, condition, typed_condition, typed_maybe, returned, typed_declarations, typed_statement, typed_else, typed_first}
 use Rattle.c_model.specs.StatementTyping.{typed_item, typed_items}
-use Rattle.c_model.specs.UnitTyping.{with_function, with_parameter, with_parameters, is_compatible_with_all, function_name, typed_parameters, typed_type_of_function, typed_heading, typed_body, typed_function}
+use Rattle.c_model.specs.UnitTyping.{with_function, with_parameter, with_parameters, function_name, typed_parameters, typed_heading, typed_body, typed_function}
 use Rattle.c_model.specs.TypedTrees.{TypedAs, around_body}
 use Rattle.c_model.specs.TypedReadings.{MaybeTypedAs, InBraces, WithoutBraces, InitialiserTypedAs, InitialisersTypedAs, AloneTypedAs, MaybeInitialiserTypedAs, DeclarationTypedAs, DeclarationsTypedAs, SameDeclaration}
 use Rattle.c_model.specs.TypedReadings.{SameDeclarations, EnumeratorsTypedAs, StatementTypedAs, ElseTypedAs, FirstTypedAs, ItemTypedAs, ItemsTypedAs, BodyTypedAs, FunctionTypedAs}
-use Rattle.c_model.proofs.TypedParts.{Gives, gives_of, gives_one, gives_both, gives_given, gives_where}
+use Rattle.c_model.proofs.TypedHeadings.{gives_heading}
+use Rattle.c_model.proofs.TypedParts.{Gives, gives_of, gives_one, gives_both, gives_given, gives_where, gives_too_many}
 use Rattle.c_model.proofs.TypedReading.{in_type_as, decayed_as, typed_as}
 use Rattle.c_model.proofs.TypedDeclarations.{anything}
 
@@ -68,14 +69,14 @@ module _ (s : Sight) (is_allowed : Expression → Expression → Bool)
     expression_as : (here : Place) (t : PlainType) (e : Expression) → Gives (InitialiserTypedAs (One e)) (one_part (typed s e) (initial_value s is_allowed here t e))
     expression_as here t e = gives_one (TypedAs e) (InitialiserTypedAs (One e)) (typed s e) (initial_value s is_allowed here t e) (typed_as s e) (λ x v. initial_value_as here t e e x v)
 
-    none_more : (is : Initialisers) → Gives (InitialisersTypedAs is) (no_more is)
+    none_more : (is : Initialisers) → Gives (InitialisersTypedAs is) (no_more s is)
     none_more NoInitialiser = refl
-    none_more (Listed i is) = tt
+    none_more (Listed i is) = gives_too_many (InitialisersTypedAs (Listed i is)) s i
 
     alone_as : (t : PlainType) (is : Initialisers) → Gives (InitialisersTypedAs is) (typed_alone s is_allowed t is)
     alone_as t NoInitialiser = refl
     alone_as t (Listed (One e) is) =
-        gives_both (InitialiserTypedAs (One e)) (InitialisersTypedAs is) (InitialisersTypedAs (Listed (One e) is)) (one_part (typed s e) (initial_value s is_allowed (place_of e) t e)) (no_more is)
+        gives_both (InitialiserTypedAs (One e)) (InitialisersTypedAs is) (InitialisersTypedAs (Listed (One e) is)) (one_part (typed s e) (initial_value s is_allowed (place_of e) t e)) (no_more s is)
         (λ i is. Good (Listed i is)) (expression_as (place_of e) t e) (none_more is) (λ k ks v w. (k, ks, refl, v, w))
     alone_as t (Listed (Many at is) more) = tt
 
@@ -112,10 +113,10 @@ module _ (s : Sight) (is_allowed : Expression → Expression → Bool)
         where
           by : (o : Option (PlainType × Slots)) → ((t : PlainType) → Gives (InitialiserTypedAs i) (typed_initialiser s is_allowed (place_of_initialiser i) t i))
               → ((slots : Slots) → Gives (InitialisersTypedAs is) (typed_parts s is_allowed slots is)) → Gives (InitialisersTypedAs (Listed i is)) (elim o [
-                | None ↦ faulty (no_type (place_of_initialiser i))
+                | None ↦ too_many s i
                 | Some p ↦ both_parts (typed_initialiser s is_allowed (place_of_initialiser i) p.0 i) (typed_parts s is_allowed p.1 is) (λ i is. Good (Listed i is))
               ])
-          by None first rest = tt
+          by None first rest = gives_too_many (InitialisersTypedAs (Listed i is)) s i
           by (Some p) first rest =
               gives_both (InitialiserTypedAs i) (InitialisersTypedAs is) (InitialisersTypedAs (Listed i is)) (typed_initialiser s is_allowed (place_of_initialiser i) p.0 i) (typed_parts s is_allowed p.1 is)
               (λ i is. Good (Listed i is)) (first p.0) (rest p.1) (λ k ks v w. (k, ks, refl, v, w))
@@ -302,11 +303,9 @@ record HeadingAs (f g : Function) : Type 0 where
   close : g.close ≡ f.close
 
 heading_as : (s : Sight) (before : List Function) (f : Function) → Gives (HeadingAs f) (typed_heading s before f)
-heading_as s before f = gives_both (λ u. Unit {0}) (HeadingAs f) (HeadingAs f) (function_name s f) (typed_type_of_function s f) _ (anything _)
-    (gives_both (λ u. Unit {0}) (SameDeclarations f.params) (HeadingAs f) (typed_result s (is_definition f) f.place f.result) (typed_parameters (inner s) (is_definition f) f.params)
-    (λ t ds. Good (record f { result = t; params = ds })) (anything _) (parameters_as (inner s) (is_definition f) f.params)
-    (λ t ds u v. record { place = refl; name = refl; params = v; contract = refl; body = refl; close = refl }))
-    (λ n g u v. gives_where (HeadingAs f) (is_compatible_with_all before g) _ _ (λ e. v))
+heading_as s before f =
+    gives_heading (λ n. Unit {0}) (λ t. Unit {0}) (SameDeclarations f.params) (HeadingAs f) s before f (anything (function_name s f)) (anything (typed_result s (is_definition f) f.place f.result))
+    (parameters_as (inner s) (is_definition f) f.params) (λ n t ds u v w. record { place = refl; name = refl; params = w; contract = refl; body = refl; close = refl })
 
 pub function_as : (p : TranslationUnit) (s : Sight) (before : List Function) (f : Function) → Gives (FunctionTypedAs f) (typed_function p s before f)
 function_as p s before f = gives_one (HeadingAs f) (FunctionTypedAs f) (typed_heading s before f) _ (heading_as s before f) (λ g v.

@@ -4,18 +4,18 @@ use Rattle.c_syntax.specs.Ctypes.{PlainType}
 use Rattle.c_syntax.specs.Statements.{Declaration, Statement, Empty, Eval, Block, If, While, Do, For, Break, Continue, Return, Labelled, Switch}
 use Rattle.c_syntax.specs.Programs.{StructMember, StructType, EnumConstant, EnumType, Function, TranslationUnit}
 use Rattle.c_model.specs.Meaning.{is_definition}
-use Rattle.c_model.specs.Checked.{Good, one_part, where_so}
-use Rattle.c_model.specs.ExpressionTyping.{no_name, Sight, with_object, inner}
+use Rattle.c_model.specs.Checked.{Good, one_part}
+use Rattle.c_model.specs.ExpressionTyping.{Sight, with_object, inner}
 use Rattle.c_model.specs.DeclarationTyping.{typed_global, typed_typedef, typed_result, typed_member, typed_enumerators}
 use Rattle.c_model.specs.StatementTyping.{typed_items}
 use Rattle.c_model.specs.UnitTyping.{FileItem, StructHead, Member, AnEnum, ATypedef, AGlobal, AFunction, offset_of_item, member_items, struct_items, inserted, in_order, items_of_file, with_type, with_tag, with_function}
-use Rattle.c_model.specs.UnitTyping.{with_parameters, is_compatible_with_all, function_name, typed_parameters, typed_type_of_function, typed_heading, typed_body, typed_function, Progress, new_tag, typed_enum, typed_item_of_file}
+use Rattle.c_model.specs.UnitTyping.{with_parameters, function_name, typed_parameters, typed_heading, typed_body, typed_function, Progress, new_tag, typed_enum, typed_item_of_file}
 use Rattle.c_model.specs.UnitTyping.{typed_items_of_file, at_start, with_progress, typed_unit}
 use Rattle.c_model.specs.FullExpressions.{EachInDeclaration, EachDeclared, EachInItems, EachInBody, EachInFunctions}
 use Rattle.c_model.specs.Sizes.{IsSmall}
-use Rattle.c_model.proofs.TypedParts.{Gives, gives_one, gives_both}
+use Rattle.c_model.proofs.TypedParts.{Gives, gives_one}
 use Rattle.c_model.proofs.TypedDeclarations.{anything}
-use Rattle.c_model.proofs.TypedSizes.{gives_if}
+use Rattle.c_model.proofs.TypedHeadings.{gives_heading}
 use Rattle.c_model.proofs.SmallStatements.{IsShort, global_small, items_small}
 
 -- ---- functions (C99 6.9.1)
@@ -46,10 +46,8 @@ HasSmall f = EachInBody IsSmall f.body
 -- the body is as it is read
 heading_short : (s : Sight) (before : List Function) (f : Function) → HasShort f → Gives HasShort (typed_heading s before f)
 heading_short s before f h =
-    gives_both (λ n. Unit {0}) HasShort HasShort (function_name s f) (typed_type_of_function s f) (λ n f. where_so (is_compatible_with_all before f) (no_name f.place) (Good f)) (anything (function_name s f))
-    (gives_both (λ t. Unit {0}) (λ ds. Unit {0}) HasShort (typed_result s (is_definition f) f.place f.result) (typed_parameters (inner s) (is_definition f) f.params) (λ t ds. Good (record f { result = t; params = ds }))
-    (anything (typed_result s (is_definition f) f.place f.result)) (anything (typed_parameters (inner s) (is_definition f) f.params)) (λ t ds u v. h))
-    (λ n g u k. gives_if HasShort (is_compatible_with_all before g) (no_name g.place) (Good g) k)
+    gives_heading (λ n. Unit {0}) (λ t. Unit {0}) (λ ds. Unit {0}) HasShort s before f (anything (function_name s f)) (anything (typed_result s (is_definition f) f.place f.result))
+    (anything (typed_parameters (inner s) (is_definition f) f.params)) (λ n t ds u v w. h)
 
 function_small : (p : TranslationUnit) (s : Sight) (before : List Function) (f : Function) → HasShort f → Gives HasSmall (typed_function p s before f)
 function_small p s before f h =

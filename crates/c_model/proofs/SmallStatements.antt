@@ -18,17 +18,17 @@ use Rattle.c_syntax.specs.Statements.{Initialiser, One, Many, Initialisers, NoIn
 use Rattle.c_syntax.specs.Statements.{For, Break, Continue, Return, Labelled, ElsePart, NoElse, Else, ForFirst, NoFirst, First, BlockItem, Declare, Specify, Run, Asserts, BlockItems, NoItem, Then}
 use Rattle.c_model.specs.Meaning.{string_in}
 use Rattle.c_model.specs.Library.{is_there}
-use Rattle.c_model.specs.Checked.{Checked, Good, faulty, one_part, both_parts, where_so}
+use Rattle.c_model.specs.Checked.{Checked, Good, one_part, both_parts, where_so}
 use Rattle.c_model.specs.Formed.{nodes_of, most_read}
 use Rattle.c_model.specs.ExpressionTyping.{no_type, Sight, with_object, inner, is_void, is_scalar, decayed, in_type, is_assigned, decayed_of, typed, typed_type, declared_here}
-use Rattle.c_model.specs.DeclarationTyping.{Slots, next_slot, slots_of, takes_text, is_text_array, no_more, initial_value, typed_alone, typed_initialiser, typed_text, place_of_initialiser}
+use Rattle.c_model.specs.DeclarationTyping.{Slots, next_slot, slots_of, takes_text, is_text_array, no_more, too_many, initial_value, typed_alone, typed_initialiser, typed_text, place_of_initialiser}
 use Rattle.c_model.specs.DeclarationTyping.{typed_maybe_initialiser, is_anything, is_static, own_name, typed_object_type, typed_variable, typed_global, is_declared_in_file}
 use Rattle.c_model.specs.DeclarationTyping as declaration
 use Rattle.c_model.specs.StatementTyping.{Around, in_loop, behind, behind_first, condition, typed_condition, typed_maybe, returned, typed_declarations, typed_statement, typed_else, typed_first, typed_item, typed_items}
 use Rattle.c_model.specs.TypedTrees.{WhereAny}
 use Rattle.c_model.specs.FullExpressions.{EachInitial, EachPart, EachInDeclaration, EachDeclared, EachIn, EachInElse, EachInFirst, EachInItem, EachInItems}
 use Rattle.c_model.specs.Sizes.{IsSmall}
-use Rattle.c_model.proofs.TypedParts.{Gives, gives_one, gives_both}
+use Rattle.c_model.proofs.TypedParts.{Gives, gives_one, gives_both, gives_too_many}
 use Rattle.c_model.proofs.TypedDeclarations.{anything}
 use Rattle.c_model.proofs.TypedSizes.{gives_if, IsLight, decayed_light, operand_light, light_small, operand_small, typed_light, effect_small, value_small, converted_small}
 
@@ -52,14 +52,14 @@ module _ (s : Sight) (allowed : Expression → Expression → Bool) where
   one_small : (here : Place) (t : PlainType) (e : Expression) → IsShort e → Gives (EachInitial IsSmall) (one_part (typed s e) (initial_value s allowed here t e))
   one_small here t e le = gives_one (IsLight (nodes_of e)) (EachInitial IsSmall) (typed s e) (initial_value s allowed here t e) (typed_light s e) (λ x h. value_small_at here t e x le h)
 
-  no_more_small : (is : Initialisers) → Gives (EachPart IsSmall) (no_more is)
+  no_more_small : (is : Initialisers) → Gives (EachPart IsSmall) (no_more s is)
   no_more_small NoInitialiser = tt
-  no_more_small (Listed i is) = tt
+  no_more_small (Listed i is) = gives_too_many (EachPart IsSmall) s i
 
   alone_small : (t : PlainType) (is : Initialisers) → EachPart IsShort is → Gives (EachPart IsSmall) (typed_alone s allowed t is)
   alone_small t NoInitialiser h = tt
   alone_small t (Listed (One e) is) h =
-      gives_both (EachInitial IsSmall) (EachPart IsSmall) (EachPart IsSmall) (one_part (typed s e) (initial_value s allowed (place_of e) t e)) (no_more is) (λ i is. Good (Listed i is)) (one_small (place_of e) t e h.0) (no_more_small is)
+      gives_both (EachInitial IsSmall) (EachPart IsSmall) (EachPart IsSmall) (one_part (typed s e) (initial_value s allowed (place_of e) t e)) (no_more s is) (λ i is. Good (Listed i is)) (one_small (place_of e) t e h.0) (no_more_small is)
       (λ x y f g. (f, g))
   alone_small t (Listed (Many at is) more) h = tt
 
@@ -86,10 +86,10 @@ module _ (s : Sight) (allowed : Expression → Expression → Bool) where
         by : (o : Option (PlainType × Slots)) → ((t : PlainType) → Gives (EachInitial IsSmall) (typed_initialiser s allowed (place_of_initialiser i) t i))
             → ((rest : Slots) → Gives (EachPart IsSmall) (declaration.typed_items s allowed rest is))
             → Gives (EachPart IsSmall) (elim o [
-              | None ↦ faulty (no_type (place_of_initialiser i))
+              | None ↦ too_many s i
               | Some p ↦ both_parts (typed_initialiser s allowed (place_of_initialiser i) p.0 i) (declaration.typed_items s allowed p.1 is) (λ i is. Good (Listed i is))
             ])
-        by None f g = tt
+        by None f g = gives_too_many (EachPart IsSmall) s i
         by (Some p) f g =
             gives_both (EachInitial IsSmall) (EachPart IsSmall) (EachPart IsSmall) (typed_initialiser s allowed (place_of_initialiser i) p.0 i) (declaration.typed_items s allowed p.1 is) (λ i is. Good (Listed i is)) (f p.0) (g p.1)
             (λ x y a b. (a, b))

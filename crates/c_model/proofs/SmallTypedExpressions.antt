@@ -22,7 +22,7 @@ use Rattle.c_model.specs.Checked.{Checked, Good, Bad, faulty, one_part, both_par
 use Rattle.c_model.specs.ExpressionTyping.{no_name, no_type, Sight, Entity, AnObject, AnEnumerator, Signature, name_at, has_name, entity_named, function_called, library_function, use_as, literal_at, same_type}
 use Rattle.c_model.specs.ExpressionTyping.{is_scalar, is_void, pointed, is_place, decayed, in_type, in_int, decayed_of, literal, text, is_null_word, library_name, named, unary_on, on_integers, both_of, either_of}
 use Rattle.c_model.specs.ExpressionTyping.{choice_type, pointer_choice, choice_of, is_struct, is_step, is_equality, is_difference, where_elements, on_pointers, on_pointer_and_integer, on_integer_and_pointer, binary}
-use Rattle.c_model.specs.ExpressionTyping.{is_null, are_compatible, points_to_void}
+use Rattle.c_model.specs.ExpressionTyping.{is_null, are_compatible, points_to_void, knows_elements, operated, operated_in_place, element}
 use Rattle.c_model.specs.ExpressionTyping.{is_assigned, assigned_struct, assigned_scalar, compounded, assign, bump, is_cast, cast, index, member, dot, arrow, size_of_type, size_of_expression}
 use Rattle.c_model.specs.ExpressionTyping.{or_else, no_function, callee, first_type, rest_types, argument_for, count_of, call, params_of, two, type_in, typed, typed_arguments, typed_type}
 use Rattle.c_model.specs.SmallTypes.{TypesSmall, AllTypesSmall}
@@ -34,7 +34,7 @@ use Rattle.c_model.proofs.FirmTypes.{AreFirm, AreSmallStructs, Small, elements_s
 use Rattle.c_model.proofs.LibraryFunctions.{each_of_library}
 
 gives_compounded : (s : Sight) (at : Place) (R : Expression → Type 0) (op : BinOp) (x y whole : Expression) → R whole → Gives R (compounded s at op x y whole)
-gives_compounded s at R op x y whole h = by (integer_type (type_of x))
+gives_compounded s at R op x y whole h = gives_where R (knows_elements s op (type_of x) (type_of y)) (no_name at) (operated_in_place s at op x y whole) (λ z. by (integer_type (type_of x)))
   where
     by : (o : Option CInt) → Gives R (elim o [
       | Some k ↦ where_so (is_place x && is_there (integer_type (type_of y))) (no_type at) (Good whole)
@@ -293,7 +293,7 @@ module _ (new : List StructType)
                 by false = gives_where AreTypesSmall (is_equality op && is_null s a) _ _ (λ e. (refl, (in_type_small (Ptr t) a k v, w)))
 
             binary_small : (op : BinOp) → Gives AreTypesSmall (binary s at op a b)
-            binary_small op = by (integer_type (type_of a)) (integer_type (type_of b))
+            binary_small op = gives_where AreTypesSmall (knows_elements s op (type_of a) (type_of b)) (no_name at) (operated s at op a b) (λ z. by (integer_type (type_of a)) (integer_type (type_of b)))
               where
                 by : (o r : Option CInt) → Gives AreTypesSmall (elim o [
                   | Some k ↦ elim r [
@@ -311,7 +311,7 @@ module _ (new : List StructType)
                 by None None = gives_given AreTypesSmall (pointed (type_of a)) _ _ (λ t e. gives_given AreTypesSmall (pointed (type_of b)) _ _ (λ r f. pointers_small op t r))
 
             index_small : Gives AreTypesSmall (index s at a b)
-            index_small = by (pointed (type_of a)) refl
+            index_small = gives_where AreTypesSmall (knows_elements s operator.Add (type_of a) (type_of b)) (no_name at) (element s at a b) (λ z. by (pointed (type_of a)) refl)
               where
                 by : (o : Option PlainType) → pointed (type_of a) ≡ o → Gives AreTypesSmall (elim o [
                   | Some t ↦ where_so (is_there (integer_type (type_of b))) (no_type at) (where_elements s at t (Good (Node at t (Index a b))))
@@ -326,7 +326,7 @@ module _ (new : List StructType)
             assigned_small None = by (is_struct (type_of a))
               where
                 by : (z : Bool) → Gives AreTypesSmall (if z then assigned_struct s at a b else assigned_scalar s at a b)
-                by true = gives_where AreTypesSmall (is_place a && same_type (type_of b) (type_of a)) _ _ (λ p. gives_sized AreTypesSmall s at (type_of a) _ (λ k. (type_small a v, (v, w))))
+                by true = gives_sized AreTypesSmall s at (type_of a) _ (λ k. gives_where AreTypesSmall (is_place a && same_type (type_of b) (type_of a)) _ _ (λ p. (type_small a v, (v, w))))
                 by false = gives_where AreTypesSmall (is_place a && is_scalar (type_of a) && is_assigned s b (type_of a)) _ _ (λ p.
                     (type_small a v, (v, in_type_small (type_of a) b (type_small a v) w)))
 

@@ -6,6 +6,7 @@ use Rattle.c_model.specs.Conversions.{promoted}
 use Rattle.c_model.specs.Integers.{integer_type}
 use Rattle.c_model.specs.ExpressionTyping.{in_int}
 use Rattle.c_model.specs.FullExpressions.{EachInCases}
+use Rattle.c_model.proofs.TypedHeadings.{gives_heading}
 use Rattle.c_model.proofs.TypedParts.{gives_given}
 use Rattle.std.proofs.Common.{◌≡◌, zero, suc, refl, sym, ◌∙◌, subst, List, [], ◌∷◌, ◌++◌, map, Option, Some, None, Bool, true, false, not, ◌&&◌, cond, if◌then◌else◌, slice_get}
 use Rattle.c_syntax.specs.declared.place.Place.{Place}
@@ -17,18 +18,18 @@ use Rattle.c_syntax.specs.Statements.{For, Break, Continue, Return, Labelled, El
 use Rattle.c_syntax.specs.Programs.{StructMember, StructType, Function, TranslationUnit}
 use Rattle.c_model.specs.Meaning.{string_in, is_definition}
 use Rattle.c_model.specs.Library.{is_there}
-use Rattle.c_model.specs.Checked.{Checked, Good, faulty, one_part, both_parts, where_so}
-use Rattle.c_model.specs.ExpressionTyping.{no_name, no_type, Sight, Entity, AnObject, AnEnumerator, Object, Signature, with_object, with_objects, inner, is_void, is_scalar, decayed, in_type, is_assigned, decayed_of, typed, typed_type}
+use Rattle.c_model.specs.Checked.{Checked, Good, one_part, both_parts, where_so}
+use Rattle.c_model.specs.ExpressionTyping.{no_type, Sight, Entity, AnObject, AnEnumerator, Object, Signature, with_object, with_objects, inner, is_void, is_scalar, decayed, in_type, is_assigned, decayed_of, typed, typed_type}
 use Rattle.c_model.specs.ExpressionTyping.{declared_here}
-use Rattle.c_model.specs.DeclarationTyping.{Slots, Each, Members, next_slot, slots_of, member_types, takes_text, is_text_array, no_more, initial_value, typed_alone, typed_initialiser, typed_text}
+use Rattle.c_model.specs.DeclarationTyping.{Slots, Each, Members, next_slot, slots_of, member_types, takes_text, is_text_array, no_more, too_many, initial_value, typed_alone, typed_initialiser, typed_text}
 use Rattle.c_model.specs.DeclarationTyping.{place_of_initialiser, typed_maybe_initialiser, is_anything, is_static, own_name, typed_object_type, typed_variable, typed_global, is_declared_in_file, typed_result, typed_parameter}
 use Rattle.c_model.specs.DeclarationTyping as declaration
 use Rattle.c_model.specs.StatementTyping.{Around, in_loop, behind, behind_first, condition, typed_condition, typed_maybe, returned, typed_declarations, typed_statement, typed_else, typed_first, typed_item, typed_items}
-use Rattle.c_model.specs.UnitTyping.{types_of, signature, with_function, with_parameter, with_parameters, is_compatible_with_all, function_name, typed_parameters, typed_type_of_function, typed_heading, typed_body, typed_function}
+use Rattle.c_model.specs.UnitTyping.{types_of, signature, with_function, with_parameter, with_parameters, function_name, typed_parameters, typed_heading, typed_body, typed_function}
 use Rattle.c_model.specs.TypedTrees.{WhereAny, around_body}
 use Rattle.c_model.specs.FullExpressions.{EachInitial, EachPart, EachInDeclaration, EachDeclared, EachIn, EachInElse, EachInFirst, EachInItem, EachInItems, EachInBody}
 use Rattle.c_model.specs.SmallTypes.{TypesSmall}
-use Rattle.c_model.proofs.TypedParts.{Gives, gives_one, gives_both, gives_where}
+use Rattle.c_model.proofs.TypedParts.{Gives, gives_one, gives_both, gives_where, gives_too_many}
 use Rattle.c_model.proofs.TypedDeclarations.{anything}
 use Rattle.c_model.proofs.StableConstants.{Grows}
 use Rattle.c_model.proofs.FirmTypes.{AreSmallStructs, Small, elements_small, object_small, result_small, parameter_small}
@@ -77,14 +78,14 @@ module _ (new : List StructType) (all : AreSmallStructs new)
         one_initial : (here : Place) (t : PlainType) (e : Expression) → Small new t → Gives (EachInitial E) (one_part (typed s e) (initial_value s allowed here t e))
         one_initial here t e k = gives_one E (EachInitial E) (typed s e) (initial_value s allowed here t e) (typed_small new s i all g e) (λ x h. value_initial here t e x k h)
 
-        no_more_initial : (is : Initialisers) → Gives (EachPart E) (no_more is)
+        no_more_initial : (is : Initialisers) → Gives (EachPart E) (no_more s is)
         no_more_initial NoInitialiser = tt
-        no_more_initial (Listed j is) = tt
+        no_more_initial (Listed j is) = gives_too_many (EachPart E) s j
 
         alone_initial : (t : PlainType) (is : Initialisers) → Small new t → Gives (EachPart E) (typed_alone s allowed t is)
         alone_initial t NoInitialiser k = tt
         alone_initial t (Listed (One e) is) k =
-            gives_both (EachInitial E) (EachPart E) (EachPart E) (one_part (typed s e) (initial_value s allowed (place_of e) t e)) (no_more is) (λ i is. Good (Listed i is)) (one_initial (place_of e) t e k)
+            gives_both (EachInitial E) (EachPart E) (EachPart E) (one_part (typed s e) (initial_value s allowed (place_of e) t e)) (no_more s is) (λ i is. Good (Listed i is)) (one_initial (place_of e) t e k)
             (no_more_initial is) (λ x y f g. (f, g))
         alone_initial t (Listed (Many at is) more) k = tt
 
@@ -136,10 +137,10 @@ module _ (new : List StructType) (all : AreSmallStructs new)
               by : (o : Option (PlainType × Slots)) → next_slot slots ≡ o → ((t : PlainType) → Small new t → Gives (EachInitial E) (typed_initialiser s allowed (place_of_initialiser j) t j))
                   → ((rest : Slots) → AreSmallSlots rest → Gives (EachPart E) (declaration.typed_items s allowed rest is))
                   → Gives (EachPart E) (elim o [
-                    | None ↦ faulty (no_type (place_of_initialiser j))
+                    | None ↦ too_many s j
                     | Some p ↦ both_parts (typed_initialiser s allowed (place_of_initialiser j) p.0 j) (declaration.typed_items s allowed p.1 is) (λ i is. Good (Listed i is))
                   ])
-              by None e f h = tt
+              by None e f h = gives_too_many (EachPart E) s j
               by (Some p) e f h =
                   let w = slot_small slots k p e in
                   gives_both (EachInitial E) (EachPart E) (EachPart E) (typed_initialiser s allowed (place_of_initialiser j) p.0 j) (declaration.typed_items s allowed p.1 is) (λ i is. Good (Listed i is))
@@ -361,11 +362,8 @@ module _ (new : List StructType) (all : AreSmallStructs new)
 
     heading_small : (s : Sight) → IsSmallSight new s → Grows s.structs new → (before : List Function) (f : Function) → Gives HasSmallType (typed_heading s before f)
     heading_small s i g before f =
-        gives_both (λ n. Unit {0}) HasSmallType HasSmallType (function_name s f) (typed_type_of_function s f) (λ n f. where_so (is_compatible_with_all before f) (no_name f.place) (Good f)) (anything (function_name s f))
-        (gives_both (Small new) (λ ds. AllSmall new (types_of ds)) HasSmallType (typed_result s (is_definition f) f.place f.result) (typed_parameters (inner s) (is_definition f) f.params)
-        (λ t ds. Good (record f { result = t; params = ds })) (result_small new all s g i.types (is_definition f) f.place f.result)
-        (parameters_small (inner s) (sees_inner s i) g (is_definition f) f.params) (λ t ds u v. (u, v)))
-        (λ n h u k. gives_where HasSmallType (is_compatible_with_all before h) _ _ (λ e. k))
+        gives_heading (λ n. Unit {0}) (Small new) (λ ds. AllSmall new (types_of ds)) HasSmallType s before f (anything (function_name s f)) (result_small new all s g i.types (is_definition f) f.place f.result)
+        (parameters_small (inner s) (sees_inner s i) g (is_definition f) f.params) (λ n t ds u v w. (v, w))
 
     -- a function whose expressions are small, and what is in sight behind it
     pub record IsFunctionThen (p : TranslationUnit) (s : Sight) (f : Function) : Type 0 where

@@ -21,7 +21,7 @@ use Rattle.c_model.specs.ExpressionTyping.{no_type, Sight, HasSize, sized, is_vo
 use Rattle.c_model.specs.ExpressionTyping.{is_zero, is_constant, integer_value, tables_in, constant, is_null, is_null_name, are_compatible, are_integers, is_assigned}
 use Rattle.c_model.specs.ExpressionTyping.{is_step, is_equality, is_difference, on_integers, where_elements, on_pointers, on_pointer_and_integer, on_integer_and_pointer, binary, both_of, either_of}
 use Rattle.c_model.specs.ExpressionTyping.{assigned, assigned_struct, assigned_scalar, compounded, assign, bump, is_cast, cast, index, member, dot, arrow}
-use Rattle.c_model.specs.ExpressionTyping.{has_object}
+use Rattle.c_model.specs.ExpressionTyping.{has_object, no_name, knows_elements, operated, operated_in_place, element}
 use Rattle.c_model.specs.TypedTrees.{IsPointer, IsName, OfObject, OfNull, OfPointerAndInteger}
 use Rattle.c_model.specs.TypedTrees.{OfIntegerAndPointer, OfDifference, OfPointers, CastTypes, ToVoid, OfInteger, OfPointer, OfNullConstant, OfArray, OnTheLeft, OnTheRight}
 use Rattle.c_model.specs.TypedTrees.{ToScalar, ToStruct, CompoundTypes, ToInteger, ToPointer, HasMember, WellTyped, IsSight}
@@ -153,7 +153,7 @@ module _ (s : Sight) (known : IsSight s)
                 })
 
         pub binary_sound : Gives (Sound s) (binary s at op a b)
-        binary_sound = by (integer_type (type_of a)) refl (integer_type (type_of b)) refl
+        binary_sound = gives_where (Sound s) (knows_elements s op (type_of a) (type_of b)) (no_name at) (operated s at op a b) (λ z. by (integer_type (type_of a)) refl (integer_type (type_of b)) refl)
           where
             by : (o : Option CInt) → integer_type (type_of a) ≡ o → (r : Option CInt) → integer_type (type_of b) ≡ r → Gives (Sound s) (elim o [
               | Some k ↦ elim r [
@@ -186,7 +186,7 @@ module _ (s : Sight) (known : IsSight s)
             record { well = (v.well, w.well, scalar_is _ p.0, scalar_is _ p.1, refl); object = λ c. absurd cc })
 
         pub index_sound : Gives (Sound s) (index s at a b)
-        index_sound = by (pointed (type_of a)) refl
+        index_sound = gives_where (Sound s) (knows_elements s operator.Add (type_of a) (type_of b)) (no_name at) (element s at a b) (λ z. by (pointed (type_of a)) refl)
           where
             by : (o : Option PlainType) → pointed (type_of a) ≡ o → Gives (Sound s) (elim o [
               | Some t ↦ where_so (is_there (integer_type (type_of b))) (no_type at) (where_elements s at t (Good (Node at t (Index a b))))
@@ -216,7 +216,7 @@ module _ (s : Sight) (known : IsSight s)
         assigned_sound = by (is_struct (type_of a)) refl
           where
             by : (z : Bool) → is_struct (type_of a) ≡ z → Gives (Sound s) (if z then assigned_struct s at a b else assigned_scalar s at a b)
-            by true i = gives_where (Sound s) (is_place a && same_type (type_of b) (type_of a)) _ _ (λ p. gives_sized (Sound s) s at (type_of a) _ (λ k.
+            by true i = gives_sized (Sound s) s at (type_of a) _ (λ k. gives_where (Sound s) (is_place a && same_type (type_of b) (type_of a)) _ _ (λ p.
                 let q = and_true (is_place a) (same_type (type_of b) (type_of a)) p in
                 let same = same_type_is (type_of b) (type_of a) q.1 in
                 record { well = (v.well, w.well, q.0, refl, same, ToStruct i k (w.object (ap is_aggregate same ∙ struct_aggregate (type_of a) i))); object = λ c. i }))
@@ -229,7 +229,7 @@ module _ (s : Sight) (known : IsSight s)
 
     compounded_sound : (at : Place) (op : BinOp) (a b whole : Expression)
         → (is_place a ≡ true → CompoundTypes s op (type_of a) (type_of b) → is_aggregate (type_of a) ≡ false → Sound s whole) → Gives (Sound s) (compounded s at op a b whole)
-    compounded_sound at op a b whole h = by (integer_type (type_of a)) refl
+    compounded_sound at op a b whole h = gives_where (Sound s) (knows_elements s op (type_of a) (type_of b)) (no_name at) (operated_in_place s at op a b whole) (λ z. by (integer_type (type_of a)) refl)
       where
         flat_as : (t u : PlainType) → t ≡ u → is_aggregate u ≡ false → is_aggregate t ≡ false
         flat_as t u e f = ap is_aggregate e ∙ f

@@ -1,12 +1,12 @@
 -- The items of a typed file, each typed with what is in sight where it stands and the structs of the whole file.
-use Rattle.std.proofs.Common.{◌≡◌, ℕ, pos, refl, sym, ap, ◌∙◌, subst, List, [], ◌∷◌, ◌++◌, length, replicate, Option, Some, None, slice_get, append_assoc, append-nil}
+use Rattle.std.proofs.Common.{◌≡◌, ℕ, pos, refl, sym, ap, ◌∙◌, subst, List, [], ◌∷◌, ◌++◌, Option, Some, None, slice_get, append_assoc, append-nil}
 use Rattle.c_syntax.specs.Statements.{Declaration}
 use Rattle.c_syntax.specs.Programs.{StructType, EnumConstant, EnumType, Function, TranslationUnit}
 use Rattle.c_model.specs.Checked.{Checked, Good, Bad, one_part}
 use Rattle.c_model.specs.ExpressionTyping.{Sight}
 use Rattle.c_model.specs.DeclarationTyping.{typed_global, typed_typedef, typed_member, typed_member_type, with_member, typed_enumerators}
 use Rattle.c_model.specs.UnitTyping.{FileItem, StructHead, Member, AnEnum, ATypedef, AGlobal, AFunction, with_function, typed_function, Progress, new_tag}
-use Rattle.c_model.specs.UnitTyping.{typed_item_of_file, typed_items_of_file, at_start, items_of_file, sight_with, with_progress, typed_unit, with_enum_tag, behind_item, tags_of}
+use Rattle.c_model.specs.UnitTyping.{typed_item_of_file, typed_items_of_file, at_start, items_of_file, levels_from, sight_with, with_progress, typed_unit, with_enum_tag, behind_item, tags_of}
 use Rattle.c_model.specs.PlacedTrees.{FileItemPlaced, FilePlaced, MembersInOrder}
 use Rattle.c_model.specs.TextOrder.{enums_among, typedefs_among, globals_among, functions_among, InTextOrder}
 use Rattle.c_model.specs.TypedPrograms.{ItemTyped, ItemsTyped}
@@ -265,8 +265,8 @@ has_typed_items p q o is = gives_of (HasTypedItems p) (typed_unit p) q
       typedefs = sym v.typedefs;
       globals = sym v.globals;
       functions = sym v.functions;
-      typed = v.typed (replicate (length r.sight.structs) 0) (tags_of r.enums);
-      values = v.values (replicate (length r.sight.structs) 0) (tags_of r.enums);
+      typed = v.typed (levels_from [] r.sight.structs) (tags_of r.enums);
+      values = v.values (levels_from [] r.sight.structs) (tags_of r.enums);
       names = refl;
       texts = refl;
       strays = refl;

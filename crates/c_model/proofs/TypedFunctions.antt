@@ -7,13 +7,14 @@ use Rattle.c_syntax.specs.Programs.{Function, TranslationUnit}
 use Rattle.c_model.specs.Meaning.{is_definition}
 use Rattle.c_model.specs.Library.{is_library_name, is_there}
 use Rattle.c_model.specs.Checked.{Checked, Good, Bad, one_part}
-use Rattle.c_model.specs.ExpressionTyping.{Signature, Sight, name_at, function_called, type_named, with_object, inner, declared_here, is_void, is_scalar, is_struct, sized, limited, typed_type}
-use Rattle.c_model.specs.DeclarationTyping.{own_name, is_unknown, scalar_type, typed_result, typed_parameter_type, parameter_name, typed_parameter}
+use Rattle.c_model.specs.ExpressionTyping.{is_unknown, Signature, Sight, name_at, function_called, type_named, with_object, inner, declared_here, is_void, is_scalar, is_struct, sized, limited, typed_type}
+use Rattle.c_model.specs.DeclarationTyping.{own_name, scalar_type, typed_result, typed_parameter_type, parameter_name, typed_parameter}
 use Rattle.c_model.specs.StatementTyping.{typed_items}
-use Rattle.c_model.specs.UnitTyping.{with_function, with_parameter, with_parameters, is_compatible_with_all, function_name, typed_parameters, typed_type_of_function, typed_heading, typed_body, typed_function}
+use Rattle.c_model.specs.UnitTyping.{with_function, with_parameter, with_parameters, typed_parameters, typed_heading, typed_body, typed_function}
 use Rattle.c_model.specs.TypedTrees.{IsScalar, IsResult, GivesNothing, GivesScalar, IsParameter, AreParameters, around_body, BodyTyped, FunctionTyped, ItemsTyped}
 use Rattle.c_model.specs.PlacedTrees.{IsOffset, ParametersPlaced, BodyPlaced, FunctionPlaced}
 use Rattle.c_model.specs.TextTypingLaws.{IsWholeSight}
+use Rattle.c_model.proofs.TypedHeadings.{gives_heading}
 use Rattle.c_model.proofs.TypedParts.{Gives, gives_of, gives_one, gives_both, gives_where, void_is, scalar_is}
 use Rattle.c_model.proofs.TypedSoundness.{gives_limited}
 use Rattle.c_model.proofs.TypedDeclarations.{anything, none_there, own_name_is, after_object}
@@ -152,21 +153,10 @@ record IsHeading (s : Sight) (f g : Function) : Type 0 where
   params : AreParametersThen (inner s) g.params
   body : g.body ≡ f.body
 
-record IsTyped (s : Sight) (f g : Function) : Type 0 where
-  name : g.name ≡ f.name
-  result : IsResult g.result
-  params : AreParametersThen (inner s) g.params
-  body : g.body ≡ f.body
-
-type_typed : (s : Sight) (f : Function) → FunctionPlaced f → Gives (IsTyped s f) (typed_type_of_function s f)
-type_typed s f o = gives_both IsResult (AreParametersThen (inner s)) (IsTyped s f) (typed_result s (is_definition f) f.place f.result) (typed_parameters (inner s) (is_definition f) f.params)
-    (λ t ds. Good (record f { result = t; params = ds })) (result_is s (is_definition f) f.place f.result) (parameters_typed (inner s) (is_definition f) f.params o.params)
-    (λ t ds v w. record { name = refl; result = v; params = w; body = refl })
-
 heading_typed : (s : Sight) (before : List Function) (f : Function) → FunctionPlaced f → Gives (IsHeading s f) (typed_heading s before f)
-heading_typed s before f o = gives_both (λ u. (is_library_name (name_at s.names f.name) ≡ false) × (declared ≡ false)) (IsTyped s f) (IsHeading s f) (function_name s f) (typed_type_of_function s f) _
-    (own_name_is s declared f.place f.name) (type_typed s f o) (λ n g v w. gives_where (IsHeading s f) (is_compatible_with_all before g) _ _ (λ e.
-    record { own_name = ap (λ x. is_library_name (name_at s.names x)) w.name ∙ v.0; result = w.result; params = w.params; body = w.body }))
+heading_typed s before f o =
+    gives_heading (λ u. (is_library_name (name_at s.names f.name) ≡ false) × (declared ≡ false)) IsResult (AreParametersThen (inner s)) (IsHeading s f) s before f (own_name_is s declared f.place f.name)
+    (result_is s (is_definition f) f.place f.result) (parameters_typed (inner s) (is_definition f) f.params o.params) (λ n t ds u v w. record { own_name = u.0; result = v; params = w; body = refl })
   where
     declared : Bool
     declared = is_there (declared_here s f.name) || is_there (type_named f.name s.types)

@@ -7,13 +7,13 @@ use Rattle.c_syntax.specs.Statements.{Initialiser, One, Many, Initialisers, NoIn
 use Rattle.c_syntax.specs.Programs.{StructMember, StructType}
 use Rattle.c_syntax.specs.Layouts.{size_of, elements, member_parts, members_of_struct}
 use Rattle.c_model.specs.Meaning.{parts_or_itself, string_in}
-use Rattle.c_model.specs.Checked.{Good, faulty, one_part, both_parts, where_so}
+use Rattle.c_model.specs.Checked.{Good, one_part, both_parts, where_so}
 use Rattle.c_model.specs.ExpressionTyping.{no_type, Sight, HasSize, sized, is_scalar, is_character, decayed, in_type, tables_in, is_assigned, typed}
-use Rattle.c_model.specs.DeclarationTyping.{place_of_initialiser, Slots, Each, Members, next_slot, member_types, slots_of, bytes_of_text, takes_text, is_text_array, no_more, initial_value, typed_alone}
+use Rattle.c_model.specs.DeclarationTyping.{place_of_initialiser, Slots, Each, Members, next_slot, member_types, slots_of, bytes_of_text, takes_text, is_text_array, no_more, too_many, initial_value, typed_alone}
 use Rattle.c_model.specs.DeclarationTyping.{typed_initialiser, typed_text, typed_items, typed_maybe_initialiser}
 use Rattle.c_model.specs.TypedTrees.{IsText, WellTyped, FillsArray, ByText, ByValue, Initialises, PartsInitialised, WhereAny}
 use Rattle.c_model.specs.TextTypingLaws.{is_whole, AreWhole, IsWholeSight}
-use Rattle.c_model.proofs.TypedParts.{Gives, gives_one, gives_both, gives_where, and_true, scalar_is}
+use Rattle.c_model.proofs.TypedParts.{Gives, gives_one, gives_both, gives_where, and_true, scalar_is, gives_too_many}
 use Rattle.c_model.proofs.TypedOperators.{Sound, decayed_sound, in_type_well, in_type_type}
 use Rattle.c_model.proofs.TypedExpressions.{assigned_casts}
 use Rattle.c_model.proofs.TypedSoundness.{typed_sound}
@@ -117,14 +117,14 @@ module _ (s : Sight) (i : IsWholeSight s) (is_allowed : Expression → Expressio
     expression_initialises : (here : Place) (t : PlainType) → is_whole t ≡ true → (e : Expression) → Gives (Initialises s t) (one_part (typed s e) (initial_value s is_allowed here t e))
     expression_initialises here t h e = gives_one (Sound s) (Initialises s t) (typed s e) (initial_value s is_allowed here t e) (typed_sound s i.known e) (λ x v. value_initialises here t e x h v)
 
-    none_more : (is : Initialisers) → Gives (PartsInitialised s []) (no_more is)
+    none_more : (is : Initialisers) → Gives (PartsInitialised s []) (no_more s is)
     none_more NoInitialiser = tt
-    none_more (Listed i is) = tt
+    none_more (Listed i is) = gives_too_many (PartsInitialised s []) s i
 
     alone_initialises : (t : PlainType) → is_whole t ≡ true → (is : Initialisers) → Gives (PartsInitialised s ((0, t) ∷ [])) (typed_alone s is_allowed t is)
     alone_initialises t h NoInitialiser = tt
     alone_initialises t h (Listed (One e) is) =
-        gives_both (Initialises s t) (PartsInitialised s []) (PartsInitialised s ((0, t) ∷ [])) (one_part (typed s e) (initial_value s is_allowed (place_of e) t e)) (no_more is)
+        gives_both (Initialises s t) (PartsInitialised s []) (PartsInitialised s ((0, t) ∷ [])) (one_part (typed s e) (initial_value s is_allowed (place_of e) t e)) (no_more s is)
         (λ i is. Good (Listed i is)) (expression_initialises (place_of e) t h e) (none_more is) (λ i is v w. (v, w))
     alone_initialises t h (Listed (Many at is) more) = tt
 
@@ -152,11 +152,11 @@ module _ (s : Sight) (i : IsWholeSight s) (is_allowed : Expression → Expressio
       items_initialise slots [] f NoInitialiser = tt
       items_initialise slots (c ∷ cs) f NoInitialiser = tt
       items_initialise slots [] f (Listed i is) = subst (λ o. Gives (PartsInitialised s []) (elim o [
-        | None ↦ faulty (no_type (place_of_initialiser i))
+        | None ↦ too_many s i
         | Some p ↦ both_parts (typed_initialiser s is_allowed (place_of_initialiser i) p.0 i) (typed_items s is_allowed p.1 is) (λ i is. Good (Listed i is))
-      ])) (sym f) tt
+      ])) (sym f) (gives_too_many (PartsInitialised s []) s i)
       items_initialise slots (c ∷ cs) f (Listed i is) = subst (λ o. Gives (PartsInitialised s (c ∷ cs)) (elim o [
-        | None ↦ faulty (no_type (place_of_initialiser i))
+        | None ↦ too_many s i
         | Some p ↦ both_parts (typed_initialiser s is_allowed (place_of_initialiser i) p.0 i) (typed_items s is_allowed p.1 is) (λ i is. Good (Listed i is))
       ])) (sym f.1)
           (gives_both (Initialises s c.1) (PartsInitialised s cs) (PartsInitialised s (c ∷ cs)) (typed_initialiser s is_allowed (place_of_initialiser i) c.1 i) (typed_items s is_allowed f.0 is)

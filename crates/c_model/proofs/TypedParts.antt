@@ -5,6 +5,8 @@ use Rattle.c_syntax.specs.declared.place.Place.{Place}
 use Rattle.c_syntax.specs.declared.types.CInt.{CInt}
 use Rattle.c_syntax.specs.declared.types.CInt.TheVariants.{I8, U8, I16, U16, I32, U32, I64, U64}
 use Rattle.c_syntax.specs.Ctypes.{PlainType, Void, Int, Ptr, Array, Struct, PlainLength, Count}
+use Rattle.c_syntax.specs.Expressions.{Expression, place_of}
+use Rattle.c_syntax.specs.Statements.{Initialiser, One, Many}
 use Rattle.c_syntax.specs.Layouts.{IntegerType, PointerType}
 use Rattle.c_model.specs.Integers.{integer_type}
 use Rattle.c_model.specs.Library.{is_there}
@@ -12,6 +14,8 @@ use Rattle.c_model.specs.Meaning.{is_pointer}
 use Rattle.c_model.specs.Checked.{Fault, Checked, Good, Bad, faulty, one_part, both_parts, given, where_so}
 use Rattle.c_model.specs.ExpressionTyping.{no_name, no_type, Sight, same_int, same_length, same_type, is_void, is_scalar, pointed, Sized, HasSize, HasNoSize, NotYet, sized, where_sized}
 use Rattle.c_model.specs.ExpressionTyping.{where_elements}
+use Rattle.c_model.specs.ExpressionTyping.{typed}
+use Rattle.c_model.specs.DeclarationTyping.{too_many}
 use Rattle.c_model.specs.TypedTrees.{IsScalar, IsInteger, IsPointer}
 
 -- what holds of the value, where there is one
@@ -40,6 +44,14 @@ gives_given R (Some a) f k h = h a refl
 pub gives_where : {B : Type 0} (R : B → Type 0) (t : Bool) (f : Fault) (c : Checked B) → (t ≡ true → Gives R c) → Gives R (where_so t f c)
 gives_where R true f c h = h refl
 gives_where R false f c h = tt
+
+pub gives_too_many : {A : Type 0} (R : A → Type 0) (s : Sight) (i : Initialiser) → Gives R (too_many {A = A} s i)
+gives_too_many R s (One e) = by (typed s e)
+  where
+    by : (c : Checked Expression) → Gives R (one_part c (λ x. faulty (no_type (place_of e))))
+    by (Good x) = tt
+    by (Bad f fs) = tt
+gives_too_many R s (Many at is) = tt
 
 -- the same under a hypothesis
 pub gives_if : {A : Type 0} (H : Type 0) (P : A → Type 0) (c : Checked A) → (H → Gives P c) → Gives (λ a. H → P a) c

@@ -18,7 +18,8 @@ use Rattle.c_model.specs.Library.{library_constant, is_there}
 use Rattle.c_model.specs.Checked.{Checked, Good, Bad, faulty, one_part, both_parts, given, where_so}
 use Rattle.c_model.specs.ExpressionTyping.{no_name, no_type, Sight, Entity, AnObject, AnEnumerator, Signature, name_at, entity_named, function_called, library_function, use_as, literal_at, same_type}
 use Rattle.c_model.specs.ExpressionTyping.{is_scalar, is_void, pointed, is_place, decayed, in_type, in_int, decayed_of, literal, text, is_null_word, library_name, named, unary_on, on_integers, both_of, either_of}
-use Rattle.c_model.specs.ExpressionTyping.{choice_type, choice_of, is_struct, is_step, is_equality, is_difference, where_elements, on_pointers, on_pointer_and_integer, on_integer_and_pointer, binary, is_null, are_compatible}
+use Rattle.c_model.specs.ExpressionTyping.{choice_type, choice_of, is_struct, is_step, is_equality, is_difference, where_elements, on_pointers, on_pointer_and_integer, on_integer_and_pointer, knows_elements, operated, is_null, are_compatible}
+use Rattle.c_model.specs.ExpressionTyping.{binary, operated_in_place, element}
 use Rattle.c_model.specs.ExpressionTyping.{is_assigned, assigned_struct, assigned_scalar, compounded, assign, bump, is_cast, cast, index, member, dot, arrow, size_of_type, size_of_expression}
 use Rattle.c_model.specs.ExpressionTyping.{or_else, no_function, callee, first_type, rest_types, argument_for, count_of, call, params_of, two, type_in, typed, typed_arguments, typed_type, limited}
 use Rattle.c_model.specs.TypedTrees.{TypingLaws, AsUse, AsNumber, TypedAs, KindTypedAs, AllTypedAs}
@@ -131,7 +132,7 @@ module _ (s : Sight) (at : Place) (u : PlainType)
         either_as = gives_where _ (is_scalar (type_of a) && is_scalar (type_of b)) _ _ (λ t. form_as at u int_type (Either ra rb) (Either a b) (a, b, refl, v, w))
 
         binary_as : (op : BinOp) → Gives (TypedAs (Node at u (Binary op ra rb))) (binary s at op a b)
-        binary_as op = by (integer_type (type_of a)) (integer_type (type_of b))
+        binary_as op = gives_where _ (knows_elements s op (type_of a) (type_of b)) (no_name at) (operated s at op a b) (λ z. by (integer_type (type_of a)) (integer_type (type_of b)))
           where
             pointers : (t r : PlainType) → Gives (TypedAs (Node at u (Binary op ra rb))) (on_pointers s at op t r a b)
             pointers t r = by (is_difference op) (is_equality op)
@@ -178,7 +179,7 @@ module _ (s : Sight) (at : Place) (u : PlainType)
             by None None = gives_given _ (pointed (type_of a)) _ _ (λ t e. gives_given _ (pointed (type_of b)) _ _ (λ r f. pointers t r))
 
         index_as : Gives (TypedAs (Node at u (Index ra rb))) (index s at a b)
-        index_as = by (pointed (type_of a))
+        index_as = gives_where _ (knows_elements s operator.Add (type_of a) (type_of b)) (no_name at) (element s at a b) (λ z. by (pointed (type_of a)))
           where
             whole : (t : PlainType) → TypedAs (Node at u (Index ra rb)) (Node at t (Index a b))
             whole t = form_as at u t (Index ra rb) (Index a b) (a, b, refl, v, w)
@@ -191,7 +192,7 @@ module _ (s : Sight) (at : Place) (u : PlainType)
             by None = gives_given _ (pointed (type_of b)) _ _ (λ t f. gives_where _ (is_there (integer_type (type_of a))) _ _ (λ e. gives_elements _ s at t _ (λ k. whole t)))
 
         compounded_as : (R : Expression → Type 0) (op : BinOp) (x y whole : Expression) → R whole → Gives R (compounded s at op x y whole)
-        compounded_as R op x y whole h = by (integer_type (type_of x))
+        compounded_as R op x y whole h = gives_where R (knows_elements s op (type_of x) (type_of y)) (no_name at) (operated_in_place s at op x y whole) (λ z. by (integer_type (type_of x)))
           where
             by : (o : Option CInt) → Gives R (elim o [
               | Some k ↦ where_so (is_place x && is_there (integer_type (type_of y))) (no_type at) (Good whole)
@@ -207,7 +208,7 @@ module _ (s : Sight) (at : Place) (u : PlainType)
         assign_as None = by (is_struct (type_of a))
           where
             by : (z : Bool) → Gives (TypedAs (Node at u (Assign None ra rb))) (if z then assigned_struct s at a b else assigned_scalar s at a b)
-            by true = gives_where _ (is_place a && same_type (type_of b) (type_of a)) _ _ (λ p. gives_sized _ s at (type_of a) _ (λ k.
+            by true = gives_sized _ s at (type_of a) _ (λ k. gives_where _ (is_place a && same_type (type_of b) (type_of a)) _ _ (λ p.
                 form_as at u (type_of a) (Assign None ra rb) (Assign None a b) (a, b, refl, v, w)))
             by false = gives_where _ (is_place a && is_scalar (type_of a) && is_assigned s b (type_of a)) _ _ (λ p.
                 form_as at u (type_of a) (Assign None ra rb) (Assign None a (in_type (type_of a) b)) (a, in_type (type_of a) b, refl, v, in_type_as rb b (type_of a) w))

@@ -38,7 +38,7 @@ use Rattle.c_model.specs.ExpressionTyping.{use_as, literal_at, same_type, is_voi
 use Rattle.c_model.specs.ExpressionTyping.{decayed, in_type, in_int, is_place, is_null, are_compatible, is_assigned, literal, text, is_null_word, library_name, named, unary_on, on_integers, is_step, is_equality, is_difference}
 use Rattle.c_model.specs.ExpressionTyping.{where_elements, on_pointers, on_pointer_and_integer, on_integer_and_pointer, binary, both_of, either_of, choice_type, choice_of, assigned_scalar, assigned_struct, assigned, compounded}
 use Rattle.c_model.specs.ExpressionTyping.{assign, bump, is_cast, cast, index, member, dot, arrow, size_of_type, size_of_expression, callee, first_type, rest_types, argument_for, count_of, call, params_of}
-use Rattle.c_model.specs.ExpressionTyping.{two, decayed_of, type_in, typed, typed_arguments, typed_type}
+use Rattle.c_model.specs.ExpressionTyping.{two, decayed_of, type_in, typed, typed_arguments, typed_type, knows_elements, operated, operated_in_place, element}
 use Rattle.c_model.specs.Sizes.{weight_of, weight_of_all, forms_of, forms_of_all, IsSmall}
 use Rattle.c_model.proofs.TypedParts.{Gives, gives_one, gives_both, gives_given, gives_where, gives_sized, gives_elements}
 use Rattle.c_model.proofs.TypedSoundness.{gives_limited}
@@ -272,7 +272,7 @@ module _ (s : Sight) (at : Place) (op : BinOp) (n m : ℕ) (a b : Expression) (h
       by false = gives_if R (is_equality op && is_null s a) (no_type at) (Good (Node at int_type (Binary op (in_type (Ptr t) a) b))) (left_null t k i)
 
   binary_light : Gives R (binary s at op a b)
-  binary_light = by (integer_type (type_of a)) (integer_type (type_of b)) refl refl
+  binary_light = gives_if R (knows_elements s op (type_of a) (type_of b)) (no_name at) (operated s at op a b) (by (integer_type (type_of a)) (integer_type (type_of b)) refl refl)
     where
       by : (x y : Option CInt) → integer_type (type_of a) ≡ x → integer_type (type_of b) ≡ y → Gives R (elim x [
         | Some k ↦ elim y [
@@ -318,7 +318,7 @@ module _ (at : Place) (n m : ℕ) (a b : Expression) (h : IsLightValue n a) (v :
       record { few = omega (arith, f, g); light = omega (arith, w, z) }
 
   index_light : (s : Sight) → Gives (IsLight (suc (n + m))) (index s at a b)
-  index_light s = by (pointed (type_of a))
+  index_light s = gives_if (IsLight (suc (n + m))) (knows_elements s operator.Add (type_of a) (type_of b)) (no_name at) (element s at a b) (by (pointed (type_of a)))
     where
       by : (o : Option PlainType) → Gives (IsLight (suc (n + m))) (elim o [
         | Some t ↦ where_so (is_there (integer_type (type_of b))) (no_type at) (where_elements s at t (Good (Node at t (Index a b))))
@@ -375,13 +375,14 @@ module _ (s : Sight) (at : Place) (n m : ℕ) (a b : Expression) (h : IsLight n 
     where
       by : (x : Bool) → Gives (IsLight (suc (n + m))) (if x then assigned_struct s at a b else assigned_scalar s at a b)
       by true =
-          gives_if (IsLight (suc (n + m))) (is_place a && same_type (type_of b) (type_of a)) (no_type at) (where_sized s at (type_of a) (Good (Node at (type_of a) (Assign None a b))))
-          (gives_size (IsLight (suc (n + m))) s at (type_of a) (Good (Node at (type_of a) (Assign None a b))) (compound_light None (type_of a)))
+          let whole = Node at (type_of a) (Assign None a b) in
+          gives_size (IsLight (suc (n + m))) s at (type_of a) (where_so (is_place a && same_type (type_of b) (type_of a)) (no_type at) (Good whole))
+          (gives_if (IsLight (suc (n + m))) (is_place a && same_type (type_of b) (type_of a)) (no_type at) (Good whole) (compound_light None (type_of a)))
       by false =
           gives_if (IsLight (suc (n + m))) (is_place a && is_scalar (type_of a) && is_assigned s b (type_of a)) (no_type at) (Good (Node at (type_of a) (Assign None a (in_type (type_of a) b)))) (stored_light (type_of a))
 
 compounded_light : (s : Sight) (at : Place) (op : BinOp) (a b whole : Expression) (n : ℕ) → IsLight n whole → Gives (IsLight n) (compounded s at op a b whole)
-compounded_light s at op a b whole n h = by (integer_type (type_of a))
+compounded_light s at op a b whole n h = gives_if (IsLight n) (knows_elements s op (type_of a) (type_of b)) (no_name at) (operated_in_place s at op a b whole) (by (integer_type (type_of a)))
   where
     by : (o : Option CInt) → Gives (IsLight n) (elim o [
       | Some k ↦ where_so (is_place a && is_there (integer_type (type_of b))) (no_type at) (Good whole)

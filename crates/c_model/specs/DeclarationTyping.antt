@@ -19,8 +19,8 @@ use Rattle.c_model.specs.Meaning.{eval_with, zeros, string_in, is_array, is_poin
 use Rattle.c_model.specs.Library.{is_library_name, is_there}
 use Rattle.c_model.specs.Checked.{Checked, Good, faulty, one_part, both_parts, given, where_so}
 use Rattle.c_model.specs.ExpressionTyping.{no_name, no_type, too_large, Entity, AnObject, AnEnumerator, Sight, name_at, function_called}
-use Rattle.c_model.specs.ExpressionTyping.{type_named, literal_at, with_object, declared_here, is_void, is_scalar, is_struct, is_character, Sized, HasSize}
-use Rattle.c_model.specs.ExpressionTyping.{HasNoSize, NotYet, sized, where_sized, most_bytes, number_at, levels_of, limited, decayed}
+use Rattle.c_model.specs.ExpressionTyping.{type_named, literal_at, with_object, declared_here, is_void, is_scalar, is_struct, is_character, HasSize}
+use Rattle.c_model.specs.ExpressionTyping.{HasNoSize, NotYet, is_unknown, sized, where_sized, most_bytes, number_at, levels_of, limited, decayed}
 use Rattle.c_model.specs.ExpressionTyping.{in_type, no_callee, nowhere, tables_in, constant, is_assigned, array_of, decayed_of, typed, typed_type}
 use Rattle.c_model.specs.ExpressionTyping.{typed_length}
 
@@ -112,10 +112,6 @@ typed_parameter_type s at t = one_part (typed_type s at t) (λ u. pointer_where_
     pointer_where_array s at (Array t n) = Good (Ptr t)
     pointer_where_array s at t = Good t
 
-abbrev pub is_unknown : Sized → Bool
-is_unknown NotYet = true
-is_unknown _ = false
-
 -- a parameter or a result is a scalar (this profile); a definition needs the size of a struct (C99 6.7.5.3 p4, 6.9.1 p3)
 abbrev pub scalar_type : Sight → Bool → Place → PlainType → Checked PlainType
 scalar_type s defined at t =
@@ -164,10 +160,15 @@ abbrev pub is_text_array : PlainType → Initialisers → Bool
 is_text_array (Array t n) (Listed (One (Node at u (Text k))) NoInitialiser) = is_character t
 is_text_array t is = false
 
+-- an item for which there is no object (C99 6.7.8 p2): a fault of its expression is that of a smaller part
+abbrev pub too_many : {A : Type 0} → Sight → Initialiser → Checked A
+too_many s (One e) = one_part (typed s e) (λ x. faulty (no_type (place_of e)))
+too_many s (Many at is) = faulty (no_type at)
+
 -- no item, after the one of a scalar
-abbrev pub no_more : Initialisers → Checked Initialisers
-no_more NoInitialiser = Good NoInitialiser
-no_more (Listed i is) = faulty (no_type (place_of_initialiser i))
+abbrev pub no_more : Sight → Initialisers → Checked Initialisers
+no_more s NoInitialiser = Good NoInitialiser
+no_more s (Listed i is) = too_many s i
 
 -- initialisers, of which those that are expressions, as they are read and as they are typed, are to be of a form
 module _ (s : Sight) (is_allowed : Expression → Expression → Bool) where
@@ -181,7 +182,7 @@ module _ (s : Sight) (is_allowed : Expression → Expression → Bool) where
   abbrev pub typed_alone : PlainType → Initialisers → Checked Initialisers
   typed_alone t NoInitialiser = Good NoInitialiser
   typed_alone t (Listed (One e) is) =
-      both_parts (one_part (typed s e) (initial_value (place_of e) t e)) (no_more is) (λ i is. Good (Listed i is))
+      both_parts (one_part (typed s e) (initial_value (place_of e) t e)) (no_more s is) (λ i is. Good (Listed i is))
   typed_alone t (Listed (Many at is) more) = faulty (no_type at)
 
   -- a list in braces is for an array or a struct, part by part; braces around a string are taken off
@@ -200,7 +201,7 @@ module _ (s : Sight) (is_allowed : Expression → Expression → Bool) where
     pub typed_items : Slots → Initialisers → Checked Initialisers
     typed_items slots NoInitialiser = Good NoInitialiser
     typed_items slots (Listed i is) = elim (next_slot slots) [
-      | None ↦ faulty (no_type (place_of_initialiser i))
+      | None ↦ too_many s i
       | Some p ↦ both_parts (typed_initialiser (place_of_initialiser i) p.0 i) (typed_items p.1 is) (λ i is. Good (Listed i is))
     ]
 

@@ -225,6 +225,10 @@ sized structs (Array t (Count n)) = sized structs t
 sized structs (Struct n) = is_known (slice_get structs n)
 sized structs _ = HasNoSize
 
+abbrev pub is_unknown : Sized → Bool
+is_unknown NotYet = true
+is_unknown _ = false
+
 -- goes on with a type that has a size
 abbrev pub where_sized : {A : Type 0} → Sight → Place → PlainType → Checked A → Checked A
 where_sized s at t c = elim (sized s.structs t) [ HasSize ↦ c | HasNoSize ↦ faulty (no_type at) | NotYet ↦ faulty (no_name at) ]
@@ -470,8 +474,18 @@ on_integer_and_pointer s at op t a b =
     if is_step op false then where_elements s at t (Good (Node at (Ptr t) (Binary op a b)))
     else where_so (is_equality op && is_null s a) (no_type at) (Good (Node at int_type (Binary op (in_type (Ptr t) a) b)))
 
-abbrev pub binary : Sight → Place → BinOp → Expression → Expression → Checked Expression
-binary s at op a b = elim (integer_type (type_of a)) [
+-- whether a type points to a struct whose members aren't known yet
+abbrev pub points_to_unknown : Sight → PlainType → Bool
+points_to_unknown s (Ptr t) = is_unknown (sized s.structs t)
+points_to_unknown s _ = false
+
+-- whether an operator knows the sizes that it needs: where it goes on by elements, those of what its operands point to (C99 6.5.6 p2, p3)
+abbrev pub knows_elements : Sight → BinOp → PlainType → PlainType → Bool
+knows_elements s op t u = not (is_step op true && (points_to_unknown s t || points_to_unknown s u))
+
+-- two values of types that fit the operator
+abbrev pub operated : Sight → Place → BinOp → Expression → Expression → Checked Expression
+operated s at op a b = elim (integer_type (type_of a)) [
   | Some k ↦ elim (integer_type (type_of b)) [
     | Some l ↦ Good (on_integers at op k l a b)
     | None ↦ given (pointed (type_of b)) (no_type at) (λ t. on_integer_and_pointer s at op t a b)
@@ -481,6 +495,10 @@ binary s at op a b = elim (integer_type (type_of a)) [
     | None ↦ given (pointed (type_of b)) (no_type at) (λ u. on_pointers s at op t u a b)
   ])
 ]
+
+-- of two demands at the operator, that of names comes first, here and in what follows
+abbrev pub binary : Sight → Place → BinOp → Expression → Expression → Checked Expression
+binary s at op a b = where_so (knows_elements s op (type_of a) (type_of b)) (no_name at) (operated s at op a b)
 
 -- `&&` and `||` take scalars (C99 6.5.13, 6.5.14)
 abbrev pub both_of : Place → Expression → Expression → Checked Expression
@@ -518,20 +536,23 @@ assigned_scalar s at a b =
 -- a struct goes to the same struct, whose size is needed
 abbrev pub assigned_struct : Sight → Place → Expression → Expression → Checked Expression
 assigned_struct s at a b =
-    where_so (is_place a && same_type (type_of b) (type_of a)) (no_type at)
-    (where_sized s at (type_of a) (Good (Node at (type_of a) (Assign None a b))))
+    where_sized s at (type_of a)
+    (where_so (is_place a && same_type (type_of b) (type_of a)) (no_type at) (Good (Node at (type_of a) (Assign None a b))))
 
 abbrev pub assigned : Sight → Place → Expression → Expression → Checked Expression
 assigned s at a b = if is_struct (type_of a) then assigned_struct s at a b else assigned_scalar s at a b
 
 -- `a op= b` takes what the operator takes (C99 6.5.16.2): integers, whose conversions stand where it is evaluated, or a pointer that
 -- goes on by elements
-abbrev pub compounded : Sight → Place → BinOp → Expression → Expression → Expression → Checked Expression
-compounded s at op a b whole = elim (integer_type (type_of a)) [
+abbrev pub operated_in_place : Sight → Place → BinOp → Expression → Expression → Expression → Checked Expression
+operated_in_place s at op a b whole = elim (integer_type (type_of a)) [
   | Some k ↦ where_so (is_place a && is_there (integer_type (type_of b))) (no_type at) (Good whole)
   | None ↦ given (pointed (type_of a)) (no_type at) (λ t.
       where_so (is_place a && is_there (integer_type (type_of b)) && is_step op true) (no_type at) (where_elements s at t (Good whole)))
 ]
+
+abbrev pub compounded : Sight → Place → BinOp → Expression → Expression → Expression → Checked Expression
+compounded s at op a b whole = where_so (knows_elements s op (type_of a) (type_of b)) (no_name at) (operated_in_place s at op a b whole)
 
 abbrev pub assign : Sight → Place → Option BinOp → Expression → Expression → Checked Expression
 assign s at None a b = assigned s at a b
@@ -549,12 +570,15 @@ abbrev pub cast : Sight → Place → PlainType → Expression → Checked Expre
 cast s at to a = where_so (is_cast s a to) (no_type at) (Good (Node at to (Cast to a)))
 
 -- `a[b]`, of which one is a pointer and the other an integer (C99 6.5.2.1)
-abbrev pub index : Sight → Place → Expression → Expression → Checked Expression
-index s at a b = elim (pointed (type_of a)) [
+abbrev pub element : Sight → Place → Expression → Expression → Checked Expression
+element s at a b = elim (pointed (type_of a)) [
   | Some t ↦ where_so (is_there (integer_type (type_of b))) (no_type at) (where_elements s at t (Good (Node at t (Index a b))))
   | None ↦ given (pointed (type_of b)) (no_type at) (λ t.
       where_so (is_there (integer_type (type_of a))) (no_type at) (where_elements s at t (Good (Node at t (Index a b)))))
 ]
+
+abbrev pub index : Sight → Place → Expression → Expression → Checked Expression
+index s at a b = where_so (knows_elements s operator.Add (type_of a) (type_of b)) (no_name at) (element s at a b)
 
 -- the type of a member of a struct whose members are known (C99 6.5.2.3)
 abbrev pub member : Sight → Place → PlainType → ℕ → Checked PlainType

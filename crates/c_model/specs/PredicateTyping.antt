@@ -70,8 +70,8 @@ abbrev pub number : Place → ℤ → Sorted
 number at n = ATerm (Number at None no_range n)
 
 -- a name; that of a function has no meaning in annotations
-abbrev pub named : Sight → Place → ℕ → Checked Sorted
-named s at x = elim (entity_named x s.entities) [
+abbrev pub term_named : Sight → Place → ℕ → Checked Sorted
+term_named s at x = elim (entity_named x s.entities) [
   | Some e ↦ elim e [ AnObject b ↦ object_term at x b | AnEnumerator c ↦ Good (number at c.value) ]
   | None ↦ given (library_constant (name_at s.names x)) (no_name at) (λ c. Good (number at c.1))
 ]
@@ -107,9 +107,9 @@ abbrev pub connected : Place → Connective → Sorted → Sorted → Sorted
 connected at c a b = APredicate (Connected at c (as_predicate a) (as_predicate b))
 
 -- a choice is a term where both branches are terms
-abbrev pub choice : Place → Sorted → Sorted → Sorted → Sorted
-choice at c (ATerm a) (ATerm b) = ATerm (Choice at None no_range (as_predicate c) a b)
-choice at c a b = APredicate (Branch at (as_predicate c) (as_predicate a) (as_predicate b))
+abbrev pub chosen : Place → Sorted → Sorted → Sorted → Sorted
+chosen at c (ATerm a) (ATerm b) = ATerm (Choice at None no_range (as_predicate c) a b)
+chosen at c a b = APredicate (Branch at (as_predicate c) (as_predicate a) (as_predicate b))
 
 -- whether a side of a relation has no fault and is a predicate
 abbrev pub is_predicate : Checked Sorted → Bool
@@ -121,40 +121,40 @@ is_predicate (Bad f fs) = false
 abbrev pub right_side : Place → Bool → Sorted → Checked LogicTerm
 right_side at left b = where_so (not left) (no_type at) (as_term at b)
 
-abbrev pub chain : Place → Sorted → Links → Checked Sorted
-chain at a links = one_part (as_term at a) (λ t. Good (APredicate (Chain at t links)))
+abbrev pub related : Place → Sorted → Links → Checked Sorted
+related at a links = one_part (as_term at a) (λ t. Good (APredicate (Chain at t links)))
 
 -- ---- forms
 
 abbrev mutual
-  pub typed : Sight → Form → Checked Sorted
-  typed s (read.Number at n) = Good (number at n)
-  typed s (read.Letter at n) = Good (ATerm (Letter at None no_range n))
-  typed s (read.Truth at b) = Good (APredicate (Truth at b))
-  typed s (read.Name at x) = named s at x.name
-  typed s (read.Unary at op a) = one_part (typed s a) (unary_on at op)
-  typed s (read.Binary at op a b) = one_part (pair_of (typed s a) (typed s b)) (λ p. on_integers at op p.0 p.1)
-  typed s (read.Cast at Integers a) = one_part (typed s a) (cast_as at Integers)
-  typed s (read.Cast at (OfC to) a) =
-      limited s at (typed_type s at to) (one_part (pair_of (typed_type s at to) (typed s a)) (λ p. cast at p.0 p.1))
-  typed s (read.SizeOf at u) = limited s at (typed_type s at u) (one_part (typed_type s at u) (size_in s at))
-  typed s (read.Chain at a links) =
-      one_part (pair_of (typed s a) (typed_links s (is_predicate (typed s a)) links)) (λ p. chain at p.0 p.1)
-  typed s (read.Connected at c a b) = one_part (pair_of (typed s a) (typed s b)) (λ p. Good (connected at c p.0 p.1))
-  typed s (read.Choice at c a b) =
-      one_part (pair_of (typed s c) (pair_of (typed s a) (typed s b))) (λ p. Good (choice at p.0 (p.1).0 (p.1).1))
+  pub typed_form : Sight → Form → Checked Sorted
+  typed_form s (read.Number at n) = Good (number at n)
+  typed_form s (read.Letter at n) = Good (ATerm (Letter at None no_range n))
+  typed_form s (read.Truth at b) = Good (APredicate (Truth at b))
+  typed_form s (read.Name at x) = term_named s at x.name
+  typed_form s (read.Unary at op a) = one_part (typed_form s a) (unary_on at op)
+  typed_form s (read.Binary at op a b) = one_part (pair_of (typed_form s a) (typed_form s b)) (λ p. on_integers at op p.0 p.1)
+  typed_form s (read.Cast at Integers a) = one_part (typed_form s a) (cast_as at Integers)
+  typed_form s (read.Cast at (OfC to) a) =
+      limited s at (typed_type s at to) (one_part (pair_of (typed_type s at to) (typed_form s a)) (λ p. cast at p.0 p.1))
+  typed_form s (read.SizeOf at u) = limited s at (typed_type s at u) (one_part (typed_type s at u) (size_in s at))
+  typed_form s (read.Chain at a links) =
+      one_part (pair_of (typed_form s a) (typed_links s (is_predicate (typed_form s a)) links)) (λ p. related at p.0 p.1)
+  typed_form s (read.Connected at c a b) = one_part (pair_of (typed_form s a) (typed_form s b)) (λ p. Good (connected at c p.0 p.1))
+  typed_form s (read.Choice at c a b) =
+      one_part (pair_of (typed_form s c) (pair_of (typed_form s a) (typed_form s b))) (λ p. Good (chosen at p.0 (p.1).0 (p.1).1))
 
   -- the relations of a chain behind a side, which is a predicate or isn't; each wants integers on both sides, where its right one has no
   -- fault, and all faults of its left side come before it
   pub typed_links : Sight → Bool → FormLinks → Checked Links
   typed_links s left read.NoLink = Good NoLink
   typed_links s left (read.Linked at r b rest) =
-      one_part (pair_of (one_part (typed s b) (right_side at left)) (typed_links s (is_predicate (typed s b)) rest)) (λ p. Good (Linked at r p.0 p.1))
+      one_part (pair_of (one_part (typed_form s b) (right_side at left)) (typed_links s (is_predicate (typed_form s b)) rest)) (λ p. Good (Linked at r p.0 p.1))
 
 -- ---- clauses, which are predicates
 
 abbrev pub typed_clause : Sight → ClauseBody → Checked ClauseBody
-typed_clause s (Raw f) = one_part (typed s f) (λ a. Good (Holds (as_predicate a)))
+typed_clause s (Raw f) = one_part (typed_form s f) (λ a. Good (Holds (as_predicate a)))
 typed_clause s (Holds p) = Good (Holds p)
 typed_clause s (Value t) = Good (Value t)
 typed_clause s (Behaviors names) = Good (Behaviors names)

@@ -2,7 +2,7 @@
 -- expressions in ExpressionGrammar:
 --
 --   unit       = { { annotation } external }
---   external   = spec [ declared { "," declared } ] ";" | "typedef" spec dtor { "," dtor } ";" | spec { "*" } NAME "(" params ")" ( ";" | body )
+--   external   = spec [ declared { "," declared } ] ";" | spec dtor { "," dtor } ";" | spec { "*" } NAME "(" params ")" ( ";" | body )
 --   body       = "{" { item } "}"
 --   item       = annotation | decl | stmt
 --   stmt       = "{" { item } "}" | ";" | effect ";" | call ";"
@@ -15,9 +15,9 @@
 -- An annotation that is no item stands where no assert may: it is passed over, and the place of the first of these is kept. A branch with an
 -- annotation is a statement inside which the branch after it stands.
 --
--- "typedef" stands in front of the type of its spec, as "static" does. A name that a typedef declares is the name of a type from the
--- end of its declarator on. The stars before the name of a function, with the name, have at most 400 tokens. Statements are at most 200
--- deep, a function's body being 1 deep. "else" goes with the nearest "if".
+-- A spec has "typedef" among the words before its type, as it may have "static", and then it stands in the second form, and else in the
+-- others. A name that a typedef declares is the name of a type from the end of its declarator on. The stars before the name of a function,
+-- with the name, have at most 400 tokens. Statements are at most 200 deep, a function's body being 1 deep. "else" goes with the nearest "if".
 use Rattle.std.specs.Prelude.{ℕ, zero, suc, ◌-◌, List, [], ◌∷◌, ◌++◌, Option, Some, None, Bool, true, false, cond, slice_set}
 use Rattle.grammar.specs.Syntax.{Syntax, none, gives, ◌then◌, choice, many, deep}
 use Rattle.c_syntax.specs.declared.place.Place.{Place}

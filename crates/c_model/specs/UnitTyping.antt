@@ -1,6 +1,6 @@
 -- The typing of a whole file (C99 6.2.1, 6.2.3, 6.7.2.3, 6.9): its declarations in the order of the text, each with what is in sight where
 -- it stands; then the room of its globals and literals, and `main`.
-use Rattle.std.specs.Prelude.{ℕ, suc, ◌+◌, ℤ, pos, ◌+ℤ◌, List, [], ◌∷◌, ◌++◌, length, map, replicate, Option, Some, None, Bool, true, false, not}
+use Rattle.std.specs.Prelude.{ℕ, suc, ◌+◌, ℤ, pos, ◌+ℤ◌, List, [], ◌∷◌, ◌++◌, map, Option, Some, None, Bool, true, false, not}
 use Rattle.std.specs.Prelude.{◌&&◌, ◌||◌, cond, if◌then◌else◌, nat_eq, nat_lt, slice_get, codes, bytes_eq}
 use Rattle.c_syntax.specs.RefusalCodes.{globals_code, main_code}
 use Rattle.c_syntax.specs.declared.place.Place.{Place}
@@ -16,8 +16,8 @@ use Rattle.c_model.specs.Meaning.{is_definition}
 use Rattle.c_model.specs.Library.{is_there}
 use Rattle.c_model.specs.Checked.{Fault, Checked, Good, one_part, both_parts, where_so}
 use Rattle.c_model.specs.ExpressionTyping.{no_name, Signature, Sight, name_at, is_among, same_type, with_object, declared_here, type_named, inner}
-use Rattle.c_model.specs.ExpressionTyping.{constant}
-use Rattle.c_model.specs.DeclarationTyping.{own_name, typed_result, typed_global, typed_typedef, typed_parameter, typed_member, with_enumerator}
+use Rattle.c_model.specs.ExpressionTyping.{constant, levels_of, typed_type}
+use Rattle.c_model.specs.DeclarationTyping.{greater, own_name, typed_result, typed_global, typed_typedef, typed_parameter, typed_member, with_enumerator}
 use Rattle.c_model.specs.DeclarationTyping.{typed_enumerators}
 use Rattle.c_model.specs.StatementTyping.{typed_items}
 
@@ -74,6 +74,16 @@ abbrev pub tags_of : List EnumType → List ℕ
 tags_of [] = []
 tags_of (e ∷ es) = elim e.tag [ None ↦ tags_of es | Some x ↦ x ∷ tags_of es ]
 
+-- the levels of a struct with so many and of further members, among structs of so many: one more than those of the deepest member
+abbrev pub levels_with : List ℕ → ℕ → List StructMember → ℕ
+levels_with levels n [] = n
+levels_with levels n (m ∷ ms) = levels_with levels (greater n (suc (levels_of levels m.ctype))) ms
+
+-- the levels of structs behind others; a struct is defined behind those that its members are of (C99 6.7.2.1 p2)
+abbrev pub levels_from : List ℕ → List StructType → List ℕ
+levels_from levels [] = levels
+levels_from levels (s ∷ ss) = levels_from (levels ++ levels_with levels 0 s.members ∷ []) ss
+
 abbrev pub sight_with : TranslationUnit → List StructType → Sight
 sight_with p structs = record {
   names = p.names;
@@ -83,7 +93,7 @@ sight_with p structs = record {
   innermost = 0;
   types = [];
   structs = structs;
-  levels = replicate (length structs) 0;
+  levels = levels_from [] structs;
   enum_tags = tags_of p.enums;
   enums = [];
 }
@@ -170,15 +180,20 @@ typed_parameters s defined [] = Good []
 typed_parameters s defined (d ∷ ds) =
     one_part (typed_parameter s defined d) (λ d. one_part (typed_parameters (with_parameter s d) defined ds) (λ ds. Good (d ∷ ds)))
 
-abbrev pub typed_type_of_function : Sight → Function → Checked Function
-typed_type_of_function s f =
-    both_parts (typed_result s (is_definition f) f.place f.result) (typed_parameters (inner s) (is_definition f) f.params) (λ t ds.
-    Good (record f { result = t; params = ds }))
+-- a function whose types, as they are written, fit the declarations before it
+abbrev pub fitting_type : Sight → List Function → Function → Checked Function
+fitting_type s before f =
+    both_parts (typed_type s f.place f.result) (typed_parameters (inner s) (is_definition f) f.params) (λ t ds.
+    let g = record f { result = t; params = ds } in where_so (is_compatible_with_all before g) (no_name f.place) (Good g))
 
--- a function's name and type, which fit the declarations before it
+-- its result is one that a function may have; whether its type fits is told besides
+abbrev pub typed_type_of_function : Sight → List Function → Function → Checked Function
+typed_type_of_function s before f =
+    both_parts (typed_result s (is_definition f) f.place f.result) (fitting_type s before f) (λ t g. Good (record g { result = t }))
+
+-- a function's name and type
 abbrev pub typed_heading : Sight → List Function → Function → Checked Function
-typed_heading s before f =
-    both_parts (function_name s f) (typed_type_of_function s f) (λ n f. where_so (is_compatible_with_all before f) (no_name f.place) (Good f))
+typed_heading s before f = both_parts (function_name s f) (typed_type_of_function s before f) (λ n g. Good g)
 
 -- a body is a block, whose scope is that of the parameters (C99 6.2.1 p4)
 abbrev pub typed_body : Sight → PlainType → Option Statement → Checked (Option Statement)

@@ -10,6 +10,8 @@ ghost use Rattle.c_model.specs.HeapLaws.{HeapPlacesFit, HeapPlacesAreLeast, Full
 ghost use Rattle.c_model.specs.HeapLaws.{AllocatedBlocksAreNew, NoBytesGiveNull, FreedBlocksDie, LiveBlocksCanBeFreed, FreeLetsNullBe, DeadBlocksHaveNoUse};
 ghost use Rattle.c_model.specs.HeapLaws.{StatementsKeepBlocks, StatementsKeepPlaces, ScalarsStandInOrder, AssignedStructsAreCopies, AssignedStructsKeepTheRest};
 ghost use Rattle.c_model.specs.Laws.{FuelIsEnough, StepsFall, LoopsTurn, DoLoopsTurn, ForLoopsTurn, RunsNeedNoFuel, RunsSpendSteps, OutputGrows};
+ghost use Rattle.c_model.specs.TypedTrees.{TypingLaws};
+ghost use Rattle.c_model.specs.TextTypingLaws.{TextTypingLaws};
 ghost use Rattle.c_model.specs.TypedPredicates.{TypedAnnotationsAreKnown};
 ghost use Rattle.c_model.specs.Laws.{ProgramsNeverStuck, AgreementIsReflexive, AgreementIsTransitive, AgreementGoesOn};
 
@@ -80,6 +82,12 @@ pub fn runs()
 /// Programs of accepted texts: no run of one comes to what typing rules out.
 pub fn programs()
     ensures never_stuck { ProgramsNeverStuck }
+{}
+
+/// Typing: what is typed is well typed, and it is what was read but for types, casts and constants.
+pub fn typing()
+    ensures expressions { TypingLaws }
+    ensures texts { TextTypingLaws }
 {}
 
 /// Annotations: what typing makes of those that are read is well typed.

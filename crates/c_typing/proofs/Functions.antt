@@ -2,14 +2,16 @@
 use Rattle.std.proofs.Common.{◌≡◌, ℕ, refl, sym, ap, ◌∙◌, subst, List, [], ◌∷◌, ◌++◌, map, Option, Some, None, true, cond, nat_eq, ◌||◌, Result, Ok, Err}
 use Rattle.std.proofs.lemmas.List.{map-append}
 use Rattle.c_syntax.specs.Ctypes.{PlainType}
-use Rattle.c_syntax.specs.Statements.{Statement, BlockItems, Empty, Eval, Block, If, While, Do, For, Break, Continue, Return, Labelled, Switch}
+use Rattle.c_syntax.specs.Statements.{Declaration, Statement, BlockItems, Empty, Eval, Block, If, While, Do, For, Break, Continue, Return, Labelled, Switch}
 use Rattle.c_syntax.specs.Programs.{Function, TranslationUnit}
 use Rattle.c_model.specs.Library.{is_there}
 use Rattle.c_model.specs.Checked.{Checked, Good, Bad, one_part, both_parts, where_so}
-use Rattle.c_model.specs.ExpressionTyping.{no_name, inner, Sight, Signature, function_called}
+use Rattle.c_model.specs.Meaning.{is_definition}
+use Rattle.c_model.specs.ExpressionTyping.{no_name, inner, Sight, Signature, function_called, typed_type}
+use Rattle.c_model.specs.DeclarationTyping.{typed_result}
 use Rattle.c_model.specs.StatementTyping.{typed_items}
 use Rattle.c_model.specs.UnitTyping as unit
-use Rattle.c_model.specs.UnitTyping.{signature, is_compatible_with_all, function_name, typed_type_of_function, typed_body, typed_function, with_parameters}
+use Rattle.c_model.specs.UnitTyping.{signature, is_compatible_with_all, function_name, typed_parameters, typed_body, typed_function, with_parameters}
 use Rattle.c_expression_rules.specs.declared.fault.TypeFault.{TypeFault}
 use Rattle.c_expression_rules.specs.Answers.{Answers, both}
 use Rattle.c_expression_rules.proofs.Gives.{Gives, gives_of, gives_one}
@@ -17,7 +19,7 @@ use Rattle.c_expression_rules.proofs.Least.{both_refused}
 use Rattle.c_typing.specs.declared.heading.Callee.{Callee}
 use Rattle.c_typing.specs.declared.heading.Noted.{Noted}
 use Rattle.c_typing.specs.Blocks.{around_body}
-use Rattle.c_typing.specs.Functions.{denoted, known, was_defined, is_alike, with_known, fits, fits_in, fitting, heading, with_function, names_behind, typed_parts, function_in_turn}
+use Rattle.c_typing.specs.Functions.{denoted, known, was_defined, is_alike, with_known, fits, fits_in, fitting, fitting_type, with_function, names_behind, typed_parts, function_in_turn}
 use Rattle.c_typing.proofs.Headings.{declared_is, known_snoc, fits_is}
 
 -- ---- headings
@@ -34,16 +36,28 @@ both_then k p q w m n (Ok y) (Err g) x r ha hb j h = absurd cc
 both_then k p q w m n (Err f) (Ok u) x r ha hb j h = absurd cc
 both_then k p q w m n (Err f) (Err g) x r ha hb j h = absurd cc
 
-module _ (s : Sight) (names : ℕ → Option Noted) (f g : Function) (a b : Result (Unit {0}) TypeFault) (ha : Answers (λ (u : Unit {0}). u) (function_name s f) a)
-    (hb : Answers (λ (u : Unit {0}). g) (typed_type_of_function s f) b)
+module _ (s : Sight) (names : ℕ → Option Noted) (f : Function) (t : PlainType) (ds : List Declaration) (a b : Result (Unit {0}) TypeFault)
+    (ha : Answers (λ (u : Unit {0}). t) (typed_type s f.place f.result) a) (hb : Answers (λ (u : Unit {0}). ds) (typed_parameters (inner s) (is_definition f) f.params) b)
   where
-    -- a heading whose name or type is refused
-    pub heading_refused : {S : Type 0} (w : S → Function) (h : TypeFault) → both a b ≡ Err h → Answers w (heading s names f) (Err h)
-    heading_refused w h j = both_refused (λ n f. fitting s names f) (λ (u : Unit {0}). u) (λ (u : Unit {0}). g) w (function_name s f) (typed_type_of_function s f) a b h ha hb j
+    abbrev g : Function
+    g = record f { result = t; params = ds }
 
-    -- one whose name and type have no fault
-    pub heading_then : {S : Type 0} (w : S → Function) (t : Sight) (x : Unit {0}) (r : Result S TypeFault) → t ≡ s → both a b ≡ Ok x → Answers w (fitting t names g) r → Answers w (heading s names f) r
-    heading_then w t x r same j h = both_then (λ n f. fitting s names f) (λ (u : Unit {0}). u) (λ (u : Unit {0}). g) w (function_name s f) (typed_type_of_function s f) a b x r ha hb j (subst (λ u. Answers w (fitting u names g) r) same h)
+    -- whether it fits those before it, where its types have no fault as they are written
+    pub fitting_by : (u : Sight) (r : Result (Unit {0}) TypeFault) → ((v : Unit {0}) → b ≡ Ok v → u ≡ s) → ((h : TypeFault) → both a b ≡ Err h → r ≡ Err h)
+        → ((v : Unit {0}) → both a b ≡ Ok v → Answers (λ (w : Unit {0}). g) (fitting u names g) r) → Answers (λ (w : Unit {0}). g) (fitting_type s names f) r
+    fitting_by u r same refused fits = by (both a b) refl
+      where
+        second_ok : (a b : Result (Unit {0}) TypeFault) (v : Unit {0}) → both a b ≡ Ok v → b ≡ Ok v
+        second_ok a (Ok w) v e = refl
+        second_ok (Ok w) (Err g) v e = absurd cc
+        second_ok (Err f) (Err g) v e = absurd cc
+
+        by : (c : Result (Unit {0}) TypeFault) → both a b ≡ c → Answers (λ (w : Unit {0}). g) (fitting_type s names f) r
+        by (Err h) e = subst (Answers (λ (w : Unit {0}). g) (fitting_type s names f)) (sym (refused h e))
+            (both_refused (λ t ds. fitting s names (record f { result = t; params = ds })) (λ (u : Unit {0}). t) (λ (u : Unit {0}). ds) (λ (w : Unit {0}). g) (typed_type s f.place f.result)
+            (typed_parameters (inner s) (is_definition f) f.params) a b h ha hb e)
+        by (Ok v) e = both_then (λ t ds. fitting s names (record f { result = t; params = ds })) (λ (u : Unit {0}). t) (λ (u : Unit {0}). ds) (λ (w : Unit {0}). g) (typed_type s f.place f.result)
+            (typed_parameters (inner s) (is_definition f) f.params) a b v r ha hb e (subst (λ z. Answers (λ (w : Unit {0}). g) (fitting z names g) r) (same v (second_ok a b v e)) (fits v e))
 
 -- ---- a body leaves what is told of its function
 
@@ -116,7 +130,9 @@ module _ (p : TranslationUnit) (s : Sight) (names : ℕ → Option Noted) (befor
     fits_all f = (λ i. fits (function_called f.name (b.functions i)) (b.names f.name i) f) ∙ fits_is p.funcs f before
 
     pub function_is : (f : Function) → function_in_turn (denoted p.funcs) s names f ≡ typed_function p s before f
-    function_is f = (λ i. one_part (both_parts (function_name s f) (typed_type_of_function s f) (λ n f. where_so (fits_all f i) (no_name f.place) (Good f))) (λ f. typed_parts (with_is p s f i) f))
+    function_is f = (λ i. one_part (both_parts (function_name s f) (both_parts (typed_result s (is_definition f) f.place f.result)
+        (both_parts (typed_type s f.place f.result) (typed_parameters (inner s) (is_definition f) f.params) (λ t ds.
+        let g = record f { result = t; params = ds } in where_so (fits_all g i) (no_name f.place) (Good g))) (λ t g. Good (record g { result = t }))) (λ n g. Good g)) (λ f. typed_parts (with_is p s f i) f))
 
     -- one more function
     pub behind_more : (f : Function) → Behind p (with_function (denoted p.funcs) s f) (names_behind s names f) (before ++ f ∷ [])

@@ -4,8 +4,9 @@ use Rattle.std.specs.Prelude.{ℕ, List, [], ◌∷◌, ◌++◌, nat_eq, Option
 use Rattle.c_syntax.specs.Programs.{Function}
 use Rattle.c_model.specs.Meaning.{is_definition}
 use Rattle.c_model.specs.Checked.{Checked, Good, one_part, both_parts, where_so}
-use Rattle.c_model.specs.ExpressionTyping.{no_name, Signature, Sight, function_called, same_type, inner}
-use Rattle.c_model.specs.UnitTyping.{definition_of, types_of, same_signature, same_types, with_parameters, function_name, typed_type_of_function, typed_body}
+use Rattle.c_model.specs.ExpressionTyping.{no_name, Signature, Sight, function_called, same_type, inner, typed_type}
+use Rattle.c_model.specs.DeclarationTyping.{typed_result}
+use Rattle.c_model.specs.UnitTyping.{definition_of, types_of, same_signature, same_types, with_parameters, function_name, typed_parameters, typed_body}
 use Rattle.c_typing.specs.declared.heading.Callee.{Callee}
 use Rattle.c_typing.specs.declared.heading.Noted.{Noted}
 
@@ -81,9 +82,19 @@ fits_in s names f = fits (function_called f.name s.functions) (names f.name) f
 abbrev pub fitting : Sight → (ℕ → Option Noted) → Function → Checked Function
 fitting s names f = where_so (fits_in s names f) (no_name f.place) (Good f)
 
+-- a function whose types, as they are written, fit those before it
+abbrev pub fitting_type : Sight → (ℕ → Option Noted) → Function → Checked Function
+fitting_type s names f =
+    both_parts (typed_type s f.place f.result) (typed_parameters (inner s) (is_definition f) f.params) (λ t ds.
+    fitting s names (record f { result = t; params = ds }))
+
+abbrev pub type_of_function : Sight → (ℕ → Option Noted) → Function → Checked Function
+type_of_function s names f =
+    both_parts (typed_result s (is_definition f) f.place f.result) (fitting_type s names f) (λ t g. Good (record g { result = t }))
+
 -- a function's name and type
 abbrev pub heading : Sight → (ℕ → Option Noted) → Function → Checked Function
-heading s names f = both_parts (function_name s f) (typed_type_of_function s f) (λ n f. fitting s names f)
+heading s names f = both_parts (function_name s f) (type_of_function s names f) (λ n g. Good g)
 
 abbrev pub decl_of : Option Callee → ℕ
 decl_of None = 0

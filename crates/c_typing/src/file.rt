@@ -1,9 +1,9 @@
 //! Names and types of a file (C99 6.2.1, 6.9).
 
-ghost use Rattle.std.specs.Prelude.{◌≡◌, IfOk, OnOk, length, map, nat_eq, replicate};
+ghost use Rattle.std.specs.Prelude.{◌≡◌, [], IfOk, OnOk, map, nat_eq};
 ghost use Rattle.indexmap.specs.IndexMap.{get};
-ghost use Rattle.c_syntax.specs.Programs.{plain_enum, plain_program};
-ghost use Rattle.c_model.specs.UnitTyping.{tags_of, typed_unit};
+ghost use Rattle.c_syntax.specs.Programs.{plain_enum, plain_layout, plain_member, plain_program};
+ghost use Rattle.c_model.specs.UnitTyping.{levels_from, levels_with, tags_of, typed_unit};
 ghost use Rattle.c_expression_rules.specs.Answers.{Answers};
 ghost use Rattle.c_expression_rules.specs.Sights.{plain_sight};
 ghost use Rattle.c_typing.specs.Files.{Finished, all_kept, course_at, first_in, items_in_turn, plain_course, plain_file_item, with_sight, without_sight};
@@ -11,11 +11,12 @@ ghost use Rattle.c_typing.specs.Files.{Finished, all_kept, course_at, first_in, 
 use crate::heading::{Callee, denoted};
 use crate::item::{Course, FileItem, add_tag, type_item};
 use crate::order::{put_items, take_items};
+use c_declaration_rules::layout::{greater, levels_of, more};
 use c_expression_rules::entities::Entities;
 use c_expression_rules::fault::TypeFault;
 use c_expression_rules::sight::Sight;
 use c_expression_rules::signature::Functions;
-use c_syntax::{EnumDef, Layout, Program};
+use c_syntax::{EnumDef, Layout, Member, Program};
 use indexmap::IndexMap;
 use std::alloc::{AllocError, Global};
 use std::mem::replace;
@@ -34,14 +35,28 @@ pub fn tags_of(alloc: Global, enums: &[EnumDef]) -> Result<Vec<u32>, AllocError>
     Ok(tags)
 }
 
-/// No level of each struct.
-fn no_levels(alloc: Global, structs: &[Layout]) -> Result<Vec<u32>, AllocError>
-    ensures { IfOk result (λ v. v.items ≡ replicate (length structs.now) 0) }
+/// The levels of a struct with these members, among structs of so many.
+fn levels_with(levels: &[u32], members: &[Member]) -> Result<u32, AllocError>
+    ensures { IfOk result (λ n. n ≡ levels_with levels.now 0 (map plain_member members.now)) }
+{
+    let mut most = 0;
+    let mut rest = members;
+    'turn: while let [m, after @ ..] = rest {
+        most = greater(most, more(levels_of(levels, &m.ctype)?)?);
+        rest = after;
+    }
+    Ok(most)
+}
+
+/// The levels of each struct.
+fn struct_levels(alloc: Global, structs: &[Layout]) -> Result<Vec<u32>, AllocError>
+    ensures { IfOk result (λ v. v.items ≡ levels_from [] (map plain_layout structs.now)) }
 {
     let mut levels = Vec::new(alloc);
     let mut rest = structs;
-    'turn: while let [_, after @ ..] = rest {
-        levels.push(0)?;
+    'turn: while let [s, after @ ..] = rest {
+        let count = levels_with(&levels, &s.members)?;
+        levels.push(count)?;
         rest = after;
     }
     Ok(levels)
@@ -56,7 +71,7 @@ pub fn first_course(
     ensures first { IfOk result (λ c. plain_course c ≡ course_at (first_in (plain_program program.old) enum_tags.items)) }
     ensures left { OnOk result (plain_program program.new ≡ without_sight (plain_program program.old)) }
 {
-    let levels = no_levels(alloc, &program.structs)?;
+    let levels = struct_levels(alloc, &program.structs)?;
     let sight = Sight {
         names: replace(&mut program.names, Vec::new(alloc)),
         texts: replace(&mut program.texts, Vec::new(alloc)),

@@ -1,23 +1,24 @@
 //! Headings of functions: what each name denotes, which declarations of one name fit each other, and what each tells its callers
 //! (C99 6.2.1, 6.7.5.3, 6.9).
 
-ghost use Rattle.std.specs.Prelude.{◌≡◌, ℕ, IfErr, IfOk, OnOk, map, nat_eq};
+ghost use Rattle.std.specs.Prelude.{◌≡◌, ℕ, Err, IfErr, IfOk, Ok, OnOk, map, nat_eq};
 ghost use Rattle.indexmap.specs.IndexMap.{get};
 ghost use Rattle.c_syntax.specs.Ctypes.{plain_type};
 ghost use Rattle.c_syntax.specs.Statements.{plain_decl};
 ghost use Rattle.c_syntax.specs.Programs.{plain_func};
 ghost use Rattle.c_model.specs.ExpressionTyping.{function_called};
-ghost use Rattle.c_model.specs.UnitTyping.{function_name, same_types, typed_type_of_function, types_of};
+ghost use Rattle.c_model.specs.UnitTyping.{function_name, same_types, types_of};
 ghost use Rattle.c_expression_rules.specs.Answers.{Answers, IsRefusal};
 ghost use Rattle.c_expression_rules.specs.Sights.{plain_sight};
 ghost use Rattle.c_expression_rules.specs.Signatures.{plain_signature};
-ghost use Rattle.c_typing.specs.Functions.{declared, denoted, fits, fitting, has_type, heading, is_alike};
+ghost use Rattle.c_typing.specs.Functions.{declared, denoted, fits, fitting, has_type, heading, is_alike, type_of_function};
 ghost use Rattle.c_typing.specs.Functions.{tells_more, was_defined, with_function, with_known, with_told};
 
 use crate::parameter::type_parameters;
 use c_declaration_rules::name::own_name;
-use c_declaration_rules::object::type_result;
+use c_declaration_rules::object::result_of;
 use c_expression_rules::conversion::same_type;
+use c_expression_rules::expression::type_written;
 use c_expression_rules::fault::{TypeFault, both, no_name};
 use c_expression_rules::sight::{Sight, declared_here, type_named};
 use c_expression_rules::signature::{Functions, Signature};
@@ -127,18 +128,6 @@ fn check_name(sight: &Sight, f: &Func) -> Result<(), TypeFault>
     own_name(sight, entity || named, f.place, f.name)
 }
 
-/// The result and the parameters of a function. What was in sight before is in sight after them.
-fn type_signature(alloc: Global, sight: &mut Sight, f: &mut Func) -> Result<(), TypeFault>
-    ensures typed { Answers (λ _. plain_func f.new) (typed_type_of_function (plain_sight sight.old) (plain_func f.old)) result }
-    ensures same { OnOk result (plain_sight sight.new ≡ plain_sight sight.old) }
-{
-    let defined = f.body.is_some();
-    let place = f.place;
-    let result = type_result(alloc, sight, defined, place, &mut f.result);
-    let params = type_parameters(alloc, sight, defined, &mut f.params);
-    both(result, params)
-}
-
 /// Whether a function fits those that are declared before it.
 fn fitting(sight: &Sight, names: &IndexMap<u32, Noted>, f: &Func) -> Result<(), TypeFault>
     ensures { Answers (λ _. plain_func f.now) (fitting (plain_sight sight.now) (get nat_eq names.now) (plain_func f.now)) result }
@@ -148,6 +137,41 @@ fn fitting(sight: &Sight, names: &IndexMap<u32, Noted>, f: &Func) -> Result<(), 
     } else {
         Err(no_name(f.place))
     }
+}
+
+/// Whether a function fits those that are declared before it, where its types have no fault as they are written.
+fn fitting_after(
+    sight: &Sight,
+    names: &IndexMap<u32, Noted>,
+    written: Result<(), TypeFault>,
+    f: &Func,
+) -> Result<(), TypeFault>
+    ensures refused { (g : TypeFault) → written ≡ Err g → result ≡ Err g }
+    ensures typed { (u : Unit {0}) → written ≡ Ok u → Answers (λ _. plain_func f.now) (fitting (plain_sight sight.now) (get nat_eq names.now) (plain_func f.now)) result }
+{
+    match written {
+        Err(g) => Err(g),
+        Ok(()) => fitting(sight, names, f),
+    }
+}
+
+/// The result and the parameters of a function, which fit the declarations before it. What was in sight before is in sight after them.
+fn type_signature(
+    alloc: Global,
+    sight: &mut Sight,
+    names: &IndexMap<u32, Noted>,
+    f: &mut Func,
+) -> Result<(), TypeFault>
+    ensures typed { Answers (λ _. plain_func f.new) (type_of_function (plain_sight sight.old) (get nat_eq names.now) (plain_func f.old)) result }
+    ensures same { OnOk result (plain_sight sight.new ≡ plain_sight sight.old) }
+{
+    let defined = f.body.is_some();
+    let place = f.place;
+    let written = type_written(alloc, sight, place, &mut f.result);
+    let result = result_of(sight, defined, place, &written, &f.result);
+    let params = type_parameters(alloc, sight, defined, &mut f.params);
+    let fits = fitting_after(sight, names, both(written, params), f);
+    both(result, fits)
 }
 
 /// A function's name and type, which fit the declarations before it.
@@ -161,9 +185,8 @@ pub fn type_heading(
     ensures same { OnOk result (plain_sight sight.new ≡ plain_sight sight.old) }
 {
     let name = check_name(sight, f);
-    let ctype = type_signature(alloc, sight, f);
-    both(name, ctype)?;
-    fitting(sight, names, f)
+    let ctype = type_signature(alloc, sight, names, f);
+    both(name, ctype)
 }
 
 /// Whether a name is defined so far.

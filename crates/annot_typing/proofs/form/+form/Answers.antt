@@ -5,7 +5,7 @@ use Rattle.c_syntax.specs.Logic.{plain_links}
 use Rattle.c_model.specs.Checked.{one_part, pair_of}
 use Rattle.c_model.specs.ExpressionTyping.{typed_type}
 use Rattle.c_model.specs.PredicateTyping as typing
-use Rattle.c_model.specs.PredicateTyping.{cast, typed, typed_links}
+use Rattle.c_model.specs.PredicateTyping.{cast, typed_form, typed_links}
 use Rattle.c_expression_rules.specs.Answers.{Answers}
 use Rattle.c_expression_rules.specs.Sights.{plain_sight}
 use Rattle.annot_typing.specs.Joined.{joined}
@@ -20,7 +20,7 @@ type_cast-returns-in-Err t c =
     let w = c.written_type-written.result in
     let o = c.type_form-operand.result in
     let j : joined w o ≡ Err c.in-Err.f = sym c.joined.ensures ∙ c.in-Err.is in
-    cast_refused s c.args.place (typed_type s c.args.place (plain_type c.args.to.now)) (typed s (plain_form c.args.a.now)) (λ p. cast c.args.place p.0 p.1) o c.limits_of-limits.result w c.in-Err.f c.both.result
+    cast_refused s c.args.place (typed_type s c.args.place (plain_type c.args.to.now)) (typed_form s (plain_form c.args.a.now)) (λ p. cast c.args.place p.0 p.1) o c.limits_of-limits.result w c.in-Err.f c.both.result
     c.written_type-written.ensures c.type_form-operand.ensures c.limits_of-limits.ensures j c.both.ensures.is
 
 pub type_cast-returns-in-Ok : goal.type_cast-returns-in-Ok
@@ -29,13 +29,13 @@ type_cast-returns-in-Ok t c =
     let w = c.written_type-written.result in
     let o = c.type_form-operand.result in
     let j : joined w o ≡ Ok (c.in-Ok.to, c.in-Ok.a) = sym c.joined.ensures ∙ c.in-Ok.is in
-    cast_answers s c.args.place (typed_type s c.args.place (plain_type c.args.to.now)) (typed s (plain_form c.args.a.now)) (λ p. cast c.args.place p.0 p.1) o c.limits_of-limits.result w c.in-Ok.to c.in-Ok.a
+    cast_answers s c.args.place (typed_type s c.args.place (plain_type c.args.to.now)) (typed_form s (plain_form c.args.a.now)) (λ p. cast c.args.place p.0 p.1) o c.limits_of-limits.result w c.in-Ok.to c.in-Ok.a
     c.cast.result c.both-in-Ok.result c.written_type-written.ensures c.type_form-operand.ensures c.limits_of-limits.ensures j c.cast.ensures c.both-in-Ok.ensures.is
 
 pub type_chain-returns : goal.type_chain-returns
 type_chain-returns t c =
     let s = plain_sight c.args.sight.now in
-    let form = typed s (plain_form c.args.a.now) in
+    let form = typed_form s (plain_form c.args.a.now) in
     let links = λ (left : Bool). typed_links s left (plain_form_links c.args.links.now) in
     subst (Answers plain_chain (pair_of form (links (typing.is_predicate form)))) (sym c.joined.ensures)
     (chain_answers plain_links links form c.type_links-links.result c.type_form-first.result c.type_form-first.ensures
@@ -44,7 +44,7 @@ type_chain-returns t c =
 pub type_link-returns : goal.type_link-returns
 type_link-returns t c =
     let s = plain_sight c.args.sight.now in
-    let form = typed s (plain_form c.args.b.now) in
+    let form = typed_form s (plain_form c.args.b.now) in
     let links = λ (left : Bool). typed_links s left (plain_form_links c.args.rest.now) in
     let whole = pair_of (one_part form (typing.right_side c.args.place c.args.left)) (links (typing.is_predicate form)) in
     let right = c.type_form-right.result in

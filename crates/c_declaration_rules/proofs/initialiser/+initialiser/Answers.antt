@@ -1,10 +1,10 @@
 use Rattle.std.proofs.Common.{◌≡◌, ◌∙◌, ◌<◌, ◌+◌, rules, arith, ap, sym, subst, suc, [], ◌∷◌, ◌++◌, drop, length, slice_set, take, true, false, None, Some, Err}
 use Rattle.c_syntax.specs.Ctypes.{plain_type}
 use Rattle.c_syntax.specs.declared.statement.Init as init
-use Rattle.c_syntax.specs.Statements.{One, plain_init, plain_inits}
-use Rattle.c_model.specs.DeclarationTyping.{initial_value, is_text_array, place_of_initialiser, slots_of, typed_alone, typed_initialiser, typed_items}
-use Rattle.c_model.specs.ExpressionTyping.{is_scalar, no_type, typed}
-use Rattle.c_model.specs.Checked.{faulty, one_part}
+use Rattle.c_syntax.specs.Statements.{One, NoInitialiser, plain_init, plain_inits}
+use Rattle.c_model.specs.DeclarationTyping.{initial_value, is_text_array, place_of_initialiser, slots_of, too_many, typed_alone, typed_initialiser, typed_items}
+use Rattle.c_model.specs.ExpressionTyping.{is_scalar, typed}
+use Rattle.c_model.specs.Checked.{one_part}
 use Rattle.c_syntax.specs.Expressions.{Expression, place_of}
 use Rattle.c_expression_rules.specs.Answers.{Answers}
 use Rattle.c_expression_rules.specs.Sights.{plain_sight}
@@ -12,7 +12,7 @@ use Rattle.c_expression_rules.proofs.InPlace.{done, left, seen, split, unvisited
 use Rattle.c_declaration_rules.specs.Initialisers.{allowed, slot, without_braces}
 use Rattle.c_declaration_rules.proofs.Initialisers.{part_list, scalar_list, slot_none, slot_some, text_list}
 use Rattle.c_declaration_rules.proofs.Lists.{braces_off, same_at}
-use Rattle.c_declaration_rules.proofs.Items.{SlotsBehind, item, items_refused, items_step, slots_at, slots_more}
+use Rattle.c_declaration_rules.proofs.Items.{SlotsBehind, item, items_refused, items_step, over_other, slots_at, slots_more}
 use Rattle.c_declaration_rules.proofs.initialiser.+initialiser.Goals as goal
 
 pub type_initialiser-returns-then-is_scalar : goal.type_initialiser-returns-then-is_scalar
@@ -46,19 +46,19 @@ type_items-loop-i-preserved t c =
     let old = c.args.items.now.items in
     let cur = c.loop-i.items.items in
     let i = c.loop-i.i in
-    let x = c.index_mut.result.now in
+    let x = c.index_mut-in-Some.result.now in
     let y = c.type_initialiser-item.new.init in
     let u = plain_type c.in-Some.u.now in
     let sl = slots_of s ctype in
     let lt : i < length cur = search (rules, arith) in
-    let was = seen old cur i x lt c.loop-i.invariant.unvisited c.index_mut.ensures.value in
+    let was = seen old cur i x lt c.loop-i.invariant.unvisited c.index_mut-in-Some.ensures.value in
     let there : Some u ≡ slot s ctype i = search rules in
     let next = slot_some s ctype u i there in
     let more = slots_more (take i old) x sl (slots_at s ctype i) (slots_at s ctype (suc i)) u c.loop-i.invariant.slots next in
     let k : suc i ≡ i + 1 = omega arith in
     let behind : SlotsBehind (take (i + 1) old) sl (slots_at s ctype (i + 1)) =
     subst (λ l. SlotsBehind l sl (slots_at s ctype (i + 1))) (sym was) (subst (λ k. SlotsBehind (take i old ++ x ∷ []) sl (slots_at s ctype k)) k more) in
-    let same : c.index-in-Some.result.now ≡ x = same_at cur i c.index-in-Some.result.now x lt c.index-in-Some.ensures c.index_mut.ensures.value in
+    let same : c.index.result.now ≡ x = same_at cur i c.index.result.now x lt c.index.ensures c.index_mut-in-Some.ensures.value in
     let place : c.place_of-place.result ≡ place_of_initialiser (plain_init x) = c.place_of-place.ensures ∙ ap (λ j. place_of_initialiser (plain_init j)) same in
     let first : Answers (λ (v : Unit {0}). plain_init y) (typed_initialiser s ok c.place_of-place.result u (plain_init x)) c.type_initialiser-item.result = search rules in
     let typed : Answers (λ (v : Unit {0}). plain_init y) (item s ok u x) c.type_initialiser-item.result = subst (λ p. Answers (λ (v : Unit {0}). plain_init y) (typed_initialiser s ok p u (plain_init x)) c.type_initialiser-item.result) place first in
@@ -78,15 +78,17 @@ type_items-returns-in-None t c =
     let old = c.args.items.now.items in
     let cur = c.loop-i.items.items in
     let i = c.loop-i.i in
-    let x = c.index.result.now in
+    let x = c.index_mut.result.now in
+    let now = slice_set cur i c.too_many.new.item in
     let sl = slots_of s ctype in
     let lt : i < length cur = search (rules, arith) in
     let none : None ≡ slot s ctype i = search rules in
     let next = slot_none s ctype i none in
-    let rest = left old cur i x lt c.loop-i.invariant.unvisited c.index.ensures in
+    let rest = left old cur i x lt c.loop-i.invariant.unvisited c.index_mut.ensures.value in
     let all = split old i x (drop (i + 1) old) rest in
-    let bad : Answers (λ (v : Unit {0}). plain_init x) (faulty (no_type (place_of_initialiser (plain_init x)))) (Err c.no_type.result) = search rules in
-    let whole = items_refused s ok (take i old) x (drop (i + 1) old) old (plain_inits (take i cur)) (plain_inits cur) (plain_init x) sl (slots_at s ctype i) c.loop-i.done c.both.result c.no_type.result all
+    let bad : Answers (λ (v : Unit {0}). plain_init x) (too_many s (plain_init x)) c.too_many.result =
+    over_other s (λ (v : Unit {0}). NoInitialiser) (λ (v : Unit {0}). plain_init x) (plain_init x) c.too_many.result (c.too_many.ensures NoInitialiser) in
+    let whole = items_refused s ok (take i old) x (drop (i + 1) old) old (plain_inits (take i cur)) (plain_inits now) (plain_init x) sl (slots_at s ctype i) c.loop-i.done c.both.result c.too_many.result all
     c.loop-i.invariant.slots next c.loop-i.invariant.done bad c.both.ensures.is in
     search (rules, whole)
 

@@ -17,7 +17,9 @@ returns c =
     let x = c.index_mut.result.now in
     let y = c.type_first.new.first in
     let lt : 0 < length old = search (rules, arith) in
-    let more : Answers (λ (u : Unit {0}). plain_inits (drop 1 old)) (no_more (plain_inits (drop 1 old))) c.no_more-more.result = search rules in
-    let first : Answers (λ (u : Unit {0}). Listed (plain_init y) (plain_inits (drop 1 old))) (typed_alone s ok ctype (Listed (plain_init x) (plain_inits (drop 1 old)))) c.type_first.result = c.type_first.ensures (plain_inits (drop 1 old)) more in
-    let whole = alone_in_place s ok ctype old x y c.type_first.result lt c.index_mut.ensures.value first in
+    let cur = c.no_more-more.new.items.items in
+    let more : Answers (λ (u : Unit {0}). plain_inits (drop 1 cur)) (no_more s (plain_inits (drop 1 old))) c.no_more-more.result = search rules in
+    let first : Answers (λ (u : Unit {0}). Listed (plain_init y) (plain_inits (drop 1 cur))) (typed_alone s ok ctype (Listed (plain_init x) (plain_inits (drop 1 old)))) c.type_first.result =
+    c.type_first.ensures (plain_inits (drop 1 old)) (plain_inits (drop 1 cur)) more in
+    let whole = alone_in_place s ok ctype old cur x y c.type_first.result lt c.no_more-more.ensures.count c.no_more-more.ensures.first c.index_mut.ensures.value first in
     search (rules, whole)

@@ -12,14 +12,14 @@ use Rattle.c_declaration_rules.specs.Initialisers.{allowed}
 use Rattle.c_declaration_rules.proofs.initialiser.type_first.Goals as goal
 
 pub returns-in-One : goal.returns-in-One
-returns-in-One c = λ is h.
+returns-in-One c = λ is js h.
     let s = plain_sight c.args.sight.now in
     let ok = allowed s c.args.global in
     let ctype = plain_type c.args.t.now in
     let e = plain_expr c.in-One.e in
     let e' = plain_expr c.type_one.new.e in
     let first : Answers (λ (u : Unit {0}). One e') (one_part (typed s e) (initial_value s ok (place_of e) ctype e)) c.type_one.result = search rules in
-    let whole = both_made {A = Initialiser} {B = Initialisers} {C = Initialisers} {T = Unit {0}} Listed (λ u. One e') (λ u. is) (one_part (typed s e) (initial_value s ok (place_of e) ctype e)) (no_more is)
+    let whole = both_made {A = Initialiser} {B = Initialisers} {C = Initialisers} {T = Unit {0}} Listed (λ u. One e') (λ u. js) (one_part (typed s e) (initial_value s ok (place_of e) ctype e)) (no_more s is)
     c.type_one.result c.args.more c.both.result first h (sym c.both.ensures.is) in
-    let there = subst (λ i. Answers (λ (u : Unit {0}). Listed (One e') is) (typed_alone s ok ctype (Listed (plain_init i) is)) c.both.result) (sym c.in-One.is) whole in
+    let there = subst (λ i. Answers (λ (u : Unit {0}). Listed (One e') js) (typed_alone s ok ctype (Listed (plain_init i) is)) c.both.result) (sym c.in-One.is) whole in
     search (rules, there)

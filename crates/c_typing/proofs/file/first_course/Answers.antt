@@ -1,7 +1,7 @@
-use Rattle.std.proofs.Common.{rules, ◌≡◌, ◌∙◌, ap, sym, map, nat_eq, replicate, length, [], None}
-use Rattle.std.proofs.lemmas.List.{length-map}
+use Rattle.std.proofs.Common.{rules, ◌≡◌, ◌∙◌, ap, map, nat_eq, [], None}
 use Rattle.indexmap.specs.IndexMap.{get}
 use Rattle.c_syntax.specs.Programs.{plain_layout, plain_text, plain_program}
+use Rattle.c_model.specs.UnitTyping.{levels_from}
 use Rattle.c_expression_rules.specs.Entities.{plain_entities}
 use Rattle.c_expression_rules.specs.Signatures.{plain_signature}
 use Rattle.c_expression_rules.specs.Sights.{plain_type_name}
@@ -16,7 +16,7 @@ returns-clause-first c =
     let entities : plain_entities c.new-4.result ≡ [] = search rules in
     let types : map plain_type_name c.new-5.result.items ≡ [] = search rules in
     let structs : map plain_layout c.replace-3.result.items ≡ p.structs = search rules in
-    let levels : c.in_ok-levels.levels.items ≡ replicate (length p.structs) 0 = c.in_ok-levels.ensures ∙ ap (λ n. replicate n 0) (ap length c.deref.ensures.value ∙ sym (length-map c.args.program.now.structs.items plain_layout)) in
+    let levels : c.in_ok-levels.levels.items ≡ levels_from [] p.structs = c.in_ok-levels.ensures ∙ ap (λ ss. levels_from [] (map plain_layout ss)) c.deref.ensures.value in
     let enums : c.new-7.result.items ≡ [] = search rules in
     let tags : c.new-8.result.items ≡ [] = search rules in
     let numbers : get nat_eq c.new-9.result ≡ (λ x. None) = search rules in
