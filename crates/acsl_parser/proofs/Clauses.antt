@@ -5,16 +5,13 @@ use Rattle.c_syntax.specs.declared.token.Token.{Token}
 use Rattle.c_syntax.specs.declared.fault.ReadFault.{ReadFault}
 use Rattle.c_syntax.specs.Logic.{Annotation}
 use Rattle.c_model.specs.Vocabulary.{Vocabulary}
-use Rattle.c_model.specs.ExpressionGrammar.{name_kind, most_in_expression}
+use Rattle.c_model.specs.ExpressionGrammar.{most_in_expression}
 use Rattle.c_model.specs.Terminals.{expression_limit}
-use Rattle.c_model.specs.AnnotationGrammar.{assert_clause, full_clause}
+use Rattle.c_model.specs.AnnotationGrammar.{assert_clause, full_clause, first_clause}
 use Rattle.c_expr_parser.specs.Reading.{LeftWithin, Resumed}
 use Rattle.token_reader.specs.Reading.{plain_list, Fails}
 use Rattle.c_expr_parser.proofs.Windows.{take_long, whole, over, goes_on, fails, bound}
 use Rattle.acsl_parser.proofs.ExactAnnotations.{clause_exact}
-
-abbrev first_clause : List ℕ
-first_clause = name_kind ∷ []
 
 pub full_clause_whole : (ws : Vocabulary) (n : ℕ) (ts : List Token) → length ts ≤ most_in_expression → (full_clause ws n).parse (plain_list ts) ≡ (assert_clause ws n).parse (plain_list ts)
 unfolding full_clause

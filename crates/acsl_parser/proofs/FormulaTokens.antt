@@ -8,11 +8,12 @@ use Rattle.c_syntax.specs.declared.place.Place.{Place}
 use Rattle.c_syntax.specs.Tokens as tokens
 use Rattle.c_syntax.specs.Tokens.{PlainTokenKind, PlainToken}
 use Rattle.c_model.specs.declared.vocabulary.Word.{Word}
+use Rattle.c_model.specs.declared.vocabulary.TypeName.TheVariants.{DeclaredAssert}
 use Rattle.c_model.specs.declared.vocabulary.Word.TheVariants as word
 use Rattle.c_model.specs.Vocabulary.{Vocabulary, word_at}
 use Rattle.c_model.specs.Terminals.{placed, mark_entry}
 use Rattle.c_model.specs.ExpressionGrammar.{name_kind, number_kind, letter_kind, logic_kind, mark_kind, word_kind, token_kind, kind, number_of, letter_of, kinds_of, first_type, fixed}
-use Rattle.c_model.specs.AnnotationGrammar.{integer_kind, formula_word_kind, formula_token_kind, formula_kind, formula_name_of, truth_word, truth_of, integer_word, assert_word_of, assert_word}
+use Rattle.c_model.specs.AnnotationGrammar.{integer_kind, formula_word_kind, formula_token_kind, formula_kind, formula_name_of, truth_word, truth_of, integer_word, first_clause, assert_word_of, assert_word}
 use Rattle.c_expr_parser.proofs.ExactTokens.{fixed_good, number_good, letter_good, marks_good}
 
 -- a production of annotations is read exactly, with these sets
@@ -160,13 +161,14 @@ module _ (ws : Vocabulary) where
   pub integer_form : {n : ℕ} → AreForms ws n (integer_word ws) (integer_word ws) false (integer_kind ∷ []) []
   integer_form = token _ (integer_kind ∷ []) integer_among
 
-  assert_is_name : (w : Word) (x : Unit {0}) → assert_word_of w ≡ Some x → among (formula_word_kind w) (name_kind ∷ []) ≡ true
-  assert_is_name word.Assert x e = refl
-  assert_is_name _ x e = absurd cc
+  begins_clause : (w : Word) (x : Unit {0}) → assert_word_of w ≡ Some x → among (formula_word_kind w) first_clause ≡ true
+  begins_clause word.Assert x e = refl
+  begins_clause (word.TypeName DeclaredAssert) x e = refl
+  begins_clause _ x e = absurd cc
 
-  assert_among : (t : PlainTokenKind) (x : Unit {0}) → assert_word ws t ≡ Some x → among (formula_token_kind ws t) (name_kind ∷ []) ≡ true
-  assert_among (tokens.Word k) x e = assert_is_name (word_at ws k) x e
+  assert_among : (t : PlainTokenKind) (x : Unit {0}) → assert_word ws t ≡ Some x → among (formula_token_kind ws t) first_clause ≡ true
+  assert_among (tokens.Word k) x e = begins_clause (word_at ws k) x e
   assert_among _ x e = absurd cc
 
-  pub assert_form : {n : ℕ} → AreForms ws n (one (placed (assert_word ws))) (one (placed (assert_word ws))) false (name_kind ∷ []) []
-  assert_form = placed_form (assert_word ws) (name_kind ∷ []) assert_among
+  pub assert_form : {n : ℕ} → AreForms ws n (one (placed (assert_word ws))) (one (placed (assert_word ws))) false first_clause []
+  assert_form = placed_form (assert_word ws) first_clause assert_among

@@ -9,8 +9,8 @@ use Rattle.c_syntax.specs.Formulas.{Form}
 use Rattle.c_syntax.specs.Logic.{Annotation}
 use Rattle.c_syntax.specs.Tokens.{PlainToken}
 use Rattle.c_model.specs.Vocabulary.{Vocabulary}
-use Rattle.c_model.specs.ExpressionGrammar.{name_kind, kinds_of}
-use Rattle.c_model.specs.AnnotationGrammar.{formula_kind, joined_once, joined_more, next_assert}
+use Rattle.c_model.specs.ExpressionGrammar.{kinds_of}
+use Rattle.c_model.specs.AnnotationGrammar.{first_clause, formula_kind, joined_once, joined_more, next_assert}
 use Rattle.token_reader.specs.Reading.{plain_list, Fails}
 use Rattle.token_reader.proofs.Faults.{again}
 use Rattle.token_reader.proofs.Shorter.{shorter}
@@ -84,20 +84,17 @@ module _ (ws : Vocabulary) where
 
   -- ---- asserts
 
-  abbrev assert_kinds : List ℕ
-  assert_kinds = name_kind ∷ []
-
-  pub asserts_turn : (x y : List Annotation × ℕ) (ts rest : List PlainToken) → sees (formula_kind ws) assert_kinds ts ≡ true → (next_assert ws x).parse ts ≡ Ok (y, rest) → (more_asserts ws x).parse ts ≡ (more_asserts ws y).parse rest
+  pub asserts_turn : (x y : List Annotation × ℕ) (ts rest : List PlainToken) → sees (formula_kind ws) first_clause ts ≡ true → (next_assert ws x).parse ts ≡ Ok (y, rest) → (more_asserts ws x).parse ts ≡ (more_asserts ws y).parse rest
   unfolding more_asserts
-  asserts_turn x y ts rest s e = turn assert_kinds (next_assert ws) (λ z. (next_assert_good ws z).here) refl x y ts rest s e
+  asserts_turn x y ts rest s e = turn first_clause (next_assert ws) (λ z. (next_assert_good ws z).here) refl x y ts rest s e
 
-  pub asserts_fails : (x : List Annotation × ℕ) (ts : List PlainToken) (e : ReadFault) → sees (formula_kind ws) assert_kinds ts ≡ true → Fails e ((next_assert ws x).parse ts) → Fails e ((more_asserts ws x).parse ts)
+  pub asserts_fails : (x : List Annotation × ℕ) (ts : List PlainToken) (e : ReadFault) → sees (formula_kind ws) first_clause ts ≡ true → Fails e ((next_assert ws x).parse ts) → Fails e ((more_asserts ws x).parse ts)
   unfolding more_asserts
-  asserts_fails x ts e s = again e (λ d. turn_fails assert_kinds (next_assert ws) (λ z. (next_assert_good ws z).here) refl x ts d s)
+  asserts_fails x ts e s = again e (λ d. turn_fails first_clause (next_assert ws) (λ z. (next_assert_good ws z).here) refl x ts d s)
 
-  pub asserts_ends : (x : List Annotation × ℕ) (ts : List PlainToken) → sees (formula_kind ws) assert_kinds ts ≡ false → (more_asserts ws x).parse ts ≡ Ok (x, ts)
+  pub asserts_ends : (x : List Annotation × ℕ) (ts : List PlainToken) → sees (formula_kind ws) first_clause ts ≡ false → (more_asserts ws x).parse ts ≡ Ok (x, ts)
   unfolding more_asserts
-  asserts_ends x ts s = turn_ends assert_kinds (next_assert ws) (λ z. (next_assert_good ws z).here) refl x ts s
+  asserts_ends x ts s = turn_ends first_clause (next_assert ws) (λ z. (next_assert_good ws z).here) refl x ts s
 
   pub asserts_shorter : (x y : List Annotation × ℕ) (ts rest : List Token) → (next_assert ws x).parse (plain_list ts) ≡ Ok (y, plain_list rest) → length rest < length ts
   asserts_shorter x y ts rest e = shorter (next_assert ws x) (next_assert_good ws x).here ts rest y e

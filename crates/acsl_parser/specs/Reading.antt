@@ -7,9 +7,9 @@ use Rattle.c_syntax.specs.Logic.{Annotation}
 use Rattle.c_syntax.specs.Tokens.{PlainToken}
 use Rattle.c_model.specs.declared.formulas.FormulaOperator.{FormulaOperator}
 use Rattle.c_model.specs.Vocabulary.{Vocabulary}
-use Rattle.c_model.specs.ExpressionGrammar.{name_kind}
 use Rattle.c_model.specs.AnnotationGrammar.{product_operators, sum_operators, shift_operators, bit_and_operators, bit_xor_operators, bit_or_operators}
-use Rattle.c_model.specs.AnnotationGrammar.{conjunction_operators, exclusion_operators, disjunction_operators, equivalence_operators, formula_kind}
+use Rattle.c_model.specs.AnnotationGrammar.{conjunction_operators, exclusion_operators, disjunction_operators}
+use Rattle.c_model.specs.AnnotationGrammar.{equivalence_operators, first_clause, formula_kind}
 use Rattle.c_model.specs.AnnotationGrammar.{prefix, product, sum, chain, bit_and, bit_xor, bit_or, conjunction, exclusion, implication, form, next_assert}
 use Rattle.acsl_parser.specs.declared.tables.Level.{Level}
 use Rattle.acsl_parser.specs.declared.tables.Level.TheVariants as level
@@ -46,4 +46,4 @@ module _ (ws : Vocabulary) where
 
   -- asserts after others
   unfoldable pub more_asserts : List Annotation × ℕ → Syntax PlainToken (List Annotation × ℕ)
-  more_asserts x = many (formula_kind ws) (λ _. name_kind ∷ []) (next_assert ws) x
+  more_asserts x = many (formula_kind ws) (λ _. first_clause) (next_assert ws) x

@@ -7,9 +7,9 @@ ghost use Rattle.token_reader.specs.Reading.{Gives, plain_list};
 ghost use Rattle.acsl_parser.specs.Reading.{more_asserts};
 
 use crate::formula::form;
-use crate::terminals::{assert_word, next_is};
+use crate::terminals::{assert_word, next_begins_clause};
 use c_expr_parser::full::{MOST, behind, passed, resumed, window};
-use c_expr_parser::kinds::{ANNOT_CLOSE, ANNOT_OPEN, NAME, SEMICOLON};
+use c_expr_parser::kinds::{ANNOT_CLOSE, ANNOT_OPEN, SEMICOLON};
 use c_expr_parser::terminals::{kept, skip};
 use c_model::vocabulary::Word;
 use c_syntax::fault::ReadFault;
@@ -98,7 +98,7 @@ fn more_asserts<'a>(
     let mut all = all;
     let mut number = number;
     let mut rest = tokens;
-    'turn: while next_is(words, NAME, rest) {
+    'turn: while next_begins_clause(words, rest) {
         let (more, next, after) = next_assert(alloc, words, all, number, rest)?;
         all = more;
         number = next;

@@ -5,12 +5,13 @@ ghost use Rattle.grammar.specs.Syntax.{sees, one};
 ghost use Rattle.c_syntax.specs.Tokens.{plain_token};
 ghost use Rattle.c_model.specs.Terminals.{placed};
 ghost use Rattle.c_model.specs.ExpressionGrammar.{first_type, kinds_of};
-ghost use Rattle.c_model.specs.AnnotationGrammar.{formula_kind, formula_word_kind, formula_name_of, truth_word, truth_of, integer_word, assert_word};
+ghost use Rattle.c_model.specs.AnnotationGrammar.{first_clause, formula_kind, formula_word_kind, formula_name_of};
+ghost use Rattle.c_model.specs.AnnotationGrammar.{truth_word, truth_of, integer_word, assert_word};
 ghost use Rattle.token_reader.specs.Reading.{Gives, TakesNoMemory, plain_list};
 
-use c_expr_parser::kinds::{NAME, kind, word_at, word_kind};
+use c_expr_parser::kinds::{NAME, TYPE_NAME, kind, word_at, word_kind};
 use c_expr_parser::terminals as c_terminals;
-use c_model::vocabulary::{LogicWord, Word};
+use c_model::vocabulary::{LogicWord, TypeName, Word};
 use c_syntax::fault::ReadFault;
 use c_syntax::{Place, Token, TokenKind};
 use token_reader::terminals::left;
@@ -51,6 +52,19 @@ pub fn next_is(words: &[Word], wanted: u32, tokens: &[Token]) -> bool
     match tokens {
         [] => false,
         [token, ..] => formula_kind(words, token) == wanted,
+    }
+}
+
+/// Whether a word comes next that may begin a clause.
+pub fn next_begins_clause(words: &[Word], tokens: &[Token]) -> bool
+    ensures { result ≡ sees (formula_kind words.now) first_clause (plain_list tokens.now) }
+{
+    match tokens {
+        [] => false,
+        [token, ..] => {
+            let kind = formula_kind(words, token);
+            kind == NAME || kind == TYPE_NAME
+        }
     }
 }
 
@@ -157,7 +171,7 @@ pub fn assert_word<'a>(
         [] => Err(ReadFault::At(0)),
         [token, rest @ ..] => match &token.kind {
             TokenKind::Word(number) => match word_at(words, *number) {
-                Word::Assert => Ok((token.place, rest)),
+                Word::Assert | Word::TypeName(TypeName::DeclaredAssert) => Ok((token.place, rest)),
                 _ => Err(ReadFault::At(left(tokens))),
             },
             _ => Err(ReadFault::At(left(tokens))),

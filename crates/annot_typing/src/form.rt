@@ -83,7 +83,8 @@ fn type_two(
     a: &Formula,
     b: &Formula,
 ) -> Result<(Sorted, Sorted), TypeFault>
-    ensures { Answers plain_two (pair_of (typed_form (plain_sight sight.now) (plain_form a.now)) (typed_form (plain_sight sight.now) (plain_form b.now))) result }
+    ensures { Answers plain_two
+        (pair_of (typed_form (plain_sight sight.now) (plain_form a.now)) (typed_form (plain_sight sight.now) (plain_form b.now))) result }
 {
     let first = type_form(alloc, sight, a);
     let second = type_form(alloc, sight, b);

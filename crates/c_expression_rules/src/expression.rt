@@ -9,7 +9,8 @@ ghost use Rattle.c_model.specs.ExpressionTyping.{typed_arguments, typed_length, 
 ghost use Rattle.c_expression_rules.specs.Answers.{Answers};
 ghost use Rattle.c_expression_rules.specs.Constants.{has_small_sizes};
 ghost use Rattle.c_expression_rules.specs.Forms.{cast_of, size_of_expr, size_of_written, typed_array, typed_call, typed_call_parts};
-ghost use Rattle.c_expression_rules.specs.Forms.{typed_after_place, typed_kind, typed_leaf, typed_of_two, typed_one, typed_place_and_value, typed_three, typed_two};
+ghost use Rattle.c_expression_rules.specs.Forms.{typed_after_place, typed_kind, typed_leaf, typed_of_two};
+ghost use Rattle.c_expression_rules.specs.Forms.{typed_one, typed_place_and_value, typed_three, typed_two};
 ghost use Rattle.c_expression_rules.specs.Sights.{plain_sight};
 
 use crate::assignment::{argument_for, assign, cast};

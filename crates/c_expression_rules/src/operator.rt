@@ -9,9 +9,11 @@ ghost use Rattle.c_syntax.specs.declared.expression.UnOp.TheVariants as unary;
 ghost use Rattle.c_model.specs.Checked.{Good};
 ghost use Rattle.c_model.specs.Conversions.{common, is_shift, promoted};
 ghost use Rattle.c_model.specs.ExpressionTyping.{assign, both_of, bump, decayed, either_of, element, in_int, in_type, is_place};
-ghost use Rattle.c_model.specs.ExpressionTyping.{index, knows_elements, on_integers, on_pointers, points_to_unknown, size_of_expression, size_of_type, unary_on};
+ghost use Rattle.c_model.specs.ExpressionTyping.{index, knows_elements, on_integers, on_pointers};
+ghost use Rattle.c_model.specs.ExpressionTyping.{points_to_unknown, size_of_expression, size_of_type, unary_on};
 ghost use Rattle.c_expression_rules.specs.Answers.{Answers, IsRefusal};
-ghost use Rattle.c_expression_rules.specs.Operators.{assigned_with, bumped, compoundable, element_of, element_type, elements, has_size, indexed_type, literal_of};
+ghost use Rattle.c_expression_rules.specs.Operators.{assigned_with, bumped, compoundable, element_of};
+ghost use Rattle.c_expression_rules.specs.Operators.{element_type, elements, has_size, indexed_type, literal_of};
 ghost use Rattle.c_expression_rules.specs.Sights.{plain_sight};
 
 use crate::conversion::{

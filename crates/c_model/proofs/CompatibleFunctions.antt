@@ -12,7 +12,8 @@ use Rattle.c_model.specs.ExpressionTyping.{no_name, too_large, Sight, with_objec
 use Rattle.c_model.specs.DeclarationTyping.{scalar_type, typed_result, typed_global, typed_typedef, typed_member, typed_enumerators}
 use Rattle.c_model.specs.StatementTyping.{typed_items}
 use Rattle.c_model.specs.UnitTyping.{FileItem, StructHead, Member, AnEnum, ATypedef, AGlobal, AFunction, items_of_file, with_type, with_tag, with_function, with_parameters, same_signature, is_compatible, is_compatible_with_all}
-use Rattle.c_model.specs.UnitTyping.{function_name, typed_parameters, fitting_type, typed_type_of_function, typed_heading, typed_body, typed_function, Progress, new_tag, typed_enum, typed_item_of_file, typed_items_of_file, at_start, with_progress, typed_unit}
+use Rattle.c_model.specs.UnitTyping.{function_name, typed_parameters, fitting_type, typed_type_of_function, typed_heading, typed_body, typed_function}
+use Rattle.c_model.specs.UnitTyping.{Progress, new_tag, typed_enum, typed_item_of_file, typed_items_of_file, at_start, with_progress, typed_unit}
 use Rattle.c_model.proofs.TypedParts.{Gives, gives_of, gives_one, gives_both, gives_where, gives_self}
 use Rattle.c_model.proofs.TypedSoundness.{gives_besides}
 use Rattle.c_model.proofs.TypedDeclarations.{anything}

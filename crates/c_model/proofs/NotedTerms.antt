@@ -225,7 +225,8 @@ mutual
       let l = nodes_of_form c in
       let m = nodes_of_form a in
       let n = nodes_of_form b in
-      gives_pair (SortedKept l) (λ (p : Sorted × Sorted). SortedKept m p.0 × SortedKept n p.1) (SortedKept (suc (l + m + n))) (typed_form s c) (pair_of (typed_form s a) (typed_form s b)) (λ p. Good (chosen at p.0 (p.1).0 (p.1).1)) (form_kept s k c h.0)
+      gives_pair (SortedKept l) (λ (p : Sorted × Sorted). SortedKept m p.0 × SortedKept n p.1) (SortedKept (suc (l + m + n))) (typed_form s c)
+      (pair_of (typed_form s a) (typed_form s b)) (λ p. Good (chosen at p.0 (p.1).0 (p.1).1)) (form_kept s k c h.0)
       (gives_both (SortedKept m) (SortedKept n) (λ (p : Sorted × Sorted). SortedKept m p.0 × SortedKept n p.1) (typed_form s a) (typed_form s b) (λ a b. Good (a, b)) (form_kept s k a h.1) (form_kept s k b h.2) (λ a b v w. (v, w)))
       (λ x p u w. choice_kept at l m n x p.0 p.1 u w.0 w.1)
 

@@ -18,8 +18,9 @@
 --   prefix      = ( "+" | "-" | "!" | "~" ) prefix | "(" ( type | "integer" ) ")" prefix | primary
 --   primary     = NAME | NUMBER | CHAR | "\true" | "\false" | "(" form ")" | "sizeof" "(" type ")"
 --
--- The type of a cast and of `sizeof` is C's. `integer` is no NAME, and `assert` is one. A clause has at most 400 tokens. Relations bind closer
--- than `&`, as in C. Names and their declarations are set by typing.
+-- The type of a cast and of `sizeof` is C's. `integer` is no NAME, and `assert` is one. A clause is told by its word also where a typedef
+-- makes that the name of a type. A clause has at most 400 tokens. Relations bind closer than `&`, as in C. Names and their declarations are
+-- set by typing.
 use Rattle.std.specs.Prelude.{ℕ, ◌+◌, List, [], ◌∷◌, ◌++◌, Option, Some, None, Bool, cond, eqb}
 use Rattle.grammar.specs.Syntax.{Syntax, gives, one, ◌then◌, choice, many, knot, at_most}
 use Rattle.c_syntax.specs.declared.place.Place.{Place}
@@ -42,13 +43,14 @@ use Rattle.c_model.specs.declared.formulas.ChainDirection.TheVariants.{Start, Eq
 use Rattle.c_model.specs.declared.vocabulary.Keyword.TheVariants as keyword
 use Rattle.c_model.specs.declared.vocabulary.LogicWord.TheVariants as logic
 use Rattle.c_model.specs.declared.vocabulary.Word.{Word}
+use Rattle.c_model.specs.declared.vocabulary.TypeName.TheVariants.{DeclaredAssert}
 use Rattle.c_model.specs.declared.vocabulary.Word.TheVariants as word
 use Rattle.c_model.specs.Vocabulary.{Vocabulary, word_at}
 use Rattle.c_model.specs.Punctuators.{shift_left, shift_right, less_equal, greater_equal, equal, not_equal, and_and, or_or, plus, minus, times, divide}
 use Rattle.c_model.specs.Punctuators.{percent, less, greater, exclamation, tilde, ampersand, bar, caret, question, colon, semicolon, left_paren}
 use Rattle.c_model.specs.Punctuators.{right_paren, equivalent, implies, caret_caret}
 use Rattle.c_model.specs.Terminals.{placed, mark_entry, expression_limit}
-use Rattle.c_model.specs.ExpressionGrammar.{name_kind, number_kind, letter_kind, annot_open_kind, annot_close_kind, keyword_kind, mark_kind}
+use Rattle.c_model.specs.ExpressionGrammar.{name_kind, type_name_kind, number_kind, letter_kind, annot_open_kind, annot_close_kind, keyword_kind, mark_kind}
 use Rattle.c_model.specs.ExpressionGrammar.{word_kind, token_kind, letter_of, number_of, kinds_of, first_type, use_of, most_in_expression}
 use Rattle.c_model.specs.ExpressionGrammar.{fixed, mark, reserved, closed, type_name, expression}
 
@@ -76,7 +78,12 @@ truth_word _ = None
 
 abbrev pub assert_word_of : Word → Option (Unit {0})
 assert_word_of word.Assert = Some tt
+assert_word_of (word.TypeName DeclaredAssert) = Some tt
 assert_word_of _ = None
+
+-- what begins a clause, also where a `typedef` declares its word
+abbrev pub first_clause : List ℕ
+first_clause = name_kind ∷ type_name_kind ∷ []
 
 -- ---- operators, by their punctuators (ACSL 2.2.1)
 
@@ -334,7 +341,7 @@ module _ (ws : Vocabulary) where
 
   -- assert { assert }, which take the numbers from n on and give the one after
   unfoldable pub asserts : ℕ → Syntax PlainToken (List Annotation × ℕ)
-  asserts n = next_assert ([], n) then λ x. many (formula_kind ws) (λ _. name_kind ∷ []) next_assert x
+  asserts n = next_assert ([], n) then λ x. many (formula_kind ws) (λ _. first_clause) next_assert x
 
   unfoldable pub annotations : ℕ → Syntax PlainToken (List Annotation × ℕ)
   annotations n = fixed ws annot_open_kind then λ _. asserts n then λ x. fixed ws annot_close_kind then λ _. gives x

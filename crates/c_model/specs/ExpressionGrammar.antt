@@ -45,7 +45,7 @@ use Rattle.c_model.specs.declared.vocabulary.Keyword.TheVariants as keyword
 use Rattle.c_model.specs.declared.vocabulary.Word.{Word}
 use Rattle.c_model.specs.declared.vocabulary.Word.TheVariants as word
 use Rattle.c_model.specs.declared.vocabulary.TypeName.{TypeName}
-use Rattle.c_model.specs.declared.vocabulary.TypeName.TheVariants.{Library, Declared}
+use Rattle.c_model.specs.declared.vocabulary.TypeName.TheVariants.{Library, Declared, DeclaredAssert}
 use Rattle.c_model.specs.declared.vocabulary.SignWords.{SignWords}
 use Rattle.c_model.specs.declared.vocabulary.SignWords.TheVariants as sign
 use Rattle.c_model.specs.declared.vocabulary.SizeWords.{SizeWords}
@@ -314,6 +314,7 @@ declared_type t stars ns = arrays_of (pointers stars.count t) ns
 abbrev pub named_type : ℕ → TypeName → PlainType
 named_type n (Library t) = Int t
 named_type n Declared = Named n
+named_type n DeclaredAssert = Named n
 
 abbrev pub type_named : ℕ → Word → Option PlainType
 type_named n (word.TypeName t) = Some (named_type n t)

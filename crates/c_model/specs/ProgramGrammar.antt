@@ -34,9 +34,7 @@ use Rattle.c_model.specs.declared.declarations.Storage.{Storage}
 use Rattle.c_model.specs.declared.declarations.Storage.TheVariants as storage
 use Rattle.c_model.specs.declared.declarations.Named.TheVariants as ordinary
 use Rattle.c_model.specs.declared.vocabulary.Keyword.TheVariants as keyword
-use Rattle.c_model.specs.declared.vocabulary.TypeName.TheVariants.{Declared}
-use Rattle.c_model.specs.declared.vocabulary.Word.TheVariants as word
-use Rattle.c_model.specs.Vocabulary.{Vocabulary}
+use Rattle.c_model.specs.Vocabulary.{Vocabulary, word_at, declared_word}
 use Rattle.c_model.specs.Punctuators.{semicolon, comma, left_paren, left_brace, right_brace}
 use Rattle.c_model.specs.Terminals.{nesting_limit}
 use Rattle.c_model.specs.ExpressionGrammar.{annot_open_kind, keyword_kind, mark_kind, kind, first_type, first_expression, first_effect, pointers}
@@ -137,7 +135,7 @@ no_parts ws = record {
 -- a type that a `typedef` declares, and its name, which is that of a type from here on (C99 6.7.7)
 abbrev pub with_typedef : PlainType → FileParts → Declarator → FileParts
 with_typedef t x d = record x {
-  words = slice_set x.words d.name (word.TypeName Declared);
+  words = slice_set x.words d.name (declared_word (word_at x.words d.name));
   typedefs = x.typedefs ++ declared_by t d None ∷ [];
 }
 

@@ -5,7 +5,7 @@ use Rattle.c_syntax.specs.declared.types.CInt.TheVariants.{I8, U8, I16, U16, I32
 use Rattle.c_model.specs.declared.vocabulary.Keyword.{Keyword}
 use Rattle.c_model.specs.declared.vocabulary.Keyword.TheVariants.{Char, Short, Int, Long, Signed, Unsigned, Void, Const, Static, If, Else, While, Do, For}
 use Rattle.c_model.specs.declared.vocabulary.Keyword.TheVariants.{Break, Continue, Return, Sizeof, Struct, Enum, Typedef, Kept}
-use Rattle.c_model.specs.declared.vocabulary.TypeName.TheVariants.{Library}
+use Rattle.c_model.specs.declared.vocabulary.TypeName.TheVariants.{Library, Declared, DeclaredAssert}
 use Rattle.c_model.specs.declared.vocabulary.LogicWord.{LogicWord}
 use Rattle.c_model.specs.declared.vocabulary.LogicWord.TheVariants as logic
 use Rattle.c_model.specs.declared.vocabulary.Word.{Word}
@@ -64,6 +64,11 @@ Vocabulary = List Word
 
 abbrev pub word_at : Vocabulary → ℕ → Word
 word_at ws n = elim (slice_get ws n) [ None ↦ word.Name | Some w ↦ w ]
+
+-- what a word is once a `typedef` declares it (C99 6.7.7): a clause of annotations is told by its name all the same
+abbrev pub declared_word : Word → Word
+declared_word word.Assert = word.TypeName DeclaredAssert
+declared_word _ = word.TypeName Declared
 
 -- ---- the words that name an integer type, in any order (C99 6.7.2 p2)
 

@@ -37,6 +37,8 @@ pub enum TypeName {
     Library(CInt),
     /// A type that a `typedef` of the file declares.
     Declared,
+    /// One with the name `assert`, which still begins a clause of annotations.
+    DeclaredAssert,
 }
 
 /// A word that begins with `\` (ACSL 2.2).

@@ -1,8 +1,7 @@
 //! Whole texts (C99 6.9).
 
 ghost use Rattle.std.specs.Prelude.{◌≡◌, map, slice_set, IfErr, OnOk, []};
-ghost use Rattle.c_model.specs.declared.vocabulary.TypeName.TheVariants.{Declared};
-ghost use Rattle.c_model.specs.declared.vocabulary.Word.TheVariants.{TypeName};
+ghost use Rattle.c_model.specs.Vocabulary.{declared_word, word_at};
 ghost use Rattle.c_syntax.specs.declared.fault.ReadFault.TheVariants.{Memory};
 ghost use Rattle.c_syntax.specs.Programs.{plain_program, plain_text};
 ghost use Rattle.c_model.specs.ProgramGrammar.{with_typedef, function, globals, behind_declarator, declared_at_file, next_typedef, more_typedefs};
@@ -17,7 +16,7 @@ use crate::declarator::{Declarator, declared_by, full_dtor, nameless, names_func
 use crate::function::function_behind;
 use crate::specifier::file_spec;
 use crate::tagged::Definitions;
-use c_expr_parser::kinds::{ANNOT_OPEN, COMMA, LEFT_PAREN, SEMICOLON};
+use c_expr_parser::kinds::{ANNOT_OPEN, COMMA, LEFT_PAREN, SEMICOLON, word_at};
 use c_expr_parser::terminals::{kept, next_is, skip};
 use c_expr_parser::types::BaseType;
 use c_model::declarations::{AnnotationState, Named, Storage};
@@ -157,13 +156,26 @@ fn declared_at_file<'a>(
 
 // ---- types that a typedef declares
 
+/// What a word is once a `typedef` declares it (C99 6.7.7).
+fn declared_word(word: Word) -> Word
+    ensures { result ≡ declared_word word }
+{
+    match word {
+        Word::Assert => Word::TypeName(TypeWord::DeclaredAssert),
+        Word::Keyword(_) | Word::TypeName(_) | Word::Integer | Word::Logic(_) | Word::Name => {
+            Word::TypeName(TypeWord::Declared)
+        }
+    }
+}
+
 /// A name is that of a type from here on.
 fn name_type(words: &mut Vec<Word>, number: u32)
-    ensures { words.new.items ≡ slice_set words.old.items number (TypeName Declared) }
+    ensures { words.new.items ≡ slice_set words.old.items number (declared_word (word_at words.old.items number)) }
 {
+    let declared = declared_word(word_at(words.as_slice(), number));
     let number = number as usize;
     if number < words.len() {
-        words[number] = Word::TypeName(TypeWord::Declared);
+        words[number] = declared;
     }
 }
 

@@ -21,7 +21,7 @@ use Rattle.c_model.specs.Terminals.{placed}
 use Rattle.c_model.specs.AnnotationGrammar.{integer_kind, formula_kind, prefix_operators, product_operators, sum_operators, shift_operators, bit_and_operators, bit_xor_operators, bit_or_operators, conjunction_operators, exclusion_operators}
 use Rattle.c_model.specs.AnnotationGrammar.{disjunction_operators, equivalence_operators, relations_behind, direction_behind, joined_forms, chained, integer_word, named_form, literal_form, sized_form, atom, cast_behind, cast_to_type, cast_to_integer}
 use Rattle.c_model.specs.AnnotationGrammar.{parenthesised, behind_parenthesis, prefixed, prefix_of, prefix, joined_once, joined_more, joined, linked, links_of, links, chain_of, implied, implication_of}
-use Rattle.c_model.specs.AnnotationGrammar.{choice_behind, disjunction, implication, form_of, form, assert_clause, full_clause, next_assert, asserts, annotations}
+use Rattle.c_model.specs.AnnotationGrammar.{first_clause, choice_behind, disjunction, implication, form_of, form, assert_clause, full_clause, next_assert, asserts, annotations}
 use Rattle.c_model.specs.Formed.{IsLogicNumber, nodes_of_form, nodes_of_form_links, FormNumbered, FormLinksNumbered, IsReadAssert, AreReadAsserts}
 use Rattle.c_reader.proofs.TokenForms.{IsLexedKind, Each, each_token, each_any, placed_is}
 use Rattle.c_reader.proofs.ExpressionForms.{each_fixed, closed_each}
@@ -219,7 +219,7 @@ module _ (size : ℕ) (ws : Vocabulary) where
 
   asserts_each : (n : ℕ) → Each size (asserts ws n) (λ k x. AreReadAsserts x.0)
   unfolding asserts
-  asserts_each n = each_then (next_each ([], n) tt) (λ k x p. each_many (formula_kind ws) (λ _. name_kind ∷ []) {P = λ k y. AreReadAsserts y.0} (λ i y q. next_each y q) k x p)
+  asserts_each n = each_then (next_each ([], n) tt) (λ k x p. each_many (formula_kind ws) (λ _. first_clause) {P = λ k y. AreReadAsserts y.0} (λ i y q. next_each y q) k x p)
 
   pub annotations_each : (n : ℕ) → Each size (annotations ws n) (λ k x. AreReadAsserts x.0)
   unfolding annotations

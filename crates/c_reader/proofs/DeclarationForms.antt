@@ -11,9 +11,9 @@ use Rattle.c_syntax.specs.Statements.{Initialiser, Declaration, First, BlockItem
 use Rattle.c_syntax.specs.Tokens as token
 use Rattle.c_syntax.specs.Tokens.{PlainTokenKind, PlainToken}
 use Rattle.c_model.specs.declared.declarations.Named.TheVariants as named
-use Rattle.c_model.specs.declared.vocabulary.TypeName.TheVariants.{Declared}
+use Rattle.c_model.specs.declared.vocabulary.Word.{Word}
 use Rattle.c_model.specs.declared.vocabulary.Word.TheVariants as word
-use Rattle.c_model.specs.Vocabulary.{Vocabulary, word_at}
+use Rattle.c_model.specs.Vocabulary.{Vocabulary, word_at, declared_word}
 use Rattle.c_model.specs.Punctuators.{assign, comma, semicolon, left_brace, right_brace}
 use Rattle.c_model.specs.ExpressionGrammar.{name_kind, word_kind, mark_kind, kind, name_of, name, mark, type_words, star_words}
 use Rattle.c_model.specs.DeclarationGrammar.{Declarator, declared_by, initialisers, ended, maybe_comma, next_item, item_once, more_items, listed, lengths, dtor, full_dtor, item_of_list, first_item_of_list, list_of, list_in, initialiser}
@@ -72,15 +72,19 @@ abbrev pub IsLater : Vocabulary → Vocabulary → Type 0
 IsLater old ws = (n : ℕ) → word_kind (word_at ws n) ≡ name_kind → word_kind (word_at old n) ≡ name_kind
 
 -- a name of a type is no name
-set_name : (ws : Vocabulary) (m n : ℕ) → word_kind (word_at (slice_set ws m (word.TypeName Declared)) n) ≡ name_kind → word_kind (word_at ws n) ≡ name_kind
-set_name [] m n e = e
-set_name (w ∷ ws) zero zero e = absurd cc
-set_name (w ∷ ws) zero (suc n) e = e
-set_name (w ∷ ws) (suc m) zero e = e
-set_name (w ∷ ws) (suc m) (suc n) e = set_name ws m n e
+declared_is_no_name : (w : Word) → word_kind (declared_word w) ≡ name_kind → ⊥
+declared_is_no_name word.Assert e = cc
+declared_is_no_name _ e = cc
 
-pub later_typedef : (old ws : Vocabulary) (m : ℕ) → IsLater old ws → IsLater old (slice_set ws m (word.TypeName Declared))
-later_typedef old ws m h n e = h n (set_name ws m n e)
+set_name : (ws : Vocabulary) (m n : ℕ) (w : Word) → word_kind (word_at (slice_set ws m (declared_word w)) n) ≡ name_kind → word_kind (word_at ws n) ≡ name_kind
+set_name [] m n w e = e
+set_name (v ∷ ws) zero zero w e = absurd (declared_is_no_name w e)
+set_name (v ∷ ws) zero (suc n) w e = e
+set_name (v ∷ ws) (suc m) zero w e = e
+set_name (v ∷ ws) (suc m) (suc n) w e = set_name ws m n w e
+
+pub later_typedef : (old ws : Vocabulary) (m : ℕ) → IsLater old ws → IsLater old (slice_set ws m (declared_word (word_at ws m)))
+later_typedef old ws m h n e = h n (set_name ws m n (word_at ws m) e)
 
 module _ (size : ℕ) (old : Vocabulary) where
   -- ---- names

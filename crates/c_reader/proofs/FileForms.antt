@@ -9,9 +9,7 @@ use Rattle.c_syntax.specs.Programs.{Function, StringLiteral, TranslationUnit}
 use Rattle.c_model.specs.declared.declarations.AnnotationState.{AnnotationState}
 use Rattle.c_model.specs.declared.declarations.Storage.{Storage}
 use Rattle.c_model.specs.declared.declarations.Storage.TheVariants as storage
-use Rattle.c_model.specs.declared.vocabulary.TypeName.TheVariants.{Declared}
-use Rattle.c_model.specs.declared.vocabulary.Word.TheVariants as word
-use Rattle.c_model.specs.Vocabulary.{Vocabulary}
+use Rattle.c_model.specs.Vocabulary.{Vocabulary, word_at, declared_word}
 use Rattle.c_model.specs.Punctuators.{semicolon, comma, left_paren, left_brace, right_brace}
 use Rattle.c_model.specs.ExpressionGrammar.{mark_kind, kind, mark, pointers, most_nested}
 use Rattle.c_model.specs.DeclarationGrammar.{Declarator, Definitions, names_function, ended, declared_by, nameless}
@@ -205,7 +203,7 @@ module _ (size : ℕ) (old : Vocabulary) where
 
   typedef_is : (t : PlainType) (m n : ℕ) (x : FileParts) (d : Declarator) → IsFile m x → IsNameWithin size old m n (d.name, d.place) → IsFile n (with_typedef t x d)
   typedef_is t m n x d h p =
-      one_more_type (slice_set x.words d.name (word.TypeName Declared)) m n x (declared_by t d None) (later_typedef old x.words d.name h.later) h p.from p.to
+      one_more_type (slice_set x.words d.name (declared_word (word_at x.words d.name))) m n x (declared_by t d None) (later_typedef old x.words d.name h.later) h p.from p.to
 
   nameless_is : (t : PlainType) (m n : ℕ) (x : FileParts) (at : Place) → IsFile m x → IsPlaceWithin m n at → IsFile n (with_nameless t x at)
   nameless_is t m n x at h p = one_more_type x.words m n x (nameless t at) h.later h p.from p.to

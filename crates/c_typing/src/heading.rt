@@ -147,7 +147,8 @@ fn fitting_after(
     f: &Func,
 ) -> Result<(), TypeFault>
     ensures refused { (g : TypeFault) → written ≡ Err g → result ≡ Err g }
-    ensures typed { (u : Unit {0}) → written ≡ Ok u → Answers (λ _. plain_func f.now) (fitting (plain_sight sight.now) (get nat_eq names.now) (plain_func f.now)) result }
+    ensures typed { (u : Unit {0}) → written ≡ Ok u
+        → Answers (λ _. plain_func f.now) (fitting (plain_sight sight.now) (get nat_eq names.now) (plain_func f.now)) result }
 {
     match written {
         Err(g) => Err(g),

@@ -32,6 +32,7 @@ returns-clause-typed c =
     let refused : (h : TypeFault) → both c.type_written-written.result c.type_parameters-params.result ≡ Err h → c.fitting_after-fits.result ≡ Err h = λ h e. search (rules, e) in
     let fits : (v : Unit {0}) → both c.type_written-written.result c.type_parameters-params.result ≡ Ok v → Answers (λ (w : Unit {0}). g) (fitting u names g) c.fitting_after-fits.result = λ v e. search (rules, e) in
     let whole = fitting_by s names f t ds c.type_written-written.result c.type_parameters-params.result hw hb u c.fitting_after-fits.result same refused fits in
-    let all = both_made {A = PlainType} {B = Function} {C = Function} {T = Unit {0}} (λ t g. record g { result = t }) (λ (u : Unit {0}). t) (λ (u : Unit {0}). g) (typed_result s (is_definition f) f.place f.result) (fitting_type s names f) c.result_of-result.result
+    let all = both_made {A = PlainType} {B = Function} {C = Function} {T = Unit {0}} (λ t g. record g { result = t })
+    (λ (u : Unit {0}). t) (λ (u : Unit {0}). g) (typed_result s (is_definition f) f.place f.result) (fitting_type s names f) c.result_of-result.result
     c.fitting_after-fits.result c.both-2.result ha whole (sym c.both-2.ensures.is) in
     search (rules, all)
