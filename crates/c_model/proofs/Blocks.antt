@@ -147,7 +147,7 @@ other_bytes-saved store saved (suc n) offset size bytes w few e b written found 
     let is_written : with_bytes s.b offset bytes ≡ written = cc in
     subst (λ x. SameButAt offset size b x) is_written (subst (λ x. SameButAt offset size x (with_bytes s.b offset bytes)) is_b (same_but_at s.b offset size bytes few (omega (arith, whole, inside))))
 
-length-with_bytes : (b : Block) (offset : ℕ) (bytes : List Byte) → offset + length bytes ≤ length b.bytes → length (with_bytes b offset bytes).bytes ≡ length b.bytes
+pub length-with_bytes : (b : Block) (offset : ℕ) (bytes : List Byte) → offset + length bytes ≤ length b.bytes → length (with_bytes b offset bytes).bytes ≡ length b.bytes
 length-with_bytes b offset bytes le =
     length-append (take offset b.bytes) (bytes ++ drop (offset + length bytes) b.bytes)
     ∙ (let a = length-take-le offset b.bytes (omega (arith, le)) in

@@ -17,6 +17,16 @@ pub mod HeapPlaces
 pub mod HeapBlocks
 pub mod StructCopies
 pub mod BlocksLast
+pub mod SoundStores
+pub mod SoundLoads
+pub mod SoundMemory
+pub mod SoundRuns
+pub mod SoundSteps
+pub mod SoundStatements
+pub mod SoundCalls
+pub mod SoundStarts
+pub mod SoundNumbers
+pub mod SoundPrograms
 pub mod SettledBlocks
 pub mod Agreement
 pub mod LibraryFunctions

@@ -129,7 +129,7 @@ module _ (s : Sight) (new : List StructType) (levels tags enums : List ℕ) (g :
       well_kept (Node at t (Index a b)) w = (well_kept a w.0, well_kept b w.1, index_kept t (type_of a) (type_of b) w.2)
       well_kept (Node at t (Dot a m)) w = (well_kept a w.0, w.1, member_kept (type_of a) m t w.2)
       well_kept (Node at t (Arrow a m)) w = (well_kept a w.0, member_behind_kept (type_of a) m t w.1)
-      well_kept (Node at t (Comma a b)) w = (well_kept a w.0, well_kept b w.1, w.2)
+      well_kept (Node at t (Comma a b)) w = (well_kept a w.0, well_kept b w.1, w.2, w.3)
 
       pub all_well_kept : (es : Expressions) → AreWellTyped s es → AreWellTyped later es
       all_well_kept NoExpression w = tt

@@ -12,11 +12,11 @@ use Rattle.c_model.proofs.Cells.{same_pointer-refl}
 
 -- ---- bytes of a block in which some are written
 
-data Read (bs ys : List Byte) (off i : ℕ) : Type 0 where
+pub data Read (bs ys : List Byte) (off i : ℕ) : Type 0 where
   Inside : (j : ℕ) → i ≡ off + j → j < length ys → get_or (take off bs ++ (ys ++ drop (off + length ys) bs)) i Unwritten ≡ get_or ys j Unwritten → Read bs ys off i
   Outside : (i < off) ⊎ (off + length ys ≤ i) → get_or (take off bs ++ (ys ++ drop (off + length ys) bs)) i Unwritten ≡ get_or bs i Unwritten → Read bs ys off i
 
-read_at : (bs ys : List Byte) (off i : ℕ) → off + length ys ≤ length bs → Read bs ys off i
+pub read_at : (bs ys : List Byte) (off i : ℕ) → off + length ys ≤ length bs → Read bs ys off i
 read_at bs ys off i room = by (cases_lt i off)
   where
     front : length (take off bs) ≡ off

@@ -198,7 +198,7 @@ module _ (s : Sight) (known : IsSight s)
                 record { well = (v.well, w.well, OnTheRight (there_is _ i) (pointed_is _ t q) k); object = λ c. refl })))
 
         pub comma_sound : is_array (type_of b) ≡ false → Sound s (Node at (type_of b) (Comma a b))
-        comma_sound flat = record { well = (v.well, w.well, refl); object = w.object }
+        comma_sound flat = record { well = (v.well, w.well, refl, flat); object = w.object }
 
     -- a scalar type has a value of its own
     pub scalar_flat : (t : PlainType) → is_scalar t ≡ true → is_aggregate t ≡ false

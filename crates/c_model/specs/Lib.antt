@@ -46,6 +46,7 @@ pub mod TextOrder
 pub mod ReadTree
 pub mod SmallTypes
 pub mod AcceptedPrograms
+pub mod SoundStates
 pub mod AnnotationTyping
 pub mod TypedAnnotations
 pub mod TypedReadings

@@ -24,7 +24,7 @@ use Rattle.c_syntax.specs.Programs.{StructMember, StringLiteral, Function}
 use Rattle.c_syntax.specs.Layouts.{Scalar, scalar_of, size_of, members_of, member_among}
 use Rattle.c_model.specs.Integers.{fits}
 use Rattle.c_model.specs.Conversions.{promoted, is_shift, is_relation}
-use Rattle.c_model.specs.Meaning.{parts_or_itself, string_in}
+use Rattle.c_model.specs.Meaning.{is_array, parts_or_itself, string_in}
 use Rattle.c_model.specs.Library.{is_library_name}
 use Rattle.c_model.specs.ExpressionTyping.{Object, AnObject, Signature, Sight, name_at, or_else, entity_named, function_called, library_function}
 use Rattle.c_model.specs.ExpressionTyping.{HasSize, sized, most_bytes, constant, tables_in, is_step, is_difference, is_place, has_object, is_struct}
@@ -198,7 +198,7 @@ abbrev mutual
   WellTyped s (Node at t (Index a b)) = WellTyped s a × WellTyped s b × IndexTypes s t (type_of a) (type_of b)
   WellTyped s (Node at t (Dot a m)) = WellTyped s a × (has_object a ≡ true) × HasMember s (type_of a) m t
   WellTyped s (Node at t (Arrow a m)) = WellTyped s a × HasMemberBehind s (type_of a) m t
-  WellTyped s (Node at t (Comma a b)) = WellTyped s a × WellTyped s b × (type_of b ≡ t)
+  WellTyped s (Node at t (Comma a b)) = WellTyped s a × WellTyped s b × (type_of b ≡ t) × (is_array t ≡ false)
 
   pub AreWellTyped : Sight → Expressions → Type 0
   AreWellTyped s NoExpression = Unit {0}

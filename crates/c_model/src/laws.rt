@@ -10,6 +10,10 @@ ghost use Rattle.c_model.specs.HeapLaws.{HeapPlacesFit, HeapPlacesAreLeast, Full
 ghost use Rattle.c_model.specs.HeapLaws.{AllocatedBlocksAreNew, NoBytesGiveNull, FreedBlocksDie, LiveBlocksCanBeFreed, FreeLetsNullBe, DeadBlocksHaveNoUse};
 ghost use Rattle.c_model.specs.HeapLaws.{StatementsKeepBlocks, StatementsKeepPlaces, ScalarsStandInOrder, AssignedStructsAreCopies, AssignedStructsKeepTheRest};
 ghost use Rattle.c_model.specs.Laws.{FuelIsEnough, StepsFall, LoopsTurn, DoLoopsTurn, ForLoopsTurn, RunsNeedNoFuel, RunsSpendSteps, OutputGrows};
+ghost use Rattle.c_model.specs.SoundStates.{BirthsKeepSound, BodiesKeepSound, CopiesKeepSound, DeathsKeepSound, ExpressionsKeepSound, FreesKeepSound};
+ghost use Rattle.c_model.specs.SoundStates.{ItemsKeepSound, NumbersAreOne, PlacedAreNear, ProgramCallsKeepSound, ProgramsAreDirect, RunsAreSound};
+ghost use Rattle.c_model.specs.SoundStates.{RunsKeepSound, SavesKeepSound, SoundStoresAreWhole, SoundStoresRead, StartsAreSettled, StartsAreSound};
+ghost use Rattle.c_model.specs.SoundStates.{StatementsKeepSound};
 ghost use Rattle.c_model.specs.TypedTrees.{TypingLaws};
 ghost use Rattle.c_model.specs.TextTypingLaws.{TextTypingLaws};
 ghost use Rattle.c_model.specs.TypedPredicates.{TypedAnnotationsAreKnown};
@@ -116,4 +120,33 @@ pub fn ranging_of_programs()
     ensures units { RangingKeepsUnits }
     ensures programs { RangedProgramsArePrograms }
     ensures runs { RangesKeepRuns }
+{}
+
+/// Stores that are sound: what is read of one is a value of its type, or a pointer into a block, which is 2^32 bytes long at most. Saves of values that point
+/// into blocks, copies of scalars, deaths and `free` leave a store sound.
+pub fn sound_stores()
+    ensures reads { SoundStoresRead }
+    ensures near { PlacedAreNear }
+    ensures whole { SoundStoresAreWhole }
+    ensures saves { SavesKeepSound }
+    ensures copies { CopiesKeepSound }
+    ensures deaths { DeathsKeepSound }
+    ensures frees { FreesKeepSound }
+{}
+
+/// States that are sound: a run of a program of an accepted text begins in one and leaves one, and each of its expressions, births, statements, bodies and
+/// calls leaves one, if it begins in one.
+pub fn sound_states()
+    ensures direct { ProgramsAreDirect }
+    ensures numbers { NumbersAreOne }
+    ensures starts { StartsAreSound }
+    ensures settled { StartsAreSettled }
+    ensures expressions { ExpressionsKeepSound }
+    ensures births { BirthsKeepSound }
+    ensures statements { StatementsKeepSound }
+    ensures items { ItemsKeepSound }
+    ensures bodies { BodiesKeepSound }
+    ensures calls { ProgramCallsKeepSound }
+    ensures runs { RunsKeepSound }
+    ensures left { RunsAreSound }
 {}
