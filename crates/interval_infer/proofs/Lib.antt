@@ -1,4 +1,7 @@
 pub mod Sound
+pub mod Terms
+pub mod Binders
+pub mod Bases
 mod Ranged
 mod Rows
 pub mod Blocks

@@ -42,8 +42,9 @@ use Rattle.ea_num.proofs.Converted.{conversions_fit, conversions_keep_values}
 use Rattle.ea_num.proofs.Ordered.{sum_range-ordered, difference_range-ordered, negation_range-ordered, complement_range-ordered, product_range-ordered, quotient_range-ordered, remainder_range-ordered, shift_left_range-ordered}
 use Rattle.ea_num.proofs.Ordered.{shift_right_range-ordered, bitwise_and_range-ordered, bitwise_or_range-ordered, bitwise_xor_range-ordered}
 use Rattle.interval_infer.specs.Laws.{LoadsFit, AreSeen, RangesAreOrdered, RangesAreWithin128, ValuesLieInRanges}
+use Rattle.interval_infer.specs.Terms.{EachSeen}
 
-some_is : {A : Type 0} (x y : A) → Some x ≡ Some y → x ≡ y
+pub some_is : {A : Type 0} (x y : A) → Some x ≡ Some y → x ≡ y
 some_is x y e = cc
 
 value_is : (r : Range) (x z : ℤ) → Some (Mathematical x) ≡ Some (Mathematical z) → LiesIn r x → LiesIn r z
@@ -99,7 +100,7 @@ type_ordered U32 = record { ordered = omega (arith, ints) }
 type_ordered I64 = record { ordered = omega (arith, ints) }
 type_ordered U64 = record { ordered = omega (arith, ints) }
 
-type_within : (k : CInt) → IsWithin128 (type_range k)
+pub type_within : (k : CInt) → IsWithin128 (type_range k)
 type_within I8 = record { lo_fits = record { sfits = lit< tt }; hi_fits = record { sfits = lit< tt } }
 type_within U8 = record { lo_fits = record { sfits = lit< tt }; hi_fits = record { sfits = lit< tt } }
 type_within I16 = record { lo_fits = record { sfits = lit< tt }; hi_fits = record { sfits = lit< tt } }
@@ -119,14 +120,14 @@ inside_lies a b z e h = by (int_le b.lo a.lo) (int_le a.hi b.hi) refl refl e
 
 -- ---- each range lies within 128 bits
 
-at_bounded : (s r : Range) → bounded s ≡ Some r → IsWithin128 r
+pub at_bounded : (s r : Range) → bounded s ≡ Some r → IsWithin128 r
 at_bounded s r e = (bounded_some s r e).within
 
 unless_bounded : (t : Bool) (s r : Range) → cond t None (bounded s) ≡ Some r → IsWithin128 r
 unless_bounded true s r e = absurd cc
 unless_bounded false s r e = at_bounded s r e
 
-product_within : (a b r : Range) → product_range a b ≡ Some r → IsWithin128 r
+pub product_within : (a b r : Range) → product_range a b ≡ Some r → IsWithin128 r
 product_within a b r e = at_bounded (hull_of_four (a.lo *ℤ b.lo) (a.lo *ℤ b.hi) (a.hi *ℤ b.lo) (a.hi *ℤ b.hi)) r e
 
 unary_within : (op : UnOp) (a r : Range) → IsWithin128 a → unary_range op a ≡ Some r → IsWithin128 r
@@ -172,16 +173,16 @@ held_of P (Some (ctype.Named x)) (Some a) r h n p e = absurd cc
 held_of P (Some (StructTag x tag)) (Some a) r h n p e = absurd cc
 held_of P (Some (EnumTag x at)) (Some a) r h n p e = absurd cc
 
-place_of : (P : Range → Type 0) (t : Option PlainType) (r : Range) → ((k : CInt) → P (type_range k)) → P offset_range → place_range t ≡ Some r → P r
+pub place_of : (P : Range → Type 0) (t : Option PlainType) (r : Range) → ((k : CInt) → P (type_range k)) → P offset_range → place_range t ≡ Some r → P r
 place_of P t r h n e = held_of P t (Some offset_range) r h n (λ a q. subst P (some_is offset_range a q) n) e
 
 -- what a range is made of
-record Then (o : Option Range) (f : Range → Option Range) (r : Range) : Type 0 where
+pub record Then (o : Option Range) (f : Range → Option Range) (r : Range) : Type 0 where
   pub first : Range
   pub there : o ≡ Some first
   pub is : f first ≡ Some r
 
-then_parts : (o : Option Range) (f : Range → Option Range) (r : Range) → then_range o f ≡ Some r → Then o f r
+pub then_parts : (o : Option Range) (f : Range → Option Range) (r : Range) → then_range o f ≡ Some r → Then o f r
 then_parts None f r e = absurd cc
 then_parts (Some a) f r e = record { first = a; there = refl; is = e }
 
@@ -227,7 +228,7 @@ hull_within a b h k = record { lo_fits = low (int_lt b.lo a.lo); hi_fits = high 
     high true = h.hi_fits
     high false = k.hi_fits
 
-offsets_within : IsWithin128 offset_range
+pub offsets_within : IsWithin128 offset_range
 offsets_within = record { lo_fits = record { sfits = lit< tt }; hi_fits = record { sfits = lit< tt } }
 
 start_within : IsWithin128 start_range
@@ -249,29 +250,29 @@ member_within : (d : ℕ) (o : Option Range) (r : Range) → member_range d o �
 member_within d o r e = let t = then_parts o (sum_range (from_to (pos d) (pos d))) r e in at_bounded (from_to (pos d +ℤ t.first.lo) (pos d +ℤ t.first.hi)) r t.is
 
 mutual
-  pub ranges_are_within_128 : RangesAreWithin128
-  ranges_are_within_128 seen (Number at t r n) v h = at_bounded (from_to n n) r h
-  ranges_are_within_128 seen (Letter at t r n) v h = at_bounded (from_to n n) r h
-  ranges_are_within_128 seen (Variable at t r x) v h = place_of IsWithin128 t r type_within offsets_within h
-  ranges_are_within_128 seen (Unary at t r op a) v h = unary_within op (range_of a) r (ranges_are_within_128 seen a v h.1) h.0
-  ranges_are_within_128 seen (Binary at t r op a b) v h = binary_within op (range_of a) (range_of b) r h.0
-  ranges_are_within_128 seen (Cast at t r to a) v h = cast_of IsWithin128 to (range_of a) r (ranges_are_within_128 seen a v h.1) type_within h.0
-  ranges_are_within_128 seen (Choice at t r c a b) v h =
-      subst IsWithin128 h.0 (hull_within (range_of a) (range_of b) (ranges_are_within_128 seen a v h.2) (ranges_are_within_128 seen b v h.3))
-  ranges_are_within_128 seen (Named at t r x) v h = seen_has IsWithin128 x.decl seen r v h
-  ranges_are_within_128 seen (At at t r l a) v h = subst IsWithin128 h.0 (ranges_are_within_128 seen a v h.1)
-  ranges_are_within_128 seen (Null at t r) v h = subst IsWithin128 h start_within
-  ranges_are_within_128 seen (Deref at t r a) v h =
-      held_of IsWithin128 t (Some (range_of a)) r type_within offsets_within (λ q e. subst IsWithin128 (some_is (range_of a) q e) (ranges_are_within_128 seen a v h.1)) h.0
-  ranges_are_within_128 seen (Member at t r d a) v h = held_of IsWithin128 t (member_range d (address_range a)) r type_within offsets_within (member_within d (address_range a)) h.0
-  ranges_are_within_128 seen (Address at t r a) v h = addresses_within seen a r v h.1 h.0
-  ranges_are_within_128 seen (Moved at t r op n a b) v h = moved_within op n (range_of a) (range_of b) r h.0
-  ranges_are_within_128 seen (Difference at t r n a b) v h = subst IsWithin128 h.0 distance_within
-  ranges_are_within_128 seen (Told at t r f a) v h = subst IsWithin128 h.0 (told_within f)
+  pub term_within : (seen : Seen) (t : LogicTerm) → EachSeen IsWithin128 seen → TermRanged seen t → IsWithin128 (range_of t)
+  term_within seen (Number at t r n) v h = at_bounded (from_to n n) r h
+  term_within seen (Letter at t r n) v h = at_bounded (from_to n n) r h
+  term_within seen (Variable at t r x) v h = place_of IsWithin128 t r type_within offsets_within h
+  term_within seen (Unary at t r op a) v h = unary_within op (range_of a) r (term_within seen a v h.1) h.0
+  term_within seen (Binary at t r op a b) v h = binary_within op (range_of a) (range_of b) r h.0
+  term_within seen (Cast at t r to a) v h = cast_of IsWithin128 to (range_of a) r (term_within seen a v h.1) type_within h.0
+  term_within seen (Choice at t r c a b) v h =
+      subst IsWithin128 h.0 (hull_within (range_of a) (range_of b) (term_within seen a v h.2) (term_within seen b v h.3))
+  term_within seen (Named at t r x) v h = v x.decl r h
+  term_within seen (At at t r l a) v h = subst IsWithin128 h.0 (term_within seen a v h.1)
+  term_within seen (Null at t r) v h = subst IsWithin128 h start_within
+  term_within seen (Deref at t r a) v h =
+      held_of IsWithin128 t (Some (range_of a)) r type_within offsets_within (λ q e. subst IsWithin128 (some_is (range_of a) q e) (term_within seen a v h.1)) h.0
+  term_within seen (Member at t r d a) v h = held_of IsWithin128 t (member_range d (address_range a)) r type_within offsets_within (member_within d (address_range a)) h.0
+  term_within seen (Address at t r a) v h = addresses_within seen a r v h.1 h.0
+  term_within seen (Moved at t r op n a b) v h = moved_within op n (range_of a) (range_of b) r h.0
+  term_within seen (Difference at t r n a b) v h = subst IsWithin128 h.0 distance_within
+  term_within seen (Told at t r f a) v h = subst IsWithin128 h.0 (told_within f)
 
-  addresses_within : (seen : Seen) (t : LogicTerm) (r : Range) → AreSeen IsWithin128 seen → TermRanged seen t → address_range t ≡ Some r → IsWithin128 r
+  addresses_within : (seen : Seen) (t : LogicTerm) (r : Range) → EachSeen IsWithin128 seen → TermRanged seen t → address_range t ≡ Some r → IsWithin128 r
   addresses_within seen (Variable at t q x) r v h e = subst IsWithin128 (some_is offset_range r e) offsets_within
-  addresses_within seen (Deref at t q a) r v h e = subst IsWithin128 (some_is (range_of a) r e) (ranges_are_within_128 seen a v h.1)
+  addresses_within seen (Deref at t q a) r v h e = subst IsWithin128 (some_is (range_of a) r e) (term_within seen a v h.1)
   addresses_within seen (Member at t q d a) r v h e = member_within d (address_range a) r e
   addresses_within seen (Number at t q n) r v h e = absurd cc
   addresses_within seen (Letter at t q n) r v h e = absurd cc
@@ -286,6 +287,9 @@ mutual
   addresses_within seen (Moved at t q op n a b) r v h e = absurd cc
   addresses_within seen (Difference at t q n a b) r v h e = absurd cc
   addresses_within seen (Told at t q f a) r v h e = absurd cc
+
+pub ranges_are_within_128 : RangesAreWithin128
+ranges_are_within_128 seen t v h = term_within seen t (λ x r e. seen_has IsWithin128 x seen r v e) h
 
 -- ---- each range has a number in it
 
@@ -433,10 +437,10 @@ read_lies s (Some p) (Some (StructTag x tag)) r z l e g = absurd cc
 read_lies s (Some p) (Some (EnumTag x at)) r z l e g = absurd cc
 
 -- each value that an operand has lies in its range
-abbrev Lies : Range → Option TermValue → Type 0
-Lies a o = (x : ℤ) → o ≡ Some (Mathematical x) → LiesIn a x
+abbrev pub IntegersLie : Range → Option TermValue → Type 0
+IntegersLie a o = (x : ℤ) → o ≡ Some (Mathematical x) → LiesIn a x
 
-unary_lies : (op : UnOp) (o : Option TermValue) (a r : Range) (z : ℤ) → unary_range op a ≡ Some r → Lies a o → compute_one op o ≡ Some (Mathematical z) → LiesIn r z
+pub unary_lies : (op : UnOp) (o : Option TermValue) (a r : Range) (z : ℤ) → unary_range op a ≡ Some r → IntegersLie a o → compute_one op o ≡ Some (Mathematical z) → LiesIn r z
 unary_lies unary.Plus None a r z e h g = absurd cc
 unary_lies unary.Plus (Some (Addressed x)) a r z e h g = absurd cc
 unary_lies unary.Plus (Some (Mathematical x)) a r z e h g = value_is r x z g (subst (λ q. LiesIn q x) (some_is a r e) (h x refl))
@@ -472,7 +476,7 @@ binary_lies operator.Le a b r x y z v w e h k g = absurd cc
 binary_lies operator.Gt a b r x y z v w e h k g = absurd cc
 binary_lies operator.Ge a b r x y z v w e h k g = absurd cc
 
-both_lie : (op : BinOp) (o p : Option TermValue) (a b r : Range) (z : ℤ) → IsWithin128 a → IsWithin128 b → binary_range op a b ≡ Some r → Lies a o → Lies b p → both o p (compute op) ≡ Some (Mathematical z) → LiesIn r z
+pub both_lie : (op : BinOp) (o p : Option TermValue) (a b r : Range) (z : ℤ) → IsWithin128 a → IsWithin128 b → binary_range op a b ≡ Some r → IntegersLie a o → IntegersLie b p → both o p (compute op) ≡ Some (Mathematical z) → LiesIn r z
 both_lie op None p a b r z v w e h k g = absurd cc
 both_lie op (Some (Addressed x)) None a b r z v w e h k g = absurd cc
 both_lie op (Some (Addressed x)) (Some y) a b r z v w e h k g = absurd cc
@@ -488,7 +492,7 @@ wrapped_lies k a x h = by (is_inside a (type_range k)) refl
     by true e = subst (LiesIn a) (sym (conversions_keep_values k x (has_type k x (inside_lies a (type_range k) x e h)))) h
     by false e = type_has k (wrapped k x) (conversions_fit k x)
 
-cast_lies : (to : CastType) (o : Option TermValue) (a r : Range) (z : ℤ) → cast_range to a ≡ Some r → Lies a o → converted to o ≡ Some (Mathematical z) → LiesIn r z
+pub cast_lies : (to : CastType) (o : Option TermValue) (a r : Range) (z : ℤ) → cast_range to a ≡ Some r → IntegersLie a o → converted to o ≡ Some (Mathematical z) → LiesIn r z
 cast_lies Integers o a r z e h g = subst (λ q. LiesIn q z) (some_is a r e) (h z g)
 cast_lies (OfC t) None a r z e h g = absurd cc
 cast_lies (OfC t) (Some (Addressed x)) a r z e h g = by t g
@@ -509,13 +513,13 @@ cast_lies (OfC t) (Some (Mathematical x)) a r z e h g = by (integer_type t) e g
     by None f g = absurd cc
     by (Some k) f g = value_is r (wrapped k x) z g (subst (λ q. LiesIn q (wrapped k x)) (some_is (if is_inside a (type_range k) then a else type_range k) r f) (wrapped_lies k a x (h x refl)))
 
-hull_left : (a b : Range) (z : ℤ) → LiesIn a z → LiesIn (hull a b) z
+pub hull_left : (a b : Range) (z : ℤ) → LiesIn a z → LiesIn (hull a b) z
 hull_left a b z h = let l = h.above in let u = h.below in record { above = omega (arith, ints, clamps, l); below = omega (arith, ints, clamps, u) }
 
-hull_right : (a b : Range) (z : ℤ) → LiesIn b z → LiesIn (hull a b) z
+pub hull_right : (a b : Range) (z : ℤ) → LiesIn b z → LiesIn (hull a b) z
 hull_right a b z h = let l = h.above in let u = h.below in record { above = omega (arith, ints, clamps, l); below = omega (arith, ints, clamps, u) }
 
-chosen_lies : (c : Answer) (o p : Option TermValue) (a b : Range) (z : ℤ) → Lies a o → Lies b p → chosen c o p ≡ Some (Mathematical z) → LiesIn (hull a b) z
+chosen_lies : (c : Answer) (o p : Option TermValue) (a b : Range) (z : ℤ) → IntegersLie a o → IntegersLie b p → chosen c o p ≡ Some (Mathematical z) → LiesIn (hull a b) z
 chosen_lies (Says true n) o p a b z h k g = hull_left a b z (h z g)
 chosen_lies (Says false n) o p a b z h k g = hull_right a b z (k z g)
 chosen_lies (SaysNothing n) o p a b z h k g = absurd cc

@@ -7,6 +7,7 @@ use Rattle.c_syntax.specs.Logic.{LogicTerm, range_of}
 use Rattle.c_syntax.specs.Layouts.{IntegerType}
 use Rattle.c_model.specs.Integers.{fits}
 use Rattle.c_model.specs.Memory.{Pointer, Integer, Store, load}
+use Rattle.c_model.specs.SoundStates.{IsSound}
 use Rattle.c_model.specs.State.{State}
 use Rattle.c_model.specs.Logic.{Mathematical, Environment}
 use Rattle.c_model.specs.Predicates.{term}
@@ -17,6 +18,10 @@ use Rattle.c_model.specs.TermRanges.{Seen, TermRanged}
 -- what is read as an integer type is a value of the type (C99 6.2.6.1 p5); so it is where each byte of a store is below 256
 pub record LoadsFit (store : Store) : Type 0 where
   pub value : (p : Pointer) (k : CInt) (z : ℤ) → load store p (IntegerType k) ≡ Some (Integer z) → fits k z ≡ true
+
+-- so it is in a sound store
+abbrev pub SoundStoresLoad : Type 0
+SoundStoresLoad = (store : Store) → IsSound store → LoadsFit store
 
 -- what holds of the range of each name in sight
 abbrev pub AreSeen : (Range → Type 0) → Seen → Type 0
