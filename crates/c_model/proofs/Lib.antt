@@ -122,6 +122,17 @@ pub mod WorkedTrees
 pub mod WorkedTerms
 pub mod WorkedClauses
 mod WorkedAnnotationGrammar
+mod WorkedSight
+mod WorkedLiterals
+mod WorkedOperatorTypes
+mod WorkedPlaceTypes
+mod WorkedUnknownStructs
+mod WorkedConstants
+mod WorkedInitialisers
+mod WorkedStaticInitialisers
+mod WorkedFileNames
+mod WorkedHeadings
+mod WorkedTypeLimits
 mod WorkedExpressionTyping
 mod WorkedStructTyping
 mod WorkedSwitchTyping
@@ -133,6 +144,7 @@ mod WorkedOwnInitialisers
 mod WorkedAnnotationTyping
 mod WorkedAnnotationTypes
 mod WorkedPredicateTyping
+mod WorkedFormSorts
 mod WorkedOperators
 mod WorkedMemory
 mod WorkedConnectives
@@ -142,6 +154,7 @@ mod WorkedPlaces
 mod WorkedZones
 mod WorkedQuantifiers
 mod WorkedTermRanges
+mod WorkedOperatorRanges
 mod WorkedHeap
 mod WorkedEffects
 mod WorkedExpressions
