@@ -1,5 +1,5 @@
 -- Initialisers and the zeros of what they leave out, part by part.
-use Rattle.std.proofs.Common.{◌≡◌, ℕ, zero, suc, ◌+◌, ◌-◌, ◌<◌, List, [], ◌∷◌, ◌++◌, length, drop, get_or, Option, Some, None, refl, sym, ap, ◌∙◌, arith}
+use Rattle.std.proofs.Common.{◌≡◌, ℕ, zero, suc, ◌+◌, ◌-◌, ◌<◌, List, [], ◌∷◌, ◌++◌, length, drop, Option, Some, None, refl, sym, ap, ◌∙◌, arith}
 use Rattle.std.specs.Prelude.{pos, not, if◌then◌else◌}
 use Rattle.c_syntax.specs.declared.expression.Expr.{Expr}
 use Rattle.c_syntax.specs.declared.place.Place.{Place}
@@ -15,40 +15,56 @@ use Rattle.mon_syntax.specs.declared.tree.MonType.TheVariants.{U8}
 use Rattle.mon_syntax.specs.Registers.{Names, next_register}
 use Rattle.mon_syntax.specs.Trees.{MonExpression, MonStatements, NoStatement, Constant}
 use Rattle.c_effects.specs.Expressions.{before, value_type}
-use Rattle.c_effects.specs.Effects.{bytes_at, fill_one, fill_temporaries, full_temporaries, store, stored_at, zeros_at, zero_parts}
-use Rattle.c_effects.specs.Initialisers.{fill_by, fill_first_by, fill_one_by, fill_parts_by, first_part, initialise_object_by, initialise_one_by, parts_in}
+use Rattle.c_effects.specs.Effects.{bytes_at, fill_one, fill_temporaries, full_temporaries, moved, scalars_in, store, stored_at, zeros_from}
+use Rattle.c_effects.specs.Initialisers.{fill_by, fill_first_by, fill_one_by, fill_parts_by, first_part, initialise_object_by, initialise_one_by, next_byte, parts_in}
 use Rattle.c_effects.specs.Named.{full_setup_by, full_value_by, unit_of, with_registers}
 use Rattle.c_effects.proofs.Sequences.{before_assoc}
 
 -- ---- bytes
 
 -- one more byte of a string
-pub bytes_more : (r k d n : ℕ) (bytes : List ℕ) → 0 < n → bytes_at r k d n bytes ≡ before (stored_at r k d U8 (Constant U8 (pos (get_or bytes 0 0)))) (bytes_at r k (d + 1) (n - 1) (drop 1 bytes))
-bytes_more r k d zero bytes lt = absurd (omega arith)
-bytes_more r k d (suc n) [] lt =
+pub bytes_more : (r k d n : ℕ) (bytes : List ℕ) (b : ℕ) (bs : List ℕ) → Some (b, bs) ≡ next_byte n bytes → bytes_at r k d n bytes ≡ before (stored_at r k d U8 (Constant U8 (pos b))) (bytes_at r k (d + 1) (n - 1) bs)
+bytes_more r k d zero bytes b bs e = absurd cc
+bytes_more r k d (suc n) [] b bs e = absurd cc
+bytes_more r k d (suc n) (x ∷ xs) b bs e =
+    let same : x ≡ b = sym (ap (λ (o : Option (ℕ × List ℕ)). elim o [ None ↦ b | Some y ↦ y.0 ]) e) in
+    let rest : xs ≡ bs = sym (ap (λ (o : Option (ℕ × List ℕ)). elim o [ None ↦ bs | Some y ↦ y.1 ]) e) in
     let next : suc d ≡ d + 1 = omega arith in
     let less : n ≡ suc n - 1 = omega arith in
-    λ i. before (stored_at r k d U8 (Constant U8 (pos 0))) (bytes_at r k (next i) (less i) [])
-bytes_more r k d (suc n) (b ∷ bytes) lt =
-    let next : suc d ≡ d + 1 = omega arith in
-    let less : n ≡ suc n - 1 = omega arith in
-    λ i. before (stored_at r k d U8 (Constant U8 (pos b))) (bytes_at r k (next i) (less i) bytes)
+    λ i. before (stored_at r k d U8 (Constant U8 (pos (same i)))) (bytes_at r k (next i) (less i) (rest i))
 
-pub no_byte : (r k d n : ℕ) (bytes : List ℕ) → n ≡ 0 → bytes_at r k d n bytes ≡ NoStatement
+-- zeros are left
+pub no_byte : (r k d n : ℕ) (bytes : List ℕ) → None ≡ next_byte n bytes → bytes_at r k d n bytes ≡ zeros_from r k d 0 n
 no_byte r k d zero bytes e = refl
-no_byte r k d (suc n) bytes e = absurd (omega arith)
+no_byte r k d (suc n) [] e = refl
+no_byte r k d (suc n) (b ∷ bytes) e = absurd cc
+
+pub byte_left : (n : ℕ) (bytes : List ℕ) (b : ℕ) (bs : List ℕ) → Some (b, bs) ≡ next_byte n bytes → 0 < n
+byte_left zero bytes b bs e = absurd cc
+byte_left (suc n) bytes b bs e = omega arith
+
+pub next_none : (n : ℕ) (bytes : List ℕ) → n ≡ 0 → None ≡ next_byte n bytes
+next_none zero bytes e = refl
+next_none (suc n) bytes e = absurd (omega (arith, e))
+
+pub next_empty : (n : ℕ) → None ≡ next_byte n []
+next_empty zero = refl
+next_empty (suc n) = refl
+
+pub next_some : (n b : ℕ) (bs : List ℕ) → 0 < n → Some (b, bs) ≡ next_byte n (b ∷ bs)
+next_some zero b bs lt = absurd (omega (arith, lt))
+next_some (suc n) b bs lt = refl
 
 -- ---- parts
 
--- the zeros of one more part
-pub parts_more : (structs : List StructType) (r k d : ℕ) (cs : List (ℕ × PlainType)) (c : ℕ × PlainType) → Some c ≡ first_part cs
-    → zero_parts structs r k d cs ≡ before (zeros_at r k (d + c.0) (scalars_of structs c.1)) (zero_parts structs r k d (drop 1 cs))
-parts_more structs r k d [] c e = absurd cc
-parts_more structs r k d (x ∷ cs) c e = let same : x ≡ c = cc in ap (λ y. before (zeros_at r k (d + y.0) (scalars_of structs y.1)) (zero_parts structs r k d cs)) same
+-- the scalars of one more part
+pub parts_more : (structs : List StructType) (d : ℕ) (cs : List (ℕ × PlainType)) (c : ℕ × PlainType) → Some c ≡ first_part cs → scalars_in structs d cs ≡ moved (d + c.0) (scalars_of structs c.1) ++ scalars_in structs d (drop 1 cs)
+parts_more structs d [] c e = absurd cc
+parts_more structs d (x ∷ cs) c e = let same : x ≡ c = cc in ap (λ y. moved (d + y.0) (scalars_of structs y.1) ++ scalars_in structs d cs) same
 
-pub no_part : (structs : List StructType) (r k d : ℕ) (cs : List (ℕ × PlainType)) → None ≡ first_part cs → zero_parts structs r k d cs ≡ NoStatement
-no_part structs r k d [] e = refl
-no_part structs r k d (x ∷ cs) e = absurd cc
+pub no_part : (structs : List StructType) (d : ℕ) (cs : List (ℕ × PlainType)) → None ≡ first_part cs → scalars_in structs d cs ≡ []
+no_part structs d [] e = refl
+no_part structs d (x ∷ cs) e = absurd cc
 
 pub fewer_parts : (cs : List (ℕ × PlainType)) (c : ℕ × PlainType) → Some c ≡ first_part cs → length (drop 1 cs) < length cs
 fewer_parts [] c e = absurd cc

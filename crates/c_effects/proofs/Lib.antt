@@ -7,3 +7,4 @@ pub mod Objects
 pub mod Depths
 pub mod InitialiserTrees
 pub mod ScalarTrees
+pub mod ZeroRuns

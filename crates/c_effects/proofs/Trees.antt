@@ -1,6 +1,6 @@
 -- The translation of a tree at a known variant.
 use Rattle.std.proofs.Common.{◌≡◌, ℕ, List, ◌++◌, length, ap, sym, ◌∙◌}
-use Rattle.std.specs.Prelude.{Vec, Result, Ok, Err, OnOk}
+use Rattle.std.specs.Prelude.{Vec, Result, Ok, Err, IfOk, OnOk}
 use Rattle.std.specs.declared.alloc.Global.{Global}
 use Rattle.c_syntax.specs.declared.expression.BinOp.{BinOp}
 use Rattle.c_syntax.specs.declared.expression.Use.{Use}
@@ -25,6 +25,10 @@ on_ok (Err e) p = tt
 pub on_ok_then : {A E P Q : Type 0} (r : Result A E) → (P → Q) → OnOk r P → OnOk r Q
 on_ok_then (Ok a) f p = f p
 on_ok_then (Err e) f p = tt
+
+pub if_ok_then : {A E : Type 0} {P Q : A → Type 0} (r : Result A E) → ((a : A) → P a → Q a) → IfOk r P → IfOk r Q
+if_ok_then (Ok a) f p = f a p
+if_ok_then (Err e) f p = tt
 
 -- a call by its arguments' list
 pub call_expr : (e : Expr) (f : Use) (args : Vec Expr Global) (l : List Expr) → e.kind.value ≡ code.Call f args → l ≡ args.items → Node e.place (plain_type e.ctype) (Call f (plain_exprs l)) ≡ plain_expr e

@@ -1,8 +1,9 @@
 -- What effects become: calls, assignments, increments and initialisers, the full expressions whose values they take, and the temporary
 -- registers of both. Statements are put before the values that they set up. What is assigned is stored in the block of its variable.
-use Rattle.std.specs.Prelude.{ℕ, zero, suc, ◌+◌, pos, Bool, false, not, nat_le, List, [], ◌∷◌, ◌++◌, length, map, Option, Some, None, if◌then◌else◌}
-use Rattle.std.specs.Prelude.{codes, bytes_eq}
+use Rattle.std.specs.Prelude.{ℕ, zero, suc, ◌+◌, ◌-◌, ◌%◌, pos, Bool, false, not, ◌&&◌, nat_eq, nat_le, List, [], ◌∷◌, ◌++◌, length, map, Option, Some, None}
+use Rattle.std.specs.Prelude.{if◌then◌else◌, codes, bytes_eq}
 use Rattle.c_syntax.specs.declared.place.Place.{Place}
+use Rattle.c_syntax.specs.declared.types.CInt.{CInt}
 use Rattle.c_syntax.specs.declared.types.CInt.TheVariants as c
 use Rattle.c_syntax.specs.declared.expression.Use.{Use}
 use Rattle.c_syntax.specs.Ctypes.{PlainType, int_type}
@@ -10,7 +11,7 @@ use Rattle.c_syntax.specs.Expressions as source
 use Rattle.c_syntax.specs.Expressions.{Expression, Node, Expressions, NoExpression, Following, type_of}
 use Rattle.c_syntax.specs.Statements.{Initialiser, One, Many, Initialisers, NoInitialiser, Listed, Declaration}
 use Rattle.c_syntax.specs.Programs.{StructType, StringLiteral, TranslationUnit}
-use Rattle.c_syntax.specs.Layouts.{Scalar, IntegerType, PointerType, scalar_of, size_of, offset_of, target_of, scalars_of}
+use Rattle.c_syntax.specs.Layouts.{Scalar, IntegerType, PointerType, int_size, scalar_size, scalar_of, size_of, offset_of, target_of, scalars_of}
 use Rattle.c_model.specs.Library.{is_there}
 use Rattle.c_model.specs.Meaning.{bump_operator, is_member, is_of_library, string_in, text_at, parts_or_itself, tables_of}
 use Rattle.c_model.specs.ExpressionTyping.{name_at}
@@ -19,7 +20,7 @@ use Rattle.mon_syntax.specs.declared.tree.CopySize.{CopySize}
 use Rattle.mon_syntax.specs.declared.tree.CopySize.TheVariants.{One as OneByte, Two, Four, Eight}
 use Rattle.mon_syntax.specs.declared.tree.MemoryCall.TheVariants.{Copy, Malloc, Calloc, Free}
 use Rattle.mon_syntax.specs.declared.tree.MonType.{MonType}
-use Rattle.mon_syntax.specs.declared.tree.MonType.TheVariants.{U8, I32, I64, Ptr}
+use Rattle.mon_syntax.specs.declared.tree.MonType.TheVariants.{U8, I32, Ptr}
 use Rattle.mon_syntax.specs.Trees.{MonExpression, Register, Constant, Load, Store, PutChar, GetChar, Exit, Act, Call, MonStatements, NoStatement, Then}
 use Rattle.mon_syntax.specs.Registers.{Bindings, register_of}
 pub use Rattle.mon_syntax.specs.Indices.{index_of}
@@ -214,25 +215,48 @@ declaration_temporaries (d ∷ ds) = initial_temporaries d.init ++ declaration_t
 abbrev pub stored_at : ℕ → ℕ → ℕ → MonType → MonExpression → MonStatements
 stored_at r k d t e = before (set k (farther (Register r) d)) (one (Store k t e))
 
+-- ---- zeros in bytes in a row
+
+-- whether so many bytes may be stored at once at an offset of a block, of these that are left
+abbrev pub may_stand : ℕ → ℕ → ℕ → Bool
+may_stand d n width = nat_eq (d % width) 0 && nat_le width n
+
+-- the widest integer type that may be stored there
+abbrev pub widest : ℕ → ℕ → CInt
+widest d n = if may_stand d n 8 then c.I64 else (if may_stand d n 4 then c.I32 else (if may_stand d n 2 then c.I16 else c.I8))
+
+-- zeros in so many bytes from an offset on, of which the first ones are stored already: each store is as wide as it may be there
+abbrev pub zeros_from : ℕ → ℕ → ℕ → ℕ → ℕ → MonStatements
+zeros_from r k d stored zero = NoStatement
+zeros_from r k d zero (suc n) =
+    before (stored_at r k d (register_type (widest d (suc n))) (Constant (register_type (widest d (suc n))) (pos 0)))
+    (zeros_from r k (suc d) (int_size (widest d (suc n)) - 1) n)
+zeros_from r k d (suc stored) (suc n) = zeros_from r k (suc d) stored n
+
 -- bytes, and then zeros, in so many bytes from an offset on
 abbrev pub bytes_at : ℕ → ℕ → ℕ → ℕ → List ℕ → MonStatements
 bytes_at r k d zero bytes = NoStatement
-bytes_at r k d (suc n) [] = before (stored_at r k d U8 (Constant U8 (pos 0))) (bytes_at r k (suc d) n [])
+bytes_at r k d (suc n) [] = zeros_from r k d 0 (suc n)
 bytes_at r k d (suc n) (b ∷ bs) = before (stored_at r k d U8 (Constant U8 (pos b))) (bytes_at r k (suc d) n bs)
 
--- the whole number with the bytes of a scalar
-abbrev pub zero_type : Scalar → MonType
-zero_type (IntegerType k) = register_type k
-zero_type PointerType = I64
+-- zeros in the bytes of scalars, each at its offset, after so many bytes from an offset on that aren't stored yet: what stands in a row is stored as one
+abbrev pub zeros_at : ℕ → ℕ → ℕ → ℕ → List (ℕ × Scalar) → MonStatements
+zeros_at r k d n [] = zeros_from r k d 0 n
+zeros_at r k d n (c ∷ cs) =
+    if nat_eq c.0 (d + n) then zeros_at r k d (n + scalar_size c.1) cs else before (zeros_from r k d 0 n) (zeros_at r k c.0 (scalar_size c.1) cs)
 
--- zero in each byte of scalars, each at its offset
-abbrev pub zeros_at : ℕ → ℕ → ℕ → List (ℕ × Scalar) → MonStatements
-zeros_at r k d [] = NoStatement
-zeros_at r k d (c ∷ cs) = before (stored_at r k (d + c.0) (zero_type c.1) (Constant (zero_type c.1) (pos 0))) (zeros_at r k d cs)
+-- scalars so many bytes farther
+abbrev pub moved : ℕ → List (ℕ × Scalar) → List (ℕ × Scalar)
+moved d [] = []
+moved d (c ∷ cs) = (d + c.0, c.1) ∷ moved d cs
+
+-- the scalars of parts that stand so many bytes farther
+abbrev pub scalars_in : List StructType → ℕ → List (ℕ × PlainType) → List (ℕ × Scalar)
+scalars_in structs d [] = []
+scalars_in structs d (c ∷ cs) = moved (d + c.0) (scalars_of structs c.1) ++ scalars_in structs d cs
 
 abbrev pub zero_parts : List StructType → ℕ → ℕ → ℕ → List (ℕ × PlainType) → MonStatements
-zero_parts structs r k d [] = NoStatement
-zero_parts structs r k d (c ∷ cs) = before (zeros_at r k (d + c.0) (scalars_of structs c.1)) (zero_parts structs r k d cs)
+zero_parts structs r k d cs = zeros_at r k d 0 (scalars_in structs d cs)
 
 -- ---- effects, where these registers are bound to variables
 

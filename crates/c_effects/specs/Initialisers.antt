@@ -1,5 +1,5 @@
 -- Initialisers in parts: where a value is stored, the parts of an object that are left, and what is made of one of them.
-use Rattle.std.specs.Prelude.{ℕ, ◌+◌, List, [], ◌∷◌, map, Option, Some, None}
+use Rattle.std.specs.Prelude.{ℕ, zero, suc, ◌+◌, List, [], ◌∷◌, map, Option, Some, None}
 use Rattle.c_syntax.specs.declared.expression.Expr.{Expr}
 use Rattle.c_syntax.specs.declared.place.Place.{Place}
 use Rattle.c_syntax.specs.Ctypes.{PlainType, plain_type}
@@ -35,6 +35,12 @@ first_part (c ∷ cs) = Some c
 
 abbrev pub stored_in : Slot → MonType → MonExpression → MonStatements
 stored_in s t e = stored_at s.object s.pointer s.offset t e
+
+-- the first byte and those after it, where one is left of so many
+abbrev pub next_byte : ℕ → List ℕ → Option (ℕ × List ℕ)
+next_byte zero bytes = None
+next_byte (suc n) [] = None
+next_byte (suc n) (b ∷ bs) = Some (b, bs)
 
 abbrev pub bytes_in : Slot → ℕ → List ℕ → MonStatements
 bytes_in s n bytes = bytes_at s.object s.pointer s.offset n bytes

@@ -5,4 +5,5 @@ pub mod Parts
 pub mod Named
 pub mod Objects
 pub mod Initialisers
+pub mod Zeros
 pub mod Scalars

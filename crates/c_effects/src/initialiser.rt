@@ -1,6 +1,6 @@
 //! Initialisers (C99 6.7.8).
 
-ghost use Rattle.std.specs.Prelude.{◌≡◌, ◌+◌, IfOk, OnOk, drop, length, map};
+ghost use Rattle.std.specs.Prelude.{◌≡◌, IfOk, OnOk, drop, map};
 ghost use Rattle.c_syntax.specs.Ctypes.{plain_type};
 ghost use Rattle.c_syntax.specs.Expressions.{plain_expr};
 ghost use Rattle.c_syntax.specs.Programs.{plain_layout};
@@ -18,10 +18,12 @@ use crate::aggregate::{Parts, first, parts_of, rest};
 use crate::conversion::value_type;
 use crate::full::full;
 use crate::object::{block_of, store};
-use crate::scalars::{Structs, Task, each_scalar};
-use crate::slot::{Part, Slot, bytes_in, farther_by, store_in, text_at};
+use crate::scalars::zero_scalars;
+use crate::slot::{Part, Slot, farther_by, store_in};
+use crate::text::{bytes_in, text_at};
+use crate::zeros::{Row, zeros_in};
 use c_expression_rules::text::string_in;
-use c_syntax::{CType, Decl, Expr, Init};
+use c_syntax::{CType, Decl, Expr, Init, Layout};
 use mon_syntax::{MonStmt, MonType, Registers};
 use std::alloc::{AllocError, Global};
 use track_scopes::size::size_of;
@@ -69,13 +71,12 @@ fn fill_one(
 fn zero_parts(
     alloc: Global,
     parts: Parts<'_>,
-    structs: Structs<'_>,
+    layouts: &[Layout],
     slot: Slot,
     to: &mut Vec<MonStmt>,
 ) -> Result<(), AllocError>
-    requires { structs.deep ≡ length structs.layouts.now }
     ensures { OnOk result (plain_stmts to.new.items ≡ before (plain_stmts to.old.items)
-        (zero_parts (map plain_layout structs.entry.layouts.now) slot.object slot.pointer slot.offset (plain_parts parts.entry))) }
+        (zero_parts (map plain_layout layouts.now) slot.object slot.pointer slot.offset (plain_parts parts.entry))) }
 {
     let Slot {
         object,
@@ -83,6 +84,10 @@ fn zero_parts(
         ..
     } = slot;
     let mut left = parts;
+    let mut row = Row {
+        start: slot.offset,
+        count: 0,
+    };
     'parts: while let Some((distance, t)) = first(left) {
         let offset = farther_by(slot.offset, distance)?;
         let part = Slot {
@@ -90,10 +95,10 @@ fn zero_parts(
             pointer,
             offset,
         };
-        each_scalar(alloc, t, structs, Task::Zero(part), 0, to)?;
+        row = zero_scalars(alloc, t, layouts, part, row, to)?;
         left = rest(left)?;
     }
-    Ok(())
+    zeros_in(alloc, slot, row, to)
 }
 
 // A part takes an initialiser.
@@ -145,12 +150,7 @@ fn fill_parts(
         pointer,
         offset: part.offset,
     };
-    let layouts = names.layouts();
-    let structs = Structs {
-        layouts,
-        deep: layouts.len(),
-    };
-    zero_parts(alloc, left, structs, slot, to)
+    zero_parts(alloc, left, names.layouts(), slot, to)
 }
 
 // The first of the parts takes an initialiser, and the others are given. Where there is none, only its registers stay.

@@ -12,6 +12,8 @@ pub mod operator;
 pub mod part;
 pub mod scalars;
 pub mod slot;
+pub mod text;
+pub mod zeros;
 
 // initialisers
 pub mod aggregate;

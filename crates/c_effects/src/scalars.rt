@@ -3,18 +3,20 @@
 ghost use Rattle.std.specs.Prelude.{◌≡◌, ◌+◌, ◌∷◌, [], IfOk, OnOk, map};
 ghost use Rattle.c_syntax.specs.Ctypes.{Struct, plain_type};
 ghost use Rattle.c_syntax.specs.Programs.{plain_layout, plain_member};
-ghost use Rattle.c_syntax.specs.Layouts.{IntegerType, in_each, in_members, scalars_from, scalars_of, size_of};
+ghost use Rattle.c_syntax.specs.Layouts.{IntegerType, in_each, in_members, scalar_size, scalars_from, scalars_of, size_of};
 ghost use Rattle.mon_syntax.specs.Trees.{Register, plain_expr, plain_stmts};
 ghost use Rattle.c_effects.specs.Expressions.{before, farther};
-ghost use Rattle.c_effects.specs.Effects.{copies_at, copy_size, zero_type};
-ghost use Rattle.c_effects.specs.Scalars.{done_to, plain_scalar};
+ghost use Rattle.c_effects.specs.Effects.{copies_at, copy_size};
+ghost use Rattle.c_effects.specs.Scalars.{done_to, plain_scalar, row_after, row_of, rows_stored, task_after};
+ghost use Rattle.c_effects.specs.Zeros.{row_stored, row_with};
 
-use crate::conversion::register_type;
 use crate::operator::{farther, register};
 use crate::part::then;
-use crate::slot::{Part, Slot, farther_by, number_in};
+use crate::slot::{Part, Slot, farther_by};
+use crate::zeros::{Row, lengthened};
+use c_syntax::layout::int_size;
 use c_syntax::{CInt, CType, Layout, Length, Member};
-use mon_syntax::{CopySize, MemoryCall, MonExpr, MonStmt, MonStmtKind, MonType};
+use mon_syntax::{CopySize, MemoryCall, MonExpr, MonStmt, MonStmtKind};
 use std::alloc::{AllocError, Global};
 use track_scopes::size::size_of;
 
@@ -35,19 +37,19 @@ pub enum ScalarType {
 /// What is done to the scalars of an object.
 #[derive(Clone, Copy)]
 pub enum Task {
-    /// They become 0.
-    Zero(Slot),
+    /// They become 0, after zero bytes that aren't stored yet.
+    Zero(Slot, Row),
     /// They are copied to the first object from the second.
     Copy(Part, Part),
 }
 
-// The type of a whole number with the bytes of a scalar.
-fn zero_type(k: ScalarType) -> MonType
-    ensures { result ≡ zero_type (plain_scalar k) }
+// The bytes of a scalar.
+fn scalar_size(k: ScalarType) -> u32
+    ensures { result ≡ scalar_size (plain_scalar k) }
 {
     match k {
-        ScalarType::Integer(k) => register_type(k),
-        ScalarType::Pointer => MonType::I64,
+        ScalarType::Integer(k) => int_size(k),
+        ScalarType::Pointer => 8,
     }
 }
 
@@ -101,25 +103,49 @@ fn copy_one(
     then(alloc, to, MonStmtKind::Act(None, call, pointers))
 }
 
+// Zeros in a scalar.
+fn zero_one(
+    alloc: Global,
+    slot: Slot,
+    row: Row,
+    distance: u64,
+    k: ScalarType,
+    to: &mut Vec<MonStmt>,
+) -> Result<Row, AllocError>
+    ensures code { OnOk result (plain_stmts to.new.items ≡ before (plain_stmts to.old.items) (row_stored slot row (slot.offset + distance))) }
+    ensures row { IfOk result (λ after. after ≡ row_with row (slot.offset + distance) (scalar_size (plain_scalar k))) }
+{
+    let offset = farther_by(slot.offset, distance)?;
+    lengthened(alloc, slot, row, offset, u64::from(scalar_size(k)), to)
+}
+
 // Does it to one scalar.
+#[tactic(auto, using(crate::proofs::Sequences::before_none))]
 fn do_one(
     alloc: Global,
     task: Task,
     distance: u64,
     k: ScalarType,
     to: &mut Vec<MonStmt>,
-) -> Result<(), AllocError>
-    ensures { OnOk result (plain_stmts to.new.items ≡ before (plain_stmts to.old.items) (done_to task ((distance, plain_scalar k) ∷ []))) }
+) -> Result<Task, AllocError>
+    ensures code { OnOk result (plain_stmts to.new.items ≡ before (plain_stmts to.old.items) (done_to task ((distance, plain_scalar k) ∷ []))) }
+    ensures task { IfOk result (λ after. after ≡ task_after task ((distance, plain_scalar k) ∷ [])) }
 {
     match task {
-        Task::Zero(slot) => number_in(alloc, slot, distance, zero_type(k), 0, to),
-        Task::Copy(target, source) => copy_one(alloc, (target, source), distance, k, to),
+        Task::Zero(slot, row) => {
+            let after = zero_one(alloc, slot, row, distance, k, to)?;
+            Ok(Task::Zero(slot, after))
+        }
+        Task::Copy(target, source) => {
+            copy_one(alloc, (target, source), distance, k, to)?;
+            Ok(task)
+        }
     }
 }
 
-/// Does it to each scalar of a type that stands so many bytes farther.
+/// Does it to each scalar of a type that stands so many bytes farther, and gives the task after them.
 #[cycle(each)]
-#[tactic(auto, using(crate::proofs::ScalarTrees::before_no_scalar))]
+#[tactic(auto, using(crate::proofs::ScalarTrees::before_no_scalar, crate::proofs::ScalarTrees::after_none))]
 pub fn each_scalar(
     alloc: Global,
     t: &CType,
@@ -127,9 +153,11 @@ pub fn each_scalar(
     task: Task,
     distance: u64,
     to: &mut Vec<MonStmt>,
-) -> Result<(), AllocError>
-    ensures { OnOk result (plain_stmts to.new.items ≡ before (plain_stmts to.old.items)
+) -> Result<Task, AllocError>
+    ensures code { OnOk result (plain_stmts to.new.items ≡ before (plain_stmts to.old.items)
         (done_to task (scalars_from (map plain_layout structs.entry.layouts.now) structs.entry.deep (plain_type t.now) distance))) }
+    ensures task { IfOk result (λ after. after ≡
+        task_after task (scalars_from (map plain_layout structs.entry.layouts.now) structs.entry.deep (plain_type t.now) distance)) }
 {
     match t {
         CType::Int(k) => do_one(alloc, task, distance, ScalarType::Integer(*k), to),
@@ -142,7 +170,7 @@ pub fn each_scalar(
         | CType::Void
         | CType::Named(_)
         | CType::StructTag(..)
-        | CType::EnumTag(_, _) => Ok(()),
+        | CType::EnumTag(_, _) => Ok(task),
     }
 }
 
@@ -156,20 +184,24 @@ fn each_in_elements(
     task: Task,
     distance: u64,
     to: &mut Vec<MonStmt>,
-) -> Result<(), AllocError>
-    ensures { OnOk result (plain_stmts to.new.items ≡ before (plain_stmts to.old.items)
+) -> Result<Task, AllocError>
+    ensures code { OnOk result (plain_stmts to.new.items ≡ before (plain_stmts to.old.items)
         (done_to task (in_each distance (size_of (map plain_layout structs.entry.layouts.now) (plain_type t.now)) count
         (scalars_from (map plain_layout structs.entry.layouts.now) structs.entry.deep (plain_type t.now))))) }
+    ensures task { IfOk result (λ after. after ≡
+        task_after task (in_each distance (size_of (map plain_layout structs.entry.layouts.now) (plain_type t.now)) count
+        (scalars_from (map plain_layout structs.entry.layouts.now) structs.entry.deep (plain_type t.now)))) }
 {
     let size = size_of(structs.layouts, t)?;
     let mut at = distance;
     let mut left = count;
+    let mut next = task;
     'elements: while 0 < left {
-        each_scalar(alloc, t, structs, task, at, to)?;
+        next = each_scalar(alloc, t, structs, next, at, to)?;
         at = farther_by(at, size)?;
         left -= 1;
     }
-    Ok(())
+    Ok(next)
 }
 
 // The same in the members of a struct.
@@ -181,13 +213,15 @@ fn each_in_struct(
     task: Task,
     distance: u64,
     to: &mut Vec<MonStmt>,
-) -> Result<(), AllocError>
-    ensures { OnOk result (plain_stmts to.new.items ≡ before (plain_stmts to.old.items)
+) -> Result<Task, AllocError>
+    ensures code { OnOk result (plain_stmts to.new.items ≡ before (plain_stmts to.old.items)
         (done_to task (scalars_from (map plain_layout structs.entry.layouts.now) structs.entry.deep (Struct number) distance))) }
+    ensures task { IfOk result (λ after. after ≡
+        task_after task (scalars_from (map plain_layout structs.entry.layouts.now) structs.entry.deep (Struct number) distance)) }
 {
     let Structs { layouts, deep } = structs;
     if deep == 0 {
-        return Ok(());
+        return Ok(task);
     }
     let inner = Structs {
         layouts,
@@ -195,7 +229,7 @@ fn each_in_struct(
     };
     match layouts.get(number as usize) {
         Some(layout) => each_in_members(alloc, &layout.members, inner, task, distance, to),
-        None => Ok(()),
+        None => Ok(task),
     }
 }
 
@@ -208,16 +242,51 @@ fn each_in_members(
     task: Task,
     distance: u64,
     to: &mut Vec<MonStmt>,
-) -> Result<(), AllocError>
-    ensures { OnOk result (plain_stmts to.new.items ≡ before (plain_stmts to.old.items)
+) -> Result<Task, AllocError>
+    ensures code { OnOk result (plain_stmts to.new.items ≡ before (plain_stmts to.old.items)
         (done_to task (in_members (map plain_member members.now) distance
         (scalars_from (map plain_layout structs.entry.layouts.now) structs.entry.deep)))) }
+    ensures task { IfOk result (λ after. after ≡
+        task_after task (in_members (map plain_member members.now) distance
+        (scalars_from (map plain_layout structs.entry.layouts.now) structs.entry.deep))) }
 {
+    let mut next = task;
     'members: for m in members {
         let at = farther_by(distance, u64::from(m.offset))?;
-        each_scalar(alloc, &m.ctype, structs, task, at, to)?;
+        next = each_scalar(alloc, &m.ctype, structs, next, at, to)?;
     }
-    Ok(())
+    Ok(next)
+}
+
+// The row of zero bytes that a task leaves.
+fn row_of(task: Task, given: Row) -> Row
+    ensures { result ≡ row_of given task }
+{
+    match task {
+        Task::Zero(_, row) => row,
+        Task::Copy(..) => given,
+    }
+}
+
+/// Zeros in the scalars of a part of the type, but for those in a row that aren't stored yet.
+pub fn zero_scalars(
+    alloc: Global,
+    t: &CType,
+    layouts: &[Layout],
+    slot: Slot,
+    row: Row,
+    to: &mut Vec<MonStmt>,
+) -> Result<Row, AllocError>
+    ensures code { OnOk result (plain_stmts to.new.items ≡ before (plain_stmts to.old.items)
+        (rows_stored slot row (scalars_of (map plain_layout layouts.now) (plain_type t.now)))) }
+    ensures row { IfOk result (λ after. after ≡ row_after slot row (scalars_of (map plain_layout layouts.now) (plain_type t.now))) }
+{
+    let structs = Structs {
+        layouts,
+        deep: layouts.len(),
+    };
+    let task = each_scalar(alloc, t, structs, Task::Zero(slot, row), 0, to)?;
+    Ok(row_of(task, row))
 }
 
 /// Copies the scalars of an object of the type to the first object from the second, in order.
@@ -236,5 +305,6 @@ pub fn copy_all(
         layouts,
         deep: layouts.len(),
     };
-    each_scalar(alloc, t, structs, Task::Copy(target, source), 0, to)
+    let _ = each_scalar(alloc, t, structs, Task::Copy(target, source), 0, to)?;
+    Ok(())
 }

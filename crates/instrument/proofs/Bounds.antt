@@ -172,7 +172,7 @@ pub record Saved (store saved : Store) : Type 0 where
   pub live : live_in saved ≡ live_in store
   pub long : length saved ≡ length store
 
-saved_bytes : (store saved : Store) (p : Pointer) (n : ℕ) (bytes : List Byte) → Bounded store → AreBytes bytes → save_bytes store p n bytes ≡ Some saved → Saved store saved
+pub saved_bytes : (store saved : Store) (p : Pointer) (n : ℕ) (bytes : List Byte) → Bounded store → AreBytes bytes → save_bytes store p n bytes ≡ Some saved → Saved store saved
 saved_bytes store saved Null n bytes h a e = absurd cc
 saved_bytes store saved (Into zero i) n bytes h a e = absurd cc
 saved_bytes store saved (Into (suc j) i) n bytes h a e = of_block (slice_get store j) refl e

@@ -34,11 +34,13 @@ use Rattle.instrument.proofs.Evaluating.{lower_same}
 use Rattle.instrument.proofs.Expressions.{evaluates}
 use Rattle.instrument.proofs.Stores.{write_follows}
 use Rattle.instrument.proofs.Strings.{bytes_follow}
+use Rattle.instrument.proofs.ZeroBytes.{IsAligned}
 use Rattle.instrument.proofs.Zeros.{stored_at_follows, zero_parts_follow}
 
 -- where an object is filled, to which a register points that stays
 pub record Filling (w : Setting) (bound : Bindings) (low : ℕ) (p : Pointer) (r : ℕ) (regs : List Value) (s : State) (t : Target) : Type 0 where
   pub anchored : Anchored w low bound regs s.scope
+  pub aligned : IsAligned p
   pub bounded : Bounded s.store
   pub beside : Beside w s.store s t
   pub points : slice_get regs r ≡ Some (Points p)
@@ -50,6 +52,7 @@ pub filling_later : (w : Setting) (bound : Bindings) (low : ℕ) (p : Pointer) (
     → Filling w bound low p r after to u
 filling_later w bound low p r regs after s to t u o same la be m = record {
   anchored = subst (Anchored w low bound after) (sym la.scope) (anchored_same w low bound regs after s.scope same m.anchored);
+  aligned = m.aligned;
   bounded = la.bounded;
   beside = be;
   points = same.below r m.below ∙ m.points;
@@ -102,7 +105,7 @@ module _ (w : Setting) (n : ℕ) (h : Here) (sight : Sight) (knows : Knows w sig
       let size = size_of T.structs u in
       let bytes = text_at T.texts text in
       follows_lower w h low (length rs) regs Next s (write_each at (shifted p d) (padded size bytes) s) (runs w n t (bytes_at r (length rs) d size bytes) regs) behind
-      (bytes_follow w n h (length rs) size bytes at p r d s t regs (knows.octets text) m.bounded m.beside m.points (omega (arith, m.below, behind)) (omega (arith, room, length-append rs (kind.Ptr ∷ []), m.registers)))
+      (bytes_follow w n h (length rs) size bytes at p r d s t regs (knows.octets text) m.aligned m.bounded m.beside m.points (omega (arith, m.below, behind)) (omega (arith, room, length-append rs (kind.Ptr ∷ []), m.registers)))
 
   -- one of both
   one_follows : (e : Expression) (at : Place) (u : PlainType) (p : Pointer) (r d : ℕ) (rs : List MonType) (regs : List Value) (s : State) (t : Target) → low ≤ length rs → IsPure e → InitialisedBy sight u e → FullHasLetters e
@@ -137,7 +140,7 @@ module _ (w : Setting) (n : ℕ) (h : Here) (sight : Sight) (knows : Knows w sig
         → Follows w h low regs Next s (fill_parts T at cs (shifted p d) is w.call s) (runs w n t (translation.fill_parts w.unit bound r d rs cs is) regs)
     parts_follow NoInitialiser at cs p r d rs regs s t behind pure q l room m =
         follows_lower w h low (length rs) regs Next s (zero_parts T.structs at (shifted p d) cs s) (runs w n t (translation.zero_parts w.unit.structs r (length rs) d cs) regs) behind
-        (zero_parts_follow w n h (length rs) w.unit.structs cs at p r d s t regs m.bounded m.beside m.points (omega (arith, m.below, behind)) (omega (arith, room, length-append rs (kind.Ptr ∷ []), m.registers)))
+        (zero_parts_follow w n h (length rs) w.unit.structs cs at p r d s t regs m.aligned m.bounded m.beside m.points (omega (arith, m.below, behind)) (omega (arith, room, length-append rs (kind.Ptr ∷ []), m.registers)))
     parts_follow (Listed i is) at [] p r d rs regs s t behind pure q l room m = absurd q
     parts_follow (Listed i is) at (c ∷ cs) p r d rs regs s t behind pure q l room m =
         let here = fill_temporaries i in

@@ -56,7 +56,7 @@ module _ (w : Setting) (n : ℕ) (h : Here) (sight : Sight) (scene : Scene w n s
       points = block_has w low low bound regs regs s.scope (number_of d) number (omega arith) (same_all low regs) m.anchored found local
 
       filling : Filling w bound low (Into number 0) r regs s t
-      filling = record { anchored = m.anchored; bounded = m.bounded; beside = b; points = points; below = below; registers = m.registers }
+      filling = record { anchored = m.anchored; aligned = refl; bounded = m.bounded; beside = b; points = points; below = below; registers = m.registers }
 
       from_start : (i : Initialiser) → Follows w h low regs Next s (fill T at d.ctype (Into number 0) i w.call s) (runs w n t (translation.initialise w.unit bound rs r d.ctype (Some (at, i))) regs) → Does d (Some (at, i))
       from_start i go =
@@ -171,6 +171,7 @@ module _ (w : Setting) (n : ℕ) (h : Here) (low : ℕ) where
           let enough : j < length regs = omega (arith, room, long, length-append rs (global_temporaries (Some (at, i)))) in
           let filling : Filling w [] (suc j) (Into number 0) j after s t = record {
             anchored = anchored_anywhere w low (suc j) regs after s.scope anchored;
+            aligned = refl;
             bounded = bounded;
             beside = b;
             points = get-set_same regs j v enough;

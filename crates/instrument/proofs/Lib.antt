@@ -38,6 +38,7 @@ pub mod Copies
 pub mod Effects
 pub mod Compounds
 pub mod Initialisers
+pub mod ZeroBytes
 pub mod Zeros
 pub mod Strings
 pub mod Fillings

@@ -5,6 +5,7 @@ use Rattle.c_syntax.specs.Ctypes.{PlainType, Void, Int, Array, Struct}
 use Rattle.c_syntax.specs.Programs.{StructMember, StructType}
 use Rattle.c_syntax.specs.Layouts.{Scalar, scalar_size, size_of, count_of, offset_of, member_among, member_offset, members_of, members_of_struct, size_of_struct, elements, member_parts, in_each, in_members, scalars_from, scalars_of}
 use Rattle.c_model.specs.Meaning.{Tables, parts_or_itself}
+use Rattle.c_effects.specs.Effects.{moved, scalars_in}
 
 -- ---- structs
 
@@ -151,3 +152,16 @@ scalars_inside structs most deep (source_type.EnumTag x at) offset fits h = tt
 
 pub all_scalars_inside : (structs : List StructType) (t : PlainType) → StructsFit structs → ScalarsInside (size_of structs t) (scalars_of structs t)
 all_scalars_inside structs t fits = scalars_inside structs (size_of structs t) (length structs) t 0 fits (omega arith)
+
+-- scalars so many bytes farther, and those of parts
+moved_inside : (d most all : ℕ) (cs : List (ℕ × Scalar)) → ScalarsInside most cs → d + most ≤ all → ScalarsInside all (moved d cs)
+moved_inside d most all [] h le = tt
+moved_inside d most all (c ∷ cs) h le = let l = h.0 in (omega (arith, l, le), moved_inside d most all cs h.1 le)
+
+pub parts_scalars : (structs : List StructType) (d most : ℕ) (cs : List (ℕ × PlainType)) → StructsFit structs → PartsInside structs most cs → ScalarsInside (d + most) (scalars_in structs d cs)
+parts_scalars structs d most [] fits h = tt
+parts_scalars structs d most (c ∷ cs) fits h =
+    let l = h.0 in
+    both_inside (d + most) (moved (d + c.0) (scalars_of structs c.1)) (scalars_in structs d cs)
+    (moved_inside (d + c.0) (size_of structs c.1) (d + most) (scalars_of structs c.1) (all_scalars_inside structs c.1 fits) (omega (arith, l)))
+    (parts_scalars structs d most cs fits h.1)

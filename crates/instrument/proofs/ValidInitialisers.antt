@@ -1,14 +1,16 @@
 -- Translated initialisers are valid: types and depth.
-use Rattle.std.proofs.Common.{◌≡◌, ℕ, zero, suc, ◌+◌, ◌≤◌, ◌<◌, pos, true, not, if◌then◌else◌, List, [], ◌∷◌, ◌++◌, length, map, Option, Some, None, slice_get, refl, sym, ap, subst, arith}
+use Rattle.std.proofs.Common.{◌≡◌, ℕ, zero, suc, ◌+◌, ◌-◌, ◌≤◌, Bool, false, nat_eq, ◌<◌, pos, true, not, if◌then◌else◌, List, [], ◌∷◌, ◌++◌, length, map, Option, Some, None, slice_get, refl, sym, ap, subst, arith}
+use Rattle.std.proofs.lemmas.Bool.{eqb-true}
 use Rattle.std.proofs.lemmas.Bool.Decides.{nat_tests}
 use Rattle.std.proofs.lemmas.Int.{ints}
 use Rattle.c_syntax.specs.declared.place.Place.{Place}
+use Rattle.c_syntax.specs.declared.types.CInt.{CInt}
 use Rattle.c_syntax.specs.declared.types.CInt.TheVariants as c
 use Rattle.c_syntax.specs.Ctypes.{PlainType}
 use Rattle.c_syntax.specs.Expressions.{Expression}
 use Rattle.c_syntax.specs.Statements.{Initialiser, One, Many, Initialisers, NoInitialiser, Listed}
-use Rattle.c_syntax.specs.Programs.{StructType, StringLiteral, TranslationUnit}
-use Rattle.c_syntax.specs.Layouts.{Scalar, IntegerType, PointerType, size_of, scalars_of}
+use Rattle.c_syntax.specs.Programs.{StringLiteral, TranslationUnit}
+use Rattle.c_syntax.specs.Layouts.{Scalar, int_size, scalar_size, size_of}
 use Rattle.c_model.specs.Library.{is_there}
 use Rattle.c_model.specs.Meaning.{string_in, text_at, parts_or_itself, tables_of}
 use Rattle.c_model.specs.ExpressionTyping.{Sight, tables_in}
@@ -26,16 +28,17 @@ use Rattle.c_model.specs.SmallTypes.{TypesSmall}
 use Rattle.c_model.specs.Sizes.{IsSmall, weight_of, most_weight, most_forms}
 use Rattle.instrument.proofs.FormedTrees.{InitialFormed}
 use Rattle.c_model.specs.TypedTrees.{IsScalar, InitialisedBy, ByText, ByValue, Initialises, PartsInitialised, WhereAny}
-use Rattle.c_effects.specs.Expressions.{value_type, before, one, set, farther}
-use Rattle.c_effects.specs.Effects.{full_temporaries, full_setup, full_value, store, initial_temporaries, one_temporaries, fill_temporaries, parts_temporaries, stored_at, bytes_at, zero_type, zeros_at, zero_parts}
+use Rattle.c_effects.specs.Expressions.{register_type, value_type, before, one, set, farther}
+use Rattle.c_effects.specs.Effects.{full_temporaries, full_setup, full_value, store, initial_temporaries, one_temporaries, fill_temporaries, parts_temporaries, stored_at, bytes_at, scalars_in, widest, zeros_at, zeros_from, zero_parts}
 use Rattle.c_effects.specs.Effects.{fill_one, fill, fill_parts, initialise}
+use Rattle.c_effects.proofs.ZeroRuns.{zero_at}
 use Rattle.annot_code.proofs.Depths.{deep_before}
 use Rattle.annot_code.proofs.ValidParts.{before_valid, set_valid}
 use Rattle.annot_code.specs.Validity.{Begins}
 use Rattle.instrument.proofs.Typed.{begins_left, begins_right, register_at, Knows, count_of_globals, bytes_constant}
 use Rattle.instrument.proofs.ValidSetups.{deep_one, deep_set}
 use Rattle.instrument.proofs.ValidEffects.{CallsValid, full_valid, assigned_valid, deep_full, deep_behind_full}
-use Rattle.instrument.proofs.Parts.{StructsFit, PartsInside, ScalarsInside, parts_inside, all_scalars_inside}
+use Rattle.instrument.proofs.Parts.{StructsFit, PartsInside, ScalarsInside, parts_inside, parts_scalars}
 use Rattle.instrument.proofs.FullForms.{pure_full}
 
 pub initial_letters : (o : Option (Place × Initialiser)) → InitialHasLetters o → WhereAny (λ (i : Place × Initialiser). InitialiserHasLetters i.1) o
@@ -47,20 +50,27 @@ initial_letters (Some i) h = h
 deep_stored : (r k d : ℕ) (t : MonType) (e : MonExpression) (n : ℕ) → 1 ≤ n → depth_of_all (stored_at r k d t e) ≤ n
 deep_stored r k d t e n le = deep_before (set k (farther (tree.Register r) d)) (one (tree.Store k t e)) n (deep_set k (farther (tree.Register r) d) n le) (deep_one (tree.Store k t e) n le)
 
+deep_from : (r k d stored count n : ℕ) → 1 ≤ n → depth_of_all (zeros_from r k d stored count) ≤ n
+deep_from r k d stored zero n le = omega arith
+deep_from r k d zero (suc count) n le =
+    let t = register_type (widest d (suc count)) in
+    let stored = int_size (widest d (suc count)) - 1 in
+    deep_before (zero_at r k d t) (zeros_from r k (suc d) stored count) n (deep_stored r k d t (tree.Constant t (pos 0)) n le) (deep_from r k (suc d) stored count n le)
+deep_from r k d (suc stored) (suc count) n le = deep_from r k (suc d) stored count n le
+
 deep_bytes : (r k d size : ℕ) (bytes : List ℕ) (n : ℕ) → 1 ≤ n → depth_of_all (bytes_at r k d size bytes) ≤ n
 deep_bytes r k d zero bytes n le = omega arith
-deep_bytes r k d (suc size) [] n le = deep_before (stored_at r k d U8 (tree.Constant U8 (pos 0))) (bytes_at r k (suc d) size []) n (deep_stored r k d U8 (tree.Constant U8 (pos 0)) n le) (deep_bytes r k (suc d) size [] n le)
+deep_bytes r k d (suc size) [] n le = deep_from r k d 0 (suc size) n le
 deep_bytes r k d (suc size) (b ∷ bs) n le = deep_before (stored_at r k d U8 (tree.Constant U8 (pos b))) (bytes_at r k (suc d) size bs) n (deep_stored r k d U8 (tree.Constant U8 (pos b)) n le) (deep_bytes r k (suc d) size bs n le)
 
-deep_zeros : (r k d : ℕ) (cs : List (ℕ × Scalar)) (n : ℕ) → 1 ≤ n → depth_of_all (zeros_at r k d cs) ≤ n
-deep_zeros r k d [] n le = omega arith
-deep_zeros r k d (s ∷ cs) n le =
-    deep_before (stored_at r k (d + s.0) (zero_type s.1) (tree.Constant (zero_type s.1) (pos 0))) (zeros_at r k d cs) n (deep_stored r k (d + s.0) (zero_type s.1) (tree.Constant (zero_type s.1) (pos 0)) n le) (deep_zeros r k d cs n le)
-
-deep_zero_parts : (structs : List StructType) (r k d : ℕ) (cs : List (ℕ × PlainType)) (n : ℕ) → 1 ≤ n → depth_of_all (zero_parts structs r k d cs) ≤ n
-deep_zero_parts structs r k d [] n le = omega arith
-deep_zero_parts structs r k d (s ∷ cs) n le =
-    deep_before (zeros_at r k (d + s.0) (scalars_of structs s.1)) (zero_parts structs r k d cs) n (deep_zeros r k (d + s.0) (scalars_of structs s.1) n le) (deep_zero_parts structs r k d cs n le)
+deep_zeros : (r k d m : ℕ) (cs : List (ℕ × Scalar)) (n : ℕ) → 1 ≤ n → depth_of_all (zeros_at r k d m cs) ≤ n
+deep_zeros r k d m [] n le = deep_from r k d 0 m n le
+deep_zeros r k d m (s ∷ cs) n le = by (deep_zeros r k d (m + scalar_size s.1) cs n le) (deep_zeros r k s.0 (scalar_size s.1) cs n le) (nat_eq s.0 (d + m))
+  where
+    by : depth_of_all (zeros_at r k d (m + scalar_size s.1) cs) ≤ n → depth_of_all (zeros_at r k s.0 (scalar_size s.1) cs) ≤ n → (on : Bool)
+        → depth_of_all (if on then zeros_at r k d (m + scalar_size s.1) cs else before (zeros_from r k d 0 m) (zeros_at r k s.0 (scalar_size s.1) cs)) ≤ n
+    by on_it begun true = on_it
+    by on_it begun false = deep_before (zeros_from r k d 0 m) (zeros_at r k s.0 (scalar_size s.1) cs) n (deep_from r k d 0 m n le) begun
 
 module _ (p : TranslationUnit) (bound : Bindings) where
   deep_one_filled : (r d : ℕ) (rs : List MonType) (t : PlainType) (o : Option ℕ) (e : Expression) → IsSmall e → depth_of_all (fill_one p bound r d rs t o e) ≤ suc most_forms
@@ -77,7 +87,7 @@ module _ (p : TranslationUnit) (bound : Bindings) where
     deep_fill r d rs t (Many brace is) small = deep_parts r d rs (parts_or_itself (tables_of p) t) is small
 
     deep_parts : (r d : ℕ) (rs : List MonType) (cs : List (ℕ × PlainType)) (is : Initialisers) → EachPart IsSmall is → depth_of_all (fill_parts p bound r d rs cs is) ≤ suc most_forms
-    deep_parts r d rs cs NoInitialiser small = deep_zero_parts p.structs r (length rs) d cs (suc most_forms) (omega arith)
+    deep_parts r d rs cs NoInitialiser small = deep_zeros r (length rs) d 0 (scalars_in p.structs d cs) (suc most_forms) (omega arith)
     deep_parts r d rs [] (Listed i is) small = omega arith
     deep_parts r d rs (x ∷ cs) (Listed i is) small =
         deep_before (fill p bound r (d + x.0) rs x.1 i) (fill_parts p bound r d (rs ++ fill_temporaries i) cs is) (suc most_forms) (deep_fill r (d + x.0) rs x.1 i small.0) (deep_parts r d (rs ++ fill_temporaries i) cs is small.1)
@@ -101,16 +111,15 @@ module _ (p : TranslationUnit) (bound : Bindings) where
 byte_constant : (b : ℕ) → b < 256 → has_constant U8 (pos b) ≡ true
 byte_constant b h = grind (arith, nat_tests, ints)
 
-scalar_zero : (k : Scalar) → has_constant (zero_type k) (pos 0) ≡ true
-scalar_zero (IntegerType c.I8) = refl
-scalar_zero (IntegerType c.U8) = refl
-scalar_zero (IntegerType c.I16) = refl
-scalar_zero (IntegerType c.U16) = refl
-scalar_zero (IntegerType c.I32) = refl
-scalar_zero (IntegerType c.U32) = refl
-scalar_zero (IntegerType c.I64) = refl
-scalar_zero (IntegerType c.U64) = refl
-scalar_zero PointerType = refl
+zero_constant : (k : CInt) → has_constant (register_type k) (pos 0) ≡ true
+zero_constant c.I8 = refl
+zero_constant c.U8 = refl
+zero_constant c.I16 = refl
+zero_constant c.U16 = refl
+zero_constant c.I32 = refl
+zero_constant c.U32 = refl
+zero_constant c.I64 = refl
+zero_constant c.U64 = refl
 
 text_bytes : (xs : List StringLiteral) (n : ℕ) → TextsAreBytes xs → AreBytes (text_at (map (λ (x : StringLiteral). x.bytes) xs) n)
 text_bytes [] n h = tt
@@ -139,31 +148,38 @@ module _ (p : TranslationUnit) (gs : List Signature) (ts : Types) (result : Opti
   byte_valid : (b : ℕ) → b < 256 → IsExpression G ts (tree.Constant U8 (pos b)) U8
   byte_valid b h = record { typed = (refl, byte_constant b h); within = omega arith }
 
+  from_valid : (r k d stored count : ℕ) → IsPoint r → IsPoint k → d + count ≤ 2147483647 → Are (zeros_from r k d stored count)
+  from_valid r k d stored zero points at small = tt
+  from_valid r k d zero (suc count) points at small =
+      let m = widest d (suc count) in
+      let t = register_type m in
+      behind (zero_at r k d t) (zeros_from r k (suc d) (int_size m - 1) count)
+      (stored_valid r k d t (tree.Constant t (pos 0)) points at (omega (arith, small)) (record { typed = (refl, zero_constant m); within = omega arith }))
+      (from_valid r k (suc d) (int_size m - 1) count points at (omega (arith, small)))
+  from_valid r k d (suc stored) (suc count) points at small = from_valid r k (suc d) stored count points at (omega (arith, small))
+
   bytes_valid : (r k d n : ℕ) (bytes : List ℕ) → IsPoint r → IsPoint k → d + n ≤ 2147483647 → AreBytes bytes → Are (bytes_at r k d n bytes)
   bytes_valid r k d zero bytes points at small h = tt
-  bytes_valid r k d (suc n) [] points at small h =
-      behind (stored_at r k d U8 (tree.Constant U8 (pos 0))) (bytes_at r k (suc d) n []) (stored_valid r k d U8 (tree.Constant U8 (pos 0)) points at (omega (arith, small)) (byte_valid 0 (omega arith)))
-      (bytes_valid r k (suc d) n [] points at (omega (arith, small)) tt)
+  bytes_valid r k d (suc n) [] points at small h = from_valid r k d 0 (suc n) points at small
   bytes_valid r k d (suc n) (b ∷ bs) points at small h =
       behind (stored_at r k d U8 (tree.Constant U8 (pos b))) (bytes_at r k (suc d) n bs) (stored_valid r k d U8 (tree.Constant U8 (pos b)) points at (omega (arith, small)) (byte_valid b h.0))
       (bytes_valid r k (suc d) n bs points at (omega (arith, small)) h.1)
 
-  zeros_valid : (r k d most : ℕ) (cs : List (ℕ × Scalar)) → IsPoint r → IsPoint k → d + most ≤ 2147483647 → ScalarsInside most cs → Are (zeros_at r k d cs)
-  zeros_valid r k d most [] points at small h = tt
-  zeros_valid r k d most (x ∷ cs) points at small h =
-      let inside = h.0 in
-      let e = tree.Constant (zero_type x.1) (pos 0) in
-      behind (stored_at r k (d + x.0) (zero_type x.1) e) (zeros_at r k d cs)
-      (stored_valid r k (d + x.0) (zero_type x.1) e points at (omega (arith, small, inside)) (record { typed = (refl, scalar_zero x.1); within = omega arith }))
-      (zeros_valid r k d most cs points at small h.1)
+  zeros_valid : (r k d m most : ℕ) (cs : List (ℕ × Scalar)) → IsPoint r → IsPoint k → most ≤ 2147483647 → d + m ≤ most → ScalarsInside most cs → Are (zeros_at r k d m cs)
+  zeros_valid r k d m most [] points at small within h = from_valid r k d 0 m points at (omega (arith, small, within))
+  zeros_valid r k d m most (x ∷ cs) points at small within h =
+      by (λ le. zeros_valid r k d (m + scalar_size x.1) most cs points at small le h.1) (zeros_valid r k x.0 (scalar_size x.1) most cs points at small h.0 h.1) (nat_eq x.0 (d + m)) refl
+    where
+      by : (d + (m + scalar_size x.1) ≤ most → Are (zeros_at r k d (m + scalar_size x.1) cs)) → Are (zeros_at r k x.0 (scalar_size x.1) cs) → (on : Bool) → nat_eq x.0 (d + m) ≡ on
+          → Are (if on then zeros_at r k d (m + scalar_size x.1) cs else before (zeros_from r k d 0 m) (zeros_at r k x.0 (scalar_size x.1) cs))
+      by on_it begun true e = let inside = h.0 in let next = eqb-true x.0 (d + m) e in on_it (omega (arith, inside, next))
+      by on_it begun false e =
+          behind (zeros_from r k d 0 m) (zeros_at r k x.0 (scalar_size x.1) cs) (from_valid r k d 0 m points at (omega (arith, small, within)))
+          begun
 
   zero_parts_valid : (r k d most : ℕ) (cs : List (ℕ × PlainType)) → IsPoint r → IsPoint k → d + most ≤ 2147483647 → PartsInside p.structs most cs → Are (zero_parts p.structs r k d cs)
-  zero_parts_valid r k d most [] points at small h = tt
-  zero_parts_valid r k d most (x ∷ cs) points at small h =
-      let inside = h.0 in
-      behind (zeros_at r k (d + x.0) (scalars_of p.structs x.1)) (zero_parts p.structs r k d cs)
-      (zeros_valid r k (d + x.0) (size_of p.structs x.1) (scalars_of p.structs x.1) points at (omega (arith, small, inside)) (all_scalars_inside p.structs x.1 fits))
-      (zero_parts_valid r k d most cs points at small h.1)
+  zero_parts_valid r k d most cs points at small h =
+      zeros_valid r k d 0 (d + most) (scalars_in p.structs d cs) points at small (omega arith) (parts_scalars p.structs d most cs fits h)
 
   -- ---- what fills an object to which a register points
 

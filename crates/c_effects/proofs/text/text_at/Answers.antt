@@ -1,6 +1,6 @@
 use Rattle.std.proofs.Common.{◌∙◌}
 use Rattle.c_effects.proofs.Layouts.{found, missing, text_missing, text_there}
-use Rattle.c_effects.proofs.slot.text_at.Goals as goal
+use Rattle.c_effects.proofs.text.text_at.Goals as goal
 
 pub returns-in-Some : goal.returns-in-Some
 returns-in-Some c =
