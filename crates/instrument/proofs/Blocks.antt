@@ -51,7 +51,7 @@ meets_later w h spot low bound living regs after s to t u o same l b m = record 
 -- ---- the end of a block
 
 -- variables were born in a state, and others lived there; registers from `low` on point to them
-module _ (w : Setting) (h : Here) (n : ℕ) (old : State) (new : List LiveBlock) (low high : ℕ) (le : low ≤ high) (regs mid : List Value) (same : Same low regs mid) (blocks : List ℕ) (code : MonStatements) (leave : lives.Leaves blocks code)
+module _ (w : Setting) (h : Here) (n : ℕ) (old : State) (new : List LiveBlock) (low high : ℕ) (le : low ≤ high) (regs mid : List Value) (same : Same low regs mid) (blocks : List ℕ) (code : MonStatements) (leave : lives.EndLives blocks code)
     (points : Pointed high mid blocks new) (are_new : AreFrom (length old.store) new) (deep : h.loop ≤ length old.store) (nested : w.base ≤ h.loop) (from : State) (born : live_in from.store ≡ new ++ live_in old.store)
     (long : length old.store ≤ length from.store) (spent : from.steps ≤ old.steps) (output : from.output ≡ old.output) where
   abbrev ends : Did → Did
@@ -143,7 +143,7 @@ module _ (w : Setting) (h : Here) (spot : Spot) (low : ℕ) (r : RegisterTable) 
 
   -- what is done inside, and the deaths after it
   module _ (n : ℕ) (x : Evaluation (Unit {0})) (a : MonStatements) (room : p + length ds ≤ w.registers) (enter : Enters w.unit.structs p ds (target.births w.unit.structs p ds))
-      (leave : lives.Leaves (with_born p ds []) (deaths (with_born p ds []))) where
+      (leave : lives.EndLives (with_born p ds []) (deaths (with_born p ds []))) where
     abbrev rest : Did → Did
     rest q = then_do q (at_next (exec_all over_blocks w.globals (deaths (with_born p ds [])) w.calls n))
 

@@ -1,6 +1,6 @@
 -- Declarations one after another: their registers, and the births and deaths of their blocks.
-use Rattle.std.proofs.Common.{◌≡◌, ℕ, zero, suc, ◌+◌, ◌-◌, ◌<◌, List, [], ◌∷◌, ◌++◌, length, refl, sym, ap, ◌∙◌, arith, append_assoc}
-use Rattle.std.proofs.lemmas.List.{length-append}
+use Rattle.std.proofs.Common.{◌≡◌, ℕ, zero, suc, ◌+◌, ◌-◌, ◌≤◌, List, [], ◌∷◌, ◌++◌, length, reverse, refl, sym, ap, ◌∙◌, arith, append_assoc}
+use Rattle.std.proofs.lemmas.List.{length-append, reverse-append}
 use Rattle.std.specs.Prelude.{Result, Ok, Err, Vec, IfOk}
 use Rattle.std.specs.declared.alloc.Global.{Global}
 use Rattle.c_syntax.specs.Programs.{StructType}
@@ -87,16 +87,20 @@ between_are n n1 ds first end own names first_is end_is own_is =
     nothing_more (x ∷ l) = ap (λ m. x ∷ m) (nothing_more l)
 
 pub between_is : {E : Type 0} (n n1 : Names) (ds : List Declaration) (first end : ℕ) (r : Result (Vec ℕ Global) E) → n1 ≡ entering ds n → first ≡ next_register n.table → end ≡ next_register n1.table
-    → IfOk r (λ own. own.items ≡ youngest first (end - first)) → IfOk r (λ own. own.items ≡ with_born (next_register n.table) ds [])
-between_is n n1 ds first end (Ok own) names first_is end_is own_is = between_are n n1 ds first end own.items names first_is end_is own_is
+    → IfOk r (λ own. reverse own.items ≡ youngest first (end - first)) → IfOk r (λ own. reverse own.items ≡ with_born (next_register n.table) ds [])
+between_is n n1 ds first end (Ok own) names first_is end_is own_is = between_are n n1 ds first end (reverse own.items) names first_is end_is own_is
 between_is n n1 ds first end (Err e) names first_is end_is own_is = tt
 
--- one more register of a loop that counts down
-pub youngest_left : (first next : ℕ) → first < next → youngest first (next - first) ≡ (next - 1) ∷ youngest first (next - 1 - first)
-youngest_left first next lt =
-    let e : next - first ≡ suc (next - 1 - first) = omega arith in
-    let number : first + (next - 1 - first) ≡ next - 1 = omega arith in
-    ap (youngest first) e ∙ ap (λ k. k ∷ youngest first (next - 1 - first)) number
+-- one more register of a loop that counts up
+pub youngest_pushed : (all all' : List ℕ) (first next : ℕ) → first ≤ next → reverse all ≡ youngest first (next - first) → all' ≡ all ++ next ∷ [] → reverse all' ≡ youngest first (next + 1 - first)
+youngest_pushed all all' first next le kept more =
+    let e : next + 1 - first ≡ suc (next - first) = omega (arith, le) in
+    let number : next ≡ first + (next - first) = omega (arith, le) in
+    ap reverse more ∙ reverse-append all (next ∷ []) ∙ (λ i. number i ∷ kept i) ∙ ap (youngest first) (sym e)
+
+-- blocks in order of birth: those that lived around a scope, and its own
+pub inside_is : (around slice own all inside : List ℕ) → slice ≡ own → all ≡ around ++ slice → inside ≡ all → reverse inside ≡ reverse own ++ reverse around
+inside_is around slice own all inside slice_is all_is same = ap reverse (same ∙ all_is ∙ ap (λ l. around ++ l) slice_is) ∙ reverse-append around own
 
 -- ---- deaths
 

@@ -30,7 +30,7 @@ use Rattle.instrument.specs.Translation.{Spot, body_part, code_of, front, front_
 use Rattle.mon_syntax.specs.declared.tree.MonType.{MonType}
 use Rattle.instrument.specs.Translation as target
 use Rattle.instrument.proofs.Standing.{Target, Did, Setting, runs, Bounded, Here, Beside, Anchored}
-use Rattle.track_scopes.proofs.Deaths.{deaths_leave}
+use Rattle.track_scopes.proofs.Deaths.{deaths_end}
 use Rattle.instrument.proofs.Results.{written, writes_none, written_then, before_is}
 use Rattle.instrument.proofs.Registers.{get-end}
 use Rattle.instrument.proofs.Lives.{length-killed}
@@ -71,7 +71,7 @@ abbrev pub at_body : ℕ → List LiveBlock → PlainType → Here
 at_body base blocks result = record { inner = blocks; outer = []; loop = base; looped = false; loops = 0; result = result }
 
 -- where a call begins, with a frame, and where its body does
-module _ (w : Setting) (s from : State) (base : w.base ≡ length s.store) (around : w.around ≡ live_in s.store) (active : w.active ≡ s.calls + 1) (f : Function) (ps : List ℕ) (blocks : List LiveBlock) (n : ℕ) (leave : lives.Leaves ps (deaths ps))
+module _ (w : Setting) (s from : State) (base : w.base ≡ length s.store) (around : w.around ≡ live_in s.store) (active : w.active ≡ s.calls + 1) (f : Function) (ps : List ℕ) (blocks : List LiveBlock) (n : ℕ) (leave : lives.EndLives ps (deaths ps))
     (low : ℕ) (regs : List Value) (t0 : Target) (spot : Spot) (here : spot.inside ≡ ps) (bound : Bindings) (living : List ℕ) (m0 : Meets w (at_body w.base blocks f.result) spot low bound living regs from t0)
     (longer : length s.store ≤ length from.store)
     (spent : from.steps ≤ s.steps) (output : from.output ≡ s.output) where
@@ -331,7 +331,7 @@ module _ (p : TranslationUnit) (globals : List Value) (main index : ℕ) (f : Fu
           subst (λ r. Called s f.result r (tail (runs w n entered_target (target.parameters p first 0 f.params) opens))) (sym (ap finish e))
           (subst (λ q. Called s f.result (finish (Normal tt to)) q) (sym (ap tail x))
           (subst (λ q. Called s f.result (finish (Normal tt to)) (then_do q (at_return over_blocks (zero_of f)))) (sym (writes_none (dying did)))
-          (function_ends w s (marked to ms) refl refl refl f (with_born first f.params []) blocks n (deaths_leave (with_born first f.params [])) (first + count) regs u spot_of_body refl (registers_of_body own f).bound
+          (function_ends w s (marked to ms) refl refl refl f (with_born first f.params []) blocks n (deaths_end (with_born first f.params [])) (first + count) regs u spot_of_body refl (registers_of_body own f).bound
           (with_numbers f.params names_around) m2 l.longer
           l.spent l.output _ did body_did)))
 

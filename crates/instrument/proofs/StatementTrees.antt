@@ -1,7 +1,7 @@
 -- The translation of a statement at a known variant.
 use Rattle.std.proofs.Common.{◌≡◌, ℕ, ◌+◌, List, [], map, Option, Some, None, option_map, ◌++◌, refl, ap, sym, ◌∙◌}
 use Rattle.std.proofs.lemmas.List.{append-nil}
-use Rattle.std.specs.Prelude.{Vec}
+use Rattle.std.specs.Prelude.{Vec, Result, Ok, Err, IfOk}
 use Rattle.std.specs.declared.alloc.Global.{Global}
 use Rattle.c_syntax.specs.declared.place.Place.{Place}
 use Rattle.c_syntax.specs.declared.logic.Annot.{Annot}
@@ -16,7 +16,8 @@ use Rattle.c_syntax.specs.Statements.{Declaration, Statement, Block, If, Do, For
 use Rattle.c_syntax.proofs.Rows.{block_is}
 use Rattle.c_model.specs.Meaning.{declared_in, declared_first}
 use Rattle.mon_syntax.specs.Registers.{Names, next_register}
-use Rattle.mon_syntax.specs.Trees.{MonExpression, MonStatement, MonStatements, NoStatement, Labelled, Loop}
+use Rattle.mon_syntax.specs.declared.tree.MonStmt.{MonStmt}
+use Rattle.mon_syntax.specs.Trees.{MonExpression, MonStatement, MonStatements, NoStatement, Labelled, Loop, plain_stmts}
 use Rattle.mon_syntax.specs.Trees as tree
 use Rattle.track_scopes.specs.Blocks.{deaths, with_born}
 use Rattle.c_effects.specs.Expressions.{before, one, temporaries}
@@ -84,6 +85,15 @@ if_code n n1 spot t t1 t2 at e a b c f c_is f_is first names last =
     last
     ∙ (λ i. before (first i) (one (tree.If (c_is i) (f_is i) (else_part_by (names i) spot b))))
     ∙ before_assoc t (setup_by n e) (one (tree.If (condition_by n e) (statement_by (with_registers (temporaries e) n) spot a) (else_part_by (after a (with_registers (temporaries e) n)) spot b)))
+
+-- the body of a loop, which stands inside it
+pub round_code : {E : Type 0} (r : Result (Vec MonStmt Global) E) (f : Spot → MonStatements) (spot : Spot) (inner : ℕ) (outside : List ℕ) (body : MonStatements) → inner ≡ spot.loops + 1 → outside ≡ spot.inside ++ spot.outside
+    → body ≡ f (record { loops = inner; inside = []; outside = outside }) → IfOk r (λ code. plain_stmts code.items ≡ one (Labelled body (next_label inner)))
+    → IfOk r (λ code. plain_stmts code.items ≡ one (Labelled (f (in_loop spot)) (next_label (spot.loops + 1))))
+round_code (Ok code) f spot inner outside body inner_is outside_is done last =
+    last ∙ ap (λ b. one (Labelled b (next_label inner))) done
+    ∙ (λ i. one (Labelled (f (record { loops = inner_is i; inside = []; outside = outside_is i })) (next_label (inner_is i))))
+round_code (Err e) f spot inner outside body inner_is outside_is done last = tt
 
 module _ (n n1 n2 : Names) (spot : Spot) (t t2 : MonStatements) where
   pub do_code : (at : Place) (e : Expression) (a : Statement) (inner : ℕ) (front round behind : MonStatements) → inner ≡ spot.loops + 1 → n1 ≡ after a n → front ≡ NoStatement

@@ -41,7 +41,7 @@ use Rattle.instrument.specs.Translation as target
 use Rattle.instrument.proofs.DeclarationCode.{next-entered}
 use Rattle.instrument.proofs.Standing.{Target, Setting, runs, Has, IsOf, Here, Beside}
 use Rattle.track_scopes.proofs.Births.{births_enter}
-use Rattle.track_scopes.proofs.Deaths.{deaths_leave}
+use Rattle.track_scopes.proofs.Deaths.{deaths_end}
 use Rattle.instrument.proofs.Results.{writes_none, one_is, before_is}
 use Rattle.instrument.proofs.Registers.{get-set_same, same_all, same_less, same_trans, same_set, longer}
 use Rattle.instrument.proofs.Following.{Tests, HasTest, HasNoTest, Later, later_same, IsResult, IsResultOf, Follows, Breaks, Continues, IsLeft, stays, onward, undefined_here, follows_choice, follows_then}
@@ -85,13 +85,13 @@ module _ (w : Setting) (n : ℕ) (h : Here) (spot : Spot) (low : ℕ) (bound : B
   -- those born inside the loop
   loop_dead : runs w n t (deaths spot.inside) regs ≡ Done (Next regs) (dead h.loop) []
   loop_dead =
-      deaths_leave spot.inside w.globals w.calls n h.loop regs t h.inner (h.outer ++ w.around) (ap live_in m.beside.store_is ∙ m.standing.live) m.standing.since_loop m.standing.before_loop
+      deaths_end spot.inside w.globals w.calls n h.loop regs t h.inner (h.outer ++ w.around) (ap live_in m.beside.store_is ∙ m.standing.live) m.standing.since_loop m.standing.before_loop
       (pointed_point low regs spot.inside h.inner m.inside)
 
   -- all of the call
   call_dead : runs w n t (deaths (spot.inside ++ spot.outside)) regs ≡ Done (Next regs) (dead w.base) []
   call_dead =
-      deaths_leave (spot.inside ++ spot.outside) w.globals w.calls n w.base regs t (h.inner ++ h.outer) w.around (ap live_in m.beside.store_is ∙ m.standing.live ∙ sym (append_assoc h.inner h.outer w.around)) m.standing.since_call
+      deaths_end (spot.inside ++ spot.outside) w.globals w.calls n w.base regs t (h.inner ++ h.outer) w.around (ap live_in m.beside.store_is ∙ m.standing.live ∙ sym (append_assoc h.inner h.outer w.around)) m.standing.since_call
       m.standing.before_call (pointed_point low regs (spot.inside ++ spot.outside) (h.inner ++ h.outer) (pointed_append low regs spot.inside spot.outside h.inner h.outer m.inside m.outside))
 
   -- what stands after deaths
@@ -248,7 +248,7 @@ module _ (w : Setting) (n : ℕ) where
       → AreBorn w.unit ds → ((old : State) → DoSame (behind_births w.unit.structs h old ds) (with_variables (next_register r) ds spot) (next_register r + length ds) (entered ds r).bound (with_numbers ds living) x a)
       → DoSame h spot low r.bound living (within (births w.unit.structs ds >> x)) (target.alive w.unit (next_register r) ds a)
   block_does h spot low r living ds x a le room born f = λ regs from t m ln.
-      block_follows w h spot low r living ds le regs from t m born.own n x a room (births_enter w.unit.structs (next_register r) ds born.small) (deaths_leave (with_born (next_register r) ds []))
+      block_follows w h spot low r living ds le regs from t m born.own n x a room (births_enter w.unit.structs (next_register r) ds born.small) (deaths_end (with_born (next_register r) ds []))
       (λ after to u less m2. f from after to u m2 (omega (arith, ln, less)))
 
   -- ---- the loop of a `for`

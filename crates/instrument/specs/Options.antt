@@ -1,7 +1,7 @@
 -- Ours: plain forms.
 -- The plain form of what the translation takes: of what may be left out of a statement, and of where a statement stands; and what statements
 -- become where a function's names are these.
-use Rattle.std.specs.Prelude.{ℕ, zero, suc, ◌+◌, Bool, List, [], ◌∷◌, ◌++◌, Option, Some, None}
+use Rattle.std.specs.Prelude.{ℕ, zero, suc, ◌+◌, Bool, List, [], ◌∷◌, ◌++◌, reverse, Option, Some, None}
 use Rattle.c_syntax.specs.declared.place.Place.{Place}
 use Rattle.c_syntax.specs.declared.statement.Item.{Item}
 use Rattle.c_syntax.specs.declared.statement.Stmt.{Stmt}
@@ -28,8 +28,9 @@ abbrev pub plain_first_part : Option Item → ForFirst
 plain_first_part None = NoFirst
 plain_first_part (Some i) = First (plain_item i)
 
+-- the code has blocks in order of birth
 abbrev pub plain_spot : code.Spot → Spot
-plain_spot s = record { loops = s.loops; inside = s.inside.now; outside = s.outside.now }
+plain_spot s = record { loops = s.loops; inside = reverse s.inside.now; outside = reverse s.outside.now }
 
 -- ---- the names after a part
 

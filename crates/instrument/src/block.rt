@@ -1,6 +1,6 @@
 //! The blocks of variables' memory: their births where a scope is entered, and their deaths where scopes are left.
 
-ghost use Rattle.std.specs.Prelude.{◌≡◌, ◌+◌, ◌-◌, ◌++◌, [], IfOk, OnOk, map};
+ghost use Rattle.std.specs.Prelude.{◌≡◌, ◌+◌, ◌-◌, ◌++◌, [], IfOk, OnOk, map, reverse};
 ghost use Rattle.c_syntax.specs.Statements.{plain_decl, plain_item, plain_items};
 ghost use Rattle.c_model.specs.Meaning.{declared_in};
 ghost use Rattle.mon_syntax.specs.Registers.{next_register};
@@ -62,20 +62,20 @@ fn enter_items(
     Ok(())
 }
 
-/// The registers from one up to another, the youngest first.
+/// The registers from one up to another.
 pub fn between(alloc: Global, first: u32, end: u32) -> Result<Vec<u32>, AllocError>
-    ensures { IfOk result (λ all. all.items ≡ youngest first (end - first)) }
+    ensures { IfOk result (λ all. reverse all.items ≡ youngest first (end - first)) }
 {
     let mut all = Vec::new(alloc);
-    let mut next = end;
-    'registers: while first < next {
-        next -= 1;
+    let mut next = first;
+    'registers: while next < end {
         all.push(next)?;
+        next += 1;
     }
     Ok(all)
 }
 
-/// Enters a block, and gives the blocks of its variables, by the registers that point to them, the youngest first.
+/// Enters a block, and gives the blocks of its variables, by the registers that point to them, in order of birth.
 pub fn enter_block(
     alloc: Global,
     block: &[Item],
@@ -84,7 +84,7 @@ pub fn enter_block(
 ) -> Result<Vec<u32>, AllocError>
     ensures born { OnOk result (plain_stmts to.new.items ≡ before (plain_stmts to.old.items) (births_by names.old (declared_in (plain_items block.now)))) }
     ensures names { OnOk result (names.new ≡ entering (declared_in (plain_items block.now)) names.old) }
-    ensures own { IfOk result (λ own. own.items ≡ with_born (next_register names.old.table) (declared_in (plain_items block.now)) []) }
+    ensures own { IfOk result (λ own. reverse own.items ≡ with_born (next_register names.old.table) (declared_in (plain_items block.now)) []) }
 {
     let first = names.next()?;
     enter_items(alloc, block, names, to)?;
@@ -92,19 +92,19 @@ pub fn enter_block(
     between(alloc, first, end)
 }
 
-/// Leaves scopes: these blocks die.
+/// Leaves scopes: these blocks, in order of birth, die.
 pub fn leave(alloc: Global, blocks: &[u32], to: &mut Vec<MonStmt>) -> Result<(), AllocError>
-    ensures { OnOk result (plain_stmts to.new.items ≡ before (plain_stmts to.old.items) (deaths blocks.now)) }
+    ensures { OnOk result (plain_stmts to.new.items ≡ before (plain_stmts to.old.items) (deaths (reverse blocks.now))) }
 {
     then_all(to, track_scopes::leave(alloc, blocks)?)
 }
 
-/// The blocks that live inside scopes: their own, and before which these lived.
-pub fn inside(alloc: Global, own: &[u32], around: &[u32]) -> Result<Vec<u32>, AllocError>
-    ensures { IfOk result (λ all. all.items ≡ own.now ++ around.now) }
+/// The blocks that live inside scopes, in order of birth: those that lived around them, and their own.
+pub fn inside(alloc: Global, around: &[u32], own: &[u32]) -> Result<Vec<u32>, AllocError>
+    ensures { IfOk result (λ all. all.items ≡ around.now ++ own.now) }
 {
-    let mut all = Vec::from_slice(alloc, own)?;
-    all.extend_from_slice(around)?;
+    let mut all = Vec::from_slice(alloc, around)?;
+    all.extend_from_slice(own)?;
     Ok(all)
 }
 

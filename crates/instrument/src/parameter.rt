@@ -1,6 +1,6 @@
 //! The parameters of a function (C99 6.9.1): arguments stand in the first registers, and are stored in the blocks of the parameters.
 
-ghost use Rattle.std.specs.Prelude.{◌≡◌, ◌∷◌, [], IfOk, OnOk, map};
+ghost use Rattle.std.specs.Prelude.{◌≡◌, ◌∷◌, [], IfOk, OnOk, map, reverse};
 ghost use Rattle.c_syntax.specs.Statements.{plain_decl};
 ghost use Rattle.mon_syntax.specs.Registers.{next_register, no_registers, with_kinds, with_table};
 ghost use Rattle.mon_syntax.specs.Trees.{plain_register, plain_stmts};
@@ -101,7 +101,7 @@ fn enter_all(
 }
 
 /// The births of the blocks of a function's parameters, with their arguments, which are its first registers. It gives the blocks by the
-/// registers that point to them, the youngest first.
+/// registers that point to them, in order of birth.
 pub fn enter_parameters(
     alloc: Global,
     params: &[Decl],
@@ -111,7 +111,7 @@ pub fn enter_parameters(
     ensures code { OnOk result (plain_stmts to.new.items ≡ before (plain_stmts to.old.items)
         (parameters (unit_of names.old) (next_register names.old.table) 0 (map plain_decl params.now))) }
     ensures names { OnOk result (names.new ≡ entering (map plain_decl params.now) names.old) }
-    ensures own { IfOk result (λ own. own.items ≡ with_born (next_register names.old.table) (map plain_decl params.now) []) }
+    ensures own { IfOk result (λ own. reverse own.items ≡ with_born (next_register names.old.table) (map plain_decl params.now) []) }
 {
     let first = names.next()?;
     enter_all(alloc, params, names, to)?;

@@ -1,6 +1,6 @@
 //! Statements (C99 6.8).
 
-ghost use Rattle.std.specs.Prelude.{◌≡◌, ◌+◌, ◌++◌, [], IfOk, OnOk, length, map, option_map};
+ghost use Rattle.std.specs.Prelude.{◌≡◌, ◌+◌, ◌++◌, [], IfOk, OnOk, length, map, option_map, reverse};
 ghost use Rattle.c_syntax.specs.Logic.{plain_annot};
 ghost use Rattle.c_syntax.specs.Expressions.{plain_expr};
 ghost use Rattle.c_syntax.specs.Statements.{plain_else_part};
@@ -111,7 +111,7 @@ fn leave_unless_any(
 // `break` or `continue`: the blocks of the variables that are left die before it.
 #[tactic(auto, using(c_effects::proofs::Sequences::before_assoc))]
 fn jump(alloc: Global, live: &[u32], label: Name, to: &mut Vec<MonStmt>) -> Result<(), AllocError>
-    ensures { OnOk result (plain_stmts to.new.items ≡ before (plain_stmts to.old.items) (before (deaths live.now) (one (Goto label)))) }
+    ensures { OnOk result (plain_stmts to.new.items ≡ before (plain_stmts to.old.items) (before (deaths (reverse live.now)) (one (Goto label)))) }
 {
     leave(alloc, live, to)?;
     then(alloc, to, MonStmtKind::Goto(label))
@@ -119,7 +119,7 @@ fn jump(alloc: Global, live: &[u32], label: Name, to: &mut Vec<MonStmt>) -> Resu
 
 fn break_out(alloc: Global, spot: &Spot<'_>, to: &mut Vec<MonStmt>) -> Result<(), AllocError>
     ensures { OnOk result (plain_stmts to.new.items ≡ before (plain_stmts to.old.items)
-        (before (deaths spot.now.inside.now) (one (Goto (end_label spot.now.loops))))) }
+        (before (deaths (reverse spot.now.inside.now)) (one (Goto (end_label spot.now.loops))))) }
 {
     let label = end_label(alloc, spot.loops)?;
     jump(alloc, spot.inside, label, to)
@@ -127,7 +127,7 @@ fn break_out(alloc: Global, spot: &Spot<'_>, to: &mut Vec<MonStmt>) -> Result<()
 
 fn go_on(alloc: Global, spot: &Spot<'_>, to: &mut Vec<MonStmt>) -> Result<(), AllocError>
     ensures { OnOk result (plain_stmts to.new.items ≡ before (plain_stmts to.old.items)
-        (before (deaths spot.now.inside.now) (one (Goto (next_label spot.now.loops))))) }
+        (before (deaths (reverse spot.now.inside.now)) (one (Goto (next_label spot.now.loops))))) }
 {
     let label = next_label(alloc, spot.loops)?;
     jump(alloc, spot.inside, label, to)
@@ -136,7 +136,8 @@ fn go_on(alloc: Global, spot: &Spot<'_>, to: &mut Vec<MonStmt>) -> Result<(), Al
 // The deaths of all blocks of a function.
 #[tactic(auto, using(c_effects::proofs::Sequences::before_assoc, crate::proofs::DeclarationCode::deaths_behind))]
 fn leave_all(alloc: Global, spot: &Spot<'_>, to: &mut Vec<MonStmt>) -> Result<(), AllocError>
-    ensures { OnOk result (plain_stmts to.new.items ≡ before (plain_stmts to.old.items) (deaths (spot.now.inside.now ++ spot.now.outside.now))) }
+    ensures { OnOk result (plain_stmts to.new.items ≡ before (plain_stmts to.old.items)
+        (deaths (reverse spot.now.inside.now ++ reverse spot.now.outside.now))) }
 {
     leave(alloc, spot.inside, to)?;
     leave(alloc, spot.outside, to)
@@ -222,7 +223,7 @@ fn round(
     ensures numbers { OnOk result (HasNumbers (plain_stmt s.now)) }
 {
     let loops = one_more(spot.loops)?;
-    let outside = inside(alloc, spot.inside, spot.outside)?;
+    let outside = inside(alloc, spot.outside, spot.inside)?;
     let inner = Spot {
         loops,
         inside: &[],
@@ -330,7 +331,7 @@ fn enter_for(
     names: &mut Registers<'_>,
     to: &mut Vec<MonStmt>,
 ) -> Result<Vec<u32>, AllocError>
-    ensures own { IfOk result (λ own. own.items ≡ with_born (next_register names.old.table) (declared_first (plain_first_part first.now)) []) }
+    ensures own { IfOk result (λ own. reverse own.items ≡ with_born (next_register names.old.table) (declared_first (plain_first_part first.now)) []) }
     ensures code { OnOk result (plain_stmts to.new.items ≡ before (plain_stmts to.old.items)
         (before (births_by names.old (declared_first (plain_first_part first.now)))
         (first_part_by (entering (declared_first (plain_first_part first.now)) names.old)
@@ -339,7 +340,7 @@ fn enter_for(
     ensures numbers { OnOk result (FirstHasNumbers (plain_first_part first.now)) }
 {
     let own = enter_block(alloc, items_of(first), names, to)?;
-    let live = inside(alloc, &own, spot.inside)?;
+    let live = inside(alloc, spot.inside, &own)?;
     let around = Spot {
         loops: spot.loops,
         inside: &live,
@@ -361,15 +362,15 @@ fn rest_of_for(
     to: &mut Vec<MonStmt>,
 ) -> Result<(), AllocError>
     ensures code { OnOk result (plain_stmts to.new.items ≡ before (plain_stmts to.old.items)
-        (before (turns_by names.old (with_blocks own.items (plain_spot spot.now))
-        (option_map plain_expr controls.entry.0.now) (option_map plain_expr controls.entry.1.now) (plain_stmt a.now)) (deaths own.items))) }
+        (before (turns_by names.old (with_blocks (reverse own.items) (plain_spot spot.now))
+        (option_map plain_expr controls.entry.0.now) (option_map plain_expr controls.entry.1.now) (plain_stmt a.now)) (deaths (reverse own.items)))) }
     ensures names { OnOk result (names.new ≡ with_registers
         (any_temporaries (effect_temporaries (unit_of names.old)) (option_map plain_expr controls.entry.1.now))
         (after (plain_stmt a.now) (with_registers (any_temporaries temporaries (option_map plain_expr controls.entry.0.now)) names.old))) }
     ensures numbers { OnOk result (Any HasLetters (option_map plain_expr controls.entry.0.now) × HasNumbers (plain_stmt a.now)
         × Any EffectHasLetters (option_map plain_expr controls.entry.1.now)) }
 {
-    let live = inside(alloc, &own, spot.inside)?;
+    let live = inside(alloc, spot.inside, &own)?;
     let around = Spot {
         loops: spot.loops,
         inside: &live,
@@ -473,7 +474,7 @@ fn block(
     ensures numbers { OnOk result (HaveNumbers (plain_items body.now)) }
 {
     let own = enter_block(alloc, body, names, to)?;
-    let live = inside(alloc, &own, spot.inside)?;
+    let live = inside(alloc, spot.inside, &own)?;
     let inner = Spot {
         loops: spot.loops,
         inside: &live,

@@ -11,7 +11,7 @@ use Rattle.mon_syntax.specs.BlockMemory.{over_blocks, act_on_blocks, is_live_on_
 use Rattle.mon_syntax.specs.LiveBlocks.{LiveBlock, noted, live_from, live_in}
 use Rattle.mon_syntax.proofs.FlatBlocks.{dies}
 use Rattle.track_scopes.specs.Blocks.{death, deaths}
-use Rattle.track_scopes.specs.Lives.{MonitoredState, with_store, Point, AreFrom, AreBefore, Leaves}
+use Rattle.track_scopes.specs.Lives.{MonitoredState, with_store, Point, AreFrom, AreBefore, EndLives}
 
 -- ---- where no block lives from an index on, none dies there
 
@@ -155,6 +155,6 @@ module _ (gs : List Value) (calls : monitored.Calls over_blocks) (n base : ℕ) 
       ∙ ap (writes []) (all_die ps died inside outside x.1.live from.1 before points.1)
       ∙ ap (λ store. Done (Next regs) (with_store store t) []) (x.1.killed base from.0)
 
--- deaths leave the scopes of the blocks
-pub deaths_leave : (ps : List ℕ) → Leaves ps (deaths ps)
-deaths_leave ps = λ gs calls n base regs t inside outside live from before points. all_die gs calls n base regs ps t inside outside live from before points
+-- deaths end the lives of the blocks
+pub deaths_end : (ps : List ℕ) → EndLives ps (deaths ps)
+deaths_end ps = λ gs calls n base regs t inside outside live from before points. all_die gs calls n base regs ps t inside outside live from before points

@@ -1,6 +1,6 @@
 -- Statements one after another, as a loop pushes them onto a vector.
-use Rattle.std.proofs.Common.{◌≡◌, ℕ, suc, ◌+◌, ◌^◌, ◌<◌, ◌≤◌, List, [], ◌∷◌, ◌++◌, length, length-append, length-drop, drop, map, get_or, refl, sym, ap, ◌∙◌, subst, arith, append_assoc}
-use Rattle.std.proofs.lemmas.List.{map-append, nil_from_length, append-nil}
+use Rattle.std.proofs.Common.{◌≡◌, ℕ, suc, ◌+◌, ◌-◌, ◌^◌, ◌<◌, ◌≤◌, List, [], ◌∷◌, ◌++◌, length, length-append, length-drop, drop, take, reverse, map, get_or, refl, sym, ap, ◌∙◌, subst, arith, append_assoc}
+use Rattle.std.proofs.lemmas.List.{map-append, nil_from_length, append-nil, reverse-append, take_more, take_all}
 use Rattle.std.proofs.Math.Seq.{drop-cons}
 use Rattle.c_syntax.specs.declared.statement.Decl.{Decl}
 use Rattle.c_syntax.specs.Programs.{StructType}
@@ -75,20 +75,27 @@ deaths_are (s ∷ l) (p ∷ ps) e =
     let others : map plain_stmt l ≡ map death ps = cc in
     (λ i. Then (one i) (deaths_are l ps others i))
 
--- one more death is pushed
-pub death_pushed : (done : List MonStmt) (s : MonStmt) (all : List ℕ) (i z x : ℕ) (whole : List MonStatement) → i < length all → x ≡ get_or all i z → plain_stmt s ≡ death x
-    → map plain_stmt done ++ map death (drop i all) ≡ whole → map plain_stmt (done ++ s ∷ []) ++ map death (drop (i + 1) all) ≡ whole
-death_pushed done s all i z x whole lt e is kept =
-    let next : suc i ≡ i + 1 = omega arith in
-    pushed done s (map death (drop (i + 1) all)) whole
-    (ap (λ m. map plain_stmt done ++ (m ∷ map death (drop (i + 1) all))) (is ∙ ap death e)
-    ∙ ap (λ j. map plain_stmt done ++ (death (get_or all i z) ∷ map death (drop j all))) (sym next)
-    ∙ ap (λ l. map plain_stmt done ++ map death l) (sym (drop-cons all i z lt))
+-- one more death is pushed, of the last of those that are left
+pub death_pushed : (done : List MonStmt) (s : MonStmt) (all : List ℕ) (left z x : ℕ) (whole : List MonStatement) → 0 < left → left ≤ length all → x ≡ get_or all (left - 1) z → plain_stmt s ≡ death x
+    → map plain_stmt done ++ map death (reverse (take left all)) ≡ whole → map plain_stmt (done ++ s ∷ []) ++ map death (reverse (take (left - 1) all)) ≡ whole
+death_pushed done s all left z x whole some le e is kept =
+    let next : left ≡ left - 1 + 1 = omega (arith, some) in
+    let lt : left - 1 < length all = omega (arith, some, le) in
+    let last : reverse (take left all) ≡ x ∷ reverse (take (left - 1) all) =
+    ap (λ k. reverse (take k all)) next ∙ ap reverse (take_more all (left - 1) z lt) ∙ reverse-append (take (left - 1) all) (get_or all (left - 1) z ∷ []) ∙ ap (λ y. y ∷ reverse (take (left - 1) all)) (sym e) in
+    pushed done s (map death (reverse (take (left - 1) all))) whole
+    (ap (λ m. map plain_stmt done ++ (m ∷ map death (reverse (take (left - 1) all)))) is
+    ∙ ap (λ l. map plain_stmt done ++ map death l) (sym last)
     ∙ kept)
 
 -- all deaths are pushed
-pub all_pushed : (done : List MonStmt) (all : List ℕ) (i : ℕ) (whole : List MonStatement) → length all ≤ i → map plain_stmt done ++ map death (drop i all) ≡ whole → map plain_stmt done ≡ whole
-all_pushed done all i whole le kept =
+pub all_pushed : (done : List MonStmt) (all : List ℕ) (left : ℕ) (whole : List MonStatement) → left ≡ 0 → map plain_stmt done ++ map death (reverse (take left all)) ≡ whole → map plain_stmt done ≡ whole
+all_pushed done all left whole none kept =
     sym (append-nil (map plain_stmt done))
-    ∙ ap (λ l. map plain_stmt done ++ map death l) (sym (nil_from_length (drop i all) (omega (arith, length-drop i all))))
+    ∙ ap (λ k. map plain_stmt done ++ map death (reverse (take k all))) (sym none)
     ∙ kept
+
+-- before the first of them
+pub none_pushed : (done : List MonStmt) (all : List ℕ) (left : ℕ) → done ≡ [] → left ≡ length all → map plain_stmt done ++ map death (reverse (take left all)) ≡ map death (reverse all)
+none_pushed done all left none count =
+    ap (λ l. map plain_stmt l ++ map death (reverse (take left all))) none ∙ ap (λ l. map death (reverse l)) (take_all left all (omega (arith, count)))

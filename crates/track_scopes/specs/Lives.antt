@@ -1,6 +1,6 @@
 -- Lifetimes are those of C99 6.2.4; the relation is ours.
 -- What births and deaths do where monitored C has the blocks of the program: where scopes are entered and left, it has them again.
-use Rattle.std.specs.Prelude.{◌≡◌, ℕ, suc, ◌+◌, ◌<◌, ◌≤◌, List, [], ◌∷◌, ◌++◌, length, Some, slice_get}
+use Rattle.std.specs.Prelude.{◌≡◌, ℕ, suc, ◌+◌, ◌<◌, ◌≤◌, List, [], ◌∷◌, ◌++◌, length, reverse, Some, slice_get}
 use Rattle.c_syntax.specs.declared.types.Segment.{Segment}
 use Rattle.c_syntax.specs.declared.types.BlockKind.TheVariants.{Stack}
 use Rattle.c_syntax.specs.Programs.{StructType}
@@ -81,10 +81,14 @@ abbrev pub AreBefore : ℕ → List LiveBlock → Type 0
 AreBefore base [] = Unit {0}
 AreBefore base (b ∷ bs) = (b.number ≤ base) × AreBefore base bs
 
--- Statements leave scopes. Where these registers point to the blocks that live on the stack from an index on, the youngest first, just those are
+-- These statements end lives. Where these registers point to the blocks that live on the stack from an index on, the youngest first, just those are
 -- dead after the statements.
-abbrev pub Leaves : List ℕ → MonStatements → Type 0
-Leaves blocks code =
+abbrev pub EndLives : List ℕ → MonStatements → Type 0
+EndLives blocks code =
     (gs : List Value) (calls : monitored.Calls over_blocks) (n base : ℕ) (regs : List Value) (t : MonitoredState) (inside outside : List LiveBlock)
     → live_in t.mem.store ≡ inside ++ outside → AreFrom base inside → AreBefore base outside → Point regs blocks inside
     → exec_all over_blocks gs code calls n regs t ≡ Done (Next regs) (with_store (kill_from base t.mem.store) t) []
+
+-- Statements leave scopes, where the registers point to these blocks in order of birth.
+abbrev pub Leaves : List ℕ → MonStatements → Type 0
+Leaves blocks code = EndLives (reverse blocks) code

@@ -1,6 +1,6 @@
 //! Scopes (C99 6.2.4, 6.8): their entry, and the ways out.
 
-ghost use Rattle.std.specs.Prelude.{◌≡◌, ◌<◌, ◌^◌, IfOk, OnOk, map};
+ghost use Rattle.std.specs.Prelude.{◌≡◌, ◌<◌, ◌^◌, IfOk, OnOk, map, reverse};
 ghost use Rattle.c_syntax.specs.Programs.{plain_layout};
 ghost use Rattle.c_syntax.specs.Statements.{plain_decl};
 ghost use Rattle.c_syntax.specs.Layouts.{size_of};
@@ -86,14 +86,16 @@ fn death(alloc: Global, block: u32) -> Result<MonStmt, AllocError>
 }
 
 /// The statements that leave scopes, of one block, of a loop's body or of the whole function: the deaths of the blocks that live in
-/// them, by the registers that point to them, the youngest first.
+/// them, by the registers that point to them, in order of birth. The youngest dies first.
 pub fn leave(alloc: Global, blocks: &[u32]) -> Result<Vec<MonStmt>, AllocError>
-    ensures deaths { IfOk result (λ code. plain_stmts code.items ≡ deaths blocks.now) }
+    ensures deaths { IfOk result (λ code. plain_stmts code.items ≡ deaths (reverse blocks.now)) }
     ensures leaves { IfOk result (λ code. Leaves blocks.now (plain_stmts code.items)) }
 {
     let mut code = Vec::with_capacity(alloc, blocks.len())?;
-    'each: for block in blocks {
-        code.push(death(alloc, *block)?)?;
+    let mut left = blocks.len();
+    'each: while 0 < left {
+        left -= 1;
+        code.push(death(alloc, blocks[left])?)?;
     }
     Ok(code)
 }

@@ -1,4 +1,4 @@
-use Rattle.std.proofs.Common.{◌≡◌, ℕ, List, [], ◌+◌, ◌++◌, drop, map, option_map, refl, ap, subst, sym, ◌∙◌}
+use Rattle.std.proofs.Common.{◌≡◌, ℕ, List, [], ◌+◌, ◌++◌, drop, map, option_map, reverse, refl, ap, subst, sym, ◌∙◌}
 use Rattle.std.specs.Prelude.{OnOk}
 use Rattle.c_syntax.specs.Logic.{plain_annot}
 use Rattle.c_syntax.specs.Expressions.{plain_expr}
@@ -14,8 +14,8 @@ use Rattle.c_effects.proofs.Sequences.{left_at, none_left, all_there, more_behin
 use Rattle.c_effects.proofs.Trees.{on_ok_then}
 use Rattle.instrument.specs.Limits.{HasNumbers, HaveNumbers}
 use Rattle.instrument.specs.Options.{after, behind_first, behind_item, behind_items, else_part_by, entering, first_part_by, item_by, items_by, plain_first_part, plain_spot, statement_by, test_if_any_by}
-use Rattle.instrument.proofs.DeclarationCode.{born_front}
-use Rattle.instrument.proofs.StatementTrees.{block_stmt, branches_code, if_stmt, for_stmt, if_code, do_code, turns_code, entered_code, rest_code, for_code, alive_code, declared_of_first, for_names}
+use Rattle.instrument.proofs.DeclarationCode.{born_front, inside_is}
+use Rattle.instrument.proofs.StatementTrees.{block_stmt, branches_code, if_stmt, for_stmt, if_code, do_code, round_code, turns_code, entered_code, rest_code, for_code, alive_code, declared_of_first, for_names}
 use Rattle.instrument.proofs.statement.+statement.Goals as goal
 
 pub else_part-returns-in-None-clause-code : goal.else_part-returns-in-None-clause-code
@@ -55,12 +55,13 @@ block-returns-clause-code t c =
     let spot = c.args.spot.now in
     let body = plain_items c.args.body.now in
     let ds = declared_in body in
-    let f : Names → List ℕ → MonStatements = λ m l. items_by m (record { loops = spot.loops; inside = l; outside = spot.outside.now }) body in
+    let around = reverse spot.inside.now in
+    let f : Names → List ℕ → MonStatements = λ m l. items_by m (record { loops = spot.loops; inside = l; outside = reverse spot.outside.now }) body in
     let own = c.in_ok-own.ensures.own in
-    let live = c.deref-2.ensures.value ∙ c.in_ok-live.ensures ∙ ap (λ l. l ++ spot.inside.now) (c.deref.ensures.value ∙ own) ∙ born_front (next_register n.table) ds spot.inside.now in
-    on_ok_then c.leave.result (λ last. alive_code n c.enter_block.new.names spot.inside.now c.deref-2.result.now ds f (plain_stmts c.args.to.now.items) (plain_stmts c.enter_block.new.to.items) (plain_stmts c.items.new.to.items)
+    let live = inside_is spot.inside.now c.deref.result.now c.in_ok-own.own.items _ c.deref-2.result.now c.deref.ensures.value c.in_ok-live.ensures c.deref-2.ensures.value ∙ ap (λ l. l ++ around) own ∙ born_front (next_register n.table) ds around in
+    on_ok_then c.leave.result (λ last. alive_code n c.enter_block.new.names around (reverse c.deref-2.result.now) ds f (plain_stmts c.args.to.now.items) (plain_stmts c.enter_block.new.to.items) (plain_stmts c.items.new.to.items)
     (plain_stmts c.leave.new.to.items) c.in_ok-own.ensures.names
-    c.in_ok-own.ensures.born live c.in_ok-items.ensures.code (last ∙ ap (λ l. before (plain_stmts c.items.new.to.items) (deaths l)) (c.deref-3.ensures.value ∙ own)))
+    c.in_ok-own.ensures.born live c.in_ok-items.ensures.code (last ∙ ap (λ l. before (plain_stmts c.items.new.to.items) (deaths l)) (ap reverse c.deref-3.ensures.value ∙ own)))
     c.leave.ensures
 
 pub turns-returns-clause-code : goal.turns-returns-clause-code
@@ -76,6 +77,13 @@ turns-returns-clause-code t c =
     (c.in_ok-leave_unless_any.ensures.code ∙ ap (λ l. before (plain_stmts l) (test_if_any_by n c.in_ok-loops.loops e)) c.new-front.ensures.items)
     c.in_ok-leave_unless_any.ensures.names c.in_ok-behind.ensures.code c.in_ok-behind.ensures.names c.in_ok-effect_if_any.ensures.code)
     c.repeat.ensures
+
+pub round-returns-clause-code : goal.round-returns-clause-code
+round-returns-clause-code t c =
+    let spot = c.args.spot.now in
+    let outside = inside_is spot.outside.now spot.inside.now spot.inside.now c.in_ok-outside.outside.items c.deref.result.now refl c.in_ok-outside.ensures c.deref.ensures.value in
+    round_code c.labelled.result (λ l. statement_by c.args.names.now l (plain_stmt c.args.s.now)) (plain_spot spot) c.in_ok-loops.loops (reverse c.deref.result.now) (plain_stmts c.in_ok-body.body.items) c.in_ok-loops.ensures outside
+    c.in_ok-body.ensures.code c.labelled.ensures
 
 pub statement-returns-in-Empty-clause-code : goal.statement-returns-in-Empty-clause-code
 statement-returns-in-Empty-clause-code t c =
@@ -117,9 +125,9 @@ enter_for-returns-clause-code t c =
     let first = plain_first_part c.args.first.now in
     entered_code c.args.names.now (plain_spot c.args.spot.now) (plain_stmts c.args.to.now.items)
     (plain_stmts c.enter_block.new.to.items) (plain_stmts c.first_part.new.to.items)
-    first c.enter_block.new.names (declared_in (plain_items c.items_of.result.now)) c.in_ok-own.own.items c.deref-2.result.now
+    first c.enter_block.new.names (declared_in (plain_items c.items_of.result.now)) (reverse c.in_ok-own.own.items) (reverse c.deref-2.result.now)
     (ap declared_in c.items_of.ensures ∙ declared_of_first first) c.in_ok-own.ensures.names c.in_ok-own.ensures.born c.in_ok-own.ensures.own
-    (c.deref-2.ensures.value ∙ c.in_ok-live.ensures ∙ ap (λ l. l ++ c.args.spot.now.inside.now) c.deref.ensures.value)
+    (inside_is c.args.spot.now.inside.now c.deref.result.now c.in_ok-own.own.items _ c.deref-2.result.now c.deref.ensures.value c.in_ok-live.ensures c.deref-2.ensures.value)
     c.in_ok-first_part.ensures.code
 
 pub enter_for-returns-clause-names : goal.enter_for-returns-clause-names
@@ -131,8 +139,9 @@ pub rest_of_for-returns-clause-code : goal.rest_of_for-returns-clause-code
 rest_of_for-returns-clause-code t c =
     on_ok_then c.leave.result (rest_code c.args.names.now (plain_spot c.args.spot.now) (plain_stmts c.args.to.now.items)
     (plain_stmts c.turns.new.to.items) (plain_stmts c.leave.new.to.items)
-    (option_map plain_expr c.args.controls.0.now) (option_map plain_expr c.args.controls.1.now) (plain_stmt c.args.a.now) c.args.own.items c.deref-2.result.now c.deref-3.result.now
-    (c.deref-2.ensures.value ∙ c.in_ok-live.ensures ∙ ap (λ l. l ++ c.args.spot.now.inside.now) c.deref.ensures.value) c.deref-3.ensures.value c.in_ok-turns.ensures.code)
+    (option_map plain_expr c.args.controls.0.now) (option_map plain_expr c.args.controls.1.now) (plain_stmt c.args.a.now) (reverse c.args.own.items) (reverse c.deref-2.result.now)
+    (reverse c.deref-3.result.now)
+    (inside_is c.args.spot.now.inside.now c.deref.result.now c.args.own.items _ c.deref-2.result.now c.deref.ensures.value c.in_ok-live.ensures c.deref-2.ensures.value) (ap reverse c.deref-3.ensures.value) c.in_ok-turns.ensures.code)
     c.leave.ensures
 
 pub branches-returns-clause-code : goal.branches-returns-clause-code
@@ -164,7 +173,7 @@ statement-returns-in_ok-own-in-For-clause-code t c =
     (for_stmt c.args.s.now c.in-For.field-0 c.in-For.first c.in-For.e c.in-For.step c.in-For.a c.in-For.a (sym c.deref.ensures ∙ c.in-For.is) refl)
     (on_ok_then c.rest_of_for.result (λ last.
     for_code n spot t0 (plain_stmts c.enter_for.new.to.items) (plain_stmts c.rest_of_for.new.to.items) first c.enter_for.new.names c.args.s.now.place
-    (map plain_annot c.in-For.field-0.items) (option_map plain_expr c.in-For.e) (option_map plain_expr c.in-For.step) (plain_stmt c.in-For.a) c.in_ok-own-in-For.own.items
+    (map plain_annot c.in-For.field-0.items) (option_map plain_expr c.in-For.e) (option_map plain_expr c.in-For.step) (plain_stmt c.in-For.a) (reverse c.in_ok-own-in-For.own.items)
     c.in_ok-own-in-For.ensures.own c.in_ok-own-in-For.ensures.code c.in_ok-own-in-For.ensures.names last)
     c.rest_of_for.ensures.code)
 
