@@ -1,13 +1,14 @@
 -- Initialisers and the zeros of what they leave out, part by part.
-use Rattle.std.proofs.Common.{◌≡◌, ℕ, zero, suc, ◌+◌, ◌-◌, ◌<◌, List, [], ◌∷◌, ◌++◌, length, drop, Option, Some, None, refl, sym, ap, ◌∙◌, arith}
+use Rattle.std.proofs.Common.{◌≡◌, ℕ, zero, suc, ◌+◌, ◌-◌, ◌<◌, true, false, List, [], ◌∷◌, ◌++◌, length, drop, Option, Some, None, refl, sym, ap, ◌∙◌, arith}
 use Rattle.std.specs.Prelude.{pos, not, if◌then◌else◌}
 use Rattle.c_syntax.specs.declared.expression.Expr.{Expr}
 use Rattle.c_syntax.specs.declared.place.Place.{Place}
 use Rattle.c_syntax.specs.Ctypes.{PlainType}
 use Rattle.c_syntax.specs.Expressions.{Expression, plain_expr}
 use Rattle.c_syntax.specs.Programs.{StructType}
-use Rattle.c_syntax.specs.Statements.{Initialiser, Many, Initialisers, NoInitialiser, Listed}
-use Rattle.c_syntax.specs.Layouts.{scalars_of}
+use Rattle.c_syntax.specs.Statements.{Declaration, Initialiser, Many, Initialisers, NoInitialiser, Listed}
+use Rattle.c_syntax.specs.Layouts.{scalars_of, size_of}
+use Rattle.c_model.specs.Formed.{number_of}
 use Rattle.c_model.specs.Library.{is_there}
 use Rattle.c_model.specs.Meaning.{string_in}
 use Rattle.mon_syntax.specs.declared.tree.MonType.{MonType}
@@ -15,10 +16,10 @@ use Rattle.mon_syntax.specs.declared.tree.MonType.TheVariants.{U8}
 use Rattle.mon_syntax.specs.Registers.{Names, next_register}
 use Rattle.mon_syntax.specs.Trees.{MonExpression, MonStatements, NoStatement, Constant}
 use Rattle.c_effects.specs.Expressions.{before, value_type}
-use Rattle.c_effects.specs.Effects.{bytes_at, fill_one, fill_temporaries, full_temporaries, moved, scalars_in, store, stored_at, zeros_from}
+use Rattle.c_effects.specs.Effects.{block_of, bytes_at, fill_one, fill_temporaries, full_temporaries, may_be_born, moved, scalars_in, store, stored_at, zeros_from}
 use Rattle.c_effects.specs.Initialisers.{fill_by, fill_first_by, fill_one_by, fill_parts_by, first_part, initialise_object_by, initialise_one_by, next_byte, parts_in}
-use Rattle.c_effects.specs.Named.{full_setup_by, full_value_by, unit_of, with_registers}
-use Rattle.c_effects.proofs.Sequences.{before_assoc}
+use Rattle.c_effects.specs.Named.{full_setup_by, full_value_by, initialise_by, initialise_local_by, unit_of, with_registers}
+use Rattle.c_effects.proofs.Sequences.{before_assoc, nothing}
 
 -- ---- bytes
 
@@ -122,3 +123,17 @@ module _ (n : Names) (r : ℕ) (u : PlainType) (at : Place) (is js : Initialiser
 
   pub many_initialised : t1 ≡ before t0 (fill_parts_by n r 0 cs is) → t1 ≡ before t0 (initialise_object_by n r u (Many at js))
   many_initialised last = last ∙ (λ i. before t0 (fill_parts_by n r 0 (parts i) (same i)))
+
+-- a variable of a function: one for which some stack may have room, and one for which none has
+module _ (n : Names) (d : Declaration) (size : ℕ) where
+  abbrev made : MonStatements
+  made = initialise_by n (block_of n.table.bound (number_of d)) d.ctype d.init
+
+  pub born_initialised : (block : ℕ) (t0 t1 : MonStatements) → size ≡ size_of (unit_of n).structs d.ctype → may_be_born size ≡ true → block ≡ block_of n.table.bound (number_of d) → t1 ≡ before t0 (initialise_by n block d.ctype d.init)
+      → t1 ≡ before t0 (initialise_local_by n d)
+  born_initialised block t0 t1 size_is born block_is put =
+      let there = ap may_be_born (sym size_is) ∙ born in
+      put ∙ ap (λ r. before t0 (initialise_by n r d.ctype d.init)) block_is ∙ ap (λ t. before t0 (if t then made else NoStatement)) (sym there)
+
+  pub unborn_left : (t0 : MonStatements) → size ≡ size_of (unit_of n).structs d.ctype → may_be_born size ≡ false → t0 ≡ before t0 (initialise_local_by n d)
+  unborn_left t0 size_is unborn = nothing t0 (initialise_local_by n d) (ap (λ t. if t then made else NoStatement) (ap may_be_born (sym size_is) ∙ unborn))

@@ -258,6 +258,16 @@ scalars_in structs d (c ∷ cs) = moved (d + c.0) (scalars_of structs c.1) ++ sc
 abbrev pub zero_parts : List StructType → ℕ → ℕ → ℕ → List (ℕ × PlainType) → MonStatements
 zero_parts structs r k d cs = zeros_at r k d 0 (scalars_in structs d cs)
 
+-- ---- objects that have room
+
+-- the longest stack that a run may have, in bytes
+abbrev pub longest_stack : ℕ
+longest_stack = 268435456
+
+-- whether an object of so many bytes may be born on one
+abbrev pub may_be_born : ℕ → Bool
+may_be_born n = nat_le n longest_stack
+
 -- ---- effects, where these registers are bound to variables
 
 module _ (p : TranslationUnit) (bound : Bindings) where
@@ -332,6 +342,10 @@ module _ (p : TranslationUnit) (bound : Bindings) where
       simple rs r t (One e) = before (full_setup rs e) (store r t (full_value p bound rs e))
       simple rs r t (Many brace is) = NoStatement
 
+  -- a variable of a function; what is never born is never initialised
+  abbrev pub initialise_local : List MonType → Declaration → MonStatements
+  initialise_local rs d = if may_be_born (size_of p.structs d.ctype) then initialise rs (block_of bound (number_of d)) d.ctype d.init else NoStatement
+
   abbrev pub initialise_all : List MonType → List Declaration → MonStatements
   initialise_all rs [] = NoStatement
-  initialise_all rs (d ∷ ds) = before (initialise rs (block_of bound (number_of d)) d.ctype d.init) (initialise_all (rs ++ initial_temporaries d.init) ds)
+  initialise_all rs (d ∷ ds) = before (initialise_local rs d) (initialise_all (rs ++ initial_temporaries d.init) ds)

@@ -12,7 +12,7 @@ use Rattle.mon_syntax.specs.Registers.{Names, with_kinds, with_table}
 use Rattle.mon_syntax.specs.Trees.{MonExpression, MonStatements}
 use Rattle.c_effects.specs.Expressions.{value, place, setup, condition_of}
 use Rattle.c_effects.specs.Effects.{arguments, arguments_setup, called, full_value, full_setup, value_assigned, object_assigned, effect}
-use Rattle.c_effects.specs.Effects.{effect_if_any, initialise, initialise_all}
+use Rattle.c_effects.specs.Effects.{effect_if_any, initialise, initialise_all, initialise_local}
 use Rattle.c_effects.specs.Parts.{truth_set, both_set, either_set, direct_setup, direct_value}
 
 -- with further registers of these types
@@ -82,6 +82,9 @@ effect_if_any_by n e = effect_if_any (unit_of n) n.table.bound n.table.kinds e
 
 abbrev pub initialise_by : Names → ℕ → PlainType → Option (Place × Initialiser) → MonStatements
 initialise_by n x t init = initialise (unit_of n) n.table.bound n.table.kinds x t init
+
+abbrev pub initialise_local_by : Names → Declaration → MonStatements
+initialise_local_by n d = initialise_local (unit_of n) n.table.bound n.table.kinds d
 
 abbrev pub initialise_all_by : Names → List Declaration → MonStatements
 initialise_all_by n ds = initialise_all (unit_of n) n.table.bound n.table.kinds ds

@@ -9,10 +9,11 @@ ghost use Rattle.c_model.specs.Meaning.{string_in};
 ghost use Rattle.mon_syntax.specs.Trees.{plain_stmts};
 ghost use Rattle.c_effects.specs.Letters.{FullHasLetters, InitialHasLetters, InitialiserHasLetters, InitialisersHaveLetters, InitialsHaveLetters};
 ghost use Rattle.c_effects.specs.Expressions.{before};
-ghost use Rattle.c_effects.specs.Effects.{declaration_temporaries, fill_temporaries, initial_temporaries, one_temporaries, parts_temporaries, zero_parts};
+ghost use Rattle.c_effects.specs.Effects.{declaration_temporaries, fill_temporaries, initial_temporaries, may_be_born, one_temporaries, parts_temporaries};
+ghost use Rattle.c_effects.specs.Effects.{zero_parts};
 ghost use Rattle.c_effects.specs.Initialisers.{fill_by, fill_first_by, fill_one_by, fill_parts_by, initialise_object_by, initialise_one_by, object_temporaries};
 ghost use Rattle.c_effects.specs.Initialisers.{plain_parts};
-ghost use Rattle.c_effects.specs.Named.{initialise_all_by, initialise_by, with_registers};
+ghost use Rattle.c_effects.specs.Named.{initialise_all_by, initialise_by, initialise_local_by, with_registers};
 
 use crate::aggregate::{Parts, first, parts_of, rest};
 use crate::conversion::value_type;
@@ -260,6 +261,46 @@ pub fn initialise(
     }
 }
 
+// Whether an object of so many bytes may be born on a stack.
+fn may_be_born(size: u64) -> bool
+    ensures { result ≡ may_be_born size }
+{
+    size <= 268_435_456
+}
+
+// Makes the registers of an initialiser, and nothing else.
+fn take_registers(alloc: Global, d: &Decl, names: &mut Registers<'_>) -> Result<(), AllocError>
+    ensures names { OnOk result (names.new ≡ with_registers (initial_temporaries (plain_decl d.now).init) names.old) }
+    ensures letters { OnOk result (InitialHasLetters (plain_decl d.now).init) }
+{
+    let mut unused = Vec::new(alloc);
+    match &d.init {
+        Some((_, i)) => initialise_object(alloc, i, 0, &CType::Void, names, &mut unused),
+        None => Ok(()),
+    }
+}
+
+// Initialises a variable of a function. What is never born is never initialised.
+#[tactic(auto, using(crate::proofs::Sequences::before_none))]
+fn initialise_local(
+    alloc: Global,
+    d: &Decl,
+    names: &mut Registers<'_>,
+    to: &mut Vec<MonStmt>,
+) -> Result<(), AllocError>
+    ensures code { OnOk result (plain_stmts to.new.items ≡ before (plain_stmts to.old.items) (initialise_local_by names.old (plain_decl d.now))) }
+    ensures names { OnOk result (names.new ≡ with_registers (initial_temporaries (plain_decl d.now).init) names.old) }
+    ensures letters { OnOk result (InitialHasLetters (plain_decl d.now).init) }
+{
+    let block = block_of(names, d.place.offset);
+    let size = size_of(names.layouts(), &d.ctype)?;
+    if may_be_born(size) {
+        initialise(alloc, block, d, names, to)
+    } else {
+        take_registers(alloc, d, names)
+    }
+}
+
 /// Initialises declared variables in order.
 pub fn initialise_all(
     alloc: Global,
@@ -273,8 +314,7 @@ pub fn initialise_all(
     ensures letters { OnOk result (InitialsHaveLetters (map plain_decl decls.now)) }
 {
     'decls: for d in decls {
-        let block = block_of(names, d.place.offset);
-        initialise(alloc, block, d, names, to)?;
+        initialise_local(alloc, d, names, to)?;
     }
     Ok(())
 }

@@ -1,12 +1,13 @@
 -- Births of variables: what lives, what is in sight and which registers point to it after them, on both sides.
-use Rattle.std.proofs.Common.{◌≡◌, ℕ, suc, ◌+◌, ◌^◌, ◌<◌, ◌≤◌, Bool, true, false, cond, if◌then◌else◌, nat_eq, nat_le, nat_lt, List, [], ◌∷◌, ◌++◌, length, length-append, Option, Some, None, slice_get, refl, sym, ap, ◌∙◌}
+use Rattle.std.proofs.Common.{◌≡◌, ℕ, suc, ◌+◌, ◌<◌, ◌≤◌, Bool, true, false, cond, if◌then◌else◌, nat_eq, nat_le, nat_lt, List, [], ◌∷◌, ◌++◌, length, length-append, Option, Some, None, slice_get, refl, sym, ap, ◌∙◌}
 use Rattle.std.proofs.Common.{subst, arith}
+use Rattle.std.proofs.lemmas.Bool.{le-leb}
 use Rattle.std.proofs.lemmas.Bool.Decides.{nat_tests}
 use Rattle.std.specs.Prelude.{map}
 use Rattle.c_syntax.specs.declared.types.BlockKind.TheVariants.{Stack}
 use Rattle.c_syntax.specs.declared.types.Segment.{Segment}
 use Rattle.c_syntax.specs.declared.types.Segment.TheVariants as segment
-use Rattle.c_syntax.specs.Programs.{StructType}
+use Rattle.c_syntax.specs.Programs.{StructType, TranslationUnit}
 use Rattle.c_syntax.specs.Statements.{Declaration}
 use Rattle.c_syntax.specs.Layouts.{size_of}
 use Rattle.c_model.specs.Formed.{number_of}
@@ -20,7 +21,7 @@ use Rattle.track_scopes.specs.Lives.{AreFrom, Point, PointInOrder, PointToBorn, 
 use Rattle.instrument.proofs.Standing.{Setting, Bounded, Here, Standing, IsAnchored, InRegister, AtGlobal, IsInSight, Anchored}
 use Rattle.instrument.proofs.Following.{anchored_same}
 use Rattle.instrument.proofs.Bounds.{bounded_append, replicated_bytes}
-use Rattle.instrument.proofs.Own.{AreOwn}
+use Rattle.instrument.proofs.Own.{AreOwn, AllCanBeBorn}
 use Rattle.mon_syntax.specs.declared.tree.MonType.TheVariants.{Ptr}
 use Rattle.annot_code.specs.Does.{Same}
 use Rattle.instrument.proofs.Registers.{register_of-bound_same, register_of-bound_other}
@@ -138,19 +139,35 @@ pointed_born structs p number (d ∷ ds) regs ps bs there h =
 
 -- ---- bounds
 
-size_of_born : (store : Store) (size : ℕ) → full_at_stack_birth standard_sizes store size ≡ None → size ≤ 2 ^ 62
+size_of_born : (store : Store) (size : ℕ) → full_at_stack_birth standard_sizes store size ≡ None → size ≤ 1048576
 size_of_born store size e = by (nat_le greatest_number (length store)) (nat_lt 1048576 (stack_taken store + rounded size)) refl e
   where
-    by : (x y : Bool) → nat_lt 1048576 (stack_taken store + rounded size) ≡ y → (if x then Some segment.Numbers else (if y then Some segment.Stack else None)) ≡ None → size ≤ 2 ^ 62
+    by : (x y : Bool) → nat_lt 1048576 (stack_taken store + rounded size) ≡ y → (if x then Some segment.Numbers else (if y then Some segment.Stack else None)) ≡ None → size ≤ 1048576
     by true y l f = absurd cc
     by false true l f = absurd cc
     by false false l f =
         let room : stack_taken store + rounded size ≤ 1048576 = grind (arith, nat_tests, l) in
         omega (arith, room)
 
+-- what was born had room
+pub can_be_born : (p : TranslationUnit) (ds : List Declaration) (s to : State) → births p.structs ds s ≡ Normal tt to → AllCanBeBorn p ds
+can_be_born p [] s to e = tt
+can_be_born p (d ∷ ds) s to e = by (λ g. can_be_born p ds born to g) (full_at_stack_birth standard_sizes s.store size) refl e
+  where
+    size : ℕ
+    size = size_of p.structs d.ctype
+
+    born : State
+    born = record s { store = s.store ++ new_block Stack size ∷ []; scope = (number_of d, length s.store + 1) ∷ s.scope }
+
+    by : (births p.structs ds born ≡ Normal tt to → AllCanBeBorn p ds) → (o : Option Segment) → full_at_stack_birth standard_sizes s.store size ≡ o → on_outcome (birth_of o (number_of d) size s) (λ _. births p.structs ds) ≡ Normal tt to
+        → AllCanBeBorn p (d ∷ ds)
+    by rest None f g = (le-leb size 268435456 (omega (arith, size_of_born s.store size f)), rest g)
+    by rest (Some full) f g = absurd cc
+
 -- where there was room
 pub bounded_new : (store : Store) (size : ℕ) → full_at_stack_birth standard_sizes store size ≡ None → Bounded store → Bounded (store ++ new_block Stack size ∷ [])
-bounded_new store size e h = bounded_append store (new_block Stack size) h (size_of_born store size e) (replicated_bytes size Unwritten tt)
+bounded_new store size e h = bounded_append store (new_block Stack size) h (omega (arith, size_of_born store size e)) (replicated_bytes size Unwritten tt)
 
 pub bounded_born : (structs : List StructType) (ds : List Declaration) (s to : State) → births structs ds s ≡ Normal tt to → Bounded s.store → Bounded to.store
 bounded_born structs [] s to e h = let same : s ≡ to = cc in subst (λ (x : State). Bounded x.store) same h

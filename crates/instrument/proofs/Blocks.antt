@@ -25,8 +25,8 @@ use Rattle.instrument.proofs.Registers.{same_trans}
 use Rattle.instrument.proofs.Lives.{length-killed}
 use Rattle.instrument.proofs.Deaths.{kill_more, bounded_killed, all_before, live_killed}
 use Rattle.instrument.proofs.Following.{Later, Follows, GoesOn, Breaks, Continues, IsLeft, IsOver, IsUndefined, standing_later}
-use Rattle.instrument.proofs.Births.{names_of, names_of-born, with_numbers, with_blocks, Pointed, pointed_point, pointed_same, pointed_born, besides, long_with, behind_births, new_same, new_live, are_new, standing_born}
-use Rattle.instrument.proofs.Own.{AreOwn}
+use Rattle.instrument.proofs.Births.{can_be_born, names_of, names_of-born, with_numbers, with_blocks, Pointed, pointed_point, pointed_same, pointed_born, besides, long_with, behind_births, new_same, new_live, are_new, standing_born}
+use Rattle.instrument.proofs.Own.{AreOwn, AllCanBeBorn}
 
 -- ---- states from which statements go on
 
@@ -160,7 +160,7 @@ module _ (w : Setting) (h : Here) (spot : Spot) (low : ℕ) (r : RegisterTable) 
         (new_live w h low r ds regs after s le m.standing born done) (long_with w.unit.structs ds s) le_steps b.output
         (with_blocks w.unit.structs (length s.store + 1) ds h.inner) (x to) q f
 
-    pub block_follows : ((after : List Value) (to : State) (u : Target) → to.steps ≤ s.steps → Inside after to u → Follows w (behind_births w.unit.structs h s ds) (p + length ds) after Next to (x to) (runs w n u a after))
+    pub block_follows : (AllCanBeBorn w.unit ds → (after : List Value) (to : State) (u : Target) → to.steps ≤ s.steps → Inside after to u → Follows w (behind_births w.unit.structs h s ds) (p + length ds) after Next to (x to) (runs w n u a after))
         → Follows w h low regs Next s (within (births w.unit.structs ds >> x) s) (runs w n t (alive w.unit p ds a) regs)
     block_follows inner =
         subst (λ q. Follows w h low regs Next s (within (births w.unit.structs ds >> x) s) q) (sym (alive_runs w n t p ds a regs))
@@ -182,4 +182,4 @@ module _ (w : Setting) (h : Here) (spot : Spot) (low : ℕ) (r : RegisterTable) 
             subst (λ r. Follows w h low regs Next s (restored s (on_outcome r (λ _. x))) (then_do (runs w n t (target.births w.unit.structs p ds) regs) (at_next (λ r u. rest (runs w n u a r))))) (sym e)
             (subst (λ q. Follows w h low regs Next s (restored s (x to)) (then_do q (at_next (λ r u. rest (runs w n u a r))))) (sym f)
             (subst (λ q. Follows w h low regs Next s (restored s (x to)) q) (sym (writes_none (rest (runs w n v a after))))
-            (inside_ends after e born (runs w n v a after) (inner after to v (omega (arith, b.steps)) (meets_inside after e born)))))
+            (inside_ends after e born (runs w n v a after) (inner (can_be_born w.unit ds s to e) after to v (omega (arith, b.steps)) (meets_inside after e born)))))

@@ -1,9 +1,10 @@
 -- How deep translated statements stand in one another, and that no step stands in them outside their loops.
-use Rattle.std.proofs.Common.{◌≡◌, ℕ, suc, ◌+◌, ◌*◌, ◌≤◌, true, List, [], ◌∷◌, ◌++◌, length, Option, Some, None, max, refl, arith}
+use Rattle.std.proofs.Common.{◌≡◌, ℕ, suc, ◌+◌, ◌*◌, ◌≤◌, Bool, true, false, if◌then◌else◌, List, [], ◌∷◌, ◌++◌, length, Option, Some, None, max, refl, arith}
 use Rattle.std.proofs.Math.Nat.{max-le, le-max_left, le-max_right}
 use Rattle.c_syntax.specs.Expressions.{Expression}
 use Rattle.c_syntax.specs.Statements.{Declaration, Statement, Empty, Eval, Block, If, While, Do, For, Break, Continue, Return, ElsePart, NoElse, Else, ForFirst, NoFirst, First, BlockItem, Declare, Specify, Run, Asserts, BlockItems, NoItem, Then}
 use Rattle.c_syntax.specs.Programs.{TranslationUnit}
+use Rattle.c_syntax.specs.Layouts.{size_of}
 use Rattle.c_model.specs.Formed as form
 use Rattle.c_model.specs.Formed.{number_of}
 use Rattle.c_model.specs.TypedTrees.{WhereAny}
@@ -16,7 +17,7 @@ use Rattle.mon_syntax.specs.Trees as tree
 use Rattle.mon_syntax.specs.Valid.{Types, has_no_step, depth_of_all}
 use Rattle.track_scopes.specs.Blocks.{entered, deaths}
 use Rattle.c_effects.specs.Expressions.{before, one, set, setup, temporaries, condition_of}
-use Rattle.c_effects.specs.Effects.{block_of, any_temporaries, full_temporaries, full_setup, full_value, effect_if_any, initialise, initialise_all, initial_temporaries}
+use Rattle.c_effects.specs.Effects.{block_of, any_temporaries, full_temporaries, full_setup, full_value, effect_if_any, initialise, initialise_all, initialise_local, may_be_born, initial_temporaries}
 use Rattle.instrument.specs.Translation.{Spot, in_loop, with_variables, leave_where_zero, test, test_if_any, loop, for_turns, returned, end_label, next_label, after_statement, after_first, after_item, statement, else_part, first_part, item, items}
 use Rattle.instrument.proofs.ValidSetups.{no_step_before, no_step_setup, deep_one, deep_set, deep_setup, deep_behind}
 use Rattle.annot_code.proofs.Asserted.{assertions_deep}
@@ -75,9 +76,12 @@ module _ (p : TranslationUnit) where
   deep_initials : (bound : Bindings) (rs : Types) (ds : List Declaration) → AreInitialised p.structs ds → depth_of_all (initialise_all p bound rs ds) ≤ most_deep
   deep_initials bound rs [] f = omega arith
   deep_initials bound rs (d ∷ ds) f =
-      let x = deep_initialise p bound rs (block_of bound (number_of d)) d.ctype d.init f.0 in
-      deep_before (initialise p bound rs (block_of bound (number_of d)) d.ctype d.init) (initialise_all p bound (rs ++ initial_temporaries d.init) ds) most_deep (omega (arith, x))
+      deep_before (initialise_local p bound rs d) (initialise_all p bound (rs ++ initial_temporaries d.init) ds) most_deep (by (may_be_born (size_of p.structs d.ctype)))
       (deep_initials bound (rs ++ initial_temporaries d.init) ds f.1)
+    where
+      by : (t : Bool) → depth_of_all (if t then initialise p bound rs (block_of bound (number_of d)) d.ctype d.init else NoStatement) ≤ most_deep
+      by true = let x = deep_initialise p bound rs (block_of bound (number_of d)) d.ctype d.init f.0 in omega (arith, x)
+      by false = omega arith
 
   deep_returned : (spot : Spot) (r : RegisterTable) (e : Option Expression) → WhereAny (IsFullOrCall p.structs) e → depth_of_all (returned p spot r e) ≤ most_deep
   deep_returned spot r None f =

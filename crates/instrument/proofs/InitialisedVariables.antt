@@ -14,7 +14,7 @@ use Rattle.mon_syntax.specs.declared.tree.MonType.{MonType}
 use Rattle.mon_syntax.specs.declared.tree.MonType.TheVariants as kind
 use Rattle.mon_syntax.specs.Registers.{Bindings}
 use Rattle.mon_syntax.specs.Meaning.{Next}
-use Rattle.mon_syntax.specs.Trees.{MonStatements, Global}
+use Rattle.mon_syntax.specs.Trees.{MonStatements, NoStatement, Global}
 use Rattle.c_model.specs.Pure.{IsPureInitialiser, IsInitialiser}
 use Rattle.c_effects.specs.Letters.{InitialHasLetters, InitialsHaveLetters}
 use Rattle.c_effects.specs.Expressions.{set, object_of_global}
@@ -30,7 +30,7 @@ use Rattle.instrument.proofs.Evaluating.{behind_setup, set_runs}
 use Rattle.instrument.proofs.Scenes.{Scene, scene_with, knows_with}
 use Rattle.instrument.proofs.Initialisers.{initial_follows}
 use Rattle.instrument.proofs.Fillings.{Filling, object_text, object_parts, object_follows}
-use Rattle.instrument.proofs.Own.{IsLocal, AreLocal}
+use Rattle.instrument.proofs.Own.{IsLocal, AreThere}
 use Rattle.c_model.specs.EffectPlaces.{ArePlaced}
 use Rattle.c_model.specs.StaticObjects.{static_objects}
 
@@ -84,7 +84,7 @@ module _ (w : Setting) (n : ℕ) (h : Here) (sight : Sight) (scene : Scene w n s
 -- ---- the objects of a block, in their order
 
 module _ (w : Setting) (n : ℕ) (h : Here) (low : ℕ) (bound : Bindings) where
-  pub initials_follow : (ds : List Declaration) (sight : Sight) → Scene w n sight → AreLocal w.unit ds → ArePlaced ds → AreDeclared sight ds → InitialsHaveLetters ds → (rs : List MonType) → low ≤ length rs
+  pub initials_follow : (ds : List Declaration) (sight : Sight) → Scene w n sight → AreThere w.unit ds → ArePlaced ds → AreDeclared sight ds → InitialsHaveLetters ds → (rs : List MonType) → low ≤ length rs
       → length (rs ++ declaration_temporaries ds) ≤ w.registers
       → (regs : List Value) (s : State) (t : Target) → s.steps ≤ n → Standing w h low bound regs s → Beside w s.store s t
       → Follows w h low regs Next s (initialise_all (tables_of w.unit) ds w.call s) (runs w n t (translation.initialise_all w.unit bound rs ds) regs)
@@ -93,11 +93,13 @@ module _ (w : Setting) (n : ℕ) (h : Here) (low : ℕ) (bound : Bindings) where
       let here = initial_temporaries d.init in
       let rest = declaration_temporaries ds in
       let more : length (rs ++ (here ++ rest)) ≡ length (rs ++ here ++ rest) = omega (arith, length-append (rs ++ here) rest, length-append rs here, length-append rs (here ++ rest), length-append here rest) in
-      let first = translation.initialise w.unit bound rs (block_of bound (number_of d)) d.ctype d.init in
+      let made = translation.initialise w.unit bound rs (block_of bound (number_of d)) d.ctype d.init in
+      let first = translation.initialise_local w.unit bound rs d in
       let others = translation.initialise_all w.unit bound (rs ++ here) ds in
       subst (λ q. Follows w h low regs Next s (initialise_all (tables_of w.unit) (d ∷ ds) w.call s) q) (sym (before_is w.globals first others w.calls n regs t))
       (follows_then w h low regs Next s (initialise (tables_of w.unit) d d.init w.call s) (runs w n t first regs) (initialise_all (tables_of w.unit) ds w.call) (λ r u. runs w n u others r)
-      (declared_follows w n h (with_object sight d) (scene_with w n sight d scene) low bound s t le rs behind regs m b d d.init local.0 f.0 q.0.init l.0 (omega (arith, more, room, longer (rs ++ here) rest)))
+      (subst (λ x. Follows w h low regs Next s (initialise (tables_of w.unit) d d.init w.call s) (runs w n t (if x then made else NoStatement) regs)) (sym local.0.1)
+      (declared_follows w n h (with_object sight d) (scene_with w n sight d scene) low bound s t le rs behind regs m b d d.init local.0.0 f.0 q.0.init l.0 (omega (arith, more, room, longer (rs ++ here) rest))))
       (λ to after u o same la be.
       initials_follow ds (with_object sight d) (scene_with w n sight d scene) local.1 f.1 q.1 l.1 (rs ++ here) (omega (arith, behind, longer rs here)) (omega (arith, more, room)) after to u (omega (arith, le, la.spent))
       (standing_later w h low bound regs after s to o same la m) be))

@@ -1,5 +1,5 @@
 -- Declarations whose numbers are offsets of the text, and none of the library.
-use Rattle.std.proofs.Common.{◌≡◌, ◌≤◌, ℕ, suc, false, nat_eq, List, [], ◌∷◌, ◌++◌, map, length, arith}
+use Rattle.std.proofs.Common.{◌≡◌, ◌≤◌, ℕ, suc, true, false, nat_eq, List, [], ◌∷◌, ◌++◌, map, length, arith}
 use Rattle.std.proofs.lemmas.Bool.Decides.{nat_tests}
 use Rattle.c_syntax.specs.Statements.{Declaration, Statement, Empty, Eval, Block, If, While, Do, For, Break, Continue, Return, ElsePart, NoElse, Else, ForFirst, NoFirst, First}
 use Rattle.c_syntax.specs.Statements.{BlockItem, Declare, Specify, Run, Asserts, BlockItems, NoItem, Then}
@@ -7,6 +7,8 @@ use Rattle.c_model.specs.Formed.{number_of, declared_within, declared_in_else, d
 use Rattle.c_model.specs.Meaning.{declared_first}
 use Rattle.c_model.specs.TextOrder.{Between}
 use Rattle.c_syntax.specs.Programs.{TranslationUnit}
+use Rattle.c_syntax.specs.Layouts.{size_of}
+use Rattle.c_effects.specs.Effects.{may_be_born}
 use Rattle.c_effects.specs.Expressions.{global_index}
 
 abbrev pub AreOwn : List Declaration → Type 0
@@ -37,6 +39,23 @@ IsLocal p d = length p.globals ≤ global_index (number_of d) p.globals
 abbrev pub AreLocal : TranslationUnit → List Declaration → Type 0
 AreLocal p [] = Unit {0}
 AreLocal p (d ∷ ds) = IsLocal p d × AreLocal p ds
+
+-- for whose block some stack may have room
+abbrev pub CanBeBorn : TranslationUnit → Declaration → Type 0
+CanBeBorn p d = may_be_born (size_of p.structs d.ctype) ≡ true
+
+abbrev pub AllCanBeBorn : TranslationUnit → List Declaration → Type 0
+AllCanBeBorn p [] = Unit {0}
+AllCanBeBorn p (d ∷ ds) = CanBeBorn p d × AllCanBeBorn p ds
+
+-- variables of functions that were born
+abbrev pub AreThere : TranslationUnit → List Declaration → Type 0
+AreThere p [] = Unit {0}
+AreThere p (d ∷ ds) = (IsLocal p d × CanBeBorn p d) × AreThere p ds
+
+pub are_there : (p : TranslationUnit) (ds : List Declaration) → AreLocal p ds → AllCanBeBorn p ds → AreThere p ds
+are_there p [] local born = tt
+are_there p (d ∷ ds) local born = ((local.0, born.0), are_there p ds local.1 born.1)
 
 -- ---- declarations in statements
 

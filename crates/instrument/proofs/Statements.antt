@@ -60,16 +60,16 @@ use Rattle.instrument.proofs.Sight.{scope_for, sees_found, sees_born, declared_b
 use Rattle.instrument.proofs.Effects.{effect_follows}
 use Rattle.instrument.proofs.Asserts.{assertions_follow}
 use Rattle.instrument.proofs.FullExpressions.{follows_full}
-use Rattle.instrument.proofs.Own.{AreLocal}
+use Rattle.instrument.proofs.Own.{AllCanBeBorn, AreThere, are_there}
 use Rattle.instrument.proofs.FullForms.{effect_or_call}
 
-local_front : (p : TranslationUnit) (a b : List Declaration) → AreLocal p (a ++ b) → AreLocal p a
-local_front p [] b h = tt
-local_front p (d ∷ a) b h = (h.0, local_front p a b h.1)
+there_front : (p : TranslationUnit) (a b : List Declaration) → AreThere p (a ++ b) → AreThere p a
+there_front p [] b h = tt
+there_front p (d ∷ a) b h = (h.0, there_front p a b h.1)
 
-local_back : (p : TranslationUnit) (a b : List Declaration) → AreLocal p (a ++ b) → AreLocal p b
-local_back p [] b h = h
-local_back p (d ∷ a) b h = local_back p a b h.1
+there_back : (p : TranslationUnit) (a b : List Declaration) → AreThere p (a ++ b) → AreThere p b
+there_back p [] b h = h
+there_back p (d ∷ a) b h = there_back p a b h.1
 
 -- ---- jumps: the blocks of the variables that are left die in front
 
@@ -245,11 +245,11 @@ module _ (w : Setting) (n : ℕ) where
 
   -- variables are born, and live while this is done
   pub block_does : (h : Here) (spot : Spot) (low : ℕ) (r : RegisterTable) (living : List ℕ) (ds : List Declaration) (x : Evaluation (Unit {0})) (a : MonStatements) → low ≤ next_register r → next_register r + length ds ≤ w.registers
-      → AreBorn w.unit ds → ((old : State) → DoSame (behind_births w.unit.structs h old ds) (with_variables (next_register r) ds spot) (next_register r + length ds) (entered ds r).bound (with_numbers ds living) x a)
+      → AreBorn w.unit ds → ((old : State) → AllCanBeBorn w.unit ds → DoSame (behind_births w.unit.structs h old ds) (with_variables (next_register r) ds spot) (next_register r + length ds) (entered ds r).bound (with_numbers ds living) x a)
       → DoSame h spot low r.bound living (within (births w.unit.structs ds >> x)) (target.alive w.unit (next_register r) ds a)
   block_does h spot low r living ds x a le room born f = λ regs from t m ln.
       block_follows w h spot low r living ds le regs from t m born.own n x a room (births_enter w.unit.structs (next_register r) ds born.small) (deaths_end (with_born (next_register r) ds []))
-      (λ after to u less m2. f from after to u m2 (omega (arith, ln, less)))
+      (λ room after to u less m2. f from room after to u m2 (omega (arith, ln, less)))
 
   -- ---- the loop of a `for`
 
@@ -291,7 +291,7 @@ module _ (w : Setting) (n : ℕ) where
       n regs from t (loops.meets_turn w h base spot low r.bound living n regs from t refl m) le le)
 
   -- what stands first, and then the loop
-  first_then : (first : ForFirst) → AreLocal w.unit (declared_first first)
+  first_then : (first : ForFirst) → AreThere w.unit (declared_first first)
       → (h : Here) (spot : Spot) (low : ℕ) (living : List ℕ) (s : Sight) (g : Scene w n s) (around : Around) (r : RegisterTable) (x : Evaluation (Unit {0})) (code : MonStatements) → FirstPlaced first
       → FirstTyped s around first → FirstHasNumbers first → low ≤ next_register r → next_register (after_first w.unit first r) ≤ w.registers → DoSame h spot low (after_first w.unit first r).bound living x code
       → DoSame h spot low r.bound living (first_with T first w.call (suc n) >> x) (before (first_part w.unit spot r first) code)
@@ -329,8 +329,8 @@ module _ (w : Setting) (n : ℕ) where
       subst (λ x. Follows w h low regs Next from (restored from x) (runs w n t (target.alive w.unit (next_register r) ds (before (first_part w.unit spot2 r1 first) code)) regs))
       (handed_on (births w.unit.structs ds from) (λ _. first_with T first w.call (suc n)) (λ _. turns_of))
       (block_does h spot low r living ds (first_with T first w.call (suc n) >> turns_of) (before (first_part w.unit spot2 r1 first) code) behind (omega (arith, enough, f0, f1, f2, f3, f4)) born
-      (λ old. first_then first born.local (behind_births w.unit.structs h old ds) spot2 low2 (with_numbers ds living) (inner s) (scene_inner w n s g) around r1 turns_of code f_formed f_typed f_letters (omega (arith, f0))
-      (omega (arith, enough, f2, f3, f4))
+      (λ old room. first_then first (are_there w.unit ds born.local room) (behind_births w.unit.structs h old ds) spot2 low2 (with_numbers ds living) (inner s) (scene_inner w n s g) around r1 turns_of code f_formed f_typed f_letters
+      (omega (arith, f0)) (omega (arith, enough, f2, f3, f4))
       (for_does (behind_births w.unit.structs h old ds) spot2 low2 (with_numbers ds living) (behind_first (inner s) first) (scene_behind_first w n (inner s) first (scene_inner w n s g)) r2 e step a
       e_full e_typed e_letters step_full step_typed step_letters absent (omega (arith, f0, f1)) enough (body old)))
       regs from t m le)
@@ -362,8 +362,8 @@ module _ (w : Setting) (n : ℕ) where
         let f0 = next-entered ds r in
         let f1 = items_grow w.unit body (entered ds r) in
         block_does h spot low r living ds (items_with T body w.call (suc n)) (items w.unit (with_variables (next_register r) ds spot) (entered ds r) body) behind (omega (arith, enough, f0, f1)) c.0
-        (λ old. items_follow body (inner s) around (behind_births w.unit.structs h old ds) (with_variables (next_register r) ds spot) (next_register r + length ds) (entered ds r) (with_numbers ds living)
-        stands (scene_inner w n s g) (sees_born s.entities ds living sees) (declared_born ds living) c.0.local result looped
+        (λ old room. items_follow body (inner s) around (behind_births w.unit.structs h old ds) (with_variables (next_register r) ds spot) (next_register r + length ds) (entered ds r) (with_numbers ds living)
+        stands (scene_inner w n s g) (sees_born s.entities ds living sees) (declared_born ds living) (are_there w.unit ds c.0.local room) result looped
         c.1 f q m l (omega (arith, f0)) enough)
     statement_follows (If at e a b) s around h spot low r living stands g sees result looped c f q m l behind enough =
         let r1 = with_kinds (temporaries e) r in
@@ -429,7 +429,7 @@ module _ (w : Setting) (n : ℕ) where
     else_follows (Else a) s around h spot low r living stands g sees result looped c f q m l behind enough = statement_follows a s around h spot low r living stands g sees result looped c f q m l behind enough
 
     pub items_follow : (is : BlockItems) (s : Sight) (around : Around) (h : Here) (spot : Spot) (low : ℕ) (r : RegisterTable) (living : List ℕ) → spot.loops ≡ h.loops → Scene w n s → AreFound s.entities (scope_for living)
-        → DeclarationsFound (declared_in is) (scope_for living) → AreLocal w.unit (declared_in is) → around.result ≡ h.result → (around.loops ≡ h.looped) × (around.breaks ≡ h.looped)
+        → DeclarationsFound (declared_in is) (scope_for living) → AreThere w.unit (declared_in is) → around.result ≡ h.result → (around.loops ≡ h.looped) × (around.breaks ≡ h.looped)
         → ItemsCanDeclare w.unit living is → ItemsPlaced AreRangedAsserts is → ItemsTyped s around is → ItemsNoted s is → HaveNumbers is → low ≤ next_register r → next_register (after_items w.unit is r) ≤ w.registers
         → DoSame h spot low r.bound living (items_with T is w.call (suc n)) (items w.unit spot r is)
     items_follow NoItem s around h spot low r living stands g sees have local result looped c f q m l behind enough = nothing_does h spot low r.bound living
@@ -438,9 +438,9 @@ module _ (w : Setting) (n : ℕ) where
         let f1 = more_kinds (declaration_temporaries ds) r in
         let f2 = items_grow w.unit rest r1 in
         in_order_same h spot low r.bound living (initialise_all T ds w.call) (items_with T rest w.call (suc n)) (effects.initialise_all w.unit r.bound r.kinds ds) (items w.unit spot r1 rest)
-        (λ regs from t x le. initials_follow w n h low r.bound ds s g (local_front w.unit ds (declared_in rest) local) f.0 q.0 l.0 r.kinds behind (omega (arith, enough, f2)) regs from t le x.standing x.beside)
+        (λ regs from t x le. initials_follow w n h low r.bound ds s g (there_front w.unit ds (declared_in rest) local) f.0 q.0 l.0 r.kinds behind (omega (arith, enough, f2)) regs from t le x.standing x.beside)
         (items_follow rest (with_objects s ds) around h spot low r1 living stands (scene_with_all w n s ds g) (found_with_all s ds (scope_for living) sees (declarations_found-append ds (declared_in rest) (scope_for living) have).0)
-        (declarations_found-append ds (declared_in rest) (scope_for living) have).1 (local_back w.unit ds (declared_in rest) local) result looped c.1 f.1 q.1 m.1 l.1 (omega (arith, behind, f1)) enough)
+        (declarations_found-append ds (declared_in rest) (scope_for living) have).1 (there_back w.unit ds (declared_in rest) local) result looped c.1 f.1 q.1 m.1 l.1 (omega (arith, behind, f1)) enough)
     items_follow (Then (Specify at t) rest) s around h spot low r living stands g sees have local result looped c f q m l behind enough =
         items_follow rest s around h spot low r living stands g sees have local result looped c.1 f.1 q.1 m.1 l.1 behind enough
     items_follow (Then (Run a) rest) s around h spot low r living stands g sees have local result looped c f q m l behind enough =

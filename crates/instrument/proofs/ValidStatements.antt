@@ -1,12 +1,13 @@
 -- Translated statements are valid: their labels, their loops, and the types of what stands in them.
 use Rattle.instrument.proofs.Own.{AreOwn, ElseOwn, ItemsOwn, StatementOwn}
-use Rattle.std.proofs.Common.{◌≡◌, ℕ, zero, suc, ◌+◌, ◌<◌, ◌≤◌, Bool, true, false, ◌||◌, List, [], ◌∷◌, ◌++◌, length, Option, Some, None, slice_get, refl, sym, ap, ◌∙◌, subst, arith}
+use Rattle.std.proofs.Common.{◌≡◌, ℕ, zero, suc, ◌+◌, ◌<◌, ◌≤◌, Bool, true, false, if◌then◌else◌, ◌||◌, List, [], ◌∷◌, ◌++◌, length, Option, Some, None, slice_get, refl, sym, ap, ◌∙◌, subst, arith}
 use Rattle.std.proofs.Math.Nat.{le-max_left, le-max_right}
 use Rattle.std.specs.Prelude.{bytes_eq}
 use Rattle.c_syntax.specs.Ctypes.{PlainType}
 use Rattle.c_syntax.specs.Expressions.{Expression, type_of}
 use Rattle.c_syntax.specs.Statements.{Declaration, Statement, Empty, Eval, Block, If, While, Do, For, Break, Continue, Return, ElsePart, NoElse, Else, ForFirst, NoFirst, First, Declare, Specify, Run, Asserts, BlockItems, NoItem, Then}
 use Rattle.c_syntax.specs.Programs.{TranslationUnit}
+use Rattle.c_syntax.specs.Layouts.{size_of}
 use Rattle.c_model.specs.Formed as form
 use Rattle.c_model.specs.Formed.{number_of}
 use Rattle.c_model.specs.Meaning.{declared_in, declared_first}
@@ -24,7 +25,8 @@ use Rattle.c_effects.specs.Letters.{Any, HasLetters, FullHasLetters, EffectHasLe
 use Rattle.instrument.specs.Limits.{HasNumbers, ElseHasNumbers, FirstHasNumbers, HaveNumbers}
 use Rattle.c_effects.specs.Expressions.{value_type, before, one, set, setup, temporaries, condition_of}
 use Rattle.annot_code.specs.Code.{assertions}
-use Rattle.c_effects.specs.Effects.{block_of, any_temporaries, full_temporaries, effect_temporaries, initial_temporaries, declaration_temporaries, full_setup, full_value, effect, effect_if_any, initialise, initialise_all}
+use Rattle.c_effects.specs.Effects.{block_of, any_temporaries, full_temporaries, effect_temporaries, initial_temporaries, declaration_temporaries, full_setup, full_value, effect, effect_if_any}
+use Rattle.c_effects.specs.Effects.{initialise, initialise_all, initialise_local, may_be_born}
 use Rattle.instrument.specs.Translation.{Spot, leave_where_zero, test, test_if_any, returned_temporaries, returned, loop, end_label, next_label, with_variables, after_statement, after_else, after_first, after_item, after_items, statement}
 use Rattle.instrument.specs.Translation.{else_part, first_part, items, result_of}
 use Rattle.instrument.specs.Translation as target
@@ -138,16 +140,21 @@ module _ (p : TranslationUnit) (gs : List Signature) (ts : Types) (result : Plai
   declared_small s [] e q = tt
   declared_small s (d ∷ ds) e q = (known_small p.structs s d.ctype e q.0.size, declared_small (with_object s d) ds e q.1)
 
+  where_born : (ls : Labels) (t : Bool) (a : MonStatements) → Are ls a → Are ls (if t then a else NoStatement)
+  where_born ls true a h = h
+  where_born ls false a h = tt
+
   initials_valid : (ds : List Declaration) (s : Sight) (bound : Bindings) (v : Sees p ts bound functions s) (ls : Labels) (rs : Types) → HavePointers ts bound ds → AreOwn ds → AreInitialised p.structs ds → AreDeclared s ds → InitialsHaveLetters ds
       → Begins (rs ++ declaration_temporaries ds) ts → Are ls (initialise_all p bound rs ds)
   initials_valid [] s bound v ls rs h own f q l b = tt
   initials_valid (d ∷ ds) s bound v ls rs h own f q l b =
       let here = initial_temporaries d.init in
       let w = sees_one p ts functions bound s d own.0 h.0 v in
-      and_then ls (initialise p bound rs (block_of bound (number_of d)) d.ctype d.init) (initialise_all p bound (rs ++ here) ds)
+      and_then ls (initialise_local p bound rs d) (initialise_all p bound (rs ++ here) ds)
+      (where_born ls (may_be_born (size_of p.structs d.ctype)) (initialise p bound rs (block_of bound (number_of d)) d.ctype d.init)
       (initialise_valid p gs ts (result_of result) bound (with_object s d) w.knows (calls (with_object s d) w.names_are w.functions_are) ls fits texts rs
       (block_of bound (number_of d)) d.ctype d.init
-      (block_points ts bound (number_of d) h.0) (declared_small s (d ∷ ds) v.knows.structs_are q).0 q.0.init f.0 (initial_letters d.init l.0) (begins_left rs here (declaration_temporaries ds) ts b))
+      (block_points ts bound (number_of d) h.0) (declared_small s (d ∷ ds) v.knows.structs_are q).0 q.0.init f.0 (initial_letters d.init l.0) (begins_left rs here (declaration_temporaries ds) ts b)))
       (initials_valid ds (with_object s d) bound w ls (rs ++ here) h.1 own.1 f.1 q.1 l.1 (begins_right rs here (declaration_temporaries ds) ts b))
 
   -- ---- loops

@@ -1,11 +1,9 @@
-use Rattle.std.proofs.Common.{◌+◌, drop, map, refl, ap, subst, sym, ◌∙◌}
+use Rattle.std.proofs.Common.{◌+◌, drop, map, refl, ap, subst, sym}
 use Rattle.c_syntax.specs.Statements.{plain_decl}
-use Rattle.c_model.specs.Formed.{number_of}
 use Rattle.mon_syntax.specs.Trees.{plain_stmts}
 use Rattle.c_effects.specs.Letters.{InitialsHaveLetters}
-use Rattle.c_effects.specs.Effects.{block_of, declaration_temporaries, initial_temporaries}
-use Rattle.c_effects.specs.Expressions.{before}
-use Rattle.c_effects.specs.Named.{initialise_all_by, initialise_by, with_registers}
+use Rattle.c_effects.specs.Effects.{declaration_temporaries, initial_temporaries}
+use Rattle.c_effects.specs.Named.{initialise_all_by, initialise_local_by, with_registers}
 use Rattle.c_effects.proofs.Sequences.{left_at, none_left, all_there, more_behind, registers_complete, registers_grown}
 use Rattle.c_effects.proofs.initialiser.initialise_all.Goals as goal
 
@@ -28,8 +26,8 @@ decls-preserved c =
     let rest = map plain_decl (drop (c.decls.d-index + 1) c.args.decls.now) in
     let left = left_at (map plain_decl) c.args.decls.now c.decls.d-index _ _ c.decls-test.true c.d-item.is refl in
     record {
-      code = more_behind t (initialise_by n (block_of n.table.bound (number_of d)) d.ctype d.init) (with_registers (initial_temporaries d.init) n) (λ m. initialise_all_by m rest)
-          (ap (initialise_all_by n) left) (c.in_ok-initialise.ensures.code ∙ ap (λ r. before t (initialise_by n r d.ctype d.init)) c.block_of-block.ensures) c.in_ok-initialise.ensures.names c.decls.invariant.code;
-      names = registers_grown n (initial_temporaries d.init) (declaration_temporaries rest) (ap declaration_temporaries left) c.in_ok-initialise.ensures.names c.decls.invariant.names;
-      letters = λ rest. c.decls.invariant.letters (subst InitialsHaveLetters (sym left) (c.in_ok-initialise.ensures.letters, rest));
+      code = more_behind t (initialise_local_by n d) (with_registers (initial_temporaries d.init) n) (λ m. initialise_all_by m rest)
+          (ap (initialise_all_by n) left) c.in_ok-initialise_local.ensures.code c.in_ok-initialise_local.ensures.names c.decls.invariant.code;
+      names = registers_grown n (initial_temporaries d.init) (declaration_temporaries rest) (ap declaration_temporaries left) c.in_ok-initialise_local.ensures.names c.decls.invariant.names;
+      letters = λ rest. c.decls.invariant.letters (subst InitialsHaveLetters (sym left) (c.in_ok-initialise_local.ensures.letters, rest));
     }
