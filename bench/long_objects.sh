@@ -15,30 +15,27 @@ trap 'rm -rf "$scratch"' EXIT
 # builds the proved program where that is due, so that no figure is of an unproved one but where it is asked for
 (($# > 0)) || "$top/eacsl" --build >&2
 
-python3 - "$program" "$scratch" <<'P'
-import os, subprocess, sys, time
+python3 - "$program" "$scratch" "$top/bench/measure.py" <<'P'
+import os, subprocess, sys
 
-program, scratch = sys.argv[1:]
+program, scratch, measure = sys.argv[1:]
 RUNS = 3
 path = os.path.join(scratch, "text.c")
 peak = os.path.join(scratch, "peak")
 
 
 def peak_of(command):
-    """The peak memory of a command on the text in KiB, and the bytes that it writes. A process of Python's own would begin with Python's memory."""
-    run = subprocess.run(["/usr/bin/time", "-q", "-f", "%M", "-o", peak, program, command, path], stdin=subprocess.DEVNULL, stdout=subprocess.PIPE, stderr=subprocess.DEVNULL)
+    """The peak memory of a command on the text in KiB, the bytes that it writes, and the line that it ends in. A process of Python's own would begin with
+    Python's memory."""
+    run = subprocess.run(["/usr/bin/time", "-q", "-f", "%M", "-o", peak, program, command, path], stdin=subprocess.DEVNULL, capture_output=True)
     with open(peak) as file:
-        return int(file.read()), len(run.stdout)
+        return int(file.read()), len(run.stdout), run.stderr.decode().strip()
 
 
 def time_of():
-    """The least time of a run in seconds, and the line that it ends in."""
-    best = float("inf")
-    for _ in range(RUNS):
-        begun = time.perf_counter()
-        run = subprocess.run([program, "run", path], stdin=subprocess.DEVNULL, stdout=subprocess.DEVNULL, stderr=subprocess.PIPE)
-        best = min(best, time.perf_counter() - begun)
-    return best, run.stderr.decode().strip()
+    """The least milliseconds of a run by the clock."""
+    run = subprocess.run([sys.executable, measure, str(RUNS), os.devnull, program, "run", path], capture_output=True, text=True)
+    return float(run.stdout.split()[0])
 
 
 def body(declaration, rest=""):
@@ -60,9 +57,8 @@ print(f"{'what':<44} {'ms':>8} {'run (KiB)':>10} {'trees (KiB)':>12} {'bytes an 
 for name, elements, text in TEXTS:
     with open(path, "w") as file:
         file.write(text)
-    seconds, said = time_of()
-    running, _ = peak_of("run")
-    trees, written = peak_of("instrument")
+    running, _, said = peak_of("run")
+    trees, written, _ = peak_of("instrument")
     each = "" if elements is None else f"{(running - trees) * 1024 / elements:.0f}"
-    print(f"{name:<44} {seconds * 1000:>8.1f} {running:>10} {trees:>12} {each:>17} {written:>13}  {said}")
+    print(f"{name:<44} {time_of():>8.1f} {running:>10} {trees:>12} {each:>17} {written:>13}  {said}")
 P
