@@ -11,7 +11,8 @@ use Rattle.mon_syntax.specs.Meaning.{Done, Next}
 use Rattle.mon_syntax.specs.Trees.{MonExpression, Register, Constant, If, MonStatements, NoStatement}
 use Rattle.c_effects.specs.Expressions.{before, one, set}
 use Rattle.annot_code.specs.Code.{Code, conjunction, guarded, two_code, take, take_none, taken, branch, with_value as code_with_value, sure_code}
-use Rattle.annot_code.specs.Does.{Same, Setting, runs}
+use Rattle.annot_code.specs.Does.{Setting, runs}
+use Rattle.c_simulation.specs.SameRegisters.{Same}
 use Rattle.annot_code.proofs.Steps.{same_all, same_less, same_trans, same_set, get-set_same, after_runs, HasNumber, set_first, set_runs, if_true, if_false, operation}
 
 -- ---- answers that may be missing

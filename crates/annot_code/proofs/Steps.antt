@@ -15,7 +15,8 @@ use Rattle.mon_syntax.specs.Meaning as monitored
 use Rattle.mon_syntax.specs.Trees.{MonExpression, Constant, Binary, Cast, Set, If, MonStatements, NoStatement, Then}
 use Rattle.mon_syntax.specs.Checking.{same_type}
 use Rattle.c_effects.specs.Expressions.{before, one, set, in_type}
-use Rattle.annot_code.specs.Does.{Same, Target, Did, Setting, runs}
+use Rattle.annot_code.specs.Does.{Target, Did, Setting, runs}
+use Rattle.c_simulation.specs.SameRegisters.{Same}
 
 -- ---- lists
 

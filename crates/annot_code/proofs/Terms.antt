@@ -37,7 +37,8 @@ use Rattle.term_guards.specs.Guards.{guard}
 use Rattle.annot_code.specs.Code.{Code, with_value as code_with_value, two_code, branch, type_of_width, width_of, type_of, working, is_shift, wider, is_total, binary_value, partial_code, operated}
 use Rattle.annot_code.specs.Code.{unary_value, converted_to, cast_value, is_known, variable_value, variable_code}
 use Rattle.annot_code.specs.Code as code
-use Rattle.annot_code.specs.Does.{Same, Setting, Did, runs, Stands, RangesHold, TermFound}
+use Rattle.annot_code.specs.Does.{Setting, Did, runs, Stands, RangesHold, TermFound}
+use Rattle.c_simulation.specs.SameRegisters.{Same}
 use Rattle.annot_code.proofs.Steps.{same_less, same_trans, same_set, get-set_same, HasNumber, constant_has, cast_has, in_type_has}
 use Rattle.annot_code.proofs.Parts.{after, pair, truths, chosen, Codes, Both, two_runs, changed, sure_codes, partial_runs, branch_runs}
 use Rattle.annot_code.proofs.Exact.{Fits, wrap_in, fits_right, is_number, value_of, total_defined, guard_has, binary_has, unary_has}

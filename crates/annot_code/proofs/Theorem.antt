@@ -28,7 +28,8 @@ use Rattle.annot_code.specs.Code.{Reading}
 use Rattle.annot_code.specs.Code.{Code, with_value as code_with_value, type_of_width, type_of, width_of, wider, relation_value, relation_code, sure_code, connected as connected_code, term_code, chain_code, pred_code, sure_readings}
 use Rattle.annot_code.specs.Code.{sure_readings_of_term, known_at_right}
 use Rattle.annot_code.specs.Code.{working, is_total, binary_value, judged_by, judged_anew, judged_with}
-use Rattle.annot_code.specs.Does.{Same, Setting, runs, Stands, RangesHold, TermFound, LinksFound, PredicateFound, said, is_true, Judges, CodeJudges}
+use Rattle.annot_code.specs.Does.{Setting, runs, Stands, RangesHold, TermFound, LinksFound, PredicateFound, said, is_true, Judges, CodeJudges}
+use Rattle.c_simulation.specs.SameRegisters.{Same}
 use Rattle.annot_code.proofs.Steps.{same_all, same_less, same_trans, same_set, get-set_same, after_runs, HasNumber, constant_has, operation, set_runs, if_true, if_false}
 use Rattle.annot_code.proofs.Parts.{after, truths, chosen, FlagIs, Holds, Codes, Both, both_run, Two, two_runs, changed, sure_codes, branch_runs}
 use Rattle.annot_code.proofs.Exact.{is_number, relation_has}

@@ -1,6 +1,6 @@
 -- What the code of a predicate does, over the blocks of the source's store: its flag register says whether the predicate says something, and its truth
 -- register whether that is true.
-use Rattle.std.specs.Prelude.{◌≡◌, ℕ, ◌<◌, ◌≤◌, ℤ, Bool, false, List, [], length, Option, Some, None, slice_get}
+use Rattle.std.specs.Prelude.{◌≡◌, ℕ, ◌≤◌, ℤ, Bool, false, List, [], length, Option, Some, None, slice_get}
 use Rattle.c_syntax.specs.declared.types.CInt.{CInt}
 use Rattle.c_syntax.specs.Ctypes.{PlainType, Int}
 use Rattle.c_syntax.specs.Logic.{LogicTerm, Links, NoLink, Linked, Predicate, range_of}
@@ -21,12 +21,8 @@ use Rattle.mon_syntax.specs.Meaning as monitored
 use Rattle.mon_syntax.specs.Registers.{Bindings}
 use Rattle.mon_syntax.specs.Trees.{MonStatements}
 use Rattle.c_effects.specs.Expressions.{pointer_to}
+use Rattle.c_simulation.specs.SameRegisters.{Same}
 use Rattle.annot_code.specs.Code.{Judgement, judgement}
-
--- the same registers below n
-pub record Same (n : ℕ) (regs after : List Value) : Type 0 where
-  pub long : length after ≡ length regs
-  pub below : (j : ℕ) → j < n → slice_get after j ≡ slice_get regs j
 
 abbrev pub Target : Type 0
 Target = monitored.State Blocks

@@ -5,6 +5,5 @@ pub mod Trees
 pub mod FullTrees
 pub mod Objects
 pub mod Depths
-pub mod InitialiserTrees
 pub mod ScalarTrees
 pub mod ZeroRuns

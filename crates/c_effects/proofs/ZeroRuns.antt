@@ -1,23 +1,19 @@
 -- Zeros in bytes in a row: each store is as wide as it may be there, and rows go on from part to part.
-use Rattle.std.proofs.Common.{◌≡◌, ℕ, zero, suc, ◌+◌, ◌-◌, ◌%◌, ◌<◌, ◌≤◌, pos, Bool, true, false, if◌then◌else◌, nat_eq, nat_le, List, [], ◌∷◌, ◌++◌, drop, Some, None, refl, sym, ap, ◌∙◌, arith}
+use Rattle.std.proofs.Common.{◌≡◌, ℕ, zero, suc, ◌+◌, ◌-◌, ◌%◌, ◌<◌, ◌≤◌, pos, Bool, true, false, if◌then◌else◌, nat_eq, nat_le, List, [], ◌∷◌, ◌++◌, refl, sym, ap, ◌∙◌, arith}
 use Rattle.std.proofs.lemmas.Bool.{eqb-true, leb-true}
 use Rattle.c_syntax.specs.declared.types.CInt.{CInt}
 use Rattle.c_syntax.specs.declared.types.CInt.TheVariants.{I8, I16, I32, I64}
-use Rattle.c_syntax.specs.Ctypes.{PlainType}
-use Rattle.c_syntax.specs.Programs.{StructType}
-use Rattle.c_syntax.specs.Layouts.{Scalar, int_size, scalar_size, scalars_of}
+use Rattle.c_syntax.specs.Layouts.{Scalar, int_size, scalar_size}
 use Rattle.c_model.proofs.TypedParts.{and_true}
 use Rattle.mon_syntax.specs.declared.tree.MonType.{MonType}
 use Rattle.mon_syntax.specs.Trees.{MonStatements, NoStatement, Constant}
 use Rattle.c_effects.specs.declared.slot.Slot.{Slot}
 use Rattle.c_effects.specs.declared.zeros.Row.{Row}
 use Rattle.c_effects.specs.Expressions.{before, register_type}
-use Rattle.c_effects.specs.Effects.{may_stand, moved, scalars_in, stored_at, widest, zeros_at, zeros_from}
-use Rattle.c_effects.specs.Initialisers.{first_part}
+use Rattle.c_effects.specs.Effects.{may_stand, moved, stored_at, widest, zeros_at, zeros_from}
 use Rattle.c_effects.specs.Scalars.{row_after, rows_stored}
 use Rattle.c_effects.specs.Zeros.{goes_on}
 use Rattle.c_effects.proofs.Sequences.{before_assoc, more}
-use Rattle.c_effects.proofs.InitialiserTrees.{no_part, parts_more}
 
 -- ---- one store
 
@@ -95,7 +91,7 @@ no_zero r k d (suc n) le = absurd (omega (arith, le))
 -- ---- rows
 
 -- zeros in the scalars of one part, and in those after it
-rows_more : (s : Slot) (row : Row) (xs ys : List (ℕ × Scalar)) → zeros_at s.object s.pointer row.start row.count (moved s.offset xs ++ ys)
+pub rows_more : (s : Slot) (row : Row) (xs ys : List (ℕ × Scalar)) → zeros_at s.object s.pointer row.start row.count (moved s.offset xs ++ ys)
     ≡ before (rows_stored s row xs) (zeros_at s.object s.pointer (row_after s row xs).start (row_after s row xs).count ys)
 rows_more s row [] ys = refl
 rows_more s row (x ∷ xs) ys = by (rows_more s longer xs ys) (rows_more s other xs ys) (goes_on row d)
@@ -125,17 +121,3 @@ rows_more s row (x ∷ xs) ys = by (rows_more s longer xs ys) (rows_more s other
         ≡ before (before (if on then NoStatement else stored) (rows_stored s (if on then longer else other) xs)) (behind (if on then longer else other))
     by on_it begun true = on_it
     by on_it begun false = ap (before stored) begun ∙ sym (before_assoc stored (rows_stored s other xs) (behind other))
-
--- a turn of the loop over parts
-pub parts_turn : {all : MonStatements} (structs : List StructType) (s : Slot) (d : ℕ) (row row1 : Row) (cs cs1 : List (ℕ × PlainType)) (c : ℕ × PlainType) (t0 t1 : MonStatements) → Some c ≡ first_part cs → s.offset ≡ d + c.0
-    → row1 ≡ row_after s row (scalars_of structs c.1) → t1 ≡ before t0 (rows_stored s row (scalars_of structs c.1)) → cs1 ≡ drop 1 cs
-    → before t0 (zeros_at s.object s.pointer row.start row.count (scalars_in structs d cs)) ≡ all → before t1 (zeros_at s.object s.pointer row1.start row1.count (scalars_in structs d cs1)) ≡ all
-parts_turn structs s d row row1 cs cs1 c t0 t1 is there row_is put rest kept =
-    let xs = scalars_of structs c.1 in
-    let ys = scalars_in structs d (drop 1 cs) in
-    (λ i. before t1 (zeros_at s.object s.pointer (row_is i).start (row_is i).count (scalars_in structs d (rest i))))
-    ∙ more t0 (rows_stored s row xs) (zeros_at s.object s.pointer (row_after s row xs).start (row_after s row xs).count ys)
-    (ap (zeros_at s.object s.pointer row.start row.count) (parts_more structs d cs c is ∙ ap (λ e. moved e xs ++ ys) (sym there)) ∙ rows_more s row xs ys) put kept
-
-pub no_parts : (structs : List StructType) (r k d start count : ℕ) (cs : List (ℕ × PlainType)) → None ≡ first_part cs → zeros_at r k start count (scalars_in structs d cs) ≡ zeros_from r k start 0 count
-no_parts structs r k d start count cs none = ap (zeros_at r k start count) (no_part structs d cs none)

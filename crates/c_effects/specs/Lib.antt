@@ -4,6 +4,6 @@ pub mod Letters
 pub mod Parts
 pub mod Named
 pub mod Objects
-pub mod Initialisers
+pub mod Slots
 pub mod Zeros
 pub mod Scalars

@@ -12,12 +12,7 @@ pub mod operator;
 pub mod part;
 pub mod scalars;
 pub mod slot;
-pub mod text;
 pub mod zeros;
-
-// initialisers
-pub mod aggregate;
-pub mod initialiser;
 
 // expressions and effects
 pub mod call;

@@ -3,7 +3,7 @@
 ghost use Rattle.std.specs.Prelude.{◌≡◌, ◌+◌, IfOk, OnOk, pos};
 ghost use Rattle.mon_syntax.specs.Trees.{Constant, plain_expr, plain_stmts};
 ghost use Rattle.c_effects.specs.Expressions.{before};
-ghost use Rattle.c_effects.specs.Initialisers.{stored_in};
+ghost use Rattle.c_effects.specs.Slots.{stored_in};
 
 use crate::operator::{constant, farther, register};
 use crate::part::then;

@@ -18,14 +18,14 @@ use Rattle.mon_syntax.specs.Trees.{MonStatements, NoStatement}
 use Rattle.c_effects.specs.Letters.{HasLetters}
 use Rattle.c_effects.specs.Expressions.{temporaries, before, set, setup}
 use Rattle.c_effects.specs.Effects.{is_direct, variable_register, block_of, target_temporaries, target, target_setup, base}
-use Rattle.annot_code.specs.Does.{Same}
-use Rattle.instrument.proofs.Standing.{Setting, Target, runs, Here, Standing, Beside}
-use Rattle.instrument.proofs.Registers.{same_all, same_trans, same_set, get-set_same, longer}
-use Rattle.instrument.proofs.Anchors.{block_has, block_below}
-use Rattle.instrument.proofs.Evaluating.{behind_setup, set_runs}
+use Rattle.c_simulation.specs.SameRegisters.{Same}
+use Rattle.c_simulation.specs.Standing.{Setting, Target, runs, Here, Standing, Beside}
+use Rattle.c_simulation.proofs.Registers.{same_all, same_trans, same_set, get-set_same, longer}
+use Rattle.c_simulation.proofs.Anchors.{block_has, block_below}
+use Rattle.c_simulation.proofs.Evaluating.{behind_setup, set_runs}
 use Rattle.instrument.proofs.Scenes.{Scene}
-use Rattle.instrument.proofs.Stores.{reached_from}
-use Rattle.instrument.proofs.Bases.{Based, HasBase, HasNoBase, bases}
+use Rattle.c_simulation.proofs.Stores.{reached_from}
+use Rattle.c_simulation.proofs.Bases.{Based, HasBase, HasNoBase, bases}
 
 -- where an object stands, after registers of these types
 module _ (w : Setting) (n : ℕ) (h : Here) (sight : Sight) (scene : Scene w n sight) (low : ℕ) (bound : Bindings) (s : State) (t : Target) (rs : List MonType) (behind : low ≤ length rs) (regs : List Value)

@@ -25,17 +25,19 @@ use Rattle.mon_syntax.specs.Trees.{MonExpression, Register, Assert}
 use Rattle.c_effects.specs.Expressions.{one}
 use Rattle.annot_code.specs.Code.{Judgement, judgement, clause_judgement, asserted, assertion, behind_assertion, assertions, behind_assertions}
 use Rattle.annot_code.specs.Does as code
-use Rattle.annot_code.specs.Does.{Stands, Judges, said, is_true, Same}
+use Rattle.annot_code.specs.Does.{Stands, Judges, said, is_true}
+use Rattle.c_simulation.specs.SameRegisters.{Same}
 use Rattle.annot_code.proofs.Asserted.{assertion_grows, behind_grows}
 use Rattle.annot_code.proofs.Theorem.{code_judges}
 use Rattle.instrument.proofs.RangedTrees.{AreRangedAsserts}
-use Rattle.instrument.proofs.Results.{one_is, before_is}
-use Rattle.instrument.proofs.Standing.{Setting, Target, Did, runs, Bounded, Anchored, Here, Standing, Beside}
-use Rattle.instrument.proofs.Registers.{same_less}
-use Rattle.instrument.proofs.Following.{later_same, Follows, IsOver, stays, onward, follows_then, standing_later}
-use Rattle.instrument.proofs.Values.{HasNumber}
-use Rattle.instrument.proofs.Anchors.{pointer_has}
-use Rattle.instrument.proofs.Evaluating.{behind_setup}
+use Rattle.c_simulation.proofs.Results.{one_is, before_is}
+use Rattle.c_simulation.specs.Standing.{Setting, Target, Did, runs, Bounded, Anchored, Here, Standing, Beside}
+use Rattle.c_simulation.proofs.Registers.{same_less}
+use Rattle.c_simulation.proofs.Following.{later_same, stays, onward, follows_then, standing_later}
+use Rattle.c_simulation.specs.Following.{Follows, IsOver}
+use Rattle.c_simulation.proofs.Values.{HasNumber}
+use Rattle.c_simulation.proofs.Anchors.{pointer_has}
+use Rattle.c_simulation.proofs.Evaluating.{behind_setup}
 use Rattle.instrument.proofs.Scenes.{AreFound}
 use Rattle.instrument.proofs.Terms.{ranges_hold, predicate_found}
 

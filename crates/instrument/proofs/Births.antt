@@ -18,13 +18,13 @@ use Rattle.mon_syntax.specs.LiveBlocks.{LiveBlock, live_in}
 use Rattle.mon_syntax.proofs.FlatBlocks.{live-born}
 use Rattle.track_scopes.specs.Blocks.{with_pointer, entered, with_born}
 use Rattle.track_scopes.specs.Lives.{AreFrom, Point, PointInOrder, PointToBorn, with_variables}
-use Rattle.instrument.proofs.Standing.{Setting, Bounded, Here, Standing, IsAnchored, InRegister, AtGlobal, IsInSight, Anchored}
-use Rattle.instrument.proofs.Following.{anchored_same}
-use Rattle.instrument.proofs.Bounds.{bounded_append, replicated_bytes}
+use Rattle.c_simulation.specs.Standing.{Setting, Bounded, Here, Standing, IsAnchored, InRegister, AtGlobal, IsInSight, Anchored}
+use Rattle.c_simulation.proofs.Following.{anchored_same}
+use Rattle.c_simulation.proofs.Bounds.{bounded_append, replicated_bytes}
 use Rattle.instrument.proofs.Own.{AreOwn, AllCanBeBorn}
 use Rattle.mon_syntax.specs.declared.tree.MonType.TheVariants.{Ptr}
-use Rattle.annot_code.specs.Does.{Same}
-use Rattle.instrument.proofs.Registers.{register_of-bound_same, register_of-bound_other}
+use Rattle.c_simulation.specs.SameRegisters.{Same}
+use Rattle.c_simulation.proofs.Registers.{register_of-bound_same, register_of-bound_other}
 
 -- ---- names in sight
 

@@ -16,15 +16,18 @@ use Rattle.track_scopes.specs.Blocks as target
 use Rattle.track_scopes.specs.Blocks.{entered, deaths, with_born}
 use Rattle.track_scopes.specs.Lives as lives
 use Rattle.track_scopes.specs.Lives.{AreFrom, with_store, PointToBorn, Births, AllAre, OneIsFull, Enters}
-use Rattle.instrument.specs.Translation.{Spot, alive, end_label, next_label}
+use Rattle.instrument.specs.Translation.{Spot, alive}
+use Rattle.c_simulation.specs.Labels.{end_label, next_label}
 use Rattle.instrument.specs.Translation as translation
-use Rattle.annot_code.specs.Does.{Same}
-use Rattle.instrument.proofs.Standing.{Target, Did, Setting, runs, Here, Standing, Beside}
-use Rattle.instrument.proofs.Results.{written, writes_none, written_then, before_is}
-use Rattle.instrument.proofs.Registers.{same_trans}
+use Rattle.c_simulation.specs.SameRegisters.{Same}
+use Rattle.c_simulation.specs.Standing.{Target, Did, Setting, runs, Here, Standing, Beside}
+use Rattle.c_simulation.proofs.Results.{writes_none, written_then, before_is}
+use Rattle.c_simulation.specs.Following.{written}
+use Rattle.c_simulation.proofs.Registers.{same_trans}
 use Rattle.instrument.proofs.Lives.{length-killed}
 use Rattle.instrument.proofs.Deaths.{kill_more, bounded_killed, all_before, live_killed}
-use Rattle.instrument.proofs.Following.{Later, Follows, GoesOn, Breaks, Continues, IsLeft, IsOver, IsUndefined, standing_later}
+use Rattle.c_simulation.proofs.Following.{standing_later}
+use Rattle.c_simulation.specs.Following.{Later, Follows, GoesOn, Breaks, Continues, IsLeft, IsOver, IsUndefined}
 use Rattle.instrument.proofs.Births.{can_be_born, names_of, names_of-born, with_numbers, with_blocks, Pointed, pointed_point, pointed_same, pointed_born, besides, long_with, behind_births, new_same, new_live, are_new, standing_born}
 use Rattle.instrument.proofs.Own.{AreOwn, AllCanBeBorn}
 

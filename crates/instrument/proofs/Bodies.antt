@@ -33,12 +33,12 @@ use Rattle.mon_syntax.specs.LiveBlocks.{LiveBlock}
 use Rattle.instrument.specs.Limits.{HaveNumbers, BodyHasNumbers}
 use Rattle.track_scopes.specs.Blocks.{entered, with_born}
 use Rattle.instrument.specs.Translation.{with_variables, value_types, registers_of_body, after_body, after_items, arguments_from, registers_from, items, body_part}
-use Rattle.instrument.proofs.Standing.{Target, Setting, AreOctets, Knows, runs}
-use Rattle.instrument.proofs.Following.{Follows}
+use Rattle.c_simulation.specs.Standing.{Target, Setting, AreOctets, Knows, runs}
+use Rattle.c_simulation.specs.Following.{Follows}
 use Rattle.instrument.proofs.Births.{with_numbers, behind_births}
 use Rattle.instrument.proofs.Declared.{AreBorn, ItemsCanDeclare, items_grow, statement_grows}
 use Rattle.instrument.proofs.Numbers.{numbers_in, parted_in, AllOutside, all_narrower, in_bounds, born_outside, body_can_declare, are_free, all_free, known_small}
-use Rattle.instrument.proofs.Calls.{IsCalled}
+use Rattle.c_simulation.proofs.Calls.{IsCalled}
 use Rattle.instrument.proofs.Scenes.{Scene, scene_parameters, found_parameters}
 use Rattle.instrument.proofs.Sight.{scope_for, sees_born, declared_born}
 use Rattle.instrument.proofs.Statements.{block_does, items_follow}

@@ -29,10 +29,10 @@ use Rattle.c_effects.specs.Expressions.{one}
 use Rattle.instrument.specs.Translation.{function_of, functions_from, front_temporaries, index_of_main}
 use Rattle.c_effects.specs.Effects.{index_of, call}
 use Rattle.c_effects.specs.Effects as effects
-use Rattle.instrument.proofs.Standing.{Target, Setting, runs, Anchored}
-use Rattle.instrument.proofs.Results.{one_is}
+use Rattle.c_simulation.specs.Standing.{Target, Setting, runs, Anchored}
+use Rattle.c_simulation.proofs.Results.{one_is}
 use Rattle.c_model.specs.AcceptedPrograms.{AreScalar}
-use Rattle.instrument.proofs.Calls.{Called, EndsRun, HaveAll, takes, DoesCall, AllDo, IsCalled}
+use Rattle.c_simulation.proofs.Calls.{Called, EndsRun, HaveAll, takes, DoesCall, AllDo, IsCalled}
 use Rattle.instrument.proofs.Functions.{setting, call_follows}
 use Rattle.instrument.proofs.LibraryNames.{IsLibrary, IsPutChar, IsGetChar, IsExit, IsMalloc, IsCalloc, IsFree, library_is}
 use Rattle.instrument.proofs.Library.{putchar_does, getchar_does, exit_does, malloc_does, calloc_does, free_does}

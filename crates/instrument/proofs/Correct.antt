@@ -37,9 +37,11 @@ use Rattle.c_effects.specs.Expressions.{before}
 use Rattle.track_scopes.specs.Blocks.{entered as entered_with, deaths, with_born}
 use Rattle.c_effects.proofs.Sequences.{before_none}
 use Rattle.instrument.specs.Translation.{monitored_globals, all_global_temporaries, initialise_globals, front, front_temporaries, code_of, parameters, function_of, functions_from, function_name, translated, result_of, value_types, index_of_main}
-use Rattle.instrument.proofs.Standing.{Target, Did, Setting, Beside, Bounded, runs, Anchored}
-use Rattle.instrument.proofs.Results.{written, writes_none, written_then, before_is}
-use Rattle.instrument.proofs.Following.{Later, onward, Follows, GoesOn, Breaks, Continues, IsLeft, IsOver, IsUndefined}
+use Rattle.c_simulation.specs.Standing.{Target, Did, Setting, Beside, Bounded, runs, Anchored}
+use Rattle.c_simulation.proofs.Results.{writes_none, written_then, before_is}
+use Rattle.c_simulation.specs.Following.{written}
+use Rattle.c_simulation.proofs.Following.{onward}
+use Rattle.c_simulation.specs.Following.{Later, Follows, GoesOn, Breaks, Continues, IsLeft, IsOver, IsUndefined}
 use Rattle.instrument.proofs.Births.{names_of, with_numbers}
 use Rattle.instrument.proofs.Blocks.{Meets}
 use Rattle.instrument.proofs.Functions.{setting, how_many, at_body, MeetsBody, body_code, zero_of, registers_full}
@@ -50,11 +52,11 @@ use Rattle.c_model.specs.AcceptedPrograms.{AreConstant}
 use Rattle.instrument.proofs.Sights.{GlobalsInPlace}
 use Rattle.instrument.proofs.Globals.{HasGlobals, globals_at_start}
 use Rattle.instrument.proofs.Starts.{pointers, literal_points, anchored_at_start, start_blocks}
-use Rattle.instrument.proofs.Registers.{same_all}
+use Rattle.c_simulation.proofs.Registers.{same_all}
 use Rattle.c_effects.specs.Letters.{InitialsHaveLetters}
-use Rattle.annot_code.specs.Does.{Same}
+use Rattle.c_simulation.specs.SameRegisters.{Same}
 use Rattle.instrument.proofs.Deaths.{all_before}
-use Rattle.instrument.proofs.Calls.{IsCalled}
+use Rattle.c_simulation.proofs.Calls.{IsCalled}
 use Rattle.instrument.proofs.Callees.{main, functions, calls_at}
 use Rattle.instrument.proofs.Own.{AreOwn}
 use Rattle.instrument.proofs.Numbers.{numbers_in}

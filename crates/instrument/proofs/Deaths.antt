@@ -4,7 +4,7 @@ use Rattle.c_model.specs.Memory.{Block, Store, is_stack, kill_from}
 use Rattle.mon_syntax.specs.BlockMemory.{is_live_on_stack}
 use Rattle.mon_syntax.specs.LiveBlocks.{LiveBlock, noted, live_from, live_in}
 use Rattle.track_scopes.specs.Lives.{AreFrom, AreBefore}
-use Rattle.instrument.proofs.Standing.{Bounded}
+use Rattle.c_simulation.specs.Standing.{Bounded}
 use Rattle.instrument.proofs.Lives.{up_to, AllUpTo, AllAbove, up_to-all, up_to-behind, live-numbered, live-killed}
 
 abbrev pub ended : Block → Block

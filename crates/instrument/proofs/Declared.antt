@@ -15,12 +15,12 @@ use Rattle.c_effects.specs.Effects.{any_temporaries, effect_temporaries, declara
 use Rattle.track_scopes.specs.Blocks.{AreSmall, with_pointer, entered}
 use Rattle.instrument.specs.Translation.{Spot, after_statement, after_else, after_first, after_item, after_items, returned_temporaries}
 use Rattle.instrument.proofs.DeclarationCode.{next-entered}
-use Rattle.instrument.proofs.Standing.{Target, Setting, Here, IsAnchored, InRegister, AtGlobal, Anchored}
-use Rattle.instrument.proofs.Following.{standing_as}
+use Rattle.c_simulation.specs.Standing.{Target, Setting, Here, IsAnchored, InRegister, AtGlobal, Anchored}
+use Rattle.c_simulation.proofs.Following.{standing_as}
 use Rattle.instrument.proofs.Births.{names_of, with_numbers}
 use Rattle.instrument.proofs.Blocks.{Meets}
 use Rattle.instrument.proofs.Own.{AreOwn, AreLocal}
-use Rattle.instrument.proofs.Registers.{register_of-bound_other}
+use Rattle.c_simulation.proofs.Registers.{register_of-bound_other}
 
 -- ---- what can be declared in statements, where names with these numbers are in sight
 

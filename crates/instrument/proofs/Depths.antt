@@ -18,7 +18,8 @@ use Rattle.mon_syntax.specs.Valid.{Types, has_no_step, depth_of_all}
 use Rattle.track_scopes.specs.Blocks.{entered, deaths}
 use Rattle.c_effects.specs.Expressions.{before, one, set, setup, temporaries, condition_of}
 use Rattle.c_effects.specs.Effects.{block_of, any_temporaries, full_temporaries, full_setup, full_value, effect_if_any, initialise, initialise_all, initialise_local, may_be_born, initial_temporaries}
-use Rattle.instrument.specs.Translation.{Spot, in_loop, with_variables, leave_where_zero, test, test_if_any, loop, for_turns, returned, end_label, next_label, after_statement, after_first, after_item, statement, else_part, first_part, item, items}
+use Rattle.instrument.specs.Translation.{Spot, in_loop, with_variables, leave_where_zero, test, test_if_any, loop, for_turns, returned, after_statement, after_first, after_item, statement, else_part, first_part, item, items}
+use Rattle.c_simulation.specs.Labels.{end_label, next_label}
 use Rattle.instrument.proofs.ValidSetups.{no_step_before, no_step_setup, deep_one, deep_set, deep_setup, deep_behind}
 use Rattle.annot_code.proofs.Asserted.{assertions_deep}
 use Rattle.annot_code.proofs.Depths.{deep_before}

@@ -31,25 +31,26 @@ use Rattle.c_effects.specs.Effects.{value_temporaries, object_temporaries, assig
 use Rattle.c_effects.specs.Effects.{target_temporaries, target, target_setup, into_object, member_temporaries, current}
 use Rattle.c_effects.specs.Effects.{assigned as target_assigned}
 use Rattle.c_effects.proofs.Sequences.{before_none}
-use Rattle.annot_code.specs.Does.{Same}
-use Rattle.instrument.proofs.Results.{writes_none}
-use Rattle.instrument.proofs.Standing.{Setting, Target, runs, Has, IsOf, Here, Standing, Beside}
-use Rattle.instrument.proofs.Registers.{same_less, longer}
-use Rattle.instrument.proofs.Following.{Follows, later_same, stays, onward, undefined_here, follows_value, follows_lower, anchored_same, standing_later}
-use Rattle.instrument.proofs.ExpressionTypes.{place_has_object, struct_no_scalar, bump_types}
-use Rattle.instrument.proofs.Evaluating.{behind_setup}
-use Rattle.instrument.proofs.PureValues.{Quiet, Gives, IsUndefined, HasKind, pure_gives}
-use Rattle.instrument.proofs.Bounds.{loaded_is_of}
-use Rattle.instrument.proofs.PointerValues.{value_type_is, load_has}
-use Rattle.instrument.proofs.Compounds.{combined}
-use Rattle.instrument.proofs.Expressions.{evaluates}
+use Rattle.c_simulation.specs.SameRegisters.{Same}
+use Rattle.c_simulation.proofs.Results.{writes_none}
+use Rattle.c_simulation.specs.Standing.{Setting, Target, runs, Has, IsOf, Here, Standing, Beside}
+use Rattle.c_simulation.proofs.Registers.{same_less, longer}
+use Rattle.c_simulation.proofs.Following.{later_same, stays, onward, undefined_here, follows_value, follows_lower, anchored_same, standing_later}
+use Rattle.c_simulation.specs.Following.{Follows}
+use Rattle.c_simulation.proofs.ExpressionTypes.{place_has_object, struct_no_scalar, bump_types}
+use Rattle.c_simulation.proofs.Evaluating.{behind_setup}
+use Rattle.c_simulation.proofs.PureValues.{Quiet, Gives, IsUndefined, HasKind, pure_gives}
+use Rattle.c_simulation.proofs.Bounds.{loaded_is_of}
+use Rattle.c_simulation.proofs.PointerValues.{value_type_is, load_has}
+use Rattle.c_simulation.proofs.Compounds.{combined}
+use Rattle.c_simulation.proofs.Expressions.{evaluates}
 use Rattle.instrument.proofs.FullForms.{object_pure}
 use Rattle.instrument.proofs.Scenes.{Scene}
 use Rattle.instrument.proofs.FullExpressions.{handed_on, follows_called, follows_full}
-use Rattle.instrument.proofs.Stores.{reached_from, into_follows}
-use Rattle.instrument.proofs.Bases.{reached_shifted}
+use Rattle.c_simulation.proofs.Stores.{reached_from, into_follows}
+use Rattle.c_simulation.proofs.Bases.{reached_shifted}
 use Rattle.instrument.proofs.Aims.{Aims, AimsAt, NoAim, aims}
-use Rattle.instrument.proofs.Copies.{copies_follow}
+use Rattle.c_simulation.proofs.Copies.{copies_follow}
 
 -- a value that is given, and dropped
 given_done : (r : Outcome (Unit {0})) (v : Value) → on_outcome (on_outcome r (λ _. give v)) (λ _. done) ≡ r

@@ -17,7 +17,7 @@ use Rattle.c_model.specs.UnitTyping.{room_fault, room_fault_from, room_with}
 use Rattle.mon_syntax.specs.BlockMemory.{pointers_from}
 use Rattle.c_effects.specs.Expressions.{object_of_literal}
 use Rattle.instrument.specs.Translation.{monitored_globals}
-use Rattle.instrument.proofs.Standing.{Setting, AreOctets, AreBytes, Bounded, Knows}
+use Rattle.c_simulation.specs.Standing.{Setting, AreOctets, AreBytes, Bounded, Knows}
 use Rattle.instrument.proofs.Starts.{literal_points}
 
 -- ---- literals

@@ -23,16 +23,17 @@ use Rattle.c_effects.specs.Letters.{FullHasLetters, InitialiserHasLetters, Initi
 use Rattle.c_effects.specs.Expressions.{before, one, setup, value, temporaries}
 use Rattle.c_effects.specs.Effects.{full_temporaries, full_setup, full_value, store, part_temporaries, one_temporaries, fill_temporaries, parts_temporaries, initial_temporaries, stored_at, bytes_at}
 use Rattle.c_effects.specs.Effects as translation
-use Rattle.annot_code.specs.Does.{Same}
-use Rattle.instrument.proofs.Standing.{Setting, Target, runs, Has, IsOf, Anchored, Knows, Bounded, Here, Beside}
-use Rattle.instrument.proofs.Registers.{same_all, longer}
-use Rattle.instrument.proofs.Results.{before_is}
-use Rattle.instrument.proofs.Following.{Follows, Later, anchored_same, follows_value, follows_then, follows_lower}
-use Rattle.instrument.proofs.Pointers.{shifted_twice}
-use Rattle.instrument.proofs.PointerValues.{scalar_register, value_type_is}
-use Rattle.instrument.proofs.Evaluating.{lower_same}
-use Rattle.instrument.proofs.Expressions.{evaluates}
-use Rattle.instrument.proofs.Stores.{write_follows}
+use Rattle.c_simulation.specs.SameRegisters.{Same}
+use Rattle.c_simulation.specs.Standing.{Setting, Target, runs, Has, IsOf, Anchored, Knows, Bounded, Here, Beside}
+use Rattle.c_simulation.proofs.Registers.{same_all, longer}
+use Rattle.c_simulation.proofs.Results.{before_is}
+use Rattle.c_simulation.proofs.Following.{anchored_same, follows_value, follows_then, follows_lower}
+use Rattle.c_simulation.specs.Following.{Follows, Later}
+use Rattle.c_simulation.proofs.Pointers.{shifted_twice}
+use Rattle.c_simulation.proofs.PointerValues.{scalar_register, value_type_is}
+use Rattle.c_simulation.proofs.Evaluating.{lower_same}
+use Rattle.c_simulation.proofs.Expressions.{evaluates}
+use Rattle.c_simulation.proofs.Stores.{write_follows}
 use Rattle.instrument.proofs.Strings.{bytes_follow}
 use Rattle.instrument.proofs.ZeroBytes.{IsAligned}
 use Rattle.instrument.proofs.Zeros.{stored_at_follows, zero_parts_follow}

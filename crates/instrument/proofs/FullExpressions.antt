@@ -29,19 +29,21 @@ use Rattle.c_effects.specs.Letters.{HasLetters, ArgumentsHaveLetters, FullHasLet
 use Rattle.c_effects.specs.Expressions.{register_type, value_type, in_type, temporaries, value, before, setup}
 use Rattle.c_effects.specs.Expressions as spec
 use Rattle.c_effects.specs.Effects.{arguments_temporaries, full_temporaries, arguments_setup, arguments, full_value, call, called, full_setup}
-use Rattle.instrument.proofs.Results.{written, writes_none, written_then, before_is}
-use Rattle.instrument.proofs.Standing.{Setting, Target, Did, runs, Has, IsOf, Bounded, Anchored, Knows, Here, Standing, Beside}
-use Rattle.instrument.proofs.Registers.{same_all, same_less, same_trans, same_set, get-set_same, longer}
-use Rattle.instrument.proofs.Following.{Evaluates, Later, later_same, IsResult, IsResultOf, Follows, IsOver, IsUndefined, anchored_same, onward, undefined_here}
-use Rattle.instrument.proofs.Following as following
+use Rattle.c_simulation.proofs.Results.{writes_none, written_then, before_is}
+use Rattle.c_simulation.specs.Following.{written}
+use Rattle.c_simulation.specs.Standing.{Setting, Target, Did, runs, Has, IsOf, Bounded, Anchored, Knows, Here, Standing, Beside}
+use Rattle.c_simulation.proofs.Registers.{same_all, same_less, same_trans, same_set, get-set_same, longer}
+use Rattle.c_simulation.proofs.Following.{later_same, anchored_same, onward, undefined_here}
+use Rattle.c_simulation.specs.Following.{Evaluates, Later, IsResult, IsResultOf, Follows, IsOver, IsUndefined}
+use Rattle.c_simulation.specs.Following as following
 use Rattle.c_model.specs.AcceptedPrograms.{AreScalar}
-use Rattle.annot_code.specs.Does.{Same}
-use Rattle.instrument.proofs.Calls.{value_of, Alike, Called, Gives, EndsRun, HasNoMeaning, AreOf, HaveAll, takes, CallDoes, DoesCall, CallsNothing, IsCalled, even, beside_even}
-use Rattle.instrument.proofs.Values.{in_type_converts}
-use Rattle.instrument.proofs.Evaluating.{behind_setup}
-use Rattle.instrument.proofs.ExpressionTypes.{one_scalar}
-use Rattle.instrument.proofs.Places.{of_integer, of_pointer}
-use Rattle.instrument.proofs.Expressions.{evaluates}
+use Rattle.c_simulation.specs.SameRegisters.{Same}
+use Rattle.c_simulation.proofs.Calls.{value_of, Alike, Called, Gives, EndsRun, HasNoMeaning, AreOf, HaveAll, takes, CallDoes, DoesCall, CallsNothing, IsCalled, even, beside_even}
+use Rattle.c_simulation.proofs.Values.{in_type_converts}
+use Rattle.c_simulation.proofs.Evaluating.{behind_setup}
+use Rattle.c_simulation.proofs.ExpressionTypes.{one_scalar}
+use Rattle.c_simulation.proofs.Places.{of_integer, of_pointer}
+use Rattle.c_simulation.proofs.Expressions.{evaluates}
 use Rattle.instrument.proofs.Scenes.{Scene}
 
 -- an outcome that is handed on twice

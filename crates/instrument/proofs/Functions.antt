@@ -29,18 +29,20 @@ use Rattle.track_scopes.specs.Lives.{AreFrom, with_store}
 use Rattle.instrument.specs.Translation.{Spot, body_part, code_of, front, front_temporaries, function_of, value_types, registers_of_body, result_of}
 use Rattle.mon_syntax.specs.declared.tree.MonType.{MonType}
 use Rattle.instrument.specs.Translation as target
-use Rattle.instrument.proofs.Standing.{Target, Did, Setting, runs, Bounded, Here, Beside, Anchored}
+use Rattle.c_simulation.specs.Standing.{Target, Did, Setting, runs, Bounded, Here, Beside, Anchored}
 use Rattle.track_scopes.proofs.Deaths.{deaths_end}
-use Rattle.instrument.proofs.Results.{written, writes_none, written_then, before_is}
-use Rattle.instrument.proofs.Registers.{get-end}
+use Rattle.c_simulation.proofs.Results.{writes_none, written_then, before_is}
+use Rattle.c_simulation.specs.Following.{written}
+use Rattle.c_simulation.proofs.Registers.{get-end}
 use Rattle.instrument.proofs.Lives.{length-killed}
 use Rattle.instrument.proofs.Deaths.{bounded_killed, all_before, live_killed}
-use Rattle.instrument.proofs.Following.{standing_as, Later, Follows, GoesOn, Breaks, Continues, IsLeft, IsOver, IsUndefined}
+use Rattle.c_simulation.proofs.Following.{standing_as}
+use Rattle.c_simulation.specs.Following.{Later, Follows, GoesOn, Breaks, Continues, IsLeft, IsOver, IsUndefined}
 use Rattle.instrument.proofs.Births.{with_numbers, pointed_point, pointed_same}
 use Rattle.instrument.proofs.Blocks.{Meets}
 use Rattle.instrument.proofs.Parameters.{AreScalars, HoldInOrder, BearsAll, AllBorn, SomeFull, SomeUndefined, parameters_follow}
-use Rattle.instrument.proofs.Calls.{Even, Called, EndsRun, HasNoMeaning, AreOf}
-use Rattle.instrument.proofs.Calls as calls
+use Rattle.c_simulation.proofs.Calls.{Even, Called, EndsRun, HasNoMeaning, AreOf}
+use Rattle.c_simulation.proofs.Calls as calls
 use Rattle.instrument.proofs.Own.{AreOwn}
 use Rattle.instrument.proofs.Numbers.{numbers_in}
 use Rattle.instrument.proofs.Objects.{names_at_start}

@@ -12,8 +12,8 @@ use Rattle.c_model.specs.AcceptedPrograms.{AreConstant}
 use Rattle.instrument.proofs.Sights.{GlobalsInPlace}
 use Rattle.c_effects.specs.Letters.{InitialsHaveLetters}
 use Rattle.instrument.specs.Translation.{monitored_globals, all_global_temporaries, initialise_globals}
-use Rattle.instrument.proofs.Standing.{Setting, Target, runs, Here, Beside}
-use Rattle.instrument.proofs.Following.{Follows}
+use Rattle.c_simulation.specs.Standing.{Setting, Target, runs, Here, Beside}
+use Rattle.c_simulation.specs.Following.{Follows}
 use Rattle.instrument.proofs.Starts.{anchored_at_start}
 use Rattle.instrument.proofs.FileScope.{AreTexts, knows_at, bounded_at_start}
 use Rattle.instrument.proofs.InitialisedVariables.{AreGlobals, globals_follow}

@@ -7,8 +7,8 @@ use Rattle.mon_syntax.specs.LiveBlocks.{live_in}
 use Rattle.mon_syntax.proofs.FlatBlocks.{live-beside, live-set}
 use Rattle.c_model.proofs.Blocks.{freed_parts}
 use Rattle.c_model.proofs.HeapPlaces.{heap_places_fit}
-use Rattle.instrument.proofs.Standing.{AreBytes, Bounded}
-use Rattle.instrument.proofs.Bounds.{bounded_at, bounded_set, bounded_append, Saved}
+use Rattle.c_simulation.specs.Standing.{AreBytes, Bounded}
+use Rattle.c_simulation.proofs.Bounds.{bounded_at, bounded_set, bounded_append, Saved}
 
 -- ---- births
 

@@ -21,12 +21,13 @@ use Rattle.c_effects.specs.Expressions.{set, object_of_global}
 use Rattle.c_effects.specs.Effects.{full_temporaries, block_of, initial_temporaries, declaration_temporaries}
 use Rattle.c_effects.specs.Effects as translation
 use Rattle.instrument.specs.Translation.{global_temporaries, all_global_temporaries, initialise_global, initialise_globals}
-use Rattle.instrument.proofs.Standing.{Setting, Target, runs, IsAnchored, InRegister, AtGlobal, Anchored, Knows, Bounded, Here, Standing, Beside}
-use Rattle.instrument.proofs.Registers.{same_all, same_set, get-set_same, longer}
-use Rattle.instrument.proofs.Results.{writes_none, before_is}
-use Rattle.instrument.proofs.Following.{Follows, later_same, stays, onward, undefined_here, follows_then, follows_lower, standing_later}
-use Rattle.instrument.proofs.Anchors.{block_has, block_below}
-use Rattle.instrument.proofs.Evaluating.{behind_setup, set_runs}
+use Rattle.c_simulation.specs.Standing.{Setting, Target, runs, IsAnchored, InRegister, AtGlobal, Anchored, Knows, Bounded, Here, Standing, Beside}
+use Rattle.c_simulation.proofs.Registers.{same_all, same_set, get-set_same, longer}
+use Rattle.c_simulation.proofs.Results.{writes_none, before_is}
+use Rattle.c_simulation.proofs.Following.{later_same, stays, onward, undefined_here, follows_then, follows_lower, standing_later}
+use Rattle.c_simulation.specs.Following.{Follows}
+use Rattle.c_simulation.proofs.Anchors.{block_has, block_below}
+use Rattle.c_simulation.proofs.Evaluating.{behind_setup, set_runs}
 use Rattle.instrument.proofs.Scenes.{Scene, scene_with, knows_with}
 use Rattle.instrument.proofs.Initialisers.{initial_follows}
 use Rattle.instrument.proofs.Fillings.{Filling, object_text, object_parts, object_follows}

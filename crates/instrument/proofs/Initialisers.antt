@@ -20,13 +20,13 @@ use Rattle.c_effects.specs.Letters.{FullHasLetters}
 use Rattle.c_effects.specs.Expressions.{before, one}
 use Rattle.c_effects.specs.Effects.{full_temporaries, full_setup, full_value, store}
 use Rattle.c_effects.specs.Effects as translation
-use Rattle.instrument.proofs.Standing.{Setting, Target, runs, Here, Standing, Beside}
-use Rattle.instrument.proofs.Registers.{same_all}
-use Rattle.instrument.proofs.Following.{Follows}
-use Rattle.instrument.proofs.PointerValues.{scalar_register, value_type_is}
+use Rattle.c_simulation.specs.Standing.{Setting, Target, runs, Here, Standing, Beside}
+use Rattle.c_simulation.proofs.Registers.{same_all}
+use Rattle.c_simulation.specs.Following.{Follows}
+use Rattle.c_simulation.proofs.PointerValues.{scalar_register, value_type_is}
 use Rattle.instrument.proofs.Scenes.{Scene}
 use Rattle.instrument.proofs.FullExpressions.{follows_full}
-use Rattle.instrument.proofs.Stores.{write_follows}
+use Rattle.c_simulation.proofs.Stores.{write_follows}
 
 module _ (w : Setting) (n : ℕ) (h : Here) (sight : Sight) (scene : Scene w n sight) (low : ℕ) (bound : Bindings) (s : State) (t : Target) (le : s.steps ≤ n) (rs : List MonType) (behind : low ≤ length rs)
     (regs : List Value) (m : Standing w h low bound regs s) (b : Beside w s.store s t) where

@@ -4,39 +4,17 @@ pub mod DeclarationCode
 pub mod GlobalCode
 pub mod Entries
 pub mod Definitions
--- the relation between a call and its translation, and what goes on from part to part
+-- expressions; the relation between a call and its translation, and values, are of `c_simulation`
 pub mod Own
 pub mod RangedTrees
-pub mod Standing
-pub mod Results
-pub mod Registers
-pub mod Following
-pub mod Steps
-pub mod Calls
--- values
-pub mod Integers
-pub mod Bounds
-pub mod Pointers
-pub mod Values
-pub mod PointerValues
-pub mod Evaluating
-pub mod Places
-pub mod Anchors
-pub mod ExpressionTypes
-pub mod Expressions
 pub mod Scenes
 pub mod FullExpressions
-pub mod PureValues
 pub mod FullForms
 pub mod Terms
 pub mod Asserts
 -- effects and initialisers
-pub mod Stores
-pub mod Bases
 pub mod Aims
-pub mod Copies
 pub mod Effects
-pub mod Compounds
 pub mod Initialisers
 pub mod ZeroBytes
 pub mod Zeros

@@ -26,14 +26,14 @@ use Rattle.mon_syntax.specs.Trees.{MonExpression, PutChar, GetChar, Exit, Act, C
 use Rattle.c_effects.specs.Expressions.{one}
 use Rattle.c_effects.specs.Effects as effects
 use Rattle.c_effects.specs.Effects.{index_of, call}
-use Rattle.instrument.proofs.Results.{one_is}
-use Rattle.instrument.proofs.Standing.{Setting, Target, runs, Has, IsSmall, IsByte, AreBytes, Bounded}
-use Rattle.instrument.proofs.Bounds.{replicated_bytes}
+use Rattle.c_simulation.proofs.Results.{one_is}
+use Rattle.c_simulation.specs.Standing.{Setting, Target, runs, Has, IsSmall, IsByte, AreBytes, Bounded}
+use Rattle.c_simulation.proofs.Bounds.{replicated_bytes}
 use Rattle.instrument.proofs.Heap.{live_with_heap, bounded_with_heap, room_small, freed_saved}
-use Rattle.instrument.proofs.Following.{later_same}
-use Rattle.instrument.proofs.Calls.{Even, Called, Gives, EndsRun, HasNoMeaning, AreOf, HaveAll, takes, CallDoes, DoesCall, AllDo}
+use Rattle.c_simulation.proofs.Following.{later_same}
+use Rattle.c_simulation.proofs.Calls.{Even, Called, Gives, EndsRun, HasNoMeaning, AreOf, HaveAll, takes, CallDoes, DoesCall, AllDo}
 use Rattle.instrument.proofs.LibraryNames.{name_there}
-use Rattle.instrument.proofs.Places.{of_integer, of_pointer}
+use Rattle.c_simulation.proofs.Places.{of_integer, of_pointer}
 
 -- ---- numbers
 

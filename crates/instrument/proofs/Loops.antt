@@ -19,13 +19,16 @@ use Rattle.mon_syntax.specs.LiveBlocks.{live_in}
 use Rattle.mon_syntax.specs.Trees.{MonExpression, If, Goto, Labelled, Loop, MonStatements, NoStatement, Then}
 use Rattle.c_effects.specs.Expressions.{before, one}
 use Rattle.track_scopes.specs.Lives.{AreBefore}
-use Rattle.instrument.specs.Translation.{Spot, in_loop, end_label, next_label, leave_where_zero, loop}
-use Rattle.annot_code.specs.Does.{Same}
-use Rattle.instrument.proofs.Standing.{Target, Did, Setting, runs, Here, Standing, Beside}
-use Rattle.instrument.proofs.Results.{written, writes_none, written_then, one_is, before_is, rest_first}
-use Rattle.instrument.proofs.Registers.{same_all}
+use Rattle.instrument.specs.Translation.{Spot, in_loop, leave_where_zero, loop}
+use Rattle.c_simulation.specs.Labels.{end_label, next_label}
+use Rattle.c_simulation.specs.SameRegisters.{Same}
+use Rattle.c_simulation.specs.Standing.{Target, Did, Setting, runs, Here, Standing, Beside}
+use Rattle.c_simulation.proofs.Results.{writes_none, written_then, one_is, before_is, rest_first}
+use Rattle.c_simulation.specs.Following.{written}
+use Rattle.c_simulation.proofs.Registers.{same_all}
 use Rattle.instrument.proofs.Deaths.{kill_none, all_before}
-use Rattle.instrument.proofs.Following.{Later, later_same, Follows, GoesOn, Breaks, Continues, IsLeft, IsOver, IsUndefined, onward, undefined_here, follows_choice, follows_then, anywhere, standing_as}
+use Rattle.c_simulation.proofs.Following.{later_same, onward, undefined_here, follows_choice, follows_then, anywhere, standing_as}
+use Rattle.c_simulation.specs.Following.{Later, Follows, GoesOn, Breaks, Continues, IsLeft, IsOver, IsUndefined}
 use Rattle.instrument.proofs.Births.{pointed_append}
 use Rattle.instrument.proofs.Blocks.{Meets, meets_later}
 

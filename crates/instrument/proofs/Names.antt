@@ -14,7 +14,8 @@ use Rattle.mon_syntax.specs.declared.tree.MonType.{MonType}
 use Rattle.mon_syntax.specs.declared.tree.MonType.TheVariants.{I8, U8, I16, U16, I32, U32, I64, U64, I128, Ptr}
 use Rattle.mon_syntax.specs.Names.{IsFreeName, is_reserved}
 use Rattle.mon_syntax.specs.Names as words
-use Rattle.instrument.specs.Translation.{end_label, next_label, register_name, pointer_name, temporary_name, function_name, name_of_register, global_name, text_name}
+use Rattle.instrument.specs.Translation.{register_name, pointer_name, temporary_name, function_name, name_of_register, global_name, text_name}
+use Rattle.c_simulation.specs.Labels.{end_label, next_label}
 
 -- ---- decimal numbers
 

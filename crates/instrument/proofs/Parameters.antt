@@ -28,14 +28,14 @@ use Rattle.track_scopes.specs.Lives as lives
 use Rattle.track_scopes.specs.Lives.{Births, AllAre, OneIsFull, PointToBorn, with_store}
 use Rattle.instrument.specs.Translation.{Spot, with_variables}
 use Rattle.instrument.specs.Translation as target
-use Rattle.instrument.proofs.Standing.{Target, Did, Setting, runs, IsOf, Here, Beside}
+use Rattle.c_simulation.specs.Standing.{Target, Did, Setting, runs, IsOf, Here, Beside}
 use Rattle.track_scopes.proofs.Births.{births_enter}
-use Rattle.instrument.proofs.Results.{writes_none, one_is}
-use Rattle.instrument.proofs.Registers.{same_all}
-use Rattle.instrument.proofs.Bounds.{saved_value}
-use Rattle.instrument.proofs.PointerValues.{scalar_register, value_type_is}
-use Rattle.instrument.proofs.Stores.{store_runs}
-use Rattle.instrument.proofs.Following.{Later, IsResult, IsResultOf}
+use Rattle.c_simulation.proofs.Results.{writes_none, one_is}
+use Rattle.c_simulation.proofs.Registers.{same_all}
+use Rattle.c_simulation.proofs.Bounds.{saved_value}
+use Rattle.c_simulation.proofs.PointerValues.{scalar_register, value_type_is}
+use Rattle.c_simulation.proofs.Stores.{store_runs}
+use Rattle.c_simulation.specs.Following.{Later, IsResult, IsResultOf}
 use Rattle.instrument.proofs.Births.{with_numbers, behind_births}
 use Rattle.instrument.proofs.Blocks.{Meets, meets_later, meets_inside}
 use Rattle.instrument.proofs.Own.{AreOwn}

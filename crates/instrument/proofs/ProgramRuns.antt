@@ -13,7 +13,7 @@ use Rattle.c_effects.specs.Letters.{InitialsHaveLetters}
 use Rattle.instrument.specs.Limits.{BodyHasNumbers, FunctionsHaveNumbers}
 use Rattle.instrument.specs.Translation.{index_of_main, translated}
 use Rattle.instrument.proofs.RangedTrees.{AreRangedAsserts, functions_ranged}
-use Rattle.instrument.proofs.Standing.{AreOctets}
+use Rattle.c_simulation.specs.Standing.{AreOctets}
 use Rattle.instrument.proofs.FileScope.{AreTexts}
 use Rattle.instrument.proofs.Resolved.{resolved}
 use Rattle.instrument.proofs.Programs.{Part, Parts}

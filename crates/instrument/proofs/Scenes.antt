@@ -10,8 +10,8 @@ use Rattle.c_model.specs.ExpressionTyping.{Sight, Entity, AnObject, AnEnumerator
 use Rattle.c_model.specs.StatementTyping.{behind, behind_first}
 use Rattle.c_model.specs.TypedTrees.{Calls, Denotes}
 use Rattle.c_model.specs.UnitTyping.{with_parameter, with_parameters}
-use Rattle.instrument.proofs.Standing.{Setting, Knows}
-use Rattle.instrument.proofs.Calls.{IsCalled}
+use Rattle.c_simulation.specs.Standing.{Setting, Knows}
+use Rattle.c_simulation.proofs.Calls.{IsCalled}
 
 pub record Scene (w : Setting) (n : ℕ) (sight : Sight) : Type 0 where
   pub knows : Knows w sight

@@ -11,10 +11,10 @@ use Rattle.mon_syntax.specs.BlockMemory.{block_of_global, pointers_from}
 use Rattle.mon_syntax.specs.Trees.{MonitoredGlobal}
 use Rattle.c_effects.specs.Expressions.{object_of_global, object_of_literal}
 use Rattle.instrument.specs.Translation.{monitored_global, globals_with, literals_with, monitored_from, monitored_globals}
-use Rattle.instrument.proofs.Standing.{Setting, AtGlobal, Anchored}
+use Rattle.c_simulation.specs.Standing.{Setting, AtGlobal, Anchored}
 use Rattle.instrument.proofs.Own.{AreOwn}
 use Rattle.instrument.proofs.Objects.{global_found, global_inside, literal_is}
-use Rattle.instrument.proofs.Registers.{get-below}
+use Rattle.c_simulation.proofs.Registers.{get-below}
 
 -- ---- blocks
 

@@ -25,7 +25,8 @@ use Rattle.c_effects.specs.Effects.{any_temporaries, effect_temporaries}
 use Rattle.c_effects.specs.Named.{condition_by, effect_if_any_by, setup_by, unit_of, with_registers}
 use Rattle.c_effects.proofs.Sequences.{before_assoc}
 use Rattle.instrument.specs.Options.{after, behind_first, births_by, else_part_by, entering, first_part_by, items_of_first, plain_first_part, statement_by, test_by, test_if_any_by, turns_by, with_blocks}
-use Rattle.instrument.specs.Translation.{Spot, alive, end_label, in_loop, next_label, with_variables}
+use Rattle.instrument.specs.Translation.{Spot, alive, in_loop, with_variables}
+use Rattle.c_simulation.specs.Labels.{end_label, next_label}
 use Rattle.instrument.proofs.DeclarationCode.{born_front}
 
 -- ---- the parts of statements

@@ -36,24 +36,26 @@ use Rattle.c_effects.specs.Effects.{full_temporaries, full_value, effect_tempora
 use Rattle.c_effects.specs.Effects as effects
 use Rattle.track_scopes.specs.Blocks.{entered, deaths, with_born}
 use Rattle.track_scopes.specs.Lives.{with_store}
-use Rattle.instrument.specs.Translation.{Spot, returned_temporaries, after_statement, after_else, after_first, after_item, after_items, with_variables, test, test_if_any, statement, else_part, first_part, items, end_label, next_label, loop}
+use Rattle.instrument.specs.Translation.{Spot, returned_temporaries, after_statement, after_else, after_first, after_item, after_items, with_variables, test, test_if_any, statement, else_part, first_part, items, loop}
+use Rattle.c_simulation.specs.Labels.{end_label, next_label}
 use Rattle.instrument.specs.Translation as target
 use Rattle.instrument.proofs.DeclarationCode.{next-entered}
-use Rattle.instrument.proofs.Standing.{Target, Setting, runs, Has, IsOf, Here, Beside}
+use Rattle.c_simulation.specs.Standing.{Target, Setting, runs, Has, IsOf, Here, Beside}
 use Rattle.track_scopes.proofs.Births.{births_enter}
 use Rattle.track_scopes.proofs.Deaths.{deaths_end}
-use Rattle.instrument.proofs.Results.{writes_none, one_is, before_is}
-use Rattle.instrument.proofs.Registers.{get-set_same, same_all, same_less, same_trans, same_set, longer}
-use Rattle.instrument.proofs.Following.{Tests, HasTest, HasNoTest, Later, later_same, IsResult, IsResultOf, Follows, Breaks, Continues, IsLeft, stays, onward, undefined_here, follows_choice, follows_then}
+use Rattle.c_simulation.proofs.Results.{writes_none, one_is, before_is}
+use Rattle.c_simulation.proofs.Registers.{get-set_same, same_all, same_less, same_trans, same_set, longer}
+use Rattle.c_simulation.proofs.Following.{later_same, stays, onward, undefined_here, follows_choice, follows_then}
+use Rattle.c_simulation.specs.Following.{Tests, HasTest, HasNoTest, Later, IsResult, IsResultOf, Follows, Breaks, Continues, IsLeft}
 use Rattle.instrument.proofs.Births.{with_numbers, pointed_point, pointed_append, behind_births}
 use Rattle.instrument.proofs.Blocks.{Meets, meets_later, block_follows}
 use Rattle.instrument.proofs.Loops as loops
 use Rattle.instrument.proofs.Loops.{Tested, IsTested, NotTested, choice_runs}
 use Rattle.instrument.proofs.Declared.{AreBorn, CanDeclare, ElseCanDeclare, ItemsCanDeclare, AreAbsent, meets_behind, more_kinds, statement_grows, else_grows, first_grows, items_grow}
-use Rattle.instrument.proofs.Expressions as expressions
-use Rattle.instrument.proofs.Expressions.{handed_on}
+use Rattle.c_simulation.proofs.Expressions as expressions
+use Rattle.c_simulation.proofs.Expressions.{handed_on}
 use Rattle.c_model.specs.TypedAnnotations.{StatementNoted, ElseNoted, ItemsNoted}
-use Rattle.annot_code.specs.Does.{Same}
+use Rattle.c_simulation.specs.SameRegisters.{Same}
 use Rattle.instrument.proofs.InitialisedVariables.{initials_follow}
 use Rattle.instrument.proofs.Scenes.{Scene, scene_inner, scene_with_all, scene_behind_first, AreFound, DeclarationsFound, found_with_all, declarations_found-append}
 use Rattle.instrument.proofs.Sight.{scope_for, sees_found, sees_born, declared_born}

@@ -14,10 +14,11 @@ use Rattle.mon_syntax.specs.Meaning.{Next}
 use Rattle.mon_syntax.specs.Trees.{Constant}
 use Rattle.c_effects.specs.Expressions.{before}
 use Rattle.c_effects.specs.Effects.{stored_at, bytes_at, zeros_at, zeros_from}
-use Rattle.instrument.proofs.Results.{before_is}
-use Rattle.instrument.proofs.Standing.{Setting, Target, runs, AreOctets, Bounded, Here, Beside}
-use Rattle.instrument.proofs.Following.{Follows, stays, follows_then}
-use Rattle.instrument.proofs.Values.{constant_has}
+use Rattle.c_simulation.proofs.Results.{before_is}
+use Rattle.c_simulation.specs.Standing.{Setting, Target, runs, AreOctets, Bounded, Here, Beside}
+use Rattle.c_simulation.proofs.Following.{stays, follows_then}
+use Rattle.c_simulation.specs.Following.{Follows}
+use Rattle.c_simulation.proofs.Values.{constant_has}
 use Rattle.instrument.proofs.ZeroBytes.{IsAligned}
 use Rattle.instrument.proofs.Zeros.{stored_at_follows, zeros_begin}
 

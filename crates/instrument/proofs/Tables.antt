@@ -19,7 +19,7 @@ use Rattle.instrument.specs.Translation.{returned_temporaries, after_statement, 
 use Rattle.mon_syntax.specs.Registers.{register_of}
 use Rattle.annot_code.specs.Validity.{Begins}
 use Rattle.instrument.proofs.Typed.{begins_front, register_at, HasPointer, Aim, has_aim, aim_has}
-use Rattle.instrument.proofs.Registers.{register_of-bound_same, register_of-bound_other}
+use Rattle.c_simulation.proofs.Registers.{register_of-bound_same, register_of-bound_other}
 
 -- ---- registers are only added
 

@@ -11,8 +11,8 @@ use Rattle.c_model.specs.TypedPredicates.{TermTyped, LinksTyped, PredicateTyped}
 use Rattle.interval_infer.specs.Laws.{LoadsFit}
 use Rattle.interval_infer.proofs.Sound.{ranges_are_within_128, values_lie_in_ranges}
 use Rattle.annot_code.specs.Does.{RangesHold, TermFound, LinksFound, PredicateFound}
-use Rattle.instrument.proofs.Standing.{Bounded}
-use Rattle.instrument.proofs.Bounds.{loaded_is_of}
+use Rattle.c_simulation.specs.Standing.{Bounded}
+use Rattle.c_simulation.proofs.Bounds.{loaded_is_of}
 use Rattle.instrument.proofs.Scenes.{AreFound, denoted_found}
 
 -- ---- values

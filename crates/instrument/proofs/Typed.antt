@@ -45,11 +45,11 @@ use Rattle.c_effects.specs.Expressions.{register_type, value_type, operand_type,
 use Rattle.c_effects.specs.Expressions.{two_pointers, operated, indexed, converted, compound, global_index, pointer_of, pointer_to, loaded, value, place, truth_of, condition_of}
 use Rattle.c_effects.specs.Effects.{block_register, block_of, current}
 use Rattle.annot_code.specs.Validity.{Begins}
-use Rattle.instrument.proofs.ExpressionTypes.{place_has_object}
+use Rattle.c_simulation.proofs.ExpressionTypes.{place_has_object}
 use Rattle.instrument.proofs.Parts.{StructsFit, near}
-use Rattle.instrument.proofs.Integers.{operand_is, is_number, number_result, number_second, number_operator}
-use Rattle.instrument.proofs.Registers.{get-below, get-end}
-use Rattle.instrument.proofs.Expressions.{letter_fits}
+use Rattle.c_simulation.proofs.Integers.{operand_is, is_number, number_result, number_second, number_operator}
+use Rattle.c_simulation.proofs.Registers.{get-below, get-end}
+use Rattle.c_simulation.proofs.Expressions.{letter_fits}
 use Rattle.c_model.specs.StaticObjects.{static_objects}
 use Rattle.instrument.proofs.Objects.{global_inside, literal_is}
 

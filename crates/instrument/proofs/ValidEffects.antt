@@ -39,7 +39,7 @@ use Rattle.instrument.proofs.ValidBases.{ends, base_valid, member_valid, member_
 use Rattle.instrument.proofs.Parts.{ScalarsInside, struct_small, all_scalars_inside}
 use Rattle.instrument.proofs.FullForms.{object_pure}
 use Rattle.instrument.proofs.ValidSetups.{no_step_before, no_step_setup, deep_one, deep_set, deep_setup, some_forms, IsEvaluated, HasValue, HasObject, evaluated_scalar, operand_evaluated, setup_valid}
-use Rattle.instrument.proofs.ExpressionTypes.{place_has_object, struct_no_scalar, bump_types}
+use Rattle.c_simulation.proofs.ExpressionTypes.{place_has_object, struct_no_scalar, bump_types}
 
 -- what holds of the statements of each function of the library holds of those of whichever has a name
 either : (P : MonStatements → Type 0) (b : Bool) (a others : MonStatements) → P a → P others → P (if b then a else others)

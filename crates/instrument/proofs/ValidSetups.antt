@@ -24,7 +24,7 @@ use Rattle.annot_code.specs.Validity.{Begins}
 use Rattle.annot_code.proofs.ValidParts.{before_valid, set_valid}
 use Rattle.annot_code.proofs.Depths.{deep_before}
 use Rattle.instrument.proofs.Typed.{begins_left, begins_right, begins_front, register_at, Knows, count_of_globals, both_begin, choice_begins, pointer_scalar, promoted_scalar, integer_scalar, operands_scalar, index_scalar}
-use Rattle.instrument.proofs.ExpressionTypes.{place_has_object}
+use Rattle.c_simulation.proofs.ExpressionTypes.{place_has_object}
 use Rattle.instrument.proofs.Typed.{expression_valid, condition_valid, truth_valid}
 
 -- ---- no step stands there

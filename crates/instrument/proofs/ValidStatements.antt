@@ -27,7 +27,8 @@ use Rattle.c_effects.specs.Expressions.{value_type, before, one, set, setup, tem
 use Rattle.annot_code.specs.Code.{assertions}
 use Rattle.c_effects.specs.Effects.{block_of, any_temporaries, full_temporaries, effect_temporaries, initial_temporaries, declaration_temporaries, full_setup, full_value, effect, effect_if_any}
 use Rattle.c_effects.specs.Effects.{initialise, initialise_all, initialise_local, may_be_born}
-use Rattle.instrument.specs.Translation.{Spot, leave_where_zero, test, test_if_any, returned_temporaries, returned, loop, end_label, next_label, with_variables, after_statement, after_else, after_first, after_item, after_items, statement}
+use Rattle.instrument.specs.Translation.{Spot, leave_where_zero, test, test_if_any, returned_temporaries, returned, loop, with_variables, after_statement, after_else, after_first, after_item, after_items, statement}
+use Rattle.c_simulation.specs.Labels.{end_label, next_label}
 use Rattle.instrument.specs.Translation.{else_part, first_part, items, result_of}
 use Rattle.instrument.specs.Translation as target
 use Rattle.instrument.proofs.Names.{IsNumber, end_is_free, next_is_free, ends_differ, nexts_differ, same_bytes}

@@ -22,18 +22,21 @@ use Rattle.c_effects.specs.Effects.{moved, scalars_in, stored_at, widest, zeros_
 use Rattle.c_effects.specs.Effects as translation
 use Rattle.c_effects.proofs.ZeroRuns.{widest_is, zero_at}
 use Rattle.track_scopes.specs.Lives.{with_store}
-use Rattle.annot_code.specs.Does.{Same}
-use Rattle.instrument.proofs.Integers.{is_number}
-use Rattle.instrument.proofs.Bounds.{replicated_bytes, saved_bytes}
-use Rattle.instrument.proofs.Values.{constant_has}
-use Rattle.instrument.proofs.Results.{before_is, writes_none, written}
-use Rattle.instrument.proofs.Standing.{Setting, Target, runs, Has, IsOf, Bounded, Here, Beside}
-use Rattle.instrument.proofs.Registers.{same_all, same_set, same_trans, get-set_same}
-use Rattle.instrument.proofs.Following.{Follows, GoesOn, IsUndefined, Later, later_same, onward, undefined_here}
-use Rattle.instrument.proofs.Pointers.{IsInside, saved_inside, shifted_twice}
-use Rattle.instrument.proofs.PointerValues.{scalar_register, reaches}
-use Rattle.instrument.proofs.Evaluating.{behind_setup, set_runs}
-use Rattle.instrument.proofs.Stores.{store_runs, write_follows}
+use Rattle.c_simulation.specs.SameRegisters.{Same}
+use Rattle.c_simulation.proofs.Integers.{is_number}
+use Rattle.c_simulation.proofs.Bounds.{replicated_bytes, saved_bytes}
+use Rattle.c_simulation.proofs.Values.{constant_has}
+use Rattle.c_simulation.proofs.Results.{before_is, writes_none}
+use Rattle.c_simulation.specs.Following.{written}
+use Rattle.c_simulation.specs.Standing.{Setting, Target, runs, Has, IsOf, Bounded, Here, Beside}
+use Rattle.c_simulation.proofs.Registers.{same_all, same_set, same_trans, get-set_same}
+use Rattle.c_simulation.proofs.Following.{later_same, onward, undefined_here}
+use Rattle.c_simulation.specs.Following.{Follows, GoesOn, IsUndefined, Later}
+use Rattle.c_simulation.proofs.Pointers.{saved_inside, shifted_twice}
+use Rattle.c_simulation.specs.Standing.{IsInside}
+use Rattle.c_simulation.proofs.PointerValues.{scalar_register, reaches}
+use Rattle.c_simulation.proofs.Evaluating.{behind_setup, set_runs}
+use Rattle.c_simulation.proofs.Stores.{store_runs, write_follows}
 use Rattle.instrument.proofs.ZeroBytes.{AreZeroed, IsAligned, midway, saved_zeros, wide_saved, zeros_all, zeros_first, zeros_join, zeros_rest}
 
 -- ---- the zeros that are left out, scalar by scalar

@@ -26,6 +26,7 @@ use Rattle.mon_syntax.specs.Registers.{Bindings, RegisterTable, no_registers, wi
 use Rattle.c_effects.specs.Effects.{any_temporaries, declaration_temporaries, effect_temporaries, full_temporaries, full_setup, full_value, effect}
 use Rattle.c_effects.specs.Effects.{effect_if_any, initial_temporaries, initialise, initialise_all}
 use Rattle.c_effects.specs.Expressions.{object_of_global, register_type, value_type, temporaries, before, one, set, condition_of, setup}
+use Rattle.c_simulation.specs.Labels.{end_label, next_label}
 use Rattle.annot_code.specs.Code.{assertions, behind_assertions}
 use Rattle.track_scopes.specs.Blocks.{entered, birth, births, deaths, with_born}
 
@@ -46,14 +47,6 @@ temporary_name k = codes "t" ++ decimal k
 -- `f3_sum`, a function, by its index
 abbrev pub function_name : ℕ → List ℕ → List ℕ
 function_name k name = take 255 (codes "f" ++ (decimal k ++ (codes "_" ++ name)))
-
--- `end_3`: the end of a loop, by how many loops stand around its body
-abbrev pub end_label : ℕ → List ℕ
-end_label loops = codes "end_" ++ decimal loops
-
--- `next_3`: the end of its body, where the next turn begins
-abbrev pub next_label : ℕ → List ℕ
-next_label loops = codes "next_" ++ decimal loops
 
 -- ---- the functions that become functions, which are the definitions, in order
 

@@ -2,7 +2,8 @@
 
 ghost use Rattle.std.specs.Prelude.{◌≡◌, ◌++◌, IfOk, codes, take};
 ghost use Rattle.std.specs.Fmt.{decimal};
-ghost use Rattle.instrument.specs.Translation.{end_label, function_name, global_name, next_label, pointer_name, register_name, temporary_name, text_name};
+ghost use Rattle.instrument.specs.Translation.{function_name, global_name, pointer_name, register_name, temporary_name, text_name};
+ghost use Rattle.c_simulation.specs.Labels.{end_label, next_label};
 
 use c_syntax::Name;
 use std::alloc::{AllocError, Global};

@@ -19,7 +19,8 @@ ghost use Rattle.instrument.specs.Limits.{ElseHasNumbers, FirstHasNumbers, HasNu
 ghost use Rattle.instrument.specs.Options.{after, behind_else, behind_first, behind_item, behind_items, births_by, do_loop, else_part_by, entering};
 ghost use Rattle.instrument.specs.Options.{first_part_by, item_by, items_by, plain_first_part, plain_spot, returned_by, statement_by};
 ghost use Rattle.instrument.specs.Options.{test_by, test_if_any_by, turns_by, while_loop, with_blocks};
-ghost use Rattle.instrument.specs.Translation.{alive, end_label, in_loop, leave_where_zero, next_label, returned_temporaries, with_variables};
+ghost use Rattle.instrument.specs.Translation.{alive, in_loop, leave_where_zero, returned_temporaries, with_variables};
+ghost use Rattle.c_simulation.specs.Labels.{end_label, next_label};
 
 use crate::block::{enter_block, inside, items_of, leave, one_more};
 use crate::name::{end_label, next_label};
@@ -29,9 +30,9 @@ use c_effects::conversion::value_type;
 use c_effects::effect::{effect, effect_if_any};
 use c_effects::expression::condition_of;
 use c_effects::full::full;
-use c_effects::initialiser::initialise_all;
 use c_effects::operator::register;
 use c_effects::part::{alone, then};
+use c_initialisers::initialiser::initialise_all;
 use c_syntax::{Annot, Expr, Item, Name, Stmt, StmtKind};
 use mon_syntax::{MonExpr, MonStmt, MonStmtKind, Registers};
 use std::alloc::{AllocError, Global};

@@ -1,0 +1,2 @@
+pub mod InitialiserTrees
+pub mod PartRuns

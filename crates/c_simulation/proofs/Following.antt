@@ -1,0 +1,153 @@
+-- How the target follows the source through statements, and how it goes on from part to part.
+use Rattle.std.proofs.Common.{◌≡◌, ℕ, ◌≤◌, ℤ, pos, Bool, true, false, cond, List, [], ◌++◌, length, refl, sym, ap, ◌∙◌, subst, arith, append_assoc}
+use Rattle.std.proofs.lemmas.List.{append-nil}
+use Rattle.std.specs.Ordering.{int_eq}
+use Rattle.c_syntax.specs.declared.place.Place.{Place}
+use Rattle.c_syntax.specs.Layouts.{Scalar}
+use Rattle.c_model.specs.Memory.{Value}
+use Rattle.c_model.specs.State.{State, Scope, Undefined, Over, Outcome, Normal, Stop, Evaluation, on_outcome}
+use Rattle.c_model.specs.Meaning.{is_zero}
+use Rattle.c_model.specs.Meaning as source_meaning
+use Rattle.c_model.proofs.Agreement.{extends_trans}
+use Rattle.mon_syntax.specs.Registers.{Bindings}
+use Rattle.mon_syntax.specs.Meaning.{Done, Flow, Next, Goes, Returns, writes, then_do, at_next, choose}
+use Rattle.mon_syntax.specs.LiveBlocks.{live_in}
+use Rattle.mon_syntax.specs.Trees.{MonExpression, MonStatements}
+use Rattle.c_effects.specs.Expressions.{before}
+use Rattle.c_simulation.specs.Following.{Evaluates, HasValue, HasNone, Later, IsResult, Follows, GoesOn, Breaks, Continues, IsLeft, IsOver, IsUndefined}
+use Rattle.c_simulation.specs.Labels.{end_label, next_label}
+use Rattle.c_simulation.proofs.Results.{written_writes, written_then, before_is}
+use Rattle.c_simulation.specs.Following.{written}
+use Rattle.c_simulation.specs.Standing.{Target, Did, Setting, runs, Has, IsOf, Bounded, Here, Beside, IsAnchored, InRegister, AtGlobal, Anchored, Standing}
+use Rattle.c_simulation.specs.SameRegisters.{Same}
+use Rattle.c_simulation.proofs.Registers.{same_all, same_less, same_trans}
+
+-- ---- later states
+
+pub later_same : (s : State) → Bounded s.store → Later s s []
+later_same s bounded = record { scope = refl; calls = refl; live = refl; longer = omega arith; bounded = bounded; spent = omega arith; output = sym (append-nil s.output) }
+
+pub later_trans : (a b c : State) (o p : List ℕ) → Later a b o → Later b c p → Later a c (o ++ p)
+later_trans a b c o p h g = record {
+  scope = g.scope ∙ h.scope;
+  calls = g.calls ∙ h.calls;
+  live = g.live ∙ h.live;
+  longer = omega (arith, h.longer, g.longer);
+  bounded = g.bounded;
+  spent = omega (arith, h.spent, g.spent);
+  output = g.output ∙ ap (λ l. l ++ p) h.output ∙ append_assoc a.output o p;
+}
+
+-- names in sight stand where they stood, as long as their registers stay
+pub anchored_same : (w : Setting) (low : ℕ) (bound : Bindings) (regs after : List Value) (scope : Scope) → Same low regs after → Anchored w low bound regs scope → Anchored w low bound after scope
+anchored_same w low bound regs after scope same h x number e = let a = h x number e in record { own = a.own; anchor = of_anchor a.anchor }
+  where
+    of_anchor : IsAnchored w low bound regs x number → IsAnchored w low bound after x number
+    of_anchor (InRegister r is_bound below points) = InRegister r is_bound below (same.below r below ∙ points)
+    of_anchor (AtGlobal free is_global points) = AtGlobal free is_global points
+
+-- where the blocks of a call live as before, and its names are in sight
+pub standing_as : (w : Setting) (h : Here) (low high : ℕ) (bound also : Bindings) (regs after : List Value) (s to : State) (looped : Bool) → Standing w h low bound regs s → Anchored w high also after to.scope → to.calls ≡ s.calls
+    → live_in to.store ≡ live_in s.store → length s.store ≤ length to.store → Bounded to.store → length after ≡ length regs → Standing w (record h { looped = looped }) high also after to
+standing_as w h low high bound also regs after s to looped st anchored calls live longer bounded long = record {
+  anchored = anchored;
+  active = calls ∙ st.active;
+  live = live ∙ st.live;
+  since_loop = st.since_loop;
+  before_loop = st.before_loop;
+  since_call = st.since_call;
+  before_call = st.before_call;
+  nested = st.nested;
+  longer = omega (arith, st.longer, longer);
+  bounded = bounded;
+  registers = long ∙ st.registers;
+}
+
+pub standing_later : (w : Setting) (h : Here) (low : ℕ) (bound : Bindings) (regs after : List Value) (s to : State) (o : List ℕ) → Same low regs after → Later s to o → Standing w h low bound regs s → Standing w h low bound after to
+standing_later w h low bound regs after s to o same l st =
+    standing_as w h low low bound bound regs after s to h.looped st (subst (Anchored w low bound after) (sym l.scope) (anchored_same w low bound regs after s.scope same st.anchored)) l.calls l.live l.longer l.bounded same.long
+
+module _ (w : Setting) (h : Here) (low : ℕ) where
+  abbrev pub Follow : List Value → (List Value → Flow Value) → State → Outcome (Unit {0}) → Did → Type 0
+  Follow regs on from r q = Follows w h low regs on from r q
+
+  -- nothing is done
+  pub stays : (regs : List Value) (s : State) (t : Target) → Bounded s.store → Beside w s.store s t → Follow regs Next s (Normal tt s) (Done (Next regs) t [])
+  stays regs s t bounded b = GoesOn s regs t [] (same_all low regs) (later_same s bounded) b refl refl
+
+  -- what was done before is in front
+  pub onward : (regs mid : List Value) (on : List Value → Flow Value) (from s : State) (o : List ℕ) (r : Outcome (Unit {0})) (q : Did) → Same low regs mid → Later from s o → Follow mid on s r q → Follow regs on from r (writes o q)
+  onward regs mid on from s o r q same l (GoesOn u after t p m k b e f) =
+      GoesOn u after t (o ++ p) (same_trans low low regs mid after (omega arith) same m) (later_trans from s u o p l k) b e (ap (writes o) f)
+  onward regs mid on from s o r q same l (Breaks u after t p i m k b e f) =
+      Breaks u after t (o ++ p) i (same_trans low low regs mid after (omega arith) same m) (later_trans from s u o p l k) b e (ap (writes o) f)
+  onward regs mid on from s o r q same l (Continues u after t p i m k b e f) =
+      Continues u after t (o ++ p) i (same_trans low low regs mid after (omega arith) same m) (later_trans from s u o p l k) b e (ap (writes o) f)
+  onward regs mid on from s o r q same l (IsLeft v u t p i k b e f) = IsLeft v u t (o ++ p) i (later_trans from s u o p l k) b e (ap (writes o) f)
+  onward regs mid on from s o r q same l (IsOver x z u p d e k f) = IsOver x z u (o ++ p) d e (k ∙ ap (λ y. y ++ p) l.output ∙ append_assoc from.output o p) (ap (writes o) f)
+  onward regs mid on from s o r q same l (IsUndefined at u p e k x) =
+      IsUndefined at u (o ++ p) e (k ∙ ap (λ y. y ++ p) l.output ∙ append_assoc from.output o p)
+      (record { rest = x.rest; is = written_writes o q ∙ ap (λ y. o ++ y) x.is ∙ sym (append_assoc o p x.rest) })
+
+  -- an undefined operation at once
+  pub undefined_here : (regs : List Value) (on : List Value → Flow Value) (s : State) (r : Outcome (Unit {0})) (q : Did) (at : Place) → r ≡ Stop (Over (Undefined at)) s → Follow regs on s r q
+  undefined_here regs on s r q at e = IsUndefined at s [] e (sym (append-nil s.output)) (record { rest = written q; is = refl })
+
+  -- 0 chooses the second on both sides
+  pub follows_choice : (regs : List Value) (on : List Value → Flow Value) (from s : State) (v : Value) (i : ℤ) (a b : Evaluation (Unit {0})) (p q : Did) → int_eq i (pos 0) ≡ is_zero v → Follow regs on from (a s) p → Follow regs on from (b s) q
+      → Follow regs on from (source_meaning.choose v a b s) (choose i p q)
+  follows_choice regs on from s v i a b p q same f k =
+      subst (λ t. Follow regs on from (source_meaning.choose v a b s) (cond t q p)) (sym same) (by (is_zero v))
+    where
+      by : (t : Bool) → Follow regs on from (cond t b a s) (cond t q p)
+      by true = k
+      by false = f
+
+  -- the value of an expression, and then what follows
+  pub follows_value : (on : List Value → Flow Value) (k : Scalar) (n : ℕ) (s : State) (t : Target) (r : Outcome Value) (f : Value → Evaluation (Unit {0})) (regs : List Value) (high : ℕ) (a b : MonStatements) (e : MonExpression) → Bounded s.store
+      → Evaluates w k s t r regs low high (runs w n t a regs) e → ((v : Value) → IsOf k v → (after : List Value) → Same low regs after → ((later : List Value) → Same high after later → Has w e later t.mem v)
+      → Follow after on s (f v s) (runs w n t b after)) → Follow regs on s (on_outcome r f) (runs w n t (before a b) regs)
+  follows_value on k n s t r f regs high a b e bounded (HasNone at x) go =
+      undefined_here regs on s (on_outcome r f) (runs w n t (before a b) regs) at (ap (λ r. on_outcome r f) x)
+  follows_value on k n s t r f regs high a b e bounded (HasValue v fit x after same run has) go =
+      subst (λ r. Follow regs on s (on_outcome r f) (runs w n t (before a b) regs)) (sym x)
+      (subst (λ q. Follow regs on s (f v s) q) (sym (before_is w.globals a b w.calls n regs t ∙ ap (λ q. then_do q (at_next (λ r u. runs w n u b r))) run))
+      (onward regs after on s s [] (f v s) (runs w n t b after) same (later_same s bounded)
+      (go v fit after same has)))
+
+  -- a statement, and then what follows
+  pub follows_then : (regs : List Value) (on : List Value → Flow Value) (from : State) (r : Outcome (Unit {0})) (q : Did) (f : Evaluation (Unit {0})) (g : List Value → Target → Did) → Follow regs Next from r q
+      → ((s : State) (after : List Value) (t : Target) (o : List ℕ) → Same low regs after → Later from s o → Beside w s.store s t → Follow after on s (f s) (g after t)) → Follow regs on from (on_outcome r (λ _. f)) (then_do q (at_next g))
+  follows_then regs on from r q f g (GoesOn s after t o m l b e e') k =
+      subst (λ r. Follow regs on from (on_outcome r (λ _. f)) (then_do q (at_next g))) (sym e)
+      (subst (λ q. Follow regs on from (f s) (then_do q (at_next g))) (sym e')
+      (onward regs after on from s o (f s) (g after t) m l (k s after t o m l b)))
+  follows_then regs on from r q f g (Breaks s after t o i m l b e e') k =
+      Breaks s after t o i m l b (ap (λ r. on_outcome r (λ _. f)) e) (ap (λ q. then_do q (at_next g)) e' ∙ ap (Done (Goes (end_label h.loops) after) t) (append-nil o))
+  follows_then regs on from r q f g (Continues s after t o i m l b e e') k =
+      Continues s after t o i m l b (ap (λ r. on_outcome r (λ _. f)) e) (ap (λ q. then_do q (at_next g)) e' ∙ ap (Done (Goes (next_label h.loops) after) t) (append-nil o))
+  follows_then regs on from r q f g (IsLeft v s t o i l b e e') k =
+      IsLeft v s t o i l b (ap (λ r. on_outcome r (λ _. f)) e) (ap (λ q. then_do q (at_next g)) e' ∙ ap (Done (Returns v) t) (append-nil o))
+  follows_then regs on from r q f g (IsOver x z s o d e l e') k =
+      IsOver x z s o d (ap (λ r. on_outcome r (λ _. f)) e) l (ap (λ q. then_do q (at_next g)) e')
+  follows_then regs on from r q f g (IsUndefined at s o e l ext) k =
+      IsUndefined at s o (ap (λ r. on_outcome r (λ _. f)) e) l (extends_trans o (written q) _ ext (written_then q (at_next g)))
+
+  -- registers that are kept above a number are kept below it
+  pub follows_lower : (high : ℕ) (regs : List Value) (on : List Value → Flow Value) (from : State) (r : Outcome (Unit {0})) (q : Did) → low ≤ high → Follows w h high regs on from r q → Follow regs on from r q
+  follows_lower high regs on from r q le (GoesOn s after t o m l b e f) = GoesOn s after t o (same_less low high regs after le m) l b e f
+  follows_lower high regs on from r q le (Breaks s after t o i m l b e f) = Breaks s after t o i (same_less low high regs after le m) l b e f
+  follows_lower high regs on from r q le (Continues s after t o i m l b e f) = Continues s after t o i (same_less low high regs after le m) l b e f
+  follows_lower high regs on from r q le (IsLeft v s t o i l b e f) = IsLeft v s t o i l b e f
+  follows_lower high regs on from r q le (IsOver x z s o d e l f) = IsOver x z s o d e l f
+  follows_lower high regs on from r q le (IsUndefined at s o e l ext) = IsUndefined at s o e l ext
+
+-- what leaves no loop stands anywhere in the call
+pub anywhere : (w : Setting) (h there : Here) (low : ℕ) (regs : List Value) (on : List Value → Flow Value) (from : State) (r : Outcome (Unit {0})) (q : Did) → h.looped ≡ false → h.result ≡ there.result → Follows w h low regs on from r q
+    → Follows w there low regs on from r q
+anywhere w h there low regs on from r q outside same (GoesOn s after t o m l b e f) = GoesOn s after t o m l b e f
+anywhere w h there low regs on from r q outside same (Breaks s after t o i m l b e f) = absurd cc
+anywhere w h there low regs on from r q outside same (Continues s after t o i m l b e f) = absurd cc
+anywhere w h there low regs on from r q outside same (IsLeft v s t o i l b e f) = IsLeft v s t o (subst (λ k. IsResult k v) same i) l b e f
+anywhere w h there low regs on from r q outside same (IsOver x z s o d e l f) = IsOver x z s o d e l f
+anywhere w h there low regs on from r q outside same (IsUndefined at s o e l ext) = IsUndefined at s o e l ext

@@ -1,0 +1,5 @@
+pub mod SameRegisters
+pub mod Labels
+pub mod Standing
+pub mod Following
+pub mod Laws
