@@ -47,17 +47,20 @@ anchored_same w low bound regs after scope same h x number e = let a = h x numbe
     of_anchor (AtGlobal free is_global points) = AtGlobal free is_global points
 
 -- where the blocks of a call live as before, and its names are in sight
-pub standing_as : (w : Setting) (h : Here) (low high : ℕ) (bound also : Bindings) (regs after : List Value) (s to : State) (looped : Bool) → Standing w h low bound regs s → Anchored w high also after to.scope → to.calls ≡ s.calls
-    → live_in to.store ≡ live_in s.store → length s.store ≤ length to.store → Bounded to.store → length after ≡ length regs → Standing w (record h { looped = looped }) high also after to
-standing_as w h low high bound also regs after s to looped st anchored calls live longer bounded long = record {
+pub standing_as : (w : Setting) (h : Here) (low high : ℕ) (bound also : Bindings) (regs after : List Value) (s to : State) (breaks looped : Bool) → Standing w h low bound regs s → Anchored w high also after to.scope → to.calls ≡ s.calls
+    → live_in to.store ≡ live_in s.store → length s.store ≤ length to.store → Bounded to.store → length after ≡ length regs → Standing w (record h { breaks = breaks; looped = looped }) high also after to
+standing_as w h low high bound also regs after s to breaks looped st anchored calls live longer bounded long = record {
   anchored = anchored;
   active = calls ∙ st.active;
   live = live ∙ st.live;
+  since_left = st.since_left;
+  before_left = st.before_left;
   since_loop = st.since_loop;
   before_loop = st.before_loop;
   since_call = st.since_call;
   before_call = st.before_call;
   nested = st.nested;
+  deeper = st.deeper;
   longer = omega (arith, st.longer, longer);
   bounded = bounded;
   registers = long ∙ st.registers;
@@ -65,7 +68,7 @@ standing_as w h low high bound also regs after s to looped st anchored calls liv
 
 pub standing_later : (w : Setting) (h : Here) (low : ℕ) (bound : Bindings) (regs after : List Value) (s to : State) (o : List ℕ) → Same low regs after → Later s to o → Standing w h low bound regs s → Standing w h low bound after to
 standing_later w h low bound regs after s to o same l st =
-    standing_as w h low low bound bound regs after s to h.looped st (subst (Anchored w low bound after) (sym l.scope) (anchored_same w low bound regs after s.scope same st.anchored)) l.calls l.live l.longer l.bounded same.long
+    standing_as w h low low bound bound regs after s to h.breaks h.looped st (subst (Anchored w low bound after) (sym l.scope) (anchored_same w low bound regs after s.scope same st.anchored)) l.calls l.live l.longer l.bounded same.long
 
 module _ (w : Setting) (h : Here) (low : ℕ) where
   abbrev pub Follow : List Value → (List Value → Flow Value) → State → Outcome (Unit {0}) → Did → Type 0
@@ -123,9 +126,9 @@ module _ (w : Setting) (h : Here) (low : ℕ) where
       (subst (λ q. Follow regs on from (f s) (then_do q (at_next g))) (sym e')
       (onward regs after on from s o (f s) (g after t) m l (k s after t o m l b)))
   follows_then regs on from r q f g (Breaks s after t o i m l b e e') k =
-      Breaks s after t o i m l b (ap (λ r. on_outcome r (λ _. f)) e) (ap (λ q. then_do q (at_next g)) e' ∙ ap (Done (Goes (end_label h.loops) after) t) (append-nil o))
+      Breaks s after t o i m l b (ap (λ r. on_outcome r (λ _. f)) e) (ap (λ q. then_do q (at_next g)) e' ∙ ap (Done (Goes (end_label h.levels) after) t) (append-nil o))
   follows_then regs on from r q f g (Continues s after t o i m l b e e') k =
-      Continues s after t o i m l b (ap (λ r. on_outcome r (λ _. f)) e) (ap (λ q. then_do q (at_next g)) e' ∙ ap (Done (Goes (next_label h.loops) after) t) (append-nil o))
+      Continues s after t o i m l b (ap (λ r. on_outcome r (λ _. f)) e) (ap (λ q. then_do q (at_next g)) e' ∙ ap (Done (Goes (next_label h.innermost) after) t) (append-nil o))
   follows_then regs on from r q f g (IsLeft v s t o i l b e e') k =
       IsLeft v s t o i l b (ap (λ r. on_outcome r (λ _. f)) e) (ap (λ q. then_do q (at_next g)) e' ∙ ap (Done (Returns v) t) (append-nil o))
   follows_then regs on from r q f g (IsOver x z s o d e l e') k =
@@ -142,12 +145,13 @@ module _ (w : Setting) (h : Here) (low : ℕ) where
   follows_lower high regs on from r q le (IsOver x z s o d e l f) = IsOver x z s o d e l f
   follows_lower high regs on from r q le (IsUndefined at s o e l ext) = IsUndefined at s o e l ext
 
--- what leaves no loop stands anywhere in the call
-pub anywhere : (w : Setting) (h there : Here) (low : ℕ) (regs : List Value) (on : List Value → Flow Value) (from : State) (r : Outcome (Unit {0})) (q : Did) → h.looped ≡ false → h.result ≡ there.result → Follows w h low regs on from r q
+-- what leaves no loop and no switch stands anywhere in the call
+pub anywhere : (w : Setting) (h there : Here) (low : ℕ) (regs : List Value) (on : List Value → Flow Value) (from : State) (r : Outcome (Unit {0})) (q : Did) → h.breaks ≡ false → h.looped ≡ false
+    → h.result ≡ there.result → Follows w h low regs on from r q
     → Follows w there low regs on from r q
-anywhere w h there low regs on from r q outside same (GoesOn s after t o m l b e f) = GoesOn s after t o m l b e f
-anywhere w h there low regs on from r q outside same (Breaks s after t o i m l b e f) = absurd cc
-anywhere w h there low regs on from r q outside same (Continues s after t o i m l b e f) = absurd cc
-anywhere w h there low regs on from r q outside same (IsLeft v s t o i l b e f) = IsLeft v s t o (subst (λ k. IsResult k v) same i) l b e f
-anywhere w h there low regs on from r q outside same (IsOver x z s o d e l f) = IsOver x z s o d e l f
-anywhere w h there low regs on from r q outside same (IsUndefined at s o e l ext) = IsUndefined at s o e l ext
+anywhere w h there low regs on from r q closed outside same (GoesOn s after t o m l b e f) = GoesOn s after t o m l b e f
+anywhere w h there low regs on from r q closed outside same (Breaks s after t o i m l b e f) = absurd cc
+anywhere w h there low regs on from r q closed outside same (Continues s after t o i m l b e f) = absurd cc
+anywhere w h there low regs on from r q closed outside same (IsLeft v s t o i l b e f) = IsLeft v s t o (subst (λ k. IsResult k v) same i) l b e f
+anywhere w h there low regs on from r q closed outside same (IsOver x z s o d e l f) = IsOver x z s o d e l f
+anywhere w h there low regs on from r q closed outside same (IsUndefined at s o e l ext) = IsUndefined at s o e l ext

@@ -74,17 +74,17 @@ abbrev pub IsResult : PlainType → Option Value → Type 0
 IsResult t v = IsResultOf (scalar_of t) v
 
 -- From a state, and over these registers, of which those below `low` are kept, the target's statements did what the source's did, where the source
--- goes on, leaves a loop or its body, returns, or is over. The target has the source's blocks; where it leaves a loop's body or the call, what was
--- born inside is dead there already. After an undefined operation the target may do anything.
+-- goes on, leaves a loop, a switch or a loop's body, returns, or is over. The target has the source's blocks; where it leaves these or the call, what
+-- was born inside is dead there already. After an undefined operation the target may do anything.
 pub data Follows (w : Setting) (h : Here) (low : ℕ) (regs : List Value) (on : List Value → Flow Value) (from : State) (r : Outcome (Unit {0})) (q : Did)
     : Type 0 where
   GoesOn : (s : State) (after : List Value) (t : Target) (o : List ℕ) → Same low regs after → Later from s o → Beside w s.store s t → r ≡ Normal tt s
       → q ≡ Done (on after) t o → Follows w h low regs on from r q
-  Breaks : (s : State) (after : List Value) (t : Target) (o : List ℕ) → h.looped ≡ true → Same low regs after → Later from s o
-      → Beside w (kill_from h.loop s.store) s t → r ≡ Stop (Leaves source.Breaks) s → q ≡ Done (Goes (end_label h.loops) after) t o
+  Breaks : (s : State) (after : List Value) (t : Target) (o : List ℕ) → h.breaks ≡ true → Same low regs after → Later from s o
+      → Beside w (kill_from h.left s.store) s t → r ≡ Stop (Leaves source.Breaks) s → q ≡ Done (Goes (end_label h.levels) after) t o
       → Follows w h low regs on from r q
   Continues : (s : State) (after : List Value) (t : Target) (o : List ℕ) → h.looped ≡ true → Same low regs after → Later from s o
-      → Beside w (kill_from h.loop s.store) s t → r ≡ Stop (Leaves source.Continues) s → q ≡ Done (Goes (next_label h.loops) after) t o
+      → Beside w (kill_from h.loop s.store) s t → r ≡ Stop (Leaves source.Continues) s → q ≡ Done (Goes (next_label h.innermost) after) t o
       → Follows w h low regs on from r q
   IsLeft : (v : Option Value) (s : State) (t : Target) (o : List ℕ) → IsResult h.result v → Later from s o → Beside w (kill_from w.base s.store) s t
       → r ≡ Stop (Leaves (source.Returns v)) s → q ≡ Done (Returns v) t o → Follows w h low regs on from r q

@@ -120,27 +120,35 @@ Bounded (b ∷ bs) = (b.size ≤ 2 ^ 62) × AreBytes b.bytes × Bounded bs
 
 -- ---- where a statement stands in a call
 
--- the blocks of the call's variables that live, the youngest first: those born since the body of the innermost loop began, and the others; how many
--- blocks were born when it began, whether there is a loop, how many loops there are, and what the function returns
+-- The blocks of the call's variables that live, the youngest first: those born since what a `break` leaves began, from there to the body of the
+-- innermost loop, and the others. How many blocks were born when both began, and whether a `break` and a `continue` may stand there. How many loops and
+-- switches there are, the number of the innermost loop among them, and what the function returns.
 pub record Here : Type 0 where
   pub inner : List LiveBlock
+  pub between : List LiveBlock
   pub outer : List LiveBlock
+  pub left : ℕ
   pub loop : ℕ
+  pub breaks : Bool
   pub looped : Bool
-  pub loops : ℕ
+  pub levels : ℕ
+  pub innermost : ℕ
   pub result : PlainType
 
 -- a state of the source in which these live, and what the registers below `low` have of it
 pub record Standing (w : Setting) (h : Here) (low : ℕ) (bound : Bindings) (regs : List Value) (s : State) : Type 0 where
   pub anchored : Anchored w low bound regs s.scope
   pub active : s.calls ≡ w.active
-  pub live : live_in s.store ≡ h.inner ++ (h.outer ++ w.around)
-  pub since_loop : AreFrom h.loop h.inner
+  pub live : live_in s.store ≡ h.inner ++ (h.between ++ (h.outer ++ w.around))
+  pub since_left : AreFrom h.left h.inner
+  pub before_left : AreBefore h.left (h.between ++ (h.outer ++ w.around))
+  pub since_loop : AreFrom h.loop (h.inner ++ h.between)
   pub before_loop : AreBefore h.loop (h.outer ++ w.around)
-  pub since_call : AreFrom w.base (h.inner ++ h.outer)
+  pub since_call : AreFrom w.base (h.inner ++ (h.between ++ h.outer))
   pub before_call : AreBefore w.base w.around
   pub nested : w.base ≤ h.loop
-  pub longer : h.loop ≤ length s.store
+  pub deeper : h.loop ≤ h.left
+  pub longer : h.left ≤ length s.store
   pub bounded : Bounded s.store
   pub registers : length regs ≡ w.registers
 

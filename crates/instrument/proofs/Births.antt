@@ -1,6 +1,6 @@
 -- Births of variables: what lives, what is in sight and which registers point to it after them, on both sides.
 use Rattle.std.proofs.Common.{◌≡◌, ℕ, suc, ◌+◌, ◌<◌, ◌≤◌, Bool, true, false, cond, if◌then◌else◌, nat_eq, nat_le, nat_lt, List, [], ◌∷◌, ◌++◌, length, length-append, Option, Some, None, slice_get, refl, sym, ap, ◌∙◌}
-use Rattle.std.proofs.Common.{subst, arith}
+use Rattle.std.proofs.Common.{subst, arith, append_assoc}
 use Rattle.std.proofs.lemmas.Bool.{le-leb}
 use Rattle.std.proofs.lemmas.Bool.Decides.{nat_tests}
 use Rattle.std.specs.Prelude.{map}
@@ -202,6 +202,10 @@ besides structs (d ∷ ds) s =
     let h = besides structs ds (record s { store = s.store ++ new_block Stack (size_of structs d.ctype) ∷ []; scope = (number_of d, length s.store + 1) ∷ s.scope }) in
     record { calls = h.calls; steps = h.steps; input = h.input; output = h.output }
 
+-- those of the call, and those around it
+pub all_apart : (a b c d : List LiveBlock) → (a ++ (b ++ c)) ++ d ≡ a ++ (b ++ (c ++ d))
+all_apart a b c d = append_assoc a (b ++ c) d ∙ ap (λ l. a ++ l) (append_assoc b c d)
+
 -- ---- where the variables of a block stand
 
 abbrev pub behind_births : List StructType → Here → State → List Declaration → Here
@@ -233,14 +237,19 @@ module _ (w : Setting) (h : Here) (low : ℕ) (r : RegisterTable) (ds : List Dec
         active = b.calls ∙ st.active;
         live =
             live_with w.unit.structs ds s ∙ ap (with_blocks w.unit.structs (length s.store + 1) ds) st.live
-            ∙ with_blocks-append w.unit.structs (length s.store + 1) ds h.inner (h.outer ++ w.around);
-        since_loop = blocks_from w.unit.structs h.loop (length s.store + 1) ds h.inner (omega (arith, st.longer)) st.since_loop;
+            ∙ with_blocks-append w.unit.structs (length s.store + 1) ds h.inner (h.between ++ (h.outer ++ w.around));
+        since_left = blocks_from w.unit.structs h.left (length s.store + 1) ds h.inner (omega (arith, st.longer)) st.since_left;
+        before_left = st.before_left;
+        since_loop =
+            subst (AreFrom h.loop) (with_blocks-append w.unit.structs (length s.store + 1) ds h.inner h.between)
+            (blocks_from w.unit.structs h.loop (length s.store + 1) ds (h.inner ++ h.between) (omega (arith, st.longer, st.deeper)) st.since_loop);
         before_loop = st.before_loop;
         since_call =
-            subst (AreFrom w.base) (with_blocks-append w.unit.structs (length s.store + 1) ds h.inner h.outer)
-            (blocks_from w.unit.structs w.base (length s.store + 1) ds (h.inner ++ h.outer) (omega (arith, st.longer, st.nested)) st.since_call);
+            subst (AreFrom w.base) (with_blocks-append w.unit.structs (length s.store + 1) ds h.inner (h.between ++ h.outer))
+            (blocks_from w.unit.structs w.base (length s.store + 1) ds (h.inner ++ (h.between ++ h.outer)) (omega (arith, st.longer, st.deeper, st.nested)) st.since_call);
         before_call = st.before_call;
         nested = st.nested;
+        deeper = st.deeper;
         longer = omega (arith, st.longer, long_with w.unit.structs ds s);
         bounded = bounded_born w.unit.structs ds s to done st.bounded;
         registers = born.long ∙ st.registers;

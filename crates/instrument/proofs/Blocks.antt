@@ -38,6 +38,7 @@ pub record Meets (w : Setting) (h : Here) (spot : Spot) (low : ℕ) (bound : Bin
   pub standing : Standing w h low bound regs s
   pub beside : Beside w s.store s t
   pub inside : Pointed low regs spot.inside h.inner
+  pub between : Pointed low regs spot.between h.between
   pub outside : Pointed low regs spot.outside h.outer
   pub names : names_of s.scope ≡ living
 
@@ -47,6 +48,7 @@ meets_later w h spot low bound living regs after s to t u o same l b m = record 
   standing = standing_later w h low bound regs after s to o same l m.standing;
   beside = b;
   inside = pointed_same low low regs after spot.inside h.inner (omega arith) same.below m.inside;
+  between = pointed_same low low regs after spot.between h.between (omega arith) same.below m.between;
   outside = pointed_same low low regs after spot.outside h.outer (omega arith) same.below m.outside;
   names = ap names_of l.scope ∙ m.names;
 }
@@ -55,7 +57,7 @@ meets_later w h spot low bound living regs after s to t u o same l b m = record 
 
 -- variables were born in a state, and others lived there; registers from `low` on point to them
 module _ (w : Setting) (h : Here) (n : ℕ) (old : State) (new : List LiveBlock) (low high : ℕ) (le : low ≤ high) (regs mid : List Value) (same : Same low regs mid) (blocks : List ℕ) (code : MonStatements) (leave : lives.EndLives blocks code)
-    (points : Pointed high mid blocks new) (are_new : AreFrom (length old.store) new) (deep : h.loop ≤ length old.store) (nested : w.base ≤ h.loop) (from : State) (born : live_in from.store ≡ new ++ live_in old.store)
+    (points : Pointed high mid blocks new) (are_new : AreFrom (length old.store) new) (deep : h.left ≤ length old.store) (deeper : h.loop ≤ h.left) (nested : w.base ≤ h.loop) (from : State) (born : live_in from.store ≡ new ++ live_in old.store)
     (long : length old.store ≤ length from.store) (spent : from.steps ≤ old.steps) (output : from.output ≡ old.output) where
   abbrev ends : Did → Did
   ends q = then_do q (at_next (exec_all over_blocks w.globals code w.calls n))
@@ -97,13 +99,13 @@ module _ (w : Setting) (h : Here) (n : ℕ) (old : State) (new : List LiveBlock)
       GoesOn (back_to old s) after (died s o l t) o (same_trans low high regs mid after le same m) (later_back s o l) (beside_died s o l t b) (ap (restored old) e)
       (ap ends f ∙ ap (writes o) (deaths_run s o l after t m b) ∙ ap (Done (Next after) (died s o l t)) (append-nil o))
   block_ends inner r q (Breaks s after t o i m l b e f) =
-      Breaks (back_to old s) after t o i (same_trans low high regs mid after le same m) (later_back s o l) (beside_back s o l h.loop t deep b) (ap (restored old) e)
-      (ap ends f ∙ ap (Done (Goes (end_label h.loops) after) t) (append-nil o))
+      Breaks (back_to old s) after t o i (same_trans low high regs mid after le same m) (later_back s o l) (beside_back s o l h.left t deep b) (ap (restored old) e)
+      (ap ends f ∙ ap (Done (Goes (end_label h.levels) after) t) (append-nil o))
   block_ends inner r q (Continues s after t o i m l b e f) =
-      Continues (back_to old s) after t o i (same_trans low high regs mid after le same m) (later_back s o l) (beside_back s o l h.loop t deep b) (ap (restored old) e)
-      (ap ends f ∙ ap (Done (Goes (next_label h.loops) after) t) (append-nil o))
+      Continues (back_to old s) after t o i (same_trans low high regs mid after le same m) (later_back s o l) (beside_back s o l h.loop t (omega (arith, deeper, deep)) b) (ap (restored old) e)
+      (ap ends f ∙ ap (Done (Goes (next_label h.innermost) after) t) (append-nil o))
   block_ends inner r q (IsLeft v s t o i l b e f) =
-      IsLeft v (back_to old s) t o i (later_back s o l) (beside_back s o l w.base t (omega (arith, nested, deep)) b) (ap (restored old) e)
+      IsLeft v (back_to old s) t o i (later_back s o l) (beside_back s o l w.base t (omega (arith, nested, deeper, deep)) b) (ap (restored old) e)
       (ap ends f ∙ ap (Done (Returns v) t) (append-nil o))
   block_ends inner r q (IsOver x z s o d e l f) = IsOver x z (back_to old s) o d (ap (restored old) e) (l ∙ ap (λ x. x ++ o) output) (ap ends f)
   block_ends inner r q (IsUndefined at s o e l ext) =
@@ -140,6 +142,7 @@ module _ (w : Setting) (h : Here) (spot : Spot) (low : ℕ) (r : RegisterTable) 
           standing = standing_born w h low r ds regs after s le m.standing born done own;
           beside = record { store_is = refl; frames = m.beside.frames; steps = m.beside.steps ∙ sym b.steps; input = m.beside.input ∙ sym b.input };
           inside = pointed_born w.unit.structs p (length s.store + 1) ds after spot.inside h.inner born.point (pointed_same low p regs after spot.inside h.inner le (λ j lt. born.before j (omega (arith, lt, le))) m.inside);
+          between = pointed_same low (p + length ds) regs after spot.between h.between (omega (arith, le)) (λ j lt. born.before j (omega (arith, lt, le))) m.between;
           outside = pointed_same low (p + length ds) regs after spot.outside h.outer (omega (arith, le)) (λ j lt. born.before j (omega (arith, lt, le))) m.outside;
           names = names_of-born w.unit.structs ds s ∙ ap (with_numbers ds) m.names;
         }
@@ -159,7 +162,7 @@ module _ (w : Setting) (h : Here) (spot : Spot) (low : ℕ) (r : RegisterTable) 
         (new_same w h low r ds regs after s le m.standing born done)
         (with_born p ds []) (deaths (with_born p ds [])) leave
         (pointed_born w.unit.structs p (length s.store + 1) ds after [] [] born.point tt)
-        (are_new w h low r ds regs after s le m.standing born done) m.standing.longer m.standing.nested to
+        (are_new w h low r ds regs after s le m.standing born done) m.standing.longer m.standing.deeper m.standing.nested to
         (new_live w h low r ds regs after s le m.standing born done) (long_with w.unit.structs ds s) le_steps b.output
         (with_blocks w.unit.structs (length s.store + 1) ds h.inner) (x to) q f
 

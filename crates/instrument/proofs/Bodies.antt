@@ -231,7 +231,7 @@ module _ (p : TranslationUnit) (globals : List Value) (main index : ℕ) (f : Fu
         let f1 = items_grow p body.items (entered ds r) in
         block_does w n here spot low r living ds (items_with T body.items call (suc n)) (items p (with_variables (next_register r) ds spot) (entered ds r) body.items) (omega (arith, body_registers mine f))
         (omega (arith, enough, f0, f1)) declared.born (λ old room.
-        items_follow w n body.items sight (around_body f.result) (behind_births p.structs here old ds) (with_variables (next_register r) ds spot) (next_register r + length ds) (entered ds r) (with_numbers ds living) refl scene
+        items_follow w n body.items sight (around_body f.result) (behind_births p.structs here old ds) (with_variables (next_register r) ds spot) (next_register r + length ds) (entered ds r) (with_numbers ds living) (refl, refl) scene
         (sees_born sight.entities ds living (found_parameters outer f.params (scope_for living) (sees_born part.sight.entities f.params names part.found) (declared_born f.params names))) (declared_born ds living)
         (are_there p ds declared.born.local room) refl (refl, refl) declared.items_declare body.formed body.typed body.noted body.letters (omega (arith, f0)) enough)
         regs s t m le

@@ -36,7 +36,8 @@ use Rattle.mon_syntax.specs.Trees.{MonFunction, MonStatements}
 use Rattle.c_effects.specs.Expressions.{before}
 use Rattle.track_scopes.specs.Blocks.{entered as entered_with, deaths, with_born}
 use Rattle.c_effects.proofs.Sequences.{before_none}
-use Rattle.instrument.specs.Translation.{monitored_globals, all_global_temporaries, initialise_globals, front, front_temporaries, code_of, parameters, function_of, functions_from, function_name, translated, result_of, value_types, index_of_main}
+use Rattle.instrument.specs.Translation.{outermost, monitored_globals, all_global_temporaries, initialise_globals, front, front_temporaries, code_of, parameters, function_of}
+use Rattle.instrument.specs.Translation.{functions_from, function_name, translated, result_of, value_types, index_of_main}
 use Rattle.c_simulation.specs.Standing.{Target, Did, Setting, Beside, Bounded, runs, Anchored}
 use Rattle.c_simulation.proofs.Results.{writes_none, written_then, before_is}
 use Rattle.c_simulation.specs.Following.{written}
@@ -324,7 +325,7 @@ module _ (p : TranslationUnit) (parts : Parts p p.funcs) (main_is : main_fault p
     -- what meets where there are these parameters
     abbrev MeetsWith : List Declaration → Type 0
     MeetsWith ds =
-        Meets (w s.store) (at_body (length s.store) [] f.result) (record { loops = 0; inside = with_born (length (value_types ds ++ mine)) ds []; outside = [] }) (length (value_types ds ++ mine) + length ds)
+        Meets (w s.store) (at_body (length s.store) [] f.result) (outermost (with_born (length (value_types ds ++ mine)) ds [])) (length (value_types ds ++ mine) + length ds)
         (entered_with ds (with_kinds mine (with_kinds (value_types ds) no_registers))).bound (with_numbers ds (numbers_in p.globals)) after entered t
 
     meets_none : MeetsWith []
@@ -333,17 +334,21 @@ module _ (p : TranslationUnit) (parts : Parts p p.funcs) (main_is : main_fault p
         anchored = subst (Anchored (w s.store) (length mine + 0) [] after) (sym scope) (anchored (w s.store) refl refl (length mine + 0) after);
         active = ap (λ k. k + 1) no_calls;
         live = refl;
+        since_left = tt;
+        before_left = all_before s.store;
         since_loop = tt;
         before_loop = all_before s.store;
         since_call = tt;
         before_call = all_before s.store;
         nested = omega arith;
+        deeper = omega arith;
         longer = omega arith;
         bounded = bounded;
         registers = long ∙ opens_long;
       };
       beside = record { store_is = store_is; frames = frames; steps = steps; input = input_is };
       inside = tt;
+      between = tt;
       outside = tt;
       names = ap names_of scope ∙ names_at_start p;
     }

@@ -15,10 +15,10 @@ use Rattle.c_effects.specs.Expressions.{before}
 use Rattle.c_effects.specs.Named.{unit_of, with_registers}
 use Rattle.c_effects.proofs.Sequences.{before_assoc, left_at}
 use Rattle.instrument.specs.Options.{behind_body, body_by, entering, globals_initialised, whole_code}
-use Rattle.instrument.specs.Translation.{after_body, body_part, front, front_temporaries, function_of, functions_from, parameters, registers_of_body, value_types}
+use Rattle.instrument.specs.Translation.{outermost, after_body, body_part, front, front_temporaries, function_of, functions_from, parameters, registers_of_body, value_types}
 use Rattle.instrument.proofs.GlobalCode.{globals_are}
 
-pub body_is : (n : Names) (inside : List ℕ) (a : Option Statement) → body_by n (record { loops = 0; inside = inside; outside = [] }) a ≡ body_part (unit_of n) inside n.table a
+pub body_is : (n : Names) (inside : List ℕ) (a : Option Statement) → body_by n (outermost inside) a ≡ body_part (unit_of n) inside n.table a
 body_is n inside None = refl
 body_is n inside (Some a) = refl
 
@@ -39,7 +39,7 @@ module _ (n : Names) (is_main : Bool) (f : Function) where
 
   pub code_is : (n0 n1 n2 : Names) (inside dying : List ℕ) (t0 t1 t2 t3 t4 : MonStatements) → n0 ≡ argued n f → n1 ≡ with_registers (front_temporaries (unit_of n0) is_main) n0 → n2 ≡ entering f.params n1
       → t0 ≡ NoStatement → t1 ≡ before t0 (if is_main then globals_initialised n0 (unit_of n0).globals else NoStatement) → t2 ≡ before t1 (parameters (unit_of n1) (next_register n1.table) 0 f.params)
-      → inside ≡ with_born (next_register n1.table) f.params [] → dying ≡ inside → t3 ≡ before t2 (body_by n2 (record { loops = 0; inside = inside; outside = [] }) f.body) → t4 ≡ before t3 (deaths dying)
+      → inside ≡ with_born (next_register n1.table) f.params [] → dying ≡ inside → t3 ≡ before t2 (body_by n2 (outermost inside) f.body) → t4 ≡ before t3 (deaths dying)
       → t4 ≡ whole_code p is_main f
   code_is n0 n1 n2 inside dying t0 t1 t2 t3 t4 names0 names1 names2 none first born inside_is dying_is body last =
       let second : n1 ≡ fronted = names1 ∙ ap (λ m. with_registers (front_temporaries (unit_of m) is_main) m) names0 in
@@ -52,7 +52,7 @@ module _ (n : Names) (is_main : Bool) (f : Function) where
       let end = deaths (with_born (next_register fronted.table) f.params []) in
       let second_code : t2 ≡ before (front p is_main f.params) entry = born ∙ (λ i. before (start i) (parameters (unit_of (second i)) (next_register (second i).table) 0 f.params)) in
       let third_code : t3 ≡ before (before (front p is_main f.params) entry) made =
-      body ∙ (λ i. before (second_code i) (body_by (third i) (record { loops = 0; inside = inside_at i; outside = [] }) f.body))
+      body ∙ (λ i. before (second_code i) (body_by (third i) (outermost (inside_at i)) f.body))
       ∙ ap (before (before (front p is_main f.params) entry)) (body_is (entering f.params fronted) (with_born (next_register fronted.table) f.params []) f.body) in
       last ∙ (λ i. before (third_code i) (deaths ((dying_is ∙ inside_at) i)))
       ∙ before_assoc (before (front p is_main f.params) entry) made end

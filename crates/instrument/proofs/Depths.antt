@@ -18,7 +18,7 @@ use Rattle.mon_syntax.specs.Valid.{Types, has_no_step, depth_of_all}
 use Rattle.track_scopes.specs.Blocks.{entered, deaths}
 use Rattle.c_effects.specs.Expressions.{before, one, set, setup, temporaries, condition_of}
 use Rattle.c_effects.specs.Effects.{block_of, any_temporaries, full_temporaries, full_setup, full_value, effect_if_any, initialise, initialise_all, initialise_local, may_be_born, initial_temporaries}
-use Rattle.instrument.specs.Translation.{Spot, in_loop, with_variables, leave_where_zero, test, test_if_any, loop, for_turns, returned, after_statement, after_first, after_item, statement, else_part, first_part, item, items}
+use Rattle.instrument.specs.Translation.{all_live, Spot, in_loop, with_variables, leave_where_zero, test, test_if_any, loop, for_turns, returned, after_statement, after_first, after_item, statement, else_part, first_part, item, items}
 use Rattle.c_simulation.specs.Labels.{end_label, next_label}
 use Rattle.instrument.proofs.ValidSetups.{no_step_before, no_step_setup, deep_one, deep_set, deep_setup, deep_behind}
 use Rattle.annot_code.proofs.Asserted.{assertions_deep}
@@ -86,11 +86,11 @@ module _ (p : TranslationUnit) where
 
   deep_returned : (spot : Spot) (r : RegisterTable) (e : Option Expression) → WhereAny (IsFullOrCall p.structs) e → depth_of_all (returned p spot r e) ≤ most_deep
   deep_returned spot r None f =
-      let live = spot.inside ++ spot.outside in
+      let live = all_live spot in
       let d = deep_deaths live in
       deep_before (deaths live) (one (tree.Return None)) most_deep (omega (arith, d)) (omega arith)
   deep_returned spot r (Some e) f =
-      let live = spot.inside ++ spot.outside in
+      let live = all_live spot in
       let last = length (r.kinds ++ full_temporaries e) in
       let value = full_value p r.bound r.kinds e in
       let leaves = one (tree.Return (Some (tree.Register last))) in
@@ -130,14 +130,14 @@ module _ (p : TranslationUnit) where
         deep_behind p r.bound r.kinds e (tree.If (condition_of p r.bound r.kinds e) (statement p spot first a) (else_part p spot second b))
         (4 * (1 + max (form.depth a) (form.depth_of_else b)) + most_deep) (omega (arith, s)) (omega (arith, m))
     deep spot r (While at annots e a) f =
-        let loops = spot.loops + 1 in
+        let loops = spot.levels + 1 in
         let inside = with_kinds (temporaries e) r in
         let x = deep (in_loop spot) inside a f.2 in
         let y = deep_test r.bound r.kinds loops e f.1.small.few in
         let d = deep_loop loops (test p r.bound r.kinds loops e) (statement p (in_loop spot) inside a) NoStatement (4 * form.depth a + most_deep) (omega (arith, y)) x (omega arith) in
         omega (arith, d)
     deep spot r (Do at a e) f =
-        let loops = spot.loops + 1 in
+        let loops = spot.levels + 1 in
         let after = after_statement p a r in
         let x = deep (in_loop spot) r a f.0 in
         let y = deep_test after.bound after.kinds loops e f.1.small.few in
@@ -146,7 +146,7 @@ module _ (p : TranslationUnit) where
     deep spot r (For at annots first e step a) f =
         let own = declared_first first in
         let inside = with_variables (next_register r) own spot in
-        let loops = spot.loops + 1 in
+        let loops = spot.levels + 1 in
         let born = entered own r in
         let begun = after_first p first born in
         let tested = with_kinds (any_temporaries temporaries e) begun in
@@ -160,8 +160,8 @@ module _ (p : TranslationUnit) where
         let d = deep_loop loops (test_if_any p begun.bound begun.kinds loops e) body (effect_if_any p after.bound after.kinds step) (4 * form.depth a + most_deep) (omega (arith, y)) x (omega (arith, z)) in
         let n = 4 * (1 + form.depth a) + most_deep in
         deep_alive p (next_register r) own (before (first_part p inside born first) whole) n (deep_before (first_part p inside born first) whole n (omega (arith, g)) (omega (arith, d))) (omega arith)
-    deep spot r (Break at) f = deep_jump spot.inside (end_label spot.loops) (4 * 1 + most_deep) (omega arith)
-    deep spot r (Continue at) f = deep_jump spot.inside (next_label spot.loops) (4 * 1 + most_deep) (omega arith)
+    deep spot r (Break at) f = deep_jump spot.inside (end_label spot.levels) (4 * 1 + most_deep) (omega arith)
+    deep spot r (Continue at) f = deep_jump (spot.inside ++ spot.between) (next_label spot.innermost) (4 * 1 + most_deep) (omega arith)
     deep spot r (Return at e) f = let d = deep_returned spot r e f in omega (arith, d)
     deep spot r _ f = absurd f
 

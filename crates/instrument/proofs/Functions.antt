@@ -26,7 +26,7 @@ use Rattle.c_effects.specs.Expressions.{before}
 use Rattle.track_scopes.specs.Blocks.{deaths, with_born}
 use Rattle.track_scopes.specs.Lives as lives
 use Rattle.track_scopes.specs.Lives.{AreFrom, with_store}
-use Rattle.instrument.specs.Translation.{Spot, body_part, code_of, front, front_temporaries, function_of, value_types, registers_of_body, result_of}
+use Rattle.instrument.specs.Translation.{Spot, body_part, code_of, outermost, front, front_temporaries, function_of, value_types, registers_of_body, result_of}
 use Rattle.mon_syntax.specs.declared.tree.MonType.{MonType}
 use Rattle.instrument.specs.Translation as target
 use Rattle.c_simulation.specs.Standing.{Target, Did, Setting, runs, Bounded, Here, Beside, Anchored}
@@ -55,9 +55,10 @@ marked s ms = record s { marks = ms }
 meets_marked : (w : Setting) (h : Here) (spot : Spot) (low : ℕ) (bound : Bindings) (living : List ℕ) (regs : List Value) (s : State) (t : Target) (ms : List Mark) → Meets w h spot low bound living regs s t
     → Meets w h spot low bound living regs (marked s ms) t
 meets_marked w h spot low bound living regs s t ms m = record {
-  standing = standing_as w h low low bound bound regs regs s (marked s ms) h.looped m.standing m.standing.anchored refl refl (omega arith) m.standing.bounded refl;
+  standing = standing_as w h low low bound bound regs regs s (marked s ms) h.breaks h.looped m.standing m.standing.anchored refl refl (omega arith) m.standing.bounded refl;
   beside = record { store_is = m.beside.store_is; frames = m.beside.frames; steps = m.beside.steps; input = m.beside.input };
   inside = m.inside;
+  between = m.between;
   outside = m.outside;
   names = m.names;
 }
@@ -70,7 +71,18 @@ zero_of f = zero_result over_blocks (result_of f.result)
 
 -- outside all loops of a function, whose call began where so many blocks were born, and whose parameters have these
 abbrev pub at_body : ℕ → List LiveBlock → PlainType → Here
-at_body base blocks result = record { inner = blocks; outer = []; loop = base; looped = false; loops = 0; result = result }
+at_body base blocks result = record {
+  inner = blocks;
+  between = [];
+  outer = [];
+  left = base;
+  loop = base;
+  breaks = false;
+  looped = false;
+  levels = 0;
+  innermost = 0;
+  result = result;
+}
 
 -- where a call begins, with a frame, and where its body does
 module _ (w : Setting) (s from : State) (base : w.base ≡ length s.store) (around : w.around ≡ live_in s.store) (active : w.active ≡ s.calls + 1) (f : Function) (ps : List ℕ) (blocks : List LiveBlock) (n : ℕ) (leave : lives.EndLives ps (deaths ps))
@@ -222,7 +234,7 @@ module _ (p : TranslationUnit) (globals : List Value) (main index : ℕ) (f : Fu
   first = length (value_types f.params ++ own)
 
   abbrev pub spot_of_body : Spot
-  spot_of_body = record { loops = 0; inside = with_born first f.params []; outside = [] }
+  spot_of_body = outermost (with_born first f.params [])
 
   abbrev pub names_around : List ℕ
   names_around = numbers_in p.globals
@@ -286,7 +298,7 @@ module _ (p : TranslationUnit) (globals : List Value) (main index : ℕ) (f : Fu
       entered_target = record t { mem = record t.mem { frames = t.mem.frames + 1 } }
 
       abbrev first_spot : Spot
-      first_spot = record { loops = 0; inside = []; outside = [] }
+      first_spot = outermost []
 
       meets_first : Meets w (at_body (length s.store) [] f.result) first_spot first first_table.bound names_around opens entered_source entered_target
       meets_first = record {
@@ -294,17 +306,21 @@ module _ (p : TranslationUnit) (globals : List Value) (main index : ℕ) (f : Fu
           anchored = anchored_globals s.store (s.calls + 1) opens;
           active = refl;
           live = refl;
+          since_left = tt;
+          before_left = all_before s.store;
           since_loop = tt;
           before_loop = all_before s.store;
           since_call = tt;
           before_call = all_before s.store;
           nested = omega arith;
+          deeper = omega arith;
           longer = omega arith;
           bounded = bounded;
           registers = opens_long;
         };
         beside = record { store_is = even.store_is; frames = ap (λ k. k + 1) even.frames; steps = even.steps; input = even.input };
         inside = tt;
+        between = tt;
         outside = tt;
         names = names_at_start p;
       }

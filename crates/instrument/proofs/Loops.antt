@@ -1,5 +1,5 @@
 -- Loops, turn by turn: the condition in front, the step, the body, and what stands after it.
-use Rattle.std.proofs.Common.{◌≡◌, ℕ, zero, suc, ◌+◌, ◌≤◌, ℤ, pos, Bool, true, false, cond, List, [], ◌++◌, length, Some, None, refl, sym, ap, ◌∙◌, subst, arith, append_assoc}
+use Rattle.std.proofs.Common.{◌≡◌, ℕ, zero, suc, ◌+◌, ◌≤◌, ℤ, pos, Bool, true, false, cond, List, [], ◌++◌, length, Some, None, refl, sym, ap, ◌∙◌, subst, arith}
 use Rattle.std.proofs.lemmas.List.{append-nil}
 use Rattle.std.proofs.lemmas.Slice.Eq.{bytes_eq-Decides}
 use Rattle.std.specs.Ordering.{int_eq}
@@ -15,7 +15,7 @@ use Rattle.c_model.specs.MonitoredRuns as machine
 use Rattle.mon_syntax.specs.Meaning.{Result, Done, Stops, Flow, Next, Goes, Returns, writes, then_do, at_next, at_label, choose, with_value, eval_number}
 use Rattle.mon_syntax.specs.Meaning as monitored
 use Rattle.mon_syntax.specs.BlockMemory.{over_blocks}
-use Rattle.mon_syntax.specs.LiveBlocks.{live_in}
+use Rattle.mon_syntax.specs.LiveBlocks.{LiveBlock, live_in}
 use Rattle.mon_syntax.specs.Trees.{MonExpression, If, Goto, Labelled, Loop, MonStatements, NoStatement, Then}
 use Rattle.c_effects.specs.Expressions.{before, one}
 use Rattle.track_scopes.specs.Lives.{AreBefore}
@@ -29,7 +29,7 @@ use Rattle.c_simulation.proofs.Registers.{same_all}
 use Rattle.instrument.proofs.Deaths.{kill_none, all_before}
 use Rattle.c_simulation.proofs.Following.{later_same, onward, undefined_here, follows_choice, follows_then, anywhere, standing_as}
 use Rattle.c_simulation.specs.Following.{Later, Follows, GoesOn, Breaks, Continues, IsLeft, IsOver, IsUndefined}
-use Rattle.instrument.proofs.Births.{pointed_append}
+use Rattle.instrument.proofs.Births.{pointed_append, all_apart}
 use Rattle.instrument.proofs.Blocks.{Meets, meets_later}
 
 -- a label catches its own jump
@@ -68,9 +68,10 @@ target_stepped t k = record t { steps = k }
 pub meets_stepped : (w : Setting) (h : Here) (spot : Spot) (low : ℕ) (bound : Bindings) (living : List ℕ) (regs : List Value) (s : State) (t : Target) (k : ℕ) → Meets w h spot low bound living regs s t
     → Meets w h spot low bound living regs (stepped s k) (target_stepped t k)
 meets_stepped w h spot low bound living regs s t k m = record {
-  standing = standing_as w h low low bound bound regs regs s (stepped s k) h.looped m.standing m.standing.anchored refl refl (omega arith) m.standing.bounded refl;
+  standing = standing_as w h low low bound bound regs regs s (stepped s k) h.breaks h.looped m.standing m.standing.anchored refl refl (omega arith) m.standing.bounded refl;
   beside = record { store_is = m.beside.store_is; frames = m.beside.frames; steps = refl; input = m.beside.input };
   inside = m.inside;
+  between = m.between;
   outside = m.outside;
   names = m.names;
 }
@@ -90,14 +91,29 @@ from_stepped w h low regs on s k r q x (IsUndefined at to o e l ext) = IsUndefin
 -- a loop, which begins where so many blocks were born
 module _ (w : Setting) (h : Here) (base : ℕ) (spot : Spot) (low : ℕ) (bound : Bindings) (living : List ℕ) (n : ℕ) where
   abbrev loops : ℕ
-  loops = spot.loops + 1
+  loops = spot.levels + 1
+
+  -- the blocks of the call's variables that live around the body
+  abbrev others_of : List LiveBlock
+  others_of = h.inner ++ (h.between ++ h.outer)
 
   -- the body of the loop, and its turns, which end by a jump to its label
   abbrev pub in_body : Here
-  in_body = record { inner = []; outer = h.inner ++ h.outer; loop = base; looped = true; loops = loops; result = h.result }
+  in_body = record {
+    inner = [];
+    between = [];
+    outer = others_of;
+    left = base;
+    loop = base;
+    breaks = true;
+    looped = true;
+    levels = loops;
+    innermost = loops;
+    result = h.result;
+  }
 
   abbrev pub in_turn : Here
-  in_turn = record { inner = []; outer = h.inner ++ h.outer; loop = base; looped = false; loops = loops; result = h.result }
+  in_turn = record in_body { breaks = false; looped = false }
 
   abbrev pub Meet : List Value → State → Target → Type 0
   Meet regs s t = Meets w in_turn (in_loop spot) low bound living regs s t
@@ -113,9 +129,10 @@ module _ (w : Setting) (h : Here) (base : ℕ) (spot : Spot) (low : ℕ) (bound 
 
   pub meets_body : (regs : List Value) (s : State) (t : Target) → Meet regs s t → MeetInBody regs s t
   meets_body regs s t m = record {
-    standing = standing_as w in_turn low low bound bound regs regs s s true m.standing m.standing.anchored refl refl (omega arith) m.standing.bounded refl;
+    standing = standing_as w in_turn low low bound bound regs regs s s true true m.standing m.standing.anchored refl refl (omega arith) m.standing.bounded refl;
     beside = m.beside;
     inside = m.inside;
+    between = m.between;
     outside = m.outside;
     names = m.names;
   }
@@ -126,24 +143,36 @@ module _ (w : Setting) (h : Here) (base : ℕ) (spot : Spot) (low : ℕ) (bound 
     standing = record {
       anchored = r.anchored;
       active = r.active;
-      live = r.live ∙ sym (append_assoc h.inner h.outer w.around);
+      live = live_is;
+      since_left = tt;
+      before_left = all_older;
       since_loop = tt;
-      before_loop = subst (AreBefore base) (r.live ∙ sym (append_assoc h.inner h.outer w.around)) (subst (λ i. AreBefore i (live_in s.store)) (sym e) (all_before s.store));
+      before_loop = all_older;
       since_call = r.since_call;
       before_call = r.before_call;
-      nested = omega (arith, e, r.nested, r.longer);
+      nested = omega (arith, e, r.nested, r.deeper, r.longer);
+      deeper = omega arith;
       longer = omega (arith, e);
       bounded = r.bounded;
       registers = r.registers;
     };
     beside = m.beside;
     inside = tt;
-    outside = pointed_append low regs spot.inside spot.outside h.inner h.outer m.inside m.outside;
+    between = tt;
+    outside =
+        pointed_append low regs spot.inside (spot.between ++ spot.outside) h.inner (h.between ++ h.outer) m.inside
+        (pointed_append low regs spot.between spot.outside h.between h.outer m.between m.outside);
     names = m.names;
   }
     where
       r : Standing w h low bound regs s
       r = m.standing
+
+      live_is : live_in s.store ≡ others_of ++ w.around
+      live_is = r.live ∙ sym (all_apart h.inner h.between h.outer w.around)
+
+      all_older : AreBefore base (others_of ++ w.around)
+      all_older = subst (AreBefore base) live_is (subst (λ i. AreBefore i (live_in s.store)) (sym e) (all_before s.store))
 
   meet_later : (regs after : List Value) (s to : State) (t u : Target) (o : List ℕ) → Same low regs after → Later s to o → Beside w to.store to u → Meet regs s t → Meet after to u
   meet_later regs after s to t u o same l b m = meets_later w in_turn (in_loop spot) low bound living regs after s to t u o same l b m
@@ -210,7 +239,7 @@ module _ (w : Setting) (h : Here) (base : ℕ) (spot : Spot) (low : ℕ) (bound 
       let round = Loop front (Then (Labelled a (next_label loops)) b) in
       subst (λ q. Follows w h low regs Next from r q)
       (sym (one_is w.globals (loop loops front a b) w.calls n regs t ∙ ap (λ q. then_do q (at_label (end_label loops))) (one_is w.globals round w.calls n regs t)))
-      (anywhere w in_turn h low regs Next from r _ refl refl (follows_label regs from r _ f))
+      (anywhere w in_turn h low regs Next from r _ refl refl refl (follows_label regs from r _ f))
 
   -- ---- conditions
 

@@ -25,7 +25,7 @@ use Rattle.c_effects.specs.Effects.{any_temporaries, effect_temporaries}
 use Rattle.c_effects.specs.Named.{condition_by, effect_if_any_by, setup_by, unit_of, with_registers}
 use Rattle.c_effects.proofs.Sequences.{before_assoc}
 use Rattle.instrument.specs.Options.{after, behind_first, births_by, else_part_by, entering, first_part_by, items_of_first, plain_first_part, statement_by, test_by, test_if_any_by, turns_by, with_blocks}
-use Rattle.instrument.specs.Translation.{Spot, alive, in_loop, with_variables}
+use Rattle.instrument.specs.Translation.{all_live, Spot, alive, in_loop, with_variables}
 use Rattle.c_simulation.specs.Labels.{end_label, next_label}
 use Rattle.instrument.proofs.DeclarationCode.{born_front}
 
@@ -88,45 +88,45 @@ if_code n n1 spot t t1 t2 at e a b c f c_is f_is first names last =
     ∙ before_assoc t (setup_by n e) (one (tree.If (condition_by n e) (statement_by (with_registers (temporaries e) n) spot a) (else_part_by (after a (with_registers (temporaries e) n)) spot b)))
 
 -- the body of a loop, which stands inside it
-pub round_code : {E : Type 0} (r : Result (Vec MonStmt Global) E) (f : Spot → MonStatements) (spot : Spot) (inner : ℕ) (outside : List ℕ) (body : MonStatements) → inner ≡ spot.loops + 1 → outside ≡ spot.inside ++ spot.outside
-    → body ≡ f (record { loops = inner; inside = []; outside = outside }) → IfOk r (λ code. plain_stmts code.items ≡ one (Labelled body (next_label inner)))
-    → IfOk r (λ code. plain_stmts code.items ≡ one (Labelled (f (in_loop spot)) (next_label (spot.loops + 1))))
+pub round_code : {E : Type 0} (r : Result (Vec MonStmt Global) E) (f : Spot → MonStatements) (spot : Spot) (inner : ℕ) (outside : List ℕ) (body : MonStatements) → inner ≡ spot.levels + 1 → outside ≡ all_live spot
+    → body ≡ f (record { levels = inner; innermost = inner; inside = []; between = []; outside = outside }) → IfOk r (λ code. plain_stmts code.items ≡ one (Labelled body (next_label inner)))
+    → IfOk r (λ code. plain_stmts code.items ≡ one (Labelled (f (in_loop spot)) (next_label (spot.levels + 1))))
 round_code (Ok code) f spot inner outside body inner_is outside_is done last =
     last ∙ ap (λ b. one (Labelled b (next_label inner))) done
-    ∙ (λ i. one (Labelled (f (record { loops = inner_is i; inside = []; outside = outside_is i })) (next_label (inner_is i))))
+    ∙ (λ i. one (Labelled (f (record { levels = inner_is i; innermost = inner_is i; inside = []; between = []; outside = outside_is i })) (next_label (inner_is i))))
 round_code (Err e) f spot inner outside body inner_is outside_is done last = tt
 
 module _ (n n1 n2 : Names) (spot : Spot) (t t2 : MonStatements) where
-  pub do_code : (at : Place) (e : Expression) (a : Statement) (inner : ℕ) (front round behind : MonStatements) → inner ≡ spot.loops + 1 → n1 ≡ after a n → front ≡ NoStatement
-      → round ≡ one (Labelled (statement_by n (in_loop spot) a) (next_label (spot.loops + 1))) → behind ≡ before round (test_by n1 inner e) → t2 ≡ before t (one (Labelled (one (Loop front behind)) (end_label inner)))
+  pub do_code : (at : Place) (e : Expression) (a : Statement) (inner : ℕ) (front round behind : MonStatements) → inner ≡ spot.levels + 1 → n1 ≡ after a n → front ≡ NoStatement
+      → round ≡ one (Labelled (statement_by n (in_loop spot) a) (next_label (spot.levels + 1))) → behind ≡ before round (test_by n1 inner e) → t2 ≡ before t (one (Labelled (one (Loop front behind)) (end_label inner)))
       → t2 ≡ before t (statement_by n spot (Do at a e))
   do_code at e a inner front round behind inner_is names front_is round_is behind_is last =
       let behind_at = behind_is ∙ (λ i. before (round_is i) (test_by (names i) (inner_is i) e)) in
       last ∙ (λ i. before t (one (Labelled (one (Loop (front_is i) (behind_at i))) (end_label (inner_is i)))))
 
-  pub turns_code : (e step : Option Expression) (a : Statement) (inner : ℕ) (front round behind : MonStatements) → inner ≡ spot.loops + 1 → front ≡ test_if_any_by n inner e → n1 ≡ with_registers (any_temporaries temporaries e) n
-      → round ≡ one (Labelled (statement_by n1 (in_loop spot) a) (next_label (spot.loops + 1))) → n2 ≡ after a n1 → behind ≡ before round (effect_if_any_by n2 step)
+  pub turns_code : (e step : Option Expression) (a : Statement) (inner : ℕ) (front round behind : MonStatements) → inner ≡ spot.levels + 1 → front ≡ test_if_any_by n inner e → n1 ≡ with_registers (any_temporaries temporaries e) n
+      → round ≡ one (Labelled (statement_by n1 (in_loop spot) a) (next_label (spot.levels + 1))) → n2 ≡ after a n1 → behind ≡ before round (effect_if_any_by n2 step)
       → t2 ≡ before t (one (Labelled (one (Loop front behind)) (end_label inner))) → t2 ≡ before t (turns_by n spot e step a)
   turns_code e step a inner front round behind inner_is front_is names round_is names2 behind_is last =
       let second : n2 ≡ after a (with_registers (any_temporaries temporaries e) n) = names2 ∙ ap (after a) names in
       let front_at = front_is ∙ ap (λ k. test_if_any_by n k e) inner_is in
-      let round_at = round_is ∙ ap (λ m. one (Labelled (statement_by m (in_loop spot) a) (next_label (spot.loops + 1)))) names in
+      let round_at = round_is ∙ ap (λ m. one (Labelled (statement_by m (in_loop spot) a) (next_label (spot.levels + 1)))) names in
       let behind_at = behind_is ∙ (λ i. before (round_at i) (effect_if_any_by (second i) step)) in
       last ∙ (λ i. before t (one (Labelled (one (Loop (front_at i) (behind_at i))) (end_label (inner_is i)))))
 
 -- the rest of a `for`
 pub rest_code : (n : Names) (spot : Spot) (t t1 t2 : MonStatements) (e step : Option Expression) (a : Statement) (own inside dying : List ℕ) → inside ≡ own ++ spot.inside → dying ≡ own
-    → t1 ≡ before t (turns_by n (record { loops = spot.loops; inside = inside; outside = spot.outside }) e step a) → t2 ≡ before t1 (deaths dying) → t2 ≡ before t (before (turns_by n (with_blocks own spot) e step a) (deaths own))
+    → t1 ≡ before t (turns_by n (record spot { inside = inside }) e step a) → t2 ≡ before t1 (deaths dying) → t2 ≡ before t (before (turns_by n (with_blocks own spot) e step a) (deaths own))
 rest_code n spot t t1 t2 e step a own inside dying inside_is dying_is done last =
     last
     ∙ (λ i. before (done i) (deaths (dying_is i)))
-    ∙ before_assoc t (turns_by n (record { loops = spot.loops; inside = inside; outside = spot.outside }) e step a) (deaths own)
-    ∙ ap (λ (l : List ℕ). before t (before (turns_by n (record { loops = spot.loops; inside = l; outside = spot.outside }) e step a) (deaths own))) inside_is
+    ∙ before_assoc t (turns_by n (record spot { inside = inside }) e step a) (deaths own)
+    ∙ ap (λ (l : List ℕ). before t (before (turns_by n (record spot { inside = l }) e step a) (deaths own))) inside_is
 
 -- a `for`, from its parts
 module _ (n : Names) (spot : Spot) (t t1 t2 : MonStatements) (first : ForFirst) where
   abbrev within : List ℕ → Spot
-  within l = record { loops = spot.loops; inside = l; outside = spot.outside }
+  within l = record spot { inside = l }
 
   abbrev front : List Declaration → MonStatements
   front ds = before (births_by n ds) (first_part_by (entering ds n) (with_variables (next_register n.table) ds spot) first)

@@ -47,7 +47,7 @@ use Rattle.c_simulation.proofs.Results.{writes_none, one_is, before_is}
 use Rattle.c_simulation.proofs.Registers.{get-set_same, same_all, same_less, same_trans, same_set, longer}
 use Rattle.c_simulation.proofs.Following.{later_same, stays, onward, undefined_here, follows_choice, follows_then}
 use Rattle.c_simulation.specs.Following.{Tests, HasTest, HasNoTest, Later, IsResult, IsResultOf, Follows, Breaks, Continues, IsLeft}
-use Rattle.instrument.proofs.Births.{with_numbers, pointed_point, pointed_append, behind_births}
+use Rattle.instrument.proofs.Births.{with_numbers, pointed_point, pointed_append, all_apart, behind_births}
 use Rattle.instrument.proofs.Blocks.{Meets, meets_later, block_follows}
 use Rattle.instrument.proofs.Loops as loops
 use Rattle.instrument.proofs.Loops.{Tested, IsTested, NotTested, choice_runs}
@@ -84,17 +84,27 @@ module _ (w : Setting) (n : ℕ) (h : Here) (spot : Spot) (low : ℕ) (bound : B
   beside_dead : (base : ℕ) → Beside w (kill_from base s.store) s (dead base)
   beside_dead base = record { store_is = ap (kill_from base) m.beside.store_is; frames = m.beside.frames; steps = m.beside.steps; input = m.beside.input }
 
-  -- those born inside the loop
-  loop_dead : runs w n t (deaths spot.inside) regs ≡ Done (Next regs) (dead h.loop) []
-  loop_dead =
-      deaths_end spot.inside w.globals w.calls n h.loop regs t h.inner (h.outer ++ w.around) (ap live_in m.beside.store_is ∙ m.standing.live) m.standing.since_loop m.standing.before_loop
+  live_is : live_in t.mem.store ≡ h.inner ++ (h.between ++ (h.outer ++ w.around))
+  live_is = ap live_in m.beside.store_is ∙ m.standing.live
+
+  -- those born inside what a `break` leaves
+  left_dead : runs w n t (deaths spot.inside) regs ≡ Done (Next regs) (dead h.left) []
+  left_dead =
+      deaths_end spot.inside w.globals w.calls n h.left regs t h.inner (h.between ++ (h.outer ++ w.around)) live_is m.standing.since_left m.standing.before_left
       (pointed_point low regs spot.inside h.inner m.inside)
 
+  -- those born inside the loop
+  loop_dead : runs w n t (deaths (spot.inside ++ spot.between)) regs ≡ Done (Next regs) (dead h.loop) []
+  loop_dead =
+      deaths_end (spot.inside ++ spot.between) w.globals w.calls n h.loop regs t (h.inner ++ h.between) (h.outer ++ w.around) (live_is ∙ sym (append_assoc h.inner h.between (h.outer ++ w.around))) m.standing.since_loop
+      m.standing.before_loop (pointed_point low regs (spot.inside ++ spot.between) (h.inner ++ h.between) (pointed_append low regs spot.inside spot.between h.inner h.between m.inside m.between))
+
   -- all of the call
-  call_dead : runs w n t (deaths (spot.inside ++ spot.outside)) regs ≡ Done (Next regs) (dead w.base) []
+  call_dead : runs w n t (deaths (target.all_live spot)) regs ≡ Done (Next regs) (dead w.base) []
   call_dead =
-      deaths_end (spot.inside ++ spot.outside) w.globals w.calls n w.base regs t (h.inner ++ h.outer) w.around (ap live_in m.beside.store_is ∙ m.standing.live ∙ sym (append_assoc h.inner h.outer w.around)) m.standing.since_call
-      m.standing.before_call (pointed_point low regs (spot.inside ++ spot.outside) (h.inner ++ h.outer) (pointed_append low regs spot.inside spot.outside h.inner h.outer m.inside m.outside))
+      deaths_end (target.all_live spot) w.globals w.calls n w.base regs t (h.inner ++ (h.between ++ h.outer)) w.around (live_is ∙ sym (all_apart h.inner h.between h.outer w.around)) m.standing.since_call m.standing.before_call
+      (pointed_point low regs (target.all_live spot) (h.inner ++ (h.between ++ h.outer))
+      (pointed_append low regs spot.inside (spot.between ++ spot.outside) h.inner (h.between ++ h.outer) m.inside (pointed_append low regs spot.between spot.outside h.between h.outer m.between m.outside)))
 
   -- what stands after deaths
   behind_deaths : (base : ℕ) (d a : MonStatements) → runs w n t d regs ≡ Done (Next regs) (dead base) [] → runs w n t (before d a) regs ≡ runs w n (dead base) a regs
@@ -103,21 +113,23 @@ module _ (w : Setting) (n : ℕ) (h : Here) (spot : Spot) (low : ℕ) (bound : B
       ∙ ap (λ q. then_do q (at_next (exec_all over_blocks w.globals a w.calls n))) e
       ∙ writes_none (runs w n (dead base) a regs)
 
-  goto_is : (d : MonStatements) (l k : List ℕ) → runs w n t d regs ≡ Done (Next regs) (dead h.loop) [] → k ≡ l → runs w n t (before d (one (tree.Goto k))) regs ≡ Done (Goes l regs) (dead h.loop) []
-  goto_is d l k x e = behind_deaths h.loop d (one (tree.Goto k)) x ∙ one_is w.globals (tree.Goto k) w.calls n regs (dead h.loop) ∙ ap (λ i. Done (Goes i regs) (dead h.loop) []) e
+  goto_is : (base : ℕ) (d : MonStatements) (l k : List ℕ) → runs w n t d regs ≡ Done (Next regs) (dead base) [] → k ≡ l → runs w n t (before d (one (tree.Goto k))) regs ≡ Done (Goes l regs) (dead base) []
+  goto_is base d l k x e = behind_deaths base d (one (tree.Goto k)) x ∙ one_is w.globals (tree.Goto k) w.calls n regs (dead base) ∙ ap (λ i. Done (Goes i regs) (dead base) []) e
 
-  pub break_follows : spot.loops ≡ h.loops → h.looped ≡ true → Follows w h low regs Next s (Stop (Leaves state.Breaks) s) (runs w n t (before (deaths spot.inside) (one (tree.Goto (end_label spot.loops)))) regs)
-  break_follows at looped =
-      Breaks s regs (dead h.loop) [] looped (same_all low regs) (later_same s m.standing.bounded) (beside_dead h.loop) refl (goto_is (deaths spot.inside) (end_label h.loops) (end_label spot.loops) loop_dead (ap end_label at))
+  pub break_follows : spot.levels ≡ h.levels → h.breaks ≡ true → Follows w h low regs Next s (Stop (Leaves state.Breaks) s) (runs w n t (before (deaths spot.inside) (one (tree.Goto (end_label spot.levels)))) regs)
+  break_follows at breaks =
+      Breaks s regs (dead h.left) [] breaks (same_all low regs) (later_same s m.standing.bounded) (beside_dead h.left) refl (goto_is h.left (deaths spot.inside) (end_label h.levels) (end_label spot.levels) left_dead (ap end_label at))
 
-  pub continue_follows : spot.loops ≡ h.loops → h.looped ≡ true → Follows w h low regs Next s (Stop (Leaves state.Continues) s) (runs w n t (before (deaths spot.inside) (one (tree.Goto (next_label spot.loops)))) regs)
+  pub continue_follows : spot.innermost ≡ h.innermost → h.looped ≡ true
+      → Follows w h low regs Next s (Stop (Leaves state.Continues) s) (runs w n t (before (deaths (spot.inside ++ spot.between)) (one (tree.Goto (next_label spot.innermost)))) regs)
   continue_follows at looped =
-      Continues s regs (dead h.loop) [] looped (same_all low regs) (later_same s m.standing.bounded) (beside_dead h.loop) refl (goto_is (deaths spot.inside) (next_label h.loops) (next_label spot.loops) loop_dead (ap next_label at))
+      Continues s regs (dead h.loop) [] looped (same_all low regs) (later_same s m.standing.bounded) (beside_dead h.loop) refl
+      (goto_is h.loop (deaths (spot.inside ++ spot.between)) (next_label h.innermost) (next_label spot.innermost) loop_dead (ap next_label at))
 
   pub leave_follows : (v : Option Value) (e : Option MonExpression) → IsResult h.result v → ((u : Target) → runs w n u (one (tree.Return e)) regs ≡ Done (monitored.Returns v) u [])
-      → Follows w h low regs Next s (Stop (Leaves (Returns v)) s) (runs w n t (before (deaths (spot.inside ++ spot.outside)) (one (tree.Return e))) regs)
+      → Follows w h low regs Next s (Stop (Leaves (Returns v)) s) (runs w n t (before (deaths (target.all_live spot)) (one (tree.Return e))) regs)
   leave_follows v e i run =
-      IsLeft v s (dead w.base) [] i (later_same s m.standing.bounded) (beside_dead w.base) refl (behind_deaths w.base (deaths (spot.inside ++ spot.outside)) (one (tree.Return e)) call_dead ∙ run (dead w.base))
+      IsLeft v s (dead w.base) [] i (later_same s m.standing.bounded) (beside_dead w.base) refl (behind_deaths w.base (deaths (target.all_live spot)) (one (tree.Return e)) call_dead ∙ run (dead w.base))
 
 -- ---- statements
 
@@ -220,7 +232,7 @@ module _ (w : Setting) (n : ℕ) where
       v_code = full_value w.unit r.bound r.kinds e
 
       leaves : MonStatements
-      leaves = before (deaths (spot.inside ++ spot.outside)) (one (tree.Return (Some (tree.Register last))))
+      leaves = before (deaths (target.all_live spot)) (one (tree.Return (Some (tree.Register last))))
 
       rest : MonStatements
       rest = before (set last v_code) leaves
@@ -260,7 +272,7 @@ module _ (w : Setting) (n : ℕ) where
 
   test_if_any_does : (h : Here) (base : ℕ) (spot : Spot) (low : ℕ) (living : List ℕ) (s : Sight) (g : Scene w n s) (r : RegisterTable) (e : Option Expression) → WhereAny IsPure e → WhereAny (IsCondition s) e → Any HasLetters e
       → low ≤ next_register r → next_register (with_kinds (any_temporaries temporaries e) r) ≤ w.registers
-      → loops.Tests w h base spot low r.bound living n (condition_with T e w.call) (test_if_any w.unit r.bound r.kinds (spot.loops + 1) e)
+      → loops.Tests w h base spot low r.bound living n (condition_with T e w.call) (test_if_any w.unit r.bound r.kinds (spot.levels + 1) e)
   test_if_any_does h base spot low living s g r None pure q l behind enough = loops.no_test w h base spot low r.bound living n
   test_if_any_does h base spot low living s g r (Some e) pure q l behind enough =
       loops.tests w h base spot low r.bound living n (source.condition_of T e w.call) (setup w.unit r.bound r.kinds e) (condition_of w.unit r.bound r.kinds e)
@@ -274,7 +286,7 @@ module _ (w : Setting) (n : ℕ) where
       → WhereAny IsEffect step → WhereAny (WellTyped s) step → Any EffectHasLetters step → AreAbsent living (declared_within a) → low ≤ next_register r
       → next_register (with_kinds (any_temporaries (effect_temporaries w.unit) step) (after_statement w.unit a (with_kinds (any_temporaries temporaries e) r))) ≤ w.registers
       → BodyDoes h spot low (with_kinds (any_temporaries temporaries e) r) living a
-      → DoSame h spot low r.bound living (for_turns e step a) (target.for_turns w.unit (spot.loops + 1) r (after_statement w.unit a (with_kinds (any_temporaries temporaries e) r)) e step
+      → DoSame h spot low r.bound living (for_turns e step a) (target.for_turns w.unit (spot.levels + 1) r (after_statement w.unit a (with_kinds (any_temporaries temporaries e) r)) e step
       (statement w.unit (target.in_loop spot) (with_kinds (any_temporaries temporaries e) r) a))
   for_does h spot low living s g r e step a e_full e_typed e_letters step_full step_typed step_letters absent behind enough body = λ regs from t m le.
       let r2 = with_kinds (any_temporaries temporaries e) r in
@@ -284,9 +296,9 @@ module _ (w : Setting) (n : ℕ) where
       let f2 = statement_grows w.unit a r2 in
       let f3 = more_kinds (any_temporaries (effect_temporaries w.unit) step) r3 in
       let here = loops.in_turn w h base spot low r.bound living n in
-      loops.loop_follows w h base spot low r.bound living n from _ regs t (test_if_any w.unit r.bound r.kinds (spot.loops + 1) e) (statement w.unit (target.in_loop spot) r2 a) (effect_if_any w.unit r3.bound r3.kinds step)
+      loops.loop_follows w h base spot low r.bound living n from _ regs t (test_if_any w.unit r.bound r.kinds (spot.levels + 1) e) (statement w.unit (target.in_loop spot) r2 a) (effect_if_any w.unit r3.bound r3.kinds step)
       (loops.turns_follow w h base spot low r.bound living n (condition_with T e w.call) (exec_with T a w.call (suc n)) (statement w.unit (target.in_loop spot) r2 a) (body base)
-      (test_if_any w.unit r.bound r.kinds (spot.loops + 1) e) (test_if_any_does h base spot low living s g r e e_full e_typed e_letters behind (omega (arith, enough, f2, f3)))
+      (test_if_any w.unit r.bound r.kinds (spot.levels + 1) e) (test_if_any_does h base spot low living s g r e e_full e_typed e_letters behind (omega (arith, enough, f2, f3)))
       (effect_with T step w.call) (effect_if_any w.unit r3.bound r3.kinds step)
       (λ regs from t m le. effect_if_any_does here (target.in_loop spot) low r3.bound living s g r3.kinds step step_full step_typed step_letters (omega (arith, behind, f1, f2)) enough regs from t
       (meets_behind w here (target.in_loop spot) low a r2 living regs from t absent m) le)
@@ -327,7 +339,7 @@ module _ (w : Setting) (n : ℕ) where
       let f3 = statement_grows w.unit a r3 in
       let f4 = more_kinds (any_temporaries (effect_temporaries w.unit) step) r4 in
       let turns_of = for_turns e step a in
-      let code = target.for_turns w.unit (spot.loops + 1) r2 r4 e step (statement w.unit (target.in_loop spot2) r3 a) in
+      let code = target.for_turns w.unit (spot.levels + 1) r2 r4 e step (statement w.unit (target.in_loop spot2) r3 a) in
       subst (λ x. Follows w h low regs Next from (restored from x) (runs w n t (target.alive w.unit (next_register r) ds (before (first_part w.unit spot2 r1 first) code)) regs))
       (handed_on (births w.unit.structs ds from) (λ _. first_with T first w.call (suc n)) (λ _. turns_of))
       (block_does h spot low r living ds (first_with T first w.call (suc n) >> turns_of) (before (first_part w.unit spot2 r1 first) code) behind (omega (arith, enough, f0, f1, f2, f3, f4)) born
@@ -353,8 +365,9 @@ module _ (w : Setting) (n : ℕ) where
   -- ---- all statements
 
   mutual
-    pub statement_follows : (a : Statement) (s : Sight) (around : Around) (h : Here) (spot : Spot) (low : ℕ) (r : RegisterTable) (living : List ℕ) → spot.loops ≡ h.loops → Scene w n s → AreFound s.entities (scope_for living)
-        → around.result ≡ h.result → (around.loops ≡ h.looped) × (around.breaks ≡ h.looped)
+    pub statement_follows : (a : Statement) (s : Sight) (around : Around) (h : Here) (spot : Spot) (low : ℕ) (r : RegisterTable) (living : List ℕ)
+        → (spot.levels ≡ h.levels) × (spot.innermost ≡ h.innermost) → Scene w n s → AreFound s.entities (scope_for living)
+        → around.result ≡ h.result → (around.loops ≡ h.looped) × (around.breaks ≡ h.breaks)
         → CanDeclare w.unit living a → StatementPlaced AreRangedAsserts a → StatementTyped s around a → StatementNoted s a → HasNumbers a → low ≤ next_register r → next_register (after_statement w.unit a r) ≤ w.registers
         → DoSame h spot low r.bound living (exec_with T a w.call (suc n)) (statement w.unit spot r a)
     statement_follows (Empty at) s around h spot low r living stands g sees result looped c f q m l behind enough = nothing_does h spot low r.bound living
@@ -379,25 +392,25 @@ module _ (w : Setting) (n : ℕ) where
         (else_follows b s around h spot low r2 living stands g sees result looped c.2 f.2 q.2 m.1 l.2 (omega (arith, behind, f1, f2)) enough))
     statement_follows (While at annots e a) s around h spot low r living stands g sees result looped c f q m l behind enough = λ regs from t x le.
         let r1 = with_kinds (temporaries e) r in
-        let k = spot.loops + 1 in
+        let k = spot.levels + 1 in
         let base = length from.store in
         let here = loops.in_body w h base spot low r.bound living n in
         subst (λ xs. Follows w h low regs Next from (exec_with T (While at xs e a) w.call (suc n) from) (runs w n t (statement w.unit spot r (While at [] e a)) regs)) (sym f.0)
         (loops.loop_follows w h base spot low r.bound living n from _ regs t (test w.unit r.bound r.kinds k e) (statement w.unit (target.in_loop spot) r1 a) NoStatement
         (loops.turns_follow w h base spot low r.bound living n (source.condition_of T e w.call) (exec_with T a w.call (suc n)) (statement w.unit (target.in_loop spot) r1 a)
-        (statement_follows a s (in_loop around) here (target.in_loop spot) low r1 living refl g sees result (refl, refl) c f.2 q.1 m.1 l.1 (omega (arith, behind, more_kinds (temporaries e) r)) enough)
+        (statement_follows a s (in_loop around) here (target.in_loop spot) low r1 living (refl, refl) g sees result (refl, refl) c f.2 q.1 m.1 l.1 (omega (arith, behind, more_kinds (temporaries e) r)) enough)
         (test w.unit r.bound r.kinds k e) (test_if_any_does h base spot low living s g r (Some e) f.1 q.0 l.0 behind (omega (arith, enough, statement_grows w.unit a r1)))
         state.done NoStatement (nothing_does (loops.in_turn w h base spot low r.bound living n) (target.in_loop spot) low r.bound living)
         n regs from t (loops.meets_turn w h base spot low r.bound living n regs from t refl x) le le))
     statement_follows (Do at a e) s around h spot low r living stands g sees result looped c f q m l behind enough = λ regs from t x le.
         let r1 = after_statement w.unit a r in
-        let k = spot.loops + 1 in
+        let k = spot.levels + 1 in
         let base = length from.store in
         let here = loops.in_body w h base spot low r.bound living n in
         let there = loops.in_turn w h base spot low r.bound living n in
         loops.loop_follows w h base spot low r.bound living n from _ regs t NoStatement (statement w.unit (target.in_loop spot) r a) (test w.unit r1.bound r1.kinds k e)
         (loops.do_turns_follow w h base spot low r.bound living n (source.condition_of T e w.call) (exec_with T a w.call (suc n)) (statement w.unit (target.in_loop spot) r a)
-        (statement_follows a s (in_loop around) here (target.in_loop spot) low r living refl g sees result (refl, refl) c.1 f.0 q.0 m l.0 behind (omega (arith, enough, more_kinds (temporaries e) r1)))
+        (statement_follows a s (in_loop around) here (target.in_loop spot) low r living (refl, refl) g sees result (refl, refl) c.1 f.0 q.0 m l.0 behind (omega (arith, enough, more_kinds (temporaries e) r1)))
         (test w.unit r1.bound r1.kinds k e)
         (loops.tests w h base spot low r.bound living n (source.condition_of T e w.call) (setup w.unit r1.bound r1.kinds e) (condition_of w.unit r1.bound r1.kinds e)
         (λ regs from t m. condition_tested there (target.in_loop spot) low r1.bound living s g r1.kinds e f.1 q.1 l.1 (omega (arith, behind, statement_grows w.unit a r)) enough regs from t
@@ -416,22 +429,24 @@ module _ (w : Setting) (n : ℕ) where
         let low2 = next_register r + length ds in
         subst (λ xs. DoSame h spot low r.bound living (exec_with T (For at xs first e step a) w.call (suc n)) (statement w.unit spot r (For at [] first e step a))) (sym f.0)
         (for_follows at first s g around h spot low r living e step a c.0 c.1 f.1 q.0 l.0 f.2 q.1 l.1 f.3 q.2 l.3 behind enough (λ old base.
-        statement_follows a (behind_first (inner s) first) (in_loop around) (loops.in_body w (behind_births w.unit.structs h old ds) base spot2 low2 r3.bound (with_numbers ds living) n) (target.in_loop spot2) low2 r3 (with_numbers ds living) refl
-        (scene_behind_first w n (inner s) first (scene_inner w n s g)) (sees_first first s living sees) result (refl, refl) c.2 f.4 q.3 m.1 l.2 (omega (arith, f0, f1, f2)) (omega (arith, enough, f4))))
-    statement_follows (Break at) s around h spot low r living stands g sees result looped c f q m l behind enough = λ regs from t x le. break_follows w n h spot low r.bound living from regs t x stands (sym looped.1 ∙ q)
-    statement_follows (Continue at) s around h spot low r living stands g sees result looped c f q m l behind enough = λ regs from t x le. continue_follows w n h spot low r.bound living from regs t x stands (sym looped.0 ∙ q)
+        statement_follows a (behind_first (inner s) first) (in_loop around) (loops.in_body w (behind_births w.unit.structs h old ds) base spot2 low2 r3.bound (with_numbers ds living) n) (target.in_loop spot2) low2 r3 (with_numbers ds living)
+        (refl, refl) (scene_behind_first w n (inner s) first (scene_inner w n s g)) (sees_first first s living sees) result (refl, refl) c.2 f.4 q.3 m.1 l.2 (omega (arith, f0, f1, f2)) (omega (arith, enough, f4))))
+    statement_follows (Break at) s around h spot low r living stands g sees result looped c f q m l behind enough = λ regs from t x le. break_follows w n h spot low r.bound living from regs t x stands.0 (sym looped.1 ∙ q)
+    statement_follows (Continue at) s around h spot low r living stands g sees result looped c f q m l behind enough = λ regs from t x le. continue_follows w n h spot low r.bound living from regs t x stands.1 (sym looped.0 ∙ q)
     statement_follows (Return at e) s around h spot low r living stands g sees result looped c f q m l behind enough = returned_does h spot low living s g r e f (subst (λ k. Returned s k e) result q) l behind enough at
     statement_follows _ s around h spot low r living stands g sees result looped c f q m l behind enough = absurd f
 
-    pub else_follows : (b : ElsePart) (s : Sight) (around : Around) (h : Here) (spot : Spot) (low : ℕ) (r : RegisterTable) (living : List ℕ) → spot.loops ≡ h.loops → Scene w n s → AreFound s.entities (scope_for living)
-        → around.result ≡ h.result → (around.loops ≡ h.looped) × (around.breaks ≡ h.looped)
+    pub else_follows : (b : ElsePart) (s : Sight) (around : Around) (h : Here) (spot : Spot) (low : ℕ) (r : RegisterTable) (living : List ℕ)
+        → (spot.levels ≡ h.levels) × (spot.innermost ≡ h.innermost) → Scene w n s → AreFound s.entities (scope_for living)
+        → around.result ≡ h.result → (around.loops ≡ h.looped) × (around.breaks ≡ h.breaks)
         → ElseCanDeclare w.unit living b → ElsePlaced AreRangedAsserts b → ElseTyped s around b → ElseNoted s b → ElseHasNumbers b → low ≤ next_register r → next_register (after_else w.unit b r) ≤ w.registers
         → DoSame h spot low r.bound living (else_with T b w.call (suc n)) (else_part w.unit spot r b)
     else_follows NoElse s around h spot low r living stands g sees result looped c f q m l behind enough = nothing_does h spot low r.bound living
     else_follows (Else a) s around h spot low r living stands g sees result looped c f q m l behind enough = statement_follows a s around h spot low r living stands g sees result looped c f q m l behind enough
 
-    pub items_follow : (is : BlockItems) (s : Sight) (around : Around) (h : Here) (spot : Spot) (low : ℕ) (r : RegisterTable) (living : List ℕ) → spot.loops ≡ h.loops → Scene w n s → AreFound s.entities (scope_for living)
-        → DeclarationsFound (declared_in is) (scope_for living) → AreThere w.unit (declared_in is) → around.result ≡ h.result → (around.loops ≡ h.looped) × (around.breaks ≡ h.looped)
+    pub items_follow : (is : BlockItems) (s : Sight) (around : Around) (h : Here) (spot : Spot) (low : ℕ) (r : RegisterTable) (living : List ℕ)
+        → (spot.levels ≡ h.levels) × (spot.innermost ≡ h.innermost) → Scene w n s → AreFound s.entities (scope_for living)
+        → DeclarationsFound (declared_in is) (scope_for living) → AreThere w.unit (declared_in is) → around.result ≡ h.result → (around.loops ≡ h.looped) × (around.breaks ≡ h.breaks)
         → ItemsCanDeclare w.unit living is → ItemsPlaced AreRangedAsserts is → ItemsTyped s around is → ItemsNoted s is → HaveNumbers is → low ≤ next_register r → next_register (after_items w.unit is r) ≤ w.registers
         → DoSame h spot low r.bound living (items_with T is w.call (suc n)) (items w.unit spot r is)
     items_follow NoItem s around h spot low r living stands g sees have local result looped c f q m l behind enough = nothing_does h spot low r.bound living

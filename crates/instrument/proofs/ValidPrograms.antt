@@ -35,7 +35,7 @@ use Rattle.c_effects.specs.Letters.{InitialiserHasLetters}
 use Rattle.track_scopes.specs.Blocks.{entered, deaths, with_born}
 use Rattle.c_effects.specs.Expressions.{value_type, before, set, object_of_global, global_index}
 use Rattle.c_effects.specs.Effects.{initial_temporaries, initialise}
-use Rattle.instrument.specs.Translation.{Spot, value_types, registers_of_body, registers_of, after_body, after_items, with_variables, body_part, parameters, items, code_of, function_name, arguments_from, result_of}
+use Rattle.instrument.specs.Translation.{outermost, Spot, value_types, registers_of_body, registers_of, after_body, after_items, with_variables, body_part, parameters, items, code_of, function_name, arguments_from, result_of}
 use Rattle.instrument.specs.Translation.{function_of, functions_from, translated}
 use Rattle.instrument.specs.Translation.{monitored_globals, index_of_main, front, front_temporaries, global_temporaries, all_global_temporaries, initialise_global, initialise_globals}
 use Rattle.annot_code.proofs.Depths.{deep_before}
@@ -239,7 +239,7 @@ module _ (p : TranslationUnit) (q : IsTypedProgram p) where
     live_point = point_born ts first f.params [] points tt
 
     abbrev spot : Spot
-    spot = record { loops = 0; inside = live; outside = [] }
+    spot = outermost live
 
     abbrev Are : MonStatements → Type 0
     Are a = AreStatements (count_of_globals p) gs ts (result_of f.result) [] a
@@ -253,7 +253,7 @@ module _ (p : TranslationUnit) (q : IsTypedProgram p) where
         (items_small p gs ts f.result part.sight.functions (λ s names seen. calls_valid p ts s names (subst (AreDefined p) (sym seen) part.file.functions)) (structs_fit p.structs q.structs) q.texts part.items sight
         (around_body f.result) sees.knows.structs_are part.typed) (entered_from ts own r born)
         (items_valid p gs ts f.result part.sight.functions (λ s names seen. calls_valid p ts s names (subst (AreDefined p) (sym seen) part.file.functions)) (structs_fit p.structs q.structs) q.texts part.items sight (around_body f.result) deeper
-        (record { inside = point_born ts (next_register r) own live (entered_from ts own r born) live_point; outside = tt })
+        (record { inside = point_born ts (next_register r) own live (entered_from ts own r born) live_point; between = tt; outside = tt })
         inside (sees_later p ts part.sight.functions r inside sight (λ x g h. entered_keep ts x g own r born h) sees) refl (λ e. absurd cc, λ e. absurd cc) (entered_have ts own r born) part.formed part.typed part.noted part.numbers part.letters
         (omega (arith, shallow)) within_items)
 

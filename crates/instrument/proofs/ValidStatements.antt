@@ -1,8 +1,9 @@
 -- Translated statements are valid: their labels, their loops, and the types of what stands in them.
 use Rattle.instrument.proofs.Own.{AreOwn, ElseOwn, ItemsOwn, StatementOwn}
-use Rattle.std.proofs.Common.{◌≡◌, ℕ, zero, suc, ◌+◌, ◌<◌, ◌≤◌, Bool, true, false, if◌then◌else◌, ◌||◌, List, [], ◌∷◌, ◌++◌, length, Option, Some, None, slice_get, refl, sym, ap, ◌∙◌, subst, arith}
+use Rattle.std.proofs.Common.{◌≡◌, ℕ, zero, suc, ◌+◌, ◌<◌, ◌≤◌, Bool, true, false, if◌then◌else◌, ◌||◌, List, [], ◌∷◌, ◌++◌, length, nat_eq, Option, Some, None, slice_get, refl, sym, ap, ◌∙◌, subst, arith}
 use Rattle.std.proofs.Math.Nat.{le-max_left, le-max_right}
 use Rattle.std.specs.Prelude.{bytes_eq}
+use Rattle.std.proofs.lemmas.Bool.Decides.{nat_tests}
 use Rattle.c_syntax.specs.Ctypes.{PlainType}
 use Rattle.c_syntax.specs.Expressions.{Expression, type_of}
 use Rattle.c_syntax.specs.Statements.{Declaration, Statement, Empty, Eval, Block, If, While, Do, For, Break, Continue, Return, ElsePart, NoElse, Else, ForFirst, NoFirst, First, Declare, Specify, Run, Asserts, BlockItems, NoItem, Then}
@@ -79,9 +80,21 @@ inside_end : (loops : ℕ) → 0 < loops → has_label (labels loops) (end_label
 inside_end zero lt = absurd (omega arith)
 inside_end (suc k) lt = end_among k
 
-inside_next : (loops : ℕ) → 0 < loops → has_label (labels loops) (next_label loops) ≡ true
-inside_next zero lt = absurd (omega arith)
-inside_next (suc k) lt = next_among k
+either_way : (a b : Bool) → b ≡ true → (a || b) ≡ true
+either_way true b e = refl
+either_way false b e = e
+
+-- of a loop that stands farther out
+inside_next : (k loops : ℕ) → 0 < k → k ≤ loops → has_label (labels loops) (next_label k) ≡ true
+inside_next k zero lt le = absurd (omega (arith, lt, le))
+inside_next k (suc n) lt le = by (λ less. inside_next k n lt less) (nat_eq k (suc n)) refl
+  where
+    by : (k ≤ n → has_label (labels n) (next_label k) ≡ true) → (t : Bool) → nat_eq k (suc n) ≡ t → has_label (labels (suc n)) (next_label k) ≡ true
+    by go true e = let same : k ≡ suc n = grind (arith, nat_tests) in subst (λ j. has_label (labels (suc n)) (next_label j) ≡ true) (sym same) (next_among n)
+    by go false e =
+        let less : k ≤ n = grind (arith, nat_tests) in
+        either_way (bytes_eq (next_label k) (next_label (suc n))) (has_label (end_label (suc n) ∷ labels n) (next_label k))
+        (either_way (bytes_eq (next_label k) (end_label (suc n))) (has_label (labels n) (next_label k)) (go less))
 
 one_more_loop : (loops : ℕ) → labels (loops + 1) ≡ next_label (loops + 1) ∷ end_label (loops + 1) ∷ labels loops
 one_more_loop loops =
@@ -93,6 +106,7 @@ one_more_loop loops =
 -- the blocks of the variables that live
 pub record Points (ts : Types) (spot : Spot) : Type 0 where
   pub inside : AllPoint ts spot.inside
+  pub between : AllPoint ts spot.between
   pub outside : AllPoint ts spot.outside
 
 module _ (p : TranslationUnit) (gs : List Signature) (ts : Types) (result : PlainType) (functions : List Known) (calls : (s : Sight) → s.names ≡ p.names → s.functions ≡ functions → CallsValid p gs ts s) (fits : StructsFit p.structs)
@@ -182,13 +196,16 @@ module _ (p : TranslationUnit) (gs : List Signature) (ts : Types) (result : Plai
   -- ---- what stands in which variables' lives
 
   points_with : (spot : Spot) (r : RegisterTable) (ds : List Declaration) → Within (entered ds r) → Points ts spot → Points ts (with_variables (next_register r) ds spot)
-  points_with spot r ds b k = record { inside = point_born ts (next_register r) ds spot.inside (entered_from ts ds r b) k.inside; outside = k.outside }
+  points_with spot r ds b k = record { inside = point_born ts (next_register r) ds spot.inside (entered_from ts ds r b) k.inside; between = k.between; outside = k.outside }
+
+  points_living : (spot : Spot) → Points ts spot → AllPoint ts (target.all_live spot)
+  points_living spot k = point_both ts spot.inside (spot.between ++ spot.outside) k.inside (point_both ts spot.between spot.outside k.between k.outside)
 
   points_loop : (spot : Spot) → Points ts spot → Points ts (target.in_loop spot)
-  points_loop spot k = record { inside = tt; outside = point_both ts spot.inside spot.outside k.inside k.outside }
+  points_loop spot k = record { inside = tt; between = tt; outside = points_living spot k }
 
-  jump_valid : (spot : Spot) (ls : Labels) (l : List ℕ) → Points ts spot → has_label ls l ≡ true → Are ls (before (deaths spot.inside) (one (tree.Goto l)))
-  jump_valid spot ls l k among = and_then ls (deaths spot.inside) (one (tree.Goto l)) (deaths_valid (count_of_globals p) gs ts (result_of result) ls spot.inside k.inside) (among, tt)
+  jump_valid : (live : List ℕ) (ls : Labels) (l : List ℕ) → AllPoint ts live → has_label ls l ≡ true → Are ls (before (deaths live) (one (tree.Goto l)))
+  jump_valid live ls l point among = and_then ls (deaths live) (one (tree.Goto l)) (deaths_valid (count_of_globals p) gs ts (result_of result) ls live point) (among, tt)
 
   -- a register that holds the result of a function that isn't void
   returns_register : (r : ℕ) (t : PlainType) → IsScalar t → slice_get ts r ≡ Some (value_type t) → ReturnsResult (count_of_globals p) ts (result_of t) (Some (tree.Register r))
@@ -199,11 +216,11 @@ module _ (p : TranslationUnit) (gs : List Signature) (ts : Types) (result : Plai
   returned_valid : (spot : Spot) (s : Sight) (r : RegisterTable) (v : See r s) (ls : Labels) (e : Option Expression) → Points ts spot → WhereAny (IsFullOrCall p.structs) e → Returned s result e → Any FullHasLetters e
       → Begins (r.kinds ++ any_temporaries returned_temporaries e) ts → Are ls (returned p spot r e)
   returned_valid spot s r v ls None k f q l b =
-      let live = spot.inside ++ spot.outside in
-      and_then ls (deaths live) (one (tree.Return None)) (deaths_valid (count_of_globals p) gs ts (result_of result) ls live (point_both ts spot.inside spot.outside k.inside k.outside))
+      let live = target.all_live spot in
+      and_then ls (deaths live) (one (tree.Return None)) (deaths_valid (count_of_globals p) gs ts (result_of result) ls live (points_living spot k))
       (subst (λ t. ReturnsResult (count_of_globals p) ts (result_of t) None) (sym q) tt, tt)
   returned_valid spot s r v ls (Some e) k f q l b =
-      let live = spot.inside ++ spot.outside in
+      let live = target.all_live spot in
       let te = full_temporaries e in
       let last = length (r.kinds ++ te) in
       let x = full_valid p gs ts (result_of result) r.bound s v.knows (calls s v.names_are v.functions_are) ls e r.kinds (subst IsScalar (sym q.ctype) q.scalar) f.is q.typed f.types l f.small.light
@@ -212,7 +229,7 @@ module _ (p : TranslationUnit) (gs : List Signature) (ts : Types) (result : Plai
       let leaves = one (tree.Return (Some (tree.Register last))) in
       and_then ls (full_setup p r.bound r.kinds e) (before (set last (full_value p r.bound r.kinds e)) (before (deaths live) leaves)) x.0
       (and_then ls (set last (full_value p r.bound r.kinds e)) (before (deaths live) leaves) ((value_type (type_of e), register, x.1), tt)
-      (and_then ls (deaths live) leaves (deaths_valid (count_of_globals p) gs ts (result_of result) ls live (point_both ts spot.inside spot.outside k.inside k.outside))
+      (and_then ls (deaths live) leaves (deaths_valid (count_of_globals p) gs ts (result_of result) ls live (points_living spot k))
       (returns_register last result q.scalar (register ∙ ap (λ t. Some (value_type t)) q.ctype), tt)))
 
   first_valid : (first : ForFirst) (s : Sight) (r : RegisterTable) (v : See r s) (around : Around) (spot : Spot) (ls : Labels) → Have r (declared_first first) → AreOwn (declared_first first) → FirstFormed p.structs first
@@ -251,16 +268,16 @@ module _ (p : TranslationUnit) (gs : List Signature) (ts : Types) (result : Plai
 
   mutual
     statement_valid : (a : Statement) (s : Sight) (around : Around) (spot : Spot) (k : Points ts spot) (r : RegisterTable) (v : See r s) → around.result ≡ result
-        → (around.loops ≡ true → 0 < spot.loops) × (around.breaks ≡ true → 0 < spot.loops) → StatementFormed p.structs a
-        → StatementTyped s around a → StatementNoted s a → StatementOwn a → HasNumbers a → spot.loops + form.depth a ≤ 1000 → Within (after_statement p a r) → Are (labels spot.loops) (statement p spot r a)
+        → (around.loops ≡ true → (0 < spot.innermost) × (spot.innermost ≤ spot.levels)) × (around.breaks ≡ true → 0 < spot.levels) → StatementFormed p.structs a
+        → StatementTyped s around a → StatementNoted s a → StatementOwn a → HasNumbers a → spot.levels + form.depth a ≤ 1000 → Within (after_statement p a r) → Are (labels spot.levels) (statement p spot r a)
     statement_valid (Empty at) s around spot k r v same o f q m w l d b = tt
-    statement_valid (Eval at e) s around spot k r v same o f q m w l d b = effect_at s r v (labels spot.loops) e f q l b
+    statement_valid (Eval at e) s around spot k r v same o f q m w l d b = effect_at s r v (labels spot.levels) e f q l b
     statement_valid (Block at body) s around spot k r v same o f q m w l d b =
         let own = declared_in body in
         let inside = entered own r in
         let born = begins_then inside.kinds (after_items p body inside).kinds ts (items_begin p body inside) b in
         let z2 = sees_later p ts functions r inside s (λ x g h. entered_keep ts x g own r born h) v in
-        alive_valid (count_of_globals p) gs ts (result_of result) (labels spot.loops) p (next_register r) own (items p (with_variables (next_register r) own spot) inside body) (items_small body (inner s) around v.knows.structs_are q)
+        alive_valid (count_of_globals p) gs ts (result_of result) (labels spot.levels) p (next_register r) own (items p (with_variables (next_register r) own spot) inside body) (items_small body (inner s) around v.knows.structs_are q)
         (entered_from ts own r born)
         (items_valid body (inner s) around (with_variables (next_register r) own spot) (points_with spot r own born k) inside (sees_inner p ts functions inside.bound s z2) same o (entered_have ts own r born) f q m w l (omega (arith, d)) b)
     statement_valid (If at e x y) s around spot k r v same o f q m w l d b =
@@ -270,8 +287,8 @@ module _ (p : TranslationUnit) (gs : List Signature) (ts : Types) (result : Plai
         let first = begins_then z.kinds z2.kinds ts (statement_begins p x z) second in
         let left = le-max_left (form.depth x) (form.depth_of_else y) in
         let right = le-max_right (form.depth x) (form.depth_of_else y) in
-        and_then (labels spot.loops) (setup p r.bound r.kinds e) (one (tree.If (condition_of p r.bound r.kinds e) (statement p spot z x) (else_part p spot z2 y)))
-        (setup_valid p gs ts (result_of result) r.bound s v.knows (labels spot.loops) e r.kinds (HasValue q.0.scalar) f.0.is q.0.typed f.0.types l.0 f.0.small.light first) (
+        and_then (labels spot.levels) (setup p r.bound r.kinds e) (one (tree.If (condition_of p r.bound r.kinds e) (statement p spot z x) (else_part p spot z2 y)))
+        (setup_valid p gs ts (result_of result) r.bound s v.knows (labels spot.levels) e r.kinds (HasValue q.0.scalar) f.0.is q.0.typed f.0.types l.0 f.0.small.light first) (
           (
             condition_valid p ts r.bound s v.knows e r.kinds q.0.scalar f.0.is q.0.typed f.0.types l.0 f.0.small.light first,
             statement_valid x s around spot k z v same o f.1 q.1 m.0 w.0 l.1 (omega (arith, d, left)) second,
@@ -280,22 +297,22 @@ module _ (p : TranslationUnit) (gs : List Signature) (ts : Types) (result : Plai
           tt,
         )
     statement_valid (While at annots e a) s around spot k r v same o f q m w l d b =
-        let loops = spot.loops + 1 in
+        let loops = spot.levels + 1 in
         let z = with_kinds (temporaries e) r in
         let first = begins_then z.kinds (after_statement p a z).kinds ts (statement_begins p a z) b in
-        loop_valid spot.loops (test p r.bound r.kinds loops e) (statement p (target.in_loop spot) z a) NoStatement (omega (arith, d)) (no_step_test p r.bound r.kinds loops e) refl
-        (test_at s r v (ended spot.loops) loops e (own_end spot.loops) f.1 q.0 l.0 first)
-        (statement_valid a s (in_loop around) (target.in_loop spot) (points_loop spot k) z v same (λ t. omega arith, λ t. omega arith) f.2 q.1 m.1 w l.1 (omega (arith, d)) b) tt
+        loop_valid spot.levels (test p r.bound r.kinds loops e) (statement p (target.in_loop spot) z a) NoStatement (omega (arith, d)) (no_step_test p r.bound r.kinds loops e) refl
+        (test_at s r v (ended spot.levels) loops e (own_end spot.levels) f.1 q.0 l.0 first)
+        (statement_valid a s (in_loop around) (target.in_loop spot) (points_loop spot k) z v same (λ t. (omega arith, omega arith), λ t. omega arith) f.2 q.1 m.1 w l.1 (omega (arith, d)) b) tt
     statement_valid (Do at a e) s around spot k r v same o f q m w l d b =
-        let loops = spot.loops + 1 in
+        let loops = spot.levels + 1 in
         let z = after_statement p a r in
         let first = begins_front z.kinds (temporaries e) ts b in
-        loop_valid spot.loops NoStatement (statement p (target.in_loop spot) r a) (test p z.bound z.kinds loops e) (omega (arith, d)) refl (no_step_test p z.bound z.kinds loops e) tt
-        (statement_valid a s (in_loop around) (target.in_loop spot) (points_loop spot k) r v same (λ t. omega arith, λ t. omega arith) f.0 q.0 m w l.0 (omega (arith, d)) first)
-        (test_at s z (sees_later p ts functions r z s (statement_keeps ts p a r first) v) (ended spot.loops) loops e (own_end spot.loops) f.1 q.1 l.1 b)
+        loop_valid spot.levels NoStatement (statement p (target.in_loop spot) r a) (test p z.bound z.kinds loops e) (omega (arith, d)) refl (no_step_test p z.bound z.kinds loops e) tt
+        (statement_valid a s (in_loop around) (target.in_loop spot) (points_loop spot k) r v same (λ t. (omega arith, omega arith), λ t. omega arith) f.0 q.0 m w l.0 (omega (arith, d)) first)
+        (test_at s z (sees_later p ts functions r z s (statement_keeps ts p a r first) v) (ended spot.levels) loops e (own_end spot.levels) f.1 q.1 l.1 b)
     statement_valid (For at annots first e step a) s around spot k r v same o f q m w l d b =
         let own = declared_first first in
-        let loops = spot.loops + 1 in
+        let loops = spot.levels + 1 in
         let inside = with_variables (next_register r) own spot in
         let y = entered own r in
         let z = after_first p first y in
@@ -316,35 +333,37 @@ module _ (p : TranslationUnit) (gs : List Signature) (ts : Types) (result : Plai
         let tested = test_if_any p z.bound z.kinds loops e in
         let body = statement p (target.in_loop inside) u a in
         let last = effect_if_any p z2.bound z2.kinds step in
-        alive_valid (count_of_globals p) gs ts (result_of result) (labels spot.loops) p (next_register r) own (before front (one (loop loops tested body last))) (first_small first t around v.knows.structs_are q.0) (entered_from ts own r born)
-        (and_then (labels spot.loops) front (one (loop loops tested body last))
-        (first_valid first t y in_born around inside (labels spot.loops) have w.0 f.1 q.0 l.0 second)
-        (loop_valid spot.loops tested body last (omega (arith, d)) (no_step_test_if_any p z.bound z.kinds loops e) (no_step_effect_if_any p z2.bound z2.kinds step)
-        (test_if_any_at after z in_turns (ended spot.loops) loops e (own_end spot.loops) f.2 q.1 l.1 third)
-        (statement_valid a after (in_loop around) (target.in_loop inside) (points_loop inside points) u in_turns same (λ t. omega arith, λ t. omega arith) f.4 q.3 m.1 w.1 l.2 (omega (arith, d)) fourth)
-        (effect_if_any_at after z2 behind (ended spot.loops) step f.3 q.2 l.3 b)))
-    statement_valid (Break at) s around spot k r v same o f q m w l d b = jump_valid spot (labels spot.loops) (end_label spot.loops) k (inside_end spot.loops (o.1 q))
-    statement_valid (Continue at) s around spot k r v same o f q m w l d b = jump_valid spot (labels spot.loops) (next_label spot.loops) k (inside_next spot.loops (o.0 q))
-    statement_valid (Return at e) s around spot k r v same o f q m w l d b = returned_valid spot s r v (labels spot.loops) e k f (subst (λ t. Returned s t e) same q) l b
+        alive_valid (count_of_globals p) gs ts (result_of result) (labels spot.levels) p (next_register r) own (before front (one (loop loops tested body last))) (first_small first t around v.knows.structs_are q.0) (entered_from ts own r born)
+        (and_then (labels spot.levels) front (one (loop loops tested body last))
+        (first_valid first t y in_born around inside (labels spot.levels) have w.0 f.1 q.0 l.0 second)
+        (loop_valid spot.levels tested body last (omega (arith, d)) (no_step_test_if_any p z.bound z.kinds loops e) (no_step_effect_if_any p z2.bound z2.kinds step)
+        (test_if_any_at after z in_turns (ended spot.levels) loops e (own_end spot.levels) f.2 q.1 l.1 third)
+        (statement_valid a after (in_loop around) (target.in_loop inside) (points_loop inside points) u in_turns same (λ t. (omega arith, omega arith), λ t. omega arith) f.4 q.3 m.1 w.1 l.2 (omega (arith, d)) fourth)
+        (effect_if_any_at after z2 behind (ended spot.levels) step f.3 q.2 l.3 b)))
+    statement_valid (Break at) s around spot k r v same o f q m w l d b = jump_valid spot.inside (labels spot.levels) (end_label spot.levels) k.inside (inside_end spot.levels (o.1 q))
+    statement_valid (Continue at) s around spot k r v same o f q m w l d b =
+        let loop = o.0 q in
+        jump_valid (spot.inside ++ spot.between) (labels spot.levels) (next_label spot.innermost) (point_both ts spot.inside spot.between k.inside k.between) (inside_next spot.innermost spot.levels loop.0 loop.1)
+    statement_valid (Return at e) s around spot k r v same o f q m w l d b = returned_valid spot s r v (labels spot.levels) e k f (subst (λ t. Returned s t e) same q) l b
     statement_valid _ s around spot k r v same o f q m w l d b = absurd f
 
     else_valid : (y : ElsePart) (s : Sight) (around : Around) (spot : Spot) (k : Points ts spot) (r : RegisterTable) (v : See r s) → around.result ≡ result
-        → (around.loops ≡ true → 0 < spot.loops) × (around.breaks ≡ true → 0 < spot.loops) → ElseFormed p.structs y → ElseTyped s around y
-        → ElseNoted s y → ElseOwn y → ElseHasNumbers y → spot.loops + form.depth_of_else y ≤ 1000 → Within (after_else p y r) → Are (labels spot.loops) (else_part p spot r y)
+        → (around.loops ≡ true → (0 < spot.innermost) × (spot.innermost ≤ spot.levels)) × (around.breaks ≡ true → 0 < spot.levels) → ElseFormed p.structs y → ElseTyped s around y
+        → ElseNoted s y → ElseOwn y → ElseHasNumbers y → spot.levels + form.depth_of_else y ≤ 1000 → Within (after_else p y r) → Are (labels spot.levels) (else_part p spot r y)
     else_valid NoElse s around spot k r v same o f q m w l d b = tt
     else_valid (Else a) s around spot k r v same o f q m w l d b = statement_valid a s around spot k r v same o f q m w l d b
 
     pub items_valid : (is : BlockItems) (s : Sight) (around : Around) (spot : Spot) (k : Points ts spot) (r : RegisterTable) (v : See r s) → around.result ≡ result
-        → (around.loops ≡ true → 0 < spot.loops) × (around.breaks ≡ true → 0 < spot.loops) → Have r (declared_in is)
-        → ItemsFormed p.structs is → ItemsTyped s around is → ItemsNoted s is → ItemsOwn is → HaveNumbers is → spot.loops + form.depth_of_items is ≤ 1000 → Within (after_items p is r) → Are (labels spot.loops) (items p spot r is)
+        → (around.loops ≡ true → (0 < spot.innermost) × (spot.innermost ≤ spot.levels)) × (around.breaks ≡ true → 0 < spot.levels) → Have r (declared_in is)
+        → ItemsFormed p.structs is → ItemsTyped s around is → ItemsNoted s is → ItemsOwn is → HaveNumbers is → spot.levels + form.depth_of_items is ≤ 1000 → Within (after_items p is r) → Are (labels spot.levels) (items p spot r is)
     items_valid NoItem s around spot k r v same o h f q m w l d b = tt
     items_valid (Then (Declare ds) rest) s around spot k r v same o h f q m w l d b =
         let z = with_kinds (declaration_temporaries ds) r in
         let first = begins_then z.kinds (after_items p rest z).kinds ts (items_begin p rest z) b in
         let own = pointers_front ts r.bound ds (declared_in rest) h in
         let right = le-max_right 0 (form.depth_of_items rest) in
-        and_then (labels spot.loops) (initialise_all p r.bound r.kinds ds) (items p spot z rest)
-        (initials_valid ds s r.bound v (labels spot.loops) r.kinds own w.0 f.0 q.0 l.0 first)
+        and_then (labels spot.levels) (initialise_all p r.bound r.kinds ds) (items p spot z rest)
+        (initials_valid ds s r.bound v (labels spot.levels) r.kinds own w.0 f.0 q.0 l.0 first)
         (items_valid rest (with_objects s ds) around spot k z (sees_behind p ts functions r.bound s ds w.0 own v) same o (pointers_back ts r.bound ds (declared_in rest) h) f.1 q.1 m.1 w.1 l.1 (omega (arith, d, right)) b)
     items_valid (Then (Specify at t) rest) s around spot k r v same o h f q m w l d b =
         let right = le-max_right 0 (form.depth_of_items rest) in items_valid rest s around spot k r v same o h f.1 q.1 m.1 w.1 l.1 (omega (arith, d, right)) b
@@ -354,13 +373,13 @@ module _ (p : TranslationUnit) (gs : List Signature) (ts : Types) (result : Plai
         let keeps = statement_keeps ts p a r first in
         let left = le-max_left (form.depth a) (form.depth_of_items rest) in
         let right = le-max_right (form.depth a) (form.depth_of_items rest) in
-        and_then (labels spot.loops) (statement p spot r a) (items p spot z rest)
+        and_then (labels spot.levels) (statement p spot r a) (items p spot z rest)
         (statement_valid a s around spot k r v same o f.0 q.0 m.0 w.0 l.0 (omega (arith, d, left)) first)
         (items_valid rest s around spot k z (sees_later p ts functions r z s keeps v) same o (pointers_kept ts r z (declared_in rest) keeps h) f.1 q.1 m.1 w.1 l.1 (omega (arith, d, right)) b)
     items_valid (Then (Asserts annots) rest) s around spot k r v same o h f q m w l d b =
         let z = after_item p (Asserts annots) r in
         let first = begins_then z.kinds (after_items p rest z).kinds ts (items_begin p rest z) b in
         let right = le-max_right 0 (form.depth_of_items rest) in
-        and_then (labels spot.loops) (assertions p r.bound r.kinds annots) (items p spot z rest)
-        (assertions_valid p ts r.bound s v.knows gs (result_of result) (labels spot.loops) r.kinds annots f.0 m.0 l.0 first)
+        and_then (labels spot.levels) (assertions p r.bound r.kinds annots) (items p spot z rest)
+        (assertions_valid p ts r.bound s v.knows gs (result_of result) (labels spot.levels) r.kinds annots f.0 m.0 l.0 first)
         (items_valid rest s around spot k z v same o h f.1 q.1 m.1 w.1 l.1 (omega (arith, d, right)) b)

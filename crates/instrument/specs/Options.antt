@@ -31,7 +31,13 @@ plain_first_part (Some i) = First (plain_item i)
 
 -- the code has blocks in order of birth
 abbrev pub plain_spot : code.Spot → Spot
-plain_spot s = record { loops = s.loops; inside = reverse s.inside.now; outside = reverse s.outside.now }
+plain_spot s = record {
+  levels = s.levels;
+  innermost = s.innermost;
+  inside = reverse s.inside.now;
+  between = reverse s.between.now;
+  outside = reverse s.outside.now;
+}
 
 -- ---- the names after a part
 
@@ -88,7 +94,7 @@ test_if_any_by n loops e = test_if_any (unit_of n) n.table.bound n.table.kinds l
 -- the loop of a `for`, after what stands first in it
 abbrev pub turns_by : Names → Spot → Option Expression → Option Expression → Statement → MonStatements
 turns_by n spot e step a =
-    for_turns (unit_of n) (spot.loops + 1) n.table (after_statement (unit_of n) a (with_kinds (any_temporaries temporaries e) n.table)) e step
+    for_turns (unit_of n) (spot.levels + 1) n.table (after_statement (unit_of n) a (with_kinds (any_temporaries temporaries e) n.table)) e step
     (statement (unit_of n) (in_loop spot) (with_kinds (any_temporaries temporaries e) n.table) a)
 
 -- the body of a function, where it has one

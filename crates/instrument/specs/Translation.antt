@@ -125,16 +125,27 @@ abbrev pub for_turns : TranslationUnit → ℕ → RegisterTable → RegisterTab
 for_turns p loops r after e behind body =
     one (loop loops (test_if_any p r.bound r.kinds loops e) body (effect_if_any p after.bound after.kinds behind))
 
--- Where a statement stands: how many loops stand around it, and the blocks of variables that live, by the registers that point to them,
--- the youngest first: those born inside the innermost loop, and the others of the function.
+-- Where a statement stands: how many loops and switches stand around it, the number of the innermost loop among these, and the blocks of variables that
+-- live, by the registers that point to them, the youngest first: those born inside what a `break` leaves, from there to the body of the innermost loop,
+-- and the others of the function.
 pub record Spot : Type 0 where
-  pub loops : ℕ
+  pub levels : ℕ
+  pub innermost : ℕ
   pub inside : List ℕ
+  pub between : List ℕ
   pub outside : List ℕ
+
+-- outside all loops, where these live
+abbrev pub outermost : List ℕ → Spot
+outermost live = record { levels = 0; innermost = 0; inside = live; between = []; outside = [] }
+
+-- all that live
+abbrev pub all_live : Spot → List ℕ
+all_live spot = spot.inside ++ (spot.between ++ spot.outside)
 
 -- the body of a loop
 abbrev pub in_loop : Spot → Spot
-in_loop spot = record { loops = spot.loops + 1; inside = []; outside = spot.inside ++ spot.outside }
+in_loop spot = record { levels = spot.levels + 1; innermost = spot.levels + 1; inside = []; between = []; outside = all_live spot }
 
 -- after the births of these variables, to which the registers from p on point
 abbrev pub with_variables : ℕ → List Declaration → Spot → Spot
@@ -145,10 +156,10 @@ with_variables p ds spot = record spot { inside = with_born p ds spot.inside }
 module _ (p : TranslationUnit) where
   -- all blocks of the function die before the `return`
   abbrev pub returned : Spot → RegisterTable → Option Expression → MonStatements
-  returned spot r None = before (deaths (spot.inside ++ spot.outside)) (one (Return None))
+  returned spot r None = before (deaths (all_live spot)) (one (Return None))
   returned spot r (Some e) =
       before (full_setup p r.bound r.kinds e) (before (set (length (r.kinds ++ full_temporaries e)) (full_value p r.bound r.kinds e))
-      (before (deaths (spot.inside ++ spot.outside)) (one (Return (Some (Register (length (r.kinds ++ full_temporaries e))))))))
+      (before (deaths (all_live spot)) (one (Return (Some (Register (length (r.kinds ++ full_temporaries e))))))))
 
   abbrev mutual
     pub statement : Spot → RegisterTable → Statement → MonStatements
@@ -162,19 +173,19 @@ module _ (p : TranslationUnit) where
         (statement spot (with_kinds (temporaries e) r) a)
         (else_part spot (after_statement p a (with_kinds (temporaries e) r)) b)))
     statement spot r (source_statement.While at annots e a) =
-        one (loop (spot.loops + 1) (test p r.bound r.kinds (spot.loops + 1) e) (statement (in_loop spot) (with_kinds (temporaries e) r) a) NoStatement)
+        one (loop (spot.levels + 1) (test p r.bound r.kinds (spot.levels + 1) e) (statement (in_loop spot) (with_kinds (temporaries e) r) a) NoStatement)
     statement spot r (source_statement.Do at a e) =
-        one (loop (spot.loops + 1) NoStatement (statement (in_loop spot) r a)
-        (test p (after_statement p a r).bound (after_statement p a r).kinds (spot.loops + 1) e))
+        one (loop (spot.levels + 1) NoStatement (statement (in_loop spot) r a)
+        (test p (after_statement p a r).bound (after_statement p a r).kinds (spot.levels + 1) e))
     statement spot r (source_statement.For at annots first e behind a) =
         alive p (next_register r) (declared_first first)
         (before (first_part (with_variables (next_register r) (declared_first first) spot) (entered (declared_first first) r) first)
-        (for_turns p (spot.loops + 1) (after_first p first (entered (declared_first first) r))
+        (for_turns p (spot.levels + 1) (after_first p first (entered (declared_first first) r))
         (after_statement p a (with_kinds (any_temporaries temporaries e) (after_first p first (entered (declared_first first) r)))) e behind
         (statement (in_loop (with_variables (next_register r) (declared_first first) spot))
         (with_kinds (any_temporaries temporaries e) (after_first p first (entered (declared_first first) r))) a)))
-    statement spot r (source_statement.Break at) = before (deaths spot.inside) (one (Goto (end_label spot.loops)))
-    statement spot r (source_statement.Continue at) = before (deaths spot.inside) (one (Goto (next_label spot.loops)))
+    statement spot r (source_statement.Break at) = before (deaths spot.inside) (one (Goto (end_label spot.levels)))
+    statement spot r (source_statement.Continue at) = before (deaths (spot.inside ++ spot.between)) (one (Goto (next_label spot.innermost)))
     statement spot r (source_statement.Return at e) = returned spot r e
     statement spot r (source_statement.Labelled at l a) = NoStatement
     statement spot r (source_statement.Switch at e cases) = NoStatement
@@ -200,7 +211,7 @@ module _ (p : TranslationUnit) where
   -- the body of a function, outside all loops, where its parameters live, to whose blocks these registers point
   abbrev pub body_part : List ℕ → RegisterTable → Option Statement → MonStatements
   body_part inside r None = NoStatement
-  body_part inside r (Some a) = statement (record { loops = 0; inside = inside; outside = [] }) r a
+  body_part inside r (Some a) = statement (outermost inside) r a
 
   -- parameters are born in order, each with its argument: pointers stand in the registers from r on, and arguments from v on
   abbrev pub parameters : ℕ → ℕ → List Declaration → MonStatements

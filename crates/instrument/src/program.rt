@@ -160,8 +160,10 @@ fn code_of(
     front(alloc, is_main, names, &mut code)?;
     let own = enter_parameters(alloc, &f.params, names, &mut code)?;
     let spot = Spot {
-        loops: 0,
+        levels: 0,
+        innermost: 0,
         inside: &own,
+        between: &[],
         outside: &[],
     };
     statement_of(alloc, &spot, &f.body, names, &mut code)?;

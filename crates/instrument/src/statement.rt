@@ -19,7 +19,7 @@ ghost use Rattle.instrument.specs.Limits.{ElseHasNumbers, FirstHasNumbers, HasNu
 ghost use Rattle.instrument.specs.Options.{after, behind_else, behind_first, behind_item, behind_items, births_by, do_loop, else_part_by, entering};
 ghost use Rattle.instrument.specs.Options.{first_part_by, item_by, items_by, plain_first_part, plain_spot, returned_by, statement_by};
 ghost use Rattle.instrument.specs.Options.{test_by, test_if_any_by, turns_by, while_loop, with_blocks};
-ghost use Rattle.instrument.specs.Translation.{alive, in_loop, leave_where_zero, returned_temporaries, with_variables};
+ghost use Rattle.instrument.specs.Translation.{alive, all_live, in_loop, leave_where_zero, returned_temporaries, with_variables};
 ghost use Rattle.c_simulation.specs.Labels.{end_label, next_label};
 
 use crate::block::{enter_block, inside, items_of, leave, one_more};
@@ -33,7 +33,7 @@ use c_effects::full::full;
 use c_effects::operator::register;
 use c_effects::part::{alone, then};
 use c_initialisers::initialiser::initialise_all;
-use c_syntax::{Annot, Expr, Item, Name, Stmt, StmtKind};
+use c_syntax::{Annot, Expr, Item, Stmt, StmtKind};
 use mon_syntax::{MonExpr, MonStmt, MonStmtKind, Registers};
 use std::alloc::{AllocError, Global};
 
@@ -109,39 +109,49 @@ fn leave_unless_any(
     }
 }
 
-// `break` or `continue`: the blocks of the variables that are left die before it.
+// `break`: the blocks of the variables that are left die before it.
 #[tactic(auto, using(c_effects::proofs::Sequences::before_assoc))]
-fn jump(alloc: Global, live: &[u32], label: Name, to: &mut Vec<MonStmt>) -> Result<(), AllocError>
-    ensures { OnOk result (plain_stmts to.new.items ≡ before (plain_stmts to.old.items) (before (deaths (reverse live.now)) (one (Goto label)))) }
+fn break_out(alloc: Global, spot: &Spot<'_>, to: &mut Vec<MonStmt>) -> Result<(), AllocError>
+    ensures { OnOk result (plain_stmts to.new.items ≡ before (plain_stmts to.old.items)
+        (before (deaths (reverse spot.now.inside.now)) (one (Goto (end_label spot.now.levels))))) }
 {
-    leave(alloc, live, to)?;
+    let label = end_label(alloc, spot.levels)?;
+    leave(alloc, spot.inside, to)?;
     then(alloc, to, MonStmtKind::Goto(label))
 }
 
-fn break_out(alloc: Global, spot: &Spot<'_>, to: &mut Vec<MonStmt>) -> Result<(), AllocError>
-    ensures { OnOk result (plain_stmts to.new.items ≡ before (plain_stmts to.old.items)
-        (before (deaths (reverse spot.now.inside.now)) (one (Goto (end_label spot.now.loops))))) }
+// The deaths of the blocks of these, and then of those.
+#[tactic(auto, using(c_effects::proofs::Sequences::before_assoc, crate::proofs::DeclarationCode::deaths_behind))]
+fn leave_both(
+    alloc: Global,
+    first: &[u32],
+    second: &[u32],
+    to: &mut Vec<MonStmt>,
+) -> Result<(), AllocError>
+    ensures { OnOk result (plain_stmts to.new.items ≡ before (plain_stmts to.old.items) (deaths (reverse first.now ++ reverse second.now))) }
 {
-    let label = end_label(alloc, spot.loops)?;
-    jump(alloc, spot.inside, label, to)
+    leave(alloc, first, to)?;
+    leave(alloc, second, to)
 }
 
+// `continue`: those born in the body of the loop die before it.
+#[tactic(auto, using(c_effects::proofs::Sequences::before_assoc))]
 fn go_on(alloc: Global, spot: &Spot<'_>, to: &mut Vec<MonStmt>) -> Result<(), AllocError>
     ensures { OnOk result (plain_stmts to.new.items ≡ before (plain_stmts to.old.items)
-        (before (deaths (reverse spot.now.inside.now)) (one (Goto (next_label spot.now.loops))))) }
+        (before (deaths (reverse spot.now.inside.now ++ reverse spot.now.between.now)) (one (Goto (next_label spot.now.innermost))))) }
 {
-    let label = next_label(alloc, spot.loops)?;
-    jump(alloc, spot.inside, label, to)
+    let label = next_label(alloc, spot.innermost)?;
+    leave_both(alloc, spot.inside, spot.between, to)?;
+    then(alloc, to, MonStmtKind::Goto(label))
 }
 
 // The deaths of all blocks of a function.
 #[tactic(auto, using(c_effects::proofs::Sequences::before_assoc, crate::proofs::DeclarationCode::deaths_behind))]
 fn leave_all(alloc: Global, spot: &Spot<'_>, to: &mut Vec<MonStmt>) -> Result<(), AllocError>
-    ensures { OnOk result (plain_stmts to.new.items ≡ before (plain_stmts to.old.items)
-        (deaths (reverse spot.now.inside.now ++ reverse spot.now.outside.now))) }
+    ensures { OnOk result (plain_stmts to.new.items ≡ before (plain_stmts to.old.items) (deaths (all_live (plain_spot spot.now)))) }
 {
     leave(alloc, spot.inside, to)?;
-    leave(alloc, spot.outside, to)
+    leave_both(alloc, spot.between, spot.outside, to)
 }
 
 // The value of a `return`, in a further register, since it may be read from blocks that die before it.
@@ -219,15 +229,18 @@ fn round(
 ) -> Result<Vec<MonStmt>, AllocError>
     ensures code { IfOk result (λ code. plain_stmts code.items ≡ one
         (Labelled (statement_by names.old (in_loop (plain_spot spot.now))
-        (plain_stmt s.now)) (next_label (spot.now.loops + 1)))) }
+        (plain_stmt s.now)) (next_label (spot.now.levels + 1)))) }
     ensures names { OnOk result (names.new ≡ after (plain_stmt s.now) names.old) }
     ensures numbers { OnOk result (HasNumbers (plain_stmt s.now)) }
 {
-    let loops = one_more(spot.loops)?;
-    let outside = inside(alloc, spot.outside, spot.inside)?;
+    let loops = one_more(spot.levels)?;
+    let around = inside(alloc, spot.outside, spot.between)?;
+    let outside = inside(alloc, &around, spot.inside)?;
     let inner = Spot {
-        loops,
+        levels: loops,
+        innermost: loops,
         inside: &[],
+        between: &[],
         outside: &outside,
     };
     let body = apart(alloc, &inner, s, names)?;
@@ -295,7 +308,7 @@ fn while_loop(
     ensures names { OnOk result (names.new ≡ after (while_loop a.now e.now) names.old) }
     ensures numbers { OnOk result (HasNumbers (while_loop a.now e.now)) }
 {
-    let loops = one_more(spot.loops)?;
+    let loops = one_more(spot.levels)?;
     let mut front = Vec::new(alloc);
     leave_unless(alloc, loops, e, names, &mut front)?;
     let behind = round(alloc, spot, a, names)?;
@@ -317,7 +330,7 @@ fn do_loop(
     ensures names { OnOk result (names.new ≡ after (do_loop a.now e.now) names.old) }
     ensures numbers { OnOk result (HasNumbers (do_loop a.now e.now)) }
 {
-    let loops = one_more(spot.loops)?;
+    let loops = one_more(spot.levels)?;
     let mut behind = round(alloc, spot, a, names)?;
     leave_unless(alloc, loops, e, names, &mut behind)?;
     repeat(alloc, loops, Vec::new(alloc), behind, to)
@@ -343,8 +356,10 @@ fn enter_for(
     let own = enter_block(alloc, items_of(first), names, to)?;
     let live = inside(alloc, spot.inside, &own)?;
     let around = Spot {
-        loops: spot.loops,
+        levels: spot.levels,
+        innermost: spot.innermost,
         inside: &live,
+        between: spot.between,
         outside: spot.outside,
     };
     first_part(alloc, &around, first, names, to)?;
@@ -373,8 +388,10 @@ fn rest_of_for(
 {
     let live = inside(alloc, spot.inside, &own)?;
     let around = Spot {
-        loops: spot.loops,
+        levels: spot.levels,
+        innermost: spot.innermost,
         inside: &live,
+        between: spot.between,
         outside: spot.outside,
     };
     turns(alloc, &around, a, controls, names, to)?;
@@ -477,8 +494,10 @@ fn block(
     let own = enter_block(alloc, body, names, to)?;
     let live = inside(alloc, spot.inside, &own)?;
     let inner = Spot {
-        loops: spot.loops,
+        levels: spot.levels,
+        innermost: spot.innermost,
         inside: &live,
+        between: spot.between,
         outside: spot.outside,
     };
     items(alloc, &inner, body, names, to)?;
@@ -526,7 +545,7 @@ fn turns(
         × Any EffectHasLetters (option_map plain_expr controls.entry.1.now)) }
 {
     let (e, step) = controls;
-    let loops = one_more(spot.loops)?;
+    let loops = one_more(spot.levels)?;
     let mut front = Vec::new(alloc);
     leave_unless_any(alloc, loops, e, names, &mut front)?;
     let mut behind = round(alloc, spot, a, names)?;

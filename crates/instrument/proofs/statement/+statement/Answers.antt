@@ -56,7 +56,7 @@ block-returns-clause-code t c =
     let body = plain_items c.args.body.now in
     let ds = declared_in body in
     let around = reverse spot.inside.now in
-    let f : Names → List ℕ → MonStatements = λ m l. items_by m (record { loops = spot.loops; inside = l; outside = reverse spot.outside.now }) body in
+    let f : Names → List ℕ → MonStatements = λ m l. items_by m (record (plain_spot spot) { inside = l }) body in
     let own = c.in_ok-own.ensures.own in
     let live = inside_is spot.inside.now c.deref.result.now c.in_ok-own.own.items _ c.deref-2.result.now c.deref.ensures.value c.in_ok-live.ensures c.deref-2.ensures.value ∙ ap (λ l. l ++ around) own ∙ born_front (next_register n.table) ds around in
     on_ok_then c.leave.result (λ last. alive_code n c.enter_block.new.names around (reverse c.deref-2.result.now) ds f (plain_stmts c.args.to.now.items) (plain_stmts c.enter_block.new.to.items) (plain_stmts c.items.new.to.items)
@@ -81,8 +81,11 @@ turns-returns-clause-code t c =
 pub round-returns-clause-code : goal.round-returns-clause-code
 round-returns-clause-code t c =
     let spot = c.args.spot.now in
-    let outside = inside_is spot.outside.now spot.inside.now spot.inside.now c.in_ok-outside.outside.items c.deref.result.now refl c.in_ok-outside.ensures c.deref.ensures.value in
-    round_code c.labelled.result (λ l. statement_by c.args.names.now l (plain_stmt c.args.s.now)) (plain_spot spot) c.in_ok-loops.loops (reverse c.deref.result.now) (plain_stmts c.in_ok-body.body.items) c.in_ok-loops.ensures outside
+    let around = inside_is spot.outside.now spot.between.now spot.between.now c.in_ok-around.around.items c.deref.result.now refl c.in_ok-around.ensures c.deref.ensures.value in
+    let outside =
+    inside_is c.deref.result.now spot.inside.now spot.inside.now c.in_ok-outside.outside.items c.deref-2.result.now refl c.in_ok-outside.ensures c.deref-2.ensures.value
+    ∙ ap (λ l. reverse spot.inside.now ++ l) around in
+    round_code c.labelled.result (λ l. statement_by c.args.names.now l (plain_stmt c.args.s.now)) (plain_spot spot) c.in_ok-loops.loops (reverse c.deref-2.result.now) (plain_stmts c.in_ok-body.body.items) c.in_ok-loops.ensures outside
     c.in_ok-body.ensures.code c.labelled.ensures
 
 pub statement-returns-in-Empty-clause-code : goal.statement-returns-in-Empty-clause-code
