@@ -25,7 +25,7 @@ use Rattle.c_model.specs.ProgramGrammar.{first_statement, first_branch, statemen
 use Rattle.c_model.specs.ProgramGrammar.{typedefs, behind_spec, strays, declared_external, external, any_kind, more_external, unit}
 use Rattle.c_expr_parser.proofs.ExactTokens.{IsRead, fixed_good}
 use Rattle.c_parser.proofs.Openings.{word_small, opens, branch_opens}
-use Rattle.c_parser.proofs.ExactDeclarations.{first_dtor, more_dtor, ended_good, full_dtor_good, initialised_good, more_declared_good, parameters_good, file_spec_good}
+use Rattle.c_declaration_parser.proofs.ExactDeclarations.{first_dtor, more_dtor, ended_good, full_dtor_good, initialised_good, more_declared_good, parameters_good, file_spec_good}
 use Rattle.c_parser.proofs.ExactStatements.{ReadsStatements, ReadsBranches, more_statement, misplaced_good, statement_of_good, branch_of_good, items_good}
 
 module _ (ws : Vocabulary) where

@@ -20,7 +20,7 @@ use Rattle.c_model.specs.ProgramGrammar.{return_statement, item, items_once, ite
 use Rattle.c_expr_parser.proofs.ExactTokens.{IsRead, fixed_good}
 use Rattle.c_expr_parser.proofs.ExactTypes.{enlarged}
 use Rattle.acsl_parser.proofs.ExactAnnotations.{annotations_good}
-use Rattle.c_parser.proofs.ExactDeclarations.{ended_good, declaration_good}
+use Rattle.c_declaration_parser.proofs.ExactDeclarations.{ended_good, declaration_good}
 use Rattle.c_expr_parser.proofs.ExactExpressions.{closed_good, full_expression_good, full_expression_or_call_good, full_effect_good, full_effect_or_call_good}
 
 module _ (ws : Vocabulary) where

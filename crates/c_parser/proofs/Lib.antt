@@ -1,15 +1,11 @@
--- declarations, statements and programs are read exactly
+-- statements and programs are read exactly
 pub mod Openings
-pub mod ExactDeclarations
 pub mod ExactStatements
 pub mod ExactPrograms
 -- what a production gives, step by step
 pub mod Rows
 pub mod FirstItems
-pub mod Turns
-pub mod DeclarationSteps
 pub mod Steps
 pub mod FileSteps
-pub mod DeclaratorWindows
 -- from what is given to what an answer means
 pub mod Answers

@@ -16,9 +16,10 @@ use Rattle.c_model.specs.Vocabulary.{Vocabulary, word_at}
 use Rattle.c_model.specs.Punctuators.{semicolon, left_paren, left_brace}
 use Rattle.c_model.specs.ExpressionGrammar.{annot_open_kind, name_kind, number_kind, letter_kind, text_kind, keyword_kind, mark_kind, word_kind, token_kind, kind, number_of, letter_of, kinds_of, unary_operators, prefix_bumps, first_expression}
 use Rattle.c_model.specs.Terminals.{placed, entry, mark_entry}
-use Rattle.c_model.specs.ExpressionGrammar.{first_effect, fixed, name, literal, literal_first, operand, expression, prefixed, sized, operand_but_name, bump_first, effect_but_name, effect_or_call, full_effect_or_call}
+use Rattle.c_model.specs.ExpressionGrammar.{first_effect, name, literal, literal_first, operand, expression, prefixed, sized, operand_but_name, bump_first, effect_but_name, effect_or_call, full_effect_or_call}
 use Rattle.c_model.specs.AnnotationGrammar.{annotations}
 use Rattle.c_model.specs.ProgramGrammar.{first_statement, first_branch, Numbered, misplaced, block, empty_statement, selection, while_loop, do_loop, for_loop, return_statement, jump, effect_statement, statement_of, branch_of}
+use Rattle.c_declaration_parser.proofs.ExactDeclarations.{fixed_begins}
 
 -- the kind of a word is below those of the punctuators
 keyword_small : (k : Keyword) → keyword_kind k ≤ 31
@@ -118,9 +119,6 @@ none_left : (P : Type 0) → false ≡ true → P
 none_left P h = absurd cc
 
 module _ (ws : Vocabulary) where
-  pub fixed_begins : (k : ℕ) (t : PlainToken) → eqb (kind ws t) k ≡ true → (fixed ws k).begun (t ∷ [])
-  fixed_begins k t h = inr (t, t.place, refl, rw h refl)
-
   abbrev made : Place → PlainTokenKind → PlainToken
   made at k = record { place = at; kind = k }
 
@@ -178,10 +176,10 @@ module _ (ws : Vocabulary) where
   operand_cases t =
       first_or _ (kind ws t) number_kind _ (λ h. inr (inr (inr (inl (inl (inl (number_begins t h)))))))
       (first_or _ (kind ws t) letter_kind _ (λ h. inr (inr (inr (inl (inr (inl (inl (letter_begins t h))))))))
-      (first_or _ (kind ws t) text_kind _ (λ h. inr (inr (inr (inl (inr (inr (inl (fixed_begins text_kind t h))))))))
-      (first_or _ (kind ws t) (mark_kind left_paren) _ (λ h. inl (inl (fixed_begins (mark_kind left_paren) t h)))
+      (first_or _ (kind ws t) text_kind _ (λ h. inr (inr (inr (inl (inr (inr (inl (fixed_begins ws text_kind t h))))))))
+      (first_or _ (kind ws t) (mark_kind left_paren) _ (λ h. inl (inl (fixed_begins ws (mark_kind left_paren) t h)))
       (one_of _ (kind ws t) (kinds_of unary_operators) (keyword_kind keyword.Sizeof ∷ []) (λ h. inr (inl (inl (mark_begins unary_operators t h))))
-      (first_or _ (kind ws t) (keyword_kind keyword.Sizeof) _ (λ h. inr (inr (inl (inl (fixed_begins (keyword_kind keyword.Sizeof) t h))))) (none_left _))))))
+      (first_or _ (kind ws t) (keyword_kind keyword.Sizeof) _ (λ h. inr (inr (inl (inl (fixed_begins ws (keyword_kind keyword.Sizeof) t h))))) (none_left _))))))
 
   -- what begins an operand that is no name begins an effect
   operand_begins : (t : PlainToken) → (operand_but_name ws (expression ws) (operand ws (expression ws)) Casts).begun (t ∷ []) → (effect_or_call ws).begun (t ∷ [])
@@ -202,17 +200,17 @@ module _ (ws : Vocabulary) where
   pub opens : (T S : Numbered) (n : AnnotationState) (t : PlainToken) → among (kind ws t) first_statement ≡ true → (statement_of ws T S n).begun (t ∷ [])
   unfolding statement_of block empty_statement selection while_loop do_loop for_loop return_statement jump effect_statement
   opens T S n t =
-      first_or _ (kind ws t) (mark_kind left_brace) _ (λ h. inl (inl (fixed_begins (mark_kind left_brace) t h)))
-      (first_or _ (kind ws t) (mark_kind semicolon) _ (λ h. inr (inl (inl (fixed_begins (mark_kind semicolon) t h))))
-      (first_or _ (kind ws t) (keyword_kind keyword.If) _ (λ h. inr (inr (inl (inl (fixed_begins (keyword_kind keyword.If) t h)))))
-      (first_or _ (kind ws t) (keyword_kind keyword.While) _ (λ h. inr (inr (inr (inl (inl (fixed_begins (keyword_kind keyword.While) t h))))))
-      (first_or _ (kind ws t) (keyword_kind keyword.Do) _ (λ h. inr (inr (inr (inr (inl (inl (fixed_begins (keyword_kind keyword.Do) t h)))))))
-      (first_or _ (kind ws t) (keyword_kind keyword.For) _ (λ h. inr (inr (inr (inr (inr (inl (inl (fixed_begins (keyword_kind keyword.For) t h))))))))
-      (first_or _ (kind ws t) (keyword_kind keyword.Break) _ (λ h. inr (inr (inr (inr (inr (inr (inr (inl (inl (inl (fixed_begins (keyword_kind keyword.Break) t h)))))))))))
-      (first_or _ (kind ws t) (keyword_kind keyword.Continue) _ (λ h. inr (inr (inr (inr (inr (inr (inr (inl (inr (inl (fixed_begins (keyword_kind keyword.Continue) t h)))))))))))
-      (first_or _ (kind ws t) (keyword_kind keyword.Return) _ (λ h. inr (inr (inr (inr (inr (inr (inl (inl (fixed_begins (keyword_kind keyword.Return) t h)))))))))
+      first_or _ (kind ws t) (mark_kind left_brace) _ (λ h. inl (inl (fixed_begins ws (mark_kind left_brace) t h)))
+      (first_or _ (kind ws t) (mark_kind semicolon) _ (λ h. inr (inl (inl (fixed_begins ws (mark_kind semicolon) t h))))
+      (first_or _ (kind ws t) (keyword_kind keyword.If) _ (λ h. inr (inr (inl (inl (fixed_begins ws (keyword_kind keyword.If) t h)))))
+      (first_or _ (kind ws t) (keyword_kind keyword.While) _ (λ h. inr (inr (inr (inl (inl (fixed_begins ws (keyword_kind keyword.While) t h))))))
+      (first_or _ (kind ws t) (keyword_kind keyword.Do) _ (λ h. inr (inr (inr (inr (inl (inl (fixed_begins ws (keyword_kind keyword.Do) t h)))))))
+      (first_or _ (kind ws t) (keyword_kind keyword.For) _ (λ h. inr (inr (inr (inr (inr (inl (inl (fixed_begins ws (keyword_kind keyword.For) t h))))))))
+      (first_or _ (kind ws t) (keyword_kind keyword.Break) _ (λ h. inr (inr (inr (inr (inr (inr (inr (inl (inl (inl (fixed_begins ws (keyword_kind keyword.Break) t h)))))))))))
+      (first_or _ (kind ws t) (keyword_kind keyword.Continue) _ (λ h. inr (inr (inr (inr (inr (inr (inr (inl (inr (inl (fixed_begins ws (keyword_kind keyword.Continue) t h)))))))))))
+      (first_or _ (kind ws t) (keyword_kind keyword.Return) _ (λ h. inr (inr (inr (inr (inr (inr (inl (inl (fixed_begins ws (keyword_kind keyword.Return) t h)))))))))
       (λ h. inr (inr (inr (inr (inr (inr (inr (inr (inl (full_begins t h))))))))))))))))))
 
   pub branch_opens : (T S : Numbered) (n : AnnotationState) (t : PlainToken) → among (kind ws t) first_branch ≡ true → (branch_of ws (statement_of ws T S) S n).begun (t ∷ [])
   unfolding branch_of misplaced annotations
-  branch_opens T S n t = first_or _ (kind ws t) annot_open_kind _ (λ h. inl (inl (inl (inl (fixed_begins annot_open_kind t h))))) (λ h. inr (opens T S n t h))
+  branch_opens T S n t = first_or _ (kind ws t) annot_open_kind _ (λ h. inl (inl (inl (inl (fixed_begins ws annot_open_kind t h))))) (λ h. inr (opens T S n t h))

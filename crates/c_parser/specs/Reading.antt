@@ -1,34 +1,27 @@
--- Ours: productions of C99 6.7 to 6.9 (c_model/specs/ProgramGrammar), cut as the code reads them.
+-- Ours: productions of C99 6.8 and 6.9 (c_model/specs/ProgramGrammar), cut as the code reads them.
 -- Parts of productions that functions of their own read, and the plain forms of what is read in parts.
-use Rattle.std.specs.Prelude.{ℕ, ◌-◌, List, [], ◌∷◌, map, Option, Some, None, option_map}
+use Rattle.std.specs.Prelude.{ℕ, ◌-◌, [], ◌∷◌, map, Option, Some, None, option_map}
 use Rattle.grammar.specs.Syntax.{Syntax, gives, ◌then◌, many}
 use Rattle.c_syntax.specs.declared.place.Place.{Place}
 use Rattle.c_syntax.specs.Ctypes.{PlainType}
 use Rattle.c_syntax.specs.Tokens.{PlainToken}
 use Rattle.c_syntax.specs.declared.statement.Item.{Item}
 use Rattle.c_syntax.specs.Expressions.{Expression, plain_expr}
-use Rattle.c_syntax.specs.Statements.{Statement, Block, Do, For, Break, Continue, Declaration, ForFirst, NoFirst, First, plain_decl, plain_item, plain_stmt}
-use Rattle.c_syntax.specs.Programs.{StructMember, Function, plain_layout, plain_enum, plain_func}
+use Rattle.c_syntax.specs.Statements.{Statement, Block, Do, For, Break, Continue, ForFirst, NoFirst, First, plain_decl, plain_item, plain_stmt}
+use Rattle.c_syntax.specs.Programs.{Function, plain_func}
 use Rattle.c_model.specs.declared.declarations.AnnotationState.{AnnotationState}
 use Rattle.c_model.specs.declared.operands.Stars.{Stars}
 use Rattle.c_model.specs.Vocabulary.{Vocabulary}
 use Rattle.c_model.specs.declared.vocabulary.Keyword.TheVariants as keyword
-use Rattle.c_parser.specs.declared.declarator.Declarator as code_declarator
-use Rattle.c_parser.specs.declared.declarator.AbstractDeclarator as code_abstract
-use Rattle.c_parser.specs.declared.tagged.TagHead as code_head
-use Rattle.c_parser.specs.declared.tagged.Definitions as code_definitions
-use Rattle.c_parser.specs.declared.specifier.FileSpec as code_spec
 use Rattle.c_parser.specs.declared.loops.ForHeading as code_heading
 use Rattle.c_parser.specs.declared.function.Body.{Body}
 use Rattle.c_parser.specs.declared.program.FileParts as code_parts
 use Rattle.c_model.specs.Punctuators.{comma, left_paren, left_brace, right_brace}
 use Rattle.c_model.specs.ExpressionGrammar.{kind, mark, reserved, mark_kind, most_nested, pointers}
-use Rattle.c_model.specs.DeclarationGrammar.{Declarator, AbstractDeclarator, TagHead, Definitions, FileSpec, next_declared, next_parameter, parameters}
-use Rattle.c_model.specs.DeclarationGrammar.{next_member}
+use Rattle.c_model.specs.DeclarationGrammar.{parameters}
 use Rattle.c_model.specs.ProgramGrammar.{FileParts, Numbered, block_items}
 use Rattle.c_model.specs.ProgramGrammar.{for_first, maybe_ended, for_behind, items, statement_in, function_rest, next_typedef}
-use Rattle.c_expr_parser.specs.Reading.{plain_base, plain_brackets}
-pub use Rattle.c_model.specs.ExpressionGrammar.{closed}
+use Rattle.c_declaration_parser.specs.Reading.{plain_definitions}
 pub use Rattle.c_model.specs.DeclarationGrammar.{ended}
 
 -- what stands before the body of a `for`
@@ -70,17 +63,6 @@ module _ (ws : Vocabulary) where
   abbrev pub ended_do : Place → Statement → Expression → AnnotationState → Syntax PlainToken (Statement × AnnotationState)
   ended_do at a e n = ended ws (Do at a e, n)
 
-  -- ---- repetitions, after what is read
-
-  unfoldable pub other_declared : PlainType → List Declaration → Syntax PlainToken (List Declaration)
-  other_declared t ds = many (kind ws) (λ _. mark_kind comma ∷ []) (next_declared ws t) ds
-
-  unfoldable pub other_parameters : List Declaration → Syntax PlainToken (List Declaration)
-  other_parameters ps = many (kind ws) (λ _. mark_kind comma ∷ []) (next_parameter ws) ps
-
-  unfoldable pub other_members : PlainType → List StructMember → Syntax PlainToken (List StructMember)
-  other_members t ms = many (kind ws) (λ _. mark_kind comma ∷ []) (next_member ws t) ms
-
   -- a function or a prototype, after its stars and its name
   unfoldable pub function_behind : PlainType → Stars → ℕ × Place → AnnotationState → Syntax PlainToken (Function × AnnotationState)
   function_behind t stars f n = mark ws left_paren then λ _. parameters ws then λ params. function_rest ws (pointers stars.count t) f params n
@@ -103,21 +85,6 @@ plain_heading h = record {
 
 abbrev pub plain_body : Body → Statement × Place
 plain_body b = (plain_stmt b.block, b.close)
-
-abbrev pub plain_declarator : code_declarator.Declarator → Declarator
-plain_declarator d = record { stars = d.stars; name = d.name; place = d.place; lengths = plain_brackets d.brackets.items }
-
-abbrev pub plain_abstract : code_abstract.AbstractDeclarator → AbstractDeclarator
-plain_abstract d = record { stars = d.stars; name = d.name; lengths = plain_brackets d.brackets.items }
-
-abbrev pub plain_head : code_head.TagHead → TagHead
-plain_head h = record { defines = h.defines; place = h.place; tag = h.tag }
-
-abbrev pub plain_definitions : code_definitions.Definitions → Definitions
-plain_definitions d = record { structs = map plain_layout d.structs.items; enums = map plain_enum d.enums.items }
-
-abbrev pub plain_spec : code_spec.FileSpec → FileSpec
-plain_spec s = record { storage = s.storage; ctype = plain_base s.base; definitions = plain_definitions s.definitions }
 
 abbrev pub plain_parts : code_parts.FileParts → FileParts
 plain_parts x = record {

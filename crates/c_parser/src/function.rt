@@ -1,18 +1,17 @@
 //! Functions (C99 6.9.1).
 
-ghost use Rattle.std.specs.Prelude.{◌≡◌, map, option_map, IfOk};
+ghost use Rattle.std.specs.Prelude.{◌≡◌, map, option_map};
 ghost use Rattle.c_syntax.specs.Ctypes.{plain_type};
 ghost use Rattle.c_syntax.specs.Statements.{plain_decl, plain_stmt};
 ghost use Rattle.c_syntax.specs.Programs.{plain_func};
-ghost use Rattle.c_model.specs.ExpressionGrammar.{pointers};
 ghost use Rattle.c_model.specs.ProgramGrammar.{function_with, function_rest};
 ghost use Rattle.c_expr_parser.specs.Reading.{plain_base};
 ghost use Rattle.token_reader.specs.Reading.{Gives, plain_list};
 ghost use Rattle.c_parser.specs.Reading.{plain_body, function_body, function_behind};
 
-use crate::parameter::parameters;
 use crate::statement::{items, make_block};
-use c_expr_parser::declarator::declared_type;
+use c_declaration_parser::declarator::pointers;
+use c_declaration_parser::parameter::parameters;
 use c_expr_parser::kinds::{LEFT_BRACE, LEFT_PAREN, RIGHT_BRACE, SEMICOLON};
 use c_expr_parser::terminals::{next_is, skip};
 use c_expr_parser::types::BaseType;
@@ -21,8 +20,7 @@ use c_model::operands::Stars;
 use c_model::vocabulary::Word;
 use c_syntax::fault::ReadFault;
 use c_syntax::{CType, Decl, Func, Place, Stmt, Token};
-use smallvec::SmallVec;
-use std::alloc::{AllocError, Global};
+use std::alloc::Global;
 
 /// How deep statements may stand in one another, the function's body being 1 deep.
 const MOST_NESTED: u32 = 200;
@@ -97,13 +95,6 @@ fn function_rest<'a>(
         let function = make_function(heading, Some(body.block), body.close);
         Ok((function, state, rest))
     }
-}
-
-/// The type of a result.
-fn pointers(alloc: Global, base: BaseType, stars: Stars) -> Result<CType, AllocError>
-    ensures { IfOk result (λ t. plain_type t ≡ pointers stars.count (plain_base base)) }
-{
-    declared_type(alloc, base, stars, SmallVec::new(alloc))
 }
 
 /// A function or a prototype, after its stars and its name at this place.

@@ -6,14 +6,6 @@
 // What single tokens stand for.
 mod terminals;
 
-// Declarations.
-mod declaration;
-mod declarator;
-mod initialiser;
-mod parameter;
-mod specifier;
-mod tagged;
-
 // What stands in a function.
 mod annotation;
 mod loops;

@@ -7,8 +7,8 @@ ghost use Rattle.c_model.specs.ProgramGrammar.{condition, effect_statement, for_
 ghost use Rattle.token_reader.specs.Reading.{Gives, plain_list};
 ghost use Rattle.c_parser.specs.Reading.{plain_first, plain_heading, counted, for_heading, for_with};
 
-use crate::declaration::declaration;
 use crate::terminals::next_begins_effect;
+use c_declaration_parser::declaration::declaration;
 use c_expr_parser::full::{
     full_effect, full_effect_or_call, full_expression, full_expression_or_call,
 };

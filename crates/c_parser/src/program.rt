@@ -8,16 +8,19 @@ ghost use Rattle.c_model.specs.ProgramGrammar.{with_typedef, function, globals, 
 ghost use Rattle.c_model.specs.ProgramGrammar.{typedefs, behind_spec, strays, declared_external, external, more_external, no_parts, unit_with};
 ghost use Rattle.c_expr_parser.specs.Reading.{plain_base};
 ghost use Rattle.token_reader.specs.Reading.{Gives, plain_list};
-ghost use Rattle.c_parser.specs.Reading.{plain_declarator, plain_parts, other_typedefs, function_behind};
+ghost use Rattle.c_declaration_parser.specs.Reading.{plain_declarator};
+ghost use Rattle.c_parser.specs.Reading.{plain_parts, other_typedefs, function_behind};
 
 use crate::annotation::misplaced;
-use crate::declaration::{initialised, more_declared};
-use crate::declarator::{Declarator, declared_by, full_dtor, nameless, names_function};
 use crate::function::function_behind;
-use crate::specifier::file_spec;
-use crate::tagged::Definitions;
+use c_declaration_parser::declaration::{initialised, more_declared};
+use c_declaration_parser::declarator::{
+    Declarator, declared_by, full_dtor, nameless, names_function,
+};
+use c_declaration_parser::specifier::file_spec;
+use c_declaration_parser::tagged::Definitions;
 use c_expr_parser::kinds::{ANNOT_OPEN, COMMA, LEFT_PAREN, SEMICOLON, word_at};
-use c_expr_parser::terminals::{kept, next_is, skip};
+use c_expr_parser::terminals::{next_is, skip};
 use c_expr_parser::types::BaseType;
 use c_model::declarations::{AnnotationState, Named, Storage};
 use c_model::vocabulary::{TypeName as TypeWord, Word};

@@ -10,11 +10,11 @@ ghost use Rattle.token_reader.specs.Reading.{Gives, plain_list};
 ghost use Rattle.c_parser.specs.Reading.{break_statement, continue_statement, ended_do};
 
 use crate::annotation::{misplaced, placed_annotation};
-use crate::declaration::declaration;
 use crate::loops::{
     condition, effect_statement, for_heading, for_kind, returned, statement_at, with_statement,
 };
 use crate::terminals::{next_begins_branch, next_begins_item, next_begins_statement, next_is_jump};
+use c_declaration_parser::declaration::declaration;
 use c_expr_parser::kinds::{
     ANNOT_OPEN, BREAK, CONTINUE, DO, ELSE, FOR, IF, LEFT_BRACE, RETURN, RIGHT_BRACE, SEMICOLON,
     WHILE,

@@ -3,13 +3,13 @@
 ghost use Rattle.std.specs.Prelude.{◌≡◌, ◌++◌, [], ◌∷◌};
 ghost use Rattle.grammar.specs.Syntax.{among, sees};
 ghost use Rattle.c_model.specs.declared.vocabulary.Keyword.TheVariants as keyword;
-ghost use Rattle.c_model.specs.ExpressionGrammar.{kind, keyword_kind, first_type, first_any_name, first_effect};
+ghost use Rattle.c_model.specs.ExpressionGrammar.{kind, keyword_kind, first_type, first_effect};
 ghost use Rattle.c_model.specs.ProgramGrammar.{first_statement, first_branch, first_item};
 ghost use Rattle.token_reader.specs.Reading.{plain_list};
 
 use c_expr_parser::kinds::{
-    ANNOT_OPEN, BREAK, CONTINUE, DECREMENT, DO, FOR, IF, INCREMENT, LEFT_BRACE, NAME, RETURN,
-    SEMICOLON, TYPE_NAME, WHILE, kind,
+    ANNOT_OPEN, BREAK, CONTINUE, DECREMENT, DO, FOR, IF, INCREMENT, LEFT_BRACE, RETURN, SEMICOLON,
+    WHILE, kind,
 };
 use c_expr_parser::terminals::{begins_expression, begins_type};
 use c_model::vocabulary::Word;
@@ -90,19 +90,6 @@ pub fn next_begins_item(words: &[Word], tokens: &[Token]) -> bool
     match tokens {
         [] => false,
         [token, ..] => begins_item(kind(words, token)),
-    }
-}
-
-/// Whether a tag or the name of a member comes next.
-pub fn next_is_any_name(words: &[Word], tokens: &[Token]) -> bool
-    ensures { result ≡ sees (kind words.now) first_any_name (plain_list tokens.now) }
-{
-    match tokens {
-        [] => false,
-        [token, ..] => {
-            let k = kind(words, token);
-            k == NAME || k == TYPE_NAME
-        }
     }
 }
 

@@ -1,0 +1,11 @@
+use Rattle.std.proofs.Common.{◌≡◌, length, map}
+use Rattle.c_syntax.specs.Statements.{plain_decl}
+use Rattle.token_reader.specs.Reading.{plain_list}
+use Rattle.c_declaration_parser.specs.Reading.{other_parameters}
+use Rattle.c_declaration_parser.proofs.parameter.other_parameters.Given as goal
+
+abbrev pub invariant-turn : goal.invariant-turn
+invariant-turn l = (other_parameters l.words (map plain_decl l.all.items)).parse (plain_list l.rest) ≡ (other_parameters l.words (map plain_decl l.fn.all.items)).parse (plain_list l.fn.tokens)
+
+abbrev pub decreases-turn : goal.decreases-turn
+decreases-turn l = length l.rest
