@@ -1,5 +1,5 @@
 -- An assert is read within the limit of its tokens as it is read of one token more than the limit allows.
-use Rattle.std.proofs.Common.{◌≡◌, ℕ, ◌+◌, ◌-◌, ◌<◌, ◌≤◌, List, [], ◌∷◌, length, take, drop, Ok, Err, ap, subst, ◌∙◌, arith}
+use Rattle.std.proofs.Common.{◌≡◌, ℕ, ◌+◌, ◌-◌, ◌<◌, ◌≤◌, List, [], length, take, drop, Ok, Err, ap, subst, ◌∙◌, arith}
 use Rattle.grammar.specs.Syntax.{Over}
 use Rattle.c_syntax.specs.declared.token.Token.{Token}
 use Rattle.c_syntax.specs.declared.fault.ReadFault.{ReadFault}

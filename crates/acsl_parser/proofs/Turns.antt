@@ -1,5 +1,5 @@
 -- A turn of a repetition: one more, a fault, and none; and what is read is shorter.
-use Rattle.std.proofs.Common.{◌≡◌, ℕ, ◌<◌, true, false, List, [], ◌∷◌, length, Ok, refl}
+use Rattle.std.proofs.Common.{◌≡◌, ℕ, ◌<◌, true, false, List, [], length, Ok, refl}
 use Rattle.grammar.specs.Syntax.{sees}
 use Rattle.grammar.proofs.Sets.{within, apart}
 use Rattle.grammar.proofs.Productions.{and, one_lower, turn, turn_fails, turn_ends}

@@ -1,6 +1,6 @@
 -- Ours: productions of ACSL 2.2 and 2.4.1 (c_model/specs/AnnotationGrammar), cut as the code reads them.
 -- Levels of operators, and repetitions after what is read.
-use Rattle.std.specs.Prelude.{ℕ, List, [], ◌∷◌}
+use Rattle.std.specs.Prelude.{ℕ, List}
 use Rattle.grammar.specs.Syntax.{Syntax, many}
 use Rattle.c_syntax.specs.Formulas.{Form}
 use Rattle.c_syntax.specs.Logic.{Annotation}
