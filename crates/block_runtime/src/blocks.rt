@@ -1,6 +1,7 @@
 // Births and deaths on the stack, and of globals and literals.
 
-ghost use Rattle.std.specs.Prelude.{◌≡◌, ◌+◌, ◌<◌, ◌≤◌, Ok, length};
+ghost use Rattle.std.specs.Prelude.{◌≡◌, ◌+◌, ◌/◌, ◌<◌, ◌≤◌, Ok, None, Some, get_or, length};
+ghost use Rattle.shadow_segments.specs.Shadow.{IsWhole};
 ghost use Rattle.c_model.specs.Memory.{rounded, greatest_number};
 ghost use Rattle.mon_syntax.specs.declared.spot.RegionName.TheVariants.{Globals, Stack};
 ghost use Rattle.mon_syntax.specs.declared.spot.Spot.TheVariants.{In};
@@ -14,6 +15,7 @@ use c_syntax::BlockKind;
 use flat_mem::BirthFault;
 use flat_mem::address::spot_at;
 use mon_syntax::{RegionName, Spot};
+use shadow_segments::BlockNote;
 
 impl Runtime {
     /// `__e_acsl_store_block(n)`
@@ -45,10 +47,35 @@ impl Runtime {
         requires { spot_at address ≡ In Stack at }
         ensures { Changes (delete_by self.old at (live_at self.old.stack at number)) self.old self.new result }
     {
-        let note = match self.memory.region(RegionName::Stack).live_at(at, number) {
-            Some(note) => note,
-            None => return Err(RunFault::Fault),
-        };
+        let stack = self.memory.region(RegionName::Stack);
+        match stack.live_written(at, number) {
+            Some(Some(note)) => self.delete_found(address, at, note),
+            Some(None) => Err(RunFault::Fault),
+            None => self.delete_behind(address, at, number),
+        }
+    }
+
+    // The same, also where the block's words aren't written. All of it is done here, so that nothing comes back into what is put in line.
+    #[cold]
+    #[inline(never)]
+    fn delete_behind(&mut self, address: u32, at: u32, number: u32) -> Result<(), RunFault>
+        requires { spot_at address ≡ In Stack at }
+        ensures { Changes (delete_by self.old at (live_at self.old.stack at number)) self.old self.new result }
+    {
+        match self.memory.region(RegionName::Stack).live_at(at, number) {
+            Some(note) => self.delete_found(address, at, note),
+            None => Err(RunFault::Fault),
+        }
+    }
+
+    // The death of the live block whose units hold this place of the stack, if it begins there and is the youngest.
+    #[inline(always)]
+    fn delete_found(&mut self, address: u32, at: u32, note: BlockNote) -> Result<(), RunFault>
+        requires spot { spot_at address ≡ In Stack at }
+        requires there { get_or self.old.stack.shadow.notes (at / 16) None ≡ Some note }
+        requires whole { IsWhole self.old.stack.shadow.notes (at / 16) note }
+        ensures { Changes (delete_by self.old at (Some note)) self.old self.new result }
+    {
         let end = u64::from(at) + (u64::from(note.length) / 16 + 1) * 16;
         if note.base != at || end != u64::from(self.memory.top()) {
             return Err(RunFault::Fault);

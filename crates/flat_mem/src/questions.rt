@@ -6,7 +6,7 @@ ghost use Rattle.shadow_segments.specs.Shadow.{longest_segment, IsWhole};
 ghost use Rattle.mon_syntax.specs.Questions.{plus, minus, moved, live_at, range_in, pointer_at, region_valid, region_valid_read};
 ghost use Rattle.mon_syntax.specs.Questions.{region_initialized, region_number, region_pointer, region_inside, region_offset};
 
-use crate::looks::{all_in_unit, all_written, note_at};
+use crate::looks::{all_in_unit, all_in_unit_written, all_written, note_at, note_written};
 use crate::region::Region;
 use c_syntax::BlockKind;
 use shadow_segments::{Asked, BlockNote};
@@ -26,6 +26,23 @@ impl Region {
         match note_at(&self.shadow, at) {
             Some(note) if note.number == number => Some(note),
             _ => None,
+        }
+    }
+
+    /// The same where the words of this place's unit are written. `None` if they aren't, and nothing is said then.
+    #[inline(always)]
+    pub fn live_written(&self, at: u32, number: u32) -> Option<Option<BlockNote>>
+        ensures value { IfSome result (λ found. found ≡ live_at self.now at number) }
+        ensures there { IfSome result (λ found. IfSome found (λ note. get_or self.now.shadow.notes (at / 16) None ≡ Some note)) }
+        ensures whole { IfSome result (λ found. IfSome found (λ note. IsWhole self.now.shadow.notes (at / 16) note)) }
+        ensures inside { IfSome result (λ found. IfSome found (λ note. note.base + note.length < length self.now.bytes)) }
+        ensures small { length self.now.bytes ≤ longest_segment }
+    {
+        // A use of a field tells the check how long the segment is.
+        let _ = self.bytes.len();
+        match note_written(&self.shadow, at)? {
+            Some(note) if note.number == number => Some(Some(note)),
+            _ => Some(None),
         }
     }
 
@@ -76,6 +93,42 @@ impl Region {
     /// Whether the bytes of a number lie at this offset within a live block, aligned, and all are written by numbers.
     #[inline(always)]
     pub fn number(&self, at: u32, number: u32, offset: i128, width: u32) -> bool
+        requires { IsWidth width }
+        ensures { result ≡ region_number self.now at number offset width }
+    {
+        match self.number_written(at, number, offset, width) {
+            Some(holds) => holds,
+            None => self.number_behind(at, number, offset, width),
+        }
+    }
+
+    // The same where the words that tell it are written. All of it is left to `number_behind` where one isn't, so that nothing comes back
+    // from there into what is put in line.
+    #[inline(always)]
+    fn number_written(&self, at: u32, number: u32, offset: i128, width: u32) -> Option<bool>
+        requires { IsWidth width }
+        ensures { IfSome result (λ holds. holds ≡ region_number self.now at number offset width) }
+    {
+        let note = match self.live_written(at, number)? {
+            Some(note) => note,
+            None => return Some(false),
+        };
+        match place_in(note, at, offset, width) {
+            Some(from) => all_in_unit_written(
+                &self.shadow,
+                Asked::Number,
+                from as usize / 16,
+                from % 16,
+                from % 16 + width,
+            ),
+            None => Some(false),
+        }
+    }
+
+    // The same, also where they aren't.
+    #[cold]
+    #[inline(never)]
+    fn number_behind(&self, at: u32, number: u32, offset: i128, width: u32) -> bool
         requires { IsWidth width }
         ensures { result ≡ region_number self.now at number offset width }
     {

@@ -255,11 +255,18 @@ pub look_none : (p : UnitWords) (s : Shadowed) (u state : ℕ) → shadow_in p �
 look_none p s u state view lt is none =
     sym (ap (λ z. get_or z.notes u None) (sym view) ∙ note_at p u lt ∙ ap (λ z. note_of z (get_or p.places u 0)) (sym is) ∙ no_note state (get_or p.places u 0) none)
 
--- nothing lives where the first word is 0, also past the end
-pub look_zero : (p : UnitWords) (s : Shadowed) (u : ℕ) → shadow_in p ≡ s → get_or p.states u 0 ≡ 0 → None ≡ get_or s.notes u None
-look_zero p s u view zero = ⊎_elim
-    (λ lt. look_none p s u (get_or p.states u 0) view lt refl (omega (arith, zero)))
+-- nothing lives where a first word has no number, also past the end
+pub look_nothing : (p : UnitWords) (s : Shadowed) (u state : ℕ) → shadow_in p ≡ s → state ≡ get_or p.states u 0 → state / 2 ^ 32 ≡ 0 → None ≡ get_or s.notes u None
+look_nothing p s u state view is none = ⊎_elim
+    (λ lt. look_none p s u state view lt is none)
     (λ ge. look_past p s u (length p.states) view refl ge)
+    (cases_lt u (length p.states))
+
+-- a number stands inside
+pub look_inside : (p : UnitWords) (u state : ℕ) → state ≡ get_or p.states u 0 → 0 < state / 2 ^ 32 → u < length p.states
+look_inside p u state is some = ⊎_elim
+    (λ lt. lt)
+    (λ ge. let none : state ≡ 0 = is ∙ get_or_past p.states u 0 ge in absurd (omega (arith, none, some)))
     (cases_lt u (length p.states))
 
 pub look_some : (p : UnitWords) (s : Shadowed) (u state place : ℕ) (n : BlockNote) → shadow_in p ≡ s → u < length p.states → state ≡ get_or p.states u 0 → place ≡ get_or p.places u 0 → 0 < state / 2 ^ 32
@@ -278,10 +285,6 @@ module _ (p : UnitWords) (s : Shadowed) (base : ℕ) (view : shadow_in p ≡ s) 
       go : (base / 16 < length p.states) ⊎ (length p.states ≤ base / 16) → base / 16 < length p.states
       go (inl lt) = lt
       go (inr le) = absurd (none-some live.note (sym (note_past p (base / 16) le) ∙ there))
-
-  -- its words aren't 0
-  pub clear_some : get_or p.states (base / 16) 0 ≢ 0
-  clear_some zero = none-some live.note (look_zero p s (base / 16) view zero ∙ live.there)
 
   pub clear_length : get_or p.places (base / 16) 0 % 2 ^ 32 ≡ live.note.length
   clear_length = ap (λ n. n.length) (note_is _ (get_or p.places (base / 16) 0) live.note (sym (note_at p (base / 16) clear_at) ∙ there)).1

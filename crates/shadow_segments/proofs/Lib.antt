@@ -3,8 +3,8 @@ pub mod Tests
 pub mod Changes
 pub mod Moved
 pub mod Entries
-pub mod Runs
 pub mod Lists
+pub mod Pairs
 pub mod Kept
 pub mod Marks
 pub mod CopiedMarks

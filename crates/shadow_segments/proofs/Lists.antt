@@ -84,3 +84,15 @@ filled_entries f g n u k y room in_ out =
     at i lt (inl b) h = out i lt (inl b) ∙ sym (filled_outside (list_by f n) u k y i y (inl b) ∙ get_or-list_by f n i y lt)
     at i lt (inr a) (inl b) = in_ i a b ∙ sym (filled_inside (list_by f n) u k y i y (omega (arith, room, length-list_by f n)) a b)
     at i lt (inr a) (inr c) = out i lt (inr c) ∙ sym (filled_outside (list_by f n) u k y i y (inr c) ∙ get_or-list_by f n i y lt)
+
+pub changed_entries : {A : Type 0} (d : A) (h : A → A) (f g : ℕ → A) (n u k : ℕ) → u + k ≤ n → ((i : ℕ) → u ≤ i → i < u + k → g i ≡ h (f i)) → ((i : ℕ) → i < n → (i < u) ⊎ (u + k ≤ i) → g i ≡ f i) → list_by g n ≡ changed d h (list_by f n) u k
+changed_entries d h f g n u k room in_ out =
+    ext_get_or d (list_by g n) (changed d h (list_by f n) u k) (length-list_by g n ∙ sym (length-changed d h (list_by f n) u k ∙ length-list_by f n))
+    (λ i lt.
+    let below : i < n = omega (arith, lt, length-list_by g n) in
+    get_or-list_by g n i d below ∙ at i below (cases_lt i u) (cases_lt i (u + k)))
+  where
+    at : (i : ℕ) → i < n → (i < u) ⊎ (u ≤ i) → (i < u + k) ⊎ (u + k ≤ i) → g i ≡ get_or (changed d h (list_by f n) u k) i d
+    at i lt (inl b) z = out i lt (inl b) ∙ sym (changed_outside d h (list_by f n) u k i d (inl b) ∙ get_or-list_by f n i d lt)
+    at i lt (inr a) (inl b) = in_ i a b ∙ sym (changed_inside d h (list_by f n) u k i d (omega (arith, room, length-list_by f n)) a b ∙ ap h (get_or-list_by f n i d lt))
+    at i lt (inr a) (inr c) = out i lt (inr c) ∙ sym (changed_outside d h (list_by f n) u k i d (inr c) ∙ get_or-list_by f n i d lt)

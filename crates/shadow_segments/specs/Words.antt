@@ -1,13 +1,13 @@
 -- Ours: how two words of 64 bits for each unit keep the record of its block and the marks of its bytes.
 use Rattle.std.specs.Prelude.{◌≡◌, ℕ, zero, suc, ◌+◌, ◌-◌, ◌*◌, ◌/◌, ◌%◌, ◌^◌, ◌<◌, ◌≤◌, ◌⊎◌, List, length}
-use Rattle.std.specs.Prelude.{get_or, map, Option, Some, None, nat_eq, if◌then◌else◌, Bool, true, ◌&&◌}
+use Rattle.std.specs.Prelude.{get_or, map, Option, Some, None, nat_eq, nat_lt, if◌then◌else◌, Bool, true, ◌&&◌}
 use Rattle.std.specs.Int.{bit_at}
 use Rattle.std.specs.List.{range_with_len}
 use Rattle.c_syntax.specs.declared.types.BlockKind.{BlockKind}
 use Rattle.c_syntax.specs.declared.types.BlockKind.TheVariants.{Global, Literal, Stack, Heap}
-use Rattle.raw_seg.specs.Bytes.{number_of, bytes_at}
 use Rattle.shadow_segments.specs.declared.BlockNote.{BlockNote}
-use Rattle.shadow_segments.specs.Shadow.{Mark, Unwritten, NumberByte, PieceByte, LooseByte, Shadowed, loosened}
+use Rattle.shadow_segments.specs.declared.words.Pair.{Pair}
+use Rattle.shadow_segments.specs.Shadow.{longest_segment, Mark, Unwritten, NumberByte, PieceByte, LooseByte, Shadowed, loosened}
 
 -- a list by its entries
 unfoldable pub list_by : {A : Type 0} → (ℕ → A) → ℕ → List A
@@ -20,15 +20,24 @@ pub record UnitWords : Type 0 where
   pub states : List ℕ
   pub places : List ℕ
 
--- the number in eight bytes
-abbrev pub word_at : List ℕ → ℕ → ℕ
-word_at bytes at = number_of (bytes_at bytes at 8)
+abbrev pub nothing : Pair
+nothing = record { state = 0; place = 0 }
 
-abbrev pub words_of : List ℕ → UnitWords
-words_of bytes = record {
-  states = list_by (λ u. word_at bytes (16 * u)) (length bytes / 16);
-  places = list_by (λ u. word_at bytes (16 * u + 8)) (length bytes / 16);
-}
+-- a pair without its number
+abbrev pub low_pair : Pair → Pair
+low_pair p = record { state = p.state % 2 ^ 32; place = p.place }
+
+-- the words of a unit: those of a run, which goes from one unit up to another, or else those that are written for it
+abbrev pub pair_at : List Pair → ℕ → ℕ → Pair → ℕ → Pair
+pair_at written from to run u = if nat_lt u from then get_or written u nothing else if nat_lt u to then run else get_or written u nothing
+
+-- how many units are written lies between where the run begins and how many there are, for which there is room; and the run lies inside
+abbrev pub HasRoom : (from to written len capacity : ℕ) → Type 0
+HasRoom from to written len capacity = (from ≤ written) × (written ≤ len) × (len ≤ capacity) × (to ≤ len) × (16 * len ≤ longest_segment)
+
+-- the words of so many units
+abbrev pub words_by : ℕ → (ℕ → Pair) → UnitWords
+words_by len pairs = record { states = list_by (λ u. (pairs u).state) len; places = list_by (λ u. (pairs u).place) len }
 
 -- ---- the record of a unit
 

@@ -90,15 +90,33 @@ impl Shadow {
         ensures steps { steps.new ≤ steps.old + 2 }
     {
         let unit = addr as usize / 16;
-        // Where nothing was ever written nothing lives.
-        if !self.words.has(unit) {
-            return None;
-        }
-        let number = (self.words.state(unit, steps) / UPPER) as u32;
+        let words = self.words.both(unit, steps);
+        let number = (words.state / UPPER) as u32;
         if number == 0 {
             return None;
         }
-        Some(unpacked(number, self.words.place(unit, steps)))
+        Some(unpacked(number, words.place))
+    }
+
+    /// The same where the words of this place's unit are written. `None` where they aren't, and nothing is said then: so a caller that is to be
+    /// quick leaves all that it does to a function out of line.
+    #[inline(always)]
+    pub fn lookup_written<L: Ledger>(
+        &self,
+        addr: u32,
+        steps: &mut Steps<L>,
+    ) -> Option<Option<BlockNote>>
+        ensures value { IfSome result (λ found. found ≡ get_or self.now.notes (addr / 16) None) }
+        ensures whole { IfSome result (λ found. IfSome found (λ note. IsWhole self.now.notes (addr / 16) note)) }
+        ensures steps { steps.new ≤ steps.old + 2 }
+    {
+        let unit = addr as usize / 16;
+        let words = self.words.written(unit, steps)?;
+        let number = (words.state / UPPER) as u32;
+        if number == 0 {
+            return Some(None);
+        }
+        Some(Some(unpacked(number, words.place)))
     }
 
     /// A block is born: its units have its record, and no byte of them is written.
@@ -122,11 +140,8 @@ impl Shadow {
         ensures { self.new ≡ cleared_at self.old base }
     {
         let first = base as usize / 16;
-        // The words of a live block were written.
-        if self.words.has(first) {
-            let length = self.words.peek_place(first) % UPPER;
-            self.words.release(first, length as usize / 16 + 1);
-        }
+        let length = self.words.peek_place(first) % UPPER;
+        self.words.release(first, length as usize / 16 + 1);
     }
 }
 

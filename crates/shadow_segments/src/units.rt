@@ -1,6 +1,6 @@
 // The marks of one unit's bytes, by one word.
 
-ghost use Rattle.std.specs.Prelude.{◌≡◌, ◌+◌, ◌-◌, ◌*◌, ◌^◌, ◌<◌, ◌≤◌, length, MatchBool};
+ghost use Rattle.std.specs.Prelude.{◌≡◌, ◌+◌, ◌-◌, ◌*◌, ◌^◌, ◌<◌, ◌≤◌, length, IfSome, MatchBool};
 ghost use Rattle.std.specs.Bool.{OnTrue};
 ghost use Rattle.shadow_segments.specs.Shadow.{NumberByte, PieceByte, with_marks, with_part, all_in, test_of};
 
@@ -103,5 +103,25 @@ impl Shadow {
         ensures step { steps.new ≡ steps.old + 1 }
     {
         passes(asked, self.words.state(unit, steps), from, to)
+    }
+
+    /// The same where that word is written, and `None` where it isn't.
+    #[inline(always)]
+    pub fn all_in_unit_written<L: Ledger>(
+        &self,
+        asked: Asked,
+        unit: usize,
+        from: u32,
+        to: u32,
+        steps: &mut Steps<L>,
+    ) -> Option<bool>
+        requires inside { unit < length self.now.notes }
+        requires order { from ≤ to }
+        requires small { to ≤ 16 }
+        ensures value { IfSome result (λ holds. holds ≡ all_in (test_of asked) self.now.marks (16 * unit + from) (to - from)) }
+        ensures step { steps.new ≡ steps.old + 1 }
+    {
+        let state = self.words.written_state(unit, steps)?;
+        Some(passes(asked, state, from, to))
     }
 }

@@ -3,9 +3,6 @@ use Rattle.shadow_segments.specs.Shadow.{test_of}
 use Rattle.shadow_segments.proofs.Marks.{unit_within, test_view}
 use Rattle.shadow_segments.proofs.Shadow.all_in_unit.Goals as goal
 
-pub state-requires : goal.state-requires
-state-requires g c = unit_within _ _ c.args.unit c.self.view_is c.requires.inside
-
 pub returns-clause-value : goal.returns-clause-value
 returns-clause-value g c =
     c.passes.ensures

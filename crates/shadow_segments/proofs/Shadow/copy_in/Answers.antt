@@ -2,12 +2,6 @@ use Rattle.shadow_segments.proofs.Marks.{unit_within, change_whole}
 use Rattle.shadow_segments.proofs.CopiedMarks.{take_view}
 use Rattle.shadow_segments.proofs.Shadow.copy_in.Goals as goal
 
-pub peek-source-requires : goal.peek-source-requires
-peek-source-requires c = unit_within _ _ c.args.unit_from c.self.view_is c.requires.inside.0
-
-pub peek-target-requires : goal.peek-target-requires
-peek-target-requires c = unit_within _ _ c.args.unit c.self.view_is c.requires.inside.1
-
 pub set_state-requires : goal.set_state-requires
 set_state-requires c = unit_within _ _ c.args.unit c.self.view_is c.requires.inside.1
 

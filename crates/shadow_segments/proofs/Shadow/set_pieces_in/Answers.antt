@@ -2,9 +2,6 @@ use Rattle.shadow_segments.specs.Shadow.{PieceByte}
 use Rattle.shadow_segments.proofs.Marks.{unit_within, change_view, change_whole}
 use Rattle.shadow_segments.proofs.Shadow.set_pieces_in.Goals as goal
 
-pub peek-state-requires : goal.peek-state-requires
-peek-state-requires c = unit_within _ _ c.args.unit c.self.view_is c.requires.inside
-
 pub set_state-requires : goal.set_state-requires
 set_state-requires c = unit_within _ _ c.args.unit c.self.view_is c.requires.inside
 

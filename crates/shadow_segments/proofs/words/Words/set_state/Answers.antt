@@ -1,13 +1,7 @@
-use Rattle.std.proofs.Common.{arith, ◌∙◌, ap}
-use Rattle.shadow_segments.specs.Words.{words_of}
-use Rattle.shadow_segments.proofs.Entries.{inside, state_set}
+use Rattle.shadow_segments.proofs.Pairs.{put_state}
 use Rattle.shadow_segments.proofs.words.Words.set_state.Goals as goal
 
-pub overflow_mul-unit : goal.overflow_mul-unit
-overflow_mul-unit c = let room = inside _ _ c.args.unit c.self.view_is c.self.invariant c.requires in omega (arith, room)
-
-pub set_word-requires-clause-inside : goal.set_word-requires-clause-inside
-set_word-requires-clause-inside c = let room = inside _ _ c.args.unit c.self.view_is c.self.invariant c.requires in omega (arith, room)
-
-pub returns : goal.returns
-returns c = ap words_of c.set_word.ensures.bytes ∙ state_set _ _ c.args.unit c.args.value c.self.view_is c.self.invariant c.requires c.ranges.value.fits
+pub returns-then-unit-self : goal.returns-then-unit-self
+returns-then-unit-self c =
+    put_state c.self.inside.len c.self.inside.from c.self.inside.to c.self.inside.units.items c.self.inside.run _ c.self.view_is
+    c.args.unit c.args.value c.index_mut.result.now c.if-unit-self.true c.self.invariant.0 c.requires c.index_mut.ensures.value
