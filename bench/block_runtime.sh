@@ -88,7 +88,8 @@ line 'a load of 4 bytes' load "$passes" $numbers load
 line 'the question for a number, and its load' check "$passes" $numbers load
 line 'a store of 4 bytes with its mark' store "$passes" $numbers store
 line 'birth and death of a block of 4 bytes' birth "$passes" $numbers
-line 'birth and death of a block of 1,048,000 bytes' large 3000 1
+line 'birth and death of a block of 1,048,000 bytes' large 3000000 1
+line 'the same, and of one of 4 bytes above it' below 3000 1
 line 'calloc of the whole heap, and its free' calloc 100 1
 line 'malloc or free among 30,000 blocks' some 20 90000
 line 'malloc or free among 60,000 blocks' many 10 180000

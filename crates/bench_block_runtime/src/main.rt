@@ -84,6 +84,22 @@ fn live_and_die(memory: &mut Runtime, size: u64, count: u64) -> u64 {
     ended
 }
 
+/// The birth and the death of a large stack block, and between them those of a small one above it.
+#[inline(never)]
+fn live_below(memory: &mut Runtime) -> u64 {
+    match memory.store_block(LARGE) {
+        Ok(p) => {
+            let ended = live_and_die(memory, SCALAR, 1);
+            if memory.delete_block(p).is_ok() {
+                ended.wrapping_add(1)
+            } else {
+                ended
+            }
+        }
+        Err(_) => 0,
+    }
+}
+
 /// The birth and the death of a block that fills the heap with zeros.
 #[inline(never)]
 fn fill_the_heap(memory: &mut Runtime) -> u64 {
@@ -127,7 +143,7 @@ fn heap_pass(memory: &mut Runtime, blocks: &mut [u64], p: u64, work: &str, value
     }
 }
 
-/// One pass of the work of this name, which is `store`, `check`, `birth`, `large` or else `load`.
+/// One pass of the work of this name, which is `store`, `check`, `birth`, `large`, `below` or else `load`.
 fn pass(memory: &mut Runtime, p: u64, work: &str, value: u64) -> u64 {
     match work {
         "store" => {
@@ -137,6 +153,7 @@ fn pass(memory: &mut Runtime, p: u64, work: &str, value: u64) -> u64 {
         "check" => check_all(memory, p, value),
         "birth" => live_and_die(memory, SCALAR, PLACES),
         "large" => live_and_die(memory, LARGE, 1),
+        "below" => live_below(memory),
         _ => load_all(memory, p, value),
     }
 }
@@ -147,7 +164,7 @@ fn run(alloc: Global, work: &str, passes: u64) -> Result<u64, AllocError> {
     let mut folded = live_and_die(&mut memory, LARGE, 1);
     let p = memory.store_block(BYTES).unwrap_or(0);
     store_all(&mut memory, p, 0x0102_0304);
-    if work == "large" {
+    if work == "large" || work == "below" {
         let _died = memory.delete_block(p);
     }
     let count = if work == "many" { MANY } else { SOME };
