@@ -1,0 +1,11 @@
+pub mod Plain
+-- productions as they are written
+pub mod ExpressionProductions
+pub mod DeclarationProductions
+pub mod StatementProductions
+pub mod FileProductions
+pub mod AnnotationProductions
+pub mod MonitoredProductions
+-- at each depth
+pub mod Laws
+pub mod MonitoredLaws

@@ -1,0 +1,33 @@
+//! Expressions: each production is the one that stands in the head of the grammar.
+
+ghost use Rattle.std.specs.Prelude.{ℕ, suc};
+ghost use Rattle.grammar.specs.Syntax.{◌then◌, gives};
+ghost use Rattle.grammar.specs.Exact.{Same};
+ghost use Rattle.c_model.specs.Vocabulary.{Vocabulary};
+ghost use Rattle.c_model.specs.ExpressionGrammar.{expression};
+ghost use Rattle.c_model.specs.ExpressionGrammar as parsed;
+ghost use Rattle.grammar_laws.specs.ExpressionProductions.{parsed_cast, parsed_level, parsed_unary};
+ghost use Rattle.grammar_laws.specs.ExpressionProductions as production;
+
+/// Expressions, operands joined by the operators of each level, casts and unary expressions.
+pub fn expressions()
+    ensures expr { (words : Vocabulary) → Same (expression words) (production.expr words) }
+    ensures level { (words : Vocabulary) (below : ℕ) → Same (parsed_level words (suc below)) (production.level words below) }
+    ensures least { (words : Vocabulary) → Same (parsed_level words 0) (parsed_cast words then λ operand. gives operand.expression) }
+    ensures cast { (words : Vocabulary) → Same (parsed_cast words) (production.cast words) }
+    ensures unary { (words : Vocabulary) → Same (parsed_unary words) (production.unary words) }
+{}
+
+/// The words for a type, and a type without a name.
+pub fn types()
+    ensures base { (words : Vocabulary) → Same (parsed.base words) (production.base words) }
+    ensures words { (words : Vocabulary) → Same (parsed.type_words words) (production.words words) }
+    ensures name { (words : Vocabulary) → Same (parsed.type_name words (expression words)) (production.type words) }
+{}
+
+/// Expressions that stand for their effect, and where a call may stand instead.
+pub fn effects()
+    ensures effect { (words : Vocabulary) → Same (parsed.effect words) (production.effect words) }
+    ensures called { (words : Vocabulary) → Same (parsed.effect_or_call words) (production.effect_or_call words) }
+    ensures value { (words : Vocabulary) → Same (parsed.expression_or_call words) (production.expression_or_call words) }
+{}
