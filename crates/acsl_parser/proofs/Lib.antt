@@ -4,3 +4,4 @@ pub mod UnlimitedForms
 pub mod ExactAnnotations
 pub mod Clauses
 pub mod Turns
+pub mod AnnotationAnswers

@@ -6,12 +6,15 @@
 // What single tokens stand for.
 mod tables;
 mod terminals;
+mod words;
 
 // Forms, inside others.
 mod atoms;
 mod formula;
 
-// Clauses within the limit of their tokens, and the public call.
+// Clauses within the limit of their tokens, and the annotation at a place.
 mod annotation;
+mod read;
 
 pub use annotation::annotations;
+pub use read::{one_annotation, read_annot};

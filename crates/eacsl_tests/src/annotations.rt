@@ -2,8 +2,8 @@
 
 use crate::monitored::constant;
 use crate::reading::tokens_of;
-use crate::same::{made, same_number, same_numbers};
-use acsl_parser::annotations;
+use crate::same::{made, same_bytes, same_number, same_numbers};
+use acsl_parser::{annotations, read_annot};
 use annot_typing::type_clauses;
 use c_expr_parser::vocabulary::vocabulary;
 use c_expression_rules::TypeFault;
@@ -12,7 +12,7 @@ use c_expression_rules::sight::Sight;
 use c_expression_rules::signature::Functions;
 use c_syntax::fault::ReadFault;
 use c_syntax::logic::{Annot, Body, Pred, PredKind};
-use c_syntax::{BinOp, Name, Range, Tokens, code};
+use c_syntax::{BinOp, FrontFault, Name, Range, Tokens, code};
 use interval_infer::ranges;
 use mon_syntax::MonType;
 use std::process::Abort;
@@ -50,6 +50,40 @@ fn asserts_are_read(rt: HostRuntime) {
         "/*@ assert 0 <= 1 + 2 * 3 && (7 / 2 == 3 ==> \\true); assert -7 % 2 == -1; */ return 0;";
     reads(&rt, text, (2, 3), 3);
     breaks(&rt, "/*@ assert 1 < 2 > 3; */", 4);
+}
+
+/// Compares how many clauses the annotation has that begins the tokens, and the place after it, where these are names of types.
+fn reads_first(rt: &(impl Abort + AllocGlobal), text: &str, types: &[u32], wanted: (i128, i128)) {
+    let tokens = tokens_of(rt, text);
+    match read_annot(rt.alloc(), &tokens, 0, 1, types) {
+        Ok((clauses, None, behind)) => {
+            let found = (clauses.len() as i128, behind as i128);
+            drop(clauses);
+            same_numbers(rt, found, wanted);
+        }
+        _ => panic!(rt; "it isn't read"),
+    }
+}
+
+/// Compares the refusal of the annotation that begins the tokens: the offset of a token that can't follow, and its word.
+fn refuses_first(rt: &(impl Abort + AllocGlobal), text: &str, offset: i128, word: &[u8]) {
+    let tokens = tokens_of(rt, text);
+    match read_annot(rt.alloc(), &tokens, 0, 1, &[]) {
+        Err(FrontFault::Refused(refusal)) => {
+            let place = i128::from(refusal.place.offset);
+            let found = (i128::from(refusal.code), place);
+            same_numbers(rt, found, (i128::from(code::GRAMMAR), offset));
+            same_bytes(rt, refusal.construct.bytes(), word);
+        }
+        _ => panic!(rt; "it isn't refused"),
+    }
+}
+
+#[test]
+fn an_annotation_is_read_by_the_names_of_types(rt: HostRuntime) {
+    let text = "/*@ assert (t) 1 == 1; assert \\true; */ int x;";
+    reads_first(&rt, text, &[1], (2, 13));
+    refuses_first(&rt, text, 15, b"1");
 }
 
 /// The asserts of a text, whose names have no declarations, and what is in sight of them.

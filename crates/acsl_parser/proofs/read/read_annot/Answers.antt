@@ -1,0 +1,28 @@
+use Rattle.std.proofs.Common.{◌≡◌, length, map, ap, ◌∙◌, ◌≤◌, arith}
+use Rattle.c_syntax.specs.Logic.{plain_annot}
+use Rattle.c_syntax.specs.Tokens.{plain_tokens, plain_token}
+use Rattle.c_model.specs.Vocabulary.{word_of}
+use Rattle.acsl_parser.specs.Answers.{with_types}
+use Rattle.acsl_parser.proofs.AnnotationAnswers.{left_within, annotation_read, annotation_refused}
+use Rattle.acsl_parser.proofs.read.read_annot.Goals as goal
+
+pub place_behind-requires : goal.place_behind-requires
+place_behind-requires c =
+    let le = left_within c.as_slice-2.result.now c.args.first c.split_at.result.1.now c.in-Ok.left.now _ c.in-Ok.ensures in
+    omega (arith, le, c.split_at.ensures.back_len)
+
+pub returns-in-Ok : goal.returns-in-Ok
+returns-in-Ok c =
+    let list = c.as_slice-list.result.now in
+    let start : c.args.at ≤ length list = omega (arith, c.requires, ap length c.as_slice-list.ensures.value) in
+    annotation_read (plain_tokens c.args.tokens.now) c.args.types.now c.args.at c.args.first c.as_slice-2.result.now list c.split_at.result.1.now
+    (c.as_slice-2.ensures.value ∙ c.in_ok-words.ensures ∙ ap (λ ns. with_types (map word_of ns) c.args.types.now) c.as_slice.ensures.value) (ap (map plain_token) c.as_slice-list.ensures.value) c.split_at.ensures.back start
+    (map plain_annot c.in-Ok.clauses.items) _ c.in-Ok.left.now c.place_behind.result c.in-Ok.ensures c.place_behind.ensures
+
+pub returns : goal.returns
+returns c =
+    let list = c.as_slice-list.result.now in
+    let start : c.args.at ≤ length list = omega (arith, c.requires, ap length c.as_slice-list.ensures.value) in
+    annotation_refused (plain_tokens c.args.tokens.now) c.args.types.now c.args.at c.args.first c.as_slice-2.result.now list c.split_at.result.1.now
+    (c.as_slice-2.ensures.value ∙ c.in_ok-words.ensures ∙ ap (λ ns. with_types (map word_of ns) c.args.types.now) c.as_slice.ensures.value) (ap (map plain_token) c.as_slice-list.ensures.value) c.split_at.ensures.back start
+    c.in-Err.fault c.refuse.result c.in-Err.ensures c.refuse.ensures

@@ -1,0 +1,52 @@
+-- Ours, in words of the grammar of ACSL 2.2 and 2.4.1 that stands in c_model/specs/AnnotationGrammar.
+-- What the answers on the tokens of a text mean.
+use Rattle.std.specs.Prelude.{◌≡◌, ◌≤◌, ◌<◌, ℕ, List, [], ◌∷◌, length, drop, slice_set, Option, None, Result, Ok, Err}
+use Rattle.grammar.specs.Syntax.{Fault}
+use Rattle.grammar.specs.Exact.{Found}
+use Rattle.c_syntax.specs.Logic.{Annotation}
+use Rattle.c_syntax.specs.Tokens.{PlainToken, PlainTokens}
+use Rattle.c_syntax.specs.Programs.{FunctionContract, PlainRefusal, plain_refusal}
+use Rattle.c_syntax.specs.declared.refusal.FrontFault.{FrontFault}
+use Rattle.c_syntax.specs.declared.refusal.FrontFault.TheVariants as front
+use Rattle.c_model.specs.Vocabulary.{Vocabulary, declared_word, word_at}
+use Rattle.c_model.specs.Phases.{vocabulary}
+use Rattle.c_model.specs.TokenWords.{syntax_refusal}
+use Rattle.c_model.specs.AnnotationGrammar.{annotations}
+use Rattle.c_expr_parser.specs.Answers.{NotRead}
+
+-- what words are where typedefs declare these of them (C99 6.7.7)
+abbrev pub with_types : Vocabulary → List ℕ → Vocabulary
+with_types ws [] = ws
+with_types ws (n ∷ ns) = with_types (slice_set ws n (declared_word (word_at ws n))) ns
+
+abbrev pub words_of : PlainTokens → List ℕ → Vocabulary
+words_of ts types = with_types (vocabulary ts) types
+
+-- ---- the annotation at a place of the tokens, whose clauses take the numbers from `first` on
+
+-- the tokens from the place on, read as an annotation; with its clauses comes the number of the next one
+abbrev pub annotation_at : PlainTokens → List ℕ → ℕ → ℕ → Result ((List Annotation × ℕ) × List PlainToken) Fault
+annotation_at ts types at first = (annotations (words_of ts types) first).parse (drop at ts.list)
+
+-- The tokens between the places are read as the annotation: they are the longest run from there on that begins one, and no token passes a limit.
+pub record IsReadAt (ts : PlainTokens) (types : List ℕ) (at first : ℕ) (all : List Annotation) (contract : Option FunctionContract) (behind : ℕ) : Type 0 where
+  pub forth : at < behind
+  pub within : behind ≤ length ts.list
+  -- the number of the next clause
+  pub next : ℕ
+  pub parsed : annotation_at ts types at first ≡ Ok ((all, next), drop behind ts.list)
+  pub found : Found (annotations (words_of ts types) first) (drop at ts.list) (all, next) (drop behind ts.list)
+  pub no_contract : contract ≡ None
+
+-- No annotation is read there: the tokens before the refused one begin an annotation and are none, and with it they don't begin one (E4), or it is the
+-- first that passes the limit (E11).
+pub record IsRefusedAt (ts : PlainTokens) (types : List ℕ) (at first : ℕ) (r : PlainRefusal) : Type 0 where
+  pub fault : Fault
+  pub parsed : annotation_at ts types at first ≡ Err fault
+  pub refused : NotRead (annotations (words_of ts types) first) (drop at ts.list) fault
+  pub is : r ≡ syntax_refusal ts fault
+
+-- nothing is said when memory ran out
+abbrev pub RefusesAt : PlainTokens → List ℕ → ℕ → ℕ → FrontFault → Type 0
+RefusesAt ts types at first front.Memory = Unit {0}
+RefusesAt ts types at first (front.Refused r) = IsRefusedAt ts types at first (plain_refusal r)
