@@ -25,7 +25,7 @@ line() {
 launches() {
   local copy=$scratch/copy program
   mkdir "$copy"
-  tar -C "$top" --exclude=out -cf - eacsl crates.txt crates | tar -xf - -C "$copy"
+  tar -C "$top" --exclude=out -cf - eacsl launcher crates.txt crates | tar -xf - -C "$copy"
   mkdir -p "$copy/crates/eacsl/out"
   program=$copy/crates/eacsl/out/eacsl
   cp "$(type -P true)" "$program"
