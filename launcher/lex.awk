@@ -24,7 +24,7 @@ function cut(kind, to) {
 }
 
 # Does what a quote, a slash, a star or a backslash at a place stands for, given it with one and with two bytes more.
-function mark(at, c, two, three) {
+function at_mark(at, c, two, three) {
     if (two == "*/" && (mode == "block" || mode == "note" || mode == "remark" && outer == "note")) {
         if (mode == "block") {
             cut("comment", at + 2)
@@ -69,7 +69,7 @@ function lex(line, goes_on,    parts, count, i, at) {
     count = split(line, parts, /["'*\/\\]/)
     for (i = 1; i < count; i++) {
         at += length(parts[i]) + 1
-        if (at >= free) mark(at, substr(line, at, 1), substr(line, at, 2), substr(line, at, 3))
+        if (at >= free) at_mark(at, substr(line, at, 1), substr(line, at, 2), substr(line, at, 3))
     }
     cut(kind_now(), length(line) + 1)
     if (!goes_on) end_line()
