@@ -15,7 +15,7 @@ function write(text) {
     if (text != "") ending = substr(text, length(text))
 }
 
-# `@` is a blank, `#` begins no directive, `\forall` is one name, `assert` is no macro, `0..n` is no number, and `*/` no end.
+# `@` is a blank, `#` begins no directive, `\forall` is one name, `assert` is no macro, `0..n` is no number, `/*` begins no comment, and `*/` ends none.
 function write_note(text,    words, count, i, at, c, last) {
     count = split(text, words, /[^A-Za-z0-9_]/)
     for (i = 1; i <= count; i++) {
@@ -25,7 +25,7 @@ function write_note(text,    words, count, i, at, c, last) {
         c = substr(text, at, 1)
         if (c == "@") write(" ")
         else if (c == "#") write(" " front "hash ")
-        else if (c == "*" && substr(text, at + 1, 1) == "/") write("* ")
+        else if (c == "*" && substr(text, at + 1, 1) == "/" || c == "/" && substr(text, at + 1, 1) == "*") write(c " ")
         else if (c == "." && (last == "." && words[i] == "" || substr(text, at + 1, 1) == ".")) write(last == "." ? ". " : " .")
         else if (c != "\\") write(c)
         last = c
