@@ -2,6 +2,8 @@
 # Prints the time of reading annotated texts of 0.25 to 1 MiB, of statements, of declarations with initialisers, and of one struct with
 # many members, in all and for each token, that of texts of 5,000 to 20,000 annotations, in all and for each annotation, and that of reading
 # texts in monitored C of 0.5 to 4 MiB, in all and for each byte, with the peak memory. A text returns before its statements, so that they are read and translated, and not run. It measures through ./eacsl.
+# Then, construct by construct of the grammar, the user time of a text that has as much of it as may be, and is run: bench/reading.sh --constructs [WORD]
+# prints this alone, of the constructs whose names have the word.
 set -euo pipefail
 
 top=$(cd -- "$(dirname -- "${BASH_SOURCE[0]}")/.." && pwd)
@@ -10,6 +12,12 @@ trap 'rm -rf "$scratch"' EXIT
 
 # builds the proved program where that is due, so that no figure is of an unproved one
 "$top/eacsl" --build >&2
+
+if [[ ${1-} == --constructs ]]; then
+  shift
+  python3 "$top/bench/constructs.py" "$top/eacsl" 3 "$@"
+  exit
+fi
 
 python3 - "$top/eacsl" "$scratch" <<'P'
 import os, subprocess, sys
@@ -120,3 +128,6 @@ table("run", "int main(void) { return 0; }\n", "assert", map(long_asserted, (1_2
 print()
 table("exec", HEAD + "}\n", "byte", map(monitored, (1 << 19, 1 << 20, 1 << 21, 1 << 22)))
 P
+
+echo
+python3 "$top/bench/constructs.py" "$top/eacsl" 3

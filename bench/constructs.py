@@ -1,0 +1,246 @@
+"""Prints what a text takes that has as much of one construct of the grammar as fits into 1 MiB and 200,000 tokens: for each construct the bytes,
+the tokens and the user time of reading, translating and running it, the least of some runs, after the same of a text of half as much.
+
+    constructs.py PROGRAM RUNS [WORD]
+
+With a word only the constructs whose names have it.
+"""
+import os, re, resource, subprocess, sys, tempfile
+
+program, runs, *words = sys.argv[1:]
+BYTES, TOKENS = 1 << 20, 200_000
+
+PIECE = re.compile(
+    r"(?P<blank>\s+|/\*(?!@).*?\*/|//(?!@)[^\n]*|^[ \t]*\#[^\n]*)"
+    r"|/\*@|//@|\*/|(?:\"(?:\\.|[^\"\\])*\"\s*)+|'(?:\\.|[^'\\])*'|\\?\w+"
+    r"|<==>|==>|<<=|>>=|\^\^|->|\+\+|--|<<|>>|[<>=!]=|&&|\|\||[-+*/%&|^]=|.",
+    re.S | re.M,
+)
+
+
+def count(text):
+    return sum(1 for piece in PIECE.finditer(text) if piece["blank"] is None)
+
+
+def filled(share, head, line, tail):
+    """As many lines as fit between a head and a tail, each with its number and that of the line before it."""
+    room, left = BYTES // share - len(head) - len(tail), TOKENS // share - count(head) - count(tail) - 1
+    of_line, lines = count(line.format(1, 0)), []
+    while left >= of_line:
+        one = line.format(len(lines) + 1, len(lines))
+        if room < len(one):
+            break
+        room, left = room - len(one), left - of_line
+        lines.append(one)
+    return head + "".join(lines) + tail
+
+
+MAIN = "int main(void) { return 0; }\n"
+BODY = "int main(void) {\n  int x = 1, y = 2, *p = &x, a[4] = {1, 2, 3, 4};\n"
+END = "  return 0;\n}\n"
+NAME = "n" * 240
+
+
+def outside(line, head="", tail=MAIN):
+    """Declarations at file scope."""
+    return head, line, tail
+
+
+def inside(line, head=""):
+    """Statements of `main`, which are run."""
+    return head + BODY, line, END
+
+
+def listed(head, line, tail):
+    return head, line, tail + MAIN
+
+
+def nested(begin, inner, end, depth):
+    return begin * depth + inner + end * depth + "\n"
+
+
+def twice(head, first, between, second, tail):
+    """Half of a text declares, and half of it uses what is declared."""
+
+    def text(share):
+        declared = filled(2 * share, head, first, "")
+        lines = declared[len(head):].count("\n")
+        uses = [second.format(n + 1, n) for n in range(lines)]
+        while uses and (len(declared) + sum(map(len, uses)) + len(between) + len(tail) > BYTES // share
+                        or count(declared) + count(uses[-1]) * len(uses) + count(between + tail) >= TOKENS // share):
+            del uses[-max(1, len(uses) // 20):]
+        return declared + between + "".join(uses) + tail
+
+    return text
+
+
+def long_expression(operand, operator, tokens=390):
+    each = count(operand) + count(operator)
+    return (" " + operator + " ").join([operand] * (tokens // each))
+
+
+CONSTRUCTS = {
+    # ---- what a file declares
+    "objects": outside("int g{0};\n"),
+    "objects with values": outside("int g{0} = {0};\n"),
+    "objects of one declaration": listed("int g0", ", g{0}", ";\n"),
+    "arrays": outside("int g{0}[3];\n"),
+    "pointers to objects": outside("int *g{0} = &g;\n", "int g;\n"),
+    "pointers to the object before": outside("void *g{0} = &g{1};\n", "void *g0;\n"),
+    "names of types": outside("typedef int t{0};\n"),
+    "names of types, each used": outside("typedef int t{0};\nt{0} g{0};\n"),
+    "names of types, by the one before": outside("typedef t{1} t{0};\n", "typedef int t0;\n"),
+    "one name of a type, used": outside("t g{0};\n", "typedef int t;\n"),
+    "tags of structs": outside("struct s{0} {{ int m; }};\n"),
+    "tags of structs, each used": outside("struct s{0} {{ int m; }};\nstruct s{0} g{0};\n"),
+    "tags of structs, by the one before": outside("struct s{0} {{ struct s{1} *p; }};\n", "struct s0 { int m; };\n"),
+    "tags that no file defines": outside("struct s{0} *g{0};\n"),
+    "structs of no tag": outside("struct {{ int m; }} g{0};\n"),
+    "tags of enums": outside("enum e{0} {{ A{0} }};\n"),
+    "tags of enums, each used": outside("enum e{0} {{ A{0} }};\nenum e{0} g{0};\n"),
+    "enumerators": listed("enum e { A0", ", A{0}", "};\n"),
+    "enumerators with values": listed("enum e { A0 = 0", ", A{0} = A{1} + 1", "};\n"),
+    # ---- members
+    "members": listed("struct s {\n", "int m{0};\n", "} g;\n"),
+    "members of one declaration": listed("struct s { int m0", ", m{0}", "; } g;\n"),
+    "members that are arrays": listed("struct s {\n", "char m{0}[3];\n", "} g;\n"),
+    "members that are structs": listed("struct s {\n", "struct {{ int a; }} m{0};\n", "} g;\n"),
+    "members that are enums": listed("struct s {\n", "enum {{ A{0} }} m{0};\n", "} g;\n"),
+    "members, each assigned": twice("struct s {\n", "int m{0};\n", "} g;\nint main(void) {\n", "g.m{0} = 0;\n", END),
+    "members, each with a value": twice("struct s { int m0;\n", "int m{0};\n", "} g = { 0", ",\n{0}", " };\n" + MAIN),
+    # ---- initialisers
+    "items": listed("int g[] = { 0", ", {0}", " };\n"),
+    "items in a function": ("int main(void) {\n  int g[] = { 0", ", {0}", " };\n" + END),
+    "items in braces": listed("int g[][1] = { { 0 }", ", {{ {0} }}", " };\n"),
+    "items that are structs": listed("struct s { int a; char b; };\nstruct s g[] = { { 0, 0 }", ", {{ {0}, 1 }}", " };\n"),
+    "items that are strings": listed('char *g[] = { "0"', ', "{0}"', " };\n"),
+    "items that are characters": listed("char g[] = { 'a'", ", 'b'", " };\n"),
+    "lists in lists": outside("int g{0}" + "[1]" * 60 + " = " + "{{" * 60 + "{0}" + "}}" * 60 + ";\n"),
+    "a string": listed('char g[] = "', "abcdefghijklmnop", '";\n'),
+    "a string of escapes": listed('char g[] = "', "\\x41\\n", '";\n'),
+    "strings in a row": listed('char g[] = "a"', ' "b"', ";\n"),
+    # ---- functions
+    "prototypes": outside("int f{0}(int a);\n"),
+    "prototypes of one name": outside("int f(int a);\n"),
+    "functions": outside("int f{0}(void) {{ return 0; }}\n"),
+    "functions, each called": twice("", "int f{0}(void) {{ return {0}; }}\n", "int main(void) {\n", "f{0}();\n", END),
+    "parameters": listed("int f(int a0", ", int a{0}", ");\n"),
+    "parameters of a definition": listed("int f(int a0", ", int a{0}", ") { return 0; }\n"),
+    # ---- statements
+    "calls": inside("f(x);\n", "int f(int a) { return a; }\n"),
+    "calls for a value": inside("y = f(x);\n", "int f(int a) { return a; }\n"),
+    "arguments": inside("f(" + ", ".join(["x"] * 190) + ");\n", "int f(" + ", ".join(["int"] * 190) + ") { return 0; }\n"),
+    "assignments": inside("x = y;\n"),
+    "compound assignments": inside("x ^= y;\n"),
+    "steps": inside("x++;\n"),
+    "assignments of structs": inside("u = v;\n", "struct s { int a; char b[3]; } u, v;\n"),
+    "empty statements": inside(";\n"),
+    "blocks": inside("{{ x = 1; }}\n"),
+    "blocks in blocks": inside(nested("{{", "x = 1;", "}}", 190)),
+    "objects in a function": inside("int z{0};\n"),
+    "objects in blocks": inside("{{ int z = {0}; }}\n"),
+    "objects that hide others": inside(nested("{{ int z = 1; ", "", "}}", 190)),
+    "if": inside("if (x) y = 1;\n"),
+    "if with else": inside("if (x) y = 1; else y = 2;\n"),
+    "else if": inside(nested("if (y) x = 1; else ", ";", "", 180)),
+    "while": inside("while (0) x = 1;\n"),
+    "do": inside("do x = 1; while (0);\n"),
+    "for": inside("for (y = 0; y < 1; y++) x = 1;\n"),
+    "for with an object": inside("for (int i = 0; i < 1; i++) x = i;\n"),
+    "loops in loops": inside(nested("while (x) ", "x = 0;", "", 180) + "x = 1;\n"),
+    "break": inside("while (1) break;\n"),
+    "continue": inside("do continue; while (0);\n"),
+    "return": outside("int f{0}(void) {{ return {0}; }}\n"),
+    # ---- expressions
+    "sums": inside("x = " + long_expression("1", "+") + ";\n"),
+    "products of sums": inside("x = " + long_expression("(y + 1)", "&") + ";\n"),
+    "comparisons": inside("x = " + long_expression("y", "<") + ";\n"),
+    "&& and ||": inside("x = " + long_expression("y", "&&") + ";\n"),
+    "?:": inside("x = " + "y ? 1 : " * 90 + "2;\n"),
+    "parentheses": inside("x = " + "(" * 190 + "y" + ")" * 190 + ";\n"),
+    "unary operators": inside("x = " + "-" + " -" * 300 + "y;\n"),
+    "casts": inside("x = " + "(int)" * 120 + "y;\n"),
+    "sizeof": inside("x = " + "sizeof " * 300 + "y;\n"),
+    "elements": inside("x = " + long_expression("a[1]", "|") + ";\n"),
+    "elements of elements": inside("x = " + "a[" * 75 + "0" + " & 3]" * 75 + ";\n"),
+    "targets": inside("x = " + long_expression("*p", "|") + ";\n"),
+    "addresses": inside("p = " + "&*" * 150 + "p;\n"),
+    "members of members": inside("x = " + long_expression("w.u.m", "|") + ";\n", "struct t { struct { int m; } u; } w;\n"),
+    "characters": inside("x = " + long_expression("'a'", "|") + ";\n"),
+    "constants of the library": inside("x = " + long_expression("INT_MAX", "&") + ";\n", "#include <limits.h>\n"),
+    # ---- annotations
+    "assert": inside("/*@ assert x > 0; */\n"),
+    "assert in a line": inside("//@ assert x > 0;\n"),
+    "asserts of one annotation": (BODY + "/*@", " assert x > 0;\n", "*/\n" + END),
+    "asserts of sums": inside("/*@ assert 0 < " + long_expression("x", "+", 380) + "; */\n"),
+    "asserts of &&": inside("/*@ assert " + long_expression("0 < x", "&&", 380) + "; */\n"),
+    "asserts of ==>": inside("/*@ assert " + long_expression("0 < x", "==>", 380) + "; */\n"),
+    "asserts of chains": inside("/*@ assert " + long_expression("0", "<=", 380) + "; */\n"),
+    "asserts of parentheses": inside("/*@ assert " + "(" * 180 + "x > 0" + ")" * 180 + "; */\n"),
+    "asserts of casts": inside("/*@ assert " + "(int)" * 120 + "x > 0; */\n"),
+    "asserts of !": inside("/*@ assert " + "!" * 180 + "\\true; */\n"),
+    "asserts of ?:": inside("/*@ assert " + "x < 0 ? \\false : " * 60 + "\\true; */\n"),
+    "asserts of sizeof": inside("/*@ assert 0 < " + long_expression("sizeof(int)", "+", 380) + "; */\n"),
+    # ---- what is between tokens, and words
+    "comments": outside("/* c */\n"),
+    "a comment": listed("/*", "abcdefghijklmnop", "*/\n"),
+    "comments to the end of the line": outside("// c\n"),
+    "blanks": outside("                "),
+    "lines": outside("\n"),
+    "annotations without tokens": outside("/*@ */\n"),
+    "directives": outside("#include <stdio.h>\n"),
+    "line markers": outside('# {0} "f.c"\n'),
+    "names of 255 bytes": outside("int " + NAME + "{0:015d};\n"),
+    "a name of 255 bytes, used": inside(NAME + "123456789012345 = 1;\n", "int " + NAME + "123456789012345;\n"),
+    "a number of many digits": listed("int g = 0", "0000000000000000", ";\n"),
+    "numbers": inside("x = 2147483647;\n"),
+}
+
+
+def text_of(construct, share):
+    return construct(share) if callable(construct) else filled(share, *construct)
+
+
+def user_time(path):
+    """The least user time of some runs, of which one has a minute."""
+    best = None
+    for _ in range(int(runs)):
+        run = subprocess.Popen(
+            [program, "run", path],
+            stdin=subprocess.DEVNULL,
+            stdout=subprocess.DEVNULL,
+            stderr=subprocess.PIPE,
+            preexec_fn=lambda: resource.setrlimit(resource.RLIMIT_CPU, (60, 60)),
+        )
+        said = run.stderr.read().decode().strip()
+        _, status, usage = os.wait4(run.pid, 0)
+        if os.waitstatus_to_exitcode(status) != 0 or said != "eacsl: exit 0":
+            return None, said or "more than a minute"
+        best = usage.ru_utime if best is None else min(best, usage.ru_utime)
+    return best, ""
+
+
+def shown(time):
+    return "-" if time is None else f"{time:.2f}"
+
+
+print(f"{'construct':<38} {'bytes':>8} {'tokens':>7} {'half, s':>8} {'user, s':>8}", flush=True)
+worst, refused = 0.0, 0
+with tempfile.TemporaryDirectory() as scratch:
+    path = os.path.join(scratch, "text.c")
+    for name, construct in CONSTRUCTS.items():
+        if words and not any(word in name for word in words):
+            continue
+        times = []
+        for share in (2, 1):
+            text = text_of(construct, share)
+            with open(path, "w") as file:
+                file.write(text)
+            time, said = user_time(path)
+            times.append(time)
+        print(f"{name:<38} {len(text):>8} {count(text):>7} {shown(times[0]):>8} {shown(times[1]):>8} {said}", flush=True)
+        if times[1] is None:
+            refused += 1
+        else:
+            worst = max(worst, times[1])
+print(f"the longest takes {worst:.2f} s; of {refused} there is no figure")
