@@ -1,7 +1,9 @@
 -- The layout of a struct with one more member.
-use Rattle.std.proofs.Common.{◌≡◌, ℕ, ◌+◌, ◌≤◌, ◌<◌, List, [], ◌∷◌, ◌++◌, refl, sym, ap, ◌∙◌, Bool, true, false, nat_lt, if◌then◌else◌, arith}
+use Rattle.std.proofs.Common.{◌≡◌, ℕ, zero, suc, ◌+◌, ◌-◌, ◌≤◌, ◌<◌, List, [], ◌∷◌, ◌++◌, length, map, slice_get, Some, None, refl, sym, ap, ◌∙◌, Bool, true, false, nat_lt, if◌then◌else◌, arith}
 use Rattle.std.proofs.lemmas.Bool.Decides.{nat_tests}
-use Rattle.c_syntax.specs.Programs.{StructMember, StructType}
+use Rattle.c_syntax.specs.Ctypes.{plain_type}
+use Rattle.c_syntax.specs.declared.program.Member.{Member}
+use Rattle.c_syntax.specs.Programs.{StructMember, StructType, plain_member}
 use Rattle.c_syntax.specs.Layouts.{align_of, aligned, size_of}
 use Rattle.c_model.specs.DeclarationTyping.{end_of, greater, laid_out, placed_from, widest}
 use Rattle.c_declaration_rules.specs.Layouts.{Grows}
@@ -66,7 +68,7 @@ module _ (structs : List StructType)
     pub widest_end : (a : ℕ) → 1 ≤ a → greater a 1 ≡ a
     widest_end a le = greater_first a 1 le
 
-    widest_more : (ms : List StructMember) (m : StructMember) → widest structs (ms ++ m ∷ []) ≡ greater (widest structs ms) (align_of structs m.ctype)
+    pub widest_more : (ms : List StructMember) (m : StructMember) → widest structs (ms ++ m ∷ []) ≡ greater (widest structs ms) (align_of structs m.ctype)
     widest_more [] m = greater_comm (align_of structs m.ctype)
       where
         greater_comm : (a : ℕ) → greater a 1 ≡ greater 1 a
@@ -80,10 +82,31 @@ module _ (structs : List StructType)
 
     -- ---- places
 
-    end_more : (ms : List StructMember) (m : StructMember) → end_of structs (ms ++ m ∷ []) ≡ m.offset + size_of structs m.ctype
+    pub end_more : (ms : List StructMember) (m : StructMember) → end_of structs (ms ++ m ∷ []) ≡ m.offset + size_of structs m.ctype
     end_more [] m = refl
     end_more (x ∷ []) m = refl
     end_more (x ∷ y ∷ ys) m = end_more (y ∷ ys) m
+
+    end_at : (ms : List Member) (n : ℕ) (m : Member) → suc n ≡ length ms → slice_get ms n ≡ Some m → m.offset + size_of structs (plain_type m.ctype) ≡ end_of structs (map plain_member ms)
+    end_at [] n m e h = absurd (omega (arith, e))
+    end_at (x ∷ []) zero m e h = let same : m ≡ x = cc in ap (λ (y : Member). y.offset + size_of structs (plain_type y.ctype)) same
+    end_at (x ∷ []) (suc n) m e h = absurd (omega (arith, e))
+    end_at (x ∷ y ∷ ys) zero m e h = absurd (omega (arith, e))
+    end_at (x ∷ y ∷ ys) (suc n) m e h = end_at (y ∷ ys) n m (omega (arith, e)) h
+
+    -- the last member of a struct
+    pub end_last : (ms : List Member) (m : Member) → slice_get ms (length ms - 1) ≡ Some m → m.offset + size_of structs (plain_type m.ctype) ≡ end_of structs (map plain_member ms)
+    end_last [] m h = absurd cc
+    end_last (x ∷ xs) m h = end_at (x ∷ xs) (length (x ∷ xs) - 1) m (omega arith) h
+
+    none_at : (ms : List Member) (n : ℕ) → slice_get ms n ≡ None → length ms ≤ n
+    none_at [] n h = omega arith
+    none_at (x ∷ xs) zero h = absurd cc
+    none_at (x ∷ xs) (suc n) h = let le = none_at xs n h in omega (arith, le)
+
+    pub end_none : (ms : List Member) → slice_get ms (length ms - 1) ≡ None → 0 ≡ end_of structs (map plain_member ms)
+    end_none [] h = refl
+    end_none (x ∷ xs) h = let le = none_at (x ∷ xs) (length (x ∷ xs) - 1) h in absurd (omega (arith, le))
 
     -- where members end that stand behind this offset
     abbrev pub end_from : ℕ → List StructMember → ℕ
@@ -94,7 +117,7 @@ module _ (structs : List StructType)
     end_step m [] = refl
     end_step m (n ∷ ms) = refl
 
-    placed_behind : (end : ℕ) (ms : List StructMember) (m : StructMember) → placed_from structs end ms ≡ ms
+    pub placed_behind : (end : ℕ) (ms : List StructMember) (m : StructMember) → placed_from structs end ms ≡ ms
         → placed_from structs end (ms ++ m ∷ []) ≡ ms ++ record m { offset = aligned (align_of structs m.ctype) (end_from end ms) } ∷ []
     placed_behind end [] m e = refl
     placed_behind end (x ∷ xs) m e =
@@ -112,7 +135,7 @@ module _ (structs : List StructType)
         rest_of [] = []
         rest_of (y ∷ ys) = ys
 
-    start_is : (ms : List StructMember) → end_from 0 ms ≡ end_of structs ms
+    pub start_is : (ms : List StructMember) → end_from 0 ms ≡ end_of structs ms
     start_is [] = refl
     start_is (m ∷ ms) = refl
 

@@ -2,6 +2,7 @@ pub mod Parts
 pub mod Declarations
 pub mod Enumerators
 pub mod Layouts
+pub mod OpenStructs
 pub mod Members
 pub mod Lists
 pub mod Items

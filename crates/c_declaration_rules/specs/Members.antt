@@ -39,8 +39,12 @@ GrowsTo s struct t g = Grows s.structs struct.members t g.offset g.align g.size
 abbrev pub object_member : Sight → Place → PlainType → Checked PlainType
 object_member s at t = limited s at (typed_type s at t) (one_part (typed_type s at t) (object_type s at))
 
+-- a name that isn't among those that there are
+abbrev pub name_besides : Bool → Place → Checked (Unit {0})
+name_besides known at = where_so (not known) (no_name at) (Good (tt {0}))
+
 abbrev pub new_member : ℕ → Place → List StructMember → Checked (Unit {0})
-new_member x at ms = where_so (not (is_there (member_among x ms))) (no_name at) (Good (tt {0}))
+new_member x at ms = name_besides (is_there (member_among x ms)) at
 
 -- the type of a member whose name is new in its struct
 abbrev pub checked_member : Sight → StructType → StructMember → Checked PlainType

@@ -1,14 +1,15 @@
 //! The layout of structs (C99 6.7.2.1 p13): each member stands at the next multiple of its alignment, and so does the end.
 
-ghost use Rattle.std.specs.Prelude.{◌≡◌, ◌<◌, ◌+◌, IfOk, map, slice_get, suc};
+ghost use Rattle.std.specs.Prelude.{◌≡◌, ◌<◌, ◌+◌, IfOk, OnOk, map, slice_get, suc};
 ghost use Rattle.c_syntax.specs.Ctypes.{plain_type};
 ghost use Rattle.c_syntax.specs.Programs.{plain_layout, plain_member};
 ghost use Rattle.c_syntax.specs.Layouts.{align_of, align_of_struct, aligned, size_of};
-ghost use Rattle.c_model.specs.ExpressionTyping.{levels_behind_pointer, levels_of};
+ghost use Rattle.c_model.specs.ExpressionTyping.{HasSize, levels_behind_pointer, levels_of, sized};
 ghost use Rattle.c_model.specs.DeclarationTyping.{end_of, greater, placed_from, widest};
 ghost use Rattle.c_declaration_rules.specs.Layouts.{Grows};
+ghost use Rattle.c_declaration_rules.specs.OpenStructs.{AreSized, IsLaid};
 
-use c_expression_rules::limits::{number, small_size};
+use c_expression_rules::limits::{KnownSize, number, sized, small_size};
 use c_expression_rules::sight::number_at;
 use c_syntax::layout::int_size;
 use c_syntax::{CType, Layout, Member};
@@ -75,26 +76,28 @@ pub fn size_of(structs: &[Layout], t: &CType) -> Result<u32, AllocError>
     }
 }
 
-/// Where a member ends that stands by the layout behind this offset; there are no others in structs that were laid out.
+/// Where a member ends that has a size and stands by the layout behind this offset; there are no others in structs that were laid out.
 fn member_end(structs: &[Layout], end: u64, m: &Member) -> Result<u64, AllocError>
     requires { end < 17179869184 }
     ensures offset { IfOk result (λ _. m.now.offset ≡ aligned (align_of (map plain_layout structs.now) (plain_type m.now.ctype)) end) }
     ensures end { IfOk result (λ e. e ≡ m.now.offset + size_of (map plain_layout structs.now) (plain_type m.now.ctype)) }
+    ensures sized { OnOk result (sized (map plain_layout structs.now) (plain_type m.now.ctype) ≡ HasSize) }
     ensures small { IfOk result (λ e. e < 17179869184) }
 {
     let size = size_of(structs, &m.ctype)?;
-    if u64::from(m.offset) == aligned(align_of(structs, &m.ctype), end) {
+    if sized(structs, &m.ctype) == KnownSize::HasSize
+        && u64::from(m.offset) == aligned(align_of(structs, &m.ctype), end)
+    {
         Ok(u64::from(m.offset) + u64::from(size))
     } else {
         Err(AllocError)
     }
 }
 
-/// Where the members of a struct end that was laid out.
-fn members_end(structs: &[Layout], members: &[Member]) -> Result<u64, AllocError>
-    ensures placed { IfOk result (λ _. placed_from (map plain_layout structs.now) 0 (map plain_member members.now) ≡ map plain_member members.now) }
-    ensures end { IfOk result (λ e. e ≡ end_of (map plain_layout structs.now) (map plain_member members.now)) }
-    ensures small { IfOk result (λ e. e < 17179869184) }
+/// Looks whether members were laid out one after another.
+fn check_places(structs: &[Layout], members: &[Member]) -> Result<(), AllocError>
+    ensures placed { OnOk result (placed_from (map plain_layout structs.now) 0 (map plain_member members.now) ≡ map plain_member members.now) }
+    ensures sized { OnOk result (AreSized (map plain_layout structs.now) (map plain_member members.now)) }
 {
     let mut end: u64 = 0;
     let mut rest = members;
@@ -102,7 +105,7 @@ fn members_end(structs: &[Layout], members: &[Member]) -> Result<u64, AllocError
         end = member_end(structs, end, m)?;
         rest = after;
     }
-    Ok(end)
+    Ok(())
 }
 
 /// The greatest alignment of members.
@@ -116,6 +119,32 @@ fn widest(structs: &[Layout], members: &[Member]) -> u32
         rest = after;
     }
     align
+}
+
+/// Looks whether a struct that isn't whole was laid out.
+pub fn check_laid(structs: &[Layout], layout: &Layout) -> Result<(), AllocError>
+    ensures { OnOk result (IsLaid (map plain_layout structs.now) (plain_layout layout.now)) }
+{
+    check_places(structs, &layout.members)?;
+    if layout.size == 0 && layout.align == widest(structs, &layout.members) {
+        Ok(())
+    } else {
+        Err(AllocError)
+    }
+}
+
+/// Where the members of a struct end.
+fn members_end(structs: &[Layout], members: &[Member]) -> Result<u64, AllocError>
+    ensures end { IfOk result (λ e. e ≡ end_of (map plain_layout structs.now) (map plain_member members.now)) }
+    ensures small { IfOk result (λ e. e < 17179869184) }
+{
+    match members.last() {
+        None => Ok(0),
+        Some(m) => {
+            let size = size_of(structs, &m.ctype)?;
+            Ok(u64::from(m.offset) + u64::from(size))
+        }
+    }
 }
 
 /// One more than a count; one past those that there are wants memory.
@@ -151,15 +180,16 @@ pub fn levels_of(levels: &[u32], t: &CType) -> Result<u32, AllocError>
     }
 }
 
-/// The layout of a struct with a member of this type behind its others, which were laid out. Its size may pass the limit.
-pub fn grow(structs: &[Layout], members: &[Member], t: &CType) -> Result<Grown, AllocError>
-    ensures { IfOk result (λ g. Grows (map plain_layout structs.now) (map plain_member members.now) (plain_type t.now) g.offset g.align g.size) }
+/// The layout of a struct that isn't whole with a member of this type behind its others. Its size may pass the limit.
+pub fn grow(structs: &[Layout], layout: &Layout, t: &CType) -> Result<Grown, AllocError>
+    requires { IsLaid (map plain_layout structs.now) (plain_layout layout.now) }
+    ensures { IfOk result (λ g. Grows (map plain_layout structs.now) (plain_layout layout.now).members (plain_type t.now) g.offset g.align g.size) }
 {
-    let end = members_end(structs, members)?;
+    let end = members_end(structs, &layout.members)?;
     let size = size_of(structs, t)?;
     let align = align_of(structs, t);
     let offset = number(aligned(align, end))?;
-    let align = greater(widest(structs, members), align);
+    let align = greater(layout.align, align);
     let size = aligned(align, u64::from(offset) + u64::from(size));
     Ok(Grown {
         offset,

@@ -15,3 +15,4 @@ pub mod declaration;
 pub mod enumerator;
 pub mod initialiser;
 pub mod member;
+pub mod open_struct;

@@ -1,16 +1,20 @@
 //! Members of structs (C99 6.7.2.1).
 
-ghost use Rattle.std.specs.Prelude.{◌≡◌, ◌<◌, IfOk, OnOk, length, map, slice_set};
+ghost use Rattle.std.specs.Prelude.{◌≡◌, ◌<◌, IfOk, OnOk, false, length, map, nat_eq, slice_set};
+ghost use Rattle.indexmap.specs.IndexSet.{contains};
 ghost use Rattle.c_syntax.specs.Ctypes.{plain_type};
 ghost use Rattle.c_syntax.specs.Programs.{plain_layout, plain_member};
 ghost use Rattle.c_model.specs.DeclarationTyping.{typed_member_type};
+ghost use Rattle.c_model.specs.ExpressionTyping.{HasSize, sized};
 ghost use Rattle.c_expression_rules.specs.Answers.{Answers};
 ghost use Rattle.c_expression_rules.specs.Sights.{plain_sight};
 ghost use Rattle.c_declaration_rules.specs.Members.{GrownTo, GrowsTo, checked_member, ended, member_typed};
-ghost use Rattle.c_declaration_rules.specs.Members.{new_member, object_member, small_layout, with_last_member};
+ghost use Rattle.c_declaration_rules.specs.Members.{name_besides, object_member, small_layout, with_last_member};
+ghost use Rattle.c_declaration_rules.specs.OpenStructs.{HasNames, IsLaid, IsOpen, IsOpenAt};
 
 use crate::layout::{Grown, greater, grow, levels_of, more};
 use crate::name::behind;
+use crate::open_struct::{OpenStruct, names_at};
 use c_expression_rules::expression::type_written;
 use c_expression_rules::fault::{TypeFault, both, no_name, too_large};
 use c_expression_rules::limits::MOST_BYTES;
@@ -18,15 +22,15 @@ use c_expression_rules::operator::has_size;
 use c_expression_rules::sight::{Sight, number_at};
 use c_expression_rules::types::within_limits;
 use c_syntax::copy::copy_type;
-use c_syntax::layout::member_among;
 use c_syntax::{CType, Layout, Member, Place};
+use indexmap::IndexSet;
 use std::alloc::{AllocError, Global};
 
-/// A name that no member of the struct has.
-fn new_member(name: u32, place: Place, members: &[Member]) -> Result<(), TypeFault>
-    ensures { Answers (λ u. u) (new_member name place (map plain_member members.now)) result }
+/// A name that is none of these.
+fn new_member(name: u32, place: Place, names: &IndexSet<u32>) -> Result<(), TypeFault>
+    ensures { Answers (λ u. u) (name_besides (contains nat_eq names.now name) place) result }
 {
-    if member_among(members, name).is_some() {
+    if names.contains(&name) {
         Err(no_name(place))
     } else {
         Ok(())
@@ -40,7 +44,8 @@ fn type_object_member(
     place: Place,
     t: &mut CType,
 ) -> Result<(), TypeFault>
-    ensures { Answers (λ _. plain_type t.new) (object_member (plain_sight sight.now) place (plain_type t.old)) result }
+    ensures typed { Answers (λ _. plain_type t.new) (object_member (plain_sight sight.now) place (plain_type t.old)) result }
+    ensures sized { OnOk result (sized (plain_sight sight.now).structs (plain_type t.new) ≡ HasSize) }
 {
     type_written(alloc, sight, place, t)?;
     both(has_size(sight, place, t), within_limits(sight, place, t))
@@ -66,13 +71,15 @@ fn type_member_type(
     layout: &Layout,
     m: &mut Member,
 ) -> Result<Grown, TypeFault>
+    requires { IsLaid (plain_sight sight.now).structs (plain_layout layout.now) }
     ensures typed { Answers (λ _. plain_type m.new.ctype) (typed_member_type (plain_sight sight.now) (plain_layout layout.now) (plain_member m.old)) result }
     ensures grows { IfOk result (λ g. GrowsTo (plain_sight sight.now) (plain_layout layout.now) (plain_type m.new.ctype) g) }
     ensures small { IfOk result (λ g. g.size < 4294967296) }
+    ensures sized { OnOk result (sized (plain_sight sight.now).structs (plain_type m.new.ctype) ≡ HasSize) }
     ensures kept { plain_member m.new ≡ record (plain_member m.old) { ctype = plain_type m.new.ctype } }
 {
     type_object_member(alloc, sight, m.place, &mut m.ctype)?;
-    let grown = grow(&sight.structs, &layout.members, &m.ctype)?;
+    let grown = grow(&sight.structs, layout, &m.ctype)?;
     small_layout(m.place, grown)
 }
 
@@ -81,14 +88,18 @@ fn type_new_member(
     alloc: Global,
     sight: &Sight,
     layout: &Layout,
+    names: &IndexSet<u32>,
     m: &mut Member,
 ) -> Result<Grown, TypeFault>
+    requires laid { IsLaid (plain_sight sight.now).structs (plain_layout layout.now) }
+    requires named { HasNames names.now (map plain_member layout.now.members.items) }
     ensures typed { Answers (λ _. plain_type m.new.ctype) (checked_member (plain_sight sight.now) (plain_layout layout.now) (plain_member m.old)) result }
     ensures grows { IfOk result (λ g. GrowsTo (plain_sight sight.now) (plain_layout layout.now) (plain_type m.new.ctype) g) }
     ensures small { IfOk result (λ g. g.size < 4294967296) }
+    ensures sized { OnOk result (sized (plain_sight sight.now).structs (plain_type m.new.ctype) ≡ HasSize) }
     ensures kept { plain_member m.new ≡ record (plain_member m.old) { ctype = plain_type m.new.ctype } }
 {
-    let name = new_member(m.name, m.place, &layout.members);
+    let name = new_member(m.name, m.place, names);
     let ctype = type_member_type(alloc, sight, layout, m);
     behind(name, ctype)
 }
@@ -145,20 +156,46 @@ fn see_member(
     Ok(())
 }
 
+/// Types a member of the struct of an index, which has members of these names, and adds it to the struct in sight and its name to theirs.
+fn type_next_member(
+    alloc: Global,
+    sight: &mut Sight,
+    k: usize,
+    names: &mut IndexSet<u32>,
+    m: &mut Member,
+    ends: bool,
+) -> Result<(), TypeFault>
+    requires within { k < length sight.old.structs.items }
+    requires begun { IsOpenAt (plain_sight sight.old).structs k names.old }
+    ensures typed { Answers (λ _. plain_sight sight.new) (member_typed (plain_sight sight.old) k (plain_member m.old) ends) result }
+    ensures begun { OnOk result (ends ≡ false → IsOpenAt (plain_sight sight.new).structs k names.new) }
+{
+    let grown = type_new_member(alloc, sight, &sight.structs[k], names, m)?;
+    see_member(alloc, sight, k, m, grown, ends)?;
+    names.insert(m.name)?;
+    Ok(())
+}
+
 /// Types a member of the struct of an index, and adds it to the struct in sight. The struct ends with its last member, and has a size
-/// from then on.
+/// from then on. What is kept of the members before it is that of the last struct that was added to.
 pub fn type_member(
     alloc: Global,
     sight: &mut Sight,
+    begun: &mut Option<OpenStruct>,
     k: usize,
     m: &mut Member,
     ends: bool,
 ) -> Result<(), TypeFault>
-    ensures { Answers (λ _. plain_sight sight.new) (member_typed (plain_sight sight.old) k (plain_member m.old) ends) result }
+    requires { IsOpen (plain_sight sight.old).structs begun.old }
+    ensures typed { Answers (λ _. plain_sight sight.new) (member_typed (plain_sight sight.old) k (plain_member m.old) ends) result }
+    ensures begun { IsOpen (plain_sight sight.new).structs begun.new }
 {
     if k < sight.structs.len() {
-        let grown = type_new_member(alloc, sight, &sight.structs[k], m)?;
-        see_member(alloc, sight, k, m, grown, ends)?;
+        let mut names = names_at(alloc, &sight.structs, begun.take(), k)?;
+        type_next_member(alloc, sight, k, &mut names, m, ends)?;
+        if !ends {
+            *begun = Some(OpenStruct { index: k, names });
+        }
     }
     Ok(())
 }

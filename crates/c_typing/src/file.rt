@@ -12,6 +12,7 @@ use crate::heading::{Callee, denoted};
 use crate::item::{Course, FileItem, add_tag, type_item};
 use crate::order::{put_items, take_items};
 use c_declaration_rules::layout::{greater, levels_of, more};
+use c_declaration_rules::open_struct::OpenStruct;
 use c_expression_rules::entities::Entities;
 use c_expression_rules::fault::TypeFault;
 use c_expression_rules::sight::Sight;
@@ -117,8 +118,9 @@ fn type_each(
     ensures { Answers (λ _. (plain_course course.new, all_kept (map plain_file_item items.new.items)))
         (items_in_turn (get nat_eq numbers.now) (plain_course course.old) (map plain_file_item items.old.items)) result }
 {
+    let mut begun: Option<OpenStruct> = None;
     for i in 0..items.len() {
-        type_item(alloc, numbers, course, &mut items[i])?;
+        type_item(alloc, numbers, course, &mut begun, &mut items[i])?;
     }
     Ok(())
 }

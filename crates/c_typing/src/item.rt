@@ -7,6 +7,7 @@ ghost use Rattle.c_syntax.specs.Statements.{plain_decl};
 ghost use Rattle.c_model.specs.UnitTyping.{new_tag, offset_of_item, with_tag, with_type};
 ghost use Rattle.c_expression_rules.specs.Answers.{Answers, IsRefusal};
 ghost use Rattle.c_expression_rules.specs.Sights.{plain_sight};
+ghost use Rattle.c_declaration_rules.specs.OpenStructs.{IsOpen};
 ghost use Rattle.c_typing.specs.Files.{defined_in_turn, enum_in_turn, global_in_turn, head_in_turn, item_in_turn, kept, plain_course};
 ghost use Rattle.c_typing.specs.Files.{plain_file_item, typedef_in_turn};
 
@@ -15,6 +16,7 @@ use crate::heading::{Callee, Noted};
 use c_declaration_rules::declaration::{type_global, type_typedef};
 use c_declaration_rules::enumerator::type_enumerators;
 use c_declaration_rules::member::type_member;
+use c_declaration_rules::open_struct::OpenStruct;
 use c_expression_rules::fault::{TypeFault, no_name};
 use c_expression_rules::sight::{Sight, TypeName, is_among};
 use c_syntax::copy::copy_type;
@@ -145,19 +147,27 @@ fn type_defined(
     type_function(alloc, &mut course.sight, numbers, &mut course.names, f)
 }
 
-/// Types an item with what is known behind those before it, by what each name of a function denotes.
+/// Types an item with what is known behind those before it, by what each name of a function denotes. What is kept of an open struct serves
+/// the member that comes next.
 pub fn type_item(
     alloc: Global,
     numbers: &IndexMap<u32, Callee>,
     course: &mut Course,
+    begun: &mut Option<OpenStruct>,
     item: &mut FileItem,
 ) -> Result<(), TypeFault>
-    ensures { Answers (λ _. (plain_course course.new, kept (plain_file_item item.new)))
+    requires { IsOpen (plain_sight course.old.sight).structs begun.old }
+    ensures typed { Answers (λ _. (plain_course course.new, kept (plain_file_item item.new)))
         (item_in_turn (get nat_eq numbers.now) (plain_course course.old) (plain_file_item item.old)) result }
+    ensures begun { IsOpen (plain_sight course.new.sight).structs begun.new }
 {
+    let last = begun.take();
     match item {
         FileItem::Head(place, tag) => type_head(course, *place, *tag),
-        FileItem::Inside(k, m, ends) => type_member(alloc, &mut course.sight, *k, m, *ends),
+        FileItem::Inside(k, m, ends) => {
+            *begun = last;
+            type_member(alloc, &mut course.sight, begun, *k, m, *ends)
+        }
         FileItem::Enum(e) => type_enum(alloc, course, e),
         FileItem::Typedef(d) => type_alias(alloc, course, d),
         FileItem::Global(d) => type_object(alloc, course, d),

@@ -20,7 +20,8 @@ loop-i-preserved c =
       unvisited = unvisited_step old cur i y c.loop-i.invariant.unvisited;
       within = within_step cur i y lt;
       typed = items_more numbers (items_in_turn numbers (plain_course c.args.course.now) (map plain_file_item old)) (plain_course c.loop-i.course) (take i cur) (drop i old) x (drop (i + 1) old)
-          c.loop-i.invariant.typed rest (plain_course c.type_item.new.course) (take (i + 1) (slice_set cur i y)) y c.in_ok-type_item.ensures (done cur i y lt);
+          c.loop-i.invariant.typed rest (plain_course c.type_item.new.course) (take (i + 1) (slice_set cur i y)) y c.in_ok-type_item.ensures.typed (done cur i y lt);
+      begun = c.in_ok-type_item.ensures.begun;
     }
 
 pub returns-in_err-type_item : goal.returns-in_err-type_item
@@ -35,7 +36,7 @@ returns-in_err-type_item c =
     let whole = items_refused numbers (items_in_turn numbers (plain_course c.args.course.now) (map plain_file_item old)) (plain_course c.loop-i.course) (take i cur) (drop i old) x (drop (i + 1) old)
     c.loop-i.invariant.typed (left old cur i x lt c.loop-i.invariant.unvisited c.index_mut.ensures.value)
     (λ (u : Unit {0}). (plain_course c.type_item.new.course, kept (plain_file_item c.type_item.new.item)))
-    (λ (u : Unit {0}). (plain_course c.loop-i.course, all_kept (map plain_file_item old))) c.in_err-type_item.field-0.0 c.in_err-type_item.ensures in
+    (λ (u : Unit {0}). (plain_course c.loop-i.course, all_kept (map plain_file_item old))) c.in_err-type_item.field-0.0 c.in_err-type_item.ensures.typed in
     search (rules, e, whole)
 
 pub returns : goal.returns

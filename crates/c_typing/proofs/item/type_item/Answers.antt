@@ -8,8 +8,8 @@ use Rattle.c_typing.specs.Files.{Course, defined_in_turn, global_in_turn, item_i
 use Rattle.c_expression_rules.proofs.Lists.{made_of}
 use Rattle.c_typing.proofs.item.type_item.Goals as goal
 
-pub returns-in-Typedef : goal.returns-in-Typedef
-returns-in-Typedef c =
+pub returns-in-Typedef-clause-typed : goal.returns-in-Typedef-clause-typed
+returns-in-Typedef-clause-typed c =
     let s = plain_course c.args.course.now in
     let d = plain_decl c.in-Typedef.d in
     let d' = plain_decl c.type_alias.new.d in
@@ -19,8 +19,8 @@ returns-in-Typedef c =
     made_of (λ (x : Course × Declaration). (x.0, ATypedef x.1 ∷ [])) (λ (u : Unit {0}). (s', d')) (typedef_in_turn s d) c.type_alias.result h in
     search (rules, whole)
 
-pub returns-in-Global : goal.returns-in-Global
-returns-in-Global c =
+pub returns-in-Global-clause-typed : goal.returns-in-Global-clause-typed
+returns-in-Global-clause-typed c =
     let s = plain_course c.args.course.now in
     let d = plain_decl c.in-Global.d in
     let d' = plain_decl c.type_object.new.d in
@@ -30,8 +30,8 @@ returns-in-Global c =
     made_of (λ (x : Course × Declaration). (x.0, AGlobal x.1 ∷ [])) (λ (u : Unit {0}). (s', d')) (global_in_turn s d) c.type_object.result h in
     search (rules, whole)
 
-pub returns-in-Function : goal.returns-in-Function
-returns-in-Function c =
+pub returns-in-Function-clause-typed : goal.returns-in-Function-clause-typed
+returns-in-Function-clause-typed c =
     let numbers = get nat_eq c.args.numbers.now in
     let s = plain_course c.args.course.now in
     let f = plain_func c.in-Function.f in
