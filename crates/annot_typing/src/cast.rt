@@ -1,12 +1,11 @@
 //! Types that stand in annotations, with C's rules (C99 6.5.3.4, 6.7.6).
 
 ghost use Rattle.c_syntax.specs.Ctypes.{plain_type};
-ghost use Rattle.c_model.specs.ExpressionTyping.{limited, typed_type};
-ghost use Rattle.c_model.specs.Checked.{Good};
+ghost use Rattle.c_model.specs.ExpressionTyping.{limited};
 ghost use Rattle.c_model.specs.PredicateTyping.{size_in};
 ghost use Rattle.c_expression_rules.specs.Answers.{Answers};
 ghost use Rattle.c_expression_rules.specs.Sights.{plain_sight};
-ghost use Rattle.annot_typing.specs.Limits.{has_small_size, limits_of, size_of_written};
+ghost use Rattle.annot_typing.specs.Limits.{has_small_size, size_of_written};
 ghost use Rattle.annot_typing.specs.Sorts.{plain_sorted};
 
 use crate::sorted::{Sorted, term};
@@ -21,30 +20,6 @@ use c_syntax::logic::TermKind;
 use c_syntax::{CType, Place};
 use std::alloc::Global;
 
-/// The type that a written one is.
-pub fn written_type(
-    alloc: Global,
-    sight: &Sight,
-    place: Place,
-    t: &CType,
-) -> Result<CType, TypeFault>
-    ensures { Answers plain_type (typed_type (plain_sight sight.now) place (plain_type t.now)) result }
-{
-    let mut u = copy_type(alloc, t)?;
-    type_written(alloc, sight, place, &mut u)?;
-    Ok(u)
-}
-
-/// A type that passes no limit, where there is one.
-pub fn limits_of(sight: &Sight, place: Place, t: &Result<CType, TypeFault>) -> Result<(), TypeFault>
-    ensures { Answers (λ u. u) (limits_of (plain_sight sight.now) place t.now) result }
-{
-    match t {
-        Ok(t) => within_limits(sight, place, t),
-        Err(_) => Ok(()),
-    }
-}
-
 /// A type that has a size (C99 6.5.3.4), and that passes no limit.
 fn has_small_size(sight: &Sight, place: Place, u: &CType) -> Result<(), TypeFault>
     ensures { Answers (λ u. u) (has_small_size (plain_sight sight.now) place (plain_type u.now)) result }
@@ -55,7 +30,7 @@ fn has_small_size(sight: &Sight, place: Place, u: &CType) -> Result<(), TypeFaul
 /// The size of a type that has one.
 fn size_in(alloc: Global, sight: &Sight, place: Place, u: &CType) -> Result<Sorted, TypeFault>
     ensures { Answers plain_sorted
-        (limited (plain_sight sight.now) place (Good (plain_type u.now)) (size_in (plain_sight sight.now) place (plain_type u.now))) result }
+        (limited (plain_sight sight.now) place (plain_type u.now) (size_in (plain_sight sight.now) place (plain_type u.now))) result }
 {
     has_small_size(sight, place, u)?;
     match small_size(&sight.structs, u) {
@@ -64,10 +39,13 @@ fn size_in(alloc: Global, sight: &Sight, place: Place, u: &CType) -> Result<Sort
     }
 }
 
-/// `sizeof` of a type.
+/// `sizeof` of a type; one that passes a limit is a fault besides the others.
 pub fn type_size(alloc: Global, sight: &Sight, place: Place, u: &CType) -> Result<Sorted, TypeFault>
     ensures { Answers plain_sorted (size_of_written (plain_sight sight.now) place (plain_type u.now)) result }
 {
-    let t = written_type(alloc, sight, place, u)?;
-    size_in(alloc, sight, place, &t)
+    let mut t = copy_type(alloc, u)?;
+    match type_written(alloc, sight, place, &mut t) {
+        Ok(()) => size_in(alloc, sight, place, &t),
+        Err(f) => both(Err(f), within_limits(sight, place, &t)),
+    }
 }

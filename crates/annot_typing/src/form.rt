@@ -10,14 +10,17 @@ ghost use Rattle.c_expression_rules.specs.Sights.{plain_sight};
 ghost use Rattle.annot_typing.specs.Relations.{plain_chain, plain_link};
 ghost use Rattle.annot_typing.specs.Sorts.{plain_sorted, plain_three, plain_two};
 
-use crate::cast::{limits_of, type_size, written_type};
+use crate::cast::type_size;
 use crate::chain::{is_predicate, linked, related, right_side};
 use crate::demand::{cast, cast_as, chosen, connected, on_integers, unary_on};
 use crate::joined::joined;
 use crate::name::term_named;
 use crate::sorted::{Sorted, predicate, term};
+use c_expression_rules::expression::type_written;
 use c_expression_rules::fault::{TypeFault, both};
 use c_expression_rules::sight::Sight;
+use c_expression_rules::types::within_limits;
+use c_syntax::copy::copy_type;
 use c_syntax::logic::{
     Formula, FormulaKind, FormulaLinks, Links, LogicType, PredKind, Term, TermKind,
 };
@@ -119,12 +122,13 @@ fn type_cast(
 ) -> Result<Sorted, TypeFault>
     ensures { Answers plain_sorted (typed_form (plain_sight sight.now) (Cast place (OfC (plain_type to.now)) (plain_form a.now))) result }
 {
-    let written = written_type(alloc, sight, place, to);
+    let mut u = copy_type(alloc, to)?;
+    let written = type_written(alloc, sight, place, &mut u);
     let operand = type_form(alloc, sight, a);
-    let limits = limits_of(sight, place, &written);
+    let limits = within_limits(sight, place, &u);
     match joined(written, operand) {
         Err(f) => both(Err(f), limits),
-        Ok((to, a)) => both(cast(alloc, place, to, a), limits),
+        Ok(((), a)) => both(cast(alloc, place, u, a), limits),
     }
 }
 

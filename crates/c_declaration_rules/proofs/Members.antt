@@ -1,18 +1,40 @@
 -- Members of structs, in steps.
 use Rattle.std.proofs.Common.{◌≡◌, ℕ, zero, suc, ◌<◌, ◌≤◌, List, [], ◌∷◌, length, map, get_or, refl, sym, ap, ◌∙◌, subst, arith, Bool, true, false, nat_le, if◌then◌else◌, slice_get, slice_set, Some, None, Result, Ok, Err}
+use Rattle.std.specs.Prelude.{OnOk}
 use Rattle.c_syntax.specs.Ctypes.{PlainType}
 use Rattle.c_syntax.specs.declared.program.Layout.{Layout}
 use Rattle.c_syntax.specs.Programs.{StructMember, StructType, plain_layout}
-use Rattle.c_model.specs.Checked.{Fault, Checked, Good, Bad, both_parts, one_part, where_so}
-use Rattle.c_model.specs.ExpressionTyping.{Sight, levels_of, most_bytes, number_at, too_large}
+use Rattle.c_syntax.specs.declared.place.Place.{Place}
+use Rattle.c_model.specs.Checked.{Fault, Checked, Good, Bad, both_parts, faulty, one_part, where_so}
+use Rattle.c_model.specs.ExpressionTyping.{Sight, Sized, HasSize, HasNoSize, NotYet, element_type, levels_of, most_bytes, no_name, no_type, number_at, sized, too_large, typed_type}
 use Rattle.c_model.specs.DeclarationTyping.{greater, member_added, typed_member, typed_member_type, with_member, with_struct}
 use Rattle.c_expression_rules.specs.declared.fault.TypeFault.{TypeFault}
 use Rattle.c_expression_rules.specs.declared.fault.TypeFault.TheVariants.{Refused, Memory}
-use Rattle.c_expression_rules.specs.Answers.{Answers}
+use Rattle.c_expression_rules.specs.Answers.{Answers, both}
+use Rattle.c_expression_rules.specs.Forms.{typed_elements}
 use Rattle.c_expression_rules.proofs.Least.{one_refused}
 use Rattle.c_declaration_rules.specs.declared.layout.Grown.{Grown}
 use Rattle.c_declaration_rules.specs.Members.{GrowsTo, checked_member, ended, member_typed, new_member, object_member, small_layout, with_grown, with_last_member}
 use Rattle.c_declaration_rules.proofs.Layouts.{grown_is}
+
+-- elements whose type is typed have a size
+pub elements_sized : (s : Sight) (at : Place) (t u : PlainType) (a r b : Result (Unit {0}) TypeFault) → Answers (λ (w : Unit {0}). u) (typed_elements s at t) a → r ≡ both a b → OnOk r (sized s.structs u ≡ HasSize)
+elements_sized s at t u (Ok w) (Err f) b h j = tt
+elements_sized s at t u (Err f) (Err g) b h j = tt
+elements_sized s at t u (Err f) (Ok v) (Ok w) h j = absurd cc
+elements_sized s at t u (Err (Refused f)) (Ok v) (Err (Refused g)) h j = absurd cc
+elements_sized s at t u (Err (Refused f)) (Ok v) (Err Memory) h j = absurd cc
+elements_sized s at t u (Err Memory) (Ok v) (Err g) h j = absurd cc
+elements_sized s at t u (Ok w) (Ok v) b h j = by (typed_type s at t) h
+  where
+    sized_is : (k : Sized) (v : PlainType) → sized s.structs v ≡ k → elim k [ HasSize ↦ Good v | HasNoSize ↦ faulty (no_type at) | NotYet ↦ faulty (no_name at) ] ≡ Good u → sized s.structs u ≡ HasSize
+    sized_is HasSize v e same = let is : v ≡ u = cc in subst (λ z. sized s.structs z ≡ HasSize) is e
+    sized_is HasNoSize v e same = absurd cc
+    sized_is NotYet v e same = absurd cc
+
+    by : (c : Checked PlainType) → one_part c (element_type s at) ≡ Good u → sized s.structs u ≡ HasSize
+    by (Good v) same = sized_is (sized s.structs v) v refl same
+    by (Bad f fs) same = absurd cc
 
 -- a demand with another value behind it
 where_moved : {A B T : Type 0} (b : Bool) (f : Fault) (x : A) (y : B) (p : T → A) (r : Result T TypeFault) → Answers p (where_so b f (Good x)) r → Answers (λ (w : T). y) (where_so b f (Good y)) r

@@ -7,7 +7,7 @@ use Rattle.c_syntax.specs.Programs.{StructMember, StructType}
 use Rattle.c_syntax.specs.Layouts.{member_among}
 use Rattle.c_model.specs.Library.{is_there}
 use Rattle.c_model.specs.Checked.{Checked, Good, both_parts, one_part, where_so}
-use Rattle.c_model.specs.ExpressionTyping.{Sight, levels_of, limited, most_bytes, no_name, number_at, too_large, typed_type}
+use Rattle.c_model.specs.ExpressionTyping.{Sight, known_type, levels_of, limited, most_bytes, no_name, number_at, too_large, typed_type}
 use Rattle.c_model.specs.DeclarationTyping.{greater, object_type, typed_member, typed_member_type, with_struct}
 use Rattle.c_declaration_rules.specs.declared.layout.Grown.{Grown}
 use Rattle.c_declaration_rules.specs.Layouts.{Grows}
@@ -37,7 +37,7 @@ GrowsTo s struct t g = Grows s.structs struct.members t g.offset g.align g.size
 
 -- the type of a member as an object's within the limits
 abbrev pub object_member : Sight → Place → PlainType → Checked PlainType
-object_member s at t = limited s at (typed_type s at t) (one_part (typed_type s at t) (object_type s at))
+object_member s at t = limited s at (known_type s t) (one_part (typed_type s at t) (object_type s at))
 
 -- a name that isn't among those that there are
 abbrev pub name_besides : Bool → Place → Checked (Unit {0})

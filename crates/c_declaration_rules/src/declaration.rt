@@ -4,11 +4,11 @@ ghost use Rattle.std.specs.Prelude.{◌≡◌, OnOk};
 ghost use Rattle.c_syntax.specs.Ctypes.{plain_type};
 ghost use Rattle.c_syntax.specs.Statements.{plain_decl};
 ghost use Rattle.c_model.specs.ExpressionTyping.{with_object};
-ghost use Rattle.c_model.specs.DeclarationTyping.{parameter_name, typed_global, typed_parameter, typed_typedef, typed_variable};
-ghost use Rattle.c_expression_rules.specs.Answers.{Answers};
+ghost use Rattle.c_model.specs.DeclarationTyping.{known_parameter_type, parameter_name, typed_global, typed_parameter, typed_typedef, typed_variable};
+ghost use Rattle.c_expression_rules.specs.Answers.{Answers, IfTold};
 ghost use Rattle.c_expression_rules.specs.Sights.{plain_sight};
 ghost use Rattle.c_declaration_rules.specs.Declarations.{declaration_typed, declarator_typed, initialised, limited_type, named_type};
-ghost use Rattle.c_declaration_rules.specs.Declarations.{scalar_parameter};
+ghost use Rattle.c_declaration_rules.specs.Declarations.{scalar_parameter, scalar_parts};
 
 use crate::initialiser::type_maybe_initialiser;
 use crate::name::{behind, is_declared_in_file, own_name};
@@ -81,12 +81,12 @@ pub fn type_global(alloc: Global, sight: &mut Sight, d: &mut Decl) -> Result<(),
     type_declaration(alloc, sight, declared, true, d)
 }
 
-/// Types a type that is written and passes no limit.
+/// Types a type that is written, and that passes no limit.
 fn type_limited(alloc: Global, sight: &Sight, place: Place, t: &mut CType) -> Result<(), TypeFault>
     ensures { Answers (λ _. plain_type t.new) (limited_type (plain_sight sight.now) place (plain_type t.old)) result }
 {
-    type_written(alloc, sight, place, t)?;
-    within_limits(sight, place, t)
+    let written = type_written(alloc, sight, place, t);
+    both(written, within_limits(sight, place, t))
 }
 
 /// Types the declaration of a name of a type, whose size need not be known (C99 6.7.7).
@@ -125,6 +125,21 @@ fn parameter_name(sight: &Sight, d: &Decl) -> Result<(), TypeFault>
     }
 }
 
+/// Types the type of a parameter, which is a scalar.
+fn type_scalar_parts(
+    alloc: Global,
+    sight: &Sight,
+    defined: bool,
+    place: Place,
+    t: &mut CType,
+) -> Result<(), TypeFault>
+    ensures typed { Answers (λ _. plain_type t.new) (scalar_parts (plain_sight sight.now) defined place (plain_type t.old)) result }
+    ensures known { IfTold result (plain_type t.new ≡ known_parameter_type (plain_sight sight.now) (plain_type t.old)) }
+{
+    type_parameter_type(alloc, sight, place, t)?;
+    check_scalar(sight, defined, place, t)
+}
+
 /// Types the type of a parameter, which is a scalar and passes no limit.
 fn type_scalar(
     alloc: Global,
@@ -135,11 +150,8 @@ fn type_scalar(
 ) -> Result<(), TypeFault>
     ensures { Answers (λ _. plain_type t.new) (scalar_parameter (plain_sight sight.now) defined place (plain_type t.old)) result }
 {
-    type_parameter_type(alloc, sight, place, t)?;
-    both(
-        check_scalar(sight, defined, place, t),
-        within_limits(sight, place, t),
-    )
+    let scalar = type_scalar_parts(alloc, sight, defined, place, t);
+    both(scalar, within_limits(sight, place, t))
 }
 
 /// Types a parameter of a function, which is defined here or isn't (C99 6.7.5.3).

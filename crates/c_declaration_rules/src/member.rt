@@ -15,10 +15,9 @@ ghost use Rattle.c_declaration_rules.specs.OpenStructs.{HasNames, IsLaid, IsOpen
 use crate::layout::{Grown, greater, grow, levels_of, more};
 use crate::name::behind;
 use crate::open_struct::{OpenStruct, names_at};
-use c_expression_rules::expression::type_written;
+use c_expression_rules::expression::type_elements;
 use c_expression_rules::fault::{TypeFault, both, no_name, too_large};
 use c_expression_rules::limits::MOST_BYTES;
-use c_expression_rules::operator::has_size;
 use c_expression_rules::sight::{Sight, number_at};
 use c_expression_rules::types::within_limits;
 use c_syntax::copy::copy_type;
@@ -47,8 +46,8 @@ fn type_object_member(
     ensures typed { Answers (λ _. plain_type t.new) (object_member (plain_sight sight.now) place (plain_type t.old)) result }
     ensures sized { OnOk result (sized (plain_sight sight.now).structs (plain_type t.new) ≡ HasSize) }
 {
-    type_written(alloc, sight, place, t)?;
-    both(has_size(sight, place, t), within_limits(sight, place, t))
+    let object = type_elements(alloc, sight, place, t);
+    both(object, within_limits(sight, place, t))
 }
 
 /// A layout whose size passes no limit.

@@ -4,17 +4,17 @@ ghost use Rattle.std.specs.Prelude.{◌≡◌, IfErr, IfOk, OnOk, length, option
 ghost use Rattle.c_syntax.specs.Ctypes.{Array, PlainType, Ptr, plain_length, plain_type};
 ghost use Rattle.c_syntax.specs.Expressions.{plain_expr};
 ghost use Rattle.c_syntax.specs.Statements.{plain_init, plain_inits};
-ghost use Rattle.c_model.specs.ExpressionTyping.{typed_type};
+ghost use Rattle.c_model.specs.ExpressionTyping.{known_type, typed_type};
 ghost use Rattle.c_model.specs.Library.{is_there};
-ghost use Rattle.c_model.specs.DeclarationTyping.{completed, elements_of_parameter, items_in, length_by, scalar_type, text_read};
-ghost use Rattle.c_model.specs.DeclarationTyping.{typed_outer, typed_parameter_type, typed_result};
-ghost use Rattle.c_expression_rules.specs.Answers.{Answers, IsRefusal};
+ghost use Rattle.c_model.specs.DeclarationTyping.{completed, elements_of_parameter, items_in, known_parameter_type, length_by, pointer_where_array};
+ghost use Rattle.c_model.specs.DeclarationTyping.{scalar_type, text_read, typed_outer, typed_parameter_type, typed_result};
+ghost use Rattle.c_expression_rules.specs.Answers.{Answers, IfTold, IsRefusal};
 ghost use Rattle.c_expression_rules.specs.Sights.{plain_sight};
 ghost use Rattle.c_declaration_rules.specs.Objects.{bytes_alone, bytes_read, is_left, object_typed, plain_maybe_init};
-ghost use Rattle.c_declaration_rules.specs.Objects.{pointed_to_elements, result_type};
+ghost use Rattle.c_declaration_rules.specs.Objects.{result_type, sized_object, typed_pointed, written_result};
 
 use c_expression_rules::conversion::{is_character, is_scalar, is_struct, is_void};
-use c_expression_rules::expression::{type_length, type_written};
+use c_expression_rules::expression::{type_elements, type_length, type_written};
 use c_expression_rules::fault::{TypeFault, both, no_name, no_type};
 use c_expression_rules::limits::{KnownSize, number, sized};
 use c_expression_rules::operator::has_size;
@@ -38,13 +38,11 @@ fn type_completable(
     place: Place,
     t: &mut CType,
 ) -> Result<(), TypeFault>
-    ensures { Answers (λ _. plain_type t.new) (typed_outer true (plain_sight sight.now) place (plain_type t.old)) result }
+    ensures typed { Answers (λ _. plain_type t.new) (typed_outer true (plain_sight sight.now) place (plain_type t.old)) result }
+    ensures known { IfTold result (plain_type t.new ≡ known_type (plain_sight sight.now) (plain_type t.old)) }
 {
     match t {
-        CType::Array(u, Length::Left) => {
-            type_written(alloc, sight, place, u)?;
-            has_size(sight, place, u)
-        }
+        CType::Array(u, Length::Left) => type_elements(alloc, sight, place, u),
         _ => type_written(alloc, sight, place, t),
     }
 }
@@ -57,7 +55,8 @@ fn type_outer(
     place: Place,
     t: &mut CType,
 ) -> Result<(), TypeFault>
-    ensures { Answers (λ _. plain_type t.new) (typed_outer may_leave (plain_sight sight.now) place (plain_type t.old)) result }
+    ensures typed { Answers (λ _. plain_type t.new) (typed_outer may_leave (plain_sight sight.now) place (plain_type t.old)) result }
+    ensures known { IfTold result (plain_type t.new ≡ known_type (plain_sight sight.now) (plain_type t.old)) }
 {
     if may_leave {
         type_completable(alloc, sight, place, t)
@@ -139,7 +138,26 @@ fn has_initialiser(init: &Option<(Place, Init)>) -> bool
     init.is_some()
 }
 
-/// Types the type of a declared object, whose length its initialiser may give (C99 6.7 p7, 6.7.8 p22).
+/// Types the type of an object with the length that its initialiser gives, where it gives one.
+fn type_sized_object(
+    alloc: Global,
+    sight: &Sight,
+    place: Place,
+    init: &Option<(Place, Init)>,
+    t: &mut CType,
+) -> Result<(), TypeFault>
+    ensures typed { Answers (λ _. plain_type t.new)
+        (sized_object (plain_sight sight.now) place (plain_type t.old) (plain_maybe_init init.now)) result }
+    ensures known { IfTold result (plain_type t.new
+        ≡ completed (plain_sight sight.now) (known_type (plain_sight sight.now) (plain_type t.old)) (plain_maybe_init init.now)) }
+{
+    let written = type_outer(alloc, sight, has_initialiser(init), place, t);
+    complete(sight, init, t)?;
+    written?;
+    has_size(sight, place, t)
+}
+
+/// Types the type of a declared object (C99 6.7 p7, 6.7.8 p22), which passes no limit.
 pub fn type_object(
     alloc: Global,
     sight: &Sight,
@@ -150,14 +168,13 @@ pub fn type_object(
     ensures { Answers (λ _. plain_type t.new)
         (object_typed (plain_sight sight.now) place (plain_type t.old) (plain_maybe_init init.now)) result }
 {
-    type_outer(alloc, sight, has_initialiser(init), place, t)?;
-    complete(sight, init, t)?;
-    both(has_size(sight, place, t), within_limits(sight, place, t))
+    let object = type_sized_object(alloc, sight, place, init, t);
+    both(object, within_limits(sight, place, t))
 }
 
 /// Puts a pointer to the elements in the place of an array's type.
 fn point_to_elements(t: &mut CType)
-    ensures { plain_type t.new ≡ pointed_to_elements (plain_type t.old) }
+    ensures { plain_type t.new ≡ pointer_where_array (plain_type t.old) }
 {
     let now = match replace(t, CType::Void) {
         CType::Array(u, n) => {
@@ -180,25 +197,49 @@ fn is_element(sight: &Sight, place: Place, t: &CType) -> Result<(), TypeFault>
     }
 }
 
+/// Types the type of the elements of a parameter that is written as an array.
+fn type_pointed(alloc: Global, sight: &Sight, place: Place, u: &mut CType) -> Result<(), TypeFault>
+    ensures typed { Answers (λ _. Ptr (plain_type u.new)) (typed_pointed (plain_sight sight.now) place (plain_type u.old)) result }
+    ensures known { IfTold result (plain_type u.new ≡ known_type (plain_sight sight.now) (plain_type u.old)) }
+{
+    type_written(alloc, sight, place, u)?;
+    is_element(sight, place, u)
+}
+
 /// Types the parts of a parameter's type that is written as an array.
-fn type_elements(
+fn type_parameter_array(
     alloc: Global,
     sight: &Sight,
     place: Place,
     u: &mut CType,
     n: &mut Length,
 ) -> Result<(), TypeFault>
-    ensures { Answers (λ _. Ptr (plain_type u.new))
+    ensures typed { Answers (λ _. Ptr (plain_type u.new))
         (typed_parameter_type (plain_sight sight.now) place (Array (plain_type u.old) (plain_length n.old))) result }
+    ensures known { IfTold result (plain_type u.new ≡ known_type (plain_sight sight.now) (plain_type u.old)) }
 {
-    let element = type_written(alloc, sight, place, u);
+    let pointed = type_pointed(alloc, sight, place, u);
     if is_left(n) {
-        element?;
+        pointed
     } else {
-        let count = type_length(alloc, sight, place, n);
-        both(element, count)?;
+        both(pointed, type_length(alloc, sight, place, n))
     }
-    is_element(sight, place, u)
+}
+
+/// Types the parts of a parameter's type, which is a pointer where it is an array.
+fn type_parameter_parts(
+    alloc: Global,
+    sight: &Sight,
+    place: Place,
+    t: &mut CType,
+) -> Result<(), TypeFault>
+    ensures typed { Answers (λ _. pointer_where_array (plain_type t.new)) (typed_parameter_type (plain_sight sight.now) place (plain_type t.old)) result }
+    ensures known { IfTold result (pointer_where_array (plain_type t.new) ≡ known_parameter_type (plain_sight sight.now) (plain_type t.old)) }
+{
+    match t {
+        CType::Array(u, n) => type_parameter_array(alloc, sight, place, u, n),
+        _ => type_written(alloc, sight, place, t),
+    }
 }
 
 /// Types the type of a parameter; the first array is a pointer (C99 6.7.5.3 p7).
@@ -208,14 +249,12 @@ pub fn type_parameter_type(
     place: Place,
     t: &mut CType,
 ) -> Result<(), TypeFault>
-    ensures { Answers (λ _. plain_type t.new) (typed_parameter_type (plain_sight sight.now) place (plain_type t.old)) result }
+    ensures typed { Answers (λ _. plain_type t.new) (typed_parameter_type (plain_sight sight.now) place (plain_type t.old)) result }
+    ensures known { IfTold result (plain_type t.new ≡ known_parameter_type (plain_sight sight.now) (plain_type t.old)) }
 {
-    match t {
-        CType::Array(u, n) => type_elements(alloc, sight, place, u, n)?,
-        _ => type_written(alloc, sight, place, t)?,
-    }
+    let typed = type_parameter_parts(alloc, sight, place, t);
     point_to_elements(t);
-    Ok(())
+    typed
 }
 
 /// A parameter or a result is a scalar; a definition needs the size of a struct (C99 6.7.5.3 p4, 6.9.1 p3).
@@ -244,7 +283,25 @@ fn check_result(sight: &Sight, defined: bool, place: Place, t: &CType) -> Result
     }
 }
 
-/// What a function gives, at the place of its name: a type that is written without a fault, or with one.
+/// What a function gives, by its type, which is written without a fault, or with one.
+fn written_result(
+    sight: &Sight,
+    defined: bool,
+    place: Place,
+    written: &Result<(), TypeFault>,
+    t: &CType,
+) -> Result<(), TypeFault>
+    ensures typed { (u : PlainType) → Answers (λ _. plain_type t.now) (typed_type (plain_sight sight.now) place u) written.now
+        → Answers (λ _. plain_type t.now) (written_result (plain_sight sight.now) defined place u) result }
+    ensures known { (u : PlainType) → IfTold written.now (plain_type t.now ≡ u) → IfTold result (plain_type t.now ≡ u) }
+{
+    match written {
+        Err(f) => Err(*f),
+        Ok(()) => check_result(sight, defined, place, t),
+    }
+}
+
+/// The same at the place of its name, where the type passes no limit.
 pub fn result_of(
     sight: &Sight,
     defined: bool,
@@ -253,13 +310,9 @@ pub fn result_of(
     t: &CType,
 ) -> Result<(), TypeFault>
     ensures { (u : PlainType) → Answers (λ _. plain_type t.now) (typed_type (plain_sight sight.now) place u) written.now
+        → IfTold written.now (plain_type t.now ≡ known_type (plain_sight sight.now) u)
         → Answers (λ _. plain_type t.now) (typed_result (plain_sight sight.now) defined place u) result }
 {
-    match written {
-        Err(f) => Err(*f),
-        Ok(()) => both(
-            check_result(sight, defined, place, t),
-            within_limits(sight, place, t),
-        ),
-    }
+    let given = written_result(sight, defined, place, written, t);
+    both(given, within_limits(sight, place, t))
 }

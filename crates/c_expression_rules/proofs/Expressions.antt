@@ -8,18 +8,18 @@ use Rattle.c_syntax.specs.declared.types.CType.{CType}
 use Rattle.c_syntax.proofs.Rows.{call_kind_is}
 use Rattle.std.specs.Prelude.{Vec}
 use Rattle.std.specs.declared.alloc.Global.{Global}
-use Rattle.c_syntax.specs.Ctypes.{PlainType, PlainLength, Array, plain_type}
+use Rattle.c_syntax.specs.Ctypes.{PlainType, plain_type}
 use Rattle.c_syntax.specs.Expressions.{Expression, ExpressionKind, Node, Number, Letter, Variable, Unary, Binary, Both, Either, Choice, Assign}
 use Rattle.c_syntax.specs.Expressions.{Bump, Call, Cast, SizeOfType, SizeOfExpr, Text, Index, Dot, Arrow, Comma, Expressions, NoExpression, Following, plain_expr, plain_exprs, plain_kind, type_of}
 use Rattle.c_model.specs.Checked.{Fault, Checked, Good, Bad, one_part, both_parts, refusing}
 use Rattle.c_model.specs.ExpressionTyping as plain
-use Rattle.c_model.specs.ExpressionTyping.{Sight, typed, typed_arguments, typed_type, typed_length, argument_for, first_type, rest_types, callee, call, params_of, two, decayed_of, array_of}
+use Rattle.c_model.specs.ExpressionTyping.{Sight, typed, typed_arguments, argument_for, first_type, rest_types, callee, call, params_of, two, decayed_of}
 use Rattle.c_expression_rules.specs.declared.fault.TypeFault.{TypeFault}
 use Rattle.c_expression_rules.specs.declared.fault.TypeFault.TheVariants.{Refused, Memory}
 use Rattle.c_expression_rules.specs.declared.signature.Signature.{Signature}
 use Rattle.c_expression_rules.specs.Answers.{Answers, both, first_of, plain_fault}
 use Rattle.c_expression_rules.specs.Callees.{known_params}
-use Rattle.c_expression_rules.specs.Forms.{typed_array, typed_call, typed_call_parts, typed_kind, typed_two}
+use Rattle.c_expression_rules.specs.Forms.{typed_call, typed_call_parts, typed_kind, typed_two}
 use Rattle.c_expression_rules.specs.Signatures.{plain_signature}
 use Rattle.c_expression_rules.proofs.Least.{both_refused, both_answers, one_refused, one_then}
 
@@ -61,19 +61,6 @@ form_is s at t (Comma a b) = two_in_turn (λ a b. Good (Node at (type_of b) (Com
 -- what is known by its form is known of an expression
 pub by_form : {T : Type 0} (p : T → Expression) (s : Sight) (at : Place) (t : PlainType) (k : ExpressionKind) (r : Result T TypeFault) → Answers p (typed_kind s at k) r → Answers p (typed s (Node at t k)) r
 by_form p s at t k r h = subst (λ c. Answers p c r) (sym (form_is s at t k)) h
-
--- ---- arrays, of elements and a length
-
-module _ (s : Sight) (at : Place) (t t' : PlainType) (n n' : PlainLength) (a b : Result (Unit {0}) TypeFault)
-    (element : Answers (λ (u : Unit {0}). t') (typed_type s at t) a) (count : Answers (λ (u : Unit {0}). n') (typed_length s at n) b)
-  where
-    pub array_refused : (h : TypeFault) → both a b ≡ Err h → Answers (λ (u : Unit {0}). Array t' n') (typed_array s at t n) (Err h)
-    array_refused h j = one_refused (λ p. array_of s at p.0 p.1) (λ (u : Unit {0}). (t', n')) (λ (u : Unit {0}). Array t' n') (both_parts (typed_type s at t) (typed_length s at n) two) h
-        (both_refused two (λ u. t') (λ u. n') (λ (u : Unit {0}). (t', n')) (typed_type s at t) (typed_length s at n) a b h element count j)
-
-    pub array_answers : (u : Unit {0}) (r : Result (Unit {0}) TypeFault) → both a b ≡ Ok u → Answers (λ (u : Unit {0}). Array t' n') (array_of s at t' n') r → Answers (λ (u : Unit {0}). Array t' n') (typed_array s at t n) r
-    array_answers u r j h = one_then (λ p. array_of s at p.0 p.1) (λ (u : Unit {0}). (t', n')) (λ (u : Unit {0}). Array t' n') (both_parts (typed_type s at t) (typed_length s at n) two) u r
-        (both_answers (λ (u : Unit {0}). t') (λ u. n') (typed_type s at t) (typed_length s at n) a b (Ok u) element count j) h
 
 -- ---- calls
 

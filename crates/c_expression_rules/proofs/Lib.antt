@@ -10,6 +10,7 @@ pub mod Wrapped
 pub mod Bitwise
 pub mod Shifts
 pub mod Folding
+pub mod Told
 pub mod Besides
 pub mod Small
 pub mod Demands

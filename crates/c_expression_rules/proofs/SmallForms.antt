@@ -1,5 +1,5 @@
 -- Each size that an expression asks for is within the limit after typing, whatever is in sight.
-use Rattle.std.proofs.Common.{◌≡◌, ℕ, ◌+◌, ℤ, pos, length, nat_eq, Bool, true, false, ◌&&◌, nat_le, refl, Option, Some, None, cond, not, if◌then◌else◌}
+use Rattle.std.proofs.Common.{◌≡◌, ℕ, ◌+◌, ℤ, pos, length, nat_eq, Bool, true, false, ◌&&◌, nat_le, refl, subst, Option, Some, None, cond, not, if◌then◌else◌}
 use Rattle.c_syntax.specs.declared.place.Place.{Place}
 use Rattle.c_syntax.specs.declared.types.CInt.{CInt}
 use Rattle.c_syntax.specs.declared.types.CInt.TheVariants.{I8, I32, I64, U64}
@@ -16,7 +16,9 @@ use Rattle.c_model.specs.Library.{is_there, library_constant}
 use Rattle.c_model.specs.Checked.{Fault, Checked, Good, Bad, faulty, one_part, both_parts, given, where_so}
 use Rattle.c_model.specs.ExpressionTyping as plain
 use Rattle.c_model.specs.ExpressionTyping.{Sight, Sized, HasSize, HasNoSize, NotYet, besides, decayed, decayed_of, has_small_parts, in_type, is_within_limits, limited, most_bytes, no_name}
-use Rattle.c_model.specs.ExpressionTyping.{params_of, typed_arguments, no_type, same_type, sized, too_large, two, type_in, typed, typed_type, where_sized}
+use Rattle.c_model.specs.ExpressionTyping.{params_of, typed_arguments, no_type, same_type, sized, too_large, two, known_type, typed, typed_type, where_sized}
+use Rattle.c_model.proofs.TypedParts as model
+use Rattle.c_model.proofs.KnownTypes.{type_is_known}
 use Rattle.c_expression_rules.specs.Constants.{has_small_sizes}
 use Rattle.c_expression_rules.proofs.Gives.{Gives, gives_of, gives_one, gives_both, gives_given, gives_where}
 use Rattle.c_expression_rules.proofs.Small.{and_both, small_type, small_decayed}
@@ -59,9 +61,8 @@ gives_besides R true f c h = h refl
 gives_besides R false f (Good a) h = tt
 gives_besides R false f (Bad g gs) h = tt
 
-gives_limited : {B : Type 0} (R : B → Type 0) (s : Sight) (at : Place) (c : Checked PlainType) (d : Checked B) → Gives R d → Gives R (limited s at c d)
-gives_limited R s at (Good t) d g = gives_besides R (is_within_limits s t) (too_large at) d (λ e. g)
-gives_limited R s at (Bad f fs) d g = g
+gives_limited : {B : Type 0} (R : B → Type 0) (s : Sight) (at : Place) (t : PlainType) (d : Checked B) → Gives R d → Gives R (limited s at t d)
+gives_limited R s at t d g = gives_besides R (is_within_limits s t) (too_large at) d (λ e. g)
 
 anything : {A : Type 0} (c : Checked A) → Gives (λ (a : A). Unit {0}) c
 anything (Good a) = tt
@@ -201,13 +202,22 @@ named_small s at x = by (plain.entity_named x s.entities) (plain.function_called
     by None None None false true = tt
     by None None None false false = tt
 
--- a type whose size is asked for
-written_small : (s : Sight) (at : Place) (c : Checked PlainType) → Gives (IsSmall s) (limited s at c (one_part c (plain.size_of_type s at)))
-written_small s at (Good t) = gives_besides (IsSmall s) (is_within_limits s t) (too_large at) (plain.size_of_type s at t)
-    (λ e. gives_sized (IsSmall s) s at t (Good (Node at (Int U64) (SizeOfType t))) (within_small s t (nat_le (plain.levels_of s.levels t) plain.most_levels) e))
-written_small s at (Bad f fs) = tt
+-- what is known of a type that is written
+type_known : (s : Sight) (at : Place) (t : PlainType) → Gives (λ u. known_type s t ≡ u) (typed_type s at t)
+type_known s at t = by (typed_type s at t) (type_is_known s at t)
+  where
+    by : (c : Checked PlainType) → model.Gives (λ u. known_type s t ≡ u) c → Gives (λ u. known_type s t ≡ u) c
+    by (Good u) g = g
+    by (Bad f fs) g = tt
 
-asked_small : (s : Sight) (at : Place) (c : Checked Expression) → Gives (IsSmall s) (limited s at (type_in c) (one_part c (plain.size_of_expression s at)))
+-- a type whose size is asked for
+written_small : (s : Sight) (at : Place) (t : PlainType) (c : Checked PlainType) → Gives (λ u. t ≡ u) c → Gives (IsSmall s) (limited s at t (one_part c (plain.size_of_type s at)))
+written_small s at t c g = gives_besides (IsSmall s) (is_within_limits s t) (too_large at) (one_part c (plain.size_of_type s at)) (λ e.
+    gives_one (λ u. t ≡ u) (IsSmall s) c (plain.size_of_type s at) g (λ u is.
+    gives_sized (IsSmall s) s at u (Good (Node at (Int U64) (SizeOfType u)))
+    (within_small s u (nat_le (plain.levels_of s.levels u) plain.most_levels) (subst (λ v. is_within_limits s v ≡ true) is e))))
+
+asked_small : (s : Sight) (at : Place) (c : Checked Expression) → Gives (IsSmall s) (one_part c (λ e. limited s at (type_of e) (plain.size_of_expression s at e)))
 asked_small s at (Good a) = gives_besides (IsSmall s) (is_within_limits s (type_of a)) (too_large at) (plain.size_of_expression s at a)
     (λ e. gives_sized (IsSmall s) s at (type_of a) (Good (Node at (Int U64) (SizeOfExpr a))) (within_small s (type_of a) (nat_le (plain.levels_of s.levels (type_of a)) plain.most_levels) e))
 asked_small s at (Bad f fs) = tt
@@ -240,11 +250,11 @@ typed_small s (Node at t (Bump op a)) = gives_one (λ (x : Expression). Unit {0}
 typed_small s (Node at t (Call f es)) = gives_both (λ (x : plain.Signature). Unit {0}) (λ (y : Expressions). Unit {0}) (IsSmall s) (plain.callee s at f.name) (typed_arguments s (params_of (plain.callee s at f.name)) es) (plain.call at)
     (anything (plain.callee s at f.name)) (anything (typed_arguments s (params_of (plain.callee s at f.name)) es))
     (λ g es u v. gives_where (IsSmall s) (nat_eq (plain.count_of es) (length g.params)) (no_type at) (Good (Node at g.result (Call (plain.use_as g.name g.decl) es))) (λ e. refl))
-typed_small s (Node at t (Cast to a)) = gives_limited (IsSmall s) s at (typed_type s at to) (both_parts (typed_type s at to) (decayed_of (typed s a)) (plain.cast s at))
+typed_small s (Node at t (Cast to a)) = gives_limited (IsSmall s) s at (known_type s to) (both_parts (typed_type s at to) (decayed_of (typed s a)) (plain.cast s at))
     (gives_both (λ (x : PlainType). Unit {0}) (IsSmall s) (IsSmall s) (typed_type s at to) (decayed_of (typed s a)) (plain.cast s at)
     (anything (typed_type s at to)) (decayed_small s (typed s a) (typed_small s a))
     (λ u x v h. gives_where (IsSmall s) (plain.is_cast s x u) (no_type at) (Good (Node at u (Cast u x))) (λ e. h)))
-typed_small s (Node at t (SizeOfType u)) = written_small s at (typed_type s at u)
+typed_small s (Node at t (SizeOfType u)) = written_small s at (known_type s u) (typed_type s at u) (type_known s at u)
 typed_small s (Node at t (SizeOfExpr a)) = asked_small s at (typed s a)
 typed_small s (Node at t (Index a b)) = gives_both (λ (x : Expression). Unit {0}) (λ (y : Expression). Unit {0}) (IsSmall s) (decayed_of (typed s a)) (decayed_of (typed s b)) (plain.index s at)
     (anything (decayed_of (typed s a))) (anything (decayed_of (typed s b))) (λ x y u v. index_small s at x y)

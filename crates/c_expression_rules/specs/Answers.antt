@@ -16,6 +16,12 @@ Answers plain c (Ok t) = c ≡ Good (plain t)
 Answers plain c (Err (Refused f)) = refusing c ≡ Some (plain_fault f)
 Answers plain c (Err Memory) = Unit {0}
 
+-- a statement that stands beside an answer, unless memory ran out
+abbrev pub IfTold : {T : Type 0} → Result T TypeFault → Type 0 → Type 0
+IfTold (Ok t) P = P
+IfTold (Err (Refused f)) P = P
+IfTold (Err Memory) P = Unit {0}
+
 -- a fault of the text: memory was not wanting
 abbrev pub IsRefusal : TypeFault → Type 0
 IsRefusal (Refused f) = Unit {0}

@@ -2,12 +2,12 @@
 -- The typing of each form: that of its parts, and what the form demands of them.
 use Rattle.std.specs.Prelude.{ℕ}
 use Rattle.c_syntax.specs.declared.place.Place.{Place}
-use Rattle.c_syntax.specs.Ctypes.{PlainType, PlainLength, int_type}
+use Rattle.c_syntax.specs.Ctypes.{PlainType, int_type}
 use Rattle.c_syntax.specs.Expressions.{Expression, ExpressionKind, Expressions, Node, Number, Letter, Variable, Unary, Binary, type_of}
 use Rattle.c_syntax.specs.Expressions.{Both, Either, Choice, Assign, Bump, Call, Cast, SizeOfType, SizeOfExpr, Text, Index, Dot, Arrow, Comma}
 use Rattle.c_model.specs.Checked.{Checked, Good, faulty, one_part, both_parts}
 use Rattle.c_model.specs.ExpressionTyping as plain
-use Rattle.c_model.specs.ExpressionTyping.{Sight, decayed_of, limited, params_of, two, type_in, typed, typed_arguments, typed_length, typed_type}
+use Rattle.c_model.specs.ExpressionTyping.{Sight, decayed_of, known_type, limited, params_of, two, typed, typed_arguments, typed_type}
 
 -- the parts of forms with several
 abbrev pub typed_two : Sight → Expression → Expression → Checked (Expression × Expression)
@@ -20,14 +20,20 @@ abbrev pub typed_three : Sight → Expression → Expression → Expression → 
 typed_three s a b c = both_parts (decayed_of (typed s a)) (typed_two s b c) two
 
 -- forms whose types have limits
+abbrev pub cast_parts : Sight → Place → PlainType → Expression → Checked Expression
+cast_parts s at to a = both_parts (typed_type s at to) (decayed_of (typed s a)) (plain.cast s at)
+
 abbrev pub cast_of : Sight → Place → PlainType → Expression → Checked Expression
-cast_of s at to a = limited s at (typed_type s at to) (both_parts (typed_type s at to) (decayed_of (typed s a)) (plain.cast s at))
+cast_of s at to a = limited s at (known_type s to) (cast_parts s at to a)
+
+abbrev pub size_of_parts : Sight → Place → PlainType → Checked Expression
+size_of_parts s at u = one_part (typed_type s at u) (plain.size_of_type s at)
 
 abbrev pub size_of_written : Sight → Place → PlainType → Checked Expression
-size_of_written s at u = limited s at (typed_type s at u) (one_part (typed_type s at u) (plain.size_of_type s at))
+size_of_written s at u = limited s at (known_type s u) (size_of_parts s at u)
 
 abbrev pub size_of_expr : Sight → Place → Expression → Checked Expression
-size_of_expr s at a = limited s at (type_in (typed s a)) (one_part (typed s a) (plain.size_of_expression s at))
+size_of_expr s at a = one_part (typed s a) (λ e. limited s at (type_of e) (plain.size_of_expression s at e))
 
 -- the arguments of a call, whose function has a fault of its own
 abbrev pub typed_call_parts : Sight → Place → ℕ → Expressions → Checked Expressions
@@ -36,8 +42,9 @@ typed_call_parts s at x es = both_parts (plain.callee s at x) (typed_arguments s
 abbrev pub typed_call : Sight → Place → ℕ → Expressions → Checked Expression
 typed_call s at x es = one_part (typed_call_parts s at x es) (λ es. one_part (plain.callee s at x) (λ f. plain.call at f es))
 
-abbrev pub typed_array : Sight → Place → PlainType → PlainLength → Checked PlainType
-typed_array s at t n = one_part (both_parts (typed_type s at t) (typed_length s at n) two) (λ p. plain.array_of s at p.0 p.1)
+-- the elements of an array
+abbrev pub typed_elements : Sight → Place → PlainType → Checked PlainType
+typed_elements s at t = one_part (typed_type s at t) (plain.element_type s at)
 
 -- forms without parts
 abbrev pub typed_leaf : Sight → Place → ExpressionKind → Checked Expression

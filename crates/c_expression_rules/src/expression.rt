@@ -4,11 +4,12 @@ ghost use Rattle.std.specs.Prelude.{◌≡◌, OnOk, map, true};
 ghost use Rattle.c_syntax.specs.Ctypes.{Array, EnumTag, Named, StructTag, plain_length, plain_type};
 ghost use Rattle.c_syntax.specs.Expressions.{Call, Cast, Node, SizeOfExpr, SizeOfType, place_of, plain_expr, plain_exprs, plain_kind};
 ghost use Rattle.c_model.specs.Checked.{one_part};
-ghost use Rattle.c_model.specs.ExpressionTyping.{argument_for, constant, counted, decayed_of, first_type, rest_types, typed};
+ghost use Rattle.c_model.specs.ExpressionTyping.{argument_for, constant, counted, decayed_of, first_type, known_length, known_type, rest_types, typed};
 ghost use Rattle.c_model.specs.ExpressionTyping.{typed_arguments, typed_length, typed_type};
-ghost use Rattle.c_expression_rules.specs.Answers.{Answers};
+ghost use Rattle.c_expression_rules.specs.Answers.{Answers, IfTold};
 ghost use Rattle.c_expression_rules.specs.Constants.{has_small_sizes};
-ghost use Rattle.c_expression_rules.specs.Forms.{cast_of, size_of_expr, size_of_written, typed_array, typed_call, typed_call_parts};
+ghost use Rattle.c_expression_rules.specs.Forms.{cast_of, cast_parts, size_of_expr, size_of_parts, size_of_written};
+ghost use Rattle.c_expression_rules.specs.Forms.{typed_call, typed_call_parts, typed_elements};
 ghost use Rattle.c_expression_rules.specs.Forms.{typed_after_place, typed_kind, typed_leaf, typed_of_two};
 ghost use Rattle.c_expression_rules.specs.Forms.{typed_one, typed_place_and_value, typed_three, typed_two};
 ghost use Rattle.c_expression_rules.specs.Sights.{plain_sight};
@@ -19,11 +20,11 @@ use crate::call::{arrow, call, callee, dot, known_params, mean};
 use crate::constant::constant;
 use crate::fault::{TypeFault, both, no_name, no_type};
 use crate::operator::{
-    bump, decay, index, literal, size_of_expression, size_of_type, truth_of, unary,
+    bump, decay, has_size, index, literal, size_of_expression, size_of_type, truth_of, unary,
 };
 use crate::sight::{Sight, is_among, type_named};
 use crate::text::text;
-use crate::types::{array_of, counted, struct_tagged, within_limits};
+use crate::types::{counted, known_struct, within_limits};
 use c_syntax::copy::copy_type;
 use c_syntax::{CInt, CType, Expr, ExprKind, Length, Place, Use};
 use std::alloc::Global;
@@ -239,7 +240,26 @@ fn type_three(
     both(first, second)
 }
 
-/// Types a cast; a type that passes a limit is a fault besides the others (C99 6.5.4).
+/// Types the parts of a cast (C99 6.5.4).
+#[cycle(expression)]
+fn type_cast_parts(
+    alloc: Global,
+    sight: &Sight,
+    place: Place,
+    to: &mut CType,
+    a: &mut Expr,
+) -> Result<CType, TypeFault>
+    ensures typed { Answers (λ t. Node place (plain_type t) (Cast (plain_type to.new) (plain_expr a.new)))
+        (cast_parts (plain_sight sight.now) place (plain_type to.old) (plain_expr a.old)) result }
+    ensures known { IfTold result (plain_type to.new ≡ known_type (plain_sight sight.now) (plain_type to.old)) }
+{
+    let written = type_written(alloc, sight, place, to);
+    let operand = type_value(alloc, sight, a);
+    both(written, operand)?;
+    cast(alloc, sight, place, to, a)
+}
+
+/// Types a cast; a type that passes a limit is a fault besides the others.
 #[cycle(expression)]
 fn type_cast(
     alloc: Global,
@@ -251,21 +271,27 @@ fn type_cast(
     ensures { Answers (λ t. Node place (plain_type t) (Cast (plain_type to.new) (plain_expr a.new)))
         (cast_of (plain_sight sight.now) place (plain_type to.old) (plain_expr a.old)) result }
 {
-    let written = type_written(alloc, sight, place, to);
-    let operand = type_value(alloc, sight, a);
-    match written {
-        Err(f) => both(Err(f), operand),
-        Ok(()) => {
-            let limit = within_limits(sight, place, to);
-            match operand {
-                Err(f) => both(Err(f), limit),
-                Ok(()) => both(cast(alloc, sight, place, to, a), limit),
-            }
-        }
-    }
+    let parts = type_cast_parts(alloc, sight, place, to, a);
+    both(parts, within_limits(sight, place, to))
 }
 
-/// Types `sizeof` of a type (C99 6.5.3.4).
+/// Types the type of a `sizeof` (C99 6.5.3.4).
+#[cycle(expression)]
+fn type_sized_type(
+    alloc: Global,
+    sight: &Sight,
+    place: Place,
+    u: &mut CType,
+) -> Result<CType, TypeFault>
+    ensures typed { Answers (λ t. Node place (plain_type t) (SizeOfType (plain_type u.new)))
+        (size_of_parts (plain_sight sight.now) place (plain_type u.old)) result }
+    ensures known { IfTold result (plain_type u.new ≡ known_type (plain_sight sight.now) (plain_type u.old)) }
+{
+    type_written(alloc, sight, place, u)?;
+    size_of_type(sight, place, u)
+}
+
+/// Types `sizeof` of a type, which may pass a limit.
 #[cycle(expression)]
 fn type_size_of_type(
     alloc: Global,
@@ -276,11 +302,8 @@ fn type_size_of_type(
     ensures { Answers (λ t. Node place (plain_type t) (SizeOfType (plain_type u.new)))
         (size_of_written (plain_sight sight.now) place (plain_type u.old)) result }
 {
-    type_written(alloc, sight, place, u)?;
-    both(
-        size_of_type(sight, place, u),
-        within_limits(sight, place, u),
-    )
+    let parts = type_sized_type(alloc, sight, place, u);
+    both(parts, within_limits(sight, place, u))
 }
 
 /// Types `sizeof` of an expression (C99 6.5.3.4).
@@ -389,7 +412,7 @@ fn put_type(t: &mut CType, by: CType)
     drop(replace(t, by));
 }
 
-/// Puts the type that a name stands for in its place (C99 6.7.7).
+/// Puts the type that a name stands for in its place (C99 6.7.7), and void where it stands for none.
 fn put_named(
     alloc: Global,
     sight: &Sight,
@@ -397,10 +420,14 @@ fn put_named(
     name: u32,
     t: &mut CType,
 ) -> Result<(), TypeFault>
-    ensures { Answers (λ _. plain_type t.new) (typed_type (plain_sight sight.now) place (Named name)) result }
+    ensures typed { Answers (λ _. plain_type t.new) (typed_type (plain_sight sight.now) place (Named name)) result }
+    ensures known { IfTold result (plain_type t.new ≡ known_type (plain_sight sight.now) (Named name)) }
 {
     match type_named(&sight.types, name) {
-        None => Err(no_name(place)),
+        None => {
+            put_type(t, CType::Void);
+            Err(no_name(place))
+        }
         Some(u) => {
             let u = copy_type(alloc, u)?;
             put_type(t, u);
@@ -409,7 +436,7 @@ fn put_named(
     }
 }
 
-/// Puts the struct with a tag in its place (C99 6.7.2.3).
+/// Puts the struct with a tag in its place, which is no enum's (C99 6.7.2.3).
 fn put_struct(
     sight: &Sight,
     _place: Place,
@@ -417,11 +444,16 @@ fn put_struct(
     tag: Place,
     t: &mut CType,
 ) -> Result<(), TypeFault>
-    ensures { Answers (λ _. plain_type t.new) (typed_type (plain_sight sight.now) _place (StructTag name tag)) result }
+    ensures typed { Answers (λ _. plain_type t.new) (typed_type (plain_sight sight.now) _place (StructTag name tag)) result }
+    ensures known { IfTold result (plain_type t.new ≡ known_type (plain_sight sight.now) (StructTag name tag)) }
 {
-    let u = struct_tagged(sight, tag, name)?;
+    let u = known_struct(sight, name)?;
     put_type(t, u);
-    Ok(())
+    if is_among(name, &sight.enum_tags) {
+        Err(no_name(tag))
+    } else {
+        Ok(())
+    }
 }
 
 /// Puts the type of an enum, which is defined, in its place (C99 6.7.2.2).
@@ -432,17 +464,18 @@ fn put_enum(
     tag: Place,
     t: &mut CType,
 ) -> Result<(), TypeFault>
-    ensures { Answers (λ _. plain_type t.new) (typed_type (plain_sight sight.now) _place (EnumTag name tag)) result }
+    ensures typed { Answers (λ _. plain_type t.new) (typed_type (plain_sight sight.now) _place (EnumTag name tag)) result }
+    ensures known { IfTold result (plain_type t.new ≡ known_type (plain_sight sight.now) (EnumTag name tag)) }
 {
+    put_type(t, CType::Int(CInt::I32));
     if is_among(name, &sight.enums) {
-        put_type(t, CType::Int(CInt::I32));
         Ok(())
     } else {
         Err(no_name(tag))
     }
 }
 
-/// Types a type that is written at this place (C99 6.7.5, 6.7.6).
+/// Types a type that is written at this place (C99 6.7.5, 6.7.6). What is known of it stands there afterwards, whatever faults it has.
 #[cycle(expression)]
 pub fn type_written(
     alloc: Global,
@@ -450,7 +483,8 @@ pub fn type_written(
     place: Place,
     t: &mut CType,
 ) -> Result<(), TypeFault>
-    ensures { Answers (λ _. plain_type t.new) (typed_type (plain_sight sight.now) place (plain_type t.old)) result }
+    ensures typed { Answers (λ _. plain_type t.new) (typed_type (plain_sight sight.now) place (plain_type t.old)) result }
+    ensures known { IfTold result (plain_type t.new ≡ known_type (plain_sight sight.now) (plain_type t.old)) }
 {
     match t {
         CType::Void | CType::Int(_) | CType::Struct(_) => Ok(()),
@@ -473,7 +507,22 @@ pub fn type_written(
     }
 }
 
-/// Types the parts of an array's type, whose elements have a size (C99 6.7.5.2 p1).
+/// Types the type of an array's elements, which has a size (C99 6.7.5.2 p1).
+#[cycle(expression)]
+pub fn type_elements(
+    alloc: Global,
+    sight: &Sight,
+    place: Place,
+    u: &mut CType,
+) -> Result<(), TypeFault>
+    ensures typed { Answers (λ _. plain_type u.new) (typed_elements (plain_sight sight.now) place (plain_type u.old)) result }
+    ensures known { IfTold result (plain_type u.new ≡ known_type (plain_sight sight.now) (plain_type u.old)) }
+{
+    type_written(alloc, sight, place, u)?;
+    has_size(sight, place, u)
+}
+
+/// Types the parts of an array's type.
 #[cycle(expression)]
 fn type_array(
     alloc: Global,
@@ -482,16 +531,17 @@ fn type_array(
     u: &mut CType,
     n: &mut Length,
 ) -> Result<(), TypeFault>
-    ensures { Answers (λ _. Array (plain_type u.new) (plain_length n.new))
-        (typed_array (plain_sight sight.now) place (plain_type u.old) (plain_length n.old)) result }
+    ensures typed { Answers (λ _. Array (plain_type u.new) (plain_length n.new))
+        (typed_type (plain_sight sight.now) place (Array (plain_type u.old) (plain_length n.old))) result }
+    ensures known { IfTold result (Array (plain_type u.new) (plain_length n.new)
+        ≡ known_type (plain_sight sight.now) (Array (plain_type u.old) (plain_length n.old))) }
 {
-    let first = type_written(alloc, sight, place, u);
-    let second = type_length(alloc, sight, place, n);
-    both(first, second)?;
-    array_of(sight, place, u, n)
+    let elements = type_elements(alloc, sight, place, u);
+    let length = type_length(alloc, sight, place, n);
+    both(elements, length)
 }
 
-/// Types the length of an array.
+/// Types the length of an array; one that has a fault is the least that there is.
 #[cycle(expression)]
 pub fn type_length(
     alloc: Global,
@@ -499,16 +549,22 @@ pub fn type_length(
     place: Place,
     n: &mut Length,
 ) -> Result<(), TypeFault>
-    ensures { Answers (λ _. plain_length n.new) (typed_length (plain_sight sight.now) place (plain_length n.old)) result }
+    ensures typed { Answers (λ _. plain_length n.new) (typed_length (plain_sight sight.now) place (plain_length n.old)) result }
+    ensures known { IfTold result (plain_length n.new ≡ known_length (plain_sight sight.now) (plain_length n.old)) }
 {
     match n {
         Length::Left => Err(no_type(place)),
         Length::Count(_) => Ok(()),
-        Length::Written(e) => {
-            let count = type_count(alloc, sight, e)?;
-            drop(replace(n, count));
-            Ok(())
-        }
+        Length::Written(e) => match type_count(alloc, sight, e) {
+            Ok(count) => {
+                drop(replace(n, count));
+                Ok(())
+            }
+            Err(f) => {
+                drop(replace(n, Length::Count(1)));
+                Err(f)
+            }
+        },
     }
 }
 

@@ -8,14 +8,14 @@ use Rattle.c_model.specs.Meaning.{is_definition}
 use Rattle.c_model.specs.Library.{is_there}
 use Rattle.c_model.specs.Checked.{Checked, Good, Bad, one_part, where_so}
 use Rattle.c_syntax.specs.declared.place.Place.{Place}
-use Rattle.c_model.specs.ExpressionTyping.{no_name, too_large, Sight, with_object, inner, is_void, is_struct, is_scalar, is_unknown, sized, is_within_limits, limited, typed_type}
+use Rattle.c_model.specs.ExpressionTyping.{no_name, too_large, Sight, with_object, inner, is_void, is_struct, is_scalar, is_unknown, sized, typed_type, known_type}
 use Rattle.c_model.specs.DeclarationTyping.{scalar_type, typed_result, typed_global, typed_typedef, typed_member, typed_enumerators}
 use Rattle.c_model.specs.StatementTyping.{typed_items}
 use Rattle.c_model.specs.UnitTyping.{FileItem, StructHead, Member, AnEnum, ATypedef, AGlobal, AFunction, items_of_file, with_type, with_tag, with_function, with_parameters, same_signature, is_compatible, is_compatible_with_all}
 use Rattle.c_model.specs.UnitTyping.{function_name, typed_parameters, fitting_type, typed_type_of_function, typed_heading, typed_body, typed_function}
 use Rattle.c_model.specs.UnitTyping.{Progress, new_tag, typed_enum, typed_item_of_file, typed_items_of_file, at_start, with_progress, typed_unit}
 use Rattle.c_model.proofs.TypedParts.{Gives, gives_of, gives_one, gives_both, gives_where, gives_self}
-use Rattle.c_model.proofs.TypedSoundness.{gives_besides}
+use Rattle.c_model.proofs.TypedSoundness.{gives_limited}
 use Rattle.c_model.proofs.TypedDeclarations.{anything}
 
 -- functions of which each fits those before it
@@ -46,16 +46,18 @@ abbrev Fits : List Function → Function → Type 0
 Fits before g = is_compatible_with_all before g ≡ true
 
 -- a result is of the type as it is written
-limited_same : (s : Sight) (at : Place) (c : Checked PlainType) (k : PlainType → Checked PlainType) → ((t : PlainType) → Gives (λ u. u ≡ t) (k t)) → Gives (λ u. c ≡ Good u) (limited s at c (one_part c k))
-limited_same s at (Good t) k h = gives_besides (λ u. Good t ≡ Good u) (is_within_limits s t) (too_large at) (k t) (λ w. by (k t) (h t))
+one_same : (c : Checked PlainType) (k : PlainType → Checked PlainType) → ((t : PlainType) → Gives (λ u. u ≡ t) (k t)) → Gives (λ u. c ≡ Good u) (one_part c k)
+one_same (Good t) k h = by (k t) (h t)
   where
     by : (c : Checked PlainType) → Gives (λ u. u ≡ t) c → Gives (λ u. Good t ≡ Good u) c
     by (Good u) e = ap Good (sym e)
     by (Bad f fs) e = tt
-limited_same s at (Bad f fs) k h = tt
+one_same (Bad f fs) k h = tt
 
 result_same : (s : Sight) (defined : Bool) (at : Place) (t : PlainType) → Gives (λ u. typed_type s at t ≡ Good u) (typed_result s defined at t)
-result_same s defined at t = limited_same s at (typed_type s at t) (λ u. cond (is_void u) (Good u) (scalar_type s defined at u)) (λ u. by u (is_void u))
+result_same s defined at t =
+    let k = λ (u : PlainType). cond (is_void u) (Good u) (scalar_type s defined at u) in
+    gives_limited (λ u. typed_type s at t ≡ Good u) s at (known_type s t) (one_part (typed_type s at t) k) (one_same (typed_type s at t) k (λ u. by u (is_void u)))
   where
     by : (u : PlainType) (b : Bool) → Gives (λ v. v ≡ u) (cond b (Good u) (scalar_type s defined at u))
     by u true = refl

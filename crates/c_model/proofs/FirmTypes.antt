@@ -9,9 +9,10 @@ use Rattle.c_model.specs.Library.{is_there}
 use Rattle.c_model.specs.Checked.{Checked, Good, Bad, faulty, one_part, both_parts}
 use Rattle.c_syntax.specs.Expressions.{place_of}
 use Rattle.c_model.specs.ExpressionTyping.{is_unknown, no_name, no_type, too_large, Sight, TypeName, type_named, tagged, is_among, is_void, is_scalar, is_struct, Sized, HasSize, HasNoSize, NotYet, sized, most_bytes, most_levels}
-use Rattle.c_model.specs.ExpressionTyping.{levels_of, has_small_parts, is_within_limits, limited, constant, counted, array_of, unknown_struct, typed, typed_type, typed_length}
-use Rattle.c_model.specs.DeclarationTyping.{typed_outer, completed, typed_object_type, elements_of_parameter, typed_parameter_type, scalar_type, typed_result, parameter_name, typed_parameter}
-use Rattle.c_model.proofs.TypedParts.{Gives, gives_one, gives_both, gives_given, gives_where, gives_sized, and_true}
+use Rattle.c_model.specs.ExpressionTyping.{levels_of, has_small_parts, is_within_limits, limited, constant, counted, element_type, unknown_struct, typed, typed_type, known_type, typed_length}
+use Rattle.c_model.specs.DeclarationTyping.{typed_outer, completed, typed_object_type, elements_of_parameter, pointer_where_array, typed_parameter_type, known_parameter_type, scalar_type, typed_result, parameter_name, typed_parameter}
+use Rattle.c_model.proofs.TypedParts.{Gives, gives_one, gives_both, gives_given, gives_where, gives_and, gives_sized, and_true}
+use Rattle.c_model.proofs.KnownTypes.{type_is_known, outer_is_known, parameter_is_known}
 use Rattle.c_model.proofs.TypedSoundness.{gives_besides}
 use Rattle.c_model.proofs.TypedDeclarations.{anything}
 use Rattle.c_model.proofs.StableConstants.{Grows, size_kept}
@@ -75,12 +76,20 @@ length_counted s at Left = tt
 length_counted s at (Written e) = gives_one (λ x. Unit {0}) IsCount (typed s e) (λ x. counted (place_of e) (constant s x)) (anything (typed s e)) (λ x v. counted_is (place_of e) (constant s x))
 length_counted s at (Count n) = tt
 
+-- the elements of an array
+abbrev Sizeable : List StructType → PlainType → Type 0
+Sizeable ss t = (sized ss t ≡ HasSize) × Firm ss t
+
+sized_firm : (s : Sight) (at : Place) (c : Checked PlainType) → Gives (Firm s.structs) c → Gives (Sizeable s.structs) (one_part c (element_type s at))
+sized_firm s at c g = gives_one (Firm s.structs) (Sizeable s.structs) c (element_type s at) g (λ u h. gives_sized (Sizeable s.structs) s at u (Good u) (λ k. (k, h)))
+
 pub typed_firm : (s : Sight) → AreFirm s.structs s.types → (at : Place) (t : PlainType) → Gives (Firm s.structs) (typed_type s at t)
 typed_firm s f at Void = tt
 typed_firm s f at (Int k) = tt
 typed_firm s f at (Ptr t) = gives_one (Firm s.structs) (Firm s.structs) (typed_type s at t) (λ u. Good (Ptr u)) (typed_firm s f at t) (λ u h. h)
-typed_firm s f at (Array t n) = gives_both (Firm s.structs) IsCount (Firm s.structs) (typed_type s at t) (typed_length s at n) (array_of s at) (typed_firm s f at t) (length_counted s at n)
-    (λ u n h v. gives_sized (Firm s.structs) s at u (Good (Array u n)) (λ k. (counted_sized s.structs u n v k, h)))
+typed_firm s f at (Array t n) =
+    gives_both (Sizeable s.structs) IsCount (Firm s.structs) (one_part (typed_type s at t) (element_type s at)) (typed_length s at n) (λ u m. Good (Array u m))
+    (sized_firm s at (typed_type s at t) (typed_firm s f at t)) (length_counted s at n) (λ u m h v. (counted_sized s.structs u m v h.0, h.1))
 typed_firm s f at (Struct n) = tt
 typed_firm s f at (Named x) = gives_given (Firm s.structs) (type_named x s.types) (no_name at) Good (λ t e. named_firm s.structs x s.types t f e)
 typed_firm s f at (StructTag x tag) = gives_where (Firm s.structs) (not (is_among x s.enum_tags)) (no_name tag) _ (λ e. by (tagged x 0 s.structs))
@@ -114,8 +123,9 @@ written_firm s f at t i = gives_so (Firm s.structs) (λ u. Firm s.structs (compl
 -- and so is one whose length the initialiser gives
 outer_firm : (s : Sight) → AreFirm s.structs s.types → (at : Place) (t : PlainType) (o : Option (Place × Initialiser)) → Gives (λ u. Firm s.structs (completed s u o)) (typed_outer (is_there o) s at t)
 outer_firm s f at t None = gives_so (Firm s.structs) (λ u. Firm s.structs (completed s u None)) (typed_type s at t) (typed_firm s f at t) (λ u h. completed_firm s u None h)
-outer_firm s f at (Array t Left) (Some i) = gives_one (Firm s.structs) (λ u. Firm s.structs (completed s u (Some i))) (typed_type s at t) (λ u. array_of s at u Left) (typed_firm s f at t)
-    (λ u h. gives_sized (λ u. Firm s.structs (completed s u (Some i))) s at u (Good (Array u Left)) (λ k. (k, h)))
+outer_firm s f at (Array t Left) (Some i) =
+    gives_one (Sizeable s.structs) (λ u. Firm s.structs (completed s u (Some i))) (one_part (typed_type s at t) (element_type s at)) (λ u. Good (Array u Left))
+    (sized_firm s at (typed_type s at t) (typed_firm s f at t)) (λ u h. h)
 outer_firm s f at (Array t (Written e)) (Some i) = written_firm s f at (Array t (Written e)) i
 outer_firm s f at (Array t (Count n)) (Some i) = written_firm s f at (Array t (Count n)) i
 outer_firm s f at Void (Some i) = written_firm s f at Void i
@@ -127,11 +137,7 @@ outer_firm s f at (StructTag x tag) (Some i) = written_firm s f at (StructTag x 
 outer_firm s f at (EnumTag x tag) (Some i) = written_firm s f at (EnumTag x tag) i
 
 -- a parameter's type is the type as it is written, but that an array is a pointer
-abbrev as_pointer : PlainType → Checked PlainType
-as_pointer (Array t n) = Good (Ptr t)
-as_pointer t = Good t
-
-pointer_firm : (ss : List StructType) (t : PlainType) → Firm ss t → Gives (Firm ss) (as_pointer t)
+pointer_firm : (ss : List StructType) (t : PlainType) → Firm ss t → Firm ss (pointer_where_array t)
 pointer_firm ss (Array t n) f = f.1
 pointer_firm ss Void f = tt
 pointer_firm ss (Int i) f = tt
@@ -141,8 +147,8 @@ pointer_firm ss (Named x) f = tt
 pointer_firm ss (StructTag x tag) f = tt
 pointer_firm ss (EnumTag x at) f = tt
 
-plain_firm : (s : Sight) → AreFirm s.structs s.types → (at : Place) (t : PlainType) → Gives (Firm s.structs) (one_part (typed_type s at t) as_pointer)
-plain_firm s f at t = gives_one (Firm s.structs) (Firm s.structs) (typed_type s at t) as_pointer (typed_firm s f at t) (λ u h. pointer_firm s.structs u h)
+plain_firm : (s : Sight) → AreFirm s.structs s.types → (at : Place) (t : PlainType) → Gives (Firm s.structs) (one_part (typed_type s at t) (λ u. Good (pointer_where_array u)))
+plain_firm s f at t = gives_one (Firm s.structs) (Firm s.structs) (typed_type s at t) (λ u. Good (pointer_where_array u)) (typed_firm s f at t) (λ u h. pointer_firm s.structs u h)
 
 elements_firm : (s : Sight) (at : Place) (t : PlainType) → Firm s.structs t → Gives (Firm s.structs) (elements_of_parameter s at t)
 elements_firm s at t f = by (sized s.structs t)
@@ -152,12 +158,19 @@ elements_firm s at t f = by (sized s.structs t)
     by HasNoSize = tt
     by NotYet = f
 
+pointed_firm : (s : Sight) → AreFirm s.structs s.types → (at : Place) (t : PlainType) → Gives (Firm s.structs) (one_part (typed_type s at t) (elements_of_parameter s at))
+pointed_firm s f at t = gives_one (Firm s.structs) (Firm s.structs) (typed_type s at t) (elements_of_parameter s at) (typed_firm s f at t) (λ u h. elements_firm s at u h)
+
+array_firm : (s : Sight) → AreFirm s.structs s.types → (at : Place) (t : PlainType) (n : PlainLength)
+    → Gives (Firm s.structs) (both_parts (one_part (typed_type s at t) (elements_of_parameter s at)) (typed_length s at n) (λ u m. Good u))
+array_firm s f at t n =
+    gives_both (Firm s.structs) (λ n. Unit {0}) (Firm s.structs) (one_part (typed_type s at t) (elements_of_parameter s at)) (typed_length s at n) (λ u m. Good u)
+    (pointed_firm s f at t) (anything (typed_length s at n)) (λ u m h v. h)
+
 parameter_firm : (s : Sight) → AreFirm s.structs s.types → (at : Place) (t : PlainType) → Gives (Firm s.structs) (typed_parameter_type s at t)
-parameter_firm s f at (Array t Left) = gives_one (Firm s.structs) (Firm s.structs) (typed_type s at t) (elements_of_parameter s at) (typed_firm s f at t) (λ u h. elements_firm s at u h)
-parameter_firm s f at (Array t (Written e)) = gives_both (Firm s.structs) (λ n. Unit {0}) (Firm s.structs) (typed_type s at t) (typed_length s at (Written e)) (λ u n. elements_of_parameter s at u)
-    (typed_firm s f at t) (anything (typed_length s at (Written e))) (λ u n h v. elements_firm s at u h)
-parameter_firm s f at (Array t (Count m)) = gives_both (Firm s.structs) (λ n. Unit {0}) (Firm s.structs) (typed_type s at t) (typed_length s at (Count m)) (λ u n. elements_of_parameter s at u)
-    (typed_firm s f at t) (anything (typed_length s at (Count m))) (λ u n h v. elements_firm s at u h)
+parameter_firm s f at (Array t Left) = pointed_firm s f at t
+parameter_firm s f at (Array t (Written e)) = array_firm s f at t (Written e)
+parameter_firm s f at (Array t (Count m)) = array_firm s f at t (Count m)
 parameter_firm s f at Void = plain_firm s f at Void
 parameter_firm s f at (Int k) = plain_firm s f at (Int k)
 parameter_firm s f at (Ptr t) = plain_firm s f at (Ptr t)
@@ -209,36 +222,36 @@ module _ (new : List StructType)
             within_small t f w = small_later s.structs g t f (and_true (nat_le (levels_of s.levels t) most_levels) (has_small_parts s.structs t) w).1
 
             -- what is made of a type within the limits
-            pub limited_small : {B : Type 0} (R : B → Type 0) (at : Place) (c : Checked PlainType) (k : PlainType → Checked B) → Gives (Firm s.structs) c → ((t : PlainType) → Small t → Gives R (k t))
-                → Gives R (limited s at c (one_part c k))
-            limited_small R at (Good t) k f h = gives_besides R (is_within_limits s t) (too_large at) (k t) (λ w. h t (within_small t f w))
-            limited_small R at (Bad x xs) k f h = tt
+            pub limited_small : {B : Type 0} (R : B → Type 0) (at : Place) (t : PlainType) (c : Checked PlainType) (k : PlainType → Checked B) → Gives (λ u. t ≡ u) c → Gives (Firm s.structs) c
+                → ((u : PlainType) → Small u → Gives R (k u)) → Gives R (limited s at t (one_part c k))
+            limited_small R at t c k g f h = gives_besides R (is_within_limits s t) (too_large at) (one_part c k) (λ w.
+                gives_one (λ u. (t ≡ u) × Firm s.structs u) R c k (gives_and (λ u. t ≡ u) (Firm s.structs) c g f) (λ u p. h u (within_small u p.1 (subst (λ v. is_within_limits s v ≡ true) p.0 w))))
 
             -- the same with another part
-            pub limited_small_both : {A B : Type 0} (P : A → Type 0) (R : B → Type 0) (at : Place) (c : Checked PlainType) (d : Checked A) (k : PlainType → A → Checked B) → Gives (Firm s.structs) c → Gives P d
-                → ((t : PlainType) (a : A) → Small t → P a → Gives R (k t a)) → Gives R (limited s at c (both_parts c d k))
-            limited_small_both P R at (Good t) d k f p h = gives_besides R (is_within_limits s t) (too_large at) (both_parts (Good t) d k) (λ w. by d p (within_small t f w))
-              where
-                by : (d : Checked _) → Gives P d → Small t → Gives R (both_parts (Good t) d k)
-                by (Good a) p w = h t a w p
-                by (Bad y ys) p w = tt
-            limited_small_both P R at (Bad x xs) (Good a) k f p h = tt
-            limited_small_both P R at (Bad x xs) (Bad y ys) k f p h = tt
+            pub limited_small_both : {A B : Type 0} (P : A → Type 0) (R : B → Type 0) (at : Place) (t : PlainType) (c : Checked PlainType) (d : Checked A) (k : PlainType → A → Checked B) → Gives (λ u. t ≡ u) c
+                → Gives (Firm s.structs) c → Gives P d → ((u : PlainType) (a : A) → Small u → P a → Gives R (k u a)) → Gives R (limited s at t (both_parts c d k))
+            limited_small_both P R at t c d k g f p h = gives_besides R (is_within_limits s t) (too_large at) (both_parts c d k) (λ w.
+                gives_both (λ u. (t ≡ u) × Firm s.structs u) P R c d k (gives_and (λ u. t ≡ u) (Firm s.structs) c g f) p (λ u a q v. h u a (within_small u q.1 (subst (λ v. is_within_limits s v ≡ true) q.0 w)) v))
 
             -- ---- types of what is declared
 
             module _ (types : AreFirm s.structs s.types)
               where
                 pub object_small : (d : Declaration) → Gives Small (typed_object_type s d)
-                object_small d = gives_one (λ t. Firm s.structs (completed s t d.init)) Small (typed_outer (is_there d.init) s d.place d.ctype) _ (outer_firm s types d.place d.ctype d.init) (λ t f.
-                    gives_besides Small (is_within_limits s (completed s t d.init)) (too_large d.place) _ (λ w.
-                    gives_sized Small s d.place (completed s t d.init) (Good (completed s t d.init)) (λ k. within_small (completed s t d.init) f w)))
+                object_small d =
+                    let known = known_type s d.ctype in
+                    let outer = typed_outer (is_there d.init) s d.place d.ctype in
+                    gives_besides Small (is_within_limits s (completed s known d.init)) (too_large d.place) _ (λ w.
+                    gives_one (λ t. (known ≡ t) × Firm s.structs (completed s t d.init)) Small outer _
+                    (gives_and (λ t. known ≡ t) (λ t. Firm s.structs (completed s t d.init)) outer (outer_is_known (is_there d.init) s d.place d.ctype) (outer_firm s types d.place d.ctype d.init)) (λ t p.
+                    gives_sized Small s d.place (completed s t d.init) (Good (completed s t d.init)) (λ k.
+                    within_small (completed s t d.init) p.1 (subst (λ u. is_within_limits s (completed s u d.init) ≡ true) p.0 w))))
 
                 scalar_small : (defined : Bool) (at : Place) (t : PlainType) → Small t → Gives Small (scalar_type s defined at t)
                 scalar_small defined at t h = gives_where Small (not (defined && is_struct t && is_unknown (sized s.structs t))) _ _ (λ k. gives_where Small (is_scalar t) _ _ (λ e. h))
 
                 pub result_small : (defined : Bool) (at : Place) (t : PlainType) → Gives Small (typed_result s defined at t)
-                result_small defined at t = limited_small Small at (typed_type s at t) _ (typed_firm s types at t) (λ u h. by u h (is_void u))
+                result_small defined at t = limited_small Small at (known_type s t) (typed_type s at t) _ (type_is_known s at t) (typed_firm s types at t) (λ u h. by u h (is_void u))
                   where
                     by : (u : PlainType) → Small u → (b : Bool) → Gives Small (cond b (Good u) (scalar_type s defined at u))
                     by u h true = h
@@ -246,6 +259,7 @@ module _ (new : List StructType)
 
                 pub parameter_small : (defined : Bool) (d : Declaration) → Gives (λ (e : Declaration). Small e.ctype) (typed_parameter s defined d)
                 parameter_small defined d = gives_both (λ u. Unit {0}) Small (λ (e : Declaration). Small e.ctype) (parameter_name s d)
-                    (limited s d.place (typed_parameter_type s d.place d.ctype) (one_part (typed_parameter_type s d.place d.ctype) (scalar_type s defined d.place))) (λ n t. Good (record d { ctype = t }))
-                    (anything _) (limited_small Small d.place (typed_parameter_type s d.place d.ctype) (scalar_type s defined d.place) (parameter_firm s types d.place d.ctype)
+                    (limited s d.place (known_parameter_type s d.ctype) (one_part (typed_parameter_type s d.place d.ctype) (scalar_type s defined d.place))) (λ n t. Good (record d { ctype = t }))
+                    (anything _) (limited_small Small d.place (known_parameter_type s d.ctype) (typed_parameter_type s d.place d.ctype) (scalar_type s defined d.place)
+                    (parameter_is_known s d.place d.ctype) (parameter_firm s types d.place d.ctype)
                     (λ t h. scalar_small defined d.place t h)) (λ n t u h. h)

@@ -6,7 +6,7 @@ use Rattle.c_syntax.specs.Programs.{StructMember, StructType}
 use Rattle.c_syntax.specs.Layouts.{size_of, align_of, aligned, member_among}
 use Rattle.c_model.specs.Library.{is_there}
 use Rattle.c_model.specs.Checked.{Good, one_part, where_so}
-use Rattle.c_model.specs.ExpressionTyping.{no_name, too_large, Sight, HasSize, sized, is_among, most_bytes, limited, typed_type}
+use Rattle.c_model.specs.ExpressionTyping.{no_name, too_large, Sight, HasSize, sized, is_among, most_bytes, limited, typed_type, known_type}
 use Rattle.c_model.specs.DeclarationTyping.{placed_from, object_type, member_added, with_member, typed_member_type, typed_member}
 use Rattle.c_model.proofs.TypedParts.{Gives, gives_one, gives_both, gives_where, gives_sized}
 use Rattle.c_model.proofs.TypedSoundness.{gives_limited}
@@ -122,8 +122,8 @@ set_known ended ss h k o x e y m ends z = record {
 
 member_type_sized : (s : Sight) (struct : StructType) (m : StructMember) → Gives (λ t. sized s.structs t ≡ HasSize) (typed_member_type s struct m)
 member_type_sized s struct m =
-    gives_one (λ t. sized s.structs t ≡ HasSize) (λ t. sized s.structs t ≡ HasSize) (limited s m.place (typed_type s m.place m.ctype) (one_part (typed_type s m.place m.ctype) (object_type s m.place))) _
-    (gives_limited (λ t. sized s.structs t ≡ HasSize) s m.place (typed_type s m.place m.ctype) (one_part (typed_type s m.place m.ctype) (object_type s m.place))
+    gives_one (λ t. sized s.structs t ≡ HasSize) (λ t. sized s.structs t ≡ HasSize) (limited s m.place (known_type s m.ctype) (one_part (typed_type s m.place m.ctype) (object_type s m.place))) _
+    (gives_limited (λ t. sized s.structs t ≡ HasSize) s m.place (known_type s m.ctype) (one_part (typed_type s m.place m.ctype) (object_type s m.place))
     (gives_one (λ t. Unit {0}) (λ t. sized s.structs t ≡ HasSize) (typed_type s m.place m.ctype) (object_type s m.place) (anything (typed_type s m.place m.ctype))
     (λ t v. gives_sized (λ t. sized s.structs t ≡ HasSize) s m.place t (Good t) (λ k. k))))
     (λ t w. gives_where (λ t. sized s.structs t ≡ HasSize) (nat_le (member_added s struct t m).size most_bytes) (too_large m.place) (Good t) (λ e. w))

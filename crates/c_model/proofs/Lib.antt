@@ -31,6 +31,7 @@ pub mod SettledBlocks
 pub mod Agreement
 pub mod LibraryFunctions
 pub mod TypedParts
+pub mod KnownTypes
 pub mod TypedOperators
 pub mod TypedExpressions
 pub mod TypedSoundness

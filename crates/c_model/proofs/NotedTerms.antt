@@ -19,7 +19,7 @@ use Rattle.c_syntax.specs.Logic.{LogicTerm, Links, Linked, Predicate, ClauseBody
 use Rattle.c_model.specs.Integers.{fits, integer_type}
 use Rattle.c_model.specs.Checked.{Checked, Good, Bad, given, one_part, pair_of}
 use Rattle.c_model.specs.Library.{Constants, constants, constant_in, library_constant, is_there}
-use Rattle.c_model.specs.ExpressionTyping.{no_name, no_type, Entity, AnObject, AnEnumerator, Sight, name_at, entity_named, typed_type}
+use Rattle.c_model.specs.ExpressionTyping.{no_name, no_type, Entity, AnObject, AnEnumerator, Sight, name_at, entity_named, typed_type, known_type}
 use Rattle.c_model.specs.PredicateTyping.{Sorted, ATerm, APredicate, as_term, as_predicate, object_term, number, term_named, on_integer, unary_on, on_integers, cast_as, cast, size_in, connected, chosen}
 use Rattle.c_model.specs.PredicateTyping.{is_predicate, right_side, related, typed_form, typed_links, typed_clause, typed_annotations}
 use Rattle.c_model.specs.Formed.{nodes_of_term, nodes_of_links, nodes_of_predicate, IsLogicNumber, TermNumbered, LinksNumbered, PredicateNumbered, IsShortClause, AreAsserts}
@@ -208,10 +208,10 @@ mutual
       gives_one (SortedKept n) (SortedKept (suc n)) (typed_form s a) (cast_as at Integers) (form_kept s k a h) (cast_as_kept at Integers n)
   form_kept s k (read.Cast at (OfC to) a) h =
       let n = nodes_of_form a in
-      gives_limited (SortedKept (suc n)) s at (typed_type s at to) _ (gives_pair Any (SortedKept n) (SortedKept (suc n)) (typed_type s at to) (typed_form s a) (λ p. cast at p.0 p.1) (anything (typed_type s at to)) (form_kept s k a h)
+      gives_limited (SortedKept (suc n)) s at (known_type s to) _ (gives_pair Any (SortedKept n) (SortedKept (suc n)) (typed_type s at to) (typed_form s a) (λ p. cast at p.0 p.1) (anything (typed_type s at to)) (form_kept s k a h)
       (λ t x v w. cast_kept at t n x w))
   form_kept s k (read.SizeOf at u) h =
-      gives_limited (SortedKept 1) s at (typed_type s at u) _ (gives_one Any (SortedKept 1) (typed_type s at u) (size_in s at) (anything (typed_type s at u)) (λ t v. gives_sized (SortedKept 1) s at t _ (λ e. (natural _, refl))))
+      gives_limited (SortedKept 1) s at (known_type s u) _ (gives_one Any (SortedKept 1) (typed_type s at u) (size_in s at) (anything (typed_type s at u)) (λ t v. gives_sized (SortedKept 1) s at t _ (λ e. (natural _, refl))))
   form_kept s k (read.Chain at a links) h =
       let m = nodes_of_form a in
       let n = nodes_of_form_links links in

@@ -11,7 +11,7 @@ use Rattle.c_syntax.specs.Logic.{Links, Linked, ClauseBody, Raw, Holds, Value, A
 use Rattle.c_model.specs.Integers.{integer_type}
 use Rattle.c_model.specs.Library.{library_constant, is_there}
 use Rattle.c_model.specs.Checked.{Fault, Checked, Good, Bad, given, one_part, pair_of}
-use Rattle.c_model.specs.ExpressionTyping.{no_name, no_type, Entity, AnObject, AnEnumerator, Sight, name_at, entity_named, besides, is_within_limits, too_large, limited, typed_type}
+use Rattle.c_model.specs.ExpressionTyping.{no_name, no_type, Entity, AnObject, AnEnumerator, Sight, name_at, entity_named, besides, is_within_limits, too_large, limited, typed_type, known_type}
 use Rattle.c_model.specs.PredicateTyping.{Sorted, ATerm, APredicate, as_term, as_predicate, object_term, number, term_named, on_integer, unary_on, on_integers, cast_as, cast, size_in, connected, chosen}
 use Rattle.c_model.specs.PredicateTyping.{is_predicate, right_side, related, typed_form, typed_links, typed_clause, typed_annotations}
 use Rattle.c_model.specs.TypedPredicates.{IsOnInteger, IsCastType, TermTyped, LinksTyped, PredicateTyped, ClauseTyped, AnnotationsTyped, IsRead, AreRead, TypedAnnotationsAreKnown}
@@ -96,9 +96,8 @@ gives_besides P true f c w = w
 gives_besides P false f (Good a) w = tt
 gives_besides P false f (Bad g gs) w = tt
 
-pub gives_limited : {A : Type 0} (P : A → Type 0) (s : Sight) (at : Place) (m : Checked PlainType) (c : Checked A) → Gives P c → Gives P (limited s at m c)
-gives_limited P s at (Good t) c w = gives_besides P (is_within_limits s t) (too_large at) c w
-gives_limited P s at (Bad f fs) c w = w
+pub gives_limited : {A : Type 0} (P : A → Type 0) (s : Sight) (at : Place) (t : PlainType) (c : Checked A) → Gives P c → Gives P (limited s at t c)
+gives_limited P s at t c w = gives_besides P (is_within_limits s t) (too_large at) c w
 
 pub anything : {A : Type 0} (c : Checked A) → Gives (λ (a : A). Unit {0}) c
 anything (Good a) = tt
@@ -120,10 +119,10 @@ mutual
       gives_pair (SortedTyped s) (SortedTyped s) (SortedTyped s) (typed_form s a) (typed_form s b) (λ p. on_integers at op p.0 p.1) (form_well s a) (form_well s b) (binary_well s at op)
   form_well s (read.Cast at Integers a) = gives_one (SortedTyped s) (SortedTyped s) (typed_form s a) (cast_as at Integers) (form_well s a) (cast_as_well s at Integers tt)
   form_well s (read.Cast at (OfC to) a) =
-      gives_limited (SortedTyped s) s at (typed_type s at to) _ (gives_pair Any (SortedTyped s) (SortedTyped s) (typed_type s at to) (typed_form s a) (λ p. cast at p.0 p.1) (anything (typed_type s at to)) (form_well s a)
+      gives_limited (SortedTyped s) s at (known_type s to) _ (gives_pair Any (SortedTyped s) (SortedTyped s) (typed_type s at to) (typed_form s a) (λ p. cast at p.0 p.1) (anything (typed_type s at to)) (form_well s a)
       (λ t x v w. cast_well s at t x w))
   form_well s (read.SizeOf at u) =
-      gives_limited (SortedTyped s) s at (typed_type s at u) _ (gives_one Any (SortedTyped s) (typed_type s at u) (size_in s at) (anything (typed_type s at u)) (λ t v. gives_sized (SortedTyped s) s at t _ (λ e. refl)))
+      gives_limited (SortedTyped s) s at (known_type s u) _ (gives_one Any (SortedTyped s) (typed_type s at u) (size_in s at) (anything (typed_type s at u)) (λ t v. gives_sized (SortedTyped s) s at t _ (λ e. refl)))
   form_well s (read.Chain at a links) =
       gives_pair (SortedTyped s) (LinksTyped s) (SortedTyped s) (typed_form s a) (typed_links s (is_predicate (typed_form s a)) links) (λ p. related at p.0 p.1) (form_well s a) (links_well s (is_predicate (typed_form s a)) links)
       (chain_well s at)

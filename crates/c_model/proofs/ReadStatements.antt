@@ -19,10 +19,10 @@ use Rattle.c_model.specs.Integers.{fits}
 use Rattle.c_model.specs.Meaning.{string_in, is_definition}
 use Rattle.c_model.specs.Library.{is_there}
 use Rattle.c_model.specs.Checked.{Checked, Good, Bad, one_part, both_parts, where_so}
-use Rattle.c_model.specs.ExpressionTyping.{no_type, Sight, with_object, inner, is_void, is_scalar, in_type, is_assigned, decayed, decayed_of, constant, limited, typed, typed_type, declared_here}
+use Rattle.c_model.specs.ExpressionTyping.{no_type, Sight, with_object, inner, is_void, is_scalar, in_type, is_assigned, decayed, decayed_of, constant, limited, typed, typed_type, known_type, declared_here}
 use Rattle.c_model.specs.DeclarationTyping.{place_of_initialiser, Slots, next_slot, slots_of, takes_text, is_text_array, no_more, too_many, initial_value, typed_alone, typed_initialiser, typed_text, typed_items as typed_parts}
 use Rattle.c_model.specs.DeclarationTyping.{typed_maybe_initialiser, own_name, typed_object_type, is_anything, is_static, is_declared_in_file, typed_variable, typed_global, typed_typedef, typed_parameter, parameter_name}
-use Rattle.c_model.specs.DeclarationTyping.{scalar_type, typed_parameter_type, typed_result, typed_value, with_enumerator, typed_enumerators}
+use Rattle.c_model.specs.DeclarationTyping.{scalar_type, typed_parameter_type, known_parameter_type, typed_result, typed_value, with_enumerator, typed_enumerators}
 use Rattle.c_model.specs.StatementTyping.{Around, in_loop, behind, behind_first, condition, typed_condition, typed_maybe, returned, typed_declarations, typed_statement, typed_else, typed_first}
 use Rattle.c_model.specs.StatementTyping.{typed_item, typed_items}
 use Rattle.c_model.specs.UnitTyping.{with_function, with_parameter, with_parameters, function_name, typed_parameters, typed_heading, typed_body, typed_function}
@@ -152,16 +152,16 @@ pub typedef_as : (s : Sight) (d : Declaration) → Gives (SameDeclaration d) (ty
 typedef_as s d = by d.named
   where
     by : (b : Bool) → Gives (SameDeclaration d) (cond b (both_parts (own_name s (is_declared_in_file s d.name) d.place d.name)
-        (limited s d.place (typed_type s d.place d.ctype) (typed_type s d.place d.ctype)) (λ n t. Good (record d { ctype = t })))
+        (limited s d.place (known_type s d.ctype) (typed_type s d.place d.ctype)) (λ n t. Good (record d { ctype = t })))
         (one_part (typed_type s d.place d.ctype) (λ t. Good (record d { ctype = t }))))
     by true = gives_both (λ u. Unit {0}) (λ u. Unit {0}) (SameDeclaration d) (own_name s (is_declared_in_file s d.name) d.place d.name)
-        (limited s d.place (typed_type s d.place d.ctype) (typed_type s d.place d.ctype)) (λ n t. Good (record d { ctype = t })) (anything _) (anything _)
+        (limited s d.place (known_type s d.ctype) (typed_type s d.place d.ctype)) (λ n t. Good (record d { ctype = t })) (anything _) (anything _)
         (λ n t u v. record { place = refl; name = refl; named = refl; init = refl })
     by false = gives_one (λ u. Unit {0}) (SameDeclaration d) (typed_type s d.place d.ctype) (λ t. Good (record d { ctype = t })) (anything _) (λ t u. record { place = refl; name = refl; named = refl; init = refl })
 
 parameter_as : (s : Sight) (defined : Bool) (d : Declaration) → Gives (SameDeclaration d) (typed_parameter s defined d)
 parameter_as s defined d = gives_both (λ u. Unit {0}) (λ u. Unit {0}) (SameDeclaration d) (parameter_name s d)
-    (limited s d.place (typed_parameter_type s d.place d.ctype) (one_part (typed_parameter_type s d.place d.ctype) (scalar_type s defined d.place))) (λ n t. Good (record d { ctype = t }))
+    (limited s d.place (known_parameter_type s d.ctype) (one_part (typed_parameter_type s d.place d.ctype) (scalar_type s defined d.place))) (λ n t. Good (record d { ctype = t }))
     (anything _) (anything _) (λ n t u v. record { place = refl; name = refl; named = refl; init = refl })
 
 parameters_as : (s : Sight) (defined : Bool) (ds : List Declaration) → Gives (SameDeclarations ds) (typed_parameters s defined ds)

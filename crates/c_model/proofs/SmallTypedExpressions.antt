@@ -24,9 +24,10 @@ use Rattle.c_model.specs.ExpressionTyping.{is_scalar, is_void, pointed, is_place
 use Rattle.c_model.specs.ExpressionTyping.{choice_type, pointer_choice, choice_of, is_struct, is_step, is_equality, is_difference, where_elements, on_pointers, on_pointer_and_integer, on_integer_and_pointer, binary}
 use Rattle.c_model.specs.ExpressionTyping.{is_null, are_compatible, points_to_void, knows_elements, operated, operated_in_place, element}
 use Rattle.c_model.specs.ExpressionTyping.{is_assigned, assigned_struct, assigned_scalar, compounded, assign, bump, is_cast, cast, index, member, dot, arrow, size_of_type, size_of_expression}
-use Rattle.c_model.specs.ExpressionTyping.{or_else, no_function, callee, first_type, rest_types, argument_for, count_of, call, params_of, two, type_in, typed, typed_arguments, typed_type}
+use Rattle.c_model.specs.ExpressionTyping.{or_else, no_function, callee, first_type, rest_types, argument_for, count_of, call, params_of, two, typed, typed_arguments, typed_type, known_type, limited}
 use Rattle.c_model.specs.SmallTypes.{TypesSmall, AllTypesSmall}
 use Rattle.c_model.proofs.TypedParts.{Gives, gives_one, gives_both, gives_given, gives_where, gives_sized, gives_elements, pointed_is}
+use Rattle.c_model.proofs.KnownTypes.{type_is_known}
 use Rattle.c_model.proofs.TypedSoundness.{gives_limited}
 use Rattle.c_model.proofs.TypedDeclarations.{anything}
 use Rattle.c_model.proofs.StableConstants.{Grows}
@@ -437,12 +438,13 @@ module _ (new : List StructType)
               typed_small (Node at t (Call f es)) = gives_both SmallSignature (AllTypesSmall new) AreTypesSmall (callee s at f.name) (typed_arguments s (params_of (callee s at f.name)) es) (call at)
                   (callee_small at f.name) (arguments_small (params_of (callee s at f.name)) (parameters_of_small (callee s at f.name) (callee_small at f.name)) es)
                   (λ h fs k l. call_small at h fs k l)
-              typed_small (Node at t (Cast to a)) = limited_small_both new all s g AreTypesSmall AreTypesSmall at (typed_type s at to) (decayed_of (typed s a)) (cast s at) (typed_firm s i.types at to)
+              typed_small (Node at t (Cast to a)) = limited_small_both new all s g AreTypesSmall AreTypesSmall at (known_type s to) (typed_type s at to) (decayed_of (typed s a)) (cast s at)
+                  (type_is_known s at to) (typed_firm s i.types at to)
                   (value_of (typed s a) (typed_small a)) (λ u x k v. gives_where AreTypesSmall (is_cast s x u) _ _ (λ c. (k, v)))
-              typed_small (Node at t (SizeOfType u)) = gives_limited AreTypesSmall s at (typed_type s at u) (one_part (typed_type s at u) (size_of_type s at))
+              typed_small (Node at t (SizeOfType u)) = gives_limited AreTypesSmall s at (known_type s u) (one_part (typed_type s at u) (size_of_type s at))
                   (gives_one (λ u. Unit {0}) AreTypesSmall (typed_type s at u) (size_of_type s at) (anything (typed_type s at u)) (λ w h. gives_sized AreTypesSmall s at w _ (λ k. (refl, tt))))
-              typed_small (Node at t (SizeOfExpr a)) = gives_limited AreTypesSmall s at (type_in (typed s a)) (one_part (typed s a) (size_of_expression s at))
-                  (gives_one AreTypesSmall AreTypesSmall (typed s a) (size_of_expression s at) (typed_small a) (λ x v. gives_sized AreTypesSmall s at (type_of x) _ (λ k. (refl, v))))
+              typed_small (Node at t (SizeOfExpr a)) = gives_one AreTypesSmall AreTypesSmall (typed s a) (λ e. limited s at (type_of e) (size_of_expression s at e)) (typed_small a)
+                  (λ x v. gives_limited AreTypesSmall s at (type_of x) (size_of_expression s at x) (gives_sized AreTypesSmall s at (type_of x) _ (λ k. (refl, v))))
               typed_small (Node at t (Index a b)) = gives_both AreTypesSmall AreTypesSmall AreTypesSmall (decayed_of (typed s a)) (decayed_of (typed s b)) (index s at)
                   (value_of (typed s a) (typed_small a)) (value_of (typed s b) (typed_small b)) (λ x y v w. index_small at x y v w)
               typed_small (Node at t (Dot a m)) = gives_one AreTypesSmall AreTypesSmall (typed s a) (dot s at m) (typed_small a) (λ x v. dot_small at m x v)

@@ -12,7 +12,7 @@ use Rattle.c_model.specs.Memory.{rounded}
 use Rattle.c_model.specs.StaticObjects.{StaticObject, OfGlobal, OfLiteral, place_of_object, static_objects}
 use Rattle.c_model.specs.Library.{is_there}
 use Rattle.c_model.specs.Checked.{Checked, Good, Bad, one_part, both_parts, where_so}
-use Rattle.c_model.specs.ExpressionTyping.{no_name, too_large, Sight, Entity, AnObject, AnEnumerator, Enumerator, TypeName, most_bytes, limited, typed_type}
+use Rattle.c_model.specs.ExpressionTyping.{no_name, too_large, Sight, Entity, AnObject, AnEnumerator, Enumerator, TypeName, most_bytes, limited, typed_type, known_type}
 use Rattle.c_model.specs.DeclarationTyping.{placed_from, is_declared_in_file, own_name, object_type, typed_global, typed_typedef, member_added, with_member, typed_member_type, typed_member, typed_value, with_enumerator, typed_enumerators}
 use Rattle.c_model.specs.UnitTyping.{FileItem, StructHead, Member, AnEnum, ATypedef, AGlobal, AFunction, unknown, typed_function, Progress, new_tag, typed_item_of_file, typed_items_of_file, at_start, items_of_file}
 use Rattle.c_model.specs.UnitTyping.{with_progress, typed_unit, room_with, room_fault_from, room_fault}
@@ -24,6 +24,7 @@ use Rattle.c_model.specs.SmallTypes.{TypesSmall}
 use Rattle.c_model.specs.AcceptedPrograms.{EachExpression}
 use Rattle.c_model.proofs.StaticObjects.{literals_of, literals_are}
 use Rattle.c_model.proofs.TypedParts.{Gives, gives_of, gives_one, gives_both, gives_where, gives_sized}
+use Rattle.c_model.proofs.KnownTypes.{type_is_known}
 use Rattle.c_model.proofs.TypedSoundness.{gives_limited}
 use Rattle.c_model.proofs.TypedDeclarations.{anything}
 use Rattle.c_model.proofs.TypedUnits.{gives_two, after_set}
@@ -84,8 +85,8 @@ module _ (new : List StructType)
 
     member_type_small : (all : AreSmallStructs new) (s : Sight) → Grows s.structs new → AreFirm s.structs s.types → (struct : StructType) (m : StructMember) → Gives (Small new) (typed_member_type s struct m)
     member_type_small all s g f struct m =
-        gives_one (Small new) (Small new) (limited s m.place (typed_type s m.place m.ctype) (one_part (typed_type s m.place m.ctype) (object_type s m.place))) _
-        (limited_small new all s g (Small new) m.place (typed_type s m.place m.ctype) (object_type s m.place) (typed_firm s f m.place m.ctype)
+        gives_one (Small new) (Small new) (limited s m.place (known_type s m.ctype) (one_part (typed_type s m.place m.ctype) (object_type s m.place))) _
+        (limited_small new all s g (Small new) m.place (known_type s m.ctype) (typed_type s m.place m.ctype) (object_type s m.place) (type_is_known s m.place m.ctype) (typed_firm s f m.place m.ctype)
         (λ t k. gives_sized (Small new) s m.place t (Good t) (λ z. k)))
         (λ t k. gives_where (Small new) (nat_le (member_added s struct t m).size most_bytes) (too_large m.place) (Good t) (λ e. k))
 
@@ -143,11 +144,11 @@ typedef_firm : (s : Sight) → AreFirm s.structs s.types → (d : Declaration) �
 typedef_firm s f d = by d.named
   where
     by : (b : Bool) → Gives (λ (e : Declaration). Firm s.structs e.ctype) (cond b (both_parts (own_name s (is_declared_in_file s d.name) d.place d.name)
-        (limited s d.place (typed_type s d.place d.ctype) (typed_type s d.place d.ctype)) (λ n t. Good (record d { ctype = t })))
+        (limited s d.place (known_type s d.ctype) (typed_type s d.place d.ctype)) (λ n t. Good (record d { ctype = t })))
         (one_part (typed_type s d.place d.ctype) (λ t. Good (record d { ctype = t }))))
     by true = gives_both (λ u. Unit {0}) (Firm s.structs) (λ (e : Declaration). Firm s.structs e.ctype) (own_name s (is_declared_in_file s d.name) d.place d.name)
-        (limited s d.place (typed_type s d.place d.ctype) (typed_type s d.place d.ctype)) (λ n t. Good (record d { ctype = t })) (anything _)
-        (gives_limited (Firm s.structs) s d.place (typed_type s d.place d.ctype) (typed_type s d.place d.ctype) (typed_firm s f d.place d.ctype)) (λ n t u h. h)
+        (limited s d.place (known_type s d.ctype) (typed_type s d.place d.ctype)) (λ n t. Good (record d { ctype = t })) (anything _)
+        (gives_limited (Firm s.structs) s d.place (known_type s d.ctype) (typed_type s d.place d.ctype) (typed_firm s f d.place d.ctype)) (λ n t u h. h)
     by false = gives_one (Firm s.structs) (λ (e : Declaration). Firm s.structs e.ctype) (typed_type s d.place d.ctype) (λ t. Good (record d { ctype = t })) (typed_firm s f d.place d.ctype) (λ t h. h)
 
 -- ---- items

@@ -9,12 +9,13 @@ use Rattle.c_model.specs.Integers.{fits}
 use Rattle.c_model.specs.Library.{is_library_name, is_there}
 use Rattle.c_model.specs.Checked.{Checked, Good, Bad, one_part, both_parts}
 use Rattle.c_model.specs.ExpressionTyping.{Sight, Entity, AnObject, AnEnumerator, name_at, or_else, has_name, entity_named, function_called, type_named, with_object, declared_here}
-use Rattle.c_model.specs.ExpressionTyping.{is_within_limits, too_large}
+use Rattle.c_model.specs.ExpressionTyping.{is_within_limits, too_large, known_type}
 use Rattle.c_model.specs.DeclarationTyping.{is_declared_in_file, own_name, typed_outer, completed, typed_object_type, typed_maybe_initialiser, is_static, is_anything, typed_variable, typed_global}
 use Rattle.c_model.specs.TypedTrees.{HasKnownSize, Initialises, WhereAny, IsDeclared, IsSight}
 use Rattle.c_model.specs.PlacedTrees.{IsOffset}
 use Rattle.c_model.specs.TextTypingLaws.{IsWholeSight}
 use Rattle.c_model.proofs.TypedParts.{Gives, gives_of, gives_one, gives_both, gives_where, gives_sized, and_true}
+use Rattle.c_model.proofs.KnownTypes.{outer_is_known}
 use Rattle.c_model.proofs.TypedSoundness.{gives_besides, known_size}
 use Rattle.c_model.proofs.TypedInitialisers.{sized_is_whole, maybe_initialises}
 
@@ -91,9 +92,12 @@ own_name_is s declared at x =
     let p = and_true (not (is_library_name (name_at s.names x))) (not declared) t in (not_true _ p.0, not_true _ p.1))
 
 object_type_is : (s : Sight) (d : Declaration) → Gives (HasKnownSize s) (typed_object_type s d)
-object_type_is s d = gives_one (λ t. Unit {0}) (HasKnownSize s) (typed_outer (is_there d.init) s d.place d.ctype) _ (anything (typed_outer (is_there d.init) s d.place d.ctype)) (λ t v.
-    gives_besides (HasKnownSize s) (is_within_limits s (completed s t d.init)) (too_large d.place) _ (λ w.
-    gives_sized (HasKnownSize s) s d.place (completed s t d.init) (Good (completed s t d.init)) (λ k. known_size s (completed s t d.init) k w)))
+object_type_is s d =
+    let known = known_type s d.ctype in
+    gives_besides (HasKnownSize s) (is_within_limits s (completed s known d.init)) (too_large d.place) _ (λ w.
+    gives_one (λ t. known ≡ t) (HasKnownSize s) (typed_outer (is_there d.init) s d.place d.ctype) _ (outer_is_known (is_there d.init) s d.place d.ctype) (λ t e.
+    gives_sized (HasKnownSize s) s d.place (completed s t d.init) (Good (completed s t d.init)) (λ k.
+    known_size s (completed s t d.init) k (subst (λ u. is_within_limits s (completed s u d.init) ≡ true) e w))))
 
 -- what is declared, and what is in sight behind it
 pub record IsDeclaredThen (s : Sight) (d : Declaration) : Type 0 where

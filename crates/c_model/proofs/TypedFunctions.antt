@@ -7,8 +7,8 @@ use Rattle.c_syntax.specs.Programs.{Function, TranslationUnit}
 use Rattle.c_model.specs.Meaning.{is_definition}
 use Rattle.c_model.specs.Library.{is_library_name, is_there}
 use Rattle.c_model.specs.Checked.{Checked, Good, Bad, one_part}
-use Rattle.c_model.specs.ExpressionTyping.{is_unknown, Signature, Sight, name_at, function_called, type_named, with_object, inner, declared_here, is_void, is_scalar, is_struct, sized, limited, typed_type}
-use Rattle.c_model.specs.DeclarationTyping.{own_name, scalar_type, typed_result, typed_parameter_type, parameter_name, typed_parameter}
+use Rattle.c_model.specs.ExpressionTyping.{is_unknown, Signature, Sight, name_at, function_called, type_named, with_object, inner, declared_here, is_void, is_scalar, is_struct, sized, limited, typed_type, known_type}
+use Rattle.c_model.specs.DeclarationTyping.{own_name, scalar_type, typed_result, typed_parameter_type, known_parameter_type, parameter_name, typed_parameter}
 use Rattle.c_model.specs.StatementTyping.{typed_items}
 use Rattle.c_model.specs.UnitTyping.{with_function, with_parameter, with_parameters, typed_parameters, typed_heading, typed_body, typed_function}
 use Rattle.c_model.specs.TypedTrees.{IsScalar, IsResult, GivesNothing, GivesScalar, IsParameter, AreParameters, around_body, BodyTyped, FunctionTyped, ItemsTyped}
@@ -27,7 +27,7 @@ scalar_type_is s defined at t =
     gives_where IsScalar (not (defined && is_struct t && is_unknown (sized s.structs t))) _ _ (λ k. gives_where IsScalar (is_scalar t) _ _ (λ e. scalar_is t e))
 
 pub result_is : (s : Sight) (defined : Bool) (at : Place) (t : PlainType) → Gives IsResult (typed_result s defined at t)
-result_is s defined at t = gives_limited IsResult s at (typed_type s at t) _
+result_is s defined at t = gives_limited IsResult s at (known_type s t) _
     (gives_one (λ u. Unit {0}) IsResult (typed_type s at t) _ (anything (typed_type s at t)) (λ u v. by u (is_void u) refl))
   where
     by : (u : PlainType) (b : Bool) → is_void u ≡ b → Gives IsResult (cond b (Good u) (scalar_type s defined at u))
@@ -58,9 +58,9 @@ parameter_name_is s d = by d.named
 parameter_typed : (s : Sight) (defined : Bool) (d : Declaration) → d.init ≡ None → Gives (IsParameterThen s d) (typed_parameter s defined d)
 parameter_typed s defined d none =
     gives_both (λ u. d.named ≡ true → declared_here s d.name ≡ None) IsScalar (IsParameterThen s d) (parameter_name s d)
-    (limited s d.place (typed_parameter_type s d.place d.ctype) (one_part (typed_parameter_type s d.place d.ctype) (scalar_type s defined d.place)))
+    (limited s d.place (known_parameter_type s d.ctype) (one_part (typed_parameter_type s d.place d.ctype) (scalar_type s defined d.place)))
     (λ n t. Good (record d { ctype = t })) (parameter_name_is s d)
-    (gives_limited IsScalar s d.place (typed_parameter_type s d.place d.ctype) _
+    (gives_limited IsScalar s d.place (known_parameter_type s d.ctype) _
     (gives_one (λ u. Unit {0}) IsScalar (typed_parameter_type s d.place d.ctype) (scalar_type s defined d.place) (anything (typed_parameter_type s d.place d.ctype)) (λ u v. scalar_type_is s defined d.place u)))
     (λ n t v w. record { is = record { new = v; scalar = w; none = none }; place = refl })
 

@@ -5,7 +5,7 @@ use Rattle.c_syntax.specs.Programs.{StructMember, StructType, EnumConstant, Tran
 use Rattle.c_syntax.specs.Layouts.{member_among}
 use Rattle.c_model.specs.Library.{is_there}
 use Rattle.c_model.specs.Checked.{Good, one_part, where_so}
-use Rattle.c_model.specs.ExpressionTyping.{no_name, too_large, Sight, HasSize, sized, is_among, most_bytes, limited, typed_type}
+use Rattle.c_model.specs.ExpressionTyping.{no_name, too_large, Sight, HasSize, sized, is_among, most_bytes, limited, typed_type, known_type}
 use Rattle.c_model.specs.DeclarationTyping.{object_type, typed_global, typed_typedef, member_added, with_member, typed_member_type, typed_member, typed_enumerators}
 use Rattle.c_model.specs.UnitTyping.{FileItem, StructHead, Member, AnEnum, ATypedef, AGlobal, AFunction, unknown, typed_function, Progress, new_tag, typed_item_of_file, typed_items_of_file, at_start, items_of_file, with_progress}
 use Rattle.c_model.specs.UnitTyping.{typed_unit}
@@ -62,8 +62,8 @@ record FitsIn (s : Sight) (struct : StructType) (m : StructMember) (t : PlainTyp
 
 member_fits : (s : Sight) (struct : StructType) (m : StructMember) → Gives (FitsIn s struct m) (typed_member_type s struct m)
 member_fits s struct m =
-    gives_one (λ t. sized s.structs t ≡ HasSize) (FitsIn s struct m) (limited s m.place (typed_type s m.place m.ctype) (one_part (typed_type s m.place m.ctype) (object_type s m.place))) _
-    (gives_limited (λ t. sized s.structs t ≡ HasSize) s m.place (typed_type s m.place m.ctype) (one_part (typed_type s m.place m.ctype) (object_type s m.place))
+    gives_one (λ t. sized s.structs t ≡ HasSize) (FitsIn s struct m) (limited s m.place (known_type s m.ctype) (one_part (typed_type s m.place m.ctype) (object_type s m.place))) _
+    (gives_limited (λ t. sized s.structs t ≡ HasSize) s m.place (known_type s m.ctype) (one_part (typed_type s m.place m.ctype) (object_type s m.place))
     (gives_one (λ t. Unit {0}) (λ t. sized s.structs t ≡ HasSize) (typed_type s m.place m.ctype) (object_type s m.place) (anything (typed_type s m.place m.ctype))
     (λ t v. gives_sized (λ t. sized s.structs t ≡ HasSize) s m.place t (Good t) (λ k. k))))
     (λ t w. gives_where (FitsIn s struct m) (nat_le (member_added s struct t m).size most_bytes) (too_large m.place) (Good t) (λ e. record { sized = w; small = e }))

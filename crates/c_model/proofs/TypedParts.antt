@@ -58,6 +58,11 @@ pub gives_if : {A : Type 0} (H : Type 0) (P : A → Type 0) (c : Checked A) → 
 gives_if H P (Good a) h = h
 gives_if H P (Bad f fs) h = tt
 
+-- two facts of one value
+pub gives_and : {A : Type 0} (P Q : A → Type 0) (c : Checked A) → Gives P c → Gives Q c → Gives (λ a. P a × Q a) c
+gives_and P Q (Good a) g h = (g, h)
+gives_and P Q (Bad f fs) g h = tt
+
 -- the value itself
 pub gives_self : {A : Type 0} (P : A → Type 0) (c : Checked A) → Gives P c → Gives (λ a. P a × (c ≡ Good a)) c
 gives_self P (Good a) g = (g, refl)

@@ -21,7 +21,7 @@ use Rattle.c_model.specs.ExpressionTyping.{is_scalar, is_void, pointed, is_place
 use Rattle.c_model.specs.ExpressionTyping.{choice_type, choice_of, is_struct, is_step, is_equality, is_difference, where_elements, on_pointers, on_pointer_and_integer, on_integer_and_pointer, knows_elements, operated, is_null, are_compatible}
 use Rattle.c_model.specs.ExpressionTyping.{binary, operated_in_place, element}
 use Rattle.c_model.specs.ExpressionTyping.{is_assigned, assigned_struct, assigned_scalar, compounded, assign, bump, is_cast, cast, index, member, dot, arrow, size_of_type, size_of_expression}
-use Rattle.c_model.specs.ExpressionTyping.{or_else, no_function, callee, first_type, rest_types, argument_for, count_of, call, params_of, two, type_in, typed, typed_arguments, typed_type, limited}
+use Rattle.c_model.specs.ExpressionTyping.{or_else, no_function, callee, first_type, rest_types, argument_for, count_of, call, params_of, two, typed, typed_arguments, typed_type, known_type, limited}
 use Rattle.c_model.specs.TypedTrees.{TypingLaws, AsUse, AsNumber, TypedAs, KindTypedAs, AllTypedAs}
 use Rattle.c_model.proofs.TypedSoundness.{called_name, named_of_library, gives_limited, typed_well}
 use Rattle.c_model.proofs.TypedParts.{Gives, gives_of, gives_one, gives_both, gives_given, gives_where, gives_sized, gives_elements}
@@ -284,8 +284,8 @@ module _ (s : Sight)
     value_as : (r : Expression) (c : Checked Expression) → Gives (TypedAs r) c → Gives (TypedAs r) (decayed_of c)
     value_as r c g = gives_one (TypedAs r) (TypedAs r) c (λ e. Good (decayed e)) g (λ e h. decayed_as r e h)
 
-    limited_as : {B : Type 0} (R : B → Type 0) (at : Place) (c : Checked PlainType) (d : Checked B) → Gives R d → Gives R (limited s at c d)
-    limited_as R at c d g = gives_limited R s at c d g
+    limited_as : {B : Type 0} (R : B → Type 0) (at : Place) (t : PlainType) (d : Checked B) → Gives R d → Gives R (limited s at t d)
+    limited_as R at t d g = gives_limited R s at t d g
 
     mutual
       pub typed_as : (r : Expression) → Gives (TypedAs r) (typed s r)
@@ -313,13 +313,13 @@ module _ (s : Sight)
       typed_as (Node at t (Call f es)) =
           gives_both (λ g. f.name ≡ g.name) (AllTypedAs es) (TypedAs (Node at t (Call f es))) (callee s at f.name) (typed_arguments s (params_of (callee s at f.name)) es) (call at)
           (callee_named at f.name) (arguments_as (params_of (callee s at f.name)) es) (λ g fs e h. call_as at t f g es fs e h)
-      typed_as (Node at t (Cast to a)) = limited_as (TypedAs (Node at t (Cast to a))) at (typed_type s at to) (both_parts (typed_type s at to) (decayed_of (typed s a)) (cast s at))
+      typed_as (Node at t (Cast to a)) = limited_as (TypedAs (Node at t (Cast to a))) at (known_type s to) (both_parts (typed_type s at to) (decayed_of (typed s a)) (cast s at))
           (gives_both (λ u. Unit {0}) (TypedAs a) (TypedAs (Node at t (Cast to a))) (typed_type s at to) (decayed_of (typed s a)) (cast s at) (anything (typed_type s at to))
           (value_as a (typed s a) (typed_as a)) (λ u x i v. cast_to_as s at t a x v to u))
-      typed_as (Node at t (SizeOfType u)) = limited_as (TypedAs (Node at t (SizeOfType u))) at (typed_type s at u) (one_part (typed_type s at u) (size_of_type s at))
+      typed_as (Node at t (SizeOfType u)) = limited_as (TypedAs (Node at t (SizeOfType u))) at (known_type s u) (one_part (typed_type s at u) (size_of_type s at))
           (gives_one (λ u. Unit {0}) (TypedAs (Node at t (SizeOfType u))) (typed_type s at u) (size_of_type s at) (anything (typed_type s at u)) (λ w h. size_of_type_as s at t u w))
-      typed_as (Node at t (SizeOfExpr a)) = limited_as (TypedAs (Node at t (SizeOfExpr a))) at (type_in (typed s a)) (one_part (typed s a) (size_of_expression s at))
-          (gives_one (TypedAs a) (TypedAs (Node at t (SizeOfExpr a))) (typed s a) (size_of_expression s at) (typed_as a) (λ x v. size_as s at t a x v))
+      typed_as (Node at t (SizeOfExpr a)) = gives_one (TypedAs a) (TypedAs (Node at t (SizeOfExpr a))) (typed s a) (λ e. limited s at (type_of e) (size_of_expression s at e)) (typed_as a)
+          (λ x v. limited_as (TypedAs (Node at t (SizeOfExpr a))) at (type_of x) (size_of_expression s at x) (size_as s at t a x v))
       typed_as (Node at t (Index a b)) = gives_both (TypedAs a) (TypedAs b) (TypedAs (Node at t (Index a b))) (decayed_of (typed s a)) (decayed_of (typed s b)) (index s at)
           (value_as a (typed s a) (typed_as a)) (value_as b (typed s b) (typed_as b)) (λ x y v w. index_as s at t a b x y v w)
       typed_as (Node at t (Dot a m)) = gives_one (TypedAs a) (TypedAs (Node at t (Dot a m))) (typed s a) (dot s at m) (typed_as a) (λ x v. dot_as s at t a x v m)

@@ -38,7 +38,7 @@ use Rattle.c_model.specs.ExpressionTyping.{use_as, literal_at, same_type, is_voi
 use Rattle.c_model.specs.ExpressionTyping.{decayed, in_type, in_int, is_place, is_null, are_compatible, is_assigned, literal, text, is_null_word, library_name, named, unary_on, on_integers, is_step, is_equality, is_difference}
 use Rattle.c_model.specs.ExpressionTyping.{where_elements, on_pointers, on_pointer_and_integer, on_integer_and_pointer, binary, both_of, either_of, choice_type, choice_of, assigned_scalar, assigned_struct, assigned, compounded}
 use Rattle.c_model.specs.ExpressionTyping.{assign, bump, is_cast, cast, index, member, dot, arrow, size_of_type, size_of_expression, callee, first_type, rest_types, argument_for, count_of, call, params_of}
-use Rattle.c_model.specs.ExpressionTyping.{two, decayed_of, type_in, typed, typed_arguments, typed_type, knows_elements, operated, operated_in_place, element}
+use Rattle.c_model.specs.ExpressionTyping.{two, decayed_of, typed, typed_arguments, typed_type, known_type, limited, knows_elements, operated, operated_in_place, element}
 use Rattle.c_model.specs.Sizes.{weight_of, weight_of_all, forms_of, forms_of_all, IsSmall}
 use Rattle.c_model.proofs.TypedParts.{Gives, gives_one, gives_both, gives_given, gives_where, gives_sized, gives_elements}
 use Rattle.c_model.proofs.TypedSoundness.{gives_limited}
@@ -489,15 +489,15 @@ mutual
       gives_both (λ g. Unit {0}) (AreLight (nodes_of_all es)) (IsLight (suc (nodes_of_all es))) (callee s at f.name) (typed_arguments s ts es) (call at) (anything (callee s at f.name)) (arguments_light s ts es)
       (λ g xs u h. call_light at g (nodes_of_all es) xs h)
   typed_light s (Node at t (Cast to a)) =
-      gives_limited (IsLight (suc (nodes_of a))) s at (typed_type s at to) (both_parts (typed_type s at to) (decayed_of (typed s a)) (cast s at))
+      gives_limited (IsLight (suc (nodes_of a))) s at (known_type s to) (both_parts (typed_type s at to) (decayed_of (typed s a)) (cast s at))
       (gives_both (λ u. Unit {0}) (IsLightValue (nodes_of a)) (IsLight (suc (nodes_of a))) (typed_type s at to) (decayed_of (typed s a)) (cast s at) (anything (typed_type s at to)) (value_of (nodes_of a) (typed s a) (typed_light s a))
       (λ u x o h. cast_light s at u (nodes_of a) x h))
   typed_light s (Node at t (SizeOfType u)) =
-      gives_limited (IsLight 1) s at (typed_type s at u) (one_part (typed_type s at u) (size_of_type s at))
+      gives_limited (IsLight 1) s at (known_type s u) (one_part (typed_type s at u) (size_of_type s at))
       (gives_one (λ u. Unit {0}) (IsLight 1) (typed_type s at u) (size_of_type s at) (anything (typed_type s at u)) (λ v o. size_light s at v))
   typed_light s (Node at t (SizeOfExpr a)) =
-      gives_limited (IsLight (suc (nodes_of a))) s at (type_in (typed s a)) (one_part (typed s a) (size_of_expression s at))
-      (gives_one (IsLight (nodes_of a)) (IsLight (suc (nodes_of a))) (typed s a) (size_of_expression s at) (typed_light s a) (λ x h. size_of_light s at (nodes_of a) x h))
+      gives_one (IsLight (nodes_of a)) (IsLight (suc (nodes_of a))) (typed s a) (λ e. limited s at (type_of e) (size_of_expression s at e)) (typed_light s a)
+      (λ x h. gives_limited (IsLight (suc (nodes_of a))) s at (type_of x) (size_of_expression s at x) (size_of_light s at (nodes_of a) x h))
   typed_light s (Node at t (Index a b)) =
       gives_both (IsLightValue (nodes_of a)) (IsLightValue (nodes_of b)) (IsLight (suc (nodes_of a + nodes_of b))) (decayed_of (typed s a)) (decayed_of (typed s b)) (index s at) (value_of (nodes_of a) (typed s a) (typed_light s a))
       (value_of (nodes_of b) (typed s b) (typed_light s b)) (λ x y h v. index_light at (nodes_of a) (nodes_of b) x y h v s)

@@ -16,13 +16,14 @@ use Rattle.c_model.specs.Checked.{Fault, Checked, Good, Bad, faulty, one_part, b
 use Rattle.c_model.specs.ExpressionTyping.{no_name, no_type, too_large, Sight, Entity, AnObject, AnEnumerator, Signature, name_at, or_else, entity_named, function_called}
 use Rattle.c_model.specs.ExpressionTyping.{of_library, library_function, use_as, literal_at, HasSize, sized, is_void, is_scalar, has_small_parts, levels_of, most_levels, most_bytes, is_within_limits}
 use Rattle.c_model.specs.ExpressionTyping.{besides, limited, decayed, is_null, points_to_void, are_compatible, is_assigned, text, is_null_word, library_name, named, pointer_choice}
-use Rattle.c_model.specs.ExpressionTyping.{choice_type, choice_of, no_function, callee, first_type, rest_types, argument_for, count_of, call, params_of, two, decayed_of, type_in, typed}
-use Rattle.c_model.specs.ExpressionTyping.{typed_arguments, typed_type, unary_on, binary, both_of, either_of, assign, bump, cast, index, dot, arrow, size_of_type, size_of_expression}
+use Rattle.c_model.specs.ExpressionTyping.{choice_type, choice_of, no_function, callee, first_type, rest_types, argument_for, count_of, call, params_of, two, decayed_of, typed}
+use Rattle.c_model.specs.ExpressionTyping.{typed_arguments, typed_type, known_type, unary_on, binary, both_of, either_of, assign, bump, cast, index, dot, arrow, size_of_type, size_of_expression}
 use Rattle.c_model.specs.TypedTrees.{IsPointer, IsResult, GivesNothing, GivesScalar, HasKnownSize, OfObject, OfNull, CastTypes, ToVoid, OfPointer, HaveTypes, WellTyped, AreWellTyped, IsSight}
 use Rattle.c_model.proofs.TypedParts.{Gives, gives_of, gives_one, gives_both, gives_given, gives_where, gives_self, gives_sized, and_true, scalar_is, pointer_is}
 use Rattle.c_model.proofs.TypedOperators.{is_aggregate, Sound, IsSoundValue, decayed_sound, in_type_well, in_type_type, int_cast, literal_sound, unary_sound}
 use Rattle.c_model.proofs.TypedExpressions.{null_casts, compatible_pointers, assigned_casts, binary_sound, both_sound, either_sound, index_sound, comma_sound, assign_sound, bump_sound}
 use Rattle.c_model.proofs.TypedExpressions.{cast_sound, dot_sound, arrow_sound}
+use Rattle.c_model.proofs.KnownTypes.{type_is_known}
 use Rattle.c_model.proofs.LibraryFunctions.{each_of_library}
 
 -- ---- limits
@@ -35,19 +36,14 @@ pub gives_besides : {B : Type 0} (R : B → Type 0) (b : Bool) (f : Fault) (c : 
 gives_besides R true f c h = h refl
 gives_besides R false f c h = besides_false R f c
 
-pub gives_limited : {B : Type 0} (R : B → Type 0) (s : Sight) (at : Place) (c : Checked PlainType) (d : Checked B) → Gives R d → Gives R (limited s at c d)
-gives_limited R s at (Good t) d g = gives_besides R (is_within_limits s t) (too_large at) d (λ e. g)
-gives_limited R s at (Bad f fs) d g = g
+pub gives_limited : {B : Type 0} (R : B → Type 0) (s : Sight) (at : Place) (t : PlainType) (d : Checked B) → Gives R d → Gives R (limited s at t d)
+gives_limited R s at t d g = gives_besides R (is_within_limits s t) (too_large at) d (λ e. g)
 
-gives_limited_type : {B : Type 0} (R : B → Type 0) (s : Sight) (at : Place) (c : Checked PlainType) (k : PlainType → Checked B) → ((t : PlainType) → is_within_limits s t ≡ true → Gives R (k t))
-    → Gives R (limited s at c (one_part c k))
-gives_limited_type R s at (Good t) k h = gives_besides R (is_within_limits s t) (too_large at) (k t) (h t)
-gives_limited_type R s at (Bad f fs) k h = tt
-
-gives_limited_expression : {B : Type 0} (P : Expression → Type 0) (R : B → Type 0) (s : Sight) (at : Place) (c : Checked Expression) (k : Expression → Checked B) → Gives P c
-    → ((e : Expression) → P e → is_within_limits s (type_of e) ≡ true → Gives R (k e)) → Gives R (limited s at (type_in c) (one_part c k))
-gives_limited_expression P R s at (Good e) k g h = gives_besides R (is_within_limits s (type_of e)) (too_large at) (k e) (h e g)
-gives_limited_expression P R s at (Bad f fs) k g h = tt
+-- what is made of a type that is known
+gives_limited_type : {B : Type 0} (R : B → Type 0) (s : Sight) (at : Place) (t : PlainType) (c : Checked PlainType) (k : PlainType → Checked B) → Gives (λ u. t ≡ u) c
+    → ((u : PlainType) → is_within_limits s u ≡ true → Gives R (k u)) → Gives R (limited s at t (one_part c k))
+gives_limited_type R s at t c k g h =
+    gives_besides R (is_within_limits s t) (too_large at) (one_part c k) (λ w. gives_one (λ u. t ≡ u) R c k g (λ u e. h u (subst (λ v. is_within_limits s v ≡ true) e w)))
 
 -- the size of a type is one of a part
 size_is_small : (structs : List StructType) (t : PlainType) → sized structs t ≡ HasSize → has_small_parts structs t ≡ true → nat_le (size_of structs t) most_bytes ≡ true
@@ -377,12 +373,13 @@ module _ (s : Sight) (known : IsSight s)
           (gives_self IsCallee (callee s at f.name) (callee_is at f.name))
           (arguments_sound (params_of (callee s at f.name)) es)
           (λ g es c a. call_sound at g es c.0 (subst (λ x. IsArgued (params_of x) es) c.1 a))
-      typed_sound (Node at t (Cast to a)) = gives_limited (Sound s) s at (typed_type s at to) (both_parts (typed_type s at to) (decayed_of (typed s a)) (cast s at))
+      typed_sound (Node at t (Cast to a)) = gives_limited (Sound s) s at (known_type s to) (both_parts (typed_type s at to) (decayed_of (typed s a)) (cast s at))
           (gives_both (λ u. Unit {0}) (IsSoundValue s) (Sound s) (typed_type s at to) (decayed_of (typed s a)) (cast s at) (anything (typed_type s at to)) (value_of (typed s a) (typed_sound a))
           (λ u a i v. cast_sound s known at u a v.sound))
-      typed_sound (Node at t (SizeOfType u)) = gives_limited_type (Sound s) s at (typed_type s at u) (size_of_type s at) (size_of_type_sound at)
+      typed_sound (Node at t (SizeOfType u)) = gives_limited_type (Sound s) s at (known_type s u) (typed_type s at u) (size_of_type s at) (type_is_known s at u) (size_of_type_sound at)
       typed_sound (Node at t (SizeOfExpr a)) =
-          gives_limited_expression (Sound s) (Sound s) s at (typed s a) (size_of_expression s at) (typed_sound a) (size_of_expression_sound at)
+          gives_one (Sound s) (Sound s) (typed s a) (λ e. limited s at (type_of e) (size_of_expression s at e)) (typed_sound a) (λ e v.
+          gives_besides (Sound s) (is_within_limits s (type_of e)) (too_large at) (size_of_expression s at e) (λ w. size_of_expression_sound at e v w))
       typed_sound (Node at t (Index a b)) = gives_both (IsSoundValue s) (IsSoundValue s) (Sound s) (decayed_of (typed s a)) (decayed_of (typed s b)) (index s at)
           (value_of (typed s a) (typed_sound a)) (value_of (typed s b) (typed_sound b)) (λ a b v w. index_sound s known at a b v.sound w.sound)
       typed_sound (Node at t (Dot a m)) = gives_one (Sound s) (Sound s) (typed s a) (dot s at m) (typed_sound a) (dot_sound s known at m)

@@ -10,7 +10,7 @@ use Rattle.c_syntax.specs.Layouts.{size_of, align_of, aligned, member_among}
 use Rattle.c_model.specs.Integers.{fits}
 use Rattle.c_model.specs.Library.{is_there}
 use Rattle.c_model.specs.Checked.{Checked, Good, Bad, one_part, both_parts, where_so}
-use Rattle.c_model.specs.ExpressionTyping.{no_name, too_large, AnEnumerator, Sight, most_bytes, limited, constant, decayed_of, typed, typed_type}
+use Rattle.c_model.specs.ExpressionTyping.{no_name, too_large, AnEnumerator, Sight, most_bytes, limited, constant, decayed_of, typed, typed_type, known_type}
 use Rattle.c_model.specs.DeclarationTyping.{placed_from, is_declared_in_file, own_name, object_type, typed_global, typed_typedef, member_added, with_struct, with_member, typed_member_type, typed_member}
 use Rattle.c_model.specs.DeclarationTyping.{typed_value, with_enumerator, typed_enumerators}
 use Rattle.c_model.specs.UnitTyping.{FileItem, StructHead, Member, AnEnum, ATypedef, AGlobal, AFunction, unknown, first_sight, with_type, typed_function, Progress, new_tag, typed_item_of_file}
@@ -68,8 +68,8 @@ object_type_whole s at t = gives_sized (λ u. is_whole u ≡ true) s at t (Good 
 
 member_type_whole : (s : Sight) (struct : StructType) (m : StructMember) → Gives (λ t. is_whole t ≡ true) (typed_member_type s struct m)
 member_type_whole s struct m =
-    gives_one (λ t. is_whole t ≡ true) (λ t. is_whole t ≡ true) (limited s m.place (typed_type s m.place m.ctype) (one_part (typed_type s m.place m.ctype) (object_type s m.place))) _
-    (gives_limited (λ t. is_whole t ≡ true) s m.place (typed_type s m.place m.ctype) (one_part (typed_type s m.place m.ctype) (object_type s m.place))
+    gives_one (λ t. is_whole t ≡ true) (λ t. is_whole t ≡ true) (limited s m.place (known_type s m.ctype) (one_part (typed_type s m.place m.ctype) (object_type s m.place))) _
+    (gives_limited (λ t. is_whole t ≡ true) s m.place (known_type s m.ctype) (one_part (typed_type s m.place m.ctype) (object_type s m.place))
     (gives_one (λ t. Unit {0}) (λ t. is_whole t ≡ true) (typed_type s m.place m.ctype) (object_type s m.place) (anything (typed_type s m.place m.ctype)) (λ t v. object_type_whole s m.place t)))
     (λ t w. gives_where (λ t. is_whole t ≡ true) (nat_le (member_added s struct t m).size most_bytes) (too_large m.place) (Good t) (λ e. w))
 

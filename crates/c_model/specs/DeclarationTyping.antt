@@ -21,8 +21,8 @@ use Rattle.c_model.specs.Checked.{Checked, Good, faulty, one_part, both_parts, g
 use Rattle.c_model.specs.ExpressionTyping.{no_name, no_type, too_large, Entity, AnObject, AnEnumerator, Sight, name_at, function_called}
 use Rattle.c_model.specs.ExpressionTyping.{type_named, literal_at, with_object, declared_here, is_void, is_scalar, is_struct, is_character, HasSize}
 use Rattle.c_model.specs.ExpressionTyping.{HasNoSize, NotYet, is_unknown, sized, where_sized, most_bytes, number_at, levels_of, limited, decayed}
-use Rattle.c_model.specs.ExpressionTyping.{in_type, no_callee, nowhere, tables_in, constant, is_assigned, array_of, decayed_of, typed, typed_type}
-use Rattle.c_model.specs.ExpressionTyping.{typed_length}
+use Rattle.c_model.specs.ExpressionTyping.{in_type, no_callee, nowhere, tables_in, constant, is_assigned, element_type, decayed_of, typed, typed_type}
+use Rattle.c_model.specs.ExpressionTyping.{typed_length, known_type}
 
 -- ---- the layout of structs (C99 6.7.2.1 p13): each member stands at the next multiple of its alignment, and so does the end
 
@@ -61,7 +61,7 @@ own_name s declared at x = where_so (not (is_library_name (name_at s.names x)) &
 
 -- the type of an object as it is written; the first length of an array may be left out, where so much is said
 abbrev pub typed_outer : Bool → Sight → Place → PlainType → Checked PlainType
-typed_outer true s at (Array t Left) = one_part (typed_type s at t) (λ u. array_of s at u Left)
+typed_outer true s at (Array t Left) = one_part (one_part (typed_type s at t) (element_type s at)) (λ u. Good (Array u Left))
 typed_outer may_leave s at t = typed_type s at t
 
 -- the bytes of a string literal, where an initialiser that is read is one, in braces or without
@@ -95,22 +95,26 @@ object_type s at t = where_sized s at t (Good t)
 -- the type of a declared object, whose length its initialiser may give
 abbrev pub typed_object_type : Sight → Declaration → Checked PlainType
 typed_object_type s d =
-    one_part (typed_outer (is_there d.init) s d.place d.ctype) (λ t.
-    let u = completed s t d.init in limited s d.place (Good u) (object_type s d.place u))
+    limited s d.place (completed s (known_type s d.ctype) d.init)
+    (one_part (typed_outer (is_there d.init) s d.place d.ctype) (λ t. object_type s d.place (completed s t d.init)))
 
 -- a type that only the first array's brackets make no pointer (C99 6.7.5.3 p7); elements of a struct that isn't known yet are pointed to
 abbrev pub elements_of_parameter : Sight → Place → PlainType → Checked PlainType
 elements_of_parameter s at t = elim (sized s.structs t) [ HasSize ↦ Good (Ptr t) | HasNoSize ↦ faulty (no_type at) | NotYet ↦ Good (Ptr t) ]
 
+-- a name of an array type stands for a pointer too
+abbrev pub pointer_where_array : PlainType → PlainType
+pointer_where_array (Array t n) = Ptr t
+pointer_where_array t = t
+
 abbrev pub typed_parameter_type : Sight → Place → PlainType → Checked PlainType
 typed_parameter_type s at (Array t Left) = one_part (typed_type s at t) (elements_of_parameter s at)
-typed_parameter_type s at (Array t n) = both_parts (typed_type s at t) (typed_length s at n) (λ u n. elements_of_parameter s at u)
-typed_parameter_type s at t = one_part (typed_type s at t) (λ u. pointer_where_array s at u)
-  where
-    -- a name of an array type stands for a pointer too
-    pointer_where_array : Sight → Place → PlainType → Checked PlainType
-    pointer_where_array s at (Array t n) = Good (Ptr t)
-    pointer_where_array s at t = Good t
+typed_parameter_type s at (Array t n) = both_parts (one_part (typed_type s at t) (elements_of_parameter s at)) (typed_length s at n) (λ u m. Good u)
+typed_parameter_type s at t = one_part (typed_type s at t) (λ u. Good (pointer_where_array u))
+
+-- the same as far as it is known
+abbrev pub known_parameter_type : Sight → PlainType → PlainType
+known_parameter_type s t = pointer_where_array (known_type s t)
 
 -- a parameter or a result is a scalar (this profile); a definition needs the size of a struct (C99 6.7.5.3 p4, 6.9.1 p3)
 abbrev pub scalar_type : Sight → Bool → Place → PlainType → Checked PlainType
@@ -120,7 +124,7 @@ scalar_type s defined at t =
 -- what a function gives: void or a scalar; the type counts as that of its name
 abbrev pub typed_result : Sight → Bool → Place → PlainType → Checked PlainType
 typed_result s defined at t =
-    limited s at (typed_type s at t) (one_part (typed_type s at t) (λ u. cond (is_void u) (Good u) (scalar_type s defined at u)))
+    limited s at (known_type s t) (one_part (typed_type s at t) (λ u. cond (is_void u) (Good u) (scalar_type s defined at u)))
 
 -- ---- initialisers (C99 6.7.8)
 
@@ -286,7 +290,7 @@ abbrev pub typed_typedef : Sight → Declaration → Checked Declaration
 typed_typedef s d =
     cond d.named
     (both_parts (own_name s (is_declared_in_file s d.name) d.place d.name)
-    (limited s d.place (typed_type s d.place d.ctype) (typed_type s d.place d.ctype)) (λ n t. Good (record d { ctype = t })))
+    (limited s d.place (known_type s d.ctype) (typed_type s d.place d.ctype)) (λ n t. Good (record d { ctype = t })))
     (one_part (typed_type s d.place d.ctype) (λ t. Good (record d { ctype = t })))
 
 -- a parameter (C99 6.7.5.3): its name, where it has one, is new
@@ -296,7 +300,7 @@ parameter_name s d = cond d.named (own_name s (is_there (declared_here s d.name)
 abbrev pub typed_parameter : Sight → Bool → Declaration → Checked Declaration
 typed_parameter s defined d =
     both_parts (parameter_name s d)
-    (limited s d.place (typed_parameter_type s d.place d.ctype)
+    (limited s d.place (known_parameter_type s d.ctype)
     (one_part (typed_parameter_type s d.place d.ctype) (scalar_type s defined d.place)))
     (λ n t. Good (record d { ctype = t }))
 
@@ -317,7 +321,7 @@ with_member s k struct t m ends =
 
 abbrev pub typed_member_type : Sight → StructType → StructMember → Checked PlainType
 typed_member_type s struct m =
-    one_part (limited s m.place (typed_type s m.place m.ctype) (one_part (typed_type s m.place m.ctype) (object_type s m.place))) (λ t.
+    one_part (limited s m.place (known_type s m.ctype) (one_part (typed_type s m.place m.ctype) (object_type s m.place))) (λ t.
     where_so (nat_le (member_added s struct t m).size most_bytes) (too_large m.place) (Good t))
 
 abbrev pub typed_member : Sight → ℕ → StructType → StructMember → Bool → Checked Sight

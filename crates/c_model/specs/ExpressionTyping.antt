@@ -274,9 +274,8 @@ besides false f (Good a) = faulty f
 besides false f (Bad g gs) = Bad g (gs ++ f ∷ [])
 
 -- what is checked of a node that names a type or asks for one's size; a type that passes a limit is a fault of it besides its others
-abbrev pub limited : {A : Type 0} → Sight → Place → Checked PlainType → Checked A → Checked A
-limited s at (Good t) c = besides (is_within_limits s t) (too_large at) c
-limited s at (Bad f fs) c = c
+abbrev pub limited : {A : Type 0} → Sight → Place → PlainType → Checked A → Checked A
+limited s at t c = besides (is_within_limits s t) (too_large at) c
 
 -- ---- values
 
@@ -653,18 +652,31 @@ abbrev pub counted : Place → Option ℤ → Checked PlainLength
 counted at (Some (pos n)) = where_so (nat_lt 0 n && nat_lt n (2 ^ 31)) (no_type at) (Good (Count n))
 counted at _ = faulty (no_type at)
 
--- an array of a type that has a size (C99 6.7.5.2 p1)
-abbrev pub array_of : Sight → Place → PlainType → PlainLength → Checked PlainType
-array_of s at t n = where_sized s at t (Good (Array t n))
+-- the elements of an array are of a type that has a size (C99 6.7.5.2 p1)
+abbrev pub element_type : Sight → Place → PlainType → Checked PlainType
+element_type s at t = where_sized s at t (Good t)
 
 -- a struct that the file defines nowhere has an index that no struct has, so its size is never known (C99 6.7.2.3 p7)
 abbrev pub unknown_struct : Sight → ℕ → PlainType
 unknown_struct s x = Struct (length s.structs + x)
 
--- the struct with a tag at this place, which is no enum's (C99 6.7.2.3)
+-- the struct with a tag
+abbrev pub known_struct : Sight → ℕ → PlainType
+known_struct s x = elim (tagged x 0 s.structs) [ None ↦ unknown_struct s x | Some n ↦ Struct n ]
+
+-- the same at this place, where the tag is no enum's (C99 6.7.2.3)
 abbrev pub struct_tagged : Sight → Place → ℕ → Checked PlainType
-struct_tagged s at x =
-    where_so (not (is_among x s.enum_tags)) (no_name at) (Good (elim (tagged x 0 s.structs) [ None ↦ unknown_struct s x | Some n ↦ Struct n ]))
+struct_tagged s at x = where_so (not (is_among x s.enum_tags)) (no_name at) (Good (known_struct s x))
+
+-- what is known of a type that has a fault, on which limits are asked too: a name that is no type's is void, and a length with a fault is
+-- the least that there is
+abbrev pub known_name : Option PlainType → PlainType
+known_name None = Void
+known_name (Some t) = t
+
+abbrev pub least_length : Checked PlainLength → PlainLength
+least_length (Good n) = n
+least_length (Bad f fs) = Count 1
 
 abbrev pub two : {A B : Type 0} → A → B → Checked (A × B)
 two a b = Good (a, b)
@@ -672,9 +684,6 @@ two a b = Good (a, b)
 -- what a value is made of: an array is a pointer there
 abbrev pub decayed_of : Checked Expression → Checked Expression
 decayed_of c = one_part c (λ e. Good (decayed e))
-
-abbrev pub type_in : Checked Expression → Checked PlainType
-type_in c = one_part c (λ e. Good (type_of e))
 
 abbrev mutual
   pub typed : Sight → Expression → Checked Expression
@@ -691,9 +700,9 @@ abbrev mutual
   typed s (Node at t (Assign op a b)) = both_parts (typed s a) (decayed_of (typed s b)) (assign s at op)
   typed s (Node at t (Bump op a)) = one_part (typed s a) (bump s at op)
   typed s (Node at t (Call f es)) = both_parts (callee s at f.name) (typed_arguments s (params_of (callee s at f.name)) es) (call at)
-  typed s (Node at t (Cast to a)) = limited s at (typed_type s at to) (both_parts (typed_type s at to) (decayed_of (typed s a)) (cast s at))
-  typed s (Node at t (SizeOfType u)) = limited s at (typed_type s at u) (one_part (typed_type s at u) (size_of_type s at))
-  typed s (Node at t (SizeOfExpr a)) = limited s at (type_in (typed s a)) (one_part (typed s a) (size_of_expression s at))
+  typed s (Node at t (Cast to a)) = limited s at (known_type s to) (both_parts (typed_type s at to) (decayed_of (typed s a)) (cast s at))
+  typed s (Node at t (SizeOfType u)) = limited s at (known_type s u) (one_part (typed_type s at u) (size_of_type s at))
+  typed s (Node at t (SizeOfExpr a)) = one_part (typed s a) (λ e. limited s at (type_of e) (size_of_expression s at e))
   typed s (Node at t (Index a b)) = both_parts (decayed_of (typed s a)) (decayed_of (typed s b)) (index s at)
   typed s (Node at t (Dot a m)) = one_part (typed s a) (dot s at m)
   typed s (Node at t (Arrow a m)) = one_part (decayed_of (typed s a)) (arrow s at m)
@@ -710,7 +719,7 @@ abbrev mutual
   typed_type s at Void = Good Void
   typed_type s at (Int k) = Good (Int k)
   typed_type s at (Ptr t) = one_part (typed_type s at t) (λ u. Good (Ptr u))
-  typed_type s at (Array t n) = both_parts (typed_type s at t) (typed_length s at n) (array_of s at)
+  typed_type s at (Array t n) = both_parts (one_part (typed_type s at t) (element_type s at)) (typed_length s at n) (λ u m. Good (Array u m))
   typed_type s at (Struct n) = Good (Struct n)
   typed_type s at (Named x) = given (type_named x s.types) (no_name at) Good
   typed_type s at (StructTag x tag) = struct_tagged s tag x
@@ -720,3 +729,19 @@ abbrev mutual
   typed_length s at Left = faulty (no_type at)
   typed_length s at (Written e) = one_part (typed s e) (λ x. counted (place_of e) (constant s x))
   typed_length s at (Count n) = Good (Count n)
+
+  -- the same as far as it is known, whatever faults it has; a tag is what it is written as
+  pub known_type : Sight → PlainType → PlainType
+  known_type s Void = Void
+  known_type s (Int k) = Int k
+  known_type s (Ptr t) = Ptr (known_type s t)
+  known_type s (Array t n) = Array (known_type s t) (known_length s n)
+  known_type s (Struct n) = Struct n
+  known_type s (Named x) = known_name (type_named x s.types)
+  known_type s (StructTag x tag) = known_struct s x
+  known_type s (EnumTag x tag) = int_type
+
+  pub known_length : Sight → PlainLength → PlainLength
+  known_length s Left = Left
+  known_length s (Written e) = least_length (one_part (typed s e) (λ x. counted (place_of e) (constant s x)))
+  known_length s (Count n) = Count n

@@ -21,7 +21,7 @@ use Rattle.c_model.specs.Library.{library_constant, is_there}
 use Rattle.c_model.specs.Ranges.{from_to}
 use Rattle.c_model.specs.Checked.{Checked, Good, Bad, faulty, given, where_so, one_part, pair_of}
 use Rattle.c_model.specs.ExpressionTyping.{no_name, no_type, Object, AnObject, AnEnumerator, Sight, name_at, entity_named, use_as}
-use Rattle.c_model.specs.ExpressionTyping.{limited, typed_type, where_sized}
+use Rattle.c_model.specs.ExpressionTyping.{limited, known_type, typed_type, where_sized}
 
 -- what a form is by its sort
 pub data Sorted : Type 0 where
@@ -136,8 +136,8 @@ abbrev mutual
   typed_form s (read.Binary at op a b) = one_part (pair_of (typed_form s a) (typed_form s b)) (λ p. on_integers at op p.0 p.1)
   typed_form s (read.Cast at Integers a) = one_part (typed_form s a) (cast_as at Integers)
   typed_form s (read.Cast at (OfC to) a) =
-      limited s at (typed_type s at to) (one_part (pair_of (typed_type s at to) (typed_form s a)) (λ p. cast at p.0 p.1))
-  typed_form s (read.SizeOf at u) = limited s at (typed_type s at u) (one_part (typed_type s at u) (size_in s at))
+      limited s at (known_type s to) (one_part (pair_of (typed_type s at to) (typed_form s a)) (λ p. cast at p.0 p.1))
+  typed_form s (read.SizeOf at u) = limited s at (known_type s u) (one_part (typed_type s at u) (size_in s at))
   typed_form s (read.Chain at a links) =
       one_part (pair_of (typed_form s a) (typed_links s (is_predicate (typed_form s a)) links)) (λ p. related at p.0 p.1)
   typed_form s (read.Connected at c a b) = one_part (pair_of (typed_form s a) (typed_form s b)) (λ p. Good (connected at c p.0 p.1))

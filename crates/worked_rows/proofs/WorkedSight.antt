@@ -10,9 +10,10 @@ use Rattle.c_syntax.specs.declared.expression.BumpOp.{BumpOp}
 use Rattle.c_syntax.specs.Ctypes.{PlainType, Void, Int, Ptr, Array, Struct, Count, int_type}
 use Rattle.c_syntax.specs.Expressions.{Expression, Node, ExpressionKind, Number, Letter, Text, Variable, Unary, Binary, Both, Either, Choice, Assign, Bump, Call, Cast}
 use Rattle.c_syntax.specs.Expressions.{SizeOfType, SizeOfExpr, Index, Dot, Arrow, Comma, place_of}
+use Rattle.c_syntax.specs.Expressions as expression
 use Rattle.c_syntax.specs.Programs.{StructMember}
-use Rattle.c_model.specs.Checked.{Checked, Good, faulty}
-use Rattle.c_model.specs.ExpressionTyping.{Sight, Entity, AnObject, AnEnumerator, Signature, typed, type_in}
+use Rattle.c_model.specs.Checked.{Checked, Good, faulty, one_part}
+use Rattle.c_model.specs.ExpressionTyping.{Sight, Entity, AnObject, AnEnumerator, Signature, typed}
 use Rattle.worked_rows.proofs.WorkedTrees.{arguments_of}
 
 abbrev pub at : ℕ → Place
@@ -303,7 +304,7 @@ converted t e = Node (place_of e) t (Cast t e)
 -- ---- what typing makes of an expression: its type, or its faults
 
 abbrev pub type_of : Expression → Checked PlainType
-type_of e = type_in (typed sight e)
+type_of e = one_part (typed sight e) (λ (x : Expression). Good (expression.type_of x))
 
 -- of `A op B` with each of these operators, in the order of the text at 0, 2 and 4
 abbrev pub each : List BinOp → (ℕ → Expression) → (ℕ → Expression) → List (Checked PlainType)

@@ -3,7 +3,7 @@
 use Rattle.std.proofs.Common.{◌≡◌, ℕ, zero, suc, true, false, List, [], ◌∷◌, ◌++◌, map, Option, Some, None, codes, refl}
 use Rattle.c_syntax.specs.declared.annotation.Relation.TheVariants as relation
 use Rattle.c_syntax.specs.declared.expression.BinOp.TheVariants.{Eq}
-use Rattle.c_syntax.specs.Ctypes.{PlainType, Ptr, Array, Struct, StructTag, Count}
+use Rattle.c_syntax.specs.Ctypes.{PlainType, Void, Ptr, Array, Struct, StructTag, Written, Count}
 use Rattle.c_syntax.specs.Formulas as formula
 use Rattle.c_syntax.specs.Formulas.{Form, OfC}
 use Rattle.c_syntax.specs.Logic.{Raw}
@@ -233,6 +233,56 @@ an_array_of_the_one_inside = refl
 -- (T)8, where T is a pointer of 101 levels: of both faults the one of least code
 a_cast_in_an_annotation : refusing (noted_unit (asserting [] (formula.Cast (at 72) (OfC (stars 101 int)) (literal_form (at 79) 8)))) ≡ Some (record { code = 6; place = at 72 })
 a_cast_in_an_annotation = refl
+
+-- ---- a type with a fault: its limits and the sizes of its elements are told all the same
+
+-- an array whose length has no declaration, at 110
+abbrev unknown_length : PlainType → PlainType
+unknown_length t = Array t (Written (unknown 110))
+
+abbrev refused_as : ℕ → ℕ → Option Fault
+refused_as code o = Some (record { code = code; place = at o })
+
+-- int <101 *>new[x];  int <99 *>new[x];  int new[x][2147483647];  int new[x][536870911];
+levels_and_bytes_that_are_known : map declaring (unknown_length (stars 101 int) ∷ unknown_length (stars 99 int) ∷ unknown_length (Array int (Count 2147483647)) ∷ unknown_length (Array int (Count 536870911)) ∷ [])
+    ≡ too_large 0 ∷ refused_as 5 110 ∷ too_large 0 ∷ refused_as 5 110 ∷ []
+unfolding library_constant is_library_name
+levels_and_bytes_that_are_known = refl
+
+-- int new[2147483647][x];  int new[536870911][x]: no length is less than 1
+the_least_length : map declaring (Array (unknown_length int) (Count 2147483647) ∷ Array (unknown_length int) (Count 536870911) ∷ []) ≡ too_large 0 ∷ refused_as 5 110 ∷ []
+unfolding library_constant is_library_name
+the_least_length = refl
+
+-- struct u new[x];  void new[x];  void new[i];
+elements_without_a_size : map declaring (unknown_length struct_u ∷ unknown_length Void ∷ Array Void (Written (i 110)) ∷ []) ≡ refused_as 5 0 ∷ refused_as 6 0 ∷ refused_as 6 0 ∷ []
+unfolding library_constant is_library_name
+elements_without_a_size = refl
+
+-- typedef int <101 *>new[x];  a parameter int <100 *>new[x], which is a pointer of 101 levels; void new[x]
+a_name_of_a_type_with_a_fault : refusing (typed_typedef sight (declared_as (unknown_length (stars 101 int)))) ≡ too_large 0
+unfolding library_constant is_library_name
+a_name_of_a_type_with_a_fault = refl
+
+parameters_with_a_fault : map (λ (t : PlainType). refusing (typed_parameter sight false (declared_as t))) (unknown_length (stars 100 int) ∷ unknown_length (stars 99 int) ∷ unknown_length Void ∷ [])
+    ≡ too_large 0 ∷ refused_as 5 110 ∷ refused_as 6 0 ∷ []
+unfolding library_constant is_library_name
+parameters_with_a_fault = refl
+
+-- (T)0 and sizeof(T)
+a_cast_with_a_fault : map (λ (t : PlainType). refusing (typed sight (cast 0 t (in_sight.zero 120)))) (Ptr (unknown_length (stars 99 int)) ∷ Ptr (unknown_length (stars 98 int)) ∷ []) ≡ too_large 0 ∷ refused_as 5 110 ∷ []
+unfolding library_constant
+a_cast_with_a_fault = refl
+
+a_size_with_a_fault : map (λ (t : PlainType). refusing (typed sight (size_of_type 0 t))) (unknown_length (stars 101 int) ∷ unknown_length Void ∷ unknown_length int ∷ []) ≡ too_large 0 ∷ refused_as 6 0 ∷ refused_as 5 110 ∷ []
+unfolding library_constant
+a_size_with_a_fault = refl
+
+-- in an annotation the name isn't there either
+an_asserted_size_with_a_fault : map (asserted_size (inner 99 ∷ [])) (Array (StructTag 0 (at 79)) (Written (name 2 110)) ∷ Array Void (Written (name 2 110)) ∷ Array int (Written (name 2 110)) ∷ [])
+    ≡ too_large 72 ∷ refused_as 6 72 ∷ refused_as 5 110 ∷ []
+unfolding library_constant
+an_asserted_size_with_a_fault = refl
 
 -- ---- the room of globals and literals, each up to the next multiple of 16 above its bytes, in the order of the text
 

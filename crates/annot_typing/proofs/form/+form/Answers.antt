@@ -1,15 +1,16 @@
-use Rattle.std.proofs.Common.{◌≡◌, sym, ap, ◌∙◌, subst, Ok, Err, Bool}
-use Rattle.c_syntax.specs.Formulas.{plain_form, plain_form_links}
+use Rattle.std.proofs.Common.{◌≡◌, rules, sym, ap, ◌∙◌, subst, Ok, Err, Bool}
+use Rattle.c_syntax.specs.Formulas.{Cast, OfC, plain_form, plain_form_links}
 use Rattle.c_syntax.specs.Ctypes.{plain_type}
 use Rattle.c_syntax.specs.Logic.{plain_links}
 use Rattle.c_model.specs.Checked.{one_part, pair_of}
-use Rattle.c_model.specs.ExpressionTyping.{typed_type}
+use Rattle.c_model.specs.ExpressionTyping.{known_type, typed_type}
 use Rattle.c_model.specs.PredicateTyping as typing
 use Rattle.c_model.specs.PredicateTyping.{cast, typed_form, typed_links}
 use Rattle.c_expression_rules.specs.Answers.{Answers}
 use Rattle.c_expression_rules.specs.Sights.{plain_sight}
 use Rattle.annot_typing.specs.Joined.{joined}
 use Rattle.annot_typing.specs.Relations.{right_side, plain_chain, plain_link}
+use Rattle.annot_typing.specs.Sorts.{plain_sorted}
 use Rattle.annot_typing.proofs.Casts.{cast_refused, cast_answers}
 use Rattle.annot_typing.proofs.Relations.{chain_answers, link_answers}
 use Rattle.annot_typing.proofs.form.+form.Goals as goal
@@ -17,20 +18,24 @@ use Rattle.annot_typing.proofs.form.+form.Goals as goal
 pub type_cast-returns-in-Err : goal.type_cast-returns-in-Err
 type_cast-returns-in-Err t c =
     let s = plain_sight c.args.sight.now in
-    let w = c.written_type-written.result in
-    let o = c.type_form-operand.result in
-    let j : joined w o ≡ Err c.in-Err.f = sym c.joined.ensures ∙ c.in-Err.is in
-    cast_refused s c.args.place (typed_type s c.args.place (plain_type c.args.to.now)) (typed_form s (plain_form c.args.a.now)) (λ p. cast c.args.place p.0 p.1) o c.limits_of-limits.result w c.in-Err.f c.both.result
-    c.written_type-written.ensures c.type_form-operand.ensures c.limits_of-limits.ensures j c.both.ensures.is
+    let to = plain_type c.in_ok-u.u in
+    let copied : to ≡ plain_type c.args.to.now = search rules in
+    let j : joined c.type_written-written.result c.type_form-operand.result ≡ Err c.in-Err.f = sym c.joined.ensures ∙ c.in-Err.is in
+    let whole = cast_refused s c.args.place (known_type s to) (plain_type c.type_written-written.new.t) (typed_type s c.args.place to) (typed_form s (plain_form c.args.a.now)) (λ p. cast c.args.place p.0 p.1)
+    c.type_written-written.result c.type_form-operand.result c.within_limits-limits.result c.type_written-written.ensures.typed c.type_form-operand.ensures c.type_written-written.ensures.known
+    c.within_limits-limits.ensures.checked c.in-Err.f c.both.result j c.both.ensures.is in
+    subst (λ t. Answers plain_sorted (typed_form s (Cast c.args.place (OfC t) (plain_form c.args.a.now))) c.both.result) copied whole
 
 pub type_cast-returns-in-Ok : goal.type_cast-returns-in-Ok
 type_cast-returns-in-Ok t c =
     let s = plain_sight c.args.sight.now in
-    let w = c.written_type-written.result in
-    let o = c.type_form-operand.result in
-    let j : joined w o ≡ Ok (c.in-Ok.to, c.in-Ok.a) = sym c.joined.ensures ∙ c.in-Ok.is in
-    cast_answers s c.args.place (typed_type s c.args.place (plain_type c.args.to.now)) (typed_form s (plain_form c.args.a.now)) (λ p. cast c.args.place p.0 p.1) o c.limits_of-limits.result w c.in-Ok.to c.in-Ok.a
-    c.cast.result c.both-in-Ok.result c.written_type-written.ensures c.type_form-operand.ensures c.limits_of-limits.ensures j c.cast.ensures c.both-in-Ok.ensures.is
+    let to = plain_type c.in_ok-u.u in
+    let copied : to ≡ plain_type c.args.to.now = search rules in
+    let j : joined c.type_written-written.result c.type_form-operand.result ≡ Ok (tt, c.in-Ok.a) = sym c.joined.ensures ∙ c.in-Ok.is in
+    let whole = cast_answers s c.args.place (known_type s to) (plain_type c.type_written-written.new.t) (typed_type s c.args.place to) (typed_form s (plain_form c.args.a.now)) (λ p. cast c.args.place p.0 p.1)
+    c.type_written-written.result c.type_form-operand.result c.within_limits-limits.result c.type_written-written.ensures.typed c.type_form-operand.ensures c.type_written-written.ensures.known
+    c.within_limits-limits.ensures.checked c.in-Ok.a c.cast.result c.both-in-Ok.result j c.cast.ensures c.both-in-Ok.ensures.is in
+    subst (λ t. Answers plain_sorted (typed_form s (Cast c.args.place (OfC t) (plain_form c.args.a.now))) c.both-in-Ok.result) copied whole
 
 pub type_chain-returns : goal.type_chain-returns
 type_chain-returns t c =

@@ -1,12 +1,14 @@
-use Rattle.std.proofs.Common.{◌≡◌, ◌∙◌, refl, sym, subst, ap, rules, arith, slice_get, Some}
+use Rattle.std.proofs.Common.{◌≡◌, ◌∙◌, refl, sym, subst, ap, rules, arith, slice_get, Some, Err}
 use Rattle.c_syntax.specs.Ctypes.{plain_type}
 use Rattle.c_syntax.specs.Programs.{plain_layout, plain_member}
 use Rattle.c_model.specs.Checked.{Good}
 use Rattle.c_model.specs.ExpressionTyping.{HasSize, Sight, sized}
+use Rattle.c_expression_rules.specs.Answers.{Answers}
 use Rattle.c_expression_rules.specs.Sights.{plain_sight}
+use Rattle.c_declaration_rules.specs.declared.layout.Grown.{Grown}
 use Rattle.c_declaration_rules.specs.Members.{GrowsTo, checked_member, with_grown}
 use Rattle.c_declaration_rules.specs.OpenStructs.{IsOpenAt}
-use Rattle.c_declaration_rules.proofs.Members.{at_place, member_made}
+use Rattle.c_declaration_rules.proofs.Members.{at_place, member_made, member_refused}
 use Rattle.c_declaration_rules.proofs.OpenStructs.{open_more}
 use Rattle.c_declaration_rules.proofs.member.type_next_member.Goals as goal
 
@@ -51,3 +53,16 @@ returns-clause-begun c = λ goes.
     let new = c.in_ok-see_member.ensures struct there ∙ ap (with_grown s c.args.k struct m' g) goes in
     subst (λ (z : Sight). IsOpenAt z.structs c.args.k c.insert.new.self) (sym new)
     (open_more s.structs c.args.k struct m' g c.args.names.now c.insert.new.self c.type_new_member.new.m.name there before.0 before.1 size grows c.in_ok-insert.ensures.updates.0 refl)
+
+pub returns-in_err-grown-clause-typed : goal.returns-in_err-grown-clause-typed
+returns-in_err-grown-clause-typed c =
+    let s = plain_sight c.args.sight.now in
+    let l = c.index.result.now in
+    let struct = plain_layout l in
+    let m = plain_member c.args.m.now in
+    let t = plain_type c.type_new_member.new.m.ctype in
+    let e : c.from_residual.result ≡ Err c.in_err-grown.field-0.0 = search rules in
+    let there : slice_get s.structs c.args.k ≡ Some struct = at_place c.args.sight.now.structs.items c.args.k l (search (rules, arith)) (search rules) in
+    let bad : Answers (λ (w : Grown). t) (checked_member s struct m) (Err c.in_err-grown.field-0.0) = search rules in
+    let whole = member_refused s c.args.k struct m c.args.ends there {T = Unit {0}} (λ (w : Grown). t) (λ u. s) c.in_err-grown.field-0.0 bad in
+    search (rules, e, whole)

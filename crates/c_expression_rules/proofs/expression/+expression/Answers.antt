@@ -1,19 +1,20 @@
 use Rattle.std.proofs.Common.{◌≡◌, ◌+◌, ◌∙◌, ap, take, rules, true, Err, sym, arith, ◌<◌, map, length, slice_set}
-use Rattle.c_syntax.specs.Ctypes.{plain_length, plain_type}
-use Rattle.c_syntax.specs.Expressions.{Call, Cast, Node, SizeOfExpr, SizeOfType, plain_expr, plain_exprs, plain_kind}
+use Rattle.c_syntax.specs.Ctypes.{Array, plain_length, plain_type}
+use Rattle.c_syntax.specs.Expressions.{Expression, Call, Cast, Node, SizeOfExpr, SizeOfType, place_of, plain_expr, plain_exprs, plain_kind, type_of}
 use Rattle.c_syntax.specs.declared.types.CType.{CType}
 use Rattle.c_model.specs.Checked.{Good}
-use Rattle.c_model.specs.ExpressionTyping.{cast, decayed, decayed_of, size_of_expression, size_of_type, typed, typed_type}
+use Rattle.c_model.specs.ExpressionTyping.{argument_for, cast, constant, counted, decayed, decayed_of, first_type, known_type, limited, size_of_expression, typed, typed_length, typed_type}
 use Rattle.c_expression_rules.specs.Answers.{Answers}
 use Rattle.c_expression_rules.specs.Constants.{has_small_sizes}
-use Rattle.c_expression_rules.specs.Forms.{typed_call, typed_kind, typed_two}
+use Rattle.c_expression_rules.specs.Forms.{cast_parts, size_of_parts, typed_call, typed_elements, typed_kind, typed_two}
 use Rattle.c_expression_rules.specs.Sights.{plain_sight}
-use Rattle.c_expression_rules.proofs.Besides.{asked_answers, cast_answers, cast_refused, operand_refused, written_answers}
-use Rattle.c_expression_rules.proofs.Expressions.{array_refused, call_form, call_refused, arguments_step, form_is, params_step}
+use Rattle.c_expression_rules.proofs.Besides.{asked_answers, limited_told, sized_type}
+use Rattle.c_expression_rules.proofs.Expressions.{call_form, call_refused, arguments_step, form_is, params_step}
 use Rattle.c_expression_rules.proofs.InPlace.{done, seen, unvisited_step, within_step}
-use Rattle.c_expression_rules.proofs.Least.{both_answers}
+use Rattle.c_expression_rules.proofs.Least.{both_answers, both_made, both_refused, one_refused}
 use Rattle.c_expression_rules.proofs.Small.{small_decayed}
 use Rattle.c_expression_rules.proofs.SmallForms.{small_typed}
+use Rattle.c_expression_rules.proofs.Told.{array_known}
 use Rattle.c_expression_rules.proofs.expression.+expression.Goals as goal
 
 pub type_call_parts-returns-in_err-both : goal.type_call_parts-returns-in_err-both
@@ -41,35 +42,82 @@ type_arguments-loop-i-preserved t c =
           (done cur i y lt) c.loop-i.invariant.done (rw c.loop-i.invariant.rest at c.type_argument-e.ensures));
     }
 
-pub type_array-returns-in_err-both : goal.type_array-returns-in_err-both
-type_array-returns-in_err-both t c =
+pub type_array-returns-clause-typed : goal.type_array-returns-clause-typed
+type_array-returns-clause-typed t c =
+    let s = plain_sight c.args.sight.now in
+    both_made (λ u m. Array u m) (λ (w : Unit {0}). plain_type c.type_elements-elements.new.u) (λ w. plain_length c.type_length-length.new.n) (typed_elements s c.args.place (plain_type c.args.u.now))
+    (typed_length s c.args.place (plain_length c.args.n.now)) c.type_elements-elements.result c.type_length-length.result c.both.result c.type_elements-elements.ensures.typed c.type_length-length.ensures.typed
+    (sym c.both.ensures.is)
+
+pub type_array-returns-clause-known : goal.type_array-returns-clause-known
+type_array-returns-clause-known t c =
+    array_known (plain_sight c.args.sight.now) (plain_type c.args.u.now) (plain_type c.type_elements-elements.new.u) (plain_length c.args.n.now) (plain_length c.type_length-length.new.n)
+    c.type_elements-elements.result c.type_length-length.result c.both.result c.type_elements-elements.ensures.known c.type_length-length.ensures.known c.both.ensures.is
+
+pub type_argument-returns-in_err-type_value : goal.type_argument-returns-in_err-type_value
+type_argument-returns-in_err-type_value t c =
+    let s = plain_sight c.args.sight.now in
+    let e : c.from_residual.result ≡ Err c.in_err-type_value.field-0.0 = search rules in
+    let x = plain_expr c.type_value.new.e in
+    rw e (one_refused (argument_for s (first_type (map plain_type c.args.params.now))) (λ (u : Unit {0}). x) (λ (u : Unit {0}). x) (decayed_of (typed s (plain_expr c.args.e.now)))
+    c.in_err-type_value.field-0.0 c.in_err-type_value.ensures.typed)
+
+pub type_value-returns-in_err-type_expr-clause-typed : goal.type_value-returns-in_err-type_expr-clause-typed
+type_value-returns-in_err-type_expr-clause-typed t c =
+    let s = plain_sight c.args.sight.now in
+    let e : c.from_residual.result ≡ Err c.in_err-type_expr.field-0.0 = search rules in
+    let x = plain_expr c.type_expr.new.e in
+    rw e (one_refused (λ (e : Expression). Good (decayed e)) (λ (u : Unit {0}). x) (λ (u : Unit {0}). x) (typed s (plain_expr c.args.e.now)) c.in_err-type_expr.field-0.0 c.in_err-type_expr.ensures.typed)
+
+pub type_count-returns-in_err-type_expr : goal.type_count-returns-in_err-type_expr
+type_count-returns-in_err-type_expr t c =
+    let s = plain_sight c.args.sight.now in
+    let e : c.from_residual.result ≡ Err c.in_err-type_expr.field-0.0 = search rules in
+    let old = plain_expr c.args.e.now in
+    rw e (one_refused (λ x. counted (place_of old) (constant s x)) (λ (u : Unit {0}). plain_expr c.type_expr.new.e) plain_length (typed s old) c.in_err-type_expr.field-0.0 c.in_err-type_expr.ensures.typed)
+
+pub type_size_of_expr-returns-in_err-type_expr : goal.type_size_of_expr-returns-in_err-type_expr
+type_size_of_expr-returns-in_err-type_expr t c =
+    let s = plain_sight c.args.sight.now in
+    let e : c.from_residual.result ≡ Err c.in_err-type_expr.field-0.0 = search rules in
+    let a = plain_expr c.type_expr.new.e in
+    rw e (one_refused (λ x. limited s c.args.place (type_of x) (size_of_expression s c.args.place x)) (λ (u : Unit {0}). a) (λ (t : CType). Node c.args.place (plain_type t) (SizeOfExpr a))
+    (typed s (plain_expr c.args.a.now)) c.in_err-type_expr.field-0.0 c.in_err-type_expr.ensures.typed)
+
+pub type_cast_parts-returns-in_err-both-clause-typed : goal.type_cast_parts-returns-in_err-both-clause-typed
+type_cast_parts-returns-in_err-both-clause-typed t c =
+    let s = plain_sight c.args.sight.now in
     let e : c.from_residual.result ≡ Err c.in_err-both.field-0.0 = search rules in
-    rw e (array_refused (plain_sight c.args.sight.now) c.args.place (plain_type c.args.u.now) (plain_type c.type_written-first.new.t) (plain_length c.args.n.now) (plain_length c.type_length-second.new.n)
-    c.type_written-first.result c.type_length-second.result c.type_written-first.ensures c.type_length-second.ensures c.in_err-both.field-0.0 (sym c.in_err-both.ensures.is))
-
-pub type_cast-returns-in-Err : goal.type_cast-returns-in-Err
-type_cast-returns-in-Err t c =
-    let s = plain_sight c.args.sight.now in
     let to = plain_type c.type_written-written.new.t in
     let a = plain_expr c.type_value-operand.new.e in
-    cast_refused (λ (t : CType). Node c.args.place (plain_type t) (Cast to a)) s c.args.place (λ u. to) (λ u. a) (typed_type s c.args.place (plain_type c.args.to.now)) (decayed_of (typed s (plain_expr c.args.a.now)))
-    (cast s c.args.place) c.in-Err.f c.type_value-operand.result c.both.result c.in-Err.ensures c.type_value-operand.ensures.typed c.both.ensures.is
+    rw e (both_refused (cast s c.args.place) (λ (u : Unit {0}). to) (λ u. a) (λ (t : CType). Node c.args.place (plain_type t) (Cast to a)) (typed_type s c.args.place (plain_type c.args.to.now))
+    (decayed_of (typed s (plain_expr c.args.a.now))) c.type_written-written.result c.type_value-operand.result c.in_err-both.field-0.0 c.type_written-written.ensures.typed c.type_value-operand.ensures.typed
+    (sym c.in_err-both.ensures.is))
 
-pub type_cast-returns-in-Err-operand : goal.type_cast-returns-in-Err-operand
-type_cast-returns-in-Err-operand t c =
+pub type_cast-returns : goal.type_cast-returns
+type_cast-returns t c =
     let s = plain_sight c.args.sight.now in
-    let to = plain_type c.type_written-written.new.t in
-    let a = plain_expr c.type_value-operand.new.e in
-    operand_refused (λ (t : CType). Node c.args.place (plain_type t) (Cast to a)) s c.args.place (λ u. to) (λ u. a) (typed_type s c.args.place (plain_type c.args.to.now)) (decayed_of (typed s (plain_expr c.args.a.now)))
-    (cast s c.args.place) to c.in-Err-operand.f c.within_limits-limit.result c.both-in-Err-operand.result c.in-Ok.ensures c.in-Err-operand.ensures.typed c.within_limits-limit.ensures.checked c.both-in-Err-operand.ensures.is
+    let to = plain_type c.type_cast_parts-parts.new.to in
+    let a = plain_expr c.type_cast_parts-parts.new.a in
+    limited_told (λ (t : CType). Node c.args.place (plain_type t) (Cast to a)) s c.args.place (known_type s (plain_type c.args.to.now)) to
+    (cast_parts s c.args.place (plain_type c.args.to.now) (plain_expr c.args.a.now)) c.type_cast_parts-parts.result c.both.result c.within_limits.result c.type_cast_parts-parts.ensures.typed
+    c.type_cast_parts-parts.ensures.known c.within_limits.ensures.checked c.both.ensures.is
 
-pub type_cast-returns-in-Ok-operand : goal.type_cast-returns-in-Ok-operand
-type_cast-returns-in-Ok-operand t c =
+pub type_size_of_expr-returns : goal.type_size_of_expr-returns
+type_size_of_expr-returns t c =
     let s = plain_sight c.args.sight.now in
-    let to = plain_type c.type_written-written.new.t in
-    let a = plain_expr c.type_value-operand.new.e in
-    cast_answers (λ (t : CType). Node c.args.place (plain_type t) (Cast to a)) s c.args.place (λ u. to) (λ u. a) (typed_type s c.args.place (plain_type c.args.to.now)) (decayed_of (typed s (plain_expr c.args.a.now)))
-    (cast s c.args.place) to a c.cast.result c.both-in-Ok-operand.result c.within_limits-limit.result c.in-Ok.ensures c.in-Ok-operand.ensures.typed c.cast.ensures c.within_limits-limit.ensures.checked c.both-in-Ok-operand.ensures.is
+    let a = plain_expr c.type_expr.new.e in
+    let is : typed s (plain_expr c.args.a.now) ≡ Good a = search rules in
+    asked_answers (λ (t : CType). Node c.args.place (plain_type t) (SizeOfExpr a)) s c.args.place (typed s (plain_expr c.args.a.now)) (size_of_expression s c.args.place) a
+    c.size_of_expression.result c.both.result c.within_limits.result is c.size_of_expression.ensures c.within_limits.ensures.checked c.both.ensures.is
+
+pub type_size_of_type-returns : goal.type_size_of_type-returns
+type_size_of_type-returns t c =
+    let s = plain_sight c.args.sight.now in
+    let u = plain_type c.type_sized_type-parts.new.u in
+    limited_told (λ (t : CType). Node c.args.place (plain_type t) (SizeOfType u)) s c.args.place (known_type s (plain_type c.args.u.now)) u
+    (size_of_parts s c.args.place (plain_type c.args.u.now)) c.type_sized_type-parts.result c.both.result c.within_limits.result c.type_sized_type-parts.ensures.typed
+    c.type_sized_type-parts.ensures.known c.within_limits.ensures.checked c.both.ensures.is
 
 pub type_expr-returns-clause-typed : goal.type_expr-returns-clause-typed
 type_expr-returns-clause-typed t c =
@@ -101,22 +149,6 @@ type_place_and_value-returns-clause-typed t c =
     let s = plain_sight c.args.sight.now in
     both_answers (λ (u : Unit {0}). plain_expr c.type_expr-first.new.e) (λ u. plain_expr c.type_value-second.new.e) (typed s (plain_expr c.args.a.now)) (decayed_of (typed s (plain_expr c.args.b.now)))
     c.type_expr-first.result c.type_value-second.result c.both.result c.type_expr-first.ensures.typed c.type_value-second.ensures.typed (sym c.both.ensures.is)
-
-pub type_size_of_expr-returns : goal.type_size_of_expr-returns
-type_size_of_expr-returns t c =
-    let s = plain_sight c.args.sight.now in
-    let a = plain_expr c.type_expr.new.e in
-    let is : typed s (plain_expr c.args.a.now) ≡ Good a = search rules in
-    asked_answers (λ (t : CType). Node c.args.place (plain_type t) (SizeOfExpr a)) s c.args.place (typed s (plain_expr c.args.a.now)) (size_of_expression s c.args.place) a
-    c.size_of_expression.result c.both.result c.within_limits.result is c.size_of_expression.ensures c.within_limits.ensures.checked c.both.ensures.is
-
-pub type_size_of_type-returns : goal.type_size_of_type-returns
-type_size_of_type-returns t c =
-    let s = plain_sight c.args.sight.now in
-    let u = plain_type c.type_written.new.t in
-    let is : typed_type s c.args.place (plain_type c.args.u.now) ≡ Good u = search rules in
-    written_answers (λ (t : CType). Node c.args.place (plain_type t) (SizeOfType u)) s c.args.place (typed_type s c.args.place (plain_type c.args.u.now)) (size_of_type s c.args.place) u
-    c.size_of_type.result c.both.result c.within_limits.result is c.size_of_type.ensures c.within_limits.ensures.checked c.both.ensures.is
 
 pub type_three-returns-clause-typed : goal.type_three-returns-clause-typed
 type_three-returns-clause-typed t c =

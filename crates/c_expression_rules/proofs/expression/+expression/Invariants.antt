@@ -48,10 +48,16 @@ abbrev pub decreases-type_three : goal.decreases-type_three
 decreases-type_three l = 8 * max (size-Expr l.a.now) (max (size-Expr l.b.now) (size-Expr l.c.now)) + 3
 
 abbrev pub decreases-type_cast : goal.decreases-type_cast
-decreases-type_cast l = 8 * max (size-CType l.to.now) (size-Expr l.a.now) + 2
+decreases-type_cast l = 8 * max (size-CType l.to.now) (size-Expr l.a.now) + 3
+
+abbrev pub decreases-type_cast_parts : goal.decreases-type_cast_parts
+decreases-type_cast_parts l = 8 * max (size-CType l.to.now) (size-Expr l.a.now) + 2
 
 abbrev pub decreases-type_size_of_type : goal.decreases-type_size_of_type
-decreases-type_size_of_type l = 8 * size-CType l.u.now + 1
+decreases-type_size_of_type l = 8 * size-CType l.u.now + 2
+
+abbrev pub decreases-type_sized_type : goal.decreases-type_sized_type
+decreases-type_sized_type l = 8 * size-CType l.u.now + 1
 
 abbrev pub decreases-type_size_of_expr : goal.decreases-type_size_of_expr
 decreases-type_size_of_expr l = 8 * size-Expr l.a.now + 1
@@ -73,6 +79,9 @@ decreases-type_written l = 8 * size-CType l.t.now
 
 abbrev pub decreases-type_array : goal.decreases-type_array
 decreases-type_array l = 8 * max (size-CType l.u.now) (size-Length l.n.now) + 2
+
+abbrev pub decreases-type_elements : goal.decreases-type_elements
+decreases-type_elements l = 8 * size-CType l.u.now + 1
 
 abbrev pub decreases-type_length : goal.decreases-type_length
 decreases-type_length l = 8 * size-Length l.n.now

@@ -3,12 +3,12 @@ use Rattle.c_syntax.specs.Ctypes.{PlainType, plain_type}
 use Rattle.c_syntax.specs.Statements.{plain_decl}
 use Rattle.c_syntax.specs.Programs.{Function, plain_func}
 use Rattle.c_model.specs.Meaning.{is_definition}
-use Rattle.c_model.specs.ExpressionTyping.{inner, typed_type}
+use Rattle.c_model.specs.ExpressionTyping.{inner, known_type, typed_type}
 use Rattle.c_model.specs.DeclarationTyping.{typed_result}
 use Rattle.c_model.specs.UnitTyping.{typed_parameters}
 use Rattle.indexmap.specs.IndexMap.{get}
 use Rattle.c_expression_rules.specs.declared.fault.TypeFault.{TypeFault}
-use Rattle.c_expression_rules.specs.Answers.{Answers, both}
+use Rattle.c_expression_rules.specs.Answers.{Answers, IfTold, both}
 use Rattle.c_expression_rules.specs.Sights.{plain_sight}
 use Rattle.c_expression_rules.proofs.Least.{both_made}
 use Rattle.c_typing.specs.Functions.{fitting, fitting_type}
@@ -25,7 +25,8 @@ returns-clause-typed c =
     let u = plain_sight c.type_parameters-params.new.sight in
     let g = record f { result = t; params = ds } in
     let hw : Answers (λ (u : Unit {0}). t) (typed_type s f.place f.result) c.type_written-written.result = search rules in
-    let given = c.result_of-result.ensures f.result hw in
+    let known : IfTold c.type_written-written.result (t ≡ known_type s f.result) = search rules in
+    let given = c.result_of-result.ensures f.result hw known in
     let ha : Answers (λ (u : Unit {0}). t) (typed_result s (is_definition f) f.place f.result) c.result_of-result.result = search (rules, given) in
     let hb : Answers (λ (u : Unit {0}). ds) (typed_parameters (inner s) (is_definition f) f.params) c.type_parameters-params.result = search rules in
     let same : (v : Unit {0}) → c.type_parameters-params.result ≡ Ok v → u ≡ s = λ v e. search (rules, e) in

@@ -1,0 +1,13 @@
+use Rattle.std.proofs.Common.{◌≡◌, ℤ, rules, Some, Err}
+use Rattle.c_syntax.specs.Expressions.{plain_expr}
+use Rattle.c_model.specs.ExpressionTyping.{decayed_of, typed}
+use Rattle.c_expression_rules.specs.Sights.{plain_sight}
+use Rattle.c_expression_rules.proofs.Least.{one_refused}
+use Rattle.c_declaration_rules.proofs.enumerator.type_constant.Goals as goal
+
+pub returns-in_err-type_value : goal.returns-in_err-type_value
+returns-in_err-type_value c =
+    let s = plain_sight c.args.sight.now in
+    let e : c.from_residual.result ≡ Err c.in_err-type_value.field-0.0 = search rules in
+    let x = plain_expr c.type_value.new.e in
+    rw e (one_refused _ (λ (u : Unit {0}). x) (λ (z : ℤ). (z, Some x)) (decayed_of (typed s (plain_expr c.args.e.now))) c.in_err-type_value.field-0.0 c.in_err-type_value.ensures.typed)
