@@ -1,6 +1,6 @@
 -- Ours, in words of the grammar of C99 6.7 to 6.9 that stands in c_model/specs/ProgramGrammar.
 -- What the answers on the tokens of a text mean.
-use Rattle.std.specs.Prelude.{◌≡◌, [], ◌⊎◌}
+use Rattle.std.specs.Prelude.{◌≡◌, ◌⊎◌}
 use Rattle.grammar.specs.Syntax.{Fault}
 use Rattle.c_syntax.specs.Tokens.{PlainTokens}
 use Rattle.c_syntax.specs.RefusalCodes.{misplaced_code}
@@ -29,7 +29,3 @@ pub record IsPlaceRefusal (ts : PlainTokens) (r : PlainRefusal) : Type 0 where
 abbrev pub Refuses : FrontFault → PlainTokens → Type 0
 Refuses front.Memory ts = Unit {0}
 Refuses (front.Refused r) ts = IsGrammarRefusal ts (plain_refusal r) ⊎ IsPlaceRefusal ts (plain_refusal r)
-
--- the tokens without their names, which a program took
-abbrev pub without_names : PlainTokens → PlainTokens
-without_names ts = record ts { names = [] }

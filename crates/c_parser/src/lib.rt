@@ -13,6 +13,7 @@ mod statement;
 
 // Functions and whole texts.
 mod function;
+mod names;
 mod program;
 mod read;
 mod texts;

@@ -6,6 +6,5 @@
 #![tactic(auto)]
 
 mod read;
-mod refusal;
 
 pub use read::{about_texts, read_text};

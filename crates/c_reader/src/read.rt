@@ -2,67 +2,65 @@
 
 ghost use Rattle.std.specs.Prelude.{ℕ, List, ◌≡◌, ◌<◌, length, IfOk, IfErr, MatchResult};
 ghost use Rattle.c_syntax.specs.Programs.{TranslationUnit, PlainRefusal, plain_program};
+ghost use Rattle.c_syntax.specs.Tokens.{plain_tokens};
 ghost use Rattle.c_model.specs.AcceptedPrograms.{IsProgram};
 ghost use Rattle.c_model.specs.Laws.{NeverStuck};
 ghost use Rattle.c_model.specs.ReadTree.{AreBytes};
 ghost use Rattle.c_model.specs.Phases.{AcceptedText, RefusedText};
-ghost use Rattle.c_model.specs.AnnotationRanges.{ranged_unit};
 ghost use Rattle.c_model.specs.UnrangedPrograms.{FunctionsRanged};
-ghost use Rattle.c_expression_rules.specs.Answers.{Answers};
-ghost use Rattle.c_reader.specs.Answers.{Refuses, HasTree, IsTypedAs, OfTokens, HasFault};
+ghost use Rattle.c_reader.specs.Answers.{Refuses, HasTree, IsRangedAs, HasFault};
 
-use crate::refusal::{refuse, refuse_program};
 use c_lexer::tokens;
 use c_parser::read_program;
-use c_syntax::{FrontFault, Program};
-use c_typing::{TypeFault, type_annotations, type_program};
-use interval_infer::program_ranges;
+use c_phases::{Parsed, Ranged};
+use c_syntax::{FrontFault, Program, Tokens};
+use c_typing::{type_annots, type_program};
+use interval_infer::ranges;
 use std::alloc::Global;
 
-/// The tree of a text, or its refusal.
-fn tree_of(alloc: Global, text: &[u8]) -> Result<Program, FrontFault>
+/// The tree of a text of bytes with its tokens.
+fn parsed(text: &[u8], program: Program, tokens: Tokens) -> Parsed
+    requires few { length text.now < 4294967295 }
+    requires bytes { AreBytes text.now }
+    requires read { HasTree text.now (plain_tokens tokens) (plain_program program) }
+    ensures program { result.program ≡ program }
+    ensures tokens { result.tokens ≡ tokens }
+{
+    let _text = text;
+    Parsed { program, tokens }
+}
+
+/// The tree of a text with its tokens, or its refusal.
+fn tree_of(alloc: Global, text: &[u8]) -> Result<Parsed, FrontFault>
     requires { length text.now < 4294967295 }
-    ensures read { MatchResult result (λ p. HasTree text.now (plain_program p)) (λ e. Refuses e text.now) }
+    ensures read { MatchResult result (λ t. HasTree text.now (plain_tokens t.tokens) (plain_program t.program)) (λ e. Refuses e text.now) }
     ensures bytes { AreBytes text.now }
 {
-    let mut tokens = match tokens(alloc, text) {
+    let tokens = match tokens(alloc, text) {
         Ok(tokens) => tokens,
         Err(fault) => return Err(fault),
     };
-    read_program(alloc, &mut tokens)
-}
-
-/// A program whose annotations are typed, with the ranges of their terms.
-fn ranged(program: Program) -> Result<Program, TypeFault>
-    ensures { Answers plain_program (ranged_unit (plain_program program)) result }
-{
-    let mut program = program;
-    match program_ranges(&mut program) {
-        Ok(()) => Ok(program),
+    match read_program(alloc, &tokens) {
+        Ok(program) => Ok(parsed(text, program, tokens)),
         Err(fault) => Err(fault),
     }
 }
 
 /// The typed program of the tree of a text, if its names and types have no fault, its globals and literals have room, it has `main`, and
 /// the names, types and ranges of its annotations have no fault.
-fn typed(alloc: Global, text: &[u8], tree: Program) -> Result<Program, FrontFault>
-    requires few { length text.now < 4294967295 }
-    requires bytes { AreBytes text.now }
-    requires read { HasTree text.now (plain_program tree) }
-    ensures { MatchResult result (λ p. IsTypedAs (plain_program tree) (plain_program p)) (λ e. OfTokens text.now (λ ts. HasFault e ts (plain_program tree))) }
+fn ranged(alloc: Global, tree: Parsed) -> Result<Ranged, FrontFault>
+    ensures { MatchResult result (λ r. IsRangedAs (plain_program tree.program) (plain_program r.program))
+        (λ e. HasFault e (plain_tokens tree.tokens) (plain_program tree.program)) }
 {
     let typed = match type_program(alloc, tree) {
         Ok(typed) => typed,
-        Err(fault) => return Err(refuse_program(alloc, text, fault)),
+        Err(fault) => return Err(fault),
     };
-    let noted = match type_annotations(alloc, typed.program) {
-        Ok(program) => program,
-        Err(fault) => return Err(refuse(alloc, text, fault)),
+    let noted = match type_annots(alloc, typed) {
+        Ok(noted) => noted,
+        Err(fault) => return Err(fault),
     };
-    match ranged(noted) {
-        Ok(program) => Ok(program),
-        Err(fault) => Err(refuse(alloc, text, fault)),
-    }
+    ranges(alloc, noted)
 }
 
 /// Reads a C text with annotations: its typed program, or its refusal, with code 1, 2, 3 or 11 for its tokens, 4 or 11 for its
@@ -79,8 +77,8 @@ pub fn read_text(alloc: Global, text: &[u8]) -> Result<Program, FrontFault>
         Ok(tree) => tree,
         Err(fault) => return Err(fault),
     };
-    match typed(alloc, text, tree) {
-        Ok(program) => Ok(program),
+    match ranged(alloc, tree) {
+        Ok(ranged) => Ok(ranged.program),
         Err(fault) => Err(fault),
     }
 }

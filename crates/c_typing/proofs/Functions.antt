@@ -1,25 +1,20 @@
 -- Functions one after another are those that the definition of a file types.
-use Rattle.std.proofs.Common.{◌≡◌, ℕ, refl, sym, ap, ◌∙◌, subst, List, [], ◌∷◌, ◌++◌, map, Option, Some, None, true, cond, nat_eq, ◌||◌, Result, Ok, Err}
+use Rattle.std.proofs.Common.{◌≡◌, ℕ, refl, sym, ap, ◌∙◌, subst, List, [], ◌∷◌, ◌++◌, map, Option, Result, Ok, Err}
 use Rattle.std.proofs.lemmas.List.{map-append}
 use Rattle.c_syntax.specs.Ctypes.{PlainType}
-use Rattle.c_syntax.specs.Statements.{Declaration, Statement, BlockItems, Empty, Eval, Block, If, While, Do, For, Break, Continue, Return, Labelled, Switch}
+use Rattle.c_syntax.specs.Statements.{Declaration}
 use Rattle.c_syntax.specs.Programs.{Function, TranslationUnit}
-use Rattle.c_model.specs.Library.{is_there}
-use Rattle.c_model.specs.Checked.{Checked, Good, Bad, one_part, both_parts, where_so}
+use Rattle.c_model.specs.Checked.{Checked, Good, one_part, both_parts, where_so}
 use Rattle.c_model.specs.Meaning.{is_definition}
-use Rattle.c_model.specs.ExpressionTyping.{no_name, inner, Sight, Signature, function_called, typed_type}
+use Rattle.c_model.specs.ExpressionTyping.{no_name, inner, Sight, function_called, typed_type}
 use Rattle.c_model.specs.DeclarationTyping.{typed_result}
-use Rattle.c_model.specs.StatementTyping.{typed_items}
 use Rattle.c_model.specs.UnitTyping as unit
-use Rattle.c_model.specs.UnitTyping.{signature, is_compatible_with_all, function_name, typed_parameters, typed_body, typed_function, with_parameters}
+use Rattle.c_model.specs.UnitTyping.{signature, is_compatible_with_all, function_name, typed_parameters, typed_function}
 use Rattle.c_expression_rules.specs.declared.fault.TypeFault.{TypeFault}
 use Rattle.c_expression_rules.specs.Answers.{Answers, both}
-use Rattle.c_expression_rules.proofs.Gives.{Gives, gives_of, gives_one}
 use Rattle.c_expression_rules.proofs.Least.{both_refused}
-use Rattle.c_typing.specs.declared.heading.Callee.{Callee}
 use Rattle.c_typing.specs.declared.heading.Noted.{Noted}
-use Rattle.c_typing.specs.Blocks.{around_body}
-use Rattle.c_typing.specs.Functions.{denoted, known, was_defined, is_alike, with_known, fits, fits_in, fitting, fitting_type, with_function, names_behind, typed_parts, function_in_turn}
+use Rattle.c_typing.specs.Functions.{denoted, known, with_known, fits, fits_in, fitting, fitting_type, with_function, names_behind, typed_parts, function_in_turn}
 use Rattle.c_typing.proofs.Headings.{declared_is, known_snoc, fits_is}
 
 -- ---- headings
@@ -58,61 +53,6 @@ module _ (s : Sight) (names : ℕ → Option Noted) (f : Function) (t : PlainTyp
             (typed_parameters (inner s) (is_definition f) f.params) a b h ha hb e)
         by (Ok v) e = both_then (λ t ds. fitting s names (record f { result = t; params = ds })) (λ (u : Unit {0}). t) (λ (u : Unit {0}). ds) (λ (w : Unit {0}). g) (typed_type s f.place f.result)
             (typed_parameters (inner s) (is_definition f) f.params) a b v r ha hb e (subst (λ z. Answers (λ (w : Unit {0}). g) (fitting z names g) r) (same v (second_ok a b v e)) (fits v e))
-
--- ---- a body leaves what is told of its function
-
-body_there : (s : Sight) (t : PlainType) (b : Option Statement) → Gives (λ c. is_there c ≡ is_there b) (typed_body s t b)
-body_there s t None = refl
-body_there s t (Some (Block at items)) = by (typed_items s (around_body t) items)
-  where
-    by : (c : Checked BlockItems) → Gives (λ (b : Option Statement). is_there b ≡ true) (one_part c (λ items. Good (Some (Block at items))))
-    by (Good x) = refl
-    by (Bad g gs) = tt
-body_there s t (Some (Empty at)) = refl
-body_there s t (Some (Eval at e)) = refl
-body_there s t (Some (If at e a b)) = refl
-body_there s t (Some (While at annots e a)) = refl
-body_there s t (Some (Do at a e)) = refl
-body_there s t (Some (For at annots first e step a)) = refl
-body_there s t (Some (Break at)) = refl
-body_there s t (Some (Continue at)) = refl
-body_there s t (Some (Return at e)) = refl
-body_there s t (Some (Labelled at l a)) = refl
-body_there s t (Some (Switch at e cases)) = refl
-
--- with another body
-pub record SameHeading (f g : Function) : Type 0 where
-  pub body : Option Statement
-  pub is : g ≡ record f { body = body }
-  pub there : is_there body ≡ is_there f.body
-
-parts_keep : (s : Sight) (f : Function) → Gives (SameHeading f) (typed_parts s f)
-parts_keep s f =
-    gives_one (λ (b : Option Statement). is_there b ≡ is_there f.body) (SameHeading f) (typed_body (with_parameters (inner s) f.params) f.result f.body) (λ b. Good (record f { body = b }))
-    (body_there (with_parameters (inner s) f.params) f.result f.body) (λ b e. record { body = b; is = refl; there = e })
-
-module _ (s t : Sight) (f g : Function) (typed : typed_parts t f ≡ Good g)
-  where
-    same_heading : SameHeading f g
-    same_heading = gives_of (SameHeading f) (typed_parts t f) g (parts_keep t f) typed
-
-    pub names_kept : (names : ℕ → Option Noted) (x : ℕ) → names_behind s names f x ≡ names_behind s names g x
-    names_kept names x =
-        let h = same_heading in
-        let first = function_called f.name s.functions in
-        ap (λ b. cond (nat_eq f.name x) (Some (record { defined = was_defined (names f.name) || b; alike = is_alike first (names f.name) f })) (names x)) (sym h.there)
-        ∙ alike_by first (names f.name) h.body
-        ∙ ap (λ g. names_behind s names g x) (sym h.is)
-      where
-        alike_by : (first : Option Signature) (n : Option Noted) (b : Option Statement)
-            → cond (nat_eq f.name x) (Some (record { defined = was_defined n || is_there b; alike = is_alike first n f })) (names x)
-            ≡ cond (nat_eq f.name x) (Some (record { defined = was_defined n || is_there b; alike = is_alike first n (record f { body = b }) })) (names x)
-        alike_by None n b = refl
-        alike_by (Some e) None b = refl
-        alike_by (Some e) (Some n) b = refl
-
-    pub sight_kept : (numbers : ℕ → Option Callee) → with_function numbers s f ≡ with_function numbers s g
-    sight_kept numbers = ap (λ g. with_function numbers s g) (sym same_heading.is)
 
 -- ---- a function as the definition of a file has it
 

@@ -30,7 +30,7 @@ inserted_is : (i : FileItem) (js : List FileItem) → ins offset_of_item i js �
 inserted_is i [] = refl
 inserted_is i (j ∷ js) = ap (λ l. cond (nat_lt (offset_of_item j) (offset_of_item i)) (j ∷ l) (i ∷ j ∷ js)) (inserted_is i js)
 
-in_order_is : (is : List FileItem) → by_insertion offset_of_item is ≡ in_order is
+pub in_order_is : (is : List FileItem) → by_insertion offset_of_item is ≡ in_order is
 in_order_is [] = refl
 in_order_is (i ∷ is) = inserted_is i (by_insertion offset_of_item is) ∙ ap (inserted i) (in_order_is is)
 

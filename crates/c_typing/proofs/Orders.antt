@@ -48,15 +48,15 @@ module _ {X : Type 0} (n : X → ℕ)
 
     -- ---- lists that don't fall
 
-    abbrev From : ℕ → List X → Type 0
+    abbrev pub From : ℕ → List X → Type 0
     From k [] = Unit {0}
     From k (y ∷ ys) = (k ≤ n y) × From k ys
 
-    abbrev Up : List X → Type 0
+    abbrev pub Up : List X → Type 0
     Up [] = Unit {0}
     Up (y ∷ ys) = From (n y) ys × Up ys
 
-    from_lower : (k l : ℕ) → k ≤ l → (ys : List X) → From l ys → From k ys
+    pub from_lower : (k l : ℕ) → k ≤ l → (ys : List X) → From l ys → From k ys
     from_lower k l le [] h = tt
     from_lower k l le (y ∷ ys) h = (let e = h.0 in omega (arith, le, e), from_lower k l le ys h.1)
 
@@ -124,6 +124,10 @@ module _ {X : Type 0} (n : X → ℕ)
         let rest : (k : ℕ) → with_number k ys ≡ with_number k zs = λ k. rest_same (nat_eq k (n y)) y (with_number k ys) (with_number k zs) (same k ∙ ap (λ w. in_front (nat_eq k (n w)) w (with_number k zs)) (sym first)) in
         let tails = known_by_numbers ys zs a.1 b.1 rest in
         (λ i. first i ∷ tails i)
+
+    -- what doesn't fall stays as it is
+    pub up_stays : (xs : List X) → Up xs → by_insertion xs ≡ xs
+    up_stays xs h = known_by_numbers (by_insertion xs) xs (insertion_up xs) h (λ k. insertion_keeps k xs)
 
     -- a number that no element of ys has
     number_of : (xs ys : List X) → ((x : X) → with_number (n x) ys ≡ with_number (n x) xs) → (k : ℕ) → with_number k ys ≡ with_number k xs

@@ -5,5 +5,5 @@ pub mod Functions
 pub mod KnownStructs
 pub mod NotedFiles
 pub mod Rooms
+pub mod Standing
 pub mod Trees
-pub mod TypedPrograms

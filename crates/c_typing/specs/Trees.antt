@@ -1,16 +1,11 @@
 -- Ours: plain forms of parts of the trees of C99 6.8.
 -- Parts of trees, without boxes and vectors.
-use Rattle.std.specs.Prelude.{Option, Some, None, option_map}
-use Rattle.c_syntax.specs.declared.place.Place.{Place}
-use Rattle.c_syntax.specs.declared.statement.Init.{Init}
+use Rattle.std.specs.Prelude.{Option, Some, None}
 use Rattle.c_syntax.specs.declared.statement.Item.{Item}
 use Rattle.c_syntax.specs.Ctypes.{plain_type}
-use Rattle.c_syntax.specs.Statements.{Initialiser, ForFirst, NoFirst, First, plain_init, plain_item}
+use Rattle.c_syntax.specs.Statements.{ForFirst, NoFirst, First, plain_item}
 use Rattle.c_model.specs.StatementTyping as plain
 use Rattle.c_typing.specs.declared.statement.Around.{Around}
-
-abbrev pub plain_initialiser : Option (Place × Init) → Option (Place × Initialiser)
-plain_initialiser init = option_map (λ i. (i.0, plain_init i.1)) init
 
 abbrev pub plain_for_first : Option Item → ForFirst
 plain_for_first None = NoFirst

@@ -23,7 +23,6 @@ pub mod known;
 pub mod noted;
 pub mod noted_file;
 
-pub use c_expression_rules::{Fault, TypeFault};
-pub use checked::{ProgramFault, Typed};
-pub use noted_file::type_annotations;
+pub use checked::Typed;
+pub use noted_file::type_annots;
 pub use program::type_program;

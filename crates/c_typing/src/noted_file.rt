@@ -1,21 +1,25 @@
 //! Names and types of the annotations of a text (ACSL 2.2), whose C has no fault.
 
-ghost use Rattle.std.specs.Prelude.{◌≡◌, ◌+ℤ◌, IfOk, OnOk, map, nat_eq, option_map, pos, true};
+ghost use Rattle.std.specs.Prelude.{◌≡◌, ◌+ℤ◌, IfOk, MatchResult, OnOk, map, nat_eq, option_map, pos, true};
 ghost use Rattle.indexmap.specs.IndexMap.{get};
 ghost use Rattle.c_syntax.specs.declared.types.CInt.TheVariants.{I32};
 ghost use Rattle.c_syntax.specs.Expressions.{plain_expr};
 ghost use Rattle.c_syntax.specs.Programs.{plain_enum, plain_enumerator, plain_func, plain_program};
+ghost use Rattle.c_syntax.specs.Tokens.{plain_tokens};
+ghost use Rattle.c_model.specs.Checked.{Good};
 ghost use Rattle.c_model.specs.Integers.{fits};
 ghost use Rattle.c_model.specs.DeclarationTyping.{with_enumerator};
 ghost use Rattle.c_model.specs.UnitTyping.{behind_enum, value_typed, with_enumerators};
 ghost use Rattle.c_model.specs.AnnotationTyping.{noted_function, noted_unit};
 ghost use Rattle.c_expression_rules.specs.Answers.{Answers};
 ghost use Rattle.c_expression_rules.specs.Sights.{plain_sight};
+ghost use Rattle.c_phases.specs.Answers.{IsFaultRefusal, RefusedBy};
 ghost use Rattle.c_typing.specs.Files.{plain_file_item};
 ghost use Rattle.c_typing.specs.Functions.{with_function};
 ghost use Rattle.c_typing.specs.NotedFiles.{IsOrdered, IsSmallValue, ItemKnown, ValuesKnown, all_behind, behind_in_turn, known_in_turn};
 ghost use Rattle.c_typing.specs.NotedFiles.{note_in_turn, notes_in_turn};
 
+use crate::checked::Typed;
 use crate::file::{finish, first_course, tags_of};
 use crate::heading::{Callee, denoted, see_function};
 use crate::item::{FileItem, add_tag, see_type};
@@ -25,7 +29,8 @@ use c_expression_rules::constant::constant;
 use c_expression_rules::entity::{Entity, Enumerator as Constant};
 use c_expression_rules::fault::TypeFault;
 use c_expression_rules::sight::{Sight, with_object};
-use c_syntax::{EnumDef, Enumerator, Expr, Func, Program};
+use c_phases::{Noted, refuse};
+use c_syntax::{EnumDef, Enumerator, Expr, FrontFault, Func, Program};
 use indexmap::IndexMap;
 use std::alloc::{AllocError, Global};
 
@@ -170,14 +175,20 @@ fn note_unit(alloc: Global, program: &mut Program) -> Result<(), TypeFault>
     finish(program, course, items, noted)
 }
 
-/// Types the annotations of a text whose C has no fault.
-pub fn type_annotations(alloc: Global, program: Program) -> Result<Program, TypeFault>
-    requires { IsOrdered (plain_program program) }
-    ensures { Answers plain_program (noted_unit (plain_program program)) result }
+/// The program of a text whose C is typed, with its annotations typed; or the refusal, with code 5 for a name, and 6 or 11 for a type.
+pub fn type_annots(alloc: Global, typed: Typed) -> Result<Noted, FrontFault>
+    ensures noted { MatchResult result (λ n. noted_unit (plain_program typed.program) ≡ Good (plain_program n.program))
+        (λ e. RefusedBy (IsFaultRefusal (plain_tokens typed.tokens) (noted_unit (plain_program typed.program))) e) }
+    ensures tokens { IfOk result (λ n. n.tokens ≡ typed.tokens) }
 {
+    let Typed {
+        program,
+        tokens,
+        ..
+    } = typed;
     let mut program = program;
     match note_unit(alloc, &mut program) {
-        Ok(()) => Ok(program),
-        Err(fault) => Err(fault),
+        Ok(()) => Ok(Noted { program, tokens }),
+        Err(fault) => Err(refuse(alloc, &tokens, fault)),
     }
 }

@@ -13,7 +13,7 @@ use c_expression_rules::signature::Functions;
 use c_syntax::fault::ReadFault;
 use c_syntax::logic::{Annot, Body, Pred, PredKind};
 use c_syntax::{BinOp, FrontFault, Name, Range, Tokens, code};
-use interval_infer::ranges;
+use interval_infer::clause_ranges;
 use mon_syntax::MonType;
 use std::process::Abort;
 use term_guards::guard;
@@ -172,7 +172,7 @@ fn first_range(rt: &impl Abort, all: &[Annot]) -> Range {
 /// Compares the bounds of the first term of an assert.
 fn has_range(rt: &(impl Abort + AllocGlobal), text: &str, wanted: (i128, i128)) {
     let mut all = typed(rt, text);
-    made(rt, ranges(&mut all));
+    made(rt, clause_ranges(&mut all));
     let found = first_range(rt, &all);
     same_numbers(rt, (found.lo, found.hi), wanted);
 }
@@ -180,7 +180,7 @@ fn has_range(rt: &(impl Abort + AllocGlobal), text: &str, wanted: (i128, i128)) 
 /// Compares the offset of the first term that has no range.
 fn has_no_range(rt: &(impl Abort + AllocGlobal), text: &str, offset: i128) {
     let mut all = typed(rt, text);
-    let found = ranges(&mut all);
+    let found = clause_ranges(&mut all);
     refuses(rt, found, code::RANGE, offset);
 }
 

@@ -130,7 +130,7 @@ fn range_body(body: &mut Body) -> Result<(), TypeFault>
 }
 
 /// Sets the ranges of the terms in annotations, or gives the first fault.
-pub fn ranges(annots: &mut Vec<Annot>) -> Result<(), TypeFault>
+pub fn clause_ranges(annots: &mut Vec<Annot>) -> Result<(), TypeFault>
     ensures ranged { Answers (λ _. map plain_annot annots.new.items) (ranged_annotations (map plain_annot annots.old.items)) result }
     ensures sure { IfErr result IsRefusal }
 {

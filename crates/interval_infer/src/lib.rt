@@ -1,7 +1,7 @@
 //! The ranges of the terms of annotations: each term keeps the range of its values, or is refused where they may pass
 //! signed 128 bits (E10).
 //!
-//! Trees are changed in place, and no call takes memory. After a refusal a tree has some of its ranges.
+//! Trees are changed in place, and memory is taken for the word of a refusal alone. After a refusal clauses have some of their ranges.
 #![tactic(auto)]
 
 mod annotation;
@@ -10,5 +10,5 @@ pub mod laws;
 mod program;
 mod statement;
 
-pub use annotation::ranges;
-pub use program::program_ranges;
+pub use annotation::clause_ranges;
+pub use program::ranges;

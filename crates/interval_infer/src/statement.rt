@@ -6,7 +6,7 @@ ghost use Rattle.c_syntax.specs.Statements.{plain_else_part, plain_item, plain_i
 ghost use Rattle.c_model.specs.AnnotationRanges.{ranged_body, ranged_else, ranged_item, ranged_items, ranged_statement};
 ghost use Rattle.c_expression_rules.specs.Answers.{Answers, IsRefusal};
 
-use crate::annotation::ranges;
+use crate::annotation::clause_ranges;
 use c_expression_rules::fault::TypeFault;
 use c_syntax::{Item, Stmt, StmtKind};
 
@@ -31,12 +31,12 @@ fn range_kind(kind: &mut StmtKind) -> Result<(), TypeFault>
             range_else(b)
         }
         StmtKind::While(annots, _, a) => {
-            ranges(annots)?;
+            clause_ranges(annots)?;
             range_statement(a)
         }
         StmtKind::Do(a, _) => range_statement(a),
         StmtKind::For(annots, _, _, _, a) => {
-            ranges(annots)?;
+            clause_ranges(annots)?;
             range_statement(a)
         }
         StmtKind::Empty
@@ -67,7 +67,7 @@ fn range_item(item: &mut Item) -> Result<(), TypeFault>
         Item::Declare(_) => Ok(()),
         Item::Specify(..) => Ok(()),
         Item::Run(a) => range_statement(a),
-        Item::Asserts(annots) => ranges(annots),
+        Item::Asserts(annots) => clause_ranges(annots),
     }
 }
 

@@ -11,42 +11,50 @@ use Rattle.c_parser.specs.Reading.{plain_parts}
 use Rattle.c_parser.proofs.Answers.{read_placed, read_misplaced, read_part, read_fault}
 use Rattle.c_parser.proofs.read.read_program.Goals as goal
 
-pub returns-in-None-clause-read : goal.returns-in-None-clause-read
-returns-in-None-clause-read c =
+pub returns-in-None : goal.returns-in-None
+returns-in-None c =
     let ts = plain_tokens c.args.tokens.now in
-    subst (λ (p : TranslationUnit). IsRead ts p) (sym c.make_unit.ensures) (read_placed
-    ts c.in_ok-words.words.items c.replace-names.result.items (map plain_text c.in_ok-texts.texts.items) (map plain_token c.as_slice-3.result.now)
-    (c.in_ok-words.ensures ∙ ap (map word_of) c.as_slice.ensures.value) (ap (λ v. v.items) c.replace-names.ensures.value)
-    (c.in_ok-texts.ensures ∙ ap (λ (l : List Token). texts_of (map plain_token l)) c.as_slice-2.ensures.value) (ap (map plain_token) c.as_slice-3.ensures.value)
-    (plain_parts c.in-Ok.parts) c.in-Ok.rest.now
-    (subst (λ (x : FileParts). (more_external x).parse (map plain_token c.as_slice-3.result.now) ≡ Ok (plain_parts c.in-Ok.parts, map plain_token c.in-Ok.rest.now)) c.no_parts.ensures c.in-Ok.ensures)
-    (eqb-true (length c.in-Ok.rest.now) 0 (sym c.if-is_empty.ensures)) c.in-None.is)
+    record {
+      read = subst (λ (p : TranslationUnit). IsRead ts p) (sym c.make_unit.ensures) (read_placed
+          ts c.in_ok-words.words.items c.in_ok-names.names.items (map plain_text c.in_ok-texts.texts.items) (map plain_token c.as_slice-4.result.now)
+          (c.in_ok-words.ensures ∙ ap (map word_of) c.as_slice-2.ensures.value) (c.in_ok-names.ensures ∙ c.as_slice.ensures.value)
+          (c.in_ok-texts.ensures ∙ ap (λ (l : List Token). texts_of (map plain_token l)) c.as_slice-3.ensures.value) (ap (map plain_token) c.as_slice-4.ensures.value)
+          (plain_parts c.in-Ok.parts) c.in-Ok.rest.now
+          (subst (λ (x : FileParts). (more_external x).parse (map plain_token c.as_slice-4.result.now) ≡ Ok (plain_parts c.in-Ok.parts, map plain_token c.in-Ok.rest.now)) c.no_parts.ensures c.in-Ok.ensures)
+          (eqb-true (length c.in-Ok.rest.now) 0 (sym c.if-is_empty.ensures)) c.in-None.is);
+    }
 
-pub returns-in-Some-clause-read : goal.returns-in-Some-clause-read
-returns-in-Some-clause-read c =
+pub returns-in-Some : goal.returns-in-Some
+returns-in-Some c =
     let ts = plain_tokens c.args.tokens.now in
-    read_misplaced
-    ts c.in_ok-words.words.items ts.names (map plain_text c.in_ok-texts.texts.items) (map plain_token c.as_slice-3.result.now)
-    (c.in_ok-words.ensures ∙ ap (map word_of) c.as_slice.ensures.value) refl
-    (c.in_ok-texts.ensures ∙ ap (λ (l : List Token). texts_of (map plain_token l)) c.as_slice-2.ensures.value) (ap (map plain_token) c.as_slice-3.ensures.value)
-    (plain_parts c.in-Ok.parts) c.in-Ok.rest.now c.in-Some.place _
-    (subst (λ (x : FileParts). (more_external x).parse (map plain_token c.as_slice-3.result.now) ≡ Ok (plain_parts c.in-Ok.parts, map plain_token c.in-Ok.rest.now)) c.no_parts.ensures c.in-Ok.ensures)
-    (eqb-true (length c.in-Ok.rest.now) 0 (sym c.if-is_empty.ensures)) c.in-Some.is c.refused_at_place.ensures
+    record {
+      read = read_misplaced
+          ts c.in_ok-words.words.items ts.names (map plain_text c.in_ok-texts.texts.items) (map plain_token c.as_slice-4.result.now)
+          (c.in_ok-words.ensures ∙ ap (map word_of) c.as_slice-2.ensures.value) refl
+          (c.in_ok-texts.ensures ∙ ap (λ (l : List Token). texts_of (map plain_token l)) c.as_slice-3.ensures.value) (ap (map plain_token) c.as_slice-4.ensures.value)
+          (plain_parts c.in-Ok.parts) c.in-Ok.rest.now c.in-Some.place _
+          (subst (λ (x : FileParts). (more_external x).parse (map plain_token c.as_slice-4.result.now) ≡ Ok (plain_parts c.in-Ok.parts, map plain_token c.in-Ok.rest.now)) c.no_parts.ensures c.in-Ok.ensures)
+          (eqb-true (length c.in-Ok.rest.now) 0 (sym c.if-is_empty.ensures)) c.in-Some.is c.refused_at_place.ensures;
+    }
 
-pub returns-else-is_empty-clause-read : goal.returns-else-is_empty-clause-read
-returns-else-is_empty-clause-read c =
+pub returns-else-is_empty : goal.returns-else-is_empty
+returns-else-is_empty c =
     let ts = plain_tokens c.args.tokens.now in
-    read_part ts c.in_ok-words.words.items ts.names (map plain_text c.in_ok-texts.texts.items) (map plain_token c.as_slice-3.result.now)
-    (c.in_ok-words.ensures ∙ ap (map word_of) c.as_slice.ensures.value) refl
-    (c.in_ok-texts.ensures ∙ ap (λ (l : List Token). texts_of (map plain_token l)) c.as_slice-2.ensures.value) (ap (map plain_token) c.as_slice-3.ensures.value)
-    (plain_parts c.in-Ok.parts) c.in-Ok.rest.now c.left.result _
-    (subst (λ (x : FileParts). (more_external x).parse (map plain_token c.as_slice-3.result.now) ≡ Ok (plain_parts c.in-Ok.parts, map plain_token c.in-Ok.rest.now)) c.no_parts.ensures c.in-Ok.ensures)
-    (λ z. let k = eq-eqb (length c.in-Ok.rest.now) 0 z in let f = c.if-is_empty.ensures in cc) c.left.ensures c.refuse.ensures
+    record {
+      read = read_part ts c.in_ok-words.words.items ts.names (map plain_text c.in_ok-texts.texts.items) (map plain_token c.as_slice-4.result.now)
+          (c.in_ok-words.ensures ∙ ap (map word_of) c.as_slice-2.ensures.value) refl
+          (c.in_ok-texts.ensures ∙ ap (λ (l : List Token). texts_of (map plain_token l)) c.as_slice-3.ensures.value) (ap (map plain_token) c.as_slice-4.ensures.value)
+          (plain_parts c.in-Ok.parts) c.in-Ok.rest.now c.left.result _
+          (subst (λ (x : FileParts). (more_external x).parse (map plain_token c.as_slice-4.result.now) ≡ Ok (plain_parts c.in-Ok.parts, map plain_token c.in-Ok.rest.now)) c.no_parts.ensures c.in-Ok.ensures)
+          (λ z. let k = eq-eqb (length c.in-Ok.rest.now) 0 z in let f = c.if-is_empty.ensures in cc) c.left.ensures c.refuse.ensures;
+    }
 
-pub returns-in-Err-clause-read : goal.returns-in-Err-clause-read
-returns-in-Err-clause-read c =
+pub returns-in-Err : goal.returns-in-Err
+returns-in-Err c =
     let ts = plain_tokens c.args.tokens.now in
-    read_fault ts c.in_ok-words.words.items ts.names (map plain_text c.in_ok-texts.texts.items) (map plain_token c.as_slice-3.result.now)
-    (c.in_ok-words.ensures ∙ ap (map word_of) c.as_slice.ensures.value) refl
-    (c.in_ok-texts.ensures ∙ ap (λ (l : List Token). texts_of (map plain_token l)) c.as_slice-2.ensures.value) (ap (map plain_token) c.as_slice-3.ensures.value)
-    c.in-Err.fault _ (subst (λ (x : FileParts). Fails c.in-Err.fault ((more_external x).parse (map plain_token c.as_slice-3.result.now))) c.no_parts.ensures c.in-Err.ensures) c.refuse-in-Err.ensures
+    record {
+      read = read_fault ts c.in_ok-words.words.items ts.names (map plain_text c.in_ok-texts.texts.items) (map plain_token c.as_slice-4.result.now)
+          (c.in_ok-words.ensures ∙ ap (map word_of) c.as_slice-2.ensures.value) refl
+          (c.in_ok-texts.ensures ∙ ap (λ (l : List Token). texts_of (map plain_token l)) c.as_slice-3.ensures.value) (ap (map plain_token) c.as_slice-4.ensures.value)
+          c.in-Err.fault _ (subst (λ (x : FileParts). Fails c.in-Err.fault ((more_external x).parse (map plain_token c.as_slice-4.result.now))) c.no_parts.ensures c.in-Err.ensures) c.refuse-in-Err.ensures;
+    }

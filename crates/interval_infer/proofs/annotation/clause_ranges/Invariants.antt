@@ -3,7 +3,7 @@ use Rattle.c_syntax.specs.Logic.{plain_annot}
 use Rattle.c_model.specs.TermRanges.{ranged_annotations}
 use Rattle.c_expression_rules.specs.Answers.{Answers, IsRefusal}
 use Rattle.c_expression_rules.proofs.InPlace.{Unvisited}
-use Rattle.interval_infer.proofs.annotation.ranges.Given as goal
+use Rattle.interval_infer.proofs.annotation.clause_ranges.Given as goal
 
 abbrev pub invariant-loop-i : goal.invariant-loop-i
 invariant-loop-i l = record {
