@@ -81,7 +81,7 @@ assert_word_of word.Assert = Some tt
 assert_word_of (word.TypeName DeclaredAssert) = Some tt
 assert_word_of _ = None
 
--- what begins a clause, also where a `typedef` declares its word
+-- what begins a clause, also where a `typedef` declares its word; it serves `parse` alone
 abbrev pub first_clause : List ℕ
 first_clause = name_kind ∷ type_name_kind ∷ []
 

@@ -40,7 +40,7 @@ use Rattle.c_model.specs.ExpressionGrammar.{most_in_expression, most_nested, dec
 use Rattle.c_model.specs.ExpressionGrammar.{untagged_base, consts, type_words, type_start, type_behind, more_consts, star_words, length_or_none, brackets}
 use Rattle.c_model.specs.ExpressionGrammar.{closed, expression, full_expression, full_expression_or_call}
 
--- ---- what begins what
+-- ---- what begins what: these sets serve `parse` alone
 
 abbrev pub first_item_of_list : List ℕ
 first_item_of_list = mark_kind left_brace ∷ first_expression
@@ -139,7 +139,7 @@ pub record FileSpec : Type 0 where
   pub ctype : PlainType
   pub definitions : Definitions
 
--- what may stand before a type at file scope, after these words
+-- what may stand before a type at file scope, after these words; it serves `parse` alone
 abbrev pub storage_words : Storage → List ℕ
 storage_words storage.Nothing = keyword_kind keyword.Static ∷ keyword_kind keyword.Typedef ∷ keyword_kind keyword.Const ∷ []
 storage_words storage.Static = keyword_kind keyword.Const ∷ []

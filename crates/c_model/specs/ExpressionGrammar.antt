@@ -68,7 +68,8 @@ most_in_expression = 400
 abbrev pub most_nested : ℕ
 most_nested = 200
 
--- ---- kinds of tokens, by which alternatives are told apart
+-- ---- kinds of tokens: `fixed`, `name_of` and `any_name_of` read a token by its kind, and else kinds serve `parse` alone, which tells
+-- alternatives apart by them
 
 abbrev pub name_kind : ℕ
 name_kind = 0
@@ -202,7 +203,7 @@ prefix_bumps = (increment, PreUp) ∷ (decrement, PreDown) ∷ []
 abbrev pub postfix_bumps : List (ℕ × BumpOp)
 postfix_bumps = (increment, PostUp) ∷ (decrement, PostDown) ∷ []
 
--- ---- what begins what
+-- ---- what begins what: but for `first_any_name`, which `any_name_of` reads, these sets serve `parse` alone
 
 abbrev pub first_integer_words : List ℕ
 first_integer_words =
@@ -230,7 +231,7 @@ first_postfix = mark_kind left_bracket ∷ mark_kind dot ∷ mark_kind arrow ∷
 abbrev pub first_effect : List ℕ
 first_effect = mark_kind increment ∷ mark_kind decrement ∷ first_expression
 
--- what may follow words for a sign, and for a size
+-- what may follow words for a sign, and for a size; it serves `parse` alone
 abbrev pub signs_behind : SignWords → List ℕ
 signs_behind sign.Nothing = keyword_kind keyword.Signed ∷ keyword_kind keyword.Unsigned ∷ []
 signs_behind sign.Signed = []
@@ -320,7 +321,7 @@ abbrev pub type_named : ℕ → Word → Option PlainType
 type_named n (word.TypeName t) = Some (named_type n t)
 type_named n _ = None
 
--- the first word of a type
+-- the first word of a type, at which a parameter is cut to be read; the words of a type are read whole in `type_words`
 pub data TypeStart : Type 0 where
   ConstStart : TypeStart
   VoidStart : TypeStart

@@ -44,7 +44,7 @@ use Rattle.c_model.specs.DeclarationGrammar.{Declarator, Definitions, names_func
 use Rattle.c_model.specs.DeclarationGrammar.{declaration, parameters, file_spec}
 use Rattle.c_model.specs.AnnotationGrammar.{annotations}
 
--- ---- what begins what
+-- ---- what begins what: these sets serve `parse` alone
 
 abbrev pub first_statement : List ℕ
 first_statement =
@@ -350,7 +350,7 @@ declared_external x = file_spec x.words x.definitions then λ s. behind_spec s.s
 unfoldable pub external : FileParts → Syntax PlainToken FileParts
 external x = strays x.words x.annotations then λ s. declared_external (record x { annotations = s })
 
--- a kind that all tokens have
+-- a kind that all tokens have, which serves `parse` alone
 abbrev pub any_kind : PlainToken → ℕ
 any_kind t = 0
 

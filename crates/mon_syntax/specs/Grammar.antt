@@ -43,7 +43,8 @@ use Rattle.mon_syntax.specs.Parsed.{ParsedRegister, ParsedFunction, ParsedGlobal
 
 -- ---- tokens
 
--- kinds of tokens, by which alternatives are told apart; a name of the runtime is a name
+-- kinds of tokens: `fixed` and `name_of` read a token by its kind, and else kinds serve `parse` alone, which tells alternatives apart by
+-- them; a name of the runtime is a name
 abbrev pub name_kind : ℕ
 name_kind = 0
 
@@ -183,7 +184,7 @@ operators =
 abbrev pub operator_of : PlainTokenKind → Option MonOp
 operator_of = mark_entry operators
 
--- ---- what begins what
+-- ---- what begins what: these sets serve `parse` alone
 
 -- the kinds of the punctuators of a table
 abbrev pub kinds_of : {A : Type 0} → List (ℕ × A) → List ℕ
