@@ -1,5 +1,7 @@
 -- A struct whose members are typed one after another: where one more is added, the sizes of other types stay, and its own isn't asked for.
-use Rattle.std.proofs.Common.{◌≡◌, ◌≢◌, ℕ, ◌+◌, ◌*◌, List, [], ◌∷◌, ◌++◌, refl, sym, ap, ◌∙◌, subst, Bool, true, false, ◌||◌, cond, nat_eq, if◌then◌else◌, slice_get, slice_set, Some, None, Result, Ok, Err, OnOk, IfOk}
+use Rattle.std.proofs.Common.{◌≡◌, ◌≢◌, ℕ, ◌+◌, ◌*◌, List, [], ◌∷◌, ◌++◌, refl, sym, ap, ◌∙◌, subst, arith, Bool, true, false, ◌||◌, cond, nat_eq, if◌then◌else◌, slice_get, slice_set, Option, Some, None, Result, Ok, Err, OnErr, OnOk, IfOk}
+use Rattle.std.proofs.lemmas.Bool.Decides.{nat_tests}
+use Rattle.indexmap.specs.IndexMap.{IndexMap, get}
 use Rattle.indexmap.specs.IndexSet.{IndexSet, contains}
 use Rattle.c_syntax.specs.Ctypes.{PlainType, Void, Int, Ptr, Array, Struct, Named, StructTag, EnumTag, Left, Written, Count}
 use Rattle.c_syntax.specs.Programs.{StructMember, StructType}
@@ -9,9 +11,10 @@ use Rattle.c_model.specs.ExpressionTyping.{HasSize, NotYet, is_known, sized}
 use Rattle.c_model.specs.DeclarationTyping.{greater, placed_from, widest}
 use Rattle.c_model.proofs.Blocks.{slice_get-slice_set_other, slice_get-slice_set_same}
 use Rattle.c_declaration_rules.specs.declared.layout.Grown.{Grown}
+use Rattle.c_declaration_rules.specs.declared.open_struct.OpenStructs.{OpenStructs}
 use Rattle.c_declaration_rules.specs.Layouts.{Grows}
 use Rattle.c_declaration_rules.specs.Members.{ended, with_last_member}
-use Rattle.c_declaration_rules.specs.OpenStructs.{AreSized, HasNames, IsLaid, IsOpenAt}
+use Rattle.c_declaration_rules.specs.OpenStructs.{AreOpen, AreSized, HasNames, IsLaid, IsOpen, IsOpenAt}
 use Rattle.c_declaration_rules.proofs.Layouts.{end_from, placed_behind, start_is, widest_more}
 
 -- ---- a struct without a size is changed
@@ -155,6 +158,50 @@ open_more structs k struct m g names all name at laid has size grows more e othe
 
 pub open_at : {S : Type 0} (structs : List StructType) (k : ℕ) (struct : StructType) (names : IndexSet ℕ S) → slice_get structs k ≡ Some struct → IsLaid structs struct → HasNames names struct.members → IsOpenAt structs k names
 open_at structs k struct names at laid named other there = let same : struct ≡ other = let h = at in cc in subst (λ s. IsLaid structs s × HasNames names s.members) same (laid, named)
+
+-- another struct stays open where one without a size is changed
+other_open : {S : Type 0} (structs : List StructType) (k j : ℕ) (z struct : StructType) (names : IndexSet ℕ S) → slice_get structs k ≡ Some struct → struct.size ≡ 0 → j ≢ k → IsOpenAt structs j names → IsOpenAt (slice_set structs k z) j names
+other_open structs k j z struct names at unsized apart opened other there =
+    let before = opened other (sym (slice_get-slice_set_other structs k j z apart) ∙ there) in
+    let laid = before.0 in (
+      record {
+        placed = same_places structs k z struct at unsized 0 other.members laid.sized ∙ laid.placed;
+        sized = all_sized structs k z struct at unsized other.members laid.sized;
+        align_is = laid.align_is ∙ sym (same_widest structs k z struct at unsized other.members laid.sized);
+        unsized = laid.unsized;
+      },
+      before.1,
+    )
+
+pub others_open : {S T : Type 0} (structs : List StructType) (k : ℕ) (z struct : StructType) (kept : IndexMap ℕ (IndexSet ℕ S) T) → slice_get structs k ≡ Some struct → struct.size ≡ 0 → get nat_eq kept k ≡ None → AreOpen structs kept
+    → AreOpen (slice_set structs k z) kept
+others_open {S} structs k z struct kept at unsized none opened j names there =
+    let apart : j ≢ k = λ e. let wrong : ◌≡◌ {A = Option (IndexSet ℕ S)} (Some names) None = sym there ∙ ap (get nat_eq kept) e ∙ none in absurd cc in
+    other_open structs k j z struct names at unsized apart (opened j names there)
+
+-- one that is kept no longer, and one more
+pub fewer_open : {S T : Type 0} (structs : List StructType) (k : ℕ) (kept fewer : IndexMap ℕ (IndexSet ℕ S) T) → ((q : ℕ) → get nat_eq fewer q ≡ cond (nat_eq k q) None (get nat_eq kept q)) → AreOpen structs kept → AreOpen structs fewer
+fewer_open {S} structs k kept fewer without opened j names there = by (nat_eq k j) (sym (without j) ∙ there)
+  where
+    by : (b : Bool) → cond b None (get nat_eq kept j) ≡ Some names → IsOpenAt structs j names
+    by true e = absurd cc
+    by false e = opened j names e
+
+pub one_more_open : {S T : Type 0} (structs : List StructType) (k : ℕ) (names : IndexSet ℕ S) (kept more : IndexMap ℕ (IndexSet ℕ S) T) → ((q : ℕ) → get nat_eq more q ≡ cond (nat_eq k q) (Some names) (get nat_eq kept q))
+    → IsOpenAt structs k names → AreOpen structs kept → AreOpen structs more
+one_more_open {S} structs k names kept more with_it here opened j others there = by (nat_eq k j) refl (sym (with_it j) ∙ there)
+  where
+    by : (b : Bool) → nat_eq k j ≡ b → cond b (Some names) (get nat_eq kept j) ≡ Some others → IsOpenAt structs j others
+    by true t e =
+        let same : k ≡ j = grind (arith, nat_tests, t) in
+        let is : names ≡ others = cc in
+        subst (λ n. IsOpenAt structs j n) is (subst (λ i. IsOpenAt structs i names) same here)
+    by false t e = opened j others e
+
+-- what is kept where a part is typed, and what was kept before where it is refused
+pub kept_open : {E : Type 0} (r q : Result (Unit {0}) E) (structs : List StructType) (begun old new : OpenStructs) → r ≡ q → OnOk q (IsOpen structs new) → OnOk r (begun ≡ new) → OnErr r (begun ≡ old) → IsOpen structs old → IsOpen structs begun
+kept_open (Ok u) q structs begun old new same opened kept refused none = subst (IsOpen structs) (sym kept) (subst (λ z. OnOk z (IsOpen structs new)) (sym same) opened)
+kept_open (Err e) q structs begun old new same opened kept refused none = subst (IsOpen structs) (sym refused) none
 
 -- names that are found anew
 pub found_at : {S E : Type 0} (structs : List StructType) (k : ℕ) (struct : StructType) (r : Result (IndexSet ℕ S) E) → slice_get structs k ≡ Some struct → OnOk r (IsLaid structs struct)

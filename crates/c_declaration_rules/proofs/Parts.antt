@@ -1,12 +1,12 @@
 -- Parts that are joined in this order, and the types of objects and of parameters.
 use Rattle.std.proofs.Common.{◌≡◌, refl, sym, ap, ◌∙◌, subst, true, false, Option, Result, Ok, Err}
 use Rattle.c_syntax.specs.declared.place.Place.{Place}
-use Rattle.c_syntax.specs.Ctypes.{PlainType, Void, Int, Ptr, Array, Struct, Named, StructTag, EnumTag, PlainLength, Left, Written, Count}
+use Rattle.c_syntax.specs.Ctypes.{PlainType, Ptr, Array, PlainLength, Left, Written, Count}
 use Rattle.c_syntax.specs.Statements.{Initialiser}
 use Rattle.c_model.specs.Library.{is_there}
 use Rattle.c_model.specs.Checked.{Checked, Good, both_parts, one_part}
-use Rattle.c_model.specs.ExpressionTyping.{Sight, known_type, typed_length, typed_type}
-use Rattle.c_model.specs.DeclarationTyping.{completed, known_parameter_type, object_type, pointer_where_array, typed_outer, typed_parameter_type}
+use Rattle.c_model.specs.ExpressionTyping.{Sight, known_type, typed_length}
+use Rattle.c_model.specs.DeclarationTyping.{completed, object_type, typed_outer, typed_parameter_type}
 use Rattle.c_expression_rules.specs.declared.fault.TypeFault.{TypeFault}
 use Rattle.c_expression_rules.specs.declared.fault.TypeFault.TheVariants.{Refused, Memory}
 use Rattle.c_expression_rules.specs.Answers.{Answers, IfTold, both, first_of}

@@ -1,13 +1,14 @@
--- Ours: a struct whose members are typed one after another (C99 6.7.2.1), and what is kept of those that it has.
--- Its members stand by the layout, and their names are known.
-use Rattle.std.specs.Prelude.{◌≡◌, ℕ, nat_eq, List, [], ◌∷◌, slice_get, Option, Some, None}
+-- Ours: structs whose members are typed one after another (C99 6.7.2.1), and what is kept of those that each has.
+-- Their members stand by the layout, and the names of members are known.
+use Rattle.std.specs.Prelude.{◌≡◌, ℕ, nat_eq, List, [], ◌∷◌, slice_get, Some}
+use Rattle.indexmap.specs.IndexMap.{IndexMap, get}
 use Rattle.indexmap.specs.IndexSet.{IndexSet, contains}
 use Rattle.c_syntax.specs.Programs.{StructMember, StructType}
 use Rattle.c_syntax.specs.Layouts.{member_among}
 use Rattle.c_model.specs.Library.{is_there}
 use Rattle.c_model.specs.ExpressionTyping.{HasSize, sized}
 use Rattle.c_model.specs.DeclarationTyping.{placed_from, widest}
-use Rattle.c_declaration_rules.specs.declared.open_struct.OpenStruct.{OpenStruct}
+use Rattle.c_declaration_rules.specs.declared.open_struct.OpenStructs.{OpenStructs}
 
 -- each member's type has a size
 abbrev pub AreSized : List StructType → List StructMember → Type 0
@@ -29,6 +30,9 @@ HasNames names ms = (x : ℕ) → contains nat_eq names x ≡ is_there (member_a
 abbrev pub IsOpenAt : {S : Type 0} → List StructType → ℕ → IndexSet ℕ S → Type 0
 IsOpenAt structs k names = (struct : StructType) → slice_get structs k ≡ Some struct → IsLaid structs struct × HasNames names struct.members
 
-abbrev pub IsOpen : List StructType → Option OpenStruct → Type 0
-IsOpen structs None = Unit {0}
-IsOpen structs (Some o) = IsOpenAt structs o.index o.names
+-- and so was each struct that is kept by its index
+abbrev pub AreOpen : {S T : Type 0} → List StructType → IndexMap ℕ (IndexSet ℕ S) T → Type 0
+AreOpen {S} structs kept = (k : ℕ) (names : IndexSet ℕ S) → get nat_eq kept k ≡ Some names → IsOpenAt structs k names
+
+abbrev pub IsOpen : List StructType → OpenStructs → Type 0
+IsOpen structs begun = AreOpen structs begun.names

@@ -77,7 +77,7 @@ fn is_text(e: &Expr) -> bool
 fn bytes_of_text(sight: &Sight, n: u32) -> usize
     ensures { result ≡ bytes_of_text (plain_sight sight.now) n }
 {
-    match sight.texts.get(n as usize) {
+    match sight.texts.list.get(n as usize) {
         None => 0,
         Some(text) => text.bytes.bytes().len(),
     }

@@ -1,6 +1,7 @@
 //! Members of structs (C99 6.7.2.1).
 
-ghost use Rattle.std.specs.Prelude.{◌≡◌, ◌<◌, IfOk, OnOk, false, length, map, nat_eq, slice_set};
+ghost use Rattle.std.specs.Prelude.{◌≡◌, ◌<◌, IfOk, None, OnOk, false, length, map, nat_eq, slice_set};
+ghost use Rattle.indexmap.specs.IndexMap.{get};
 ghost use Rattle.indexmap.specs.IndexSet.{contains};
 ghost use Rattle.c_syntax.specs.Ctypes.{plain_type};
 ghost use Rattle.c_syntax.specs.Programs.{plain_layout, plain_member};
@@ -8,13 +9,14 @@ ghost use Rattle.c_model.specs.DeclarationTyping.{typed_member_type};
 ghost use Rattle.c_model.specs.ExpressionTyping.{HasSize, sized};
 ghost use Rattle.c_expression_rules.specs.Answers.{Answers};
 ghost use Rattle.c_expression_rules.specs.Sights.{plain_sight};
+ghost use Rattle.c_declaration_rules.specs.declared.open_struct.OpenStructs.{OpenStructs};
 ghost use Rattle.c_declaration_rules.specs.Members.{GrownTo, GrowsTo, checked_member, ended, member_typed};
 ghost use Rattle.c_declaration_rules.specs.Members.{name_besides, object_member, small_layout, with_last_member};
 ghost use Rattle.c_declaration_rules.specs.OpenStructs.{HasNames, IsLaid, IsOpen, IsOpenAt};
 
 use crate::layout::{Grown, greater, grow, levels_of, more};
 use crate::name::behind;
-use crate::open_struct::{OpenStruct, names_at};
+use crate::open_struct::{OpenStructs, keep, names_at};
 use c_expression_rules::expression::type_elements;
 use c_expression_rules::fault::{TypeFault, both, no_name, too_large};
 use c_expression_rules::limits::MOST_BYTES;
@@ -24,6 +26,7 @@ use c_syntax::copy::copy_type;
 use c_syntax::{CType, Layout, Member, Place};
 use indexmap::IndexSet;
 use std::alloc::{AllocError, Global};
+use std::mem::replace;
 
 /// A name that is none of these.
 fn new_member(name: u32, place: Place, names: &IndexSet<u32>) -> Result<(), TypeFault>
@@ -168,6 +171,8 @@ fn type_next_member(
     requires begun { IsOpenAt (plain_sight sight.old).structs k names.old }
     ensures typed { Answers (λ _. plain_sight sight.new) (member_typed (plain_sight sight.old) k (plain_member m.old) ends) result }
     ensures begun { OnOk result (ends ≡ false → IsOpenAt (plain_sight sight.new).structs k names.new) }
+    ensures others { OnOk result ((begun : OpenStructs) → get nat_eq begun.names k ≡ None → IsOpen (plain_sight sight.old).structs begun
+        → IsOpen (plain_sight sight.new).structs begun) }
 {
     let grown = type_new_member(alloc, sight, &sight.structs[k], names, m)?;
     see_member(alloc, sight, k, m, grown, ends)?;
@@ -175,12 +180,34 @@ fn type_next_member(
     Ok(())
 }
 
+/// Types a member of a struct, where what is kept of structs that are begun is true of them, and so it is again.
+fn type_begun_member(
+    alloc: Global,
+    sight: &mut Sight,
+    begun: &mut OpenStructs,
+    k: usize,
+    m: &mut Member,
+    ends: bool,
+) -> Result<(), TypeFault>
+    requires within { k < length sight.old.structs.items }
+    requires begun { IsOpen (plain_sight sight.old).structs begun.old }
+    ensures typed { Answers (λ _. plain_sight sight.new) (member_typed (plain_sight sight.old) k (plain_member m.old) ends) result }
+    ensures begun { OnOk result (IsOpen (plain_sight sight.new).structs begun.new) }
+{
+    let mut names = names_at(alloc, &sight.structs, begun, k)?;
+    type_next_member(alloc, sight, k, &mut names, m, ends)?;
+    if !ends {
+        begun.names.insert(k, names)?;
+    }
+    Ok(())
+}
+
 /// Types a member of the struct of an index, and adds it to the struct in sight. The struct ends with its last member, and has a size
-/// from then on. What is kept of the members before it is that of the last struct that was added to.
+/// from then on. What is kept of the members before it is that of each struct that was begun, and nothing where a member is refused.
 pub fn type_member(
     alloc: Global,
     sight: &mut Sight,
-    begun: &mut Option<OpenStruct>,
+    begun: &mut OpenStructs,
     k: usize,
     m: &mut Member,
     ends: bool,
@@ -190,11 +217,10 @@ pub fn type_member(
     ensures begun { IsOpen (plain_sight sight.new).structs begun.new }
 {
     if k < sight.structs.len() {
-        let mut names = names_at(alloc, &sight.structs, begun.take(), k)?;
-        type_next_member(alloc, sight, k, &mut names, m, ends)?;
-        if !ends {
-            *begun = Some(OpenStruct { index: k, names });
-        }
+        let mut all = replace(begun, OpenStructs::new(alloc));
+        let typed = type_begun_member(alloc, sight, &mut all, k, m, ends);
+        keep(begun, all, typed)
+    } else {
+        Ok(())
     }
-    Ok(())
 }

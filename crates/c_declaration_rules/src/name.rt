@@ -8,7 +8,7 @@ ghost use Rattle.c_declaration_rules.specs.Objects.{behind};
 
 use c_expression_rules::fault::{TypeFault, both, no_name};
 use c_expression_rules::library::is_library_name;
-use c_expression_rules::sight::{Sight, declared_here, name_at, type_named};
+use c_expression_rules::sight::{Sight, declared_here, name_at};
 use c_syntax::Place;
 
 /// Whether file scope declares a name: as an object or an enumerator, as a function, or as a type.
@@ -17,7 +17,7 @@ pub fn is_declared_in_file(sight: &Sight, name: u32) -> bool
 {
     declared_here(sight, name).is_some()
         || sight.functions.called(name).is_some()
-        || type_named(&sight.types, name).is_some()
+        || sight.types.named(name).is_some()
 }
 
 /// A name that may be declared: none of the library's, and none that its scope has.

@@ -17,9 +17,10 @@ use c_expression_rules::conversion::{is_character, is_scalar, is_struct, is_void
 use c_expression_rules::expression::{type_elements, type_length, type_written};
 use c_expression_rules::fault::{TypeFault, both, no_name, no_type};
 use c_expression_rules::limits::{KnownSize, number, sized};
+use c_expression_rules::literal::literal_at;
 use c_expression_rules::operator::has_size;
 use c_expression_rules::sight::Sight;
-use c_expression_rules::text::{count_with_zero, literal_at};
+use c_expression_rules::text::count_with_zero;
 use c_expression_rules::types::within_limits;
 use c_syntax::{CType, Expr, ExprKind, Init, Length, Place};
 use std::alloc::{AllocError, Global};

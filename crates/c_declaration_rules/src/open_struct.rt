@@ -1,20 +1,51 @@
-//! A struct whose members are typed one after another (C99 6.7.2.1): what is kept of those that it has, so that a further one asks none of
-//! them.
+//! Structs whose members are typed one after another (C99 6.7.2.1), where others may stand between them: what is kept of those that each has,
+//! so that a further one asks none of them.
 
-ghost use Rattle.std.specs.Prelude.{◌<◌, IfOk, OnOk, length, map};
-ghost use Rattle.c_syntax.specs.Programs.{plain_layout, plain_member};
+ghost use Rattle.std.specs.Prelude.{◌≡◌, ◌<◌, IfOk, List, None, OnErr, OnOk, length, map, nat_eq};
+ghost use Rattle.indexmap.specs.IndexMap.{get};
+ghost use Rattle.c_syntax.specs.Programs.{StructType, plain_layout, plain_member};
 ghost use Rattle.c_declaration_rules.specs.OpenStructs.{HasNames, IsLaid, IsOpen, IsOpenAt};
 
 use crate::layout::check_laid;
+use c_expression_rules::fault::TypeFault;
 use c_syntax::{Layout, Member};
-use indexmap::IndexSet;
+use indexmap::{IndexMap, IndexSet};
 use std::alloc::{AllocError, Global};
 
-/// The index of a struct that isn't whole, and the names of the members that it has.
+/// Of each struct that is begun and isn't whole, by its index, the names of the members that it has.
 #[derive(Drop)]
-pub struct OpenStruct {
-    pub index: usize,
-    pub names: IndexSet<u32>,
+pub struct OpenStructs {
+    pub names: IndexMap<usize, IndexSet<u32>>,
+}
+
+impl OpenStructs {
+    /// None is begun.
+    pub fn new(alloc: Global) -> Self
+        ensures { (structs : List StructType) → IsOpen structs result }
+    {
+        OpenStructs {
+            names: IndexMap::new(alloc),
+        }
+    }
+}
+
+/// What is kept anew where a part is typed, and nothing else.
+pub fn keep(
+    begun: &mut OpenStructs,
+    new: OpenStructs,
+    typed: Result<(), TypeFault>,
+) -> Result<(), TypeFault>
+    ensures same { result ≡ typed }
+    ensures kept { OnOk result (begun.new ≡ new) }
+    ensures refused { OnErr result (begun.new ≡ begun.old) }
+{
+    match typed {
+        Ok(()) => {
+            *begun = new;
+            Ok(())
+        }
+        Err(fault) => Err(fault),
+    }
 }
 
 /// The names of members.
@@ -39,21 +70,21 @@ fn names_in(alloc: Global, structs: &[Layout], layout: &Layout) -> Result<IndexS
     names_of(alloc, &layout.members)
 }
 
-/// The names of the members that the struct of an index has, which are kept where it is the open one.
+/// The names of the members that the struct of an index has, which are kept no longer.
 pub fn names_at(
     alloc: Global,
     structs: &[Layout],
-    begun: Option<OpenStruct>,
+    begun: &mut OpenStructs,
     k: usize,
 ) -> Result<IndexSet<u32>, AllocError>
     requires within { k < length structs.now }
-    requires begun { IsOpen (map plain_layout structs.now) begun }
-    ensures { IfOk result (λ names. IsOpenAt (map plain_layout structs.now) k names) }
+    requires begun { IsOpen (map plain_layout structs.now) begun.old }
+    ensures names { IfOk result (λ names. IsOpenAt (map plain_layout structs.now) k names) }
+    ensures others { IsOpen (map plain_layout structs.now) begun.new }
+    ensures taken { get nat_eq begun.new.names k ≡ None }
 {
-    if let Some(kept) = begun {
-        if kept.index == k {
-            return Ok(kept.names);
-        }
+    match begun.names.swap_remove(&k) {
+        Some(names) => Ok(names),
+        None => names_in(alloc, structs, &structs[k]),
     }
-    names_in(alloc, structs, &structs[k])
 }

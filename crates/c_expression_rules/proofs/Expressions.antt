@@ -21,7 +21,7 @@ use Rattle.c_expression_rules.specs.Answers.{Answers, both, first_of, plain_faul
 use Rattle.c_expression_rules.specs.Callees.{known_params}
 use Rattle.c_expression_rules.specs.Forms.{typed_call, typed_call_parts, typed_kind, typed_two}
 use Rattle.c_expression_rules.specs.Signatures.{plain_signature}
-use Rattle.c_expression_rules.proofs.Least.{both_refused, both_answers, one_refused, one_then}
+use Rattle.c_expression_rules.proofs.Least.{both_refused}
 
 -- ---- the parts of an expression, and what is demanded of them
 

@@ -5,7 +5,9 @@ pub mod BlockItems
 pub mod Names
 pub mod Newest
 pub mod Gives
-pub mod Signatures
+pub mod Firsts
+pub mod Named
+pub mod Tags
 pub mod Wrapped
 pub mod Bitwise
 pub mod Shifts

@@ -3,12 +3,16 @@ pub mod Callees
 pub mod Constants
 pub mod Entities
 pub mod Entity
+pub mod Firsts
 pub mod Forms
 pub mod Library
 pub mod Limits
+pub mod Literals
 pub mod Newest
 pub mod Operators
 pub mod Shifts
 pub mod Sights
 pub mod Signatures
 pub mod Structs
+pub mod Tags
+pub mod TypeNames

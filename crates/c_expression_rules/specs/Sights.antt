@@ -1,29 +1,25 @@
 -- Ours: the plain form of what is in sight (C99 6.2.1).
 -- What is in sight, without vectors.
 use Rattle.std.specs.Prelude.{ℕ, Bool, false, nat_eq, Option, Some, None, map, take}
-use Rattle.c_syntax.specs.Ctypes.{plain_type}
 use Rattle.c_syntax.specs.Programs.{plain_layout, plain_text}
 use Rattle.c_model.specs.ExpressionTyping as plain
-use Rattle.c_expression_rules.specs.declared.sight.TypeName.{TypeName}
 use Rattle.c_expression_rules.specs.declared.sight.Sight.{Sight}
 use Rattle.c_expression_rules.specs.Entities.{plain_entities}
 use Rattle.c_expression_rules.specs.Signatures.{plain_signature}
-
-abbrev pub plain_type_name : TypeName → plain.TypeName
-plain_type_name t = record { name = t.name; ctype = plain_type t.ctype }
+use Rattle.c_expression_rules.specs.TypeNames.{plain_type_name}
 
 abbrev pub plain_sight : Sight → plain.Sight
 plain_sight s = record {
   names = s.names.items;
-  texts = map plain_text s.texts.items;
+  texts = map plain_text s.texts.list.items;
   functions = map plain_signature s.functions.signatures.items;
   entities = plain_entities s.entities;
   innermost = s.innermost;
-  types = map plain_type_name s.types.items;
+  types = map plain_type_name s.types.list.items;
   structs = map plain_layout s.structs.items;
   levels = s.levels.items;
-  enum_tags = s.enum_tags.items;
-  enums = s.enums.items;
+  enum_tags = s.enum_tags.list.items;
+  enums = s.enums.list.items;
 }
 
 -- what is in sight after a block, around which so many entities are

@@ -22,7 +22,7 @@ use crate::fault::{TypeFault, both, no_name, no_type};
 use crate::operator::{
     bump, decay, has_size, index, literal, size_of_expression, size_of_type, truth_of, unary,
 };
-use crate::sight::{Sight, is_among, type_named};
+use crate::sight::Sight;
 use crate::text::text;
 use crate::types::{counted, known_struct, within_limits};
 use c_syntax::copy::copy_type;
@@ -423,7 +423,7 @@ fn put_named(
     ensures typed { Answers (λ _. plain_type t.new) (typed_type (plain_sight sight.now) place (Named name)) result }
     ensures known { IfTold result (plain_type t.new ≡ known_type (plain_sight sight.now) (Named name)) }
 {
-    match type_named(&sight.types, name) {
+    match sight.types.named(name) {
         None => {
             put_type(t, CType::Void);
             Err(no_name(place))
@@ -449,7 +449,7 @@ fn put_struct(
 {
     let u = known_struct(sight, name)?;
     put_type(t, u);
-    if is_among(name, &sight.enum_tags) {
+    if sight.enum_tags.has(name) {
         Err(no_name(tag))
     } else {
         Ok(())
@@ -468,7 +468,7 @@ fn put_enum(
     ensures known { IfTold result (plain_type t.new ≡ known_type (plain_sight sight.now) (EnumTag name tag)) }
 {
     put_type(t, CType::Int(CInt::I32));
-    if is_among(name, &sight.enums) {
+    if sight.enums.has(name) {
         Ok(())
     } else {
         Err(no_name(tag))

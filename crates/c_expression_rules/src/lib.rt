@@ -12,10 +12,14 @@ pub mod conversion;
 pub mod entities;
 pub mod entity;
 pub mod fault;
+pub mod first;
 pub mod library;
 pub mod limits;
+pub mod literal;
 pub mod sight;
 pub mod signature;
+pub mod tag;
+pub mod type_name;
 
 // expressions
 pub mod assignment;

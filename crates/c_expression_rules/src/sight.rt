@@ -4,42 +4,38 @@ ghost use Rattle.std.specs.Prelude.{◌≡◌, OnOk, length, map, option_map};
 ghost use Rattle.c_syntax.specs.Ctypes.{plain_type};
 ghost use Rattle.c_syntax.specs.Programs.{plain_layout};
 ghost use Rattle.c_syntax.specs.Statements.{plain_decl};
-ghost use Rattle.c_model.specs.ExpressionTyping.{declared_here, inner, is_among, name_at, number_at};
-ghost use Rattle.c_model.specs.ExpressionTyping.{tagged, type_named, with_object};
+ghost use Rattle.c_model.specs.ExpressionTyping.{declared_here, inner, name_at, number_at};
+ghost use Rattle.c_model.specs.ExpressionTyping.{tagged, with_object};
 ghost use Rattle.c_expression_rules.specs.Entity.{plain_entity};
-ghost use Rattle.c_expression_rules.specs.Sights.{has_tag, left, plain_sight, plain_type_name};
+ghost use Rattle.c_expression_rules.specs.Sights.{has_tag, left, plain_sight};
 
 use crate::entities::Entities;
 use crate::entity::{Entity, Object};
+use crate::literal::Literals;
 use crate::signature::Functions;
+use crate::tag::Tags;
+use crate::type_name::TypeNames;
 use c_syntax::copy::copy_type;
-use c_syntax::{CType, Decl, Layout, Name, Text};
+use c_syntax::{CType, Decl, Layout, Name};
 use std::alloc::{AllocError, Global};
-
-/// A name of a type (C99 6.7.7).
-#[derive(Drop)]
-pub struct TypeName {
-    pub name: u32,
-    pub ctype: CType,
-}
 
 /// The names and string literals of the text, the functions that are declared so far, the visible objects and enumerators, the
 /// newest last, those of the innermost scope from `innermost` on, the names of types, and the structs and enums of the file.
 #[derive(Drop)]
 pub struct Sight {
     pub names: Vec<Name>,
-    pub texts: Vec<Text>,
+    pub texts: Literals,
     pub functions: Functions,
     pub entities: Entities,
     pub innermost: usize,
-    pub types: Vec<TypeName>,
+    pub types: TypeNames,
     /// What is known of each struct so far: one whose members aren't all known has size 0.
     pub structs: Vec<Layout>,
     /// How many levels the type of each struct has.
     pub levels: Vec<u32>,
     /// The tags of all enums of the file, and of those that are defined so far.
-    pub enum_tags: Vec<u32>,
-    pub enums: Vec<u32>,
+    pub enum_tags: Tags,
+    pub enums: Tags,
 }
 
 /// What a block leaves unchanged: the count of the names around it, and where their innermost scope begins.
@@ -66,20 +62,6 @@ pub fn declared_here(sight: &Sight, name: u32) -> Option<&Entity>
     sight.entities.named_from(sight.innermost, name)
 }
 
-/// The type of a name, where it is a type's.
-pub fn type_named(types: &[TypeName], name: u32) -> Option<&CType>
-    ensures { option_map (λ t. plain_type t.now) result ≡ type_named name (map plain_type_name types.now) }
-{
-    let mut rest = types;
-    'turn: while let [t, after @ ..] = rest {
-        if name == t.name {
-            return Some(&t.ctype);
-        }
-        rest = after;
-    }
-    None
-}
-
 /// Whether a struct has the tag.
 fn has_tag(tag: u32, s: &Layout) -> bool
     ensures { result ≡ has_tag tag s.now.tag }
@@ -100,20 +82,6 @@ pub fn tagged(structs: &[Layout], tag: u32) -> Option<usize>
         }
     }
     None
-}
-
-/// Whether a tag is among these.
-pub fn is_among(tag: u32, tags: &[u32]) -> bool
-    ensures { result ≡ is_among tag tags.now }
-{
-    let mut rest = tags;
-    'turn: while let [t, after @ ..] = rest {
-        if tag == *t {
-            return true;
-        }
-        rest = after;
-    }
-    false
 }
 
 /// How many levels the struct of a number has.

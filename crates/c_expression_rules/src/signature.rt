@@ -3,8 +3,10 @@
 ghost use Rattle.std.specs.Prelude.{◌≡◌, [], ◌∷◌, ◌++◌, IfOk, cond, is_ok, map, option_map};
 ghost use Rattle.c_syntax.specs.Ctypes.{plain_type};
 ghost use Rattle.c_model.specs.ExpressionTyping.{function_called};
-ghost use Rattle.c_expression_rules.specs.Signatures.{AreFirst, plain_signature};
+ghost use Rattle.c_expression_rules.specs.Firsts.{AreFirst};
+ghost use Rattle.c_expression_rules.specs.Signatures.{name_of_function, plain_signature};
 
+use crate::first::note;
 use c_syntax::CType;
 use c_syntax::copy::copy_type;
 use indexmap::IndexMap;
@@ -28,7 +30,7 @@ pub struct Functions {
     pub signatures: Vec<Signature>,
     /// The number of the first declaration of each name, so that a name is found without a look at all of them.
     pub firsts: IndexMap<u32, usize>,
-    ghost first: { AreFirst signatures.items firsts.entries },
+    ghost first: { AreFirst (map name_of_function signatures.items) firsts.entries },
 }
 
 impl Functions {
@@ -59,14 +61,11 @@ impl Functions {
         let name = signature.name;
         let number = self.signatures.len();
         self.signatures.push(signature)?;
-        if self.firsts.contains_key(&name) {
-            return Ok(());
-        }
-        match self.firsts.insert(name, number) {
-            Ok(_) => Ok(()),
+        match note(&mut self.firsts, name, number) {
+            Ok(()) => Ok(()),
             Err(e) => {
                 self.signatures.truncate(number);
-                Err(e.into())
+                Err(e)
             }
         }
     }

@@ -1,33 +1,21 @@
 //! String literals (C99 6.4.5).
 
-ghost use Rattle.std.specs.Prelude.{◌≡◌, ◌+◌, IfOk, length, map, option_map};
+ghost use Rattle.std.specs.Prelude.{◌≡◌, ◌+◌, IfOk};
 ghost use Rattle.c_syntax.specs.Ctypes.{Array, Count, Int, plain_type};
 ghost use Rattle.c_syntax.specs.Expressions.{Node, plain_expr, plain_kind};
 ghost use Rattle.c_syntax.specs.declared.types.CInt.TheVariants.{I8};
-ghost use Rattle.c_syntax.specs.Programs.{plain_text};
 ghost use Rattle.c_model.specs.Meaning.{string_in};
-ghost use Rattle.c_model.specs.ExpressionTyping.{literal_at, text};
+ghost use Rattle.c_model.specs.ExpressionTyping.{text};
 ghost use Rattle.c_expression_rules.specs.Answers.{Answers};
 ghost use Rattle.c_expression_rules.specs.Sights.{plain_sight};
 
 use crate::fault::{TypeFault, no_type};
 use crate::limits::number;
+use crate::literal::literal_at;
 use crate::operator::put;
 use crate::sight::Sight;
-use c_syntax::{CInt, CType, Expr, ExprKind, Length, Place, Text};
+use c_syntax::{CInt, CType, Expr, ExprKind, Length, Place};
 use std::alloc::{AllocError, Global};
-
-/// The number of the string literal at an offset, and the count of its bytes.
-pub fn literal_at(texts: &[Text], offset: u32) -> Option<(usize, usize)>
-    ensures { result ≡ option_map (λ l. (l.0, length l.1)) (literal_at offset 0 (map plain_text texts.now)) }
-{
-    for k in 0..texts.len() {
-        if texts[k].place.offset == offset {
-            return Some((k, texts[k].bytes.bytes().len()));
-        }
-    }
-    None
-}
 
 /// The number of the string literal that a typed expression is, where it is one.
 pub fn string_in(e: &Expr) -> Option<u32>

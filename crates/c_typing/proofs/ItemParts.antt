@@ -1,18 +1,31 @@
 -- Items with what is in sight behind them.
-use Rattle.std.proofs.Common.{◌≡◌, ℕ, sym, ap, ◌∙◌, Option, Result, Ok, Err}
+use Rattle.std.proofs.Common.{◌≡◌, ℕ, pos, List, sym, ap, ◌∙◌, subst, Option, Result, Ok, Err}
 use Rattle.std.specs.Prelude.{OnOk}
 use Rattle.c_syntax.specs.Statements.{Declaration}
-use Rattle.c_syntax.specs.Programs.{Function}
+use Rattle.c_syntax.specs.Programs.{EnumConstant, Function, StructType}
 use Rattle.c_model.specs.Checked.{Good, one_part}
-use Rattle.c_model.specs.ExpressionTyping.{with_object}
-use Rattle.c_model.specs.DeclarationTyping.{typed_global, typed_typedef}
+use Rattle.c_model.specs.ExpressionTyping.{Sight, with_object}
+use Rattle.c_model.specs.DeclarationTyping.{typed_enumerators, typed_global, typed_typedef}
 use Rattle.c_model.specs.UnitTyping.{with_type}
+use Rattle.c_model.proofs.TypedBelow.{enumerators_structs}
+use Rattle.c_model.proofs.TypedParts.{Gives}
 use Rattle.c_expression_rules.specs.declared.fault.TypeFault.{TypeFault}
 use Rattle.c_expression_rules.specs.Answers.{Answers}
 use Rattle.c_expression_rules.proofs.Least.{one_refused}
+use Rattle.c_declaration_rules.specs.declared.open_struct.OpenStructs.{OpenStructs}
+use Rattle.c_declaration_rules.specs.OpenStructs.{IsOpen}
 use Rattle.c_typing.specs.declared.heading.Callee.{Callee}
 use Rattle.c_typing.specs.Functions.{function_in_turn, names_behind, with_function}
 use Rattle.c_typing.specs.Files.{Course, defined_in_turn, global_in_turn, typedef_in_turn}
+
+-- structs stay as they are where enumerators are typed
+pub enumerators_keep : (s t : Sight) (es fs : List EnumConstant) → typed_enumerators s (pos 0) es ≡ Good (t, fs) → t.structs ≡ s.structs
+enumerators_keep s t es fs e = subst (Gives (λ (x : Sight × List EnumConstant). x.0.structs ≡ s.structs)) e (enumerators_structs s (pos 0) es)
+
+-- what is kept of structs stays true where they stay as they are
+pub still_open : {E : Type 0} (q : Result (Unit {0}) E) (before structs : List StructType) (last : OpenStructs) → OnOk q (structs ≡ before) → IsOpen before last → OnOk q (IsOpen structs last)
+still_open (Ok u) before structs last same opened = subst (λ ss. IsOpen ss last) (sym same) opened
+still_open (Err e) before structs last same opened = tt
 
 module _ (c c' : Course)
   where

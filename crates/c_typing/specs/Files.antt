@@ -81,7 +81,7 @@ pub record Course : Type 0 where
   pub names : ℕ → Option Noted
 
 abbrev pub plain_course : code_course.Course → Course
-plain_course c = record { sight = plain_sight c.sight; tags = c.tags.items; names = get nat_eq c.names }
+plain_course c = record { sight = plain_sight c.sight; tags = c.tags.list.items; names = get nat_eq c.names }
 
 -- what is known before the first item
 abbrev pub course_at : Sight → Course

@@ -12,11 +12,14 @@ use crate::heading::{Callee, denoted};
 use crate::item::{Course, FileItem, add_tag, type_item};
 use crate::order::{put_items, take_items};
 use c_declaration_rules::layout::{greater, levels_of, more};
-use c_declaration_rules::open_struct::OpenStruct;
+use c_declaration_rules::open_struct::OpenStructs;
 use c_expression_rules::entities::Entities;
 use c_expression_rules::fault::TypeFault;
+use c_expression_rules::literal::{Literals, firsts_of};
 use c_expression_rules::sight::Sight;
 use c_expression_rules::signature::Functions;
+use c_expression_rules::tag::Tags;
+use c_expression_rules::type_name::TypeNames;
 use c_syntax::{EnumDef, Layout, Member, Program};
 use indexmap::IndexMap;
 use std::alloc::{AllocError, Global};
@@ -24,10 +27,10 @@ use std::mem::replace;
 
 /// The tags of enums.
 #[tactic(auto, using(crate::proofs::Items::with_tag_then))]
-pub fn tags_of(alloc: Global, enums: &[EnumDef]) -> Result<Vec<u32>, AllocError>
-    ensures { IfOk result (λ v. v.items ≡ tags_of (map plain_enum enums.now)) }
+pub fn tags_of(alloc: Global, enums: &[EnumDef]) -> Result<Tags, AllocError>
+    ensures { IfOk result (λ tags. tags.list.items ≡ tags_of (map plain_enum enums.now)) }
 {
-    let mut tags = Vec::new(alloc);
+    let mut tags = Tags::new(alloc);
     let mut rest = enums;
     'turn: while let [e, after @ ..] = rest {
         add_tag(&mut tags, e.tag)?;
@@ -67,27 +70,32 @@ fn struct_levels(alloc: Global, structs: &[Layout]) -> Result<Vec<u32>, AllocErr
 pub fn first_course(
     alloc: Global,
     program: &mut Program,
-    enum_tags: Vec<u32>,
+    enum_tags: Tags,
 ) -> Result<Course, AllocError>
-    ensures first { IfOk result (λ c. plain_course c ≡ course_at (first_in (plain_program program.old) enum_tags.items)) }
+    ensures first { IfOk result (λ c. plain_course c ≡ course_at (first_in (plain_program program.old) enum_tags.list.items)) }
     ensures left { OnOk result (plain_program program.new ≡ without_sight (plain_program program.old)) }
 {
     let levels = struct_levels(alloc, &program.structs)?;
+    let firsts = firsts_of(alloc, &program.texts)?;
+    let texts = Literals {
+        list: replace(&mut program.texts, Vec::new(alloc)),
+        firsts,
+    };
     let sight = Sight {
         names: replace(&mut program.names, Vec::new(alloc)),
-        texts: replace(&mut program.texts, Vec::new(alloc)),
+        texts,
         functions: Functions::new(alloc),
         entities: Entities::new(alloc),
         innermost: 0,
-        types: Vec::new(alloc),
+        types: TypeNames::new(alloc),
         structs: replace(&mut program.structs, Vec::new(alloc)),
         levels,
         enum_tags,
-        enums: Vec::new(alloc),
+        enums: Tags::new(alloc),
     };
     Ok(Course {
         sight,
-        tags: Vec::new(alloc),
+        tags: Tags::new(alloc),
         names: IndexMap::new(alloc),
     })
 }
@@ -104,7 +112,7 @@ fn give_back(program: &mut Program, course: Course)
         ..
     } = sight;
     program.names = names;
-    program.texts = texts;
+    program.texts = texts.list;
     program.structs = structs;
 }
 
@@ -118,7 +126,7 @@ fn type_each(
     ensures { Answers (λ _. (plain_course course.new, all_kept (map plain_file_item items.new.items)))
         (items_in_turn (get nat_eq numbers.now) (plain_course course.old) (map plain_file_item items.old.items)) result }
 {
-    let mut begun: Option<OpenStruct> = None;
+    let mut begun = OpenStructs::new(alloc);
     for i in 0..items.len() {
         type_item(alloc, numbers, course, &mut begun, &mut items[i])?;
     }

@@ -20,7 +20,7 @@ use c_declaration_rules::object::result_of;
 use c_expression_rules::conversion::same_type;
 use c_expression_rules::expression::type_written;
 use c_expression_rules::fault::{TypeFault, both, no_name};
-use c_expression_rules::sight::{Sight, declared_here, type_named};
+use c_expression_rules::sight::{Sight, declared_here};
 use c_expression_rules::signature::{Functions, Signature};
 use c_syntax::copy::copy_type;
 use c_syntax::{CType, Decl, Func};
@@ -124,7 +124,7 @@ fn check_name(sight: &Sight, f: &Func) -> Result<(), TypeFault>
     ensures sure { IfErr result IsRefusal }
 {
     let entity = declared_here(sight, f.name).is_some();
-    let named = type_named(&sight.types, f.name).is_some();
+    let named = sight.types.named(f.name).is_some();
     own_name(sight, entity || named, f.place, f.name)
 }
 

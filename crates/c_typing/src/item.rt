@@ -16,13 +16,16 @@ use crate::heading::{Callee, Noted};
 use c_declaration_rules::declaration::{type_global, type_typedef};
 use c_declaration_rules::enumerator::type_enumerators;
 use c_declaration_rules::member::type_member;
-use c_declaration_rules::open_struct::OpenStruct;
+use c_declaration_rules::open_struct::{OpenStructs, keep};
 use c_expression_rules::fault::{TypeFault, no_name};
-use c_expression_rules::sight::{Sight, TypeName, is_among};
+use c_expression_rules::sight::Sight;
+use c_expression_rules::tag::Tags;
+use c_expression_rules::type_name::TypeName;
 use c_syntax::copy::copy_type;
 use c_syntax::{Decl, EnumDef, Func, Member, Place};
 use indexmap::IndexMap;
 use std::alloc::{AllocError, Global};
+use std::mem::replace;
 
 /// What a file declares.
 #[derive(Drop)]
@@ -42,7 +45,7 @@ pub enum FileItem {
 pub struct Course {
     pub sight: Sight,
     /// The tags that are defined.
-    pub tags: Vec<u32>,
+    pub tags: Tags,
     /// What is kept of each function's name.
     pub names: IndexMap<u32, Noted>,
 }
@@ -62,14 +65,14 @@ pub fn offset_of(item: &FileItem) -> u32
 }
 
 /// A tag is defined once in a file (C99 6.7.2.3 p1).
-fn new_tag(tags: &[u32], place: Place, tag: Option<u32>) -> Result<(), TypeFault>
-    ensures checked { Answers (λ u. u) (new_tag tags.now place tag) result }
+fn new_tag(tags: &Tags, place: Place, tag: Option<u32>) -> Result<(), TypeFault>
+    ensures checked { Answers (λ u. u) (new_tag tags.now.list.items place tag) result }
     ensures sure { IfErr result IsRefusal }
 {
     match tag {
         None => Ok(()),
         Some(x) => {
-            if is_among(x, tags) {
+            if tags.has(x) {
                 Err(no_name(place))
             } else {
                 Ok(())
@@ -79,8 +82,8 @@ fn new_tag(tags: &[u32], place: Place, tag: Option<u32>) -> Result<(), TypeFault
 }
 
 /// Keeps that a tag is defined.
-pub fn add_tag(tags: &mut Vec<u32>, tag: Option<u32>) -> Result<(), AllocError>
-    ensures { OnOk result (tags.new.items ≡ with_tag tags.old.items tag) }
+pub fn add_tag(tags: &mut Tags, tag: Option<u32>) -> Result<(), AllocError>
+    ensures { OnOk result (tags.new.list.items ≡ with_tag tags.old.list.items tag) }
 {
     if let Some(x) = tag {
         tags.push(x)?;
@@ -89,7 +92,8 @@ pub fn add_tag(tags: &mut Vec<u32>, tag: Option<u32>) -> Result<(), AllocError>
 }
 
 fn type_head(course: &mut Course, place: Place, tag: Option<u32>) -> Result<(), TypeFault>
-    ensures { Answers (λ _. plain_course course.new) (head_in_turn (plain_course course.old) place tag) result }
+    ensures typed { Answers (λ _. plain_course course.new) (head_in_turn (plain_course course.old) place tag) result }
+    ensures structs { OnOk result ((plain_sight course.new.sight).structs ≡ (plain_sight course.old.sight).structs) }
 {
     new_tag(&course.tags, place, tag)?;
     add_tag(&mut course.tags, tag)?;
@@ -98,7 +102,8 @@ fn type_head(course: &mut Course, place: Place, tag: Option<u32>) -> Result<(), 
 
 /// An enum, whose tag is in sight behind its enumerators.
 fn type_enum(alloc: Global, course: &mut Course, e: &mut EnumDef) -> Result<(), TypeFault>
-    ensures { Answers (λ _. (plain_course course.new, plain_enum e.new)) (enum_in_turn (plain_course course.old) (plain_enum e.old)) result }
+    ensures typed { Answers (λ _. (plain_course course.new, plain_enum e.new)) (enum_in_turn (plain_course course.old) (plain_enum e.old)) result }
+    ensures structs { OnOk result ((plain_sight course.new.sight).structs ≡ (plain_sight course.old.sight).structs) }
 {
     new_tag(&course.tags, e.place, e.tag)?;
     type_enumerators(alloc, &mut course.sight, &mut e.items)?;
@@ -147,13 +152,13 @@ fn type_defined(
     type_function(alloc, &mut course.sight, numbers, &mut course.names, f)
 }
 
-/// Types an item with what is known behind those before it, by what each name of a function denotes. What is kept of an open struct serves
-/// the member that comes next.
+/// Types an item with what is known behind those before it, by what each name of a function denotes. What is kept of structs that are begun
+/// serves the members that come, also behind other structs and enums, which may stand between them.
 pub fn type_item(
     alloc: Global,
     numbers: &IndexMap<u32, Callee>,
     course: &mut Course,
-    begun: &mut Option<OpenStruct>,
+    begun: &mut OpenStructs,
     item: &mut FileItem,
 ) -> Result<(), TypeFault>
     requires { IsOpen (plain_sight course.old.sight).structs begun.old }
@@ -161,14 +166,14 @@ pub fn type_item(
         (item_in_turn (get nat_eq numbers.now) (plain_course course.old) (plain_file_item item.old)) result }
     ensures begun { IsOpen (plain_sight course.new.sight).structs begun.new }
 {
-    let last = begun.take();
+    let last = replace(begun, OpenStructs::new(alloc));
     match item {
-        FileItem::Head(place, tag) => type_head(course, *place, *tag),
+        FileItem::Head(place, tag) => keep(begun, last, type_head(course, *place, *tag)),
         FileItem::Inside(k, m, ends) => {
             *begun = last;
             type_member(alloc, &mut course.sight, begun, *k, m, *ends)
         }
-        FileItem::Enum(e) => type_enum(alloc, course, e),
+        FileItem::Enum(e) => keep(begun, last, type_enum(alloc, course, e)),
         FileItem::Typedef(d) => type_alias(alloc, course, d),
         FileItem::Global(d) => type_object(alloc, course, d),
         FileItem::Function(f) => type_defined(alloc, numbers, course, f),

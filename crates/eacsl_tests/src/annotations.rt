@@ -8,8 +8,11 @@ use annot_typing::type_clauses;
 use c_expr_parser::vocabulary::vocabulary;
 use c_expression_rules::TypeFault;
 use c_expression_rules::entities::Entities;
+use c_expression_rules::literal::Literals;
 use c_expression_rules::sight::Sight;
 use c_expression_rules::signature::Functions;
+use c_expression_rules::tag::Tags;
+use c_expression_rules::type_name::TypeNames;
 use c_syntax::fault::ReadFault;
 use c_syntax::logic::{Annot, Body, Pred, PredKind};
 use c_syntax::{BinOp, FrontFault, Name, Range, Tokens, code};
@@ -101,15 +104,15 @@ fn sight_of(rt: &impl AllocGlobal, names: Vec<Name>) -> Sight {
     let alloc = rt.alloc();
     Sight {
         names,
-        texts: Vec::new(alloc),
+        texts: Literals::new(alloc),
         functions: Functions::new(alloc),
         entities: Entities::new(alloc),
         innermost: 0,
-        types: Vec::new(alloc),
+        types: TypeNames::new(alloc),
         structs: Vec::new(alloc),
         levels: Vec::new(alloc),
-        enum_tags: Vec::new(alloc),
-        enums: Vec::new(alloc),
+        enum_tags: Tags::new(alloc),
+        enums: Tags::new(alloc),
     }
 }
 

@@ -1,4 +1,4 @@
-use Rattle.std.proofs.Common.{◌≡◌, ◌∙◌, ◌<◌, ◌+◌, rules, arith, ap, sym, subst, suc, [], ◌∷◌, ◌++◌, drop, length, slice_set, take, true, false, None, Some, Err}
+use Rattle.std.proofs.Common.{◌≡◌, ◌∙◌, ◌<◌, ◌+◌, rules, arith, ap, sym, subst, suc, [], ◌∷◌, ◌++◌, drop, length, slice_set, take, true, false, None, Some}
 use Rattle.c_syntax.specs.Ctypes.{plain_type}
 use Rattle.c_syntax.specs.declared.statement.Init as init
 use Rattle.c_syntax.specs.Statements.{One, NoInitialiser, plain_init, plain_inits}

@@ -6,10 +6,10 @@ use Rattle.c_model.specs.ExpressionTyping.{HasSize, Sight, sized}
 use Rattle.c_expression_rules.specs.Answers.{Answers}
 use Rattle.c_expression_rules.specs.Sights.{plain_sight}
 use Rattle.c_declaration_rules.specs.declared.layout.Grown.{Grown}
-use Rattle.c_declaration_rules.specs.Members.{GrowsTo, checked_member, with_grown}
-use Rattle.c_declaration_rules.specs.OpenStructs.{IsOpenAt}
+use Rattle.c_declaration_rules.specs.Members.{GrowsTo, checked_member, ended, with_grown, with_last_member}
+use Rattle.c_declaration_rules.specs.OpenStructs.{IsOpen, IsOpenAt}
 use Rattle.c_declaration_rules.proofs.Members.{at_place, member_made, member_refused}
-use Rattle.c_declaration_rules.proofs.OpenStructs.{open_more}
+use Rattle.c_declaration_rules.proofs.OpenStructs.{open_more, others_open}
 use Rattle.c_declaration_rules.proofs.member.type_next_member.Goals as goal
 
 pub type_new_member-requires-clause-laid : goal.type_new_member-requires-clause-laid
@@ -53,6 +53,17 @@ returns-clause-begun c = λ goes.
     let new = c.in_ok-see_member.ensures struct there ∙ ap (with_grown s c.args.k struct m' g) goes in
     subst (λ (z : Sight). IsOpenAt z.structs c.args.k c.insert.new.self) (sym new)
     (open_more s.structs c.args.k struct m' g c.args.names.now c.insert.new.self c.type_new_member.new.m.name there before.0 before.1 size grows c.in_ok-insert.ensures.updates.0 refl)
+
+pub returns-clause-others : goal.returns-clause-others
+returns-clause-others c = λ begun none opened.
+    let s = plain_sight c.args.sight.now in
+    let l = c.index.result.now in
+    let struct = plain_layout l in
+    let m' = plain_member c.type_new_member.new.m in
+    let there : slice_get s.structs c.args.k ≡ Some struct = at_place c.args.sight.now.structs.items c.args.k l (search (rules, arith)) (search rules) in
+    let laid = (c.requires.begun struct there).0 in
+    let z = ended c.args.ends (with_last_member struct m' c.in_ok-grown.grown) in
+    subst (λ (t : Sight). IsOpen t.structs begun) (sym (c.in_ok-see_member.ensures struct there)) (others_open s.structs c.args.k z struct begun.names there laid.unsized none opened)
 
 pub returns-in_err-grown-clause-typed : goal.returns-in_err-grown-clause-typed
 returns-in_err-grown-clause-typed c =

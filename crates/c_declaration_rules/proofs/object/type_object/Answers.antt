@@ -1,4 +1,3 @@
-use Rattle.std.proofs.Common.{rules}
 use Rattle.c_syntax.specs.Ctypes.{plain_type}
 use Rattle.c_model.specs.ExpressionTyping.{known_type}
 use Rattle.c_model.specs.DeclarationTyping.{completed}

@@ -8,7 +8,7 @@ use Rattle.c_expression_rules.specs.Answers.{Answers}
 use Rattle.c_expression_rules.specs.Constants.{has_small_sizes}
 use Rattle.c_expression_rules.specs.Forms.{cast_parts, size_of_parts, typed_call, typed_elements, typed_kind, typed_two}
 use Rattle.c_expression_rules.specs.Sights.{plain_sight}
-use Rattle.c_expression_rules.proofs.Besides.{asked_answers, limited_told, sized_type}
+use Rattle.c_expression_rules.proofs.Besides.{asked_answers, limited_told}
 use Rattle.c_expression_rules.proofs.Expressions.{call_form, call_refused, arguments_step, form_is, params_step}
 use Rattle.c_expression_rules.proofs.InPlace.{done, seen, unvisited_step, within_step}
 use Rattle.c_expression_rules.proofs.Least.{both_answers, both_made, both_refused, one_refused}

@@ -1,4 +1,4 @@
-use Rattle.std.proofs.Common.{◌≡◌, sym, rules, nat_eq}
+use Rattle.std.proofs.Common.{sym, rules, nat_eq}
 use Rattle.c_syntax.specs.Programs.{Function, plain_func}
 use Rattle.c_model.specs.UnitTyping.{function_name}
 use Rattle.indexmap.specs.IndexMap.{get}

@@ -1,12 +1,51 @@
-use Rattle.std.proofs.Common.{◌∷◌, [], rules, nat_eq}
+use Rattle.std.proofs.Common.{◌∷◌, [], rules, nat_eq, subst, sym}
 use Rattle.indexmap.specs.IndexMap.{get}
 use Rattle.c_syntax.specs.Statements.{Declaration, plain_decl}
 use Rattle.c_syntax.specs.Programs.{Function, plain_func}
 use Rattle.c_model.specs.UnitTyping.{AFunction, AGlobal, ATypedef}
 use Rattle.c_expression_rules.specs.Answers.{Answers}
+use Rattle.c_expression_rules.specs.Sights.{plain_sight}
+use Rattle.c_declaration_rules.specs.OpenStructs.{IsOpen}
+use Rattle.c_declaration_rules.proofs.OpenStructs.{kept_open}
 use Rattle.c_typing.specs.Files.{Course, defined_in_turn, global_in_turn, item_in_turn, plain_course, typedef_in_turn}
 use Rattle.c_expression_rules.proofs.Lists.{made_of}
+use Rattle.c_typing.proofs.ItemParts.{still_open}
 use Rattle.c_typing.proofs.item.type_item.Goals as goal
+
+pub type_member-requires : goal.type_member-requires
+type_member-requires c = subst (IsOpen (plain_sight c.args.course.now.sight).structs) (sym c.replace-last.ensures.value) c.requires
+
+pub returns-in-Head-clause-begun : goal.returns-in-Head-clause-begun
+returns-in-Head-clause-begun c =
+    let before = (plain_sight c.args.course.now.sight).structs in
+    let structs = (plain_sight c.type_head.new.course.sight).structs in
+    let last = subst (IsOpen before) (sym c.replace-last.ensures.value) c.requires in
+    kept_open c.keep.result c.type_head.result structs c.keep.new.begun c.replace-last.new.dest c.replace-last.result c.keep.ensures.same (still_open c.type_head.result before structs c.replace-last.result c.type_head.ensures.structs last)
+    c.keep.ensures.kept c.keep.ensures.refused (subst (IsOpen structs) (sym c.replace-last.ensures.after) (c.new.ensures structs))
+
+pub returns-in-Enum-clause-begun : goal.returns-in-Enum-clause-begun
+returns-in-Enum-clause-begun c =
+    let before = (plain_sight c.args.course.now.sight).structs in
+    let structs = (plain_sight c.type_enum.new.course.sight).structs in
+    let last = subst (IsOpen before) (sym c.replace-last.ensures.value) c.requires in
+    kept_open c.keep-in-Enum.result c.type_enum.result structs c.keep-in-Enum.new.begun c.replace-last.new.dest c.replace-last.result c.keep-in-Enum.ensures.same
+    (still_open c.type_enum.result before structs c.replace-last.result c.type_enum.ensures.structs last) c.keep-in-Enum.ensures.kept c.keep-in-Enum.ensures.refused
+    (subst (IsOpen structs) (sym c.replace-last.ensures.after) (c.new.ensures structs))
+
+pub returns-in-Typedef-clause-begun : goal.returns-in-Typedef-clause-begun
+returns-in-Typedef-clause-begun c =
+    let structs = (plain_sight c.type_alias.new.course.sight).structs in
+    subst (IsOpen structs) (sym c.replace-last.ensures.after) (c.new.ensures structs)
+
+pub returns-in-Global-clause-begun : goal.returns-in-Global-clause-begun
+returns-in-Global-clause-begun c =
+    let structs = (plain_sight c.type_object.new.course.sight).structs in
+    subst (IsOpen structs) (sym c.replace-last.ensures.after) (c.new.ensures structs)
+
+pub returns-in-Function-clause-begun : goal.returns-in-Function-clause-begun
+returns-in-Function-clause-begun c =
+    let structs = (plain_sight c.type_defined.new.course.sight).structs in
+    subst (IsOpen structs) (sym c.replace-last.ensures.after) (c.new.ensures structs)
 
 pub returns-in-Typedef-clause-typed : goal.returns-in-Typedef-clause-typed
 returns-in-Typedef-clause-typed c =

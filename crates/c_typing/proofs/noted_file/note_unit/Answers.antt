@@ -12,7 +12,7 @@ pub note_each-noted-requires : goal.note_each-noted-requires
 note_each-noted-requires c =
     let p = plain_program c.args.program.now in
     let told : (x : ℕ) → get nat_eq c.in_ok-numbers.numbers x ≡ denoted p.funcs x = λ x. c.in_ok-numbers.ensures x ∙ ap (λ fs. denoted (map plain_func fs) x) c.deref.ensures.value in
-    let tags : c.in_ok-tags.tags.items ≡ tags_of p.enums = c.in_ok-tags.ensures ∙ ap (λ es. tags_of (map plain_enum es)) c.deref-2.ensures.value in
+    let tags : c.in_ok-tags.tags.list.items ≡ tags_of p.enums = c.in_ok-tags.ensures ∙ ap (λ es. tags_of (map plain_enum es)) c.deref-2.ensures.value in
     let left : plain_program c.take_declared.new.program ≡ without_kinds p = c.in_ok-items.ensures.left in
     let first : plain_sight c.in_ok-course.course.sight ≡ sight_with p p.structs = ap (λ d. d.sight) c.in_ok-course.ensures.first ∙ (λ i. first_in (left i) (tags i)) in
     known_start p c.requires (get nat_eq c.in_ok-numbers.numbers) (plain_sight c.in_ok-course.course.sight) (map plain_file_item c.in_ok-items.items.items) told first c.in_ok-items.ensures.items
@@ -22,7 +22,7 @@ returns c =
     let p = plain_program c.args.program.now in
     let q = plain_program c.finish.new.program in
     let told : (x : ℕ) → get nat_eq c.in_ok-numbers.numbers x ≡ denoted p.funcs x = λ x. c.in_ok-numbers.ensures x ∙ ap (λ fs. denoted (map plain_func fs) x) c.deref.ensures.value in
-    let tags : c.in_ok-tags.tags.items ≡ tags_of p.enums = c.in_ok-tags.ensures ∙ ap (λ es. tags_of (map plain_enum es)) c.deref-2.ensures.value in
+    let tags : c.in_ok-tags.tags.list.items ≡ tags_of p.enums = c.in_ok-tags.ensures ∙ ap (λ es. tags_of (map plain_enum es)) c.deref-2.ensures.value in
     let left : plain_program c.take_declared.new.program ≡ without_kinds p = c.in_ok-items.ensures.left in
     let first : plain_sight c.in_ok-course.course.sight ≡ sight_with p p.structs = ap (λ d. d.sight) c.in_ok-course.ensures.first ∙ (λ i. first_in (left i) (tags i)) in
     let o : plain_program c.first_course.new.program ≡ without_sight (without_kinds p) = c.in_ok-course.ensures.left ∙ ap without_sight left in

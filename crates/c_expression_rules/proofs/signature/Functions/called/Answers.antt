@@ -1,14 +1,17 @@
 use Rattle.std.proofs.Common.{rules, arith}
-use Rattle.c_expression_rules.proofs.Signatures.{first_within, found, not_found}
+use Rattle.c_expression_rules.specs.Signatures.{name_of_function}
+use Rattle.c_expression_rules.proofs.Firsts.{first_within}
+use Rattle.c_expression_rules.proofs.Named.{called, none_called}
 use Rattle.c_expression_rules.proofs.signature.Functions.called.Goals as goal
 
 pub index-requires : goal.index-requires
 index-requires c =
-    let within = first_within c.args.self.now.signatures.items c.args.self.now.firsts.entries c.args.name c.in-Some.number.now c.args.self.now.first (search rules) in
-    omega (arith, within, c.args.self.now.signatures.ok)
+    let self = c.args.self.now in
+    let within = first_within name_of_function self.signatures.items self.firsts.entries c.args.name c.in-Some.number.now self.first (search rules) in
+    omega (arith, within, self.signatures.ok)
 
 pub returns-in-Some : goal.returns-in-Some
-returns-in-Some c = found c.args.self.now.signatures.items c.args.self.now.firsts.entries c.args.name c.in-Some.number.now c.index.result.now c.args.self.now.first (search rules) (search rules)
+returns-in-Some c = let self = c.args.self.now in called self.signatures.items self.firsts.entries c.args.name c.in-Some.number.now c.index.result.now self.first (search rules) (search rules)
 
 pub returns-in-None : goal.returns-in-None
-returns-in-None c = not_found c.args.self.now.signatures.items c.args.self.now.firsts.entries c.args.name c.args.self.now.first (search rules)
+returns-in-None c = let self = c.args.self.now in none_called self.signatures.items self.firsts.entries c.args.name self.first (search rules)
