@@ -25,7 +25,7 @@ abbrev no : PlainToken → ℕ
 no t = 0
 
 module _ (ws : Vocabulary) where
-  lengths_line : Same (parsed.lengths ws) (production.lengths ws)
+  pub lengths_line : Same (parsed.lengths ws) (production.lengths ws)
   unfolding parsed.lengths brackets next_bracket bracket length_or_none written_length
   lengths_line =
       both

@@ -155,12 +155,12 @@ parts_with x s = record x { definitions = s.definitions }
 
 abbrev Three : Storage → PlainType → FileParts → Syntax PlainToken FileParts
 Three k t x =
-    only (not (is_typedef k)) (production.variables x.words t x) or only (not (is_typedef k)) (production.function x.words t x) or only (is_typedef k) (production.typedefs t x)
+    only (not (is_typedef k)) (production.variables x.words t x) or only (is_typedef k) (production.typedefs t x) or only (not (is_typedef k)) (production.function x.words t x)
 
 behind_forth : (k : Storage) (t : PlainType) (x : FileParts) → Within (behind_spec k t x) (Three k t x)
-behind_forth storage.Typedef t x = forth (typedefs_line t x) so second no [] none (second no [] none (itself (production.typedefs t x)))
-behind_forth storage.Static t x = declared_forth x.words t x so each no [] no [] (itself (production.variables x.words t x)) (first no [] none (itself (production.function x.words t x)))
-behind_forth storage.Nothing t x = declared_forth x.words t x so each no [] no [] (itself (production.variables x.words t x)) (first no [] none (itself (production.function x.words t x)))
+behind_forth storage.Typedef t x = forth (typedefs_line t x) so second no [] none (first no [] none (itself (production.typedefs t x)))
+behind_forth storage.Static t x = declared_forth x.words t x so each no [] no [] (itself (production.variables x.words t x)) (second no [] none (itself (production.function x.words t x)))
+behind_forth storage.Nothing t x = declared_forth x.words t x so each no [] no [] (itself (production.variables x.words t x)) (second no [] none (itself (production.function x.words t x)))
 
 typedefs_empty : (t : PlainType) (x : FileParts) → (full_dtor x.words named.Ordinary).begun [] → (typedefs t x).begun []
 unfolding typedefs
@@ -170,14 +170,14 @@ dtor_empty : (ws : Vocabulary) → (full_dtor ws named.Ordinary).begun []
 unfolding full_dtor dtor star_words
 dtor_empty ws = inl (0, inr refl)
 
-declared_only : (x : FileParts) (t : PlainType) → Within (production.variables x.words t x or production.function x.words t x or none) (declared_at_file x.words t x)
+declared_only : (x : FileParts) (t : PlainType) → Within (production.variables x.words t x or none or production.function x.words t x) (declared_at_file x.words t x)
 declared_only x t =
     either no [] (first no [] (production.function x.words t x) (itself (production.variables x.words t x)) so declared_back x.words t x)
-    (either no [] (second no [] (production.variables x.words t x) (itself (production.function x.words t x)) so declared_back x.words t x) (nothing (declared_at_file x.words t x) (declared_empty x.words t x)))
+    (either no [] (nothing (declared_at_file x.words t x) (declared_empty x.words t x)) (second no [] (production.variables x.words t x) (itself (production.function x.words t x)) so declared_back x.words t x))
 
 behind_spec_back : (k : Storage) (t : PlainType) (x : FileParts) → Within (Three k t x) (behind_spec k t x)
 behind_spec_back storage.Typedef t x =
-    either no [] (nothing (typedefs t x) (typedefs_empty t x (dtor_empty x.words))) (either no [] (nothing (typedefs t x) (typedefs_empty t x (dtor_empty x.words))) (back (typedefs_line t x)))
+    either no [] (nothing (typedefs t x) (typedefs_empty t x (dtor_empty x.words))) (either no [] (back (typedefs_line t x)) (nothing (typedefs t x) (typedefs_empty t x (dtor_empty x.words))))
 behind_spec_back storage.Static t x = declared_only x t
 behind_spec_back storage.Nothing t x = declared_only x t
 
@@ -188,8 +188,8 @@ external_line x =
     both
     (on Spec (λ s. behind_forth s.storage s.ctype (parts_with x s))
     so apart_after no [] Spec (λ s. only (not (is_typedef s.storage)) (production.variables x.words s.ctype (parts_with x s)))
-    (λ s. only (not (is_typedef s.storage)) (production.function x.words s.ctype (parts_with x s)) or only (is_typedef s.storage) (production.typedefs s.ctype (parts_with x s)))
-    so each no [] no [] (itself _) (apart_after no [] Spec (λ s. only (not (is_typedef s.storage)) (production.function x.words s.ctype (parts_with x s))) (λ s. only (is_typedef s.storage) (production.typedefs s.ctype (parts_with x s)))))
+    (λ s. only (is_typedef s.storage) (production.typedefs s.ctype (parts_with x s)) or only (not (is_typedef s.storage)) (production.function x.words s.ctype (parts_with x s)))
+    so each no [] no [] (itself _) (apart_after no [] Spec (λ s. only (is_typedef s.storage) (production.typedefs s.ctype (parts_with x s))) (λ s. only (not (is_typedef s.storage)) (production.function x.words s.ctype (parts_with x s)))))
     (either no [] (on Spec (λ s. first no [] _ (itself _) so behind_spec_back s.storage s.ctype (parts_with x s)))
     (either no [] (on Spec (λ s. second no [] _ (first no [] _ (itself _)) so behind_spec_back s.storage s.ctype (parts_with x s)))
     (on Spec (λ s. second no [] _ (second no [] _ (itself _)) so behind_spec_back s.storage s.ctype (parts_with x s)))))

@@ -4,6 +4,7 @@ use Rattle.std.proofs.lemmas.List.{append-nil}
 use Rattle.grammar.specs.Syntax.{Syntax, none, gives, ◌then◌, choice, loop, many, limit, deep, at_most}
 use Rattle.grammar.specs.Exact.{Same}
 use Rattle.grammar.proofs.Forms.{to_left}
+use Rattle.grammar_laws.specs.Plain.{◌but◌}
 
 pub record Within {T A : Type 0} (G H : Syntax T A) : Type 0 where
   pub reads : (a : List T) (x : A) → G.reads a x → H.reads a x
@@ -342,3 +343,16 @@ capped_within {T} {A} label most {G} {H} w = record { reads = λ a x r. (w.reads
     by_late : (i : ℕ) (a : List T) (t : T) → (at_most label most G).late i a t → (at_most label most H).late i a t
     by_late i a t (inl l) = inl (w.late i a t l)
     by_late i a t (inr (e, q, b)) = inr (e, q, w.begun (a ++ (t ∷ [])) b)
+
+-- ---- all but what another reads
+
+pub but_forth : {T A B : Type 0} {X G : Syntax T A} (F : Syntax T B) → Within X G → ((a : List T) (x : A) (y : B) → X.reads a x → F.reads a y → ⊥) → Within X (G but F)
+but_forth F w apart = record { reads = λ a x r. (w.reads a x r, λ y s. apart a x y r s); begun = w.begun; late = w.late }
+
+-- what begins and limits G does so in X too
+pub record Bounds {T A : Type 0} (G X : Syntax T A) : Type 0 where
+  pub begun : (a : List T) → G.begun a → X.begun a
+  pub late : (i : ℕ) (a : List T) (t : T) → G.late i a t → X.late i a t
+
+pub but_back : {T A B : Type 0} {X G : Syntax T A} (F : Syntax T B) → Bounds G X → ((a : List T) (x : A) → G.reads a x → ((y : B) → F.reads a y → ⊥) → X.reads a x) → Within (G but F) X
+but_back F w reads = record { reads = λ a x r. reads a x r.0 r.1; begun = w.begun; late = w.late }

@@ -13,6 +13,8 @@ pub mod DeclarationProductions
 pub mod StatementProductions
 pub mod FileProductions
 pub mod DeclaratorProductions
+pub mod FirstWords
+pub mod ParameterProductions
 pub mod AnnotationProductions
 pub mod ChainProductions
 pub mod MonitoredProductions

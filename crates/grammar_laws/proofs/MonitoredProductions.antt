@@ -64,7 +64,7 @@ module _ (ws : Vocabulary) where
     Behind = behind_paren ws O B
 
     abbrev Alternatives : Tree
-    Alternatives = production.negation ws E or production.complement ws E or production.load ws O E or production.cast ws O E or production.binary ws E
+    Alternatives = production.binary ws E or production.negation ws E or production.complement ws E or production.cast ws O E or production.load ws O E
 
     constant_in : Within (parsed.constant ws O) E
     unfolding expression_with other_expression
@@ -84,7 +84,7 @@ module _ (ws : Vocabulary) where
 
     to_binary : Within (Open then λ _. E then Rest) Alternatives
     unfolding second_operand
-    to_binary = second no [] _ (second no [] _ (second no [] _ (second no [] _ (itself _))))
+    to_binary = first no [] _ (itself _)
 
     two_forth : Within (O then λ at. behind_two ws E B at) ((O then λ at. parsed.cast ws E at) or (E then Rest))
     unfolding behind_two
@@ -99,9 +99,9 @@ module _ (ws : Vocabulary) where
     behind_forth : Within (Open then λ _. Behind) Alternatives
     unfolding behind_paren parsed.negation parsed.complement parsed.load pointed_type
     behind_forth =
-        after_either (kind ws) (mark_kind minus ∷ []) Open _ _ (first no [] _ (itself _))
-        (after_either (kind ws) (mark_kind tilde ∷ []) Open _ _ (second no [] _ (first no [] _ (itself _)))
-        (after_either (kind ws) (mark_kind times ∷ []) Open _ _ (second no [] _ (second no [] _ (first no [] _ (itself _))))
+        after_either (kind ws) (mark_kind minus ∷ []) Open _ _ (second no [] _ (first no [] _ (itself _)))
+        (after_either (kind ws) (mark_kind tilde ∷ []) Open _ _ (second no [] _ (second no [] _ (first no [] _ (itself _))))
+        (after_either (kind ws) (mark_kind times ∷ []) Open _ _ (second no [] _ (second no [] _ (second no [] _ (second no [] _ (itself _)))))
         (after_either (kind ws) (mark_kind left_paren ∷ []) Open _ _
         (on Open (λ _. two_forth) so apart_after no [] Open (λ _. O then λ at. parsed.cast ws E at) (λ _. E then Rest) so either no [] to_cast to_binary)
         (on Open (λ _. in_turn plain_in (λ left. itself (Rest left))) so to_binary))))
@@ -164,7 +164,7 @@ module _ (ws : Vocabulary) where
 
     behind_back : Within Alternatives (Open then λ _. Behind)
     behind_back =
-        either no [] negation_back (either no [] complement_back (either no [] load_back (either no [] (cast_back so on Open (λ _. two_back)) (binary_back so on Open (λ _. sum_back)))))
+        either no [] (binary_back so on Open (λ _. sum_back)) (either no [] negation_back (either no [] complement_back (either no [] (cast_back so on Open (λ _. two_back)) load_back)))
 
     abbrev Head : Tree
     Head = Named or parsed.constant ws Open or (Open then λ _. Behind)
@@ -392,16 +392,19 @@ module _ (ws : Vocabulary) where
       (either (kind ws) (name_kind ∷ []) (name_forth no_step so either no [] (first no [] _ (itself (production.set ws))) (second no [] _ (first no [] _ (itself (production.called ws no_step)))))
       (second no [] _ (second no [] _
       (each (kind ws) (mark_kind times ∷ []) no [] (forth store_line)
-      (each (kind ws) (mark_kind left_brace ∷ []) no [] (forth (labelled_line S))
-      (each (kind ws) (if_kind ∷ []) no [] (forth (selection_line S))
-      (each (kind ws) (while_kind ∷ []) no [] (forth (iteration_line S)) (each (kind ws) (goto_kind ∷ []) no [] (forth jump_line) (forth return_line)))))))))
+      (either (kind ws) (mark_kind left_brace ∷ []) (second no [] _ (second no [] _ (first no [] _ (forth (labelled_line S)))))
+      (either (kind ws) (if_kind ∷ []) (first no [] _ (forth (selection_line S)))
+      (either (kind ws) (while_kind ∷ []) (second no [] _ (first no [] _ (forth (iteration_line S))))
+      (second no [] _ (second no [] _ (second no [] _ (each (kind ws) (goto_kind ∷ []) no [] (forth jump_line) (forth return_line))))))))))))
       (either no [] (first (kind ws) (name_kind ∷ []) _ (first no [] _ (itself (production.set ws)) so name_back no_step))
       (either no [] (first (kind ws) (name_kind ∷ []) _ (second no [] _ (itself (production.called ws no_step)) so name_back no_step))
       (second (kind ws) (name_kind ∷ []) _
       (each no [] (kind ws) (mark_kind times ∷ []) (back store_line)
-      (each no [] (kind ws) (mark_kind left_brace ∷ []) (back (labelled_line S))
-      (each no [] (kind ws) (if_kind ∷ []) (back (selection_line S))
-      (each no [] (kind ws) (while_kind ∷ []) (back (iteration_line S)) (each no [] (kind ws) (goto_kind ∷ []) (back jump_line) (back return_line)))))))))
+      (either no [] (second (kind ws) (mark_kind left_brace ∷ []) _ (first (kind ws) (if_kind ∷ []) _ (back (selection_line S))))
+      (either no [] (second (kind ws) (mark_kind left_brace ∷ []) _ (second (kind ws) (if_kind ∷ []) _ (first (kind ws) (while_kind ∷ []) _ (back (iteration_line S)))))
+      (either no [] (first (kind ws) (mark_kind left_brace ∷ []) _ (back (labelled_line S)))
+      (second (kind ws) (mark_kind left_brace ∷ []) _ (second (kind ws) (if_kind ∷ []) _ (second (kind ws) (while_kind ∷ []) _
+      (each no [] (kind ws) (goto_kind ∷ []) (back jump_line) (back return_line))))))))))))
 
   statement_in_depth : (n : ℕ) (no_step : Bool) → Same (statement_in ws (suc n) no_step) (statement_with ws (statement_in ws n) no_step)
   unfolding statement_in

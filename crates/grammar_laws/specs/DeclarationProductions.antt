@@ -1,26 +1,33 @@
 -- The productions of declarations as the head of c_model/specs/DeclarationGrammar has them (C99 6.7). What a production is made of are the
 -- values that are parsed; L stands for a list inside another, and B for braces inside others.
-use Rattle.std.specs.Prelude.{List, [], ◌∷◌, ◌++◌, Some, None}
+use Rattle.std.specs.Prelude.{ℕ, List, [], ◌∷◌, ◌++◌, Option, Some, None}
 use Rattle.grammar.specs.Syntax.{at_most, Syntax, gives, ◌then◌}
 use Rattle.grammar_laws.specs.ExpressionProductions.{stars}
-use Rattle.grammar_laws.specs.Plain.{◌or◌, repeated}
+use Rattle.grammar_laws.specs.Plain.{◌or◌, ◌but◌, repeated, with_first}
 use Rattle.c_syntax.specs.Ctypes.{PlainLength, Left, Written, PlainType}
 use Rattle.c_syntax.specs.Statements.{Declaration, BlockItem, Declare, Specify, Initialiser, One, Many}
 use Rattle.c_syntax.specs.declared.place.Place.{Place}
 use Rattle.c_syntax.specs.Programs.{StructMember, EnumConstant}
-use Rattle.c_syntax.specs.Tokens.{PlainToken}
+use Rattle.c_syntax.specs.Tokens as token
+use Rattle.c_syntax.specs.Tokens.{PlainToken, PlainTokenKind}
 use Rattle.c_model.specs.declared.declarations.Named.{Named}
-use Rattle.c_model.specs.Punctuators.{left_bracket, right_bracket, assign, semicolon, comma, left_brace, right_brace}
-use Rattle.c_model.specs.Terminals.{expression_limit}
+use Rattle.c_model.specs.Punctuators.{left_bracket, right_bracket, assign, semicolon, comma, left_brace, right_brace, right_paren}
+use Rattle.c_model.specs.Terminals.{expression_limit, placed}
 use Rattle.c_model.specs.ExpressionGrammar.{most_in_expression, expression, type_words, mark, reserved, name, any_name, consts, base, full_expression}
 use Rattle.c_model.specs.ExpressionGrammar.{full_expression_or_call}
+use Rattle.c_model.specs.declared.vocabulary.Keyword.TheVariants as keyword
 use Rattle.c_model.specs.DeclarationGrammar.{Declarator, declared_by, declared_name, Braces, TagHead, Definitions, tag_word, initialisers, member_of}
-use Rattle.c_model.specs.DeclarationGrammar.{with_struct, with_enum}
+use Rattle.c_model.specs.DeclarationGrammar.{with_struct, with_enum, AbstractDeclarator, parameter_of}
 use Rattle.c_model.specs.declared.declarations.Named.TheVariants as named
 use Rattle.c_model.specs.declared.declarations.Tagged.{Tagged}
 use Rattle.c_model.specs.declared.declarations.Tagged.TheVariants as tagged
 use Rattle.c_model.specs.Vocabulary.{Vocabulary}
 use Rattle.c_model.specs.DeclarationGrammar as parsed
+
+-- the number of a word
+abbrev pub word_number : PlainTokenKind → Option ℕ
+word_number (token.Word n) = Some n
+word_number _ = None
 
 module _ (ws : Vocabulary) where
   -- item { "," item } [ "," ]
@@ -118,3 +125,26 @@ module _ (ws : Vocabulary) where
   -- decl = words [ declared { "," declared } ] ";"
   abbrev pub decl : Syntax PlainToken BlockItem
   decl = type_words ws then λ t. declared_list t
+
+  -- { "*" { "const" } } [ NAME ] { "[" [ expr ] "]" }, at most 400 tokens
+  abbrev pub abstract_dtor : Syntax PlainToken AbstractDeclarator
+  abstract_dtor =
+      at_most expression_limit most_in_expression
+      (stars ws then λ s. ((name ws then λ x. gives (Some x)) or gives None) then λ x. lengths then λ ns.
+      gives (record { stars = s; name = x; lengths = ns }))
+
+  -- param = words { "*" { "const" } } [ NAME ] { "[" [ expr ] "]" }, which is no "void" alone. One without a name has the number and the place
+  -- of its first word
+  abbrev pub param : Syntax PlainToken Declaration
+  param =
+      (with_first (placed word_number) (type_words ws) then λ t. abstract_dtor then λ d. gives (parameter_of t.0 t.1 d)) but reserved ws keyword.Void
+
+  -- params = [ "void" ] | param { "," param }
+  abbrev pub params : Syntax PlainToken (List Declaration)
+  params =
+      ((reserved ws keyword.Void then λ _. gives []) or gives [])
+      or (parsed.parameter ws then λ p. repeated (λ ps. mark ws comma then λ _. parsed.parameter ws then λ q. gives (ps ++ q ∷ [])) (p ∷ []))
+
+  -- params ")"
+  abbrev pub closed_params : Syntax PlainToken (List Declaration)
+  closed_params = params then λ ps. mark ws right_paren then λ _. gives ps

@@ -78,13 +78,13 @@ abbrev pub typedefs : PlainType → FileParts → Syntax PlainToken FileParts
 typedefs t x =
     full_dtor x.words named.Ordinary then λ d. repeated (next_typedef t) (with_typedef t x d) then λ y. mark y.words semicolon then λ _. gives y
 
--- external = spec [ declared { "," declared } ] ";" | spec { "*" } NAME "(" params ")" ( ";" | body ) | spec dtor { "," dtor } ";",
--- the last with "typedef" among the words of the spec, and the others without
+-- external = spec [ declared { "," declared } ] ";" | spec dtor { "," dtor } ";" | spec { "*" } NAME "(" params ")" ( ";" | body ),
+-- the second with "typedef" among the words of the spec, and the others without
 abbrev pub external : FileParts → Syntax PlainToken FileParts
 external x =
     (file_spec x.words x.definitions then λ s. only (not (is_typedef s.storage)) (variables x.words s.ctype (record x { definitions = s.definitions })))
-    or (file_spec x.words x.definitions then λ s. only (not (is_typedef s.storage)) (function x.words s.ctype (record x { definitions = s.definitions })))
     or (file_spec x.words x.definitions then λ s. only (is_typedef s.storage) (typedefs s.ctype (record x { definitions = s.definitions })))
+    or (file_spec x.words x.definitions then λ s. only (not (is_typedef s.storage)) (function x.words s.ctype (record x { definitions = s.definitions })))
 
 -- unit = { { annotation } external }, after these parts
 abbrev pub unit : FileParts → Syntax PlainToken FileParts

@@ -1,5 +1,5 @@
 -- The productions of monitored C as the head of mon_syntax/specs/Grammar has them. What a production is made of are the values that are parsed;
--- S stands for a statement in a body. Alternatives stand in the order in which they are told apart.
+-- S stands for a statement in a body.
 use Rattle.std.specs.Prelude.{◌-◌, ℤ, neg_ℤ, List, [], ◌∷◌, ◌++◌, Some, None, Bool, false, ◌&&◌, cond}
 use Rattle.grammar.specs.Syntax.{Syntax, none, gives, one, ◌then◌}
 use Rattle.grammar_laws.specs.Plain.{◌or◌, repeated}
@@ -66,7 +66,7 @@ module _ (ws : Vocabulary) where
   -- expr
   abbrev pub expr : Syntax PlainToken Place → Syntax PlainToken ParsedExpression → Syntax PlainToken ParsedExpression
   expr O E =
-      (name ws then λ x. gives (Name x)) or constant Open or negation E or complement E or load O E or cast O E or binary E
+      (name ws then λ x. gives (Name x)) or constant Open or binary E or negation E or complement E or cast O E or load O E
 
   -- expr, where O stands for each parenthesis, and nothing after it
   abbrev pub least_expr : Syntax PlainToken Place → Syntax PlainToken ParsedExpression
@@ -155,7 +155,7 @@ module _ (ws : Vocabulary) where
   -- statement
   abbrev pub statement : InBody ws → InBody ws
   statement S no_step =
-      set or called no_step or store or labelled S or selection S or iteration S or jump or return_statement
+      set or called no_step or store or selection S or iteration S or labelled S or jump or return_statement
 
   -- ---- texts
 

@@ -1,7 +1,7 @@
 -- Ours: the words in which a grammar is written down. No kind of a token decides here, for what is said of such a production
 -- is what it reads, what begins it and where it passes a limit, and never how it is read.
-use Rattle.std.specs.Prelude.{[]}
-use Rattle.grammar.specs.Syntax.{Syntax, gives, ◌then◌, choice, many, knot}
+use Rattle.std.specs.Prelude.{◌≡◌, List, [], ◌∷◌, length, Option, Some, None, Ok, Err}
+use Rattle.grammar.specs.Syntax.{Syntax, gives, ◌then◌, choice, many, knot, At, ◌>>=◌}
 
 module _ {T A : Type 0} where
   -- G | H
@@ -16,3 +16,27 @@ module _ {T A : Type 0} where
 -- { item }, where the value of each is put before those after it
 abbrev pub folded : {T I A : Type 0} → Syntax T I → (I → A → A) → A → Syntax T A
 folded {T} {I} {A} item before end = knot {S = Unit {0}} (λ R u. (item then λ i. R u then λ rest. gives (before i rest)) or gives end) tt
+
+-- what G reads and F doesn't
+infixr 8 ◌but◌
+abbrev pub ◌but◌ : {T A B : Type 0} → Syntax T A → Syntax T B → Syntax T A
+G but F = record {
+  reads = λ a x. G.reads a x × ((y : _) → F.reads a y → ⊥);
+  begun = G.begun;
+  late = G.late;
+  parse = G.parse;
+}
+
+-- what f says of the first token
+abbrev pub of_first : {T B : Type 0} → (T → Option B) → List T → Option B
+of_first f [] = None
+of_first f (t ∷ ts) = f t
+
+-- what G reads, with what f says of its first token
+abbrev pub with_first : {T A B : Type 0} → (T → Option B) → Syntax T A → Syntax T (A × B)
+with_first f G = record {
+  reads = λ a x. G.reads a x.0 × (of_first f a ≡ Some x.1);
+  begun = G.begun;
+  late = G.late;
+  parse = λ ts. G.parse ts >>= λ x. elim (of_first f ts) [ Some y ↦ Ok ((x.0, y), x.1) | None ↦ Err (At (length ts)) ];
+}

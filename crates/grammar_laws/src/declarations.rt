@@ -10,10 +10,12 @@ ghost use Rattle.grammar_laws.specs.DeclarationProductions as production;
 ghost use Rattle.grammar_laws.specs.Laws.{BracesAreProductions, DeeperBracesAreLate, DeeperListsAreLate, ListsAreProductions, MembersAreProductions};
 ghost use Rattle.grammar_laws.specs.Laws.{TypesAreProductions};
 
-/// Declarators, and declarations in a function.
+/// Declarators, declarations in a function, and parameters up to their parenthesis.
 pub fn declarations()
     ensures dtor { (words : Vocabulary) (kind : Named) → Same (parsed.full_dtor words kind) (production.dtor words kind) }
     ensures decl { (words : Vocabulary) → Same (parsed.declaration words) (production.decl words) }
+    ensures param { (words : Vocabulary) → Same (parsed.parameter words) (production.param words) }
+    ensures params { (words : Vocabulary) → Same (parsed.parameters words) (production.closed_params words) }
 {}
 
 /// Initialisers, and lists in which braces are open at most so often at once; one more passes the limit.
