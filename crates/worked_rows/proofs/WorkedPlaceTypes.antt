@@ -1,6 +1,7 @@
 -- What operators on places, casts, sizes, calls and members demand and the types that they give, by computation (C99 6.5.2 to 6.5.4, 6.5.16):
 -- the type, or the code and the place of the fault.
-use Rattle.std.proofs.Common.{◌≡◌, ℕ, false, List, [], ◌∷◌, map, None, Some, refl, replicate}
+use Rattle.std.proofs.Common.{◌≡◌, ℕ, false, List, [], ◌∷◌, ◌++◌, map, None, Some, refl, replicate}
+use Rattle.std.specs.Prelude.{codes}
 use Rattle.c_syntax.specs.declared.types.CInt.TheVariants.{I32}
 use Rattle.c_syntax.specs.declared.expression.BinOp.{BinOp}
 use Rattle.c_syntax.specs.declared.expression.BinOp.TheVariants.{Add, Sub, Mul, Div, Rem, Shl, Shr, BitAnd, BitOr, BitXor}
@@ -9,11 +10,12 @@ use Rattle.c_syntax.specs.declared.expression.BumpOp.TheVariants.{PreUp, PreDown
 use Rattle.c_syntax.specs.Ctypes.{PlainType, Void, Ptr, Array, Count}
 use Rattle.c_syntax.specs.Expressions.{Expression, Node, Variable, Unary, Assign, SizeOfExpr, Index, Arrow}
 use Rattle.c_syntax.specs.declared.expression.UnOp.TheVariants.{Deref}
-use Rattle.c_model.specs.Checked.{Checked, Good, Bad}
+use Rattle.c_syntax.specs.Expressions as expression
+use Rattle.c_model.specs.Checked.{Checked, Good, Bad, one_part}
 use Rattle.c_model.specs.Library.{library_constant}
-use Rattle.c_model.specs.ExpressionTyping.{typed}
+use Rattle.c_model.specs.ExpressionTyping.{Sight, typed}
 use Rattle.worked_rows.proofs.WorkedTrees.{call as called, library_call}
-use Rattle.worked_rows.proofs.WorkedSight.{at, fault, int, char, unsigned, long, unsigned_long, struct_s, struct_u, sight, name, c, i, j, l, p, q, z, v, a, t, r, x, y, w, structs}
+use Rattle.worked_rows.proofs.WorkedSight.{at, fault, int, char, unsigned, long, unsigned_long, struct_s, struct_u, sight, name, c, i, j, l, m, p, q, z, v, a, t, r, x, y, w, structs}
 use Rattle.worked_rows.proofs.WorkedSight.{three, nought, null, unknown, one, zero, text, deref, address, binary, choice, comma, assign, compound, bump, index}
 use Rattle.worked_rows.proofs.WorkedSight.{n, d, next, dot, arrow, cast, size_of_type, size_of, call, f, g, late, nothing, object, converted, type_of, every, are}
 
@@ -402,6 +404,63 @@ no_call_of_an_unknown_name = refl
 
 no_call_without_a_definition : type_of (call late 4 []) ≡ fault 5 4
 no_call_without_a_definition = refl
+
+-- ---- calls of the library (C99 7.19.7.6, 7.19.7.9, 7.20.3, 7.20.4.3)
+
+abbrev with_more : Sight
+with_more = record sight { names = sight.names ++ codes "getchar" ∷ codes "exit" ∷ codes "calloc" ∷ [] }
+
+-- its `(` at 1
+abbrev of_library : ℕ → List Expression → Checked PlainType
+of_library x es = one_part (typed with_more (call x 1 es)) (λ (e : Expression). Good (expression.type_of e))
+
+abbrev putchar : ℕ
+putchar = 28
+
+abbrev malloc : ℕ
+malloc = 29
+
+abbrev free : ℕ
+free = 30
+
+abbrev getchar : ℕ
+getchar = 40
+
+abbrev exit : ℕ
+exit = 41
+
+abbrev calloc : ℕ
+calloc = 42
+
+results_of_the_library :
+    of_library putchar (c 2 ∷ []) ∷ of_library getchar [] ∷ of_library exit (l 2 ∷ []) ∷ of_library malloc (i 2 ∷ []) ∷ of_library calloc (i 2 ∷ m 5 ∷ []) ∷ of_library free (p 2 ∷ []) ∷ []
+    ≡ Good int ∷ Good int ∷ Good Void ∷ Good (Ptr Void) ∷ Good (Ptr Void) ∷ Good Void ∷ []
+unfolding library_constant
+results_of_the_library = refl
+
+-- putchar(), getchar(i), exit(), exit(i, i), malloc(), calloc(i), free()
+numbers_of_their_arguments :
+    of_library putchar [] ∷ of_library getchar (i 2 ∷ []) ∷ of_library exit [] ∷ of_library exit (i 2 ∷ i 5 ∷ []) ∷ of_library malloc [] ∷ of_library calloc (i 2 ∷ []) ∷ of_library free [] ∷ []
+    ≡ replicate 7 (fault 6 1)
+unfolding library_constant
+numbers_of_their_arguments = refl
+
+-- putchar(p), exit(p), malloc(p), calloc(p, i), free(i), exit(r)
+types_of_their_arguments :
+    of_library putchar (p 2 ∷ []) ∷ of_library exit (p 2 ∷ []) ∷ of_library malloc (p 2 ∷ []) ∷ of_library calloc (p 2 ∷ i 5 ∷ []) ∷ of_library free (i 2 ∷ []) ∷ of_library exit (r 2 ∷ []) ∷ []
+    ≡ replicate 6 (fault 6 2)
+unfolding library_constant
+types_of_their_arguments = refl
+
+-- free(0), free(NULL), free(a)
+null_and_arrays_are_freed : of_library free (zero 2 ∷ []) ∷ of_library free (null 2 ∷ []) ∷ of_library free (a 2 ∷ []) ∷ [] ≡ replicate 3 (Good Void)
+unfolding library_constant
+null_and_arrays_are_freed = refl
+
+-- i + exit(i)
+no_value_of_exit : one_part (typed with_more (binary Add 2 (i 0) (call exit 8 (i 9 ∷ [])))) (λ (e : Expression). Good (expression.type_of e)) ≡ fault 6 2
+unfolding library_constant
+no_value_of_exit = refl
 
 -- ---- `.` takes a struct, and `->` a pointer to one
 
