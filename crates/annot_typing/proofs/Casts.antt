@@ -70,9 +70,3 @@ size_refused {T = T} p s at t u m k f r l hw known hl is = limited_told p s at t
     told_err : (f : TypeFault) → IfTold {T = Unit {0}} (Err f) (u ≡ t) → IfTold {T = T} (Err f) (u ≡ t)
     told_err (Refused g) h = h
     told_err Memory h = tt
-
--- the same where it has none
-pub size_known : {A T : Type 0} (p : T → A) (s : Sight) (at : Place) (t u : PlainType) (m : Checked PlainType) (k : PlainType → Checked A) (r : Result T TypeFault) → m ≡ Good u → u ≡ t
-    → Answers p (limited s at u (k u)) r → Answers p (limited s at t (one_part m k)) r
-size_known p s at t u m k r is same h =
-    subst (λ m. Answers p (limited s at t (one_part m k)) r) (sym is) (subst (λ v. Answers p (limited s at v (k u)) r) same h)

@@ -19,13 +19,6 @@ literal_is bs = refl
 digit_is : (b : ℕ) → is_digit b ≡ true → digit_value b ≡ b - 48
 digit_is b d = grind (arith, nat_tests)
 
--- one more digit of a value that is small enough
-pub one_digit : (v w b : ℕ) (bs : List ℕ) (total : Option ℕ) → is_digit b ≡ true → w ≡ 10 * v + (b - 48) → literal_from v (b ∷ bs) ≡ total → literal_from w bs ≡ total
-one_digit v w b bs total d e so_far =
-    let next : w ≡ v * 10 + digit_value b = e ∙ omega (arith, digit_is b d) in
-    let one : literal_from v (b ∷ bs) ≡ literal_from (v * 10 + digit_value b) bs = rw (d, list_all) refl in
-    ap (λ (n : ℕ). literal_from n bs) next ∙ sym one ∙ so_far
-
 pub no_digit : (v b : ℕ) (bs : List ℕ) (total : Option ℕ) → is_digit b ≡ false → literal_from v (b ∷ bs) ≡ total → None ≡ total
 no_digit v b bs total d so_far = let one : literal_from v (b ∷ bs) ≡ None = rw (d, list_all) refl in sym one ∙ so_far
 

@@ -5,41 +5,6 @@ use Rattle.grammar.specs.Exact.{IsGood, Same}
 use Rattle.grammar.proofs.Bounds.{limit_good}
 use Rattle.grammar.proofs.Productions.{knot_grows}
 
--- (U then X) | (U then Y) is U then (X | Y)
-module _ {T : Type 0} (K : T → ℕ) {A B : Type 0} (ks js : List ℕ) (U : Syntax T A) (X Y : A → Syntax T B) where
-  apart_reads : (a : List T) (y : B) → (U then λ u. choice K ks (X u) (Y u)).reads a y → (choice K js (U then X) (U then Y)).reads a y
-  apart_reads a y (b, c, x, e, r, inl s) = inl (b, c, x, e, r, s)
-  apart_reads a y (b, c, x, e, r, inr s) = inr (b, c, x, e, r, s)
-
-  apart_reads_back : (a : List T) (y : B) → (choice K js (U then X) (U then Y)).reads a y → (U then λ u. choice K ks (X u) (Y u)).reads a y
-  apart_reads_back a y (inl (b, c, x, e, r, s)) = (b, c, x, e, r, inl s)
-  apart_reads_back a y (inr (b, c, x, e, r, s)) = (b, c, x, e, r, inr s)
-
-  apart_begun : (a : List T) → (U then λ u. choice K ks (X u) (Y u)).begun a → (choice K js (U then X) (U then Y)).begun a
-  apart_begun a (inl s) = inl (inl s)
-  apart_begun a (inr (b, c, x, e, r, inl s)) = inl (inr (b, c, x, e, r, s))
-  apart_begun a (inr (b, c, x, e, r, inr s)) = inr (inr (b, c, x, e, r, s))
-
-  apart_begun_back : (a : List T) → (choice K js (U then X) (U then Y)).begun a → (U then λ u. choice K ks (X u) (Y u)).begun a
-  apart_begun_back a (inl (inl s)) = inl s
-  apart_begun_back a (inl (inr (b, c, x, e, r, s))) = inr (b, c, x, e, r, inl s)
-  apart_begun_back a (inr (inl s)) = inl s
-  apart_begun_back a (inr (inr (b, c, x, e, r, s))) = inr (b, c, x, e, r, inr s)
-
-  apart_late : (i : ℕ) (a : List T) (t : T) → (U then λ u. choice K ks (X u) (Y u)).late i a t → (choice K js (U then X) (U then Y)).late i a t
-  apart_late i a t (inl s) = inl (inl s)
-  apart_late i a t (inr (b, c, x, e, r, inl s)) = inl (inr (b, c, x, e, r, s))
-  apart_late i a t (inr (b, c, x, e, r, inr s)) = inr (inr (b, c, x, e, r, s))
-
-  apart_late_back : (i : ℕ) (a : List T) (t : T) → (choice K js (U then X) (U then Y)).late i a t → (U then λ u. choice K ks (X u) (Y u)).late i a t
-  apart_late_back i a t (inl (inl s)) = inl s
-  apart_late_back i a t (inl (inr (b, c, x, e, r, s))) = inr (b, c, x, e, r, inl s)
-  apart_late_back i a t (inr (inl s)) = inl s
-  apart_late_back i a t (inr (inr (b, c, x, e, r, s))) = inr (b, c, x, e, r, inr s)
-
-  pub said_apart : Same (U then λ u. choice K ks (X u) (Y u)) (choice K js (U then X) (U then Y))
-  said_apart = record { reads = apart_reads; reads_back = apart_reads_back; begun = apart_begun; begun_back = apart_begun_back; late = apart_late; late_back = apart_late_back }
-
 -- U then (P then Q) is (U then P) then Q
 module _ {T : Type 0} {A B C : Type 0} (U : Syntax T A) (P : A → Syntax T B) (Q : B → Syntax T C) where
   left_reads : (a : List T) (z : C) → (U then λ u. P u then Q).reads a z → ((U then P) then Q).reads a z
@@ -99,9 +64,6 @@ both_parts K ks js {G} {G'} {H} {H'} g h = record {
 pub unchanged : {T A : Type 0} (G : Syntax T A) → Same G G
 unchanged G = record { reads = λ a x r. r; reads_back = λ a x r. r; begun = λ a b. b; begun_back = λ a b. b; late = λ i a t l. l; late_back = λ i a t l. l }
 
-pub other_part : {T : Type 0} (K : T → ℕ) {A : Type 0} (ks js : List ℕ) (G : Syntax T A) {H H' : Syntax T A} → Same H H' → Same (choice K ks G H) (choice K js G H')
-other_part K ks js G h = both_parts K ks js (unchanged G) h
-
 pub joined : {T A : Type 0} {F G H : Syntax T A} → Same F G → Same G H → Same F H
 joined s t = record {
   reads = λ a x r. t.reads a x (s.reads a x r);
@@ -112,9 +74,6 @@ joined s t = record {
       λ i a v l. t.late i a v (s.late i a v l);
   late_back = λ i a v l. s.late_back i a v (t.late_back i a v l);
 }
-
-pub reversed : {T A : Type 0} {G H : Syntax T A} → Same G H → Same H G
-reversed s = record { reads = s.reads_back; reads_back = s.reads; begun = s.begun_back; begun_back = s.begun; late = s.late_back; late_back = s.late }
 
 -- sequences are the same where their parts are
 module _ {T A B : Type 0} where
@@ -131,16 +90,6 @@ module _ {T A B : Type 0} where
       → ((x : A) (i : ℕ) (a : List T) (t : T) → (H x).late i a t → (H' x).late i a t) → (i : ℕ) (a : List T) (t : T) → (G then H).late i a t → (G' then H').late i a t
   sequence_late G G' H H' f g h i a t (inl b) = inl (g i a t b)
   sequence_late G G' H H' f g h i a t (inr (b, c, x, e, r, s)) = inr (b, c, x, e, f b x r, h x i c t s)
-
-  pub in_sequence : {G G' : Syntax T A} {H H' : A → Syntax T B} → Same G G' → ((x : A) → Same (H x) (H' x)) → Same (G then H) (G' then H')
-  in_sequence {G} {G'} {H} {H'} g h = record {
-    reads = sequence_reads G G' H H' g.reads (λ x. (h x).reads);
-    reads_back = sequence_reads G' G H' H g.reads_back (λ x. (h x).reads_back);
-    begun = sequence_begun G G' H H' g.reads g.begun (λ x. (h x).begun);
-    begun_back = sequence_begun G' G H' H g.reads_back g.begun_back (λ x. (h x).begun_back);
-    late = sequence_late G G' H H' g.reads g.late (λ x. (h x).late);
-    late_back = sequence_late G' G H' H g.reads_back g.late_back (λ x. (h x).late_back);
-  }
 
 -- ---- a repetition is no turn, or a turn and the repetition after it
 

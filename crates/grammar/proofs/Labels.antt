@@ -1,6 +1,6 @@
 -- What holds of each token that passes a limit, by the limit's label, from what holds of those of a production's parts.
-use Rattle.std.proofs.Common.{ℕ, zero, suc, Bool, true, false, cond, List, [], ◌∷◌, Option, sym, subst, inl, inr}
-use Rattle.grammar.specs.Syntax.{Syntax, none, gives, one, ◌then◌, choice, loop, many, knot_at, knot, deep}
+use Rattle.std.proofs.Common.{ℕ, zero, suc, List, Option, inl, inr}
+use Rattle.grammar.specs.Syntax.{Syntax, none, gives, one, ◌then◌, choice, loop, many, knot_at, knot}
 
 -- each token of G that passes the limit with the label i is P at i
 pub record EachLate {T A : Type 0} (G : Syntax T A) (P : ℕ → T → Type 0) : Type 0 where
@@ -34,10 +34,6 @@ module _ {T : Type 0} {P : ℕ → T → Type 0} where
       by i a t (inl l) = g.holds i a t l
       by i a t (inr l) = h.holds i a t l
 
-  pub late_cond : {A : Type 0} {G H : Syntax T A} (b : Bool) → EachLate G P → EachLate H P → EachLate (cond b G H) P
-  late_cond true g h = g
-  late_cond false g h = h
-
   module _ {A : Type 0} (K : T → ℕ) (ks : A → List ℕ) {step : A → Syntax T A} (turn : (x : A) → EachLate (step x) P) where
     late_loop : (n : ℕ) (x : A) → EachLate (loop K n ks step x) P
     late_loop zero x = late_choice K (ks x) late_none (late_gives x)
@@ -53,7 +49,3 @@ module _ {T : Type 0} {P : ℕ → T → Type 0} where
 
     pub late_knot : (s : S) → EachLate (knot F s) P
     late_knot s = record { holds = λ i a t l. (late_knot_at l.0 s).holds i a t l.1 }
-
-  -- a token that begins G
-  pub late_deep : {A : Type 0} (label : ℕ) (K : T → ℕ) (ks : List ℕ) (G : Syntax T A) → ((t : T) → G.begun (t ∷ []) → P label t) → EachLate (deep label K ks G) P
-  late_deep label K ks G h = record { holds = λ i a t l. subst (λ (j : ℕ). P j t) (sym l.0) (h t l.2) }

@@ -1,9 +1,8 @@
 -- A text that its grammar refuses is refused at one token, and reading it gives that fault.
-use Rattle.std.proofs.Common.{◌≡◌, ℕ, suc, ◌<◌, Bool, List, [], ◌∷◌, ◌++◌, length, Result, Ok, Err, refl, sym, ap, subst, ◌∙◌, arith, append_assoc, length-append}
+use Rattle.std.proofs.Common.{◌≡◌, ℕ, suc, ◌<◌, List, [], ◌∷◌, ◌++◌, length, refl, sym, ap, subst, ◌∙◌, arith, append_assoc, length-append}
 use Rattle.grammar.specs.Syntax.{Syntax, Fault, At, Over}
-use Rattle.grammar.specs.Exact.{IsExact, StopsAt, RefusedAt, Unread, RefusedOver, Refused, FrontsBegin, OneLimit}
+use Rattle.grammar.specs.Exact.{StopsAt, RefusedAt, RefusedOver, Refused, FrontsBegin, OneLimit}
 use Rattle.grammar.proofs.Bounds.{split_same}
-use Rattle.grammar.proofs.Theorem.{found, refused_at, refused_over}
 
 -- what the longer of two fronts of a text has beyond the shorter
 record GoesOn {T : Type 0} (a b c : List T) : Type 0 where
@@ -63,37 +62,3 @@ module _ {T A : Type 0} (G : Syntax T A) (fronts : FrontsBegin G) (text : List T
     one_fault (At n) (Over j m) r s = absurd (at_or_over j n m r s)
     one_fault (Over i n) (At m) r s = absurd (at_or_over i m n s r)
     one_fault (Over i n) (Over j m) r s = ap (λ (l : ℕ). Over l n) (one_label i j n m r s) ∙ ap (Over j) (one_place i j n m r s)
-
--- ---- reading gives the fault of a text that is refused
-
-module _ {T : Type 0} {K : T → ℕ} {A : Type 0} (G : Syntax T A) (null : Bool) (first : List ℕ) (more : A → List ℕ) (g : IsExact K G null first more) where
-  -- what stands before a token that can't follow, and is no reading, is not read
-  pub unread_answer : (text : List T) (n : ℕ) → Unread G text n → G.parse text ≡ Err (At n)
-  unread_answer text n u = by_answer (G.parse text) refl
-    where
-      r : RefusedAt G text n
-      r = u.refused
-
-      by_answer : (w : Result (A × List T) Fault) → G.parse text ≡ w → G.parse text ≡ Err (At n)
-      by_answer (Ok x) e =
-          let f = found G null first more g text x.0 x.1 e in
-          let left = same_left G g.fronts text r.front r.rest f.front x.1 r.longest f.longest in
-          let p = split_same r.front f.front r.rest x.1 (sym r.longest.parts ∙ f.longest.parts) left in
-          absurd (u.unread x.0 (subst (λ (a : List T). G.reads a x.0) (sym p.0) f.reading))
-      by_answer (Err (At m)) e = e ∙ ap (λ (k : ℕ). Err (At k)) (one_at G g.fronts text m n (refused_at G null first more g text m e) r)
-      by_answer (Err (Over j m)) e = absurd (at_or_over G g.fronts text j n m r (refused_over G null first more g text j m e))
-
-  -- where a limit is passed first, reading stops at a limit
-  pub over_answer : (text : List T) (i n : ℕ) → RefusedOver G text i n → (j : ℕ) × (G.parse text ≡ Err (Over j n))
-  over_answer text i n r =
-      let w = g.lates i r.front r.token r.rest r.late in
-      let e : G.parse text ≡ Err (Over w.label w.left) = ap G.parse r.parts ∙ w.is in
-      let same = one_place G g.fronts text w.label i w.left n (refused_over G null first more g text w.label w.left e) r in
-      (w.label, e ∙ ap (λ (k : ℕ). Err (Over w.label k)) same)
-
-  -- and at that limit, where no token passes two
-  pub label_answer : OneLimit G → (text : List T) (i n : ℕ) → RefusedOver G text i n → G.parse text ≡ Err (Over i n)
-  label_answer single text i n r =
-      let w = over_answer text i n r in
-      let same = one_label G g.fronts text single w.0 i n n (refused_over G null first more g text w.0 n w.1) r in
-      w.1 ∙ ap (λ (l : ℕ). Err (Over l n)) same

@@ -227,19 +227,6 @@ module _ {T : Type 0} {K : T → ℕ} where
         empty = λ t u. absurd cc;
       }) g h
 
-  -- the same, after a token
-  pub after_to : {A B : Type 0} {n : ℕ} {G G' : Syntax T A} {H H' : A → Syntax T B} {f1 m1 f2 : List ℕ} {more : B → List ℕ} → IsGood K (suc n) G G' false f1 (λ _. m1) → ((x : A) → IsGood K n (H x) (H' x) false f2 more) → apart f2 m1 ≡ true
-      → IsGood K (suc n) (G then H) (G' then H') false f1 more
-  after_to {A} {B} {n} {G} {G'} {H} {H'} {f1} {m1} {f2} {more} g h e =
-      after_good K n G G' H H' f1 (λ _. m1) false (λ _. f2) (λ _ y. more y) f1 more (λ _ _. Unit {0}) (λ _ _ _. tt) (λ _ _ _. tt) (record {
-        clash = λ x. e;
-        late = λ x y. within_self (more y);
-        over = λ x y t _. absurd cc;
-        begin = within_self f1;
-        next = λ x t. absurd cc;
-        empty = λ t u. absurd cc;
-      }) g h
-
   -- a value made of what was read
   pub made : {A B : Type 0} {n : ℕ} {G G' : Syntax T A} {f1 : List ℕ} {m1 : A → List ℕ} {more : B → List ℕ} (f : A → B) → IsGood K n G G' false f1 m1 → ((x : A) → within (m1 x) (more (f x)) ≡ true)
       → IsGood K n (G then λ x. gives (f x)) (G' then λ x. gives (f x)) false f1 more
@@ -329,9 +316,6 @@ module _ {T : Type 0} {K : T → ℕ} where
         begun_back = g.begun_back;
         late_back = g.late_back;
       }
-
-  pub to_constant : {A : Type 0} {n : ℕ} {G H : Syntax T A} {null : Bool} {first : List ℕ} {m : A → List ℕ} (more : List ℕ) → IsGood K n G H null first m → ((x : A) → within (m x) more ≡ true) → IsGood K n G H null first (λ _. more)
-  to_constant more g e = widened g e
 
 -- What is exact for one kind of tokens is so for another that has the kinds of its sets.
 pub recast : {T A : Type 0} {K J : T → ℕ} {G : Syntax T A} {null : Bool} {first : List ℕ} {more : A → List ℕ} (first' : List ℕ) (more' : A → List ℕ) → ((t : T) → among (K t) first ≡ true → among (J t) first' ≡ true)

@@ -1,6 +1,6 @@
 -- What holds of each reading of a production over good tokens, by its length or where no token passes a limit, from what holds of
 -- those of its parts.
-use Rattle.std.proofs.Common.{◌≡◌, ℕ, zero, suc, ◌+◌, ◌≤◌, Bool, true, false, cond, List, [], ◌∷◌, ◌++◌, length, length-append, append_assoc, Option, Some, refl, sym, ap, subst, ◌∙◌, arith, inl, inr}
+use Rattle.std.proofs.Common.{◌≡◌, ℕ, zero, suc, ◌+◌, ◌≤◌, false, List, [], ◌∷◌, ◌++◌, length, length-append, append_assoc, Option, Some, refl, sym, ap, subst, ◌∙◌, arith, inl, inr}
 use Rattle.std.specs.List.{AllByRecursion}
 use Rattle.grammar.specs.Syntax.{Syntax, none, gives, one, ◌then◌, choice, loop, many, knot_at, knot, deep, at_most}
 use Rattle.grammar.specs.Exact.{IsExact, WithinLimits}
@@ -44,10 +44,6 @@ module _ {T : Type 0} {Good : T → Type 0} where
       by : (a : List T) (x : A) → AllByRecursion Good a → (choice K ks G H).reads a x → P (length a) x
       by a x o (inl r) = g.holds a x o r
       by a x o (inr r) = h.holds a x o r
-
-  pub each_cond : {A : Type 0} {G H : Syntax T A} {P : ℕ → A → Type 0} (b : Bool) → (b ≡ true → EachOf Good G P) → (b ≡ false → EachOf Good H P) → EachOf Good (cond b G H) P
-  each_cond true g h = g refl
-  each_cond false g h = h refl
 
   pub each_at_most : {A : Type 0} {label n : ℕ} {G : Syntax T A} {P : ℕ → A → Type 0} → EachOf Good G P → EachOf Good (at_most label n G) (λ k x. P k x × (k ≤ n))
   each_at_most g = record { holds = λ a x o r. (g.holds a x o r.0, r.1) }

@@ -1,14 +1,14 @@
 -- Where a token can't follow, the tokens before it are no reading: cut there, the text is too short.
 use Rattle.std.proofs.Common.{◌≡◌, ℕ, zero, suc, ◌+◌, ◌-◌, ◌<◌, ◌≤◌, Bool, true, false, ltb, List, [], ◌∷◌, ◌++◌, length, Result, Ok, Err, Option, Some, None, refl, sym, ◌∙◌, ap, subst, ◌⊎◌, inl, inr, append_assoc, arith, length-append}
 use Rattle.std.proofs.lemmas.List.{append-nil}
-use Rattle.grammar.specs.Syntax.{Syntax, Fault, At, Over, among, sees, gives, one, one_at, ◌then◌, choice, many, deep, at_most, capped}
+use Rattle.grammar.specs.Syntax.{Syntax, Fault, At, Over, among, sees, gives, one, one_at, ◌then◌, choice, many, at_most, capped}
 use Rattle.grammar.specs.Exact.{SameHead, Late, IsExact, Unread}
 use Rattle.grammar.proofs.Sets.{within, apart, within_among, apart_among, cond_true, within_self, within_left, within_right, within_both, within_joined, among_either}
 use Rattle.grammar.proofs.Parts.{bind_err, chosen, ChoiceFits, gives_exact, choice_exact, widen}
 use Rattle.grammar.proofs.Bounds.{LoopFits, many_exact, turn_exact, turned_exact, many_is, rest_below, rest_within, split_same}
 use Rattle.grammar.proofs.Labels.{Unlimited}
 use Rattle.grammar.proofs.Limits.{place, at_most_exact, at_most_answer, front_short, below, capped_in, opened}
-use Rattle.grammar.proofs.Productions.{and, empties, turns_fit, seq, either, again_and_again, same, seq_to, made, either_to, maybe_to, tail_to, widened}
+use Rattle.grammar.proofs.Productions.{and, empties, turns_fit, seq, either, again_and_again, same, made}
 use Rattle.grammar.proofs.Theorem.{refused_at}
 
 pub record IsSolid {T : Type 0} (K : T → ℕ) {A : Type 0} (n : ℕ) (G : Syntax T A) (lead null : Bool) (first : List ℕ) (more : A → List ℕ) : Type 0 where
@@ -263,24 +263,7 @@ module _ {T : Type 0} {K : T → ℕ} where
   knot_solid_to top nn e p step zero le s = solid_zero true (λ _. nn) (e s)
   knot_solid_to top nn e p step (suc n) le s = as_parsed (p s) (e s) (step n (omega arith) (λ u. knot_solid_to top nn e p step n (omega arith) u) s)
 
-  -- a token of the first set begins the production
-  pub solid_opens : {A : Type 0} {G : Syntax T A} {first : List ℕ} {more : A → List ℕ} → ((n : ℕ) → IsSolid K n G true false first more) → (t : T) → among (K t) first ≡ true → G.begun (t ∷ [])
-  solid_opens {A} {G} {first} {more} g t a = opened K G first more (g 0).exact t (λ e. (g 2).opens refl t [] (omega arith) a e)
-
   -- ---- limits
-
-  pub deep_solid : {A : Type 0} {n : ℕ} (label : ℕ) (ks : List ℕ) (G : Syntax T A) {more : A → List ℕ} → IsExact K (deep label K ks G) false ks more → IsSolid K n (deep label K ks G) true false ks more
-  deep_solid {A} {n} label ks G {more} e = record { exact = e; led = λ _. refl; opens = o; cut = λ ts m f r lt q s l. c ts m f r (sees K ks ts) refl q s l }
-    where
-      o : true ≡ true → (t : T) (ts : List T) → length (t ∷ ts) < n → among (K t) ks ≡ true → (deep label K ks G).parse (t ∷ ts) ≡ Err (At (suc (length ts))) → ⊥
-      o h t ts lt a q = let k : (deep label K ks G).parse (t ∷ ts) ≡ Err (Over label (suc (length ts))) = rw a refl in cc
-
-      c : (ts : List T) (m : ℕ) (f r : List T) (b : Bool) → sees K ks ts ≡ b → (deep label K ks G).parse ts ≡ Err (At m) → ts ≡ f ++ r → m ≡ length r → (deep label K ks G).parse f ≡ Err (At 0)
-      c ts m f r true b q s l = absurd (let k : (deep label K ks G).parse ts ≡ Err (Over label (length ts)) = rw b refl in cc)
-      c ts m f r false b q s l =
-          let k : (deep label K ks G).parse ts ≡ Err (At (length ts)) = rw b refl in
-          let same : m ≡ length ts = cc in
-          rw (front_empty ts f r s (sym same ∙ l)) refl
 
   pub at_most_solid : {A : Type 0} {n : ℕ} (label most : ℕ) {G : Syntax T A} {lead null : Bool} {first : List ℕ} {more : A → List ℕ} → Unlimited G → IsSolid K n G lead null first more → IsSolid K n (at_most label most G) lead null first more
   at_most_solid {A} {n} label most {G} {lead} {null} {first} {more} free g = record {
@@ -304,39 +287,10 @@ module _ {T : Type 0} {K : T → ℕ} where
 
   -- ---- sets that depend on what was read
 
-  pub seq_solid_to : {A B : Type 0} {n : ℕ} {G : Syntax T A} {H : A → Syntax T B} {l1 l2 : Bool} {f1 m1 f2 : List ℕ} {more : B → List ℕ} → IsSolid K n G l1 false f1 (λ _. m1) → ((x : A) → IsSolid K n (H x) l2 false f2 more) → apart f2 m1 ≡ true
-      → IsSolid K n (G then H) l1 false f1 more
-  seq_solid_to {A} {B} {n} {G} {H} {l1} {l2} {f1} {m1} {f2} {more} g h c =
-      then_solid G H l1 l2 false false f1 (λ _. f2) (λ _. m1) (λ _. more) false f1 more (seq_to {n = 0} (same g.exact) (λ x. same (h x).exact) c).here (λ ld. within_self f1) (λ e. e) n g h
-
-  pub behind_to : {A B : Type 0} {n : ℕ} {G : Syntax T A} {H : A → Syntax T B} {l2 : Bool} {f1 m1 f2 : List ℕ} {more : B → List ℕ} → IsSolid K (suc n) G true false f1 (λ _. m1) → ((x : A) → IsSolid K n (H x) l2 false f2 more) → apart f2 m1 ≡ true
-      → IsSolid K (suc n) (G then H) true false f1 more
-  behind_to {A} {B} {n} {G} {H} {l2} {f1} {m1} {f2} {more} g h c =
-      after_solid G H true l2 false false f1 (λ _. f2) (λ _. m1) (λ _. more) false f1 more (seq_to {n = 0} (same g.exact) (λ x. same (h x).exact) c).here (λ ld. within_self f1) (λ e. e) n refl g h
-
   pub made_solid : {A B : Type 0} {n : ℕ} {G : Syntax T A} {l1 : Bool} {f1 : List ℕ} {m1 : A → List ℕ} {more : B → List ℕ} (f : A → B) → IsSolid K n G l1 false f1 m1 → ((x : A) → within (m1 x) (more (f x)) ≡ true)
       → IsSolid K n (G then λ x. gives (f x)) l1 false f1 more
   made_solid {A} {B} {n} {G} {l1} {f1} {m1} {more} f g e =
       then_solid G (λ x. gives (f x)) l1 false false true f1 (λ _. []) m1 (λ _ _. []) false f1 more (made {n = 0} f (same g.exact) e).here (λ ld. within_self f1) (λ h. h) n g (λ x. gives_solid (f x))
-
-  pub either_solid_to : {A : Type 0} {n : ℕ} (ks : List ℕ) {G H : Syntax T A} {l2 : Bool} {f1 f2 : List ℕ} {m1 m2 : A → List ℕ} {first : List ℕ} {more : A → List ℕ} → IsSolid K n G true false f1 m1 → IsSolid K n H l2 false f2 m2
-      → and (within f1 ks) (and (apart f2 ks) (and (within f1 first) (within f2 first))) ≡ true → and (within ks f1) (within first (f1 ++ f2)) ≡ true → ((x : A) → within (m1 x) (more x) ≡ true) → ((x : A) → within (m2 x) (more x) ≡ true)
-      → IsSolid K n (choice K ks G H) l2 false first more
-  either_solid_to {A} {n} ks {G} {H} {l2} {f1} {f2} {m1} {m2} {first} {more} g h c d o1 o2 =
-      let p = cond_true (within f1 ks) _ c in
-      let q = cond_true (apart f2 ks) _ p.1 in
-      let r = cond_true (within ks f1) (within first (f1 ++ f2)) d in
-      choice_solid ks G H l2 false f1 f2 m1 m2 false first more (either_to {n = 0} ks (same g.exact) (same h.exact) c o1 o2).here p.0 r.0 q.0 r.1 (λ _. refl) n g h
-
-  pub maybe_solid_to : {A : Type 0} {n : ℕ} (ks : List ℕ) {G : Syntax T A} {f1 : List ℕ} {m1 : A → List ℕ} {more : A → List ℕ} (x : A) → IsSolid K n G true false f1 m1 → within f1 ks ≡ true → within ks f1 ≡ true
-      → ((y : A) → within (m1 y) (more y) ≡ true) → within ks (more x) ≡ true → IsSolid K n (choice K ks G (gives x)) false true f1 more
-  maybe_solid_to {A} {n} ks {G} {f1} {m1} {more} x g c d o k =
-      choice_solid ks G (gives x) false true f1 [] m1 (λ _. []) true f1 more (maybe_to {n = 0} ks x (same g.exact) c o k).here c d refl (within_left f1 []) (λ h. absurd cc) n g (gives_solid x)
-
-  pub tail_solid_to : {A B : Type 0} {n : ℕ} {G : Syntax T A} {H : A → Syntax T B} {l1 l2 : Bool} {f1 : List ℕ} {m1 : A → List ℕ} {f2 : A → List ℕ} {more : B → List ℕ} (f : A → B) → IsSolid K n G l1 false f1 m1
-      → ((x : A) → IsSolid K n (H x) l2 true (f2 x) more) → ((x : A) (y : B) → (H x).reads [] y → f x ≡ y) → ((x : A) → apart (f2 x) (m1 x) ≡ true) → ((x : A) → within (m1 x) (more (f x)) ≡ true) → IsSolid K n (G then H) l1 false f1 more
-  tail_solid_to {A} {B} {n} {G} {H} {l1} {l2} {f1} {m1} {f2} {more} f g h ends c o =
-      then_solid G H l1 l2 false true f1 f2 m1 (λ _. more) false f1 more (tail_to {n = 0} f (same g.exact) (λ x. same (h x).exact) ends ends c o).here (λ ld. within_self f1) (λ e. e) n g h
 
   -- a repetition, where the kinds depend on the value before each turn
   pub many_solid_to : {A : Type 0} (ks : A → List ℕ) {f : A → List ℕ} {m : A → A → List ℕ} {more : A → List ℕ} {step : A → Syntax T A} → LoopFits A ks f m more → ((x : A) → within (ks x) (f x) ≡ true) → (n : ℕ)
@@ -348,9 +302,6 @@ module _ {T : Type 0} {K : T → ℕ} where
       as_parsed (many_is K ks f m more fit step (λ y. (g y).exact) x) (many_exact K ks f m more fit step (λ y. (g y).exact) x)
       (choice_solid (ks x) (step x then λ y. many K ks step y) (gives x) false true (f x) [] more (λ _. []) true (ks x) more (turned_exact K ks f m more fit step (λ y. (g y).exact) x) (fit.taken x) (o x) refl (within_joined (ks x) (f x) [] (o x))
       (λ h. absurd cc) (suc n) once (gives_solid x))
-
-  pub widened_solid : {A : Type 0} {n : ℕ} {G : Syntax T A} {lead null : Bool} {first : List ℕ} {m more : A → List ℕ} → IsSolid K n G lead null first m → ((x : A) → within (m x) (more x) ≡ true) → IsSolid K n G lead null first more
-  widened_solid {A} {n} {G} {lead} {null} {first} {m} {more} g e = record { exact = (widened {n = 0} (same g.exact) e).here; led = g.led; opens = g.opens; cut = g.cut }
 
   -- where a token can't follow, what stands before it is no reading
   pub no_reading : {A : Type 0} (G : Syntax T A) (lead null : Bool) (first : List ℕ) (more : A → List ℕ) → ((n : ℕ) → IsSolid K n G lead null first more) → (ts : List T) (m : ℕ) (f r : List T) → G.parse ts ≡ Err (At m) → ts ≡ f ++ r → m ≡ length r

@@ -65,15 +65,9 @@ module _ (ws : Vocabulary) {A B : Type 0} (kinds : List ℕ) (I : Syntax PlainTo
   Lk_empty zero x = inl (inr refl)
   Lk_empty (suc n) x = inl (inr refl)
 
-  L_empty : (x : List A × Bool) → (L x).begun []
-  L_empty x = inl (0, inr refl)
-
   Rk_empty : (n : ℕ) (xs : List A) → (Rk n xs).begun []
   Rk_empty zero xs = inl (inr refl)
   Rk_empty (suc n) xs = inl (inr refl)
-
-  R_empty : (xs : List A) → (R xs).begun []
-  R_empty xs = inl (0, inr refl)
 
   -- ---- a production's turns
 

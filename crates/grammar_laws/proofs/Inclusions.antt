@@ -1,5 +1,5 @@
 -- What one production reads, begins and limits another does too. Productions of which each does so for the other are the same.
-use Rattle.std.proofs.Common.{◌≡◌, ℕ, zero, suc, Bool, true, false, cond, List, [], ◌∷◌, ◌++◌, refl, sym, subst, inl, inr}
+use Rattle.std.proofs.Common.{ℕ, zero, suc, Bool, true, false, cond, List, [], ◌∷◌, ◌++◌, refl, sym, subst, inl, inr}
 use Rattle.std.proofs.lemmas.List.{append-nil}
 use Rattle.grammar.specs.Syntax.{Syntax, none, gives, ◌then◌, choice, loop, many, limit, deep, at_most}
 use Rattle.grammar.specs.Exact.{Same}
@@ -329,11 +329,6 @@ guarded_forth K ks L ls false F G = first L ls none (itself G)
 pub guarded_back : {T A : Type 0} (K : T → ℕ) (ks : List ℕ) (L : T → ℕ) (ls : List ℕ) (b : Bool) (F G : Syntax T A) → G.begun [] → Within (choice L ls G (cond b F none)) (cond b (choice K ks F G) G)
 guarded_back K ks L ls true F G e = either L ls (second K ks F (itself G)) (first K ks G (itself F))
 guarded_back K ks L ls false F G e = either L ls (itself G) (nothing G e)
-
--- one of both alternatives after a value that tells which
-pub where_true : {T A : Type 0} (b : Bool) {G H : Syntax T A} → H.begun [] → (b ≡ true → Within G H) → Within (cond b G none) H
-where_true true e w = w refl
-where_true false {G} {H} e w = nothing H e
 
 -- ---- at most so many tokens
 

@@ -13,9 +13,9 @@ use Rattle.c_model.specs.Terminals.{placed, nesting_limit, expression_limit}
 use Rattle.mon_syntax.specs.Parsed.{NameUse, ParsedExpression, Name, ParsedStatement, Set, Take, Return, Store}
 use Rattle.mon_syntax.specs.Grammar.{Vocabulary, kind, mark_kind, name_kind, type_kind, constant_kind, if_kind, else_kind, while_kind, goto_kind, return_kind}
 use Rattle.mon_syntax.specs.Grammar.{number_kind, text_kind, static_kind, char_kind, void_kind, type_of, is_number, first_argument, first_statement}
-use Rattle.mon_syntax.specs.Grammar.{first_expression, first_function, nothing_read, is_step_word, word_at, fixed, mark, name, InBody, opened, behind_opened}
+use Rattle.mon_syntax.specs.Grammar.{first_expression, first_function, nothing_read, fixed, mark, name, InBody, opened, behind_opened}
 use Rattle.mon_syntax.specs.Grammar.{expression_in, expression_with, other_expression, second_operand, behind_two, plain_operand, behind_paren, expression}
-use Rattle.mon_syntax.specs.Grammar.{expression_but_name, most_open_parens, call_of, ended, set_to_call, set_to_name, set_to, behind_name, statement_with}
+use Rattle.mon_syntax.specs.Grammar.{expression_but_name, call_of, ended, set_to_call, set_to_name, set_to, behind_name, statement_with}
 use Rattle.mon_syntax.specs.Grammar.{statement_in, statements, one_more, next_argument, one_more_in_loop, returned, pointed_type, stored, one_more_global}
 use Rattle.mon_syntax.specs.Grammar.{one_more_function, globals, functions, initialize_kind, initialize_pointer_kind, is_same_name, marked_name, mark_end}
 use Rattle.mon_syntax.specs.Grammar.{number_mark, pointer_mark, store_mark}
@@ -48,10 +48,6 @@ module _ (ws : Vocabulary) where
   constant_line O =
       both (on (one (placed (parsed.constant_of ws))) (λ t. on O (λ _. in_turn (forth number_line) (λ z. itself _))))
       (on (one (placed (parsed.constant_of ws))) (λ t. on O (λ _. in_turn (back number_line) (λ z. itself _))))
-
-  pointed_line : Same (pointed_type ws) (production.pointed_type ws)
-  unfolding pointed_type
-  pointed_line = both (itself _) (itself _)
 
   module _ (O : Syntax PlainToken Place) (B : Tree) where
     abbrev E : Tree

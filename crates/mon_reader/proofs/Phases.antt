@@ -37,13 +37,6 @@ module _ (ts : PlainTokens) (p : ParsedProgram) where
   faulty (BadType at) e k g = fault_found (record { code = 6; place = at }) e k g
   faulty Memory e k g = subst (λ (x : FrontFault). HasFault x ts p) (sym g) tt
 
-  fault_refuses : (e : FrontFault) → HasFault e ts p → RefusesTree e ts p
-  fault_refuses front.Memory g = tt
-  fault_refuses (front.Refused x) g = ForFault g
-
-  pub part_refuses : (f : CheckFault) (e : FrontFault) → Fails f (checked ts p) → RefusesFault ts f e → RefusesTree e ts p
-  part_refuses f e k g = fault_refuses e (faulty f e k g)
-
   -- ---- the last phase, where there is no such fault
 
   pub whole_refuses : (m : MonitoredProgram) (r : PlainRefusal) (e : FrontFault) → checked ts p ≡ Ok m → last_refusal ts.names p ≡ Some r → RefusesWith r e → RefusesTree e ts p
@@ -105,10 +98,6 @@ module _ (ts : PlainTokens) (p : ParsedProgram) where
     pub wrong_refuses : (m : MonitoredProgram) (at : Place) (e : FrontFault) → (checked ts p ≡ Ok m) × (first_too_large 0 p.globals ≡ None)
         → Wrong at ≡ found_main (main_in names p.functions) → RefusesWith (no_main at) e → RefusesTree e ts p
     wrong_refuses m at e k is g = whole_refuses m (no_main at) e k.0 (main_is k.1 (Wrong at) is) g
-
-    pub right_enters : (m : MonitoredProgram) → (checked ts p ≡ Ok m) × (first_too_large 0 p.globals ≡ None) → Right ≡ found_main (main_in names p.functions)
-        → IsEntered ts p m
-    right_enters m k is = record { is = k.0; whole = main_is k.1 Right is }
 
 -- ---- the text
 

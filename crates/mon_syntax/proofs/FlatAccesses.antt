@@ -4,9 +4,7 @@ use Rattle.std.proofs.lemmas.Bool.{and_parts, and_from, eqb-true, leb-true, eq-e
 use Rattle.c_model.specs.Memory.{Block, is_accessible}
 use Rattle.mon_syntax.specs.declared.tree.MonType.{MonType}
 use Rattle.mon_syntax.specs.declared.tree.MonType.TheVariants.{I8, U8, I16, U16, I32, U32, I64, U64, I128, Ptr}
-use Rattle.mon_syntax.specs.declared.tree.AccessSize.{AccessSize}
-use Rattle.mon_syntax.specs.declared.tree.AccessSize.TheVariants.{One, Two, Four, Eight, Sixteen}
-use Rattle.mon_syntax.specs.Arithmetic.{byte_count, access_bytes}
+use Rattle.mon_syntax.specs.Arithmetic.{byte_count}
 use Rattle.mon_syntax.specs.Regions.{fits_at}
 use Rattle.mon_syntax.specs.Flat.{Flat, region}
 use Rattle.mon_syntax.specs.BlockMemory.{Blocks}
@@ -28,13 +26,6 @@ type_wide I64 u off e = omega (arith, e)
 type_wide U64 u off e = omega (arith, e)
 type_wide I128 u off e = omega (arith, e)
 type_wide Ptr u off e = omega (arith, e)
-
-pub size_wide : (a : AccessSize) → IsWide (access_bytes a)
-size_wide One u off e = omega arith
-size_wide Two u off e = omega (arith, e)
-size_wide Four u off e = omega (arith, e)
-size_wide Eight u off e = omega (arith, e)
-size_wide Sixteen u off e = omega (arith, e)
 
 -- so many bytes from an offset on of a live block, and of its region
 pub record Accessed (f : Flat) (b : Block) (p : Place) (off n : ℕ) : Type 0 where

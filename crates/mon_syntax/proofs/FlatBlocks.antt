@@ -3,26 +3,9 @@ use Rattle.std.proofs.Common.{◌≡◌, ℕ, zero, suc, ◌+◌, ◌<◌, Bool,
 use Rattle.std.proofs.lemmas.Bool.{eqb-true}
 use Rattle.std.proofs.lemmas.Option.{none-some, same_Some}
 use Rattle.c_syntax.specs.declared.types.BlockKind.TheVariants.{Stack}
-use Rattle.c_model.specs.Memory.{Block, Store, new_block, rounded, stack_taken}
+use Rattle.c_model.specs.Memory.{Block, Store, new_block}
 use Rattle.mon_syntax.specs.BlockMemory.{is_live_on_stack, youngest_from, youngest, is_index, dead_at}
-use Rattle.mon_syntax.specs.LiveBlocks.{LiveBlock, taken_by, noted, live_from, live_in}
-
--- ---- room
-
-taken-found : (t : Bool) (k : ℕ) (b : Block) (found : List LiveBlock)
-    → taken_by (if t then noted k b ∷ found else found) ≡ (if t then rounded b.size else 0) + taken_by found
-taken-found true k b found = refl
-taken-found false k b found = omega arith
-
-taken-from : (k : ℕ) (bs : Store) (found : List LiveBlock) → taken_by (live_from k bs found) ≡ stack_taken bs + taken_by found
-taken-from k [] found = omega arith
-taken-from k (b ∷ bs) found =
-    let later = taken-from (suc k) bs (if is_live_on_stack b then noted (suc k) b ∷ found else found) in
-    let here = taken-found (is_live_on_stack b) (suc k) b found in
-    omega (arith, later, here)
-
-pub taken-live : (store : Store) → taken_by (live_in store) ≡ stack_taken store
-taken-live store = omega (arith, taken-from 0 store [])
+use Rattle.mon_syntax.specs.LiveBlocks.{LiveBlock, noted, live_from, live_in}
 
 -- ---- births
 
@@ -139,29 +122,3 @@ live-beside store b off = live_from-beside 0 store b [] off
 
 pub live-set : (store : Store) (i : ℕ) (b c : Block) → slice_get store i ≡ Some b → is_live_on_stack b ≡ false → is_live_on_stack c ≡ false → live_in (slice_set store i c) ≡ live_in store
 live-set store i b c at off gone = live_from-set 0 i store b c [] at off gone
-
-youngest_from-beside : (k : ℕ) (bs : Store) (b : Block) (found : Option ℕ) → is_live_on_stack b ≡ false → youngest_from k (bs ++ b ∷ []) found ≡ youngest_from k bs found
-youngest_from-beside k [] b found off = ap (λ t. if t then Some k else found) off
-youngest_from-beside k (c ∷ bs) b found off = youngest_from-beside (suc k) bs b (if is_live_on_stack c then Some k else found) off
-
-youngest_from-set : (k i : ℕ) (bs : Store) (b c : Block) (found : Option ℕ) → slice_get bs i ≡ Some b → is_live_on_stack b ≡ false → is_live_on_stack c ≡ false
-    → youngest_from k (slice_set bs i c) found ≡ youngest_from k bs found
-youngest_from-set k i [] b c found at off gone = absurd (none-some b at)
-youngest_from-set k zero (x ∷ bs) b c found at off gone =
-    let was : is_live_on_stack x ≡ false = ap is_live_on_stack (same_Some x b at) ∙ off in
-    ap (λ t. youngest_from (suc k) bs (if t then Some k else found)) gone ∙ sym (ap (λ t. youngest_from (suc k) bs (if t then Some k else found)) was)
-youngest_from-set k (suc i) (x ∷ bs) b c found at off gone = youngest_from-set (suc k) i bs b c (if is_live_on_stack x then Some k else found) at off gone
-
--- and the youngest one of the stack
-pub youngest-beside : (store : Store) (b : Block) → is_live_on_stack b ≡ false → youngest (store ++ b ∷ []) ≡ youngest store
-youngest-beside store b off = youngest_from-beside 0 store b None off
-
-pub youngest-set : (store : Store) (i : ℕ) (b c : Block) → slice_get store i ≡ Some b → is_live_on_stack b ≡ false → is_live_on_stack c ≡ false → youngest (slice_set store i c) ≡ youngest store
-youngest-set store i b c at off gone = youngest_from-set 0 i store b c None at off gone
-
--- and what the stack takes
-pub taken-beside : (store : Store) (b : Block) → is_live_on_stack b ≡ false → stack_taken (store ++ b ∷ []) ≡ stack_taken store
-taken-beside store b off = sym (taken-live (store ++ b ∷ [])) ∙ ap taken_by (live-beside store b off) ∙ taken-live store
-
-pub taken-set : (store : Store) (i : ℕ) (b c : Block) → slice_get store i ≡ Some b → is_live_on_stack b ≡ false → is_live_on_stack c ≡ false → stack_taken (slice_set store i c) ≡ stack_taken store
-taken-set store i b c at off gone = sym (taken-live (slice_set store i c)) ∙ ap taken_by (live-set store i b c at off gone) ∙ taken-live store

@@ -135,9 +135,6 @@ module _ (f : Flat) (k : BlockKind) (u n : ℕ) (first : List ℕ) (placed : f.p
   others Stack ne = refl
   others Heap ne = refl
 
-  top_stays : f.top ≡ f.top + 0
-  top_stays = omega arith
-
 pub begun_born : (f : Flat) (k : BlockKind) (u n : ℕ) (first : List ℕ) → region_of k ≡ Globals → f.placed ≡ 16 * u → length first ≤ n
     → 16 * u + 16 * units n ≤ length (bytes_in f Globals) → 16 * u + 16 * units n ≤ length (marks_in f Globals) → IsBorn f (flat_begin f k n first) k u n
 begun_born f kind.Global u n first e placed fits room room_marks =
