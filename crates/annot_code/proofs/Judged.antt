@@ -2,6 +2,7 @@
 use Rattle.std.proofs.Common.{◌≡◌, ◌≤◌, List, [], length, option_map, Result, IfOk, sym, ◌∙◌, subst}
 use Rattle.std.proofs.lemmas.Result.{IfOk-weaker}
 use Rattle.c_syntax.specs.Logic.{Predicate}
+use Rattle.c_model.specs.Predicates.{pred}
 use Rattle.mon_syntax.specs.declared.tree.MonType.{MonType}
 use Rattle.mon_syntax.specs.Registers.{Names}
 use Rattle.mon_syntax.specs.Trees.{plain_expr}
@@ -22,7 +23,7 @@ judgement_by n q = judgement (unit_of n) n.table.bound q n.table.kinds
 judges_in : (n : Names) (q : Predicate) → JudgesIn n q (judgement_by n q)
 judges_in n q w unit bound stands holds ranged found low few =
     let same : judgement w.unit w.bound q n.table.kinds ≡ judgement_by n q = λ i. judgement (unit i) (bound i) q n.table.kinds in
-    subst (λ z. length z.used ≤ length w.regs → Judges w q n.table.kinds z) same (code_judges w q n.table.kinds stands holds ranged found low) few
+    subst (λ z. length z.used ≤ length w.regs → Judges w n.table.kinds z (pred q w.now w.names w.target.steps)) same (code_judges w q n.table.kinds stands holds ranged found low) few
 
 valid_in : (n : Names) (q : Predicate) → IsValidIn n q (judgement_by n q)
 valid_in n q globals gs ts result ls ranged writable few begins =

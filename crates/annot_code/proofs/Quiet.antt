@@ -1,5 +1,5 @@
 -- Predicates take no step, and what they read holds numbers wherever they say something.
-use Rattle.std.proofs.Common.{[], ◌≡◌, ℕ, pos, Bool, true, false, Option, Some, None, refl, sym, ap, ◌∙◌}
+use Rattle.std.proofs.Common.{◌≡◌, ℕ, pos, Bool, true, false, Option, Some, None, refl, sym, ap, ◌∙◌}
 use Rattle.c_syntax.specs.declared.annotation.Relation.{Relation}
 use Rattle.c_syntax.specs.declared.annotation.Relation.TheVariants.{Ne}
 use Rattle.c_syntax.specs.declared.expression.BinOp.{BinOp}
@@ -7,12 +7,13 @@ use Rattle.c_syntax.specs.declared.logic.Connective.{Connective}
 use Rattle.c_syntax.specs.declared.logic.Connective.TheVariants.{And, Xor, Or, Implies, Iff}
 use Rattle.c_syntax.specs.Logic.{LogicTerm, Links, NoLink, Linked, Predicate}
 use Rattle.c_syntax.specs.Logic as logic
-use Rattle.c_model.specs.Logic.{TermValue, Mathematical, Addressed, Answer, Says, SaysNothing, OutOfSteps, lazily, denied, silenced, fully, both, compute, related, relates, related_addresses}
+use Rattle.c_model.specs.Logic.{Environment, TermValue, Mathematical, Addressed, Answer, Says, SaysNothing, OutOfSteps, lazily, denied, silenced, fully, both, compute, related, relates, related_addresses}
 use Rattle.c_model.specs.Memory.{Store}
 use Rattle.c_model.specs.MemoryQuestions.{Address, null_address}
 use Rattle.c_model.specs.Predicates.{chosen as chosen_term, same_as, other_than, connected as connected_answers, term, chain, pred}
 use Rattle.c_model.specs.State.{State}
-use Rattle.annot_code.specs.Does.{said, PredicateFound}
+use Rattle.c_model.specs.Logic.{said}
+use Rattle.annot_code.specs.Does.{TakesNoStep, PredicateFound}
 use Rattle.annot_code.proofs.Parts.{after, pair, chosen}
 use Rattle.annot_code.proofs.Exact.{value_of}
 
@@ -23,8 +24,8 @@ said_by (Says b n) = Some b
 said_by (SaysNothing n) = None
 said_by OutOfSteps = None
 
-abbrev pub says : Predicate → State → Option Bool
-says p s = said_by (pred p s [] 0)
+abbrev pub says : Predicate → State → Environment → Option Bool
+says p s e = said_by (pred p s e 0)
 
 -- the answer is the same for all steps
 abbrev pub Quiet : (ℕ → Answer) → Type 0
@@ -71,9 +72,9 @@ related_quiet store r (Some (Addressed x)) (Some (Addressed y)) n = said_quiet (
 abbrev pub turned : Option Bool → Option Bool
 turned u = chosen u (Some false) (Some true)
 
-pub chain_quiet : (a : Option TermValue) (l : Links) (s : State) → Quiet (chain a l s [])
-chain_quiet a NoLink s = says_quiet true
-chain_quiet a (Linked at r t rest) s = lazy_quiet (related s.store r a (term t s [])) (chain (term t s []) rest s []) (Says false) (related_quiet s.store r a (term t s [])) (chain_quiet (term t s []) rest s) (says_quiet false)
+pub chain_quiet : (a : Option TermValue) (l : Links) (s : State) (e : Environment) → Quiet (chain a l s e)
+chain_quiet a NoLink s e = says_quiet true
+chain_quiet a (Linked at r t rest) s e = lazy_quiet (related s.store r a (term t s e)) (chain (term t s e) rest s e) (Says false) (related_quiet s.store r a (term t s e)) (chain_quiet (term t s e) rest s e) (says_quiet false)
 
 fully_said : (f : Bool → Answer → Answer) (g : Bool → Option Bool → Option Bool) (u v : Option Bool) (b : ℕ → Answer) (n : ℕ) → ((x : Bool) (o : Option Bool) → f x (said o n) ≡ said (g x o) n) → b n ≡ said v n
     → fully (said u n) b f ≡ said (after u (λ x. g x v)) n
@@ -108,16 +109,16 @@ connected_quiet Implies f g p q = lazy_quiet f g (Says true) p q (says_quiet tru
 connected_quiet Iff f g p q = fully_quiet same_as (λ x o. chosen (Some x) o (turned o)) f g same_said p q
 connected_quiet Xor f g p q = fully_quiet other_than (λ x o. chosen (Some x) (turned o) o) f g other_said p q
 
-pub pred_quiet : (p : Predicate) (s : State) → PredicateFound s.scope p → Quiet (pred p s [])
-pred_quiet (logic.Truth at b) s q = says_quiet b
-pred_quiet (logic.NonZero at t) s q = related_quiet s.store Ne (term t s []) (Some (Mathematical (pos 0)))
-pred_quiet (logic.Chain at t links) s q = chain_quiet (term t s []) links s
-pred_quiet (logic.Not at p) s q = denied_quiet (pred p s []) (pred_quiet p s q)
-pred_quiet (logic.Connected at c p q) s h = connected_quiet c (pred p s []) (pred q s []) (pred_quiet p s h.0) (pred_quiet q s h.1)
-pred_quiet (logic.Branch at c p q) s h = lazy_quiet (pred c s []) (pred p s []) (pred q s []) (pred_quiet c s h.0) (pred_quiet p s h.1) (pred_quiet q s h.2)
-pred_quiet (logic.Quantified at q gs p) s h = absurd h
-pred_quiet (logic.Asks at f z) s h = absurd h
-pred_quiet (logic.Separated at zs) s h = absurd h
+pub pred_quiet : (p : Predicate) (s : State) (e : Environment) → PredicateFound s.scope p → Quiet (pred p s e)
+pred_quiet (logic.Truth at b) s e q = says_quiet b
+pred_quiet (logic.NonZero at t) s e q = related_quiet s.store Ne (term t s e) (Some (Mathematical (pos 0)))
+pred_quiet (logic.Chain at t links) s e q = chain_quiet (term t s e) links s e
+pred_quiet (logic.Not at p) s e q = denied_quiet (pred p s e) (pred_quiet p s e q)
+pred_quiet (logic.Connected at c p q) s e h = connected_quiet c (pred p s e) (pred q s e) (pred_quiet p s e h.0) (pred_quiet q s e h.1)
+pred_quiet (logic.Branch at c p q) s e h = lazy_quiet (pred c s e) (pred p s e) (pred q s e) (pred_quiet c s e h.0) (pred_quiet p s e h.1) (pred_quiet q s e h.2)
+pred_quiet (logic.Quantified at q gs p) s e h = absurd h
+pred_quiet (logic.Asks at f z) s e h = absurd h
+pred_quiet (logic.Separated at zs) s e h = absurd h
 
 -- ---- what each form says, by what its parts say
 
@@ -136,8 +137,8 @@ fully_says : (f : Bool → Answer → Answer) (g : Bool → Option Bool → Opti
 fully_says f g a b h p q =
     ap (λ y. said_by (fully y b f)) (p 0) ∙ ap said_by (fully_said f g (said_by (a 0)) (said_by (b 0)) b 0 (h 0) (q 0)) ∙ said_again (after (said_by (a 0)) (λ x. g x (said_by (b 0)))) 0
 
-pub not_says : (p : Predicate) (s : State) → PredicateFound s.scope p → said_by (denied (pred p s [] 0)) ≡ turned (says p s)
-not_says p s f = lazy_says (pred p s []) (Says false) (Says true) (pred_quiet p s f) (says_quiet false) (says_quiet true)
+pub not_says : (p : Predicate) (s : State) (e : Environment) → PredicateFound s.scope p → said_by (denied (pred p s e 0)) ≡ turned (says p s e)
+not_says p s e f = lazy_says (pred p s e) (Says false) (Says true) (pred_quiet p s e f) (says_quiet false) (says_quiet true)
 
 pub connected_says : (c : Connective) (f g : ℕ → Answer) → Quiet f → Quiet g → said_by (connected_answers c (f 0) g) ≡ connected c (said_by (f 0)) (said_by (g 0))
 connected_says And f g p q = lazy_says f g (Says false) p q (says_quiet false)
@@ -154,9 +155,9 @@ connected_says Xor f g p q = fully_says other_than (λ x o. chosen (Some x) (tur
     by None = refl
     by (Some x) = refl
 
-pub branch_says : (c p q : Predicate) (s : State) → PredicateFound s.scope c → PredicateFound s.scope p → PredicateFound s.scope q
-    → said_by (lazily (pred c s [] 0) (pred p s []) (pred q s [])) ≡ chosen (says c s) (says p s) (says q s)
-branch_says c p q s f g h = lazy_says (pred c s []) (pred p s []) (pred q s []) (pred_quiet c s f) (pred_quiet p s g) (pred_quiet q s h)
+pub branch_says : (c p q : Predicate) (s : State) (e : Environment) → PredicateFound s.scope c → PredicateFound s.scope p → PredicateFound s.scope q
+    → said_by (lazily (pred c s e 0) (pred p s e) (pred q s e)) ≡ chosen (says c s e) (says p s e) (says q s e)
+branch_says c p q s e f g h = lazy_says (pred c s e) (pred p s e) (pred q s e) (pred_quiet c s e f) (pred_quiet p s e g) (pred_quiet q s e h)
 
 -- what is no pointer
 abbrev pub IsNoPointer : Option TermValue → Type 0
@@ -170,14 +171,14 @@ relation_says store r (Some (Mathematical x)) (Some (Mathematical y)) na nb = re
 relation_says store r (Some (Mathematical x)) (Some (Addressed y)) na nb = absurd (nb y refl)
 relation_says store r (Some (Addressed x)) b na nb = absurd (na x refl)
 
-pub chain_says : (r : Relation) (a : Option TermValue) (t : LogicTerm) (rest : Links) (s : State)
-    → said_by (lazily (related s.store r a (term t s []) 0) (chain (term t s []) rest s []) (Says false)) ≡ chosen (said_by (related s.store r a (term t s []) 0)) (said_by (chain (term t s []) rest s [] 0)) (Some false)
-chain_says r a t rest s = lazy_says (related s.store r a (term t s [])) (chain (term t s []) rest s []) (Says false) (related_quiet s.store r a (term t s [])) (chain_quiet (term t s []) rest s) (says_quiet false)
+pub chain_says : (r : Relation) (a : Option TermValue) (t : LogicTerm) (rest : Links) (s : State) (e : Environment)
+    → said_by (lazily (related s.store r a (term t s e) 0) (chain (term t s e) rest s e) (Says false)) ≡ chosen (said_by (related s.store r a (term t s e) 0)) (said_by (chain (term t s e) rest s e 0)) (Some false)
+chain_says r a t rest s e = lazy_says (related s.store r a (term t s e)) (chain (term t s e) rest s e) (Says false) (related_quiet s.store r a (term t s e)) (chain_quiet (term t s e) rest s e) (says_quiet false)
 
-pub choice_is : (c : Predicate) (a b : LogicTerm) (s : State) → value_of (chosen_term (pred c s [] 0) (term a s []) (term b s [])) ≡ chosen (says c s) (value_of (term a s [])) (value_of (term b s []))
-choice_is c a b s = by (pred c s [] 0)
+pub choice_is : (c : Predicate) (a b : LogicTerm) (s : State) (e : Environment) → value_of (chosen_term (pred c s e 0) (term a s e) (term b s e)) ≡ chosen (says c s e) (value_of (term a s e)) (value_of (term b s e))
+choice_is c a b s e = by (pred c s e 0)
   where
-    by : (q : Answer) → value_of (chosen_term q (term a s []) (term b s [])) ≡ chosen (said_by q) (value_of (term a s [])) (value_of (term b s []))
+    by : (q : Answer) → value_of (chosen_term q (term a s e) (term b s e)) ≡ chosen (said_by q) (value_of (term a s e)) (value_of (term b s e))
     by (Says true n) = refl
     by (Says false n) = refl
     by (SaysNothing n) = refl
@@ -190,3 +191,6 @@ both_is op (Some (Mathematical x)) (Some (Mathematical y)) = refl
 both_is op (Some (Mathematical x)) (Some (Addressed y)) = refl
 both_is op (Some (Addressed x)) (Some b) = refl
 both_is op (Some (Addressed x)) None = refl
+
+pub takes_no_step : TakesNoStep
+takes_no_step p s e found = (says p s e, pred_quiet p s e found)

@@ -112,14 +112,14 @@ working_fits op wr wa wb y f = by (is_shift op)
     by true = most wb f
     by false = wrap_in (wider wr (wider wa wb)) y (fits_right wr (wider wa wb) y (fits_right wa wb y f))
 
-module _ (w : Setting) (stands : Stands w) (ranges : RangesHold w.now) where
+module _ (w : Setting) (stands : Stands w) (ranges : RangesHold w.seen w.now w.names) where
   abbrev pub value : LogicTerm → Option ℤ
-  value t = value_of (term t w.now [])
+  value t = value_of (term t w.now w.names)
 
-  pub term_lies : (t : LogicTerm) → TermFound w.now.scope t → TermRanged [] t → (z : ℤ) → value t ≡ Some z → LiesIn (range_of t) z
-  term_lies t f q z e = ranges.lies t f q z (from_value (term t w.now []) z e)
+  pub term_lies : (t : LogicTerm) → TermFound w.now.scope t → TermRanged w.seen t → (z : ℤ) → value t ≡ Some z → LiesIn (range_of t) z
+  term_lies t f q z e = ranges.lies t f q z (from_value (term t w.now w.names) z e)
 
-  pub term_fits : (t : LogicTerm) → TermFound w.now.scope t → TermRanged [] t → (z : ℤ) → value t ≡ Some z → Fits (width_of t) z
+  pub term_fits : (t : LogicTerm) → TermFound w.now.scope t → TermRanged w.seen t → (z : ℤ) → value t ≡ Some z → Fits (width_of t) z
   term_fits t f q z e = widths_fit (range_of t) z (ranges.within t q) (term_lies t f q z e)
 
   -- ---- leaves
@@ -198,17 +198,17 @@ module _ (w : Setting) (stands : Stands w) (ranges : RangesHold w.now) where
 
   -- ---- operators and casts
 
-  pub unary_codes : (at : Place) (t : Option PlainType) (r : Range) (op : UnOp) (a : LogicTerm) → TermRanged [] (logic.Unary at t r op a) → TermFound w.now.scope a → (c : Code) (rs : List MonType) (regs : List Value) → Codes w c (value a) rs regs
+  pub unary_codes : (at : Place) (t : Option PlainType) (r : Range) (op : UnOp) (a : LogicTerm) → TermRanged w.seen (logic.Unary at t r op a) → TermFound w.now.scope a → (c : Code) (rs : List MonType) (regs : List Value) → Codes w c (value a) rs regs
       → Codes w (code_with_value (unary_value op (type_of_width (width_of_range r)) (type_of_width (wider (width_of_range r) (width_of a))) (type_of a) c.value) c) (value (logic.Unary at t r op a)) rs regs
   unary_codes at t r op a q f c rs regs h =
       changed w c (unary_value op (type_of_width (width_of_range r)) (type_of_width (wider (width_of_range r) (width_of a))) (type_of a) c.value) (value a) (value (logic.Unary at t r op a)) rs regs h
-      (unary_there op (range_of a) r q.0 (term a w.now []))
+      (unary_there op (range_of a) r q.0 (term a w.now w.names))
       (λ later has z e.
-      let x = unary_some op (term a w.now []) z e in
+      let x = unary_some op (term a w.now w.names) z e in
       unary_has w later op (range_of a) r c.value x.0 z (width_of a) (width_of_range r) q.0 (term_fits a f q.1 x.0 x.1) (term_fits (logic.Unary at t r op a) f q z e) (has x.0 x.1)
-      (sym (ap (λ o. value_of (compute_one op o)) (from_value (term a w.now []) x.0 x.1)) ∙ e))
+      (sym (ap (λ o. value_of (compute_one op o)) (from_value (term a w.now w.names) x.0 x.1)) ∙ e))
 
-  module _ (at : Place) (t : Option PlainType) (r : Range) (op : BinOp) (a b : LogicTerm) (q : TermRanged [] (logic.Binary at t r op a b)) (f : TermFound w.now.scope (logic.Binary at t r op a b)) (x y : Code)
+  module _ (at : Place) (t : Option PlainType) (r : Range) (op : BinOp) (a b : LogicTerm) (q : TermRanged w.seen (logic.Binary at t r op a b)) (f : TermFound w.now.scope (logic.Binary at t r op a b)) (x y : Code)
       (rs : List MonType) (regs : List Value) (h : Both w x y (value a) (value b) rs regs) where
     abbrev whole : LogicTerm
     whole = logic.Binary at t r op a b
@@ -223,7 +223,7 @@ module _ (w : Setting) (stands : Stands w) (ranges : RangesHold w.now) where
     computes i j = value_of (compute op i j)
 
     whole_is : value whole ≡ pair (value a) (value b) computes
-    whole_is = both_is op (term a w.now []) (term b w.now [])
+    whole_is = both_is op (term a w.now w.names) (term b w.now w.names)
 
     -- the numbers of both operands
     made_has : (later : List Value) (i j z : ℤ) → value a ≡ Some i → value b ≡ Some j → HasNumber w x.value later i → HasNumber w y.value later j → computes i j ≡ Some z → HasNumber w made later z
@@ -260,7 +260,7 @@ module _ (w : Setting) (stands : Stands w) (ranges : RangesHold w.now) where
         by true p room = total_codes p
         by false p room = partial_codes p le (omega (arith, room, length-append y.used (I32 ∷ type_of_width (width_of_range r) ∷ [])))
 
-  pub cast_codes : (at : Place) (t : Option PlainType) (r : Range) (to : CastType) (a : LogicTerm) → TermRanged [] (logic.Cast at t r to a) → TermFound w.now.scope (logic.Cast at t r to a) → (c : Code) (rs : List MonType) (regs : List Value)
+  pub cast_codes : (at : Place) (t : Option PlainType) (r : Range) (to : CastType) (a : LogicTerm) → TermRanged w.seen (logic.Cast at t r to a) → TermFound w.now.scope (logic.Cast at t r to a) → (c : Code) (rs : List MonType) (regs : List Value)
       → Codes w c (value a) rs regs
       → Codes w (code_with_value (cast_value to (range_of a) (type_of_width (width_of_range r)) (type_of a) c.value) c) (value (logic.Cast at t r to a)) rs regs
   cast_codes at t r Integers a q f c rs regs h = changed w c c.value (value a) (value (logic.Cast at t r Integers a)) rs regs h refl (λ later has z e. has z e)
@@ -283,7 +283,7 @@ module _ (w : Setting) (stands : Stands w) (ranges : RangesHold w.now) where
       k = i.int
 
       this_is : value this ≡ after (value a) (λ x. Some (wrapped k x))
-      this_is = typed_is to k i.same (term a w.now [])
+      this_is = typed_is to k i.same (term a w.now w.names)
 
       by : (later : List Value) (x z : ℤ) → value a ≡ Some x → value this ≡ Some z → HasNumber w c.value later x → wrapped k x ≡ z → (s : Bool) → is_inside (range_of a) (type_range k) ≡ s
           → HasNumber w (if s then c.value else in_type (register_type k) wr (Cast (register_type k) c.value)) later z
@@ -302,15 +302,15 @@ module _ (w : Setting) (stands : Stands w) (ranges : RangesHold w.now) where
       changed w c (in_type (type_of a) (type_of_width (width_of_range r)) c.value) (value a) (value a) rs regs h refl
       (λ later has z e. in_type_has w (type_of a) (type_of_width (width_of_range r)) c.value later z (wrap_in (width_of_range r) z (fit z e)) (has z e))
 
-  pub choice_codes : (at : Place) (t : Option PlainType) (r : Range) (c : Predicate) (a b : LogicTerm) → TermRanged [] (logic.Choice at t r c a b) → TermFound w.now.scope (logic.Choice at t r c a b)
+  pub choice_codes : (at : Place) (t : Option PlainType) (r : Range) (c : Predicate) (a b : LogicTerm) → TermRanged w.seen (logic.Choice at t r c a b) → TermFound w.now.scope (logic.Choice at t r c a b)
       → (z x y : Code) (rs : List MonType) (regs : List Value)
-      → length rs ≤ length z.used → length z.used ≤ length x.used → length x.used ≤ length y.used → suc (length y.used) < length regs → (cz : Codes w z (truths (says c w.now)) rs regs)
-      → (says c w.now ≡ Some true → Codes w x (value a) z.used cz.end) → (says c w.now ≡ Some false → Codes w y (value b) x.used cz.end)
+      → length rs ≤ length z.used → length z.used ≤ length x.used → length x.used ≤ length y.used → suc (length y.used) < length regs → (cz : Codes w z (truths (says c w.now w.names)) rs regs)
+      → (says c w.now w.names ≡ Some true → Codes w x (value a) z.used cz.end) → (says c w.now w.names ≡ Some false → Codes w y (value b) x.used cz.end)
       → Codes w (branch (type_of_width (width_of_range r)) z (code_with_value (in_type (type_of a) (type_of_width (width_of_range r)) x.value) x) (code_with_value (in_type (type_of b) (type_of_width (width_of_range r)) y.value) y))
       (value (logic.Choice at t r c a b)) rs regs
   choice_codes at t r c a b q f z x y rs regs l1 l2 l3 room cz cx cy =
       subst (λ o. Codes w (branch wr z (code_with_value (in_type (type_of a) wr x.value) x) (code_with_value (in_type (type_of b) wr y.value) y)) o rs regs) (sym this_is)
-      (branch_runs w wr z (code_with_value (in_type (type_of a) wr x.value) x) (code_with_value (in_type (type_of b) wr y.value) y) (says c w.now) (value a) (value b) rs z.used x.used regs l1 (omega (arith, l1, l2))
+      (branch_runs w wr z (code_with_value (in_type (type_of a) wr x.value) x) (code_with_value (in_type (type_of b) wr y.value) y) (says c w.now w.names) (value a) (value b) rs z.used x.used regs l1 (omega (arith, l1, l2))
       (omega (arith, l1, l2, l3)) l3 room cz
       (λ p. side_codes r a x z.used cz.end (λ i e. term_fits this f q i (this_is ∙ ap (λ u. chosen u (value a) (value b)) p ∙ e)) (cx p))
       (λ p. side_codes r b y x.used cz.end (λ i e. term_fits this f q i (this_is ∙ ap (λ u. chosen u (value a) (value b)) p ∙ e)) (cy p)))
@@ -321,5 +321,5 @@ module _ (w : Setting) (stands : Stands w) (ranges : RangesHold w.now) where
       wr : MonType
       wr = type_of_width (width_of_range r)
 
-      this_is : value this ≡ chosen (says c w.now) (value a) (value b)
-      this_is = choice_is c a b w.now
+      this_is : value this ≡ chosen (says c w.now w.names) (value a) (value b)
+      this_is = choice_is c a b w.now w.names

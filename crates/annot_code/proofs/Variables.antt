@@ -20,13 +20,13 @@ use Rattle.c_syntax.specs.Logic.{LogicTerm, NoLink, Linked, Predicate}
 use Rattle.c_syntax.specs.Logic as logic
 use Rattle.c_syntax.specs.Layouts.{int_size, IntegerType}
 use Rattle.c_model.specs.Integers.{value_of_bits}
-use Rattle.c_model.specs.Logic.{TermValue, Mathematical, Addressed, held_at, load_from, pointer_at, mathematical, both, Answer, Says, SaysNothing, OutOfSteps, compute, of_value, related, relates}
+use Rattle.c_model.specs.Logic.{Environment, TermValue, Mathematical, Addressed, held_at, load_from, pointer_at, mathematical, both, Answer, Says, SaysNothing, OutOfSteps, compute, of_value, related, relates}
 use Rattle.c_model.specs.MemoryQuestions.{Address, address_of}
 use Rattle.c_model.specs.Memory.{Pointer, Into, Value, Integer, Points, NoValue, Byte, Store, number_of, value_from, load, load_bytes}
 use Rattle.c_model.specs.Memory.{◌>>=◌ as bind_loaded}
 use Rattle.c_model.specs.Predicates.{compute_one, converted, in_type, chosen as chosen_term, term, chain, pred}
 use Rattle.c_model.specs.State.{State, Scope, find, start_of}
-use Rattle.c_model.specs.TermRanges.{type_range, place_range, TermRanged, PredicateRanged}
+use Rattle.c_model.specs.TermRanges.{Seen, type_range, place_range, TermRanged, PredicateRanged}
 use Rattle.c_model.specs.TypedPredicates.{IsCastType}
 use Rattle.mon_syntax.specs.declared.tree.MonType.{MonType}
 use Rattle.mon_syntax.specs.declared.tree.MonType.TheVariants as kind
@@ -200,19 +200,19 @@ no_chosen (SaysNothing n) a b na nb y e = cc
 no_chosen OutOfSteps a b na nb y e = cc
 
 -- the value of a found term is a number
-pub number_found : (t : LogicTerm) (s : State) (scope : Scope) → TermFound scope t → IsNoPointer (term t s [])
-number_found (logic.Number at t r n) s scope f y q = cc
-number_found (logic.Letter at t r n) s scope f y q = cc
-number_found (logic.Variable at t r x) s scope f y q = no_held t f.0 s.store (option_map address_of (start_of (find x.decl s.scope))) y q
-number_found (logic.Unary at t r op a) s scope f y q = no_unary op (term a s []) y q
-number_found (logic.Binary at t r op a b) s scope f y q = no_both op (term a s []) (term b s []) y q
-number_found (logic.Cast at t r Integers a) s scope f y q = number_found a s scope f.1 y q
-number_found (logic.Cast at t r (OfC to) a) s scope f y q =
+pub number_found : (t : LogicTerm) (s : State) (e : Environment) (scope : Scope) → TermFound scope t → IsNoPointer (term t s e)
+number_found (logic.Number at t r n) s e scope f y q = cc
+number_found (logic.Letter at t r n) s e scope f y q = cc
+number_found (logic.Variable at t r x) s e scope f y q = no_held t f.0 s.store (option_map address_of (start_of (find x.decl s.scope))) y q
+number_found (logic.Unary at t r op a) s e scope f y q = no_unary op (term a s e) y q
+number_found (logic.Binary at t r op a b) s e scope f y q = no_both op (term a s e) (term b s e) y q
+number_found (logic.Cast at t r Integers a) s e scope f y q = number_found a s e scope f.1 y q
+number_found (logic.Cast at t r (OfC to) a) s e scope f y q =
     let i = f.0 in
-    no_typed i.int (term a s []) y (ap (λ k. in_type k (term a s [])) (sym i.is) ∙ q)
-number_found (logic.Choice at t r c a b) s scope f y q =
-    no_chosen (pred c s [] 0) (term a s []) (term b s []) (number_found a s scope f.1) (number_found b s scope f.2) y q
-number_found _ s scope f y q = absurd f
+    no_typed i.int (term a s e) y (ap (λ k. in_type k (term a s e)) (sym i.is) ∙ q)
+number_found (logic.Choice at t r c a b) s e scope f y q =
+    no_chosen (pred c s e 0) (term a s e) (term b s e) (number_found a s e scope f.1) (number_found b s e scope f.2) y q
+number_found _ s e scope f y q = absurd f
 
 -- ---- what is known
 
@@ -304,27 +304,29 @@ cast_some (OfC t) g (Some (Addressed x)) z e = absurd (by (ap (λ k. value_of (i
     by : value_of (in_type (Int g.int) (Some (Addressed x))) ≡ Some z → ⊥
     by e = cc
 
-pub term_read : (s : State) (t : LogicTerm) → TermRanged [] t → TermFound s.scope t → (z : ℤ) → value_of (term t s []) ≡ Some z → AllRead s (sure_readings_of_term t)
-term_read s (logic.Number at t r n) q f z e = tt
-term_read s (logic.Letter at t r n) q f z e = tt
-term_read s (logic.Variable at t r x) q f z e =
+pub term_read : (seen : Seen) (s : State) (names : Environment) (t : LogicTerm) → TermRanged seen t → TermFound s.scope t → (z : ℤ) → value_of (term t s names) ≡ Some z → AllRead s (sure_readings_of_term t)
+term_read seen s names (logic.Number at t r n) q f z e = tt
+term_read seen s names (logic.Letter at t r n) q f z e = tt
+term_read seen s names (logic.Variable at t r x) q f z e =
     let v = variable_in_sight s at t r x q f in (record { number = v.number; found = v.found; holds = sym v.there ∙ ap is_some e }, tt)
-term_read s (logic.Unary at t r op a) q f z e = let x = unary_some op (term a s []) z e in term_read s a q.1 f x.0 x.1
-term_read s (logic.Binary at t r op a b) q f z e =
-    let x = after_some (value_of (term a s [])) (λ x. after (value_of (term b s [])) (λ y. value_of (compute op x y))) z (sym (both_is op (term a s []) (term b s [])) ∙ e) in
-    let y = after_some (value_of (term b s [])) (λ y. value_of (compute op x.0 y)) z x.2 in
-    read-append s (sure_readings_of_term a) (sure_readings_of_term b) (term_read s a q.1 f.0 x.0 x.1) (term_read s b q.2 f.1 y.0 y.1)
-term_read s (logic.Cast at t r to a) q f z e = let x = cast_some to f.0 (term a s []) z e in term_read s a q.1 f.1 x.0 x.1
-term_read s (logic.Choice at t r c a b) q f z e = tt
-term_read s _ q f z e = absurd f
+term_read seen s names (logic.Unary at t r op a) q f z e = let x = unary_some op (term a s names) z e in term_read seen s names a q.1 f x.0 x.1
+term_read seen s names (logic.Binary at t r op a b) q f z e =
+    let x = after_some (value_of (term a s names)) (λ x. after (value_of (term b s names)) (λ y. value_of (compute op x y))) z (sym (both_is op (term a s names) (term b s names)) ∙ e) in
+    let y = after_some (value_of (term b s names)) (λ y. value_of (compute op x.0 y)) z x.2 in
+    read-append s (sure_readings_of_term a) (sure_readings_of_term b) (term_read seen s names a q.1 f.0 x.0 x.1) (term_read seen s names b q.2 f.1 y.0 y.1)
+term_read seen s names (logic.Cast at t r to a) q f z e = let x = cast_some to f.0 (term a s names) z e in term_read seen s names a q.1 f.1 x.0 x.1
+term_read seen s names (logic.Choice at t r c a b) q f z e = tt
+term_read seen s names _ q f z e = absurd f
 
 -- both terms of a relation
-pub relation_read : (s : State) (r : Relation) (t u : LogicTerm) → TermRanged [] t → TermRanged [] u → TermFound s.scope t → TermFound s.scope u → (b : Bool) → said_by (related s.store r (term t s []) (term u s []) 0) ≡ Some b
+pub relation_read : (seen : Seen) (s : State) (names : Environment) (r : Relation) (t u : LogicTerm) → TermRanged seen t → TermRanged seen u → TermFound s.scope t → TermFound s.scope u
+    → (b : Bool) → said_by (related s.store r (term t s names) (term u s names) 0) ≡ Some b
     → AllRead s (sure_readings_of_term t ++ sure_readings_of_term u)
-relation_read s r t u p q f g b e =
-    let x = after_some (value_of (term t s [])) (λ x. after (value_of (term u s [])) (λ y. Some (relates r x y))) b (sym (relation_says s.store r (term t s []) (term u s []) (number_found t s s.scope f) (number_found u s s.scope g)) ∙ e) in
-    let y = after_some (value_of (term u s [])) (λ y. Some (relates r x.0 y)) b x.2 in
-    read-append s (sure_readings_of_term t) (sure_readings_of_term u) (term_read s t p f x.0 x.1) (term_read s u q g y.0 y.1)
+relation_read seen s names r t u p q f g b e =
+    let x = after_some (value_of (term t s names)) (λ x. after (value_of (term u s names)) (λ y. Some (relates r x y))) b
+    (sym (relation_says s.store r (term t s names) (term u s names) (number_found t s names s.scope f) (number_found u s names s.scope g)) ∙ e) in
+    let y = after_some (value_of (term u s names)) (λ y. Some (relates r x.0 y)) b x.2 in
+    read-append s (sure_readings_of_term t) (sure_readings_of_term u) (term_read seen s names t p f x.0 x.1) (term_read seen s names u q g y.0 y.1)
 
 turned_some : (u : Option Bool) (b : Bool) → turned u ≡ Some b → (x : Bool) × (u ≡ Some x)
 turned_some u b e = chosen_some u (Some false) (Some true) b e
@@ -347,41 +349,43 @@ left_some Implies u v b e = chosen_some u v (Some true) b e
 left_some Iff u v b e = chosen_some u v (turned v) b e
 left_some Xor u v b e = chosen_some u (turned v) v b e
 
-connected_read : (s : State) (at : Place) (c : Connective) (p q : Predicate) (b : Bool) → ((x : Bool) → says p s ≡ Some x → AllRead s (sure_readings p)) → ((y : Bool) → says q s ≡ Some y → AllRead s (sure_readings q))
-    → connected c (says p s) (says q s) ≡ Some b → AllRead s (sure_readings (logic.Connected at c p q))
-connected_read s at And p q b left right e = let x = left_some And (says p s) (says q s) b e in left x.0 x.1
-connected_read s at Or p q b left right e = let x = left_some Or (says p s) (says q s) b e in left x.0 x.1
-connected_read s at Implies p q b left right e = let x = left_some Implies (says p s) (says q s) b e in left x.0 x.1
-connected_read s at Iff p q b left right e =
-    let x = left_some Iff (says p s) (says q s) b e in
-    let y = iff_some (says p s) (says q s) b e in
+connected_read : (s : State) (names : Environment) (at : Place) (c : Connective) (p q : Predicate) (b : Bool) → ((x : Bool) → says p s names ≡ Some x → AllRead s (sure_readings p))
+    → ((y : Bool) → says q s names ≡ Some y → AllRead s (sure_readings q))
+    → connected c (says p s names) (says q s names) ≡ Some b → AllRead s (sure_readings (logic.Connected at c p q))
+connected_read s names at And p q b left right e = let x = left_some And (says p s names) (says q s names) b e in left x.0 x.1
+connected_read s names at Or p q b left right e = let x = left_some Or (says p s names) (says q s names) b e in left x.0 x.1
+connected_read s names at Implies p q b left right e = let x = left_some Implies (says p s names) (says q s names) b e in left x.0 x.1
+connected_read s names at Iff p q b left right e =
+    let x = left_some Iff (says p s names) (says q s names) b e in
+    let y = iff_some (says p s names) (says q s names) b e in
     read-append s (sure_readings p) (sure_readings q) (left x.0 x.1) (right y.0 y.1)
-connected_read s at Xor p q b left right e =
-    let x = left_some Xor (says p s) (says q s) b e in
-    let y = xor_some (says p s) (says q s) b e in
+connected_read s names at Xor p q b left right e =
+    let x = left_some Xor (says p s names) (says q s names) b e in
+    let y = xor_some (says p s names) (says q s names) b e in
     read-append s (sure_readings p) (sure_readings q) (left x.0 x.1) (right y.0 y.1)
 
-pub pred_read : (s : State) (p : Predicate) → PredicateRanged [] p → PredicateFound s.scope p → (b : Bool) → says p s ≡ Some b → AllRead s (sure_readings p)
-pred_read s (logic.Truth at v) q f b e = tt
-pred_read s (logic.NonZero at t) q f b e =
-    let x = after_some (value_of (term t s [])) (λ x. after (Some (pos 0)) (λ y. Some (relates Ne x y))) b (sym (relation_says s.store Ne (term t s []) (Some (Mathematical (pos 0))) (number_found t s s.scope f) (λ y q. cc)) ∙ e) in
-    term_read s t q f x.0 x.1
-pred_read s (logic.Chain at t NoLink) q f b e = tt
-pred_read s (logic.Chain at t (Linked at2 r u rest)) q f b e =
-    let x = chosen_some (said_by (related s.store r (term t s []) (term u s []) 0)) (said_by (chain (term u s []) rest s [] 0)) (Some false) b (sym (chain_says r (term t s []) u rest s) ∙ e) in
-    relation_read s r t u q.0 q.1.0 f.0 f.1.0 x.0 x.1
-pred_read s (logic.Not at p) q f b e = let x = turned_some (says p s) b (sym (not_says p s f) ∙ e) in pred_read s p q f x.0 x.1
-pred_read s (logic.Connected at c p q) h f b e =
-    connected_read s at c p q b (λ x g. pred_read s p h.0 f.0 x g) (λ x g. pred_read s q h.1 f.1 x g)
-    (sym (connected_says c (pred p s []) (pred q s []) (pred_quiet p s f.0) (pred_quiet q s f.1)) ∙ e)
-pred_read s (logic.Branch at c p q) h f b e =
-    let x = chosen_some (says c s) (says p s) (says q s) b (sym (branch_says c p q s f.0 f.1 f.2) ∙ e) in pred_read s c h.0 f.0 x.0 x.1
-pred_read s _ q f b e = absurd f
+pub pred_read : (seen : Seen) (s : State) (names : Environment) (p : Predicate) → PredicateRanged seen p → PredicateFound s.scope p → (b : Bool) → says p s names ≡ Some b → AllRead s (sure_readings p)
+pred_read seen s names (logic.Truth at v) q f b e = tt
+pred_read seen s names (logic.NonZero at t) q f b e =
+    let x = after_some (value_of (term t s names)) (λ x. after (Some (pos 0)) (λ y. Some (relates Ne x y))) b (sym (relation_says s.store Ne (term t s names) (Some (Mathematical (pos 0))) (number_found t s names s.scope f) (λ y q. cc)) ∙ e) in
+    term_read seen s names t q f x.0 x.1
+pred_read seen s names (logic.Chain at t NoLink) q f b e = tt
+pred_read seen s names (logic.Chain at t (Linked at2 r u rest)) q f b e =
+    let x = chosen_some (said_by (related s.store r (term t s names) (term u s names) 0)) (said_by (chain (term u s names) rest s names 0)) (Some false) b (sym (chain_says r (term t s names) u rest s names) ∙ e) in
+    relation_read seen s names r t u q.0 q.1.0 f.0 f.1.0 x.0 x.1
+pred_read seen s names (logic.Not at p) q f b e = let x = turned_some (says p s names) b (sym (not_says p s names f) ∙ e) in pred_read seen s names p q f x.0 x.1
+pred_read seen s names (logic.Connected at c p q) h f b e =
+    connected_read s names at c p q b (λ x g. pred_read seen s names p h.0 f.0 x g) (λ x g. pred_read seen s names q h.1 f.1 x g)
+    (sym (connected_says c (pred p s names) (pred q s names) (pred_quiet p s names f.0) (pred_quiet q s names f.1)) ∙ e)
+pred_read seen s names (logic.Branch at c p q) h f b e =
+    let x = chosen_some (says c s names) (says p s names) (says q s names) b (sym (branch_says c p q s names f.0 f.1 f.2) ∙ e) in pred_read seen s names c h.0 f.0 x.0 x.1
+pred_read seen s names _ q f b e = absurd f
 
 -- what is known at the right side of a connective, wherever that matters
-pub known_right : (s : State) (c : Connective) (known : List Reading) (p : Predicate) → PredicateRanged [] p → PredicateFound s.scope p → AllRead s known → (b : Bool) → says p s ≡ Some b → AllRead s (known_at_right c known p)
-known_right s And known p q f h b e = read-append s known (sure_readings p) h (pred_read s p q f b e)
-known_right s Or known p q f h b e = read-append s known (sure_readings p) h (pred_read s p q f b e)
-known_right s Implies known p q f h b e = read-append s known (sure_readings p) h (pred_read s p q f b e)
-known_right s Iff known p q f h b e = h
-known_right s Xor known p q f h b e = h
+pub known_right : (seen : Seen) (s : State) (names : Environment) (c : Connective) (known : List Reading) (p : Predicate) → PredicateRanged seen p → PredicateFound s.scope p → AllRead s known
+    → (b : Bool) → says p s names ≡ Some b → AllRead s (known_at_right c known p)
+known_right seen s names And known p q f h b e = read-append s known (sure_readings p) h (pred_read seen s names p q f b e)
+known_right seen s names Or known p q f h b e = read-append s known (sure_readings p) h (pred_read seen s names p q f b e)
+known_right seen s names Implies known p q f h b e = read-append s known (sure_readings p) h (pred_read seen s names p q f b e)
+known_right seen s names Iff known p q f h b e = h
+known_right seen s names Xor known p q f h b e = h

@@ -6,17 +6,18 @@ use Rattle.c_syntax.specs.Ctypes.{PlainType, Int}
 use Rattle.c_syntax.specs.Logic.{LogicTerm, Links, NoLink, Linked, Predicate, range_of}
 use Rattle.c_syntax.specs.Logic as logic
 use Rattle.c_syntax.specs.Programs.{TranslationUnit}
-use Rattle.c_model.specs.Integers.{truth}
+use Rattle.c_model.specs.Integers.{truth as number_of}
 use Rattle.c_model.specs.Memory.{Into, Value, Integer, Points}
-use Rattle.c_model.specs.Logic.{Mathematical, Answer, Says, SaysNothing}
+use Rattle.c_model.specs.Logic.{Mathematical, Environment, Answer, Says, SaysNothing, OutOfSteps, said}
 use Rattle.c_model.specs.Predicates.{term, pred}
 use Rattle.c_model.specs.Ranges.{LiesIn, IsWithin128}
 use Rattle.c_model.specs.State.{State, Scope, find}
-use Rattle.c_model.specs.TermRanges.{TermRanged, PredicateRanged}
+use Rattle.c_model.specs.TermRanges.{Seen, TermRanged, PredicateRanged}
 use Rattle.c_model.specs.TypedPredicates.{IsCastType}
 use Rattle.mon_syntax.specs.declared.tree.MonType.{MonType}
 use Rattle.mon_syntax.specs.BlockMemory.{Blocks, over_blocks, is_some}
-use Rattle.mon_syntax.specs.Meaning.{Result, Done, Flow, Next, eval, exec_all}
+use Rattle.c_model.specs.MonitoredRuns.{Spent}
+use Rattle.mon_syntax.specs.Meaning.{Result, Done, Stops, Flow, Next, eval, exec_all}
 use Rattle.mon_syntax.specs.Meaning as monitored
 use Rattle.mon_syntax.specs.Registers.{Bindings}
 use Rattle.mon_syntax.specs.Trees.{MonStatements}
@@ -31,7 +32,7 @@ abbrev pub Did : Type 0
 Did = Result Target (Flow Value)
 
 -- where code runs: the program, the registers bound to its variables, all of them below `low`, the pointers to globals, what calls do and how many turns
--- loops make, the states of the source and of the target, and the registers
+-- loops make, the state of the source, what names of annotations stand for there and the ranges that they keep, the state of the target, and the registers
 pub record Setting : Type 0 where
   pub unit : TranslationUnit
   pub bound : Bindings
@@ -40,6 +41,8 @@ pub record Setting : Type 0 where
   pub calls : monitored.Calls over_blocks
   pub turns : ℕ
   pub now : State
+  pub names : Environment
+  pub seen : Seen
   pub target : Target
   pub regs : List Value
 
@@ -82,32 +85,46 @@ abbrev mutual
   PredicateFound scope (logic.Branch at c p q) = PredicateFound scope c × PredicateFound scope p × PredicateFound scope q
   PredicateFound scope _ = ⊥
 
--- terms that keep their ranges have their values there
-pub record RangesHold (s : State) : Type 0 where
-  pub lies : (t : LogicTerm) → TermFound s.scope t → TermRanged [] t → (z : ℤ) → term t s [] ≡ Some (Mathematical z) → LiesIn (range_of t) z
-  pub within : (t : LogicTerm) → TermRanged [] t → IsWithin128 (range_of t)
+-- terms that keep their ranges have their values there, where names keep these
+pub record RangesHold (m : Seen) (s : State) (e : Environment) : Type 0 where
+  pub lies : (t : LogicTerm) → TermFound s.scope t → TermRanged m t → (z : ℤ) → term t s e ≡ Some (Mathematical z) → LiesIn (range_of t) z
+  pub within : (t : LogicTerm) → TermRanged m t → IsWithin128 (range_of t)
 
--- what a predicate says that takes no step
-abbrev pub said : Option Bool → ℕ → Answer
-said None n = SaysNothing n
-said (Some b) n = Says b n
+-- ---- what statements come to
+
+-- they come to their end with so many steps left, and leave memory, input and output as they were, and each register below `low`
+pub record Finishes (w : Setting) (a : MonStatements) (low : ℕ) (k : ℕ) (P : List Value → Type 0) : Type 0 where
+  pub after : List Value
+  pub same : Same low w.regs after
+  pub is : runs w a w.regs ≡ Done (Next after) (record w.target { steps = k }) []
+  pub holds : P after
+
+-- no step is left for them
+abbrev pub IsSpent : Setting → MonStatements → Type 0
+IsSpent w a = runs w a w.regs ≡ Stops Spent 0 []
 
 abbrev pub is_true : Option Bool → Bool
 is_true None = false
 is_true (Some b) = b
 
--- the statements of a predicate come to their end, and leave memory, steps, input and output as they were, and each register that was taken before
-pub record Judges (w : Setting) (p : Predicate) (rs : List MonType) (j : Judgement) : Type 0 where
-  pub after : List Value
-  pub same : Same (length rs) w.regs after
-  pub is : runs w j.stmts w.regs ≡ Done (Next after) w.target []
-  pub says : Option Bool
-  pub means : (n : ℕ) → pred p w.now [] n ≡ said says n
-  pub flag_is : slice_get after j.flag ≡ Some (Integer (truth (is_some says)))
-  pub truth_is : slice_get after j.truth ≡ Some (Integer (truth (is_true says)))
+-- the flag says whether something is said, and the truth whether that is true
+pub record IsJudged (flag truth : ℕ) (says : Option Bool) (after : List Value) : Type 0 where
+  pub flag_is : slice_get after flag ≡ Some (Integer (number_of (is_some says)))
+  pub truth_is : slice_get after truth ≡ Some (Integer (number_of (is_true says)))
+
+-- the statements of a predicate do as an answer says, with the steps that it leaves
+abbrev pub Judges : Setting → List MonType → Judgement → Answer → Type 0
+Judges w rs j (Says b k) = Finishes w j.stmts (length rs) k (IsJudged j.flag j.truth (Some b))
+Judges w rs j (SaysNothing k) = Finishes w j.stmts (length rs) k (IsJudged j.flag j.truth None)
+Judges w rs j OutOfSteps = IsSpent w j.stmts
 
 -- so it is for each predicate that keeps its ranges, where there are registers enough
 abbrev pub CodeJudges : Type 0
 CodeJudges =
-    (w : Setting) (p : Predicate) (rs : List MonType) → Stands w → RangesHold w.now → PredicateRanged [] p → PredicateFound w.now.scope p
-    → w.low ≤ length rs → length (judgement w.unit w.bound p rs).used ≤ length w.regs → Judges w p rs (judgement w.unit w.bound p rs)
+    (w : Setting) (p : Predicate) (rs : List MonType) → Stands w → RangesHold w.seen w.now w.names → PredicateRanged w.seen p → PredicateFound w.now.scope p
+    → w.low ≤ length rs → length (judgement w.unit w.bound p rs).used ≤ length w.regs
+    → Judges w rs (judgement w.unit w.bound p rs) (pred p w.now w.names w.target.steps)
+
+-- these predicates take no step: the answer is the same for all
+abbrev pub TakesNoStep : Type 0
+TakesNoStep = (p : Predicate) (s : State) (e : Environment) → PredicateFound s.scope p → (says : Option Bool) × ((n : ℕ) → pred p s e n ≡ said says n)

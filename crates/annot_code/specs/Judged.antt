@@ -2,6 +2,7 @@
 use Rattle.std.specs.Prelude.{◌≡◌, ℕ, ◌≤◌, length, List, [], Option}
 use Rattle.c_syntax.specs.Logic.{Predicate}
 use Rattle.c_model.specs.Formed.{nodes_of_predicate}
+use Rattle.c_model.specs.Predicates.{pred}
 use Rattle.c_model.specs.TermRanges.{PredicateRanged}
 use Rattle.mon_syntax.specs.declared.tree.MonType.{MonType}
 use Rattle.mon_syntax.specs.Registers.{Names}
@@ -14,8 +15,9 @@ use Rattle.annot_code.specs.Validity.{PredicateWritable, Begins, IsValidCode}
 -- it judges each predicate that keeps its ranges and whose variables are in sight, where there are registers enough
 abbrev pub JudgesIn : Names → Predicate → Judgement → Type 0
 JudgesIn n q j =
-    (w : Setting) → w.unit ≡ unit_of n → w.bound ≡ n.table.bound → Stands w → RangesHold w.now → PredicateRanged [] q → PredicateFound w.now.scope q
-    → w.low ≤ length n.table.kinds → length j.used ≤ length w.regs → Judges w q n.table.kinds j
+    (w : Setting) → w.unit ≡ unit_of n → w.bound ≡ n.table.bound → Stands w → RangesHold w.seen w.now w.names → PredicateRanged w.seen q
+    → PredicateFound w.now.scope q → w.low ≤ length n.table.kinds → length j.used ≤ length w.regs
+    → Judges w n.table.kinds j (pred q w.now w.names w.target.steps)
 
 -- among any functions and in any of them, for each predicate that keeps its ranges and can be written
 abbrev pub IsValidIn : Names → Predicate → Judgement → Type 0

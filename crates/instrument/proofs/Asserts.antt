@@ -7,17 +7,18 @@ use Rattle.c_syntax.specs.Logic as logic
 use Rattle.c_model.specs.Formed.{IsAssert, IsShortClause}
 use Rattle.c_model.specs.Integers.{truth}
 use Rattle.c_model.specs.Memory.{Value}
-use Rattle.c_model.specs.State.{State, Broken}
+use Rattle.c_model.specs.State.{State, Broken, Spent}
 use Rattle.c_model.specs.MonitoredRuns as machine
-use Rattle.c_model.specs.Logic.{Says, SaysNothing}
+use Rattle.c_model.specs.Logic.{Answer, Says, SaysNothing, OutOfSteps}
 use Rattle.c_model.specs.Logic as source
-use Rattle.c_model.specs.Predicates.{clause, check, checks}
+use Rattle.c_model.specs.Predicates.{pred, clause, check, checks}
+use Rattle.c_model.proofs.Along.{steps_of, steps_pred}
 use Rattle.c_model.specs.ExpressionTyping.{Sight}
 use Rattle.c_model.specs.TypedPredicates.{ClauseTyped, AnnotationsTyped}
 use Rattle.c_model.specs.Unranged.{ClauseRanged}
 use Rattle.mon_syntax.specs.declared.tree.MonType.{MonType}
 use Rattle.mon_syntax.specs.Registers.{Bindings}
-use Rattle.mon_syntax.specs.Meaning.{Done, Stops, Next, with_value}
+use Rattle.mon_syntax.specs.Meaning.{Done, Next, then_do, at_next, with_value}
 use Rattle.mon_syntax.specs.Meaning.{◌>>=◌ as bind}
 use Rattle.mon_syntax.specs.Meaning as monitored
 use Rattle.mon_syntax.specs.BlockMemory.{integer_of, is_some, over_blocks}
@@ -25,26 +26,25 @@ use Rattle.mon_syntax.specs.Trees.{MonExpression, Register, Assert}
 use Rattle.c_effects.specs.Expressions.{one}
 use Rattle.annot_code.specs.Code.{Judgement, judgement, clause_judgement, asserted, assertion, behind_assertion, assertions, behind_assertions}
 use Rattle.annot_code.specs.Does as code
-use Rattle.annot_code.specs.Does.{Stands, Judges, said, is_true}
+use Rattle.annot_code.specs.Does.{Stands, Finishes, IsJudged, Judges, is_true}
 use Rattle.c_simulation.specs.SameRegisters.{Same}
 use Rattle.annot_code.proofs.Asserted.{assertion_grows, behind_grows}
 use Rattle.annot_code.proofs.Theorem.{code_judges}
 use Rattle.instrument.proofs.RangedTrees.{AreRangedAsserts}
-use Rattle.c_simulation.proofs.Results.{one_is, before_is}
+use Rattle.c_simulation.proofs.Results.{one_is, before_is, writes_none}
 use Rattle.c_simulation.specs.Standing.{Setting, Target, Did, runs, Bounded, Anchored, Here, Standing, Beside}
 use Rattle.c_simulation.proofs.Registers.{same_less}
-use Rattle.c_simulation.proofs.Following.{later_same, stays, onward, follows_then, standing_later}
-use Rattle.c_simulation.specs.Following.{Follows, IsOver}
+use Rattle.c_simulation.proofs.Following.{stays, follows_then, standing_later}
+use Rattle.c_simulation.specs.Following.{Follows, GoesOn, IsOver, Later}
 use Rattle.c_simulation.proofs.Values.{HasNumber}
 use Rattle.c_simulation.proofs.Anchors.{pointer_has}
-use Rattle.c_simulation.proofs.Evaluating.{behind_setup}
 use Rattle.instrument.proofs.Scenes.{AreFound}
 use Rattle.instrument.proofs.Terms.{ranges_hold, predicate_found}
 
 module _ (w : Setting) (n : ℕ) (low : ℕ) (bound : Bindings) (s : State) (t : Target) where
   -- where the code of a predicate runs
   abbrev judging : List Value → code.Setting
-  judging regs = record { unit = w.unit; bound = bound; low = low; globals = w.globals; calls = w.calls; turns = n; now = s; target = t; regs = regs }
+  judging regs = record { unit = w.unit; bound = bound; low = low; globals = w.globals; calls = w.calls; turns = n; now = s; names = []; seen = []; target = t; regs = regs }
 
   stands : (regs : List Value) → t.mem.store ≡ s.store → Anchored w low bound regs s.scope → Stands (judging regs)
   stands regs store_is h = record {
@@ -52,33 +52,57 @@ module _ (w : Setting) (n : ℕ) (low : ℕ) (bound : Bindings) (s : State) (t :
     points = λ x number found later same. pointer_has w low low bound regs later t.mem s.scope x number (omega arith) same h found;
   }
 
-  -- what an assertion comes to
-  abbrev judges : Annotation → ℤ → ℤ → List Value → Did
-  judges a d v regs =
-      monitored.judged over_blocks d v (machine.Broken a.number a.place.line a.kind how.Undefined) (machine.Broken a.number a.place.line a.kind how.False) (Done (Next regs) t []) t.steps
+  -- with so many steps left
+  abbrev stepped : Target → ℕ → Target
+  stepped u k = record u { steps = k }
 
-  assert_runs : (a : Annotation) (d v : MonExpression) (i j : ℤ) (regs : List Value) → HasNumber w regs t.mem d i → HasNumber w regs t.mem v j → runs w n t (one (Assert d v a.number a.place.line a.kind)) regs ≡ judges a i j regs
-  assert_runs a d v i j regs p q =
-      one_is w.globals (Assert d v a.number a.place.line a.kind) w.calls n regs t
-      ∙ ap (λ o. with_value (bind o integer_of) t.steps (λ i. with_value (monitored.eval_number over_blocks w.globals v regs t.mem) t.steps (λ j. judges a i j regs))) p
-      ∙ ap (λ o. with_value (bind o integer_of) t.steps (λ j. judges a i j regs)) q
+  -- what an assertion comes to
+  assert_runs : (a : Annotation) (u : Target) (d v : MonExpression) (i j : ℤ) (regs : List Value) → HasNumber w regs u.mem d i → HasNumber w regs u.mem v j
+      → runs w n u (one (Assert d v a.number a.place.line a.kind)) regs
+      ≡ monitored.judged over_blocks i j (machine.Broken a.number a.place.line a.kind how.Undefined) (machine.Broken a.number a.place.line a.kind how.False) (Done (Next regs) u []) u.steps
+  assert_runs a u d v i j regs p q =
+      let judges = λ (i j : ℤ). monitored.judged over_blocks i j (machine.Broken a.number a.place.line a.kind how.Undefined) (machine.Broken a.number a.place.line a.kind how.False) (Done (Next regs) u []) u.steps in
+      one_is w.globals (Assert d v a.number a.place.line a.kind) w.calls n regs u
+      ∙ ap (λ o. with_value (bind o integer_of) u.steps (λ i. with_value (monitored.eval_number over_blocks w.globals v regs u.mem) u.steps (λ j. judges i j))) p
+      ∙ ap (λ o. with_value (bind o integer_of) u.steps (λ j. judges i j)) q
 
   module _ (h : Here) (b : Beside w s.store s t) (bounded : Bounded s.store) where
-    says_follows : (a : Annotation) (regs after : List Value) (says : Bool) → Same low regs after → Follows w h low regs Next s (source.judged a (Says says s.steps) s) (judges a (pos 1) (truth says) after)
-    says_follows a regs after true same = onward w h low regs after Next s s [] _ (Done (Next after) t []) same (later_same s bounded) (stays w h low after s t bounded b)
-    says_follows a regs after false same =
-        IsOver (Broken a.number a.place.line a.kind how.False) (machine.Broken a.number a.place.line a.kind how.False) s [] refl refl (sym (append-nil s.output))
-        (ap (λ k. Stops (machine.Broken a.number a.place.line a.kind how.False) k []) b.steps)
+    -- a judgement that is said, or not, with so many steps left
+    abbrev judged_later : Annotation → ℕ → ℤ → ℤ → List Value → Did
+    judged_later a k d v regs =
+        monitored.judged over_blocks d v (machine.Broken a.number a.place.line a.kind how.Undefined) (machine.Broken a.number a.place.line a.kind how.False) (Done (Next regs) (stepped t k) []) k
 
-    nothing_follows : (a : Annotation) (regs after : List Value) (v : ℤ) → Follows w h low regs Next s (source.judged a (SaysNothing s.steps) s) (judges a (pos 0) v after)
-    nothing_follows a regs after v =
-        IsOver (Broken a.number a.place.line a.kind how.Undefined) (machine.Broken a.number a.place.line a.kind how.Undefined) s [] refl refl (sym (append-nil s.output))
-        (ap (λ k. Stops (machine.Broken a.number a.place.line a.kind how.Undefined) k []) b.steps)
+    later_steps : (k : ℕ) → k ≤ s.steps → Later s (record s { steps = k }) []
+    later_steps k le = record { scope = refl; calls = refl; live = refl; longer = omega arith; bounded = bounded; spent = le; output = sym (append-nil s.output) }
 
-    answer_follows : (a : Annotation) (regs after : List Value) (o : Option Bool) → Same low regs after
-        → Follows w h low regs Next s (source.judged a (said o s.steps) s) (judges a (truth (is_some o)) (truth (is_true o)) after)
-    answer_follows a regs after None same = nothing_follows a regs after (pos 0)
-    answer_follows a regs after (Some says) same = says_follows a regs after says same
+    says_follows : (a : Annotation) (regs after : List Value) (says : Bool) (k : ℕ) → k ≤ s.steps → Same low regs after
+        → Follows w h low regs Next s (source.judged a (Says says k) s) (judged_later a k (pos 1) (truth says) after)
+    says_follows a regs after true k le same =
+        GoesOn (record s { steps = k }) after (stepped t k) [] same (later_steps k le) (record { store_is = b.store_is; frames = b.frames; steps = refl; input = b.input }) refl refl
+    says_follows a regs after false k le same =
+        IsOver (Broken a.number a.place.line a.kind how.False) (machine.Broken a.number a.place.line a.kind how.False) (record s { steps = k }) [] refl refl (sym (append-nil s.output)) refl
+
+    nothing_follows : (a : Annotation) (regs after : List Value) (v : ℤ) (k : ℕ) → Follows w h low regs Next s (source.judged a (SaysNothing k) s) (judged_later a k (pos 0) v after)
+    nothing_follows a regs after v k =
+        IsOver (Broken a.number a.place.line a.kind how.Undefined) (machine.Broken a.number a.place.line a.kind how.Undefined) (record s { steps = k }) [] refl refl (sym (append-nil s.output)) refl
+
+    -- what is asked after the statements of a judgement
+    asked_runs : (a : Annotation) (j : Judgement) (rs : List MonType) (k : ℕ) (says : Option Bool) (regs : List Value) → (f : Finishes (judging regs) j.stmts (length rs) k (IsJudged j.flag j.truth says))
+        → runs w n t (asserted a j) regs ≡ judged_later a k (truth (is_some says)) (truth (is_true says)) f.after
+    asked_runs a j rs k says regs f =
+        let ask = one (Assert (Register j.flag) (Register j.truth) a.number a.place.line a.kind) in
+        before_is w.globals j.stmts ask w.calls n regs t ∙ ap (λ q. then_do q (at_next (λ r u. runs w n u ask r))) f.is ∙ writes_none (runs w n (stepped t k) ask f.after)
+        ∙ assert_runs a (stepped t k) (Register j.flag) (Register j.truth) (truth (is_some says)) (truth (is_true says)) f.after f.holds.flag_is f.holds.truth_is
+
+    answer_follows : (a : Annotation) (j : Judgement) (rs : List MonType) (regs : List Value) (q : Answer) → low ≤ length rs → steps_of q ≤ s.steps → Judges (judging regs) rs j q
+        → Follows w h low regs Next s (source.judged a q s) (runs w n t (asserted a j) regs)
+    answer_follows a j rs regs (Says says k) behind le f =
+        subst (Follows w h low regs Next s (source.judged a (Says says k) s)) (sym (asked_runs a j rs k (Some says) regs f)) (says_follows a regs f.after says k le (same_less low (length rs) regs f.after behind f.same))
+    answer_follows a j rs regs (SaysNothing k) behind le f =
+        subst (Follows w h low regs Next s (source.judged a (SaysNothing k) s)) (sym (asked_runs a j rs k None regs f)) (nothing_follows a regs f.after (pos 0) k)
+    answer_follows a j rs regs OutOfSteps behind le f =
+        let ask = one (Assert (Register j.flag) (Register j.truth) a.number a.place.line a.kind) in
+        IsOver Spent machine.Spent (record s { steps = 0 }) [] refl refl (sym (append-nil s.output)) (before_is w.globals j.stmts ask w.calls n regs t ∙ ap (λ q. then_do q (at_next (λ r u. runs w n u ask r))) f)
 
     clause_follows : (sight : Sight) → AreFound sight.entities s.scope → (a : Annotation) (c : ClauseBody) → IsShortClause c → ClauseTyped sight c → ClauseRanged c → (rs : List MonType) → low ≤ length rs → (regs : List Value)
         → length (clause_judgement w.unit bound c rs).used ≤ length regs → Anchored w low bound regs s.scope
@@ -87,20 +111,10 @@ module _ (w : Setting) (n : ℕ) (low : ℕ) (bound : Bindings) (s : State) (t :
     clause_follows sight found a (logic.Value c) p q r rs behind regs room anchored = absurd q
     clause_follows sight found a (Behaviors names) p q r rs behind regs room anchored = absurd q
     clause_follows sight found a (Holds c) p q r rs behind regs room anchored =
-        subst (λ z. Follows w h low regs Next s z (runs w n t (asserted a j) regs)) (sym (ap (λ z. source.judged a z s) (does.means s.steps)))
-        (subst (Follows w h low regs Next s (source.judged a (said does.says s.steps) s)) (sym runs_is)
-        (answer_follows a regs does.after does.says (same_less low (length rs) regs does.after behind does.same)))
-      where
-        j : Judgement
-        j = judgement w.unit bound c rs
-
-        does : Judges (judging regs) c rs j
-        does = code_judges (judging regs) c rs (stands regs b.store_is anchored) (ranges_hold s bounded) r (predicate_found sight s.scope found c q) behind room
-
-        runs_is : runs w n t (asserted a j) regs ≡ judges a (truth (is_some does.says)) (truth (is_true does.says)) does.after
-        runs_is =
-            behind_setup w n t j.stmts (one (Assert (Register j.flag) (Register j.truth) a.number a.place.line a.kind)) regs does.after does.is
-            ∙ assert_runs a (Register j.flag) (Register j.truth) (truth (is_some does.says)) (truth (is_true does.says)) does.after does.flag_is does.truth_is
+        let j = judgement w.unit bound c rs in
+        subst (λ i. Follows w h low regs Next s (source.judged a (pred c s [] i) s) (runs w n t (asserted a j) regs)) b.steps
+        (answer_follows a j rs regs (pred c s [] t.steps) behind (subst (λ i. steps_of (pred c s [] t.steps) ≤ i) b.steps (steps_pred c s [] t.steps))
+        (code_judges (judging regs) c rs (stands regs b.store_is anchored) (ranges_hold s bounded) r (predicate_found sight s.scope found c q) behind room))
 
     assertion_follows : (sight : Sight) → AreFound sight.entities s.scope → (a : Annotation) → IsAssert a → ClauseTyped sight a.body → ClauseRanged a.body → (rs : List MonType) → low ≤ length rs
         → (regs : List Value) → length (behind_assertion w.unit bound rs a) ≤ length regs → Anchored w low bound regs s.scope → Follows w h low regs Next s (check a s) (runs w n t (assertion w.unit bound rs a) regs)

@@ -53,7 +53,7 @@ mutual
   basic_predicate scope (Branch at c a b) f = (basic_predicate scope c f.0, basic_predicate scope a f.1, basic_predicate scope b f.2)
   basic_predicate scope _ f = absurd f
 
-pub ranges_hold : (s : State) → Bounded s.store → RangesHold s
+pub ranges_hold : (s : State) → Bounded s.store → RangesHold [] s []
 ranges_hold s bounded = record {
   lies = λ t found ranged z means. values_lie_in_ranges [] t s [] z (loads_fit s.store bounded) (basic_found s.scope t found) ranged means;
   within = λ t ranged. ranges_are_within_128 [] t tt ranged;
