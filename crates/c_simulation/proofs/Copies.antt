@@ -19,10 +19,10 @@ use Rattle.c_effects.specs.Expressions.{farther}
 use Rattle.c_effects.specs.Effects.{copy_size, copies_at}
 use Rattle.track_scopes.specs.Lives.{with_store}
 use Rattle.c_simulation.proofs.Results.{writes_none}
-use Rattle.c_simulation.specs.Standing.{Setting, Target, Did, runs, Has, Bounded, Here, Beside}
+use Rattle.c_simulation.specs.Standing.{Setting, Target, Did, runs, Has, Bounded, Beside}
 use Rattle.c_simulation.proofs.Registers.{same_all}
-use Rattle.c_simulation.proofs.Following.{undefined_here}
-use Rattle.c_simulation.specs.Following.{Follows, GoesOn}
+use Rattle.c_simulation.specs.Reaching.{Reaches, Arrives, Anything}
+use Rattle.c_simulation.proofs.Reaching.{undefined_now}
 use Rattle.c_simulation.proofs.Calls.{takes}
 use Rattle.c_simulation.proofs.Bounds.{copied_all_saved}
 use Rattle.c_simulation.proofs.Pointers.{copied_inside, shifted_twice}
@@ -72,10 +72,10 @@ module _ (w : Setting) (n : ℕ) where
       ∙ copies_run cs to from r d q e (with_store f.next t) regs saved points others f.rest
 
   -- where a copy isn't defined, nothing is owed
-  pub copies_follow : (h : Here) (low : ℕ) (at : Place) (cs : List (ℕ × Scalar)) (to from : Pointer) (r d q e : ℕ) (s : State) (t : Target) (regs : List Value) → Bounded s.store → Beside w s.store s t
+  pub copies_reach : (low : ℕ) (at : Place) (cs : List (ℕ × Scalar)) (to from : Pointer) (r d q e : ℕ) (s : State) (t : Target) (regs : List Value) → Bounded s.store → Beside w s.store s t
       → slice_get regs r ≡ Some (Points to) → slice_get regs q ≡ Some (Points from)
-      → Follows w h low regs Next s (copy_object at (shifted to d) (shifted from e) (sizes_of cs) s) (runs w n t (copies_at r d q e cs) regs)
-  copies_follow h low at cs to from r d q e s t regs bounded b points others = by (copy_all s.store (shifted to d) (shifted from e) (sizes_of cs)) refl
+      → Reaches w Anything low regs s (copy_object at (shifted to d) (shifted from e) (sizes_of cs) s) (runs w n t (copies_at r d q e cs) regs)
+  copies_reach low at cs to from r d q e s t regs bounded b points others = by (copy_all s.store (shifted to d) (shifted from e) (sizes_of cs)) refl
     where
       code : Did
       code = runs w n t (copies_at r d q e cs) regs
@@ -83,12 +83,13 @@ module _ (w : Setting) (n : ℕ) where
       source : (o : Option Store) → copy_all s.store (shifted to d) (shifted from e) (sizes_of cs) ≡ o → copy_object at (shifted to d) (shifted from e) (sizes_of cs) s ≡ (defined at o >>= put_store) s
       source o copies = ap (λ o. (defined at o >>= put_store) s) copies
 
-      by : (o : Option Store) → copy_all s.store (shifted to d) (shifted from e) (sizes_of cs) ≡ o → Follows w h low regs Next s (copy_object at (shifted to d) (shifted from e) (sizes_of cs) s) code
-      by None copies = undefined_here w h low regs Next s (copy_object at (shifted to d) (shifted from e) (sizes_of cs) s) code at (source None copies)
+      by : (o : Option Store) → copy_all s.store (shifted to d) (shifted from e) (sizes_of cs) ≡ o → Reaches w Anything low regs s (copy_object at (shifted to d) (shifted from e) (sizes_of cs) s) code
+      by None copies = undefined_now w Anything low regs s (copy_object at (shifted to d) (shifted from e) (sizes_of cs) s) code at (source None copies)
       by (Some saved) copies =
           let kept = copied_all_saved s.store saved (shifted to d) (shifted from e) (sizes_of cs) bounded copies in
-          GoesOn (record s { store = saved }) regs (with_store saved t) [] (same_all low regs)
+          Arrives tt (record s { store = saved }) regs (with_store saved t) [] (same_all low regs)
           (record { scope = refl; calls = refl; live = kept.live; longer = omega (arith, kept.long); bounded = kept.bounded; spent = omega arith; output = sym (append-nil s.output) })
           (record { store_is = refl; frames = b.frames; steps = b.steps; input = b.input })
           (source (Some saved) copies)
           (copies_run cs to from r d q e t regs saved points others (ap (λ store. copy_all store (shifted to d) (shifted from e) (sizes_of cs)) b.store_is ∙ copies))
+          tt

@@ -3,7 +3,6 @@ use Rattle.std.proofs.Common.{◌≡◌, ℕ, ◌≤◌, ℤ, pos, Bool, true, f
 use Rattle.std.proofs.lemmas.List.{append-nil}
 use Rattle.std.specs.Ordering.{int_eq}
 use Rattle.c_syntax.specs.declared.place.Place.{Place}
-use Rattle.c_syntax.specs.Layouts.{Scalar}
 use Rattle.c_model.specs.Memory.{Value}
 use Rattle.c_model.specs.State.{State, Scope, Undefined, Over, Outcome, Normal, Stop, Evaluation, on_outcome}
 use Rattle.c_model.specs.Meaning.{is_zero}
@@ -12,13 +11,11 @@ use Rattle.c_model.proofs.Agreement.{extends_trans}
 use Rattle.mon_syntax.specs.Registers.{Bindings}
 use Rattle.mon_syntax.specs.Meaning.{Done, Flow, Next, Goes, Returns, writes, then_do, at_next, choose}
 use Rattle.mon_syntax.specs.LiveBlocks.{live_in}
-use Rattle.mon_syntax.specs.Trees.{MonExpression, MonStatements}
-use Rattle.c_effects.specs.Expressions.{before}
-use Rattle.c_simulation.specs.Following.{Evaluates, HasValue, HasNone, Later, IsResult, Follows, GoesOn, Breaks, Continues, IsLeft, IsOver, IsUndefined}
+use Rattle.c_simulation.specs.Following.{Later, IsResult, Follows, GoesOn, Breaks, Continues, IsLeft, IsOver, IsUndefined}
 use Rattle.c_simulation.specs.Labels.{end_label, next_label}
-use Rattle.c_simulation.proofs.Results.{written_writes, written_then, before_is}
+use Rattle.c_simulation.proofs.Results.{written_writes, written_then}
 use Rattle.c_simulation.specs.Following.{written}
-use Rattle.c_simulation.specs.Standing.{Target, Did, Setting, runs, Has, IsOf, Bounded, Here, Beside, IsAnchored, InRegister, AtGlobal, Anchored, Standing}
+use Rattle.c_simulation.specs.Standing.{Target, Did, Setting, Bounded, Here, Beside, IsAnchored, InRegister, AtGlobal, Anchored, Standing}
 use Rattle.c_simulation.specs.SameRegisters.{Same}
 use Rattle.c_simulation.proofs.Registers.{same_all, same_less, same_trans}
 
@@ -105,18 +102,6 @@ module _ (w : Setting) (h : Here) (low : ℕ) where
       by : (t : Bool) → Follow regs on from (cond t b a s) (cond t q p)
       by true = k
       by false = f
-
-  -- the value of an expression, and then what follows
-  pub follows_value : (on : List Value → Flow Value) (k : Scalar) (n : ℕ) (s : State) (t : Target) (r : Outcome Value) (f : Value → Evaluation (Unit {0})) (regs : List Value) (high : ℕ) (a b : MonStatements) (e : MonExpression) → Bounded s.store
-      → Evaluates w k s t r regs low high (runs w n t a regs) e → ((v : Value) → IsOf k v → (after : List Value) → Same low regs after → ((later : List Value) → Same high after later → Has w e later t.mem v)
-      → Follow after on s (f v s) (runs w n t b after)) → Follow regs on s (on_outcome r f) (runs w n t (before a b) regs)
-  follows_value on k n s t r f regs high a b e bounded (HasNone at x) go =
-      undefined_here regs on s (on_outcome r f) (runs w n t (before a b) regs) at (ap (λ r. on_outcome r f) x)
-  follows_value on k n s t r f regs high a b e bounded (HasValue v fit x after same run has) go =
-      subst (λ r. Follow regs on s (on_outcome r f) (runs w n t (before a b) regs)) (sym x)
-      (subst (λ q. Follow regs on s (f v s) q) (sym (before_is w.globals a b w.calls n regs t ∙ ap (λ q. then_do q (at_next (λ r u. runs w n u b r))) run))
-      (onward regs after on s s [] (f v s) (runs w n t b after) same (later_same s bounded)
-      (go v fit after same has)))
 
   -- a statement, and then what follows
   pub follows_then : (regs : List Value) (on : List Value → Flow Value) (from : State) (r : Outcome (Unit {0})) (q : Did) (f : Evaluation (Unit {0})) (g : List Value → Target → Did) → Follow regs Next from r q

@@ -13,6 +13,7 @@ pub mod Calls
 pub mod Values
 pub mod PointerValues
 pub mod Evaluating
+pub mod Reaching
 pub mod Places
 pub mod Anchors
 pub mod Expressions

@@ -16,23 +16,23 @@ use Rattle.c_effects.specs.Expressions.{before, one, set, farther}
 use Rattle.c_effects.specs.Effects.{offset_in, into_object, store}
 use Rattle.track_scopes.specs.Lives.{with_store}
 use Rattle.c_simulation.specs.SameRegisters.{Same}
-use Rattle.c_simulation.proofs.Results.{one_is, writes_none}
-use Rattle.c_simulation.specs.Standing.{Setting, Target, Did, runs, Has, IsOf, Bounded, Here, Beside}
+use Rattle.c_simulation.proofs.Results.{one_is}
+use Rattle.c_simulation.specs.Standing.{Setting, Target, Did, runs, Has, IsOf, Bounded, Beside}
 use Rattle.c_simulation.proofs.Registers.{same_all, same_set, get-set_same}
-use Rattle.c_simulation.proofs.Following.{later_same, onward, undefined_here}
-use Rattle.c_simulation.specs.Following.{Follows, GoesOn}
+use Rattle.c_simulation.specs.Reaching.{Reaches, Arrives, Anything}
+use Rattle.c_simulation.proofs.Reaching.{undefined_now, reaches_behind}
 use Rattle.c_simulation.proofs.Bounds.{saved_value}
 use Rattle.c_simulation.proofs.Pointers.{saved_inside}
 use Rattle.c_simulation.specs.Standing.{IsInside}
 use Rattle.c_simulation.proofs.PointerValues.{scalar_register, value_type_is, scalar_is, reaches}
-use Rattle.c_simulation.proofs.Evaluating.{behind_setup, set_runs}
+use Rattle.c_simulation.proofs.Evaluating.{set_runs}
 use Rattle.c_simulation.proofs.Places.{of_integer, of_pointer}
 
 -- where the object of an expression stands, from the object to which the first register points
 abbrev pub reached_from : Setting → Expression → Pointer → Pointer
 reached_from w a b = if is_member a then shifted b (offset_in w.unit.structs a) else b
 
-module _ (w : Setting) (n : ℕ) (h : Here) (low : ℕ) where
+module _ (w : Setting) (n : ℕ) (low : ℕ) where
   saves_scalar : (k : Scalar) (store saved : Store) (p : Pointer) (v : Value) → IsOf k v → save store p k v ≡ Some saved → save_scalar (Some k) store p v ≡ Some saved
   saves_scalar (IntegerType k) store saved p v f e =
       of_integer k (λ v. save store p (IntegerType k) v ≡ Some saved → save_scalar (Some (IntegerType k)) store p v ≡ Some saved) v f (λ z fit e. e) e
@@ -52,9 +52,9 @@ module _ (w : Setting) (n : ℕ) (h : Here) (low : ℕ) where
       after o = with_value o t.steps (λ m. Done (Next regs) (record t { mem = m }) [])
 
   -- what was written in the source is stored in the target
-  pub write_follows : (at : Place) (k : Scalar) (p : Pointer) (r : ℕ) (v : Value) (s : State) (t : Target) (regs : List Value) (e : MonExpression) → Bounded s.store → Beside w s.store s t → slice_get regs r ≡ Some (Points p)
-      → IsOf k v → Has w e regs t.mem v → Follows w h low regs Next s (write at p k v s) (runs w n t (one (tree.Store r (scalar_register k) e)) regs)
-  write_follows at k p r v s t regs e bounded b points f has = by (save s.store p k v) refl
+  pub write_reaches : (at : Place) (k : Scalar) (p : Pointer) (r : ℕ) (v : Value) (s : State) (t : Target) (regs : List Value) (e : MonExpression) → Bounded s.store → Beside w s.store s t → slice_get regs r ≡ Some (Points p)
+      → IsOf k v → Has w e regs t.mem v → Reaches w Anything low regs s (write at p k v s) (runs w n t (one (tree.Store r (scalar_register k) e)) regs)
+  write_reaches at k p r v s t regs e bounded b points f has = by (save s.store p k v) refl
     where
       code : Did
       code = runs w n t (one (tree.Store r (scalar_register k) e)) regs
@@ -62,22 +62,23 @@ module _ (w : Setting) (n : ℕ) (h : Here) (low : ℕ) where
       write_is : (o : Option Store) → save s.store p k v ≡ o → write at p k v s ≡ (defined at o >>= put_store) s
       write_is o saves = ap (λ o. (defined at o >>= put_store) s) saves
 
-      by : (o : Option Store) → save s.store p k v ≡ o → Follows w h low regs Next s (write at p k v s) code
-      by None saves = undefined_here w h low regs Next s (write at p k v s) code at (write_is None saves)
+      by : (o : Option Store) → save s.store p k v ≡ o → Reaches w Anything low regs s (write at p k v s) code
+      by None saves = undefined_now w Anything low regs s (write at p k v s) code at (write_is None saves)
       by (Some saved) saves =
           let kept = saved_value s.store saved p k v bounded f saves in
-          GoesOn (record s { store = saved }) regs (with_store saved t) [] (same_all low regs)
+          Arrives tt (record s { store = saved }) regs (with_store saved t) [] (same_all low regs)
           (record { scope = refl; calls = refl; live = kept.live; longer = omega (arith, kept.long); bounded = kept.bounded; spent = omega arith; output = sym (append-nil s.output) })
           (record { store_is = refl; frames = b.frames; steps = b.steps; input = b.input })
           (write_is (Some saved) saves)
           (store_runs k r p v t regs e saved points f has (ap (λ store. save store p k v) b.store_is ∙ saves))
+          tt
 
   -- the same of an object, or a member of one, to which a further register points; the value may be made of the old one
   module _ (at : Place) (k : Scalar) (u : PlainType) (is : scalar_of u ≡ Some k) (a : Expression) (to : Pointer) (r j : ℕ) (v : Value) (s : State) (t : Target) (regs : List Value) (e : ℕ → MonExpression) (bounded : Bounded s.store)
       (b : Beside w s.store s t) (points : slice_get regs r ≡ Some (Points to)) (above : low ≤ j) (room : is_member a ≡ true → j < length regs) (f : IsOf k v)
       (has : (x : ℕ) (after : List Value) → Same j regs after → slice_get after x ≡ Some (Points (reached_from w a to)) → Has w (e x) after t.mem v) where
     abbrev WrittenTo : Pointer → MonStatements → Type 0
-    WrittenTo p code = Follows w h low regs Next s (write at p k v s) (runs w n t code regs)
+    WrittenTo p code = Reaches w Anything low regs s (write at p k v s) (runs w n t code regs)
 
     -- a member
     stored_member : (p : Pointer) (d : ℕ) → j < length regs → p ≡ shifted to d → p ≡ reached_from w a to → WrittenTo p (before (set j (farther (Register r) d)) (one (tree.Store j (scalar_register k) (e j))))
@@ -87,7 +88,7 @@ module _ (w : Setting) (n : ℕ) (h : Here) (low : ℕ) where
         code = before (set j (farther (Register r) d)) (one (tree.Store j (scalar_register k) (e j)))
 
         by : (o : Option Store) → save s.store p k v ≡ o → WrittenTo p code
-        by None saves = undefined_here w h low regs Next s (write at p k v s) (runs w n t code regs) at (ap (λ o. (defined at o >>= put_store) s) saves)
+        by None saves = undefined_now w Anything low regs s (write at p k v s) (runs w n t code regs) at (ap (λ o. (defined at o >>= put_store) s) saves)
         by (Some saved) saves =
             let there : IsInside t.mem.store p = subst (λ store. IsInside store p) (sym b.store_is) (saved_inside s.store saved p (scalar_size k) (bytes_from k v) saves) in
             let reached : Has w (farther (Register r) d) regs t.mem (Points p) =
@@ -95,14 +96,12 @@ module _ (w : Setting) (n : ℕ) (h : Here) (low : ℕ) where
             let after = slice_set regs j (Points p) in
             let same : Same j regs after = same_set j j regs (Points p) (omega arith) in
             let held : slice_get after j ≡ Some (Points p) = get-set_same regs j (Points p) long in
-            subst (λ q. Follows w h low regs Next s (write at p k v s) q)
-            (writes_none (runs w n t (one (tree.Store j (scalar_register k) (e j))) after)
-            ∙ sym (behind_setup w n t (set j (farther (Register r) d)) (one (tree.Store j (scalar_register k) (e j))) regs after (set_runs w n t j (farther (Register r) d) regs (Points p) reached)))
-            (onward w h low regs after Next s s [] (write at p k v s) (runs w n t (one (tree.Store j (scalar_register k) (e j))) after) (same_set low j regs (Points p) above) (later_same s bounded)
-            (write_follows at k p j v s t after (e j) bounded b held f (has j after same (held ∙ ap (λ p. Some (Points p)) is_reached))))
+            reaches_behind w n Anything low regs after s t (write at p k v s) (set j (farther (Register r) d)) (one (tree.Store j (scalar_register k) (e j))) bounded (same_set low j regs (Points p) above)
+            (set_runs w n t j (farther (Register r) d) regs (Points p) reached)
+            (write_reaches at k p j v s t after (e j) bounded b held f (has j after same (held ∙ ap (λ p. Some (Points p)) is_reached)))
 
-    pub into_follows : WrittenTo (reached_from w a to) (into_object w.unit r j a u e)
-    into_follows = by (is_member a) refl
+    pub into_reaches : WrittenTo (reached_from w a to) (into_object w.unit r j a u e)
+    into_reaches = by (is_member a) refl
       where
         type : (x : ℕ) → store x u (e x) ≡ one (tree.Store x (scalar_register k) (e x))
         type x = ap (λ m. one (tree.Store x m (e x))) (value_type_is u k is)
@@ -116,4 +115,4 @@ module _ (w : Setting) (n : ℕ) (h : Here) (low : ℕ) where
         by false m =
             let d = offset_in w.unit.structs a in
             subst (λ code. WrittenTo to code) (sym (type r))
-            (write_follows at k to r v s t regs (e r) bounded b points f (has r regs (same_all j regs) (points ∙ ap (λ p. Some (Points p)) (sym (ap (λ c. if c then shifted to d else to) m)))))
+            (write_reaches at k to r v s t regs (e r) bounded b points f (has r regs (same_all j regs) (points ∙ ap (λ p. Some (Points p)) (sym (ap (λ c. if c then shifted to d else to) m)))))

@@ -13,8 +13,9 @@ use Rattle.mon_syntax.specs.declared.tree.MonType.{MonType}
 use Rattle.mon_syntax.specs.Registers.{Bindings}
 use Rattle.c_effects.specs.Letters.{HasLetters}
 use Rattle.c_effects.specs.Expressions.{condition_of, place, setup, temporaries, value}
-use Rattle.c_simulation.specs.Standing.{Target, Setting, runs, Bounded, Anchored, Knows}
+use Rattle.c_simulation.specs.Standing.{Target, Setting, runs, Bounded, Anchored, Knows, Beside}
 use Rattle.c_simulation.specs.Following.{Evaluates, Places, Tests}
+use Rattle.c_simulation.specs.Reaching.{Reaches, Valued, Placed, Tested}
 
 -- a typed expression without effects, and registers of these types, of which those below `low` are bound to the names in sight
 pub record IsReady (w : Setting) (sight : Sight) (bound : Bindings) (now : State) (target : Target) (low : ℕ) (e : Expression) (rs : List MonType)
@@ -52,3 +53,26 @@ ConditionsFollow =
     (regs : List Value) → scalar_of (type_of e) ≡ Some k → IsReady w sight bound now target low e rs regs
     → Tests w now target (source.condition_of (tables_of w.unit) e w.call now) regs (length rs) (length (rs ++ temporaries e))
     (runs w n target (setup w.unit bound rs e) regs) (condition_of w.unit bound rs e)
+
+-- ---- the same by what they reach, beside the source, where states go on
+
+abbrev pub ValuesReach : Type 0
+ValuesReach =
+    (w : Setting) (n : ℕ) (sight : Sight) (bound : Bindings) (now : State) (target : Target) (low : ℕ) (e : Expression) (k : Scalar) (rs : List MonType)
+    (regs : List Value) → scalar_of (type_of e) ≡ Some k → IsReady w sight bound now target low e rs regs → Beside w now.store now target
+    → Reaches w (Valued w k (length (rs ++ temporaries e)) (value w.unit bound rs e)) (length rs) regs now (eval_with (tables_of w.unit) e w.call now)
+    (runs w n target (setup w.unit bound rs e) regs)
+
+abbrev pub PlacesReach : Type 0
+PlacesReach =
+    (w : Setting) (n : ℕ) (sight : Sight) (bound : Bindings) (now : State) (target : Target) (low : ℕ) (e : Expression) (rs : List MonType)
+    (regs : List Value) → has_object e ≡ true → IsReady w sight bound now target low e rs regs → Beside w now.store now target
+    → Reaches w (Placed w (is_member e) (length (rs ++ temporaries e)) (place w.unit bound rs e)) (length rs) regs now
+    (place_with (tables_of w.unit) e w.call now) (runs w n target (setup w.unit bound rs e) regs)
+
+abbrev pub ConditionsReach : Type 0
+ConditionsReach =
+    (w : Setting) (n : ℕ) (sight : Sight) (bound : Bindings) (now : State) (target : Target) (low : ℕ) (e : Expression) (k : Scalar) (rs : List MonType)
+    (regs : List Value) → scalar_of (type_of e) ≡ Some k → IsReady w sight bound now target low e rs regs → Beside w now.store now target
+    → Reaches w (Tested w (length (rs ++ temporaries e)) (condition_of w.unit bound rs e)) (length rs) regs now
+    (source.condition_of (tables_of w.unit) e w.call now) (runs w n target (setup w.unit bound rs e) regs)

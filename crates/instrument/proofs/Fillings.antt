@@ -8,15 +8,13 @@ use Rattle.c_syntax.specs.Statements.{Initialiser, One, Many, Initialisers, NoIn
 use Rattle.c_syntax.specs.Layouts.{Scalar, scalar_of, size_of}
 use Rattle.c_model.specs.Library.{is_there}
 use Rattle.c_model.specs.Memory.{Pointer, Into, Value, Points, shifted}
-use Rattle.c_model.specs.State.{State, Evaluation, on_outcome, as_scalar, write}
+use Rattle.c_model.specs.State.{State, on_outcome, as_scalar, write}
 use Rattle.c_model.specs.Meaning.{Tables, tables_of, eval_with, string_in, text_at, padded, write_each, zero_parts, parts_or_itself, fill, fill_one, fill_parts}
 use Rattle.c_model.specs.ExpressionTyping.{Sight, tables_in}
 use Rattle.c_model.specs.TypedTrees.{WellTyped, IsValue, FillsArray, InitialisedBy, ByText, ByValue, Initialises, PartsInitialised}
 use Rattle.mon_syntax.specs.declared.tree.MonType.{MonType}
 use Rattle.mon_syntax.specs.declared.tree.MonType.TheVariants as kind
 use Rattle.mon_syntax.specs.Registers.{Bindings}
-use Rattle.mon_syntax.specs.Meaning.{Next}
-use Rattle.mon_syntax.specs.Trees.{MonStatements}
 use Rattle.mon_syntax.specs.Trees as tree
 use Rattle.c_model.specs.Pure.{IsPure, IsPureInitialiser, ArePureInitialisers}
 use Rattle.c_effects.specs.Letters.{FullHasLetters, InitialiserHasLetters, InitialisersHaveLetters}
@@ -24,19 +22,20 @@ use Rattle.c_effects.specs.Expressions.{before, one, setup, value, temporaries}
 use Rattle.c_effects.specs.Effects.{full_temporaries, full_setup, full_value, store, part_temporaries, one_temporaries, fill_temporaries, parts_temporaries, initial_temporaries, stored_at, bytes_at}
 use Rattle.c_effects.specs.Effects as translation
 use Rattle.c_simulation.specs.SameRegisters.{Same}
-use Rattle.c_simulation.specs.Standing.{Setting, Target, runs, Has, IsOf, Anchored, Knows, Bounded, Here, Beside}
+use Rattle.c_simulation.specs.Standing.{Setting, Target, runs, Anchored, Knows, Bounded, Beside}
 use Rattle.c_simulation.proofs.Registers.{same_all, longer}
 use Rattle.c_simulation.proofs.Results.{before_is}
-use Rattle.c_simulation.proofs.Following.{anchored_same, follows_value, follows_then, follows_lower}
-use Rattle.c_simulation.specs.Following.{Follows, Later}
+use Rattle.c_simulation.specs.Following.{Later}
+use Rattle.c_simulation.specs.Reaching.{Reaches, Anything, Valued}
+use Rattle.c_simulation.proofs.Following.{anchored_same}
+use Rattle.c_simulation.proofs.Reaching.{reached_lower, reaches_before, reaches_then, value_reaches}
 use Rattle.c_simulation.proofs.Pointers.{shifted_twice}
 use Rattle.c_simulation.proofs.PointerValues.{scalar_register, value_type_is}
-use Rattle.c_simulation.proofs.Evaluating.{lower_same}
 use Rattle.c_simulation.proofs.Expressions.{evaluates}
-use Rattle.c_simulation.proofs.Stores.{write_follows}
-use Rattle.instrument.proofs.Strings.{bytes_follow}
+use Rattle.c_simulation.proofs.Stores.{write_reaches}
+use Rattle.instrument.proofs.Strings.{bytes_reach}
 use Rattle.instrument.proofs.ZeroBytes.{IsAligned}
-use Rattle.instrument.proofs.Zeros.{stored_at_follows, zero_parts_follow}
+use Rattle.instrument.proofs.Zeros.{stored_at_reaches, zero_parts_reach}
 
 -- where an object is filled, to which a register points that stays
 pub record Filling (w : Setting) (bound : Bindings) (low : ℕ) (p : Pointer) (r : ℕ) (regs : List Value) (s : State) (t : Target) : Type 0 where
@@ -61,66 +60,63 @@ filling_later w bound low p r regs after s to t u o same la be m = record {
   registers = same.long ∙ m.registers;
 }
 
-module _ (w : Setting) (n : ℕ) (h : Here) (sight : Sight) (knows : Knows w sight) (bound : Bindings) (low : ℕ) where
+module _ (w : Setting) (n : ℕ) (sight : Sight) (knows : Knows w sight) (bound : Bindings) (low : ℕ) where
   abbrev T : Tables
   T = tables_of w.unit
 
-  -- what goes on with the value of an expression without effects
-  abbrev GoesOnWith : Scalar → (Value → Evaluation (Unit {0})) → State → Target → List Value → ℕ → tree.MonExpression → MonStatements → Type 0
-  GoesOnWith k tail s t regs high e code = (v : Value) → IsOf k v → (after : List Value) → Same low regs after → ((later : List Value) → Same high after later → Has w e later t.mem v) → Follows w h low after Next s (tail v s) (runs w n t code after)
-
-  value_follows : (e : Expression) (k : Scalar) (tail : Value → Evaluation (Unit {0})) (code : MonStatements) (rs : List MonType) (regs : List Value) (s : State) (t : Target) → low ≤ length rs → Anchored w low bound regs s.scope
-      → Bounded s.store → Beside w s.store s t
+  -- the value of an expression without effects
+  value_computes : (e : Expression) (k : Scalar) (rs : List MonType) (regs : List Value) (s : State) (t : Target) → low ≤ length rs → Anchored w low bound regs s.scope → Bounded s.store → Beside w s.store s t
       → length regs ≡ w.registers → scalar_of (type_of e) ≡ Some k → IsPure e → WellTyped sight e → FullHasLetters e → length (rs ++ full_temporaries e) ≤ w.registers
-      → GoesOnWith k tail s t regs (length (rs ++ full_temporaries e)) (full_value w.unit bound rs e) code
-      → Follows w h low regs Next s (on_outcome (eval_with T e w.call s) tail) (runs w n t (before (full_setup w.unit bound rs e) code) regs)
-  value_follows (Node at u (Call f es)) k tail code rs regs s t behind anchored bounded b long is pure q l room go = absurd pure
-  value_follows (Node at u (Cast to (Node at2 v (Call f es)))) k tail code rs regs s t behind anchored bounded b long is pure q l room go = absurd pure
-  value_follows e k tail code rs regs s t behind anchored bounded b long is pure q l room go =
-      follows_value w h low Next k n s t (eval_with T e w.call s) tail regs (length (rs ++ temporaries e)) (setup w.unit bound rs e) code (value w.unit bound rs e) bounded
-      (lower_same w k s t (eval_with T e w.call s) regs (length rs) low (length (rs ++ temporaries e)) (runs w n t (setup w.unit bound rs e) regs) (value w.unit bound rs e) behind
+      → Reaches w (Valued w k (length (rs ++ full_temporaries e)) (full_value w.unit bound rs e)) low regs s (eval_with T e w.call s) (runs w n t (full_setup w.unit bound rs e) regs)
+  value_computes (Node at u (Call f es)) k rs regs s t behind anchored bounded b long is pure q l room = absurd pure
+  value_computes (Node at u (Cast to (Node at2 v (Call f es)))) k rs regs s t behind anchored bounded b long is pure q l room = absurd pure
+  value_computes e k rs regs s t behind anchored bounded b long is pure q l room =
+      let high = length (rs ++ temporaries e) in
+      let code = runs w n t (setup w.unit bound rs e) regs in
+      reached_lower w (Valued w k high (value w.unit bound rs e)) low (length rs) regs s (eval_with T e w.call s) code behind
+      (value_reaches w k s t (eval_with T e w.call s) regs (length rs) high code (value w.unit bound rs e) bounded b
       (evaluates w n sight knows bound s t b.store_is bounded low e k rs is pure q l behind regs anchored (omega (arith, room, long))))
-      go
 
   -- a scalar at the offset of its part
-  part_follows : (e : Expression) (at : Place) (u : PlainType) (k : Scalar) (p : Pointer) (r d : ℕ) (rs : List MonType) (regs : List Value) (s : State) (t : Target) → low ≤ length rs → scalar_of u ≡ Some k → IsPure e → WellTyped sight e
+  part_reaches : (e : Expression) (at : Place) (u : PlainType) (k : Scalar) (p : Pointer) (r d : ℕ) (rs : List MonType) (regs : List Value) (s : State) (t : Target) → low ≤ length rs → scalar_of u ≡ Some k → IsPure e → WellTyped sight e
       → type_of e ≡ u → FullHasLetters e
       → length (rs ++ part_temporaries (full_temporaries e)) ≤ w.registers → Filling w bound low p r regs s t
-      → Follows w h low regs Next s (fill_one T at u (shifted p d) None (eval_with T e w.call) s) (runs w n t (translation.fill_one w.unit bound r d rs u None e) regs)
-  part_follows e at u k p r d rs regs s t behind is pure q same l room m =
+      → Reaches w Anything low regs s (fill_one T at u (shifted p d) None (eval_with T e w.call) s) (runs w n t (translation.fill_one w.unit bound r d rs u None e) regs)
+  part_reaches e at u k p r d rs regs s t behind is pure q same l room m =
       let value = full_value w.unit bound rs e in
       let j = length (rs ++ full_temporaries e) in
       let long : length (rs ++ (full_temporaries e ++ kind.Ptr ∷ [])) ≡ suc j =
       omega (arith, length-append rs (full_temporaries e ++ kind.Ptr ∷ []), length-append (full_temporaries e) (kind.Ptr ∷ []), length-append rs (full_temporaries e)) in
-      subst (λ m2. Follows w h low regs Next s (fill_one T at u (shifted p d) None (eval_with T e w.call) s) (runs w n t (before (full_setup w.unit bound rs e) (stored_at r j d m2 value)) regs)) (sym (value_type_is u k is))
-      (subst (λ o. Follows w h low regs Next s (on_outcome (eval_with T e w.call s) (λ x. as_scalar o λ k. write at (shifted p d) k x)) (runs w n t (before (full_setup w.unit bound rs e) (stored_at r j d (scalar_register k) value)) regs)) (sym is)
-      (value_follows e k (λ x. write at (shifted p d) k x) (stored_at r j d (scalar_register k) value) rs regs s t behind m.anchored m.bounded m.beside m.registers (ap scalar_of same ∙ is) pure q l (omega (arith, long, room))
-      (λ v f after same2 has.
-      stored_at_follows w n h low at k p r j d v s t after value m.bounded m.beside (same2.below r m.below ∙ m.points) (omega (arith, behind, longer rs (full_temporaries e))) (omega (arith, long, room, same2.long, m.registers)) f has)))
+      subst (λ m2. Reaches w Anything low regs s (fill_one T at u (shifted p d) None (eval_with T e w.call) s) (runs w n t (before (full_setup w.unit bound rs e) (stored_at r j d m2 value)) regs)) (sym (value_type_is u k is))
+      (subst (λ o. Reaches w Anything low regs s (on_outcome (eval_with T e w.call s) (λ x. as_scalar o λ k. write at (shifted p d) k x)) (runs w n t (before (full_setup w.unit bound rs e) (stored_at r j d (scalar_register k) value)) regs)) (sym is)
+      (reaches_before w n (Valued w k j value) Anything low regs s t (eval_with T e w.call s) (full_setup w.unit bound rs e) (stored_at r j d (scalar_register k) value) (λ x. write at (shifted p d) k x)
+      (value_computes e k rs regs s t behind m.anchored m.bounded m.beside m.registers (ap scalar_of same ∙ is) pure q l (omega (arith, long, room)))
+      (λ v to after u o same2 la be has.
+      stored_at_reaches w n low at k p r j d v to u after value la.bounded be (same2.below r m.below ∙ m.points) (omega (arith, behind, longer rs (full_temporaries e))) (omega (arith, long, room, same2.long, m.registers)) has.0 has.1)))
 
   -- a string literal that fills an array of characters
-  text_follows : (e : Expression) (text : ℕ) (at : Place) (u : PlainType) (p : Pointer) (r d : ℕ) (rs : List MonType) (regs : List Value) (s : State) (t : Target) → low ≤ length rs → length (rs ++ kind.Ptr ∷ []) ≤ w.registers
+  text_reaches : (e : Expression) (text : ℕ) (at : Place) (u : PlainType) (p : Pointer) (r d : ℕ) (rs : List MonType) (regs : List Value) (s : State) (t : Target) → low ≤ length rs → length (rs ++ kind.Ptr ∷ []) ≤ w.registers
       → Filling w bound low p r regs s t
-      → Follows w h low regs Next s (fill_one T at u (shifted p d) (Some text) (eval_with T e w.call) s) (runs w n t (translation.fill_one w.unit bound r d rs u (Some text) e) regs)
-  text_follows e text at u p r d rs regs s t behind room m =
+      → Reaches w Anything low regs s (fill_one T at u (shifted p d) (Some text) (eval_with T e w.call) s) (runs w n t (translation.fill_one w.unit bound r d rs u (Some text) e) regs)
+  text_reaches e text at u p r d rs regs s t behind room m =
       let size = size_of T.structs u in
       let bytes = text_at T.texts text in
-      follows_lower w h low (length rs) regs Next s (write_each at (shifted p d) (padded size bytes) s) (runs w n t (bytes_at r (length rs) d size bytes) regs) behind
-      (bytes_follow w n h (length rs) size bytes at p r d s t regs (knows.octets text) m.aligned m.bounded m.beside m.points (omega (arith, m.below, behind)) (omega (arith, room, length-append rs (kind.Ptr ∷ []), m.registers)))
+      reached_lower w Anything low (length rs) regs s (write_each at (shifted p d) (padded size bytes) s) (runs w n t (bytes_at r (length rs) d size bytes) regs) behind
+      (bytes_reach w n (length rs) size bytes at p r d s t regs (knows.octets text) m.aligned m.bounded m.beside m.points (omega (arith, m.below, behind)) (omega (arith, room, length-append rs (kind.Ptr ∷ []), m.registers)))
 
   -- one of both
-  one_follows : (e : Expression) (at : Place) (u : PlainType) (p : Pointer) (r d : ℕ) (rs : List MonType) (regs : List Value) (s : State) (t : Target) → low ≤ length rs → IsPure e → InitialisedBy sight u e → FullHasLetters e
+  one_reaches : (e : Expression) (at : Place) (u : PlainType) (p : Pointer) (r d : ℕ) (rs : List MonType) (regs : List Value) (s : State) (t : Target) → low ≤ length rs → IsPure e → InitialisedBy sight u e → FullHasLetters e
       → length (rs ++ fill_temporaries (One e)) ≤ w.registers → Filling w bound low p r regs s t
-      → Follows w h low regs Next s (fill T at u (shifted p d) (One e) w.call s) (runs w n t (translation.fill w.unit bound r d rs u (One e)) regs)
-  one_follows e at u p r d rs regs s t behind pure (ByValue v none) l room m =
+      → Reaches w Anything low regs s (fill T at u (shifted p d) (One e) w.call s) (runs w n t (translation.fill w.unit bound r d rs u (One e)) regs)
+  one_reaches e at u p r d rs regs s t behind pure (ByValue v none) l room m =
       let few : length (rs ++ part_temporaries (full_temporaries e)) ≤ w.registers = subst (λ o. length (rs ++ one_temporaries o e) ≤ w.registers) none room in
-      subst (λ o. Follows w h low regs Next s (fill_one T at u (shifted p d) o (eval_with T e w.call) s) (runs w n t (translation.fill_one w.unit bound r d rs u o e) regs)) (sym none)
-      (part_follows e at u v.scalar.scalar p r d rs regs s t behind v.scalar.is pure v.typed v.ctype l few m)
-  one_follows e at u p r d rs regs s t behind pure (ByText f) l room m =
+      subst (λ o. Reaches w Anything low regs s (fill_one T at u (shifted p d) o (eval_with T e w.call) s) (runs w n t (translation.fill_one w.unit bound r d rs u o e) regs)) (sym none)
+      (part_reaches e at u v.scalar.scalar p r d rs regs s t behind v.scalar.is pure v.typed v.ctype l few m)
+  one_reaches e at u p r d rs regs s t behind pure (ByText f) l room m =
       let text : string_in e ≡ Some f.text = ap string_in f.is in
       let few : length (rs ++ kind.Ptr ∷ []) ≤ w.registers = subst (λ o. length (rs ++ one_temporaries o e) ≤ w.registers) text room in
-      subst (λ o. Follows w h low regs Next s (fill_one T at u (shifted p d) o (eval_with T e w.call) s) (runs w n t (translation.fill_one w.unit bound r d rs u o e) regs)) (sym text)
-      (text_follows e f.text at u p r d rs regs s t behind few m)
+      subst (λ o. Reaches w Anything low regs s (fill_one T at u (shifted p d) o (eval_with T e w.call) s) (runs w n t (translation.fill_one w.unit bound r d rs u o e) regs)) (sym text)
+      (text_reaches e f.text at u p r d rs regs s t behind few m)
 
   -- a type has the same parts at a place of the text and in the whole program
   same_parts : (u : PlainType) → parts_or_itself (tables_in sight) u ≡ parts_or_itself T u
@@ -129,37 +125,37 @@ module _ (w : Setting) (n : ℕ) (h : Here) (sight : Sight) (knows : Knows w sig
   -- ---- all of them
 
   mutual
-    pub fill_follows : (i : Initialiser) (at : Place) (u : PlainType) (p : Pointer) (r d : ℕ) (rs : List MonType) (regs : List Value) (s : State) (t : Target) → low ≤ length rs → IsPureInitialiser i → Initialises sight u i
+    pub fill_reaches : (i : Initialiser) (at : Place) (u : PlainType) (p : Pointer) (r d : ℕ) (rs : List MonType) (regs : List Value) (s : State) (t : Target) → low ≤ length rs → IsPureInitialiser i → Initialises sight u i
         → InitialiserHasLetters i → length (rs ++ fill_temporaries i) ≤ w.registers → Filling w bound low p r regs s t
-        → Follows w h low regs Next s (fill T at u (shifted p d) i w.call s) (runs w n t (translation.fill w.unit bound r d rs u i) regs)
-    fill_follows (One e) at u p r d rs regs s t behind pure q l room m = one_follows e at u p r d rs regs s t behind pure q l room m
-    fill_follows (Many brace is) at u p r d rs regs s t behind pure q l room m =
-        parts_follow is at (parts_or_itself T u) p r d rs regs s t behind pure (subst (λ cs. PartsInitialised sight cs is) (same_parts u) q) l room m
+        → Reaches w Anything low regs s (fill T at u (shifted p d) i w.call s) (runs w n t (translation.fill w.unit bound r d rs u i) regs)
+    fill_reaches (One e) at u p r d rs regs s t behind pure q l room m = one_reaches e at u p r d rs regs s t behind pure q l room m
+    fill_reaches (Many brace is) at u p r d rs regs s t behind pure q l room m =
+        parts_reach is at (parts_or_itself T u) p r d rs regs s t behind pure (subst (λ cs. PartsInitialised sight cs is) (same_parts u) q) l room m
 
-    pub parts_follow : (is : Initialisers) (at : Place) (cs : List (ℕ × PlainType)) (p : Pointer) (r d : ℕ) (rs : List MonType) (regs : List Value) (s : State) (t : Target) → low ≤ length rs → ArePureInitialisers is
+    pub parts_reach : (is : Initialisers) (at : Place) (cs : List (ℕ × PlainType)) (p : Pointer) (r d : ℕ) (rs : List MonType) (regs : List Value) (s : State) (t : Target) → low ≤ length rs → ArePureInitialisers is
         → PartsInitialised sight cs is → InitialisersHaveLetters is → length (rs ++ parts_temporaries is) ≤ w.registers → Filling w bound low p r regs s t
-        → Follows w h low regs Next s (fill_parts T at cs (shifted p d) is w.call s) (runs w n t (translation.fill_parts w.unit bound r d rs cs is) regs)
-    parts_follow NoInitialiser at cs p r d rs regs s t behind pure q l room m =
-        follows_lower w h low (length rs) regs Next s (zero_parts T.structs at (shifted p d) cs s) (runs w n t (translation.zero_parts w.unit.structs r (length rs) d cs) regs) behind
-        (zero_parts_follow w n h (length rs) w.unit.structs cs at p r d s t regs m.aligned m.bounded m.beside m.points (omega (arith, m.below, behind)) (omega (arith, room, length-append rs (kind.Ptr ∷ []), m.registers)))
-    parts_follow (Listed i is) at [] p r d rs regs s t behind pure q l room m = absurd q
-    parts_follow (Listed i is) at (c ∷ cs) p r d rs regs s t behind pure q l room m =
+        → Reaches w Anything low regs s (fill_parts T at cs (shifted p d) is w.call s) (runs w n t (translation.fill_parts w.unit bound r d rs cs is) regs)
+    parts_reach NoInitialiser at cs p r d rs regs s t behind pure q l room m =
+        reached_lower w Anything low (length rs) regs s (zero_parts T.structs at (shifted p d) cs s) (runs w n t (translation.zero_parts w.unit.structs r (length rs) d cs) regs) behind
+        (zero_parts_reach w n (length rs) w.unit.structs cs at p r d s t regs m.aligned m.bounded m.beside m.points (omega (arith, m.below, behind)) (omega (arith, room, length-append rs (kind.Ptr ∷ []), m.registers)))
+    parts_reach (Listed i is) at [] p r d rs regs s t behind pure q l room m = absurd q
+    parts_reach (Listed i is) at (c ∷ cs) p r d rs regs s t behind pure q l room m =
         let here = fill_temporaries i in
         let rest = parts_temporaries is in
         let more : length (rs ++ (here ++ rest)) ≡ length (rs ++ here ++ rest) = omega (arith, length-append (rs ++ here) rest, length-append rs here, length-append rs (here ++ rest), length-append here rest) in
         let first = translation.fill w.unit bound r (d + c.0) rs c.1 i in
         let others = translation.fill_parts w.unit bound r d (rs ++ here) cs is in
-        subst (λ q. Follows w h low regs Next s (fill_parts T at (c ∷ cs) (shifted p d) (Listed i is) w.call s) q) (sym (before_is w.globals first others w.calls n regs t))
-        (follows_then w h low regs Next s (fill T at c.1 (shifted (shifted p d) c.0) i w.call s) (runs w n t first regs) (fill_parts T at cs (shifted p d) is w.call) (λ r u. runs w n u others r)
-        (subst (λ q. Follows w h low regs Next s (fill T at c.1 q i w.call s) (runs w n t first regs)) (sym (shifted_twice p d c.0))
-        (fill_follows i at c.1 p r (d + c.0) rs regs s t behind pure.0 q.0 l.0 (omega (arith, more, room, longer (rs ++ here) rest)) m))
-        (λ to after u o same la be.
-        parts_follow is at cs p r d (rs ++ here) after to u (omega (arith, behind, longer rs here)) pure.1 q.1 l.1 (omega (arith, more, room)) (filling_later w bound low p r regs after s to t u o same la be m)))
+        subst (λ q. Reaches w Anything low regs s (fill_parts T at (c ∷ cs) (shifted p d) (Listed i is) w.call s) q) (sym (before_is w.globals first others w.calls n regs t))
+        (reaches_then w Anything Anything low regs s (fill T at c.1 (shifted (shifted p d) c.0) i w.call s) (runs w n t first regs) (λ _. fill_parts T at cs (shifted p d) is w.call) (λ r u. runs w n u others r)
+        (subst (λ q. Reaches w Anything low regs s (fill T at c.1 q i w.call s) (runs w n t first regs)) (sym (shifted_twice p d c.0))
+        (fill_reaches i at c.1 p r (d + c.0) rs regs s t behind pure.0 q.0 l.0 (omega (arith, more, room, longer (rs ++ here) rest)) m))
+        (λ _ to after u o same la be _.
+        parts_reach is at cs p r d (rs ++ here) after to u (omega (arith, behind, longer rs here)) pure.1 q.1 l.1 (omega (arith, more, room)) (filling_later w bound low p r regs after s to t u o same la be m)))
 
   -- ---- an object, to the start of whose block the register points
 
   abbrev pub Initialised : Initialiser → Place → PlainType → ℕ → ℕ → List MonType → List Value → State → Target → Type 0
-  Initialised i at u number r rs regs s t = Follows w h low regs Next s (fill T at u (Into number 0) i w.call s) (runs w n t (translation.initialise w.unit bound rs r u (Some (at, i))) regs)
+  Initialised i at u number r rs regs s t = Reaches w Anything low regs s (fill T at u (Into number 0) i w.call s) (runs w n t (translation.initialise w.unit bound rs r u (Some (at, i))) regs)
 
   pub object_text : (e : Expression) (at : Place) (u : PlainType) (number r : ℕ) (rs : List MonType) (regs : List Value) (s : State) (t : Target) → low ≤ length rs → FillsArray sight u e
       → length (rs ++ initial_temporaries (Some (at, One e))) ≤ w.registers
@@ -167,9 +163,9 @@ module _ (w : Setting) (n : ℕ) (h : Here) (sight : Sight) (knows : Knows w sig
   object_text e at u number r rs regs s t behind f room m =
       let text : string_in e ≡ Some f.text = ap string_in f.is in
       let few : length (rs ++ kind.Ptr ∷ []) ≤ w.registers = subst (λ o. length (rs ++ (if is_there o then kind.Ptr ∷ [] else full_temporaries e)) ≤ w.registers) text room in
-      subst (λ o. Follows w h low regs Next s (fill_one T at u (Into number 0) o (eval_with T e w.call) s) (runs w n t
+      subst (λ o. Reaches w Anything low regs s (fill_one T at u (Into number 0) o (eval_with T e w.call) s) (runs w n t
       (if not (is_there o) then before (full_setup w.unit bound rs e) (store r u (full_value w.unit bound rs e)) else translation.fill_one w.unit bound r 0 rs u o e) regs)) (sym text)
-      (text_follows e f.text at u (Into number 0) r 0 rs regs s t behind few m)
+      (text_reaches e f.text at u (Into number 0) r 0 rs regs s t behind few m)
 
   pub object_value : (e : Expression) (at : Place) (u : PlainType) (number r : ℕ) (rs : List MonType) (regs : List Value) (s : State) (t : Target) → low ≤ length rs → IsPure e → IsValue sight u e → string_in e ≡ None → FullHasLetters e
       → length (rs ++ initial_temporaries (Some (at, One e))) ≤ w.registers → Filling w bound low (Into number 0) r regs s t → Initialised (One e) at u number r rs regs s t
@@ -177,22 +173,23 @@ module _ (w : Setting) (n : ℕ) (h : Here) (sight : Sight) (knows : Knows w sig
       let k = v.scalar.scalar in
       let value = full_value w.unit bound rs e in
       let few : length (rs ++ full_temporaries e) ≤ w.registers = subst (λ o. length (rs ++ (if is_there o then kind.Ptr ∷ [] else full_temporaries e)) ≤ w.registers) none room in
-      subst (λ o. Follows w h low regs Next s (fill_one T at u (Into number 0) o (eval_with T e w.call) s) (runs w n t
+      subst (λ o. Reaches w Anything low regs s (fill_one T at u (Into number 0) o (eval_with T e w.call) s) (runs w n t
       (if not (is_there o) then before (full_setup w.unit bound rs e) (store r u value) else translation.fill_one w.unit bound r 0 rs u o e) regs)) (sym none)
-      (subst (λ c. Follows w h low regs Next s (fill_one T at u (Into number 0) None (eval_with T e w.call) s) (runs w n t (before (full_setup w.unit bound rs e) c) regs)) (ap (λ m. one (tree.Store r m value)) (sym (value_type_is u k v.scalar.is)))
-      (subst (λ o. Follows w h low regs Next s (on_outcome (eval_with T e w.call s) (λ x. as_scalar o λ k. write at (Into number 0) k x))
+      (subst (λ c. Reaches w Anything low regs s (fill_one T at u (Into number 0) None (eval_with T e w.call) s) (runs w n t (before (full_setup w.unit bound rs e) c) regs)) (ap (λ m. one (tree.Store r m value)) (sym (value_type_is u k v.scalar.is)))
+      (subst (λ o. Reaches w Anything low regs s (on_outcome (eval_with T e w.call s) (λ x. as_scalar o λ k. write at (Into number 0) k x))
       (runs w n t (before (full_setup w.unit bound rs e) (one (tree.Store r (scalar_register k) value))) regs)) (sym v.scalar.is)
-      (value_follows e k (λ x. write at (Into number 0) k x) (one (tree.Store r (scalar_register k) value)) rs regs s t behind m.anchored m.bounded m.beside m.registers (ap scalar_of v.ctype ∙ v.scalar.is) pure v.typed l few
-      (λ x f after same has.
-      write_follows w n h low at k (Into number 0) r x s t after value m.bounded m.beside (same.below r m.below ∙ m.points) f (has after (same_all (length (rs ++ full_temporaries e)) after))))))
+      (reaches_before w n (Valued w k (length (rs ++ full_temporaries e)) value) Anything low regs s t (eval_with T e w.call s) (full_setup w.unit bound rs e) (one (tree.Store r (scalar_register k) value)) (λ x. write at (Into number 0) k x)
+      (value_computes e k rs regs s t behind m.anchored m.bounded m.beside m.registers (ap scalar_of v.ctype ∙ v.scalar.is) pure v.typed l few)
+      (λ x to after u o same la be has.
+      write_reaches w n low at k (Into number 0) r x to u after value la.bounded be (same.below r m.below ∙ m.points) has.0 (has.1 after (same_all (length (rs ++ full_temporaries e)) after))))))
 
   pub object_parts : (brace : Place) (is : Initialisers) (at : Place) (u : PlainType) (number r : ℕ) (rs : List MonType) (regs : List Value) (s : State) (t : Target) → low ≤ length rs → ArePureInitialisers is
       → Initialises sight u (Many brace is) → InitialisersHaveLetters is → length (rs ++ parts_temporaries is) ≤ w.registers → Filling w bound low (Into number 0) r regs s t → Initialised (Many brace is) at u number r rs regs s t
-  object_parts brace is at u number r rs regs s t behind pure q l room m = fill_follows (Many brace is) at u (Into number 0) r 0 rs regs s t behind pure q l room m
+  object_parts brace is at u number r rs regs s t behind pure q l room m = fill_reaches (Many brace is) at u (Into number 0) r 0 rs regs s t behind pure q l room m
 
   -- by an initialiser without calls
-  pub object_follows : (i : Initialiser) (at : Place) (u : PlainType) (number r : ℕ) (rs : List MonType) (regs : List Value) (s : State) (t : Target) → low ≤ length rs → IsPureInitialiser i → Initialises sight u i
+  pub object_reaches : (i : Initialiser) (at : Place) (u : PlainType) (number r : ℕ) (rs : List MonType) (regs : List Value) (s : State) (t : Target) → low ≤ length rs → IsPureInitialiser i → Initialises sight u i
       → InitialiserHasLetters i → length (rs ++ initial_temporaries (Some (at, i))) ≤ w.registers → Filling w bound low (Into number 0) r regs s t → Initialised i at u number r rs regs s t
-  object_follows (One e) at u number r rs regs s t behind pure (ByValue v none) l room m = object_value e at u number r rs regs s t behind pure v none l room m
-  object_follows (One e) at u number r rs regs s t behind pure (ByText f) l room m = object_text e at u number r rs regs s t behind f room m
-  object_follows (Many brace is) at u number r rs regs s t behind pure q l room m = object_parts brace is at u number r rs regs s t behind pure q l room m
+  object_reaches (One e) at u number r rs regs s t behind pure (ByValue v none) l room m = object_value e at u number r rs regs s t behind pure v none l room m
+  object_reaches (One e) at u number r rs regs s t behind pure (ByText f) l room m = object_text e at u number r rs regs s t behind f room m
+  object_reaches (Many brace is) at u number r rs regs s t behind pure q l room m = object_parts brace is at u number r rs regs s t behind pure q l room m

@@ -1,5 +1,5 @@
 -- Full expressions: one without effects, or a call with its arguments, whose value a temporary register takes, perhaps in a cast.
-use Rattle.std.proofs.Common.{◌≡◌, ℕ, suc, ◌≤◌, pos, true, false, cond, List, [], ◌∷◌, ◌++◌, length, Option, Some, None, slice_get, slice_set, refl, sym, ap, ◌∙◌, subst, arith}
+use Rattle.std.proofs.Common.{◌≡◌, ℕ, suc, ◌≤◌, ◌<◌, pos, true, false, cond, List, [], ◌∷◌, ◌++◌, length, Option, Some, None, slice_set, refl, sym, ap, ◌∙◌, subst, arith}
 use Rattle.std.proofs.lemmas.List.{append-nil, length-append}
 use Rattle.c_syntax.specs.declared.place.Place.{Place}
 use Rattle.c_syntax.specs.declared.types.CInt.{CInt}
@@ -19,37 +19,32 @@ use Rattle.c_model.proofs.Conversions.{fits-convert}
 use Rattle.mon_syntax.specs.declared.tree.MonType.{MonType}
 use Rattle.mon_syntax.specs.declared.tree.MonType.TheVariants as kind
 use Rattle.mon_syntax.specs.Registers.{Bindings}
-use Rattle.mon_syntax.specs.Meaning.{Done, Flow, Next, then_do, at_next, writes, given_to, eval_all}
+use Rattle.mon_syntax.specs.Meaning.{Done, Next, then_do, eval_all}
 use Rattle.mon_syntax.specs.Meaning.{◌>>=◌ as bind}
-use Rattle.mon_syntax.specs.Meaning as monitored
 use Rattle.mon_syntax.specs.BlockMemory.{Blocks, over_blocks}
 use Rattle.mon_syntax.specs.Trees.{MonExpression, Register, Constant, MonStatements}
-use Rattle.c_model.specs.Pure.{IsPure, ArePure, IsPureOrCall}
-use Rattle.c_effects.specs.Letters.{HasLetters, ArgumentsHaveLetters, FullHasLetters}
+use Rattle.c_model.specs.Pure.{ArePure, IsPureOrCall}
+use Rattle.c_effects.specs.Letters.{ArgumentsHaveLetters, FullHasLetters}
 use Rattle.c_effects.specs.Expressions.{register_type, value_type, in_type, temporaries, value, before, setup}
 use Rattle.c_effects.specs.Expressions as spec
 use Rattle.c_effects.specs.Effects.{arguments_temporaries, full_temporaries, arguments_setup, arguments, full_value, call, called, full_setup}
-use Rattle.c_simulation.proofs.Results.{writes_none, written_then, before_is}
-use Rattle.c_simulation.specs.Following.{written}
+use Rattle.c_simulation.proofs.Results.{written_then}
 use Rattle.c_simulation.specs.Standing.{Setting, Target, Did, runs, Has, IsOf, Bounded, Anchored, Knows, Here, Standing, Beside}
 use Rattle.c_simulation.proofs.Registers.{same_all, same_less, same_trans, same_set, get-set_same, longer}
-use Rattle.c_simulation.proofs.Following.{later_same, anchored_same, onward, undefined_here}
-use Rattle.c_simulation.specs.Following.{Evaluates, Later, IsResult, IsResultOf, Follows, IsOver, IsUndefined}
+use Rattle.c_simulation.proofs.Following.{later_same, anchored_same}
+use Rattle.c_simulation.proofs.Reaching.{MadeValue, reaches_before, reaches_made, undefined_now, value_reaches}
+use Rattle.c_simulation.specs.Following.{Evaluates, IsResultOf, written}
+use Rattle.c_simulation.specs.Reaching.{Reaches, Arrives, IsOver, IsUndefined, Anything, Valued}
 use Rattle.c_simulation.specs.Following as following
 use Rattle.c_model.specs.AcceptedPrograms.{AreScalar}
 use Rattle.c_simulation.specs.SameRegisters.{Same}
-use Rattle.c_simulation.proofs.Calls.{value_of, Alike, Called, Gives, EndsRun, HasNoMeaning, AreOf, HaveAll, takes, CallDoes, DoesCall, CallsNothing, IsCalled, even, beside_even}
+use Rattle.c_simulation.proofs.Calls.{value_of, Called, Gives, EndsRun, HasNoMeaning, AreOf, HaveAll, takes, CallDoes, DoesCall, CallsNothing, IsCalled, even, beside_even}
 use Rattle.c_simulation.proofs.Values.{in_type_converts}
 use Rattle.c_simulation.proofs.Evaluating.{behind_setup}
 use Rattle.c_simulation.proofs.ExpressionTypes.{one_scalar}
 use Rattle.c_simulation.proofs.Places.{of_integer, of_pointer}
 use Rattle.c_simulation.proofs.Expressions.{evaluates}
 use Rattle.instrument.proofs.Scenes.{Scene}
-
--- an outcome that is handed on twice
-pub handed_on : {A B C : Type 0} (r : Outcome A) (f : A → Evaluation B) (g : B → Evaluation C) → on_outcome (on_outcome r f) g ≡ on_outcome r (λ a s. on_outcome (f a s) g)
-handed_on (Normal a s) f g = refl
-handed_on (Stop e s) f g = refl
 
 -- ---- casts
 
@@ -149,150 +144,107 @@ module _ (w : Setting) (n : ℕ) (sight : Sight) (knows : Knows w sight) (bound 
       (λ after same. arguments_follow es us (rs ++ te) scalars.1 types.1 p.1 q.1 l.1 (omega (arith, behind, longer rs te)) after (anchored_same w low bound regs after s.scope (same_less low (length rs) regs after behind same) h)
       (omega (arith, more, enough, same.long))))
 
+-- values of these types, that stay while registers below a number stay
+abbrev pub AreValued : Setting → List PlainType → ℕ → List MonExpression → List Value → List Value → State → Target → Type 0
+AreValued w us high es vs after s t = AreOf us vs × ((later : List Value) → Same high after later → HaveAll w es later t.mem vs)
+
+values_reach : (w : Setting) (us : List PlainType) (s : State) (t : Target) (r : Outcome (List Value)) (regs : List Value) (low high : ℕ) (q : Did) (es : List MonExpression) → Bounded s.store → Beside w s.store s t
+    → EvaluatesAll w us s t r regs low high q es → Reaches w (AreValued w us high es) low regs s r q
+values_reach w us s t r regs low high q es bounded b (HaveValues vs fit x after same run has) = Arrives vs s after t [] same (later_same s bounded) b x run (fit, has)
+values_reach w us s t r regs low high q es bounded b (HaveNone at x) = undefined_now w (AreValued w us high es) low regs s r q at x
+
 -- ---- calls
 
--- a register from the number on takes a value, or none does
-pub same_given : (low : ℕ) (into : Option ℕ) (regs : List Value) (v : Value) → ((r : ℕ) → into ≡ Some r → low ≤ r) → Same low regs (given_to into v regs)
-same_given low None regs v le = same_all low regs
-same_given low (Some r) regs v le = same_set low r regs v (le r refl)
+module _ (w : Setting) (u : PlainType) (s : State) (x : Outcome Value) (low : ℕ) (after : List Value) (d : Did) (active : s.calls ≡ w.active) where
+  -- a call, whose value nothing takes
+  called_alone : CallDoes s u x None after d → Reaches w Anything low after s x d
+  called_alone (CallsNothing at e) = undefined_now w Anything low after s x d at e
+  called_alone (DoesCall q d_is c) = subst (λ d. Reaches w Anything low after s x d) (sym d_is) (by c)
+    where
+      by : Called s u x q → Reaches w Anything low after s x (then_do q (takes None after))
+      by (Gives y v to z o i like later is_even e f) =
+          Arrives (value_of y) to after z o (same_all low after) later (beside_even w to z (later.calls ∙ active) is_even) e
+          (ap (λ q. then_do q (takes None after)) f ∙ ap (Done (Next after) z) (append-nil o)) tt
+      by (EndsRun e z to o d2 a l f) = IsOver e z to o d2 a l (ap (λ q. then_do q (takes None after)) f)
+      by (HasNoMeaning at to o a l ext) = IsUndefined at to o a l (extends_trans o (written q) _ ext (written_then q (takes None after)))
 
-module _ (w : Setting) (n : ℕ) (h : Here) (sight : Sight) (scene : Scene w n sight) (on : List Value → Flow Value) (low : ℕ) (bound : Bindings) (s : State) (t : Target) (le : s.steps ≤ n) (rs : List MonType) (behind : low ≤ length rs)
+  -- one whose value goes to a register
+  called_value : (k : Scalar) (r : ℕ) → scalar_of u ≡ Some k → low ≤ r → r < length after → CallDoes s u x (Some r) after d → Reaches w (Valued w k (suc r) (Register r)) low after s x d
+  called_value k r is le room (CallsNothing at e) = undefined_now w (Valued w k (suc r) (Register r)) low after s x d at e
+  called_value k r is le room (DoesCall q d_is c) = subst (λ d. Reaches w (Valued w k (suc r) (Register r)) low after s x d) (sym d_is) (by c)
+    where
+      by : Called s u x q → Reaches w (Valued w k (suc r) (Register r)) low after s x (then_do q (takes (Some r) after))
+      by (Gives None v to z o i like later is_even e f) = absurd (subst (λ o. IsResultOf o None) is i)
+      by (Gives (Some y) v to z o i like later is_even e f) =
+          Arrives y to (slice_set after r v) z o (same_set low r after v le) later (beside_even w to z (later.calls ∙ active) is_even) e
+          (ap (λ q. then_do q (takes (Some r) after)) f ∙ ap (Done (Next (slice_set after r v)) z) (append-nil o))
+          (subst (λ o. IsResultOf o (Some y)) is i, λ more same. same.below r (omega arith) ∙ get-set_same after r v room ∙ ap Some like)
+      by (EndsRun e z to o d2 a l f) = IsOver e z to o d2 a l (ap (λ q. then_do q (takes (Some r) after)) f)
+      by (HasNoMeaning at to o a l ext) = IsUndefined at to o a l (extends_trans o (written q) _ ext (written_then q (takes (Some r) after)))
+
+module _ (w : Setting) (n : ℕ) (h : Here) (sight : Sight) (scene : Scene w n sight) (low : ℕ) (bound : Bindings) (s : State) (t : Target) (le : s.steps ≤ n) (rs : List MonType) (behind : low ≤ length rs)
     (regs : List Value) (m : Standing w h low bound regs s) (b : Beside w s.store s t) where
   abbrev T : Tables
   T = tables_of w.unit
 
-  -- what follows statements
-  abbrev then_code : MonStatements → Did → Did
-  then_code code d = then_do d (at_next (monitored.exec_all over_blocks w.globals code w.calls n))
+  -- a call with its arguments, from what its arguments' values make of it
+  called_reaches : (P : Value → List Value → State → Target → Type 0) (at : Place) (u : PlainType) (f : Use) (es : Expressions) (into : Option ℕ) → ArePure es → AreWellTyped sight es → Calls sight f u es → ArgumentsHaveLetters es
+      → length (rs ++ arguments_temporaries es) ≤ w.registers
+      → ((x : Outcome Value) (to : State) (after : List Value) (d : Did) → to.calls ≡ w.active → length after ≡ length regs → CallDoes to u x into after d → Reaches w P (length rs) after to x d)
+      → Reaches w P (length rs) regs s (eval_with T (Node at u (Call f es)) w.call s) (runs w n t (called w.unit bound rs into f es) regs)
+  called_reaches P at u f es into pure q c l enough go =
+      let high = length (rs ++ arguments_temporaries es) in
+      let setup_code = arguments_setup w.unit bound rs es in
+      let args = arguments w.unit bound rs es in
+      let target : IsCalled w n f u es = scene.calls f u es c in
+      reaches_before w n (AreValued w target.types high args) P (length rs) regs s t (evals_with T es w.call s) setup_code (call w.unit into f args) (λ vs. w.call at f vs)
+      (values_reach w target.types s t (evals_with T es w.call s) regs (length rs) high (runs w n t setup_code regs) args m.bounded b
+      (arguments_follow w n sight scene.knows bound s t b.store_is m.bounded low es target.types rs target.scalars target.arguments pure q l behind regs m.anchored (omega (arith, enough, m.registers))))
+      (λ vs to after v o same later be p.
+      let active : to.calls ≡ w.active = later.calls ∙ m.active in
+      go (w.call at f vs to) to after (runs w n v (call w.unit into f args) after) active same.long
+      (target.does vs p.0 to v (even w to v active be) later.bounded (omega (arith, le, later.spent)) at into after args (p.1 after (same_all high after))))
 
-  -- what a call came to, and what follows
-  pub behind_call : (result : PlainType) (r : Outcome Value) (tail : Value → Evaluation (Unit {0})) (into : Option ℕ) (after : List Value) (d : Did) (code : MonStatements) → Same low regs after → ((r : ℕ) → into ≡ Some r → low ≤ r)
-      → CallDoes s result r into after d
-      → ((z : Option Value) (v : Value) (to : State) (u : Target) (o : List ℕ) → IsResult result z → Alike z v → Later s to o → Beside w to.store to u
-      → Follows w h low (given_to into v after) on to (tail (value_of z) to) (runs w n u code (given_to into v after))) → Follows w h low regs on s (on_outcome r tail) (then_code code d)
-  behind_call result r tail into after d code same above (CallsNothing at x) go = undefined_here w h low regs on s (on_outcome r tail) (then_code code d) at (ap (λ r. on_outcome r tail) x)
-  behind_call result r tail into after d code same above (DoesCall q is c) go =
-      subst (λ d. Follows w h low regs on s (on_outcome r tail) (then_code code d)) (sym is) (by c)
-    where
-      by : Called s result r q → Follows w h low regs on s (on_outcome r tail) (then_code code (then_do q (takes into after)))
-      by (Gives z v to u o i like later is_even e f) =
-          let given = given_to into v after in
-          subst (λ r. Follows w h low regs on s (on_outcome r tail) (then_code code (then_do q (takes into after)))) (sym e)
-          (subst (λ d. Follows w h low regs on s (tail (value_of z) to) d) (sym (ap (λ q. then_code code (then_do q (takes into after))) f ∙ ap (λ l. writes l (runs w n u code given)) (append-nil o)))
-          (onward w h low regs given on s to o (tail (value_of z) to) (runs w n u code given) (same_trans low low regs after given (omega arith) same (same_given low into after v above)) later
-          (go z v to u o i like later (beside_even w to u (later.calls ∙ m.active) is_even))))
-      by (EndsRun x z to o d e l f) =
-          IsOver x z to o d (ap (λ r. on_outcome r tail) e) l (ap (λ q. then_code code (then_do q (takes into after))) f)
-      by (HasNoMeaning at to o e l ext) =
-          IsUndefined at to o (ap (λ r. on_outcome r tail) e) l
-          (extends_trans o (written q) _ ext (extends_trans (written q) (written (then_do q (takes into after))) _ (written_then q (takes into after))
-          (written_then (then_do q (takes into after)) (at_next (monitored.exec_all over_blocks w.globals code w.calls n)))))
+  -- a call, whose value nothing takes
+  pub call_acts : (at : Place) (u : PlainType) (f : Use) (es : Expressions) → ArePure es → AreWellTyped sight es → Calls sight f u es → ArgumentsHaveLetters es → length (rs ++ arguments_temporaries es) ≤ w.registers
+      → Reaches w Anything (length rs) regs s (eval_with T (Node at u (Call f es)) w.call s) (runs w n t (called w.unit bound rs None f es) regs)
+  call_acts at u f es pure q c l enough = called_reaches Anything at u f es None pure q c l enough (λ x to after d active long does. called_alone w u to x (length rs) after d active does)
 
-  -- a call with its arguments, and what follows
-  pub follows_called : (at : Place) (u : PlainType) (f : Use) (es : Expressions) (into : Option ℕ) (tail : Value → Evaluation (Unit {0})) (code : MonStatements) → ((r : ℕ) → into ≡ Some r → low ≤ r) → ArePure es → AreWellTyped sight es
-      → Calls sight f u es → ArgumentsHaveLetters es
-      → length (rs ++ arguments_temporaries es) ≤ w.registers → ((z : Option Value) (v : Value) (to : State) (there : Target) (o : List ℕ) (after : List Value) → IsResult u z → Alike z v → Same (length rs) regs after
-      → Later s to o → Beside w to.store to there → Follows w h low (given_to into v after) on to (tail (value_of z) to) (runs w n there code (given_to into v after)))
-      → Follows w h low regs on s (on_outcome (on_outcome (evals_with T es w.call s) (λ vs. w.call at f vs)) tail) (runs w n t (before (called w.unit bound rs into f es) code) regs)
-  follows_called at u f es into tail code above pure q c l enough go =
-      subst (λ r. Follows w h low regs on s r (runs w n t (before (called w.unit bound rs into f es) code) regs)) (sym (handed_on (evals_with T es w.call s) (λ vs. w.call at f vs) tail))
-      (subst (λ d. Follows w h low regs on s (on_outcome (evals_with T es w.call s) (λ vs s. on_outcome (w.call at f vs s) tail)) d) (sym code_is)
-      (by (arguments_follow w n sight scene.knows bound s t b.store_is m.bounded low es target.types rs target.scalars target.arguments pure q l behind regs m.anchored (omega (arith, enough, m.registers)))))
-    where
-      target : IsCalled w n f u es
-      target = scene.calls f u es c
+  -- a call of a function that gives a value, which a register takes
+  call_reaches : (at : Place) (u : PlainType) (k : Scalar) (f : Use) (es : Expressions) → scalar_of u ≡ Some k → ArePure es → AreWellTyped sight es → Calls sight f u es → ArgumentsHaveLetters es
+      → length (rs ++ (arguments_temporaries es ++ value_type u ∷ [])) ≤ w.registers
+      → Reaches w (Valued w k (length (rs ++ (arguments_temporaries es ++ value_type u ∷ []))) (Register (length (rs ++ arguments_temporaries es)))) (length rs) regs s (eval_with T (Node at u (Call f es)) w.call s)
+      (runs w n t (called w.unit bound rs (Some (length (rs ++ arguments_temporaries es))) f es) regs)
+  call_reaches at u k f es is pure q c l enough =
+      let r = length (rs ++ arguments_temporaries es) in
+      let long : length (rs ++ (arguments_temporaries es ++ value_type u ∷ [])) ≡ suc r =
+      omega (arith, length-append rs (arguments_temporaries es ++ value_type u ∷ []), length-append (arguments_temporaries es) (value_type u ∷ []), length-append rs (arguments_temporaries es)) in
+      subst (λ high. Reaches w (Valued w k high (Register r)) (length rs) regs s (eval_with T (Node at u (Call f es)) w.call s) (runs w n t (called w.unit bound rs (Some r) f es) regs)) (sym long)
+      (called_reaches (Valued w k (suc r) (Register r)) at u f es (Some r) pure q c l (omega (arith, enough, long)) (λ x to after d active same does.
+      called_value w u to x (length rs) after d active k r is (longer rs (arguments_temporaries es)) (omega (arith, enough, long, same, m.registers)) does))
 
-      setup_code : MonStatements
-      setup_code = arguments_setup w.unit bound rs es
-
-      calls_code : MonStatements
-      calls_code = call w.unit into f (arguments w.unit bound rs es)
-
-      code_is : runs w n t (before (called w.unit bound rs into f es) code) regs ≡ then_code code (then_code calls_code (runs w n t setup_code regs))
-      code_is = before_is w.globals (called w.unit bound rs into f es) code w.calls n regs t ∙ ap (then_code code) (before_is w.globals setup_code calls_code w.calls n regs t)
-
-      source_tail : List Value → Evaluation (Unit {0})
-      source_tail vs s = on_outcome (w.call at f vs s) tail
-
-      by : EvaluatesAll w target.types s t (evals_with T es w.call s) regs (length rs) (length (rs ++ arguments_temporaries es)) (runs w n t setup_code regs) (arguments w.unit bound rs es)
-          → Follows w h low regs on s (on_outcome (evals_with T es w.call s) source_tail) (then_code code (then_code calls_code (runs w n t setup_code regs)))
-      by (HaveNone x e) = undefined_here w h low regs on s _ _ x (ap (λ r. on_outcome r source_tail) e)
-      by (HaveValues vs fit e after same run has) =
-          subst (λ r. Follows w h low regs on s (on_outcome r source_tail) (then_code code (then_code calls_code (runs w n t setup_code regs)))) (sym e)
-          (subst (λ d. Follows w h low regs on s (source_tail vs s) (then_code code (then_code calls_code d))) (sym run)
-          (subst (λ d. Follows w h low regs on s (source_tail vs s) (then_code code d)) (sym (writes_none (runs w n t calls_code after)))
-          (behind_call u (w.call at f vs s) tail into after (runs w n t calls_code after) code (same_less low (length rs) regs after behind same) above
-          (target.does vs fit s t (even w s t m.active b) m.bounded le at into after (arguments w.unit bound rs es) (has after (same_all (length (rs ++ arguments_temporaries es)) after)))
-          (λ z v to there o i like la be. go z v to there o after i like same la be))))
+  -- a call whose value is converted
+  cast_reaches : (at at2 : Place) (u to v : PlainType) (k : Scalar) (f : Use) (es : Expressions) → CastMade w v to k → ArePure es → AreWellTyped sight es → Calls sight f v es
+      → ArgumentsHaveLetters es → length (rs ++ (arguments_temporaries es ++ value_type v ∷ [])) ≤ w.registers
+      → Reaches w (Valued w k (length (rs ++ (arguments_temporaries es ++ value_type v ∷ []))) (spec.converted v to (Register (length (rs ++ arguments_temporaries es))))) (length rs) regs s
+      (eval_with T (Node at u (Cast to (Node at2 v (Call f es)))) w.call s) (runs w n t (called w.unit bound rs (Some (length (rs ++ arguments_temporaries es))) f es) regs)
+  cast_reaches at at2 u to v k f es made pure q c l enough =
+      let inner = Node at2 v (Call f es) in
+      let r = Register (length (rs ++ arguments_temporaries es)) in
+      let high = length (rs ++ (arguments_temporaries es ++ value_type v ∷ [])) in
+      let code = runs w n t (called w.unit bound rs (Some (length (rs ++ arguments_temporaries es))) f es) regs in
+      subst (λ c. Reaches w (Valued w k high (spec.converted v to r)) (length rs) regs s (cond c (place_with T inner w.call >>= address inner) (eval_with T inner w.call >>= λ x. give (converted to x)) s) code) (sym made.no_array)
+      (reaches_made w (Valued w made.from high r) (Valued w k high (spec.converted v to r)) (length rs) regs s (eval_with T inner w.call s) code (λ x. give (converted to x))
+      (call_reaches at2 v made.from f es made.from_is pure q c l enough) (λ x now after there o same la be has.
+      MadeValue (converted to x) refl (made.fits x has.0, λ later same2. made.has r later there.mem x has.0 (has.1 later same2))))
 
   -- ---- full expressions
 
-  -- what goes on with the value of one, in a state that may be a later one
-  abbrev pub GoesOnWith : Scalar → (Value → Evaluation (Unit {0})) → MonExpression → ℕ → MonStatements → Type 0
-  GoesOnWith k tail e high code =
-      (v : Value) (to : State) (there : Target) (o : List ℕ) (after : List Value) → IsOf k v → Same (length rs) regs after → Later s to o → Beside w to.store to there → ((later : List Value) → Same high after later → Has w e later there.mem v)
-      → Follows w h low after on to (tail v to) (runs w n there code after)
-
-  -- without effects
-  pub follows_pure : (e : Expression) (k : Scalar) (tail : Value → Evaluation (Unit {0})) (code : MonStatements) → scalar_of (type_of e) ≡ Some k → IsPure e → WellTyped sight e → HasLetters e → length (rs ++ temporaries e) ≤ w.registers
-      → GoesOnWith k tail (value w.unit bound rs e) (length (rs ++ temporaries e)) code → Follows w h low regs on s (on_outcome (eval_with T e w.call s) tail) (runs w n t (before (setup w.unit bound rs e) code) regs)
-  follows_pure e k tail code int pure q l enough go = by (evaluates w n sight scene.knows bound s t b.store_is m.bounded low e k rs int pure q l behind regs m.anchored (omega (arith, enough, m.registers)))
-    where
-      all : MonStatements
-      all = before (setup w.unit bound rs e) code
-
-      by : Evaluates w k s t (eval_with T e w.call s) regs (length rs) (length (rs ++ temporaries e)) (runs w n t (setup w.unit bound rs e) regs) (value w.unit bound rs e)
-          → Follows w h low regs on s (on_outcome (eval_with T e w.call s) tail) (runs w n t all regs)
-      by (following.HasNone at x) = undefined_here w h low regs on s (on_outcome (eval_with T e w.call s) tail) (runs w n t all regs) at (ap (λ r. on_outcome r tail) x)
-      by (following.HasValue v i x after same run has) =
-          subst (λ r. Follows w h low regs on s (on_outcome r tail) (runs w n t all regs)) (sym x)
-          (subst (λ q. Follows w h low regs on s (tail v s) q) (writes_none (runs w n t code after) ∙ sym (behind_setup w n t (setup w.unit bound rs e) code regs after run))
-          (onward w h low regs after on s s [] (tail v s) (runs w n t code after) (same_less low (length rs) regs after behind same) (later_same s m.bounded)
-          (go v s t [] after i same (later_same s m.bounded) b has)))
-
-  -- a call of a function that gives a value, which a register takes
-  value_called : (at : Place) (u : PlainType) (k : Scalar) (f : Use) (es : Expressions) (tail : Value → Evaluation (Unit {0})) (code : MonStatements) → scalar_of u ≡ Some k → ArePure es → AreWellTyped sight es → Calls sight f u es
-      → ArgumentsHaveLetters es
-      → length (rs ++ (arguments_temporaries es ++ value_type u ∷ [])) ≤ w.registers → GoesOnWith k tail (Register (length (rs ++ arguments_temporaries es))) (length (rs ++ (arguments_temporaries es ++ value_type u ∷ []))) code
-      → Follows w h low regs on s (on_outcome (on_outcome (evals_with T es w.call s) (λ vs. w.call at f vs)) tail) (runs w n t (before (called w.unit bound rs (Some (length (rs ++ arguments_temporaries es))) f es) code) regs)
-  value_called at u k f es tail code int pure q c l enough go =
-      follows_called at u f es (Some r) tail code (λ x e. let same : r ≡ x = cc in omega (arith, same, behind, longer rs (arguments_temporaries es))) pure q c l (omega (arith, enough, long)) by
-    where
-      r : ℕ
-      r = length (rs ++ arguments_temporaries es)
-
-      long : length (rs ++ (arguments_temporaries es ++ value_type u ∷ [])) ≡ suc r
-      long = omega (arith, length-append rs (arguments_temporaries es ++ value_type u ∷ []), length-append (arguments_temporaries es) (value_type u ∷ []), length-append rs (arguments_temporaries es))
-
-      by : (z : Option Value) (v : Value) (to : State) (there : Target) (o : List ℕ) (after : List Value) → IsResult u z → Alike z v → Same (length rs) regs after → Later s to o → Beside w to.store to there
-          → Follows w h low (slice_set after r v) on to (tail (value_of z) to) (runs w n there code (slice_set after r v))
-      by None v to there o after i like same la be = absurd (subst (λ o. IsResultOf o None) int i)
-      by (Some z) v to there o after i like same la be =
-          let taken = slice_set after r v in
-          let changed : Same (length rs) after taken = same_set (length rs) r after v (longer rs (arguments_temporaries es)) in
-          let there_is : slice_get taken r ≡ Some z = get-set_same after r v (omega (arith, same.long, m.registers, enough, long)) ∙ ap Some like in
-          go z to there o taken (subst (λ o. IsResultOf o (Some z)) int i) (same_trans (length rs) (length rs) regs after taken (omega arith) same changed) la be (λ later same3. same3.below r (omega (arith, long)) ∙ there_is)
-
-  -- a call whose value is converted
-  cast_called : (at at2 : Place) (u to v : PlainType) (k : Scalar) (f : Use) (es : Expressions) (tail : Value → Evaluation (Unit {0})) (code : MonStatements) → CastMade w v to k → ArePure es → AreWellTyped sight es → Calls sight f v es
-      → ArgumentsHaveLetters es → length (rs ++ (arguments_temporaries es ++ value_type v ∷ [])) ≤ w.registers
-      → GoesOnWith k tail (spec.converted v to (Register (length (rs ++ arguments_temporaries es)))) (length (rs ++ (arguments_temporaries es ++ value_type v ∷ []))) code
-      → Follows w h low regs on s (on_outcome (eval_with T (Node at u (Cast to (Node at2 v (Call f es)))) w.call s) tail)
-      (runs w n t (before (called w.unit bound rs (Some (length (rs ++ arguments_temporaries es))) f es) code) regs)
-  cast_called at at2 u to v k f es tail code made pure q c l enough go =
-      let called_first = Node at2 v (Call f es) in
-      let r = Register (length (rs ++ arguments_temporaries es)) in
-      let source : on_outcome (eval_with T (Node at u (Cast to called_first)) w.call s) tail ≡ on_outcome (on_outcome (evals_with T es w.call s) (λ vs. w.call at2 f vs)) (λ x. tail (converted to x)) =
-      ap (λ c. on_outcome (cond c (place_with T called_first w.call >>= address called_first) (eval_with T called_first w.call >>= λ x. give (converted to x)) s) tail) made.no_array
-      ∙ handed_on (on_outcome (evals_with T es w.call s) (λ vs. w.call at2 f vs)) (λ x. give (converted to x)) tail in
-      subst (λ r. Follows w h low regs on s r (runs w n t (before (called w.unit bound rs (Some (length (rs ++ arguments_temporaries es))) f es) code) regs)) (sym source)
-      (value_called at2 v made.from f es (λ x. tail (converted to x)) code made.from_is pure q c l enough (λ x state there o after i same la be has.
-      go (converted to x) state there o after (made.fits x i) same la be (λ later same3. made.has r later there.mem x i (has later same3))))
-
-  pub follows_full : (e : Expression) (k : Scalar) (tail : Value → Evaluation (Unit {0})) (code : MonStatements) → scalar_of (type_of e) ≡ Some k → IsPureOrCall e → WellTyped sight e → FullHasLetters e
-      → length (rs ++ full_temporaries e) ≤ w.registers
-      → GoesOnWith k tail (full_value w.unit bound rs e) (length (rs ++ full_temporaries e)) code → Follows w h low regs on s (on_outcome (eval_with T e w.call s) tail) (runs w n t (before (full_setup w.unit bound rs e) code) regs)
-  follows_full (Node at u (Call f es)) k tail code int pure q l enough go = value_called at u k f es tail code int pure q.0 q.1 l enough go
-  follows_full (Node at u (Cast to (Node at2 v (Call f es)))) k tail code int pure q l enough go =
-      cast_called at at2 u to v k f es tail code (cast_made w sight to (Node at2 v (Call f es)) k (ap scalar_of (sym q.1) ∙ int) q.2 refl) pure q.0.0 q.0.1 l enough go
-  follows_full e k tail code int pure q l enough go = follows_pure e k tail code int pure q l enough go
+  pub full_reaches : (e : Expression) (k : Scalar) → scalar_of (type_of e) ≡ Some k → IsPureOrCall e → WellTyped sight e → FullHasLetters e → length (rs ++ full_temporaries e) ≤ w.registers
+      → Reaches w (Valued w k (length (rs ++ full_temporaries e)) (full_value w.unit bound rs e)) (length rs) regs s (eval_with T e w.call s) (runs w n t (full_setup w.unit bound rs e) regs)
+  full_reaches (Node at u (Call f es)) k int pure q l enough = call_reaches at u k f es int pure q.0 q.1 l enough
+  full_reaches (Node at u (Cast to (Node at2 v (Call f es)))) k int pure q l enough =
+      cast_reaches at at2 u to v k f es (cast_made w sight to (Node at2 v (Call f es)) k (ap scalar_of (sym q.1) ∙ int) q.2 refl) pure q.0.0 q.0.1 l enough
+  full_reaches e k int pure q l enough =
+      value_reaches w k s t (eval_with T e w.call s) regs (length rs) (length (rs ++ temporaries e)) (runs w n t (setup w.unit bound rs e) regs) (value w.unit bound rs e) m.bounded b
+      (evaluates w n sight scene.knows bound s t b.store_is m.bounded low e k rs int pure q l behind regs m.anchored (omega (arith, enough, m.registers)))

@@ -14,9 +14,11 @@ use Rattle.c_effects.specs.Letters.{InitialsHaveLetters}
 use Rattle.instrument.specs.Translation.{monitored_globals, all_global_temporaries, initialise_globals}
 use Rattle.c_simulation.specs.Standing.{Setting, Target, runs, Here, Beside}
 use Rattle.c_simulation.specs.Following.{Follows}
+use Rattle.c_simulation.specs.Reaching.{Anything}
+use Rattle.c_simulation.proofs.Reaching.{reached_follows}
 use Rattle.instrument.proofs.Starts.{anchored_at_start}
 use Rattle.instrument.proofs.FileScope.{AreTexts, knows_at, bounded_at_start}
-use Rattle.instrument.proofs.InitialisedVariables.{AreGlobals, globals_follow}
+use Rattle.instrument.proofs.InitialisedVariables.{AreGlobals, globals_reach}
 use Rattle.instrument.proofs.Own.{AreOwn}
 
 -- ---- all globals
@@ -51,5 +53,6 @@ module _ (w : Setting) (has : HasGlobals w) where
       → Beside w (start w.unit input steps).store (start w.unit input steps) t
       → Follows w h (length rs) regs Next (start w.unit input steps) (initialise_all (tables_of w.unit) w.unit.globals w.call (start w.unit input steps)) (runs w n t (initialise_globals w.unit rs w.unit.globals) regs)
   globals_at_start n h rs regs input steps t room long beside =
-      globals_follow w n h (length rs) w.unit.globals (all_known [] w.unit.globals refl has.constant has.letters) rs (omega arith) room regs (start w.unit input steps) t long
-      (anchored_at_start w (length rs) regs has.pointers has.own) (bounded_at_start w.unit has.room has.texts) beside
+      reached_follows w h Anything (length rs) regs (start w.unit input steps) _ _
+      (globals_reach w n (length rs) w.unit.globals (all_known [] w.unit.globals refl has.constant has.letters) rs (omega arith) room regs (start w.unit input steps) t long
+      (anchored_at_start w (length rs) regs has.pointers has.own) (bounded_at_start w.unit has.room has.texts) beside)

@@ -13,7 +13,6 @@ use Rattle.c_model.specs.TypedTrees.{ByText, ByValue, Initialises, WhereAny, IsD
 use Rattle.mon_syntax.specs.declared.tree.MonType.{MonType}
 use Rattle.mon_syntax.specs.declared.tree.MonType.TheVariants as kind
 use Rattle.mon_syntax.specs.Registers.{Bindings}
-use Rattle.mon_syntax.specs.Meaning.{Next}
 use Rattle.mon_syntax.specs.Trees.{MonStatements, NoStatement, Global}
 use Rattle.c_model.specs.Pure.{IsPureInitialiser, IsInitialiser}
 use Rattle.c_effects.specs.Letters.{InitialHasLetters, InitialsHaveLetters}
@@ -23,14 +22,15 @@ use Rattle.c_effects.specs.Effects as translation
 use Rattle.instrument.specs.Translation.{global_temporaries, all_global_temporaries, initialise_global, initialise_globals}
 use Rattle.c_simulation.specs.Standing.{Setting, Target, runs, IsAnchored, InRegister, AtGlobal, Anchored, Knows, Bounded, Here, Standing, Beside}
 use Rattle.c_simulation.proofs.Registers.{same_all, same_set, get-set_same, longer}
-use Rattle.c_simulation.proofs.Results.{writes_none, before_is}
-use Rattle.c_simulation.proofs.Following.{later_same, stays, onward, undefined_here, follows_then, follows_lower, standing_later}
-use Rattle.c_simulation.specs.Following.{Follows}
+use Rattle.c_simulation.specs.Reaching.{Reaches, Anything}
+use Rattle.c_simulation.proofs.Results.{before_is}
+use Rattle.c_simulation.proofs.Following.{standing_later}
+use Rattle.c_simulation.proofs.Reaching.{reached_here, reached_lower, reaches_behind, reaches_then, undefined_now}
 use Rattle.c_simulation.proofs.Anchors.{block_has, block_below}
-use Rattle.c_simulation.proofs.Evaluating.{behind_setup, set_runs}
+use Rattle.c_simulation.proofs.Evaluating.{set_runs}
 use Rattle.instrument.proofs.Scenes.{Scene, scene_with, knows_with}
-use Rattle.instrument.proofs.Initialisers.{initial_follows}
-use Rattle.instrument.proofs.Fillings.{Filling, object_text, object_parts, object_follows}
+use Rattle.instrument.proofs.Initialisers.{initial_reaches}
+use Rattle.instrument.proofs.Fillings.{Filling, object_text, object_parts, object_reaches}
 use Rattle.instrument.proofs.Own.{IsLocal, AreThere}
 use Rattle.c_model.specs.EffectPlaces.{ArePlaced}
 use Rattle.c_model.specs.StaticObjects.{static_objects}
@@ -41,7 +41,7 @@ module _ (w : Setting) (n : ℕ) (h : Here) (sight : Sight) (scene : Scene w n s
   T = tables_of w.unit
 
   abbrev Does : Declaration → Option (Place × Initialiser) → Type 0
-  Does d o = Follows w h low regs Next s (initialise T d o w.call s) (runs w n t (translation.initialise w.unit bound rs (block_of bound (number_of d)) d.ctype o) regs)
+  Does d o = Reaches w Anything low regs s (initialise T d o w.call s) (runs w n t (translation.initialise w.unit bound rs (block_of bound (number_of d)) d.ctype o) regs)
 
   object_in_block : (d : Declaration) (at : Place) (i : Initialiser) (number : ℕ) → find (number_of d) s.scope ≡ Some number → IsLocal w.unit d → IsInitialiser (Some (at, i)) → Initialises sight d.ctype i
       → InitialHasLetters (Some (at, i)) → length (rs ++ initial_temporaries (Some (at, i))) ≤ w.registers → Does d (Some (at, i))
@@ -59,50 +59,50 @@ module _ (w : Setting) (n : ℕ) (h : Here) (sight : Sight) (scene : Scene w n s
       filling : Filling w bound low (Into number 0) r regs s t
       filling = record { anchored = m.anchored; aligned = refl; bounded = m.bounded; beside = b; points = points; below = below; registers = m.registers }
 
-      from_start : (i : Initialiser) → Follows w h low regs Next s (fill T at d.ctype (Into number 0) i w.call s) (runs w n t (translation.initialise w.unit bound rs r d.ctype (Some (at, i))) regs) → Does d (Some (at, i))
+      from_start : (i : Initialiser) → Reaches w Anything low regs s (fill T at d.ctype (Into number 0) i w.call s) (runs w n t (translation.initialise w.unit bound rs r d.ctype (Some (at, i))) regs) → Does d (Some (at, i))
       from_start i go =
-          subst (λ q. Follows w h low regs Next s q (runs w n t (translation.initialise w.unit bound rs r d.ctype (Some (at, i))) regs)) (sym (ap (λ o. on_outcome (defined at (start_of o) s) (λ p. fill T at d.ctype p i w.call)) found)) go
+          subst (λ q. Reaches w Anything low regs s q (runs w n t (translation.initialise w.unit bound rs r d.ctype (Some (at, i))) regs)) (sym (ap (λ o. on_outcome (defined at (start_of o) s) (λ p. fill T at d.ctype p i w.call)) found)) go
 
       by : (i : Initialiser) → IsInitialiser (Some (at, i)) → Initialises sight d.ctype i → InitialHasLetters (Some (at, i)) → length (rs ++ initial_temporaries (Some (at, i))) ≤ w.registers → Does d (Some (at, i))
       by (One e) pure (ByValue v none) l room =
           let few : length (rs ++ full_temporaries e) ≤ w.registers = subst (λ o. length (rs ++ (if is_there o then kind.Ptr ∷ [] else full_temporaries e)) ≤ w.registers) none room in
-          initial_follows w n h sight scene low bound s t le rs behind regs m b d at e v.scalar.scalar number r v.scalar.is found points (omega (arith, below, behind)) none pure v.typed v.ctype l few
-      by (One e) pure (ByText f) l room = from_start (One e) (object_text w n h sight scene.knows bound low e at d.ctype number r rs regs s t behind f room filling)
-      by (Many brace is) pure q l room = from_start (Many brace is) (object_parts w n h sight scene.knows bound low brace is at d.ctype number r rs regs s t behind pure q l room filling)
+          initial_reaches w n h sight scene low bound s t le rs behind regs m b d at e v.scalar.scalar number r v.scalar.is found points (omega (arith, below, behind)) none pure v.typed v.ctype l few
+      by (One e) pure (ByText f) l room = from_start (One e) (object_text w n sight scene.knows bound low e at d.ctype number r rs regs s t behind f room filling)
+      by (Many brace is) pure q l room = from_start (Many brace is) (object_parts w n sight scene.knows bound low brace is at d.ctype number r rs regs s t behind pure q l room filling)
 
   -- an object of a block
-  pub declared_follows : (d : Declaration) (o : Option (Place × Initialiser)) → IsLocal w.unit d → IsInitialiser o → WhereAny (λ (i : Place × Initialiser). Initialises sight d.ctype i.1) o → InitialHasLetters o
+  pub declared_reaches : (d : Declaration) (o : Option (Place × Initialiser)) → IsLocal w.unit d → IsInitialiser o → WhereAny (λ (i : Place × Initialiser). Initialises sight d.ctype i.1) o → InitialHasLetters o
       → length (rs ++ initial_temporaries o) ≤ w.registers → Does d o
-  declared_follows d None local pure q l room = stays w h low regs s t m.bounded b
-  declared_follows d (Some (at, i)) local pure q l room = by (find (number_of d) s.scope) refl
+  declared_reaches d None local pure q l room = reached_here w low regs s t m.bounded b
+  declared_reaches d (Some (at, i)) local pure q l room = by (find (number_of d) s.scope) refl
     where
       by : (o : Option ℕ) → find (number_of d) s.scope ≡ o → Does d (Some (at, i))
       by None found =
-          undefined_here w h low regs Next s (initialise T d (Some (at, i)) w.call s) (runs w n t (translation.initialise w.unit bound rs (block_of bound (number_of d)) d.ctype (Some (at, i))) regs) at
+          undefined_now w Anything low regs s (initialise T d (Some (at, i)) w.call s) (runs w n t (translation.initialise w.unit bound rs (block_of bound (number_of d)) d.ctype (Some (at, i))) regs) at
           (ap (λ o. on_outcome (defined at (start_of o) s) (λ p. fill T at d.ctype p i w.call)) found)
       by (Some number) found = object_in_block d at i number found local pure q l room
 
 -- ---- the objects of a block, in their order
 
 module _ (w : Setting) (n : ℕ) (h : Here) (low : ℕ) (bound : Bindings) where
-  pub initials_follow : (ds : List Declaration) (sight : Sight) → Scene w n sight → AreThere w.unit ds → ArePlaced ds → AreDeclared sight ds → InitialsHaveLetters ds → (rs : List MonType) → low ≤ length rs
+  pub initials_reach : (ds : List Declaration) (sight : Sight) → Scene w n sight → AreThere w.unit ds → ArePlaced ds → AreDeclared sight ds → InitialsHaveLetters ds → (rs : List MonType) → low ≤ length rs
       → length (rs ++ declaration_temporaries ds) ≤ w.registers
       → (regs : List Value) (s : State) (t : Target) → s.steps ≤ n → Standing w h low bound regs s → Beside w s.store s t
-      → Follows w h low regs Next s (initialise_all (tables_of w.unit) ds w.call s) (runs w n t (translation.initialise_all w.unit bound rs ds) regs)
-  initials_follow [] sight scene local f q l rs behind room regs s t le m b = stays w h low regs s t m.bounded b
-  initials_follow (d ∷ ds) sight scene local f q l rs behind room regs s t le m b =
+      → Reaches w Anything low regs s (initialise_all (tables_of w.unit) ds w.call s) (runs w n t (translation.initialise_all w.unit bound rs ds) regs)
+  initials_reach [] sight scene local f q l rs behind room regs s t le m b = reached_here w low regs s t m.bounded b
+  initials_reach (d ∷ ds) sight scene local f q l rs behind room regs s t le m b =
       let here = initial_temporaries d.init in
       let rest = declaration_temporaries ds in
       let more : length (rs ++ (here ++ rest)) ≡ length (rs ++ here ++ rest) = omega (arith, length-append (rs ++ here) rest, length-append rs here, length-append rs (here ++ rest), length-append here rest) in
       let made = translation.initialise w.unit bound rs (block_of bound (number_of d)) d.ctype d.init in
       let first = translation.initialise_local w.unit bound rs d in
       let others = translation.initialise_all w.unit bound (rs ++ here) ds in
-      subst (λ q. Follows w h low regs Next s (initialise_all (tables_of w.unit) (d ∷ ds) w.call s) q) (sym (before_is w.globals first others w.calls n regs t))
-      (follows_then w h low regs Next s (initialise (tables_of w.unit) d d.init w.call s) (runs w n t first regs) (initialise_all (tables_of w.unit) ds w.call) (λ r u. runs w n u others r)
-      (subst (λ x. Follows w h low regs Next s (initialise (tables_of w.unit) d d.init w.call s) (runs w n t (if x then made else NoStatement) regs)) (sym local.0.1)
-      (declared_follows w n h (with_object sight d) (scene_with w n sight d scene) low bound s t le rs behind regs m b d d.init local.0.0 f.0 q.0.init l.0 (omega (arith, more, room, longer (rs ++ here) rest))))
-      (λ to after u o same la be.
-      initials_follow ds (with_object sight d) (scene_with w n sight d scene) local.1 f.1 q.1 l.1 (rs ++ here) (omega (arith, behind, longer rs here)) (omega (arith, more, room)) after to u (omega (arith, le, la.spent))
+      subst (λ q. Reaches w Anything low regs s (initialise_all (tables_of w.unit) (d ∷ ds) w.call s) q) (sym (before_is w.globals first others w.calls n regs t))
+      (reaches_then w Anything Anything low regs s (initialise (tables_of w.unit) d d.init w.call s) (runs w n t first regs) (λ _. initialise_all (tables_of w.unit) ds w.call) (λ r u. runs w n u others r)
+      (subst (λ x. Reaches w Anything low regs s (initialise (tables_of w.unit) d d.init w.call s) (runs w n t (if x then made else NoStatement) regs)) (sym local.0.1)
+      (declared_reaches w n h (with_object sight d) (scene_with w n sight d scene) low bound s t le rs behind regs m b d d.init local.0.0 f.0 q.0.init l.0 (omega (arith, more, room, longer (rs ++ here) rest))))
+      (λ _ to after u o same la be _.
+      initials_reach ds (with_object sight d) (scene_with w n sight d scene) local.1 f.1 q.1 l.1 (rs ++ here) (omega (arith, behind, longer rs here)) (omega (arith, more, room)) after to u (omega (arith, le, la.spent))
       (standing_later w h low bound regs after s to o same la m) be))
 
 -- ---- globals, in their order
@@ -134,18 +134,18 @@ global_points w low regs scope x number m found = of_anchor (m x number found).a
     of_anchor (InRegister r is_bound below points) = absurd cc
     of_anchor (AtGlobal free is_global points) = points
 
-module _ (w : Setting) (n : ℕ) (h : Here) (low : ℕ) where
+module _ (w : Setting) (n : ℕ) (low : ℕ) where
   abbrev tables : Tables
   tables = tables_of w.unit
 
   -- one that has no initialiser keeps the zeros in which it is born
-  global_follows : (d : Declaration) (o : Option (Place × Initialiser)) (sight : Sight) → Knows w sight
+  global_reaches : (d : Declaration) (o : Option (Place × Initialiser)) (sight : Sight) → Knows w sight
       → WhereAny (λ (i : Place × Initialiser). IsPureInitialiser i.1) o → WhereAny (λ (i : Place × Initialiser). Initialises sight d.ctype i.1) o → InitialHasLetters o → (rs : List MonType) → low ≤ length rs
       → length (rs ++ global_temporaries o) ≤ w.registers
       → (regs : List Value) (s : State) (t : Target) → length regs ≡ w.registers → Anchored w low [] regs s.scope → Bounded s.store → Beside w s.store s t
-      → Follows w h low regs Next s (initialise tables d o w.call s) (runs w n t (initialise_global w.unit rs (object_of_global (number_of d) (static_objects w.unit)) d.ctype o) regs)
-  global_follows d None sight knows pure q l rs behind room regs s t long anchored bounded b = stays w h low regs s t bounded b
-  global_follows d (Some (at, i)) sight knows pure q l rs behind room regs s t long anchored bounded b = by (find (number_of d) s.scope) refl
+      → Reaches w Anything low regs s (initialise tables d o w.call s) (runs w n t (initialise_global w.unit rs (object_of_global (number_of d) (static_objects w.unit)) d.ctype o) regs)
+  global_reaches d None sight knows pure q l rs behind room regs s t long anchored bounded b = reached_here w low regs s t bounded b
+  global_reaches d (Some (at, i)) sight knows pure q l rs behind room regs s t long anchored bounded b = by (find (number_of d) s.scope) refl
     where
       j : ℕ
       j = length rs
@@ -159,9 +159,9 @@ module _ (w : Setting) (n : ℕ) (h : Here) (low : ℕ) where
       all : MonStatements
       all = initialise_global w.unit rs g d.ctype (Some (at, i))
 
-      by : (o : Option ℕ) → find (number_of d) s.scope ≡ o → Follows w h low regs Next s (initialise tables d (Some (at, i)) w.call s) (runs w n t all regs)
+      by : (o : Option ℕ) → find (number_of d) s.scope ≡ o → Reaches w Anything low regs s (initialise tables d (Some (at, i)) w.call s) (runs w n t all regs)
       by None found =
-          undefined_here w h low regs Next s (initialise tables d (Some (at, i)) w.call s) (runs w n t all regs) at
+          undefined_now w Anything low regs s (initialise tables d (Some (at, i)) w.call s) (runs w n t all regs) at
           (ap (λ o. on_outcome (defined at (start_of o) s) (λ p. fill tables at d.ctype p i w.call)) found)
       by (Some number) found =
           let v = Points (Into number 0) in
@@ -181,26 +181,25 @@ module _ (w : Setting) (n : ℕ) (h : Here) (low : ℕ) where
             below = omega arith;
             registers = same.long ∙ long;
           } in
-          subst (λ o. Follows w h low regs Next s o (runs w n t all regs)) (sym (ap (λ o. on_outcome (defined at (start_of o) s) (λ p. fill tables at d.ctype p i w.call)) found))
-          (subst (λ q. Follows w h low regs Next s (fill tables at d.ctype (Into number 0) i w.call s) q) (writes_none (runs w n t code after) ∙ sym (behind_setup w n t (set j (Global g)) code regs after (set_runs w n t j (Global g) regs v points)))
-          (onward w h low regs after Next s s [] (fill tables at d.ctype (Into number 0) i w.call s) (runs w n t code after) same (later_same s bounded)
-          (follows_lower w h low (suc j) after Next s (fill tables at d.ctype (Into number 0) i w.call s) (runs w n t code after) (omega (arith, behind))
-          (object_follows w n h sight knows [] (suc j) i at d.ctype number j (rs ++ kind.Ptr ∷ []) after s t (omega (arith, one_more)) pure q l (omega (arith, more, room)) filling))))
+          subst (λ o. Reaches w Anything low regs s o (runs w n t all regs)) (sym (ap (λ o. on_outcome (defined at (start_of o) s) (λ p. fill tables at d.ctype p i w.call)) found))
+          (reaches_behind w n Anything low regs after s t (fill tables at d.ctype (Into number 0) i w.call s) (set j (Global g)) code bounded same (set_runs w n t j (Global g) regs v points)
+          (reached_lower w Anything low (suc j) after s (fill tables at d.ctype (Into number 0) i w.call s) (runs w n t code after) (omega (arith, behind))
+          (object_reaches w n sight knows [] (suc j) i at d.ctype number j (rs ++ kind.Ptr ∷ []) after s t (omega (arith, one_more)) pure q l (omega (arith, more, room)) filling)))
 
   -- globals, with nothing else in sight
-  pub globals_follow : (ds : List Declaration) → AreGlobals w ds → (rs : List MonType) → low ≤ length rs → length (rs ++ all_global_temporaries ds) ≤ w.registers → (regs : List Value) (s : State) (t : Target) → length regs ≡ w.registers
-      → Anchored w low [] regs s.scope → Bounded s.store → Beside w s.store s t → Follows w h low regs Next s (initialise_all tables ds w.call s) (runs w n t (initialise_globals w.unit rs ds) regs)
-  globals_follow [] q rs behind room regs s t long anchored bounded b = stays w h low regs s t bounded b
-  globals_follow (d ∷ ds) q rs behind room regs s t long anchored bounded b =
+  pub globals_reach : (ds : List Declaration) → AreGlobals w ds → (rs : List MonType) → low ≤ length rs → length (rs ++ all_global_temporaries ds) ≤ w.registers → (regs : List Value) (s : State) (t : Target) → length regs ≡ w.registers
+      → Anchored w low [] regs s.scope → Bounded s.store → Beside w s.store s t → Reaches w Anything low regs s (initialise_all tables ds w.call s) (runs w n t (initialise_globals w.unit rs ds) regs)
+  globals_reach [] q rs behind room regs s t long anchored bounded b = reached_here w low regs s t bounded b
+  globals_reach (d ∷ ds) q rs behind room regs s t long anchored bounded b =
       let here = global_temporaries d.init in
       let rest = all_global_temporaries ds in
       let more : length (rs ++ (here ++ rest)) ≡ length (rs ++ here ++ rest) = omega (arith, length-append (rs ++ here) rest, length-append rs here, length-append rs (here ++ rest), length-append here rest) in
       let first = initialise_global w.unit rs (object_of_global (number_of d) (static_objects w.unit)) d.ctype d.init in
       let others = initialise_globals w.unit (rs ++ here) ds in
-      subst (λ q. Follows w h low regs Next s (initialise_all tables (d ∷ ds) w.call s) q) (sym (before_is w.globals first others w.calls n regs t))
-      (follows_then w h low regs Next s (initialise tables d d.init w.call s) (runs w n t first regs) (initialise_all tables ds w.call) (λ r u. runs w n u others r)
-      (global_follows d d.init (with_object q.0.sight d) (knows_with w q.0.sight d q.0.knows) q.0.pure q.0.declared.init q.0.letters rs behind (omega (arith, more, room, longer (rs ++ here) rest)) regs s t long
+      subst (λ q. Reaches w Anything low regs s (initialise_all tables (d ∷ ds) w.call s) q) (sym (before_is w.globals first others w.calls n regs t))
+      (reaches_then w Anything Anything low regs s (initialise tables d d.init w.call s) (runs w n t first regs) (λ _. initialise_all tables ds w.call) (λ r u. runs w n u others r)
+      (global_reaches d d.init (with_object q.0.sight d) (knows_with w q.0.sight d q.0.knows) q.0.pure q.0.declared.init q.0.letters rs behind (omega (arith, more, room, longer (rs ++ here) rest)) regs s t long
       anchored bounded b)
-      (λ to after u o same la be.
-      globals_follow ds q.1 (rs ++ here) (omega (arith, behind, longer rs here)) (omega (arith, more, room)) after to u (same.long ∙ long)
+      (λ _ to after u o same la be _.
+      globals_reach ds q.1 (rs ++ here) (omega (arith, behind, longer rs here)) (omega (arith, more, room)) after to u (same.long ∙ long)
       (anchored_anywhere w low low regs after to.scope (subst (Anchored w low [] regs) (sym la.scope) anchored)) la.bounded be))

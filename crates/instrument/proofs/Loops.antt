@@ -1,22 +1,21 @@
 -- Loops, turn by turn: the condition in front, the step, the body, and what stands after it.
-use Rattle.std.proofs.Common.{◌≡◌, ℕ, zero, suc, ◌+◌, ◌≤◌, ℤ, pos, Bool, true, false, cond, List, [], ◌++◌, length, Some, None, refl, sym, ap, ◌∙◌, subst, arith}
+use Rattle.std.proofs.Common.{◌≡◌, ℕ, zero, suc, ◌+◌, ◌≤◌, ℤ, pos, Bool, true, false, cond, List, [], ◌++◌, length, None, refl, sym, ap, ◌∙◌, subst, arith}
 use Rattle.std.proofs.lemmas.List.{append-nil}
 use Rattle.std.proofs.lemmas.Slice.Eq.{bytes_eq-Decides}
 use Rattle.std.specs.Ordering.{int_eq}
 use Rattle.std.specs.Prelude.{bytes_eq}
-use Rattle.c_syntax.specs.declared.place.Place.{Place}
 use Rattle.c_model.specs.Memory.{Value, Integer, kill_from}
-use Rattle.c_model.specs.State.{State, Spent, Undefined, Over, Outcome, Normal, Stop, Evaluation, on_outcome, ◌>>=◌, ◌>>◌, give, done, step, step_from}
-use Rattle.c_model.specs.Meaning.{after_body, is_zero}
+use Rattle.c_model.specs.State.{State, Spent, Outcome, Evaluation, on_outcome, ◌>>=◌, ◌>>◌, give, done, step, step_from}
+use Rattle.c_model.specs.Meaning.{after_body}
 use Rattle.c_model.specs.Meaning as source
 use Rattle.c_model.proofs.Agreement.{extends_trans}
 use Rattle.mon_syntax.specs.Registers.{Bindings}
 use Rattle.c_model.specs.MonitoredRuns as machine
-use Rattle.mon_syntax.specs.Meaning.{Result, Done, Stops, Flow, Next, Goes, Returns, writes, then_do, at_next, at_label, choose, with_value, eval_number}
+use Rattle.mon_syntax.specs.Meaning.{Result, Done, Stops, Flow, Next, Goes, Returns, writes, then_do, at_next, at_label, choose}
 use Rattle.mon_syntax.specs.Meaning as monitored
 use Rattle.mon_syntax.specs.BlockMemory.{over_blocks}
 use Rattle.mon_syntax.specs.LiveBlocks.{LiveBlock, live_in}
-use Rattle.mon_syntax.specs.Trees.{MonExpression, If, Goto, Labelled, Loop, MonStatements, NoStatement, Then}
+use Rattle.mon_syntax.specs.Trees.{MonExpression, Goto, Labelled, Loop, MonStatements, NoStatement, Then}
 use Rattle.c_effects.specs.Expressions.{before, one}
 use Rattle.track_scopes.specs.Lives.{AreBefore}
 use Rattle.instrument.specs.Translation.{Spot, in_loop, leave_where_zero, loop}
@@ -27,7 +26,9 @@ use Rattle.c_simulation.proofs.Results.{writes_none, written_then, one_is, befor
 use Rattle.c_simulation.specs.Following.{written}
 use Rattle.c_simulation.proofs.Registers.{same_all}
 use Rattle.instrument.proofs.Deaths.{kill_none, all_before}
-use Rattle.c_simulation.proofs.Following.{later_same, onward, undefined_here, follows_choice, follows_then, anywhere, standing_as}
+use Rattle.c_simulation.specs.Reaching.{Reaches, Anything, Tested}
+use Rattle.c_simulation.proofs.Following.{later_same, onward, follows_choice, anywhere, standing_as}
+use Rattle.c_simulation.proofs.Reaching.{follows_reached, test_runs}
 use Rattle.c_simulation.specs.Following.{Later, Follows, GoesOn, Breaks, Continues, IsLeft, IsOver, IsUndefined}
 use Rattle.instrument.proofs.Births.{pointed_append, all_apart}
 use Rattle.instrument.proofs.Blocks.{Meets, meets_later}
@@ -44,18 +45,6 @@ then_choice z p q go = by (int_eq z (pos 0))
     by : (t : Bool) → then_do (cond t q p) go ≡ cond t (then_do q go) (then_do p go)
     by true = refl
     by false = refl
-
--- ---- conditions
-
--- the value of a condition, and a number that is 0 where it is
-pub data Tested (w : Setting) (s : State) (t : Target) (low : ℕ) (regs : List Value) (r : Outcome Value) (q : Did) (c : MonExpression) : Type 0 where
-  IsTested : (v : Value) (i : ℤ) → r ≡ Normal v s → int_eq i (pos 0) ≡ is_zero v → (after : List Value) → Same low regs after → q ≡ Done (Next after) t [] → eval_number over_blocks w.globals c after t.mem ≡ Some i → Tested w s t low regs r q c
-  NotTested : (at : Place) → r ≡ Stop (Over (Undefined at)) s → Tested w s t low regs r q c
-
-pub choice_runs : (w : Setting) (n : ℕ) (t : Target) (c : MonExpression) (a b : MonStatements) (regs : List Value) (i : ℤ) → eval_number over_blocks w.globals c regs t.mem ≡ Some i
-    → runs w n t (one (If c a b)) regs ≡ choose i (runs w n t a regs) (runs w n t b regs)
-choice_runs w n t c a b regs i e =
-    one_is w.globals (If c a b) w.calls n regs t ∙ ap (λ o. with_value o t.steps (λ i. choose i (runs w n t a regs) (runs w n t b regs))) e
 
 -- ---- a step
 
@@ -245,43 +234,51 @@ module _ (w : Setting) (h : Here) (base : ℕ) (spot : Spot) (low : ℕ) (bound 
 
   -- a condition of the source and the target's statements for it, which leave the loop where it is 0
   pub record Tests (condition : Evaluation Value) (front : MonStatements) : Type 0 where
-    pub goes : (regs : List Value) (s : State) (t : Target) → Meet regs s t → (turn : Evaluation (Unit {0})) (go : Go) → ((after : List Value) → Same low regs after → Meet after s t → Turns after s (turn s) (go after t))
+    pub goes : (regs : List Value) (s : State) (t : Target) → Meet regs s t → s.steps ≤ n → (turn : Evaluation (Unit {0})) (go : Go)
+        → ((to : State) (after : List Value) (u : Target) → Meet after to u → to.steps ≤ s.steps → Turns after to (turn to) (go after u))
         → Turns regs s (on_outcome (condition s) (λ v. source.choose v turn done)) (then_do (runs w n t front regs) (at_next go))
 
   -- a condition that is left out is true
   pub no_test : Tests (give (Integer (pos 1))) NoStatement
   no_test = record {
-    goes = λ regs s t m turn go k. subst (λ q. Turns regs s (turn s) q) (sym (writes_none (go regs t))) (k regs (same_all low regs) m);
+    goes = λ regs s t m le turn go k. subst (λ q. Turns regs s (turn s) q) (sym (writes_none (go regs t))) (k s regs t m (omega arith));
   }
 
-  module _ (condition : Evaluation Value) (setup : MonStatements) (c : MonExpression) (tested : (regs : List Value) (s : State) (t : Target) → Meet regs s t → Tested w s t low regs (condition s) (runs w n t setup regs) c) where
-    module _ (regs : List Value) (s : State) (t : Target) (m : Meet regs s t) (turn : Evaluation (Unit {0})) (go : Go) (goes : (after : List Value) → Same low regs after → Meet after s t → Turns after s (turn s) (go after t)) where
-      -- the jump, where the condition is 0
-      jump_follows : (v : Value) (i : ℤ) (after : List Value) → Same low regs after → int_eq i (pos 0) ≡ is_zero v
-          → Turns after s (source.choose v turn done s) (then_do (choose i (runs w n t NoStatement after) (runs w n t (one (Goto (end_label loops))) after)) (at_next go))
-      jump_follows v i after same null =
-          let later = later_same s m.standing.bounded in
-          subst (λ q. Turns after s (source.choose v turn done s) q) (sym (then_choice i (runs w n t NoStatement after) (runs w n t (one (Goto (end_label loops))) after) (at_next go)))
-          (follows_choice w in_turn low after (Goes (end_label loops)) s s v i turn done _ _ null
-          (subst (λ q. Turns after s (turn s) q) (sym (writes_none (go after t))) (goes after same (meet_later regs after s s t t [] same later m.beside m)))
-          (GoesOn s after t [] (same_all low after) later m.beside refl refl))
+  -- one whose statements reach what it tests
+  module _ (condition : Evaluation Value) (setup : MonStatements) (c : MonExpression) (high : ℕ) (tested : (regs : List Value) (s : State) (t : Target) → Meet regs s t → s.steps ≤ n
+      → Reaches w (Tested w high c) low regs s (condition s) (runs w n t setup regs)) where
+    abbrev leaves : MonStatements
+    leaves = leave_where_zero loops c
 
-      by_test : (r : Outcome Value) → Tested w s t low regs r (runs w n t setup regs) c → Turns regs s (on_outcome r (λ v. source.choose v turn done)) (then_do (runs w n t (before setup (leave_where_zero loops c)) regs) (at_next go))
-      by_test r (NotTested at x) =
-          undefined_here w in_turn low regs (Goes (end_label loops)) s (on_outcome r (λ v. source.choose v turn done)) (then_do (runs w n t (before setup (leave_where_zero loops c)) regs) (at_next go)) at
-          (ap (λ r. on_outcome r (λ v. source.choose v turn done)) x)
-      by_test r (IsTested v i x null after same run has) =
-          let target : runs w n t (before setup (leave_where_zero loops c)) regs ≡ writes [] (choose i (runs w n t NoStatement after) (runs w n t (one (Goto (end_label loops))) after)) =
-          before_is w.globals setup (leave_where_zero loops c) w.calls n regs t
-          ∙ ap (λ q. then_do q (at_next (λ r u. runs w n u (leave_where_zero loops c) r))) run
-          ∙ ap (writes []) (choice_runs w n t c NoStatement (one (Goto (end_label loops))) after i has) in
-          subst (λ r. Turns regs s (on_outcome r (λ v. source.choose v turn done)) (then_do (runs w n t (before setup (leave_where_zero loops c)) regs) (at_next go))) (sym x)
-          (subst (λ d. Turns regs s (source.choose v turn done s) (then_do d (at_next go))) (sym (target ∙ writes_none _))
-          (subst (λ d. Turns regs s (source.choose v turn done s) d) (writes_none _)
-          (onward w in_turn low regs after (Goes (end_label loops)) s s [] _ _ same (later_same s m.standing.bounded) (jump_follows v i after same null))))
+    -- the jump, where the condition is 0
+    jump_follows : (v : Value) (s : State) (t : Target) (regs : List Value) (turn : Evaluation (Unit {0})) (go : Go) → Meet regs s t → Tested w high c v regs s t → Turns regs s (turn s) (go regs t)
+        → Turns regs s (source.choose v turn done s) (then_do (runs w n t leaves regs) (at_next go))
+    jump_follows v s t regs turn go m test goes =
+        let is = test_runs w n high c NoStatement (one (Goto (end_label loops))) v regs s t test in
+        let stay = runs w n t NoStatement regs in
+        let jump = runs w n t (one (Goto (end_label loops))) regs in
+        subst (λ q. Turns regs s (source.choose v turn done s) (then_do q (at_next go))) (sym is.2)
+        (subst (λ q. Turns regs s (source.choose v turn done s) q) (sym (then_choice is.0 stay jump (at_next go)))
+        (follows_choice w in_turn low regs (Goes (end_label loops)) s s v is.0 turn done _ _ is.1
+        (subst (λ q. Turns regs s (turn s) q) (sym (writes_none (go regs t))) goes)
+        (GoesOn s regs t [] (same_all low regs) (later_same s m.standing.bounded) m.beside refl refl)))
 
-    pub tests : Tests condition (before setup (leave_where_zero loops c))
-    tests = record { goes = λ regs s t m turn go k. by_test regs s t m turn go k (condition s) (tested regs s t m) }
+    pub tests : Tests condition (before setup leaves)
+    tests = record { goes = by }
+      where
+        by : (regs : List Value) (s : State) (t : Target) → Meet regs s t → s.steps ≤ n → (turn : Evaluation (Unit {0})) (go : Go)
+            → ((to : State) (after : List Value) (u : Target) → Meet after to u → to.steps ≤ s.steps → Turns after to (turn to) (go after u))
+            → Turns regs s (on_outcome (condition s) (λ v. source.choose v turn done)) (then_do (runs w n t (before setup leaves) regs) (at_next go))
+        by regs s t m le turn go k =
+            let chosen = on_outcome (condition s) (λ v. source.choose v turn done) in
+            subst (λ q. Turns regs s chosen (then_do q (at_next go))) (sym (before_is w.globals setup leaves w.calls n regs t))
+            (subst (λ q. Turns regs s chosen q)
+            (rest_first (runs w n t setup regs) (λ r u. then_do (monitored.exec_all over_blocks w.globals leaves w.calls n r u) (at_next go)) (monitored.exec_all over_blocks w.globals leaves w.calls n) go (λ r u. refl))
+            (follows_reached w in_turn (Tested w high c) low regs (Goes (end_label loops)) s (condition s) (runs w n t setup regs) (λ v. source.choose v turn done)
+            (λ r u. then_do (monitored.exec_all over_blocks w.globals leaves w.calls n r u) (at_next go)) (tested regs s t m le)
+            (λ v to after u o same later be test.
+            let m2 = meet_later regs after s to t u o same later be m in
+            jump_follows v to u after turn go m2 test (k to after u m2 later.spent))))
 
   -- ---- turns
 
@@ -313,8 +310,8 @@ module _ (w : Setting) (h : Here) (base : ℕ) (spot : Spot) (low : ℕ) (bound 
         (λ to after u o same l be. go to after u (meet_later regs after s1 to t1 u o same l be m1) l.spent))))
 
     -- `while` and `for`
-    module _ (front : MonStatements) (front_tests : Tests condition front) (behind : Evaluation (Unit {0})) (b : MonStatements) (behind_follows : (regs : List Value) (s : State) (t : Target) → Meet regs s t → s.steps ≤ n
-        → Follows w in_turn low regs Next s (behind s) (runs w n t b regs)) where
+    module _ (front : MonStatements) (front_tests : Tests condition front) (behind : Evaluation (Unit {0})) (b : MonStatements) (behind_reaches : (regs : List Value) (s : State) (t : Target) → Meet regs s t → s.steps ≤ n
+        → Reaches w Anything low regs s (behind s) (runs w n t b regs)) where
       abbrev turn : ℕ → Evaluation (Unit {0})
       turn j = step >> λ s. after_body (body s) (behind >> source.turns j condition (source.turn_with None body behind))
 
@@ -334,16 +331,17 @@ module _ (w : Setting) (h : Here) (base : ℕ) (spot : Spot) (low : ℕ) (bound 
           by zero e = spent regs s (λ s. after_body (body s) (behind >> source.turns (suc j) condition (source.turn_with None body behind))) (Stops machine.Spent 0 []) e (ap (λ k. Stops machine.Spent k []) (sym e))
           by (suc k) e =
               round_follows b (behind >> source.turns (suc j) condition (source.turn_with None body behind)) (others j) regs s t k e m ln (λ to after u m2 l2.
-              follows_then w in_turn low after (Goes (end_label loops)) to _ _ (source.turns (suc j) condition (source.turn_with None body behind)) (others j) (behind_follows after to u m2 (omega (arith, e, ln, l2)))
-              (λ to2 after2 u2 o same l be. go to2 after2 u2 (meet_later after after2 to to2 u u2 o same l be m2) (omega (arith, e, le, l2, l.spent)) (omega (arith, e, ln, l2, l.spent))))
+              follows_reached w in_turn Anything low after (Goes (end_label loops)) to (behind to) (runs w n u b after)
+              (λ _. source.turns (suc j) condition (source.turn_with None body behind)) (others j) (behind_reaches after to u m2 (omega (arith, e, ln, l2)))
+              (λ _ to2 after2 u2 o same l be _. go to2 after2 u2 (meet_later after after2 to to2 u u2 o same l be m2) (omega (arith, e, le, l2, l.spent)) (omega (arith, e, ln, l2, l.spent))))
 
       pub turns_follow : (j : ℕ) (regs : List Value) (s : State) (t : Target) → Meet regs s t → s.steps ≤ j → s.steps ≤ n → Turns regs s (source.turns (suc j) condition (source.turn_with None body behind) s) (others j regs t)
       turns_follow zero regs s t m le ln =
-          front_tests.goes regs s t m (turn 0) (λ r u. Stops machine.Spent 0 []) (λ after same m2.
-          spent after s (λ s. after_body (body s) (behind >> source.turns 0 condition (source.turn_with None body behind))) (Stops machine.Spent 0 []) (omega (arith, le)) (ap (λ k. Stops machine.Spent k []) (omega (arith, le))))
+          front_tests.goes regs s t m ln (turn 0) (λ r u. Stops machine.Spent 0 []) (λ to after u m2 less.
+          spent after to (λ s. after_body (body s) (behind >> source.turns 0 condition (source.turn_with None body behind))) (Stops machine.Spent 0 []) (omega (arith, le, less)) (ap (λ k. Stops machine.Spent k []) (omega (arith, le, less))))
       turns_follow (suc j) regs s t m le ln =
-          front_tests.goes regs s t m (turn (suc j)) (next_turn j) (λ after same m2.
-          turn_follows j after s t m2 le ln (λ to after2 u m3 l3 l4. turns_follow j after2 to u m3 l3 l4))
+          front_tests.goes regs s t m ln (turn (suc j)) (next_turn j) (λ to after u m2 less.
+          turn_follows j after to u m2 (omega (arith, le, less)) (omega (arith, ln, less)) (λ to2 after2 u2 m3 l3 l4. turns_follow j after2 to2 u2 m3 l3 l4))
 
     -- `do`
     module _ (b : MonStatements) (b_tests : Tests condition b) where
@@ -363,4 +361,5 @@ module _ (w : Setting) (h : Here) (base : ℕ) (spot : Spot) (low : ℕ) (bound 
           by rest zero e = spent regs s (λ s. after_body (body s) (condition >>= λ v. source.choose v (source.do_turns (suc j) condition body) done)) (Stops machine.Spent 0 []) e (ap (λ k. Stops machine.Spent k []) (sym e))
           by rest (suc k) e =
               round_follows b (condition >>= λ v. source.choose v (source.do_turns (suc j) condition body) done) (do_others j) regs s t k e m ln (λ to after u m2 l2.
-              b_tests.goes after to u m2 (source.do_turns (suc j) condition body) (do_others j) (λ after2 same m3. rest to after2 u m3 (omega (arith, e, le, l2)) (omega (arith, e, ln, l2))))
+              b_tests.goes after to u m2 (omega (arith, e, ln, l2)) (source.do_turns (suc j) condition body) (do_others j)
+              (λ to2 after2 u2 m3 less. rest to2 after2 u2 m3 (omega (arith, e, le, l2, less)) (omega (arith, e, ln, l2, less))))

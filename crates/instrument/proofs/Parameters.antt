@@ -187,7 +187,7 @@ module _ (w : Setting) (n : ℕ)
           ∙ ap (λ q. then_do q (at_next (λ r u. rest r u)))
           (ap (λ y. exec over_blocks w.globals (tree.Store p y (tree.Register a)) w.calls n after target_born) (value_type_is d.ctype k object.is)
           ∙ sym (one_is w.globals (tree.Store p (scalar_register k) (tree.Register a)) w.calls n after target_born)
-          ∙ store_runs w n h p k p (Into (length born.store) 0) v target_born after (tree.Register a) saved points is_scalar holds saves)
+          ∙ store_runs w n p k p (Into (length born.store) 0) v target_born after (tree.Register a) saved points is_scalar holds saves)
           ∙ writes_none _)
           (go after (written saved) (with_store saved target_born) m2 b.before)
 

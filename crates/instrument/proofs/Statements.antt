@@ -7,9 +7,9 @@ use Rattle.c_syntax.specs.Statements.{Declaration, Statement, Empty, Eval, Block
 use Rattle.c_syntax.specs.Programs.{TranslationUnit}
 use Rattle.c_syntax.specs.Layouts.{Scalar, scalar_of}
 use Rattle.c_model.specs.Memory.{Value, kill_from}
-use Rattle.c_model.specs.State.{State, Leaves, Returns, Outcome, Stop, Evaluation, on_outcome, ◌>>◌, stop, births, within, restored}
+use Rattle.c_model.specs.State.{State, Leaves, Returns, Stop, Evaluation, on_outcome, ◌>>◌, stop, births, within, restored}
 use Rattle.c_model.specs.State as state
-use Rattle.c_model.specs.Meaning.{Tables, tables_of, exec_with, else_with, first_with, items_with, condition_with, effect_with, initialise_all, declared_in, declared_first, turns, turn_with}
+use Rattle.c_model.specs.Meaning.{Tables, tables_of, eval_with, exec_with, else_with, first_with, items_with, condition_with, effect_with, initialise_all, declared_in, declared_first, turns, turn_with}
 use Rattle.c_model.specs.Meaning as source
 use Rattle.c_model.specs.Predicates.{checks}
 use Rattle.c_model.specs.ExpressionTyping.{Sight, inner, with_objects}
@@ -20,7 +20,7 @@ use Rattle.mon_syntax.specs.declared.tree.MonType.{MonType}
 use Rattle.mon_syntax.specs.Registers.{Bindings, RegisterTable, with_kinds, next_register}
 use Rattle.mon_syntax.specs.Meaning.{Next, Goes, Done, then_do, at_next, with_value, exec_all}
 use Rattle.mon_syntax.specs.Meaning as monitored
-use Rattle.mon_syntax.specs.BlockMemory.{over_blocks, integer_of}
+use Rattle.mon_syntax.specs.BlockMemory.{over_blocks}
 use Rattle.mon_syntax.specs.LiveBlocks.{live_in}
 use Rattle.mon_syntax.specs.Trees.{MonExpression, MonStatements, NoStatement}
 use Rattle.mon_syntax.specs.Trees as tree
@@ -32,7 +32,7 @@ use Rattle.instrument.specs.Limits.{HasNumbers, ElseHasNumbers, FirstHasNumbers,
 use Rattle.c_effects.specs.Expressions.{value_type, temporaries, setup, condition_of, before, one, set}
 use Rattle.annot_code.specs.Code.{assertions}
 use Rattle.annot_code.proofs.Asserted.{behind_grows}
-use Rattle.c_effects.specs.Effects.{full_temporaries, full_value, effect_temporaries, any_temporaries, declaration_temporaries, effect_if_any}
+use Rattle.c_effects.specs.Effects.{full_temporaries, full_setup, full_value, effect_temporaries, any_temporaries, declaration_temporaries, effect_if_any}
 use Rattle.c_effects.specs.Effects as effects
 use Rattle.track_scopes.specs.Blocks.{entered, deaths, with_born}
 use Rattle.track_scopes.specs.Lives.{with_store}
@@ -40,28 +40,30 @@ use Rattle.instrument.specs.Translation.{Spot, returned_temporaries, after_state
 use Rattle.c_simulation.specs.Labels.{end_label, next_label}
 use Rattle.instrument.specs.Translation as target
 use Rattle.instrument.proofs.DeclarationCode.{next-entered}
-use Rattle.c_simulation.specs.Standing.{Target, Setting, runs, Has, IsOf, Here, Beside}
+use Rattle.c_simulation.specs.Standing.{Target, Setting, runs, Here, Beside}
 use Rattle.track_scopes.proofs.Births.{births_enter}
 use Rattle.track_scopes.proofs.Deaths.{deaths_end}
 use Rattle.c_simulation.proofs.Results.{writes_none, one_is, before_is}
-use Rattle.c_simulation.proofs.Registers.{get-set_same, same_all, same_less, same_trans, same_set, longer}
-use Rattle.c_simulation.proofs.Following.{later_same, stays, onward, undefined_here, follows_choice, follows_then}
-use Rattle.c_simulation.specs.Following.{Tests, HasTest, HasNoTest, Later, IsResult, IsResultOf, Follows, Breaks, Continues, IsLeft}
+use Rattle.c_simulation.proofs.Registers.{get-set_same, same_all, same_trans, same_set, longer}
+use Rattle.c_simulation.specs.Reaching.{Reaches, Anything, Tested, Valued}
+use Rattle.c_simulation.proofs.Following.{later_same, stays, follows_choice, follows_then}
+use Rattle.c_simulation.proofs.Evaluating.{set_runs}
+use Rattle.c_simulation.proofs.Reaching.{follows_before, follows_behind, reached_done, reached_follows, reached_here, reached_lower, test_reaches, test_runs}
+use Rattle.c_simulation.specs.Following.{IsResult, IsResultOf, Follows, Breaks, Continues, IsLeft}
 use Rattle.instrument.proofs.Births.{with_numbers, pointed_point, pointed_append, all_apart, behind_births}
 use Rattle.instrument.proofs.Blocks.{Meets, meets_later, block_follows}
 use Rattle.instrument.proofs.Loops as loops
-use Rattle.instrument.proofs.Loops.{Tested, IsTested, NotTested, choice_runs}
 use Rattle.instrument.proofs.Declared.{AreBorn, CanDeclare, ElseCanDeclare, ItemsCanDeclare, AreAbsent, meets_behind, more_kinds, statement_grows, else_grows, first_grows, items_grow}
 use Rattle.c_simulation.proofs.Expressions as expressions
 use Rattle.c_simulation.proofs.Expressions.{handed_on}
 use Rattle.c_model.specs.TypedAnnotations.{StatementNoted, ElseNoted, ItemsNoted}
 use Rattle.c_simulation.specs.SameRegisters.{Same}
-use Rattle.instrument.proofs.InitialisedVariables.{initials_follow}
+use Rattle.instrument.proofs.InitialisedVariables.{initials_reach}
 use Rattle.instrument.proofs.Scenes.{Scene, scene_inner, scene_with_all, scene_behind_first, AreFound, DeclarationsFound, found_with_all, declarations_found-append}
 use Rattle.instrument.proofs.Sight.{scope_for, sees_found, sees_born, declared_born}
-use Rattle.instrument.proofs.Effects.{effect_follows}
+use Rattle.instrument.proofs.Effects.{effect_reaches}
 use Rattle.instrument.proofs.Asserts.{assertions_follow}
-use Rattle.instrument.proofs.FullExpressions.{follows_full}
+use Rattle.instrument.proofs.FullExpressions.{full_reaches}
 use Rattle.instrument.proofs.Own.{AllCanBeBorn, AreThere, are_there}
 use Rattle.instrument.proofs.FullForms.{effect_or_call}
 
@@ -157,30 +159,43 @@ module _ (w : Setting) (n : ℕ) where
   nothing_does : (h : Here) (spot : Spot) (low : ℕ) (bound : Bindings) (living : List ℕ) → DoSame h spot low bound living state.done NoStatement
   nothing_does h spot low bound living = λ regs from t m le. stays w h low regs from t m.standing.bounded m.beside
 
+  -- what a part of the source comes to, and a part of the target
+  abbrev pub ReachSame : Here → Spot → ℕ → Bindings → List ℕ → Evaluation (Unit {0}) → MonStatements → Type 0
+  ReachSame h spot low bound living x a = (regs : List Value) (from : State) (t : Target) → Meets w h spot low bound living regs from t → from.steps ≤ n → Reaches w Anything low regs from (x from) (runs w n t a regs)
+
+  nothing_reached : (h : Here) (spot : Spot) (low : ℕ) (bound : Bindings) (living : List ℕ) → ReachSame h spot low bound living state.done NoStatement
+  nothing_reached h spot low bound living = λ regs from t m le. reached_here w low regs from t m.standing.bounded m.beside
+
+  effect_reached : (h : Here) (spot : Spot) (low : ℕ) (bound : Bindings) (living : List ℕ) (s : Sight) (g : Scene w n s) (rs : List MonType) (e : Expression) → IsEffectOrCall e → WellTyped s e → EffectHasLetters e → low ≤ length rs
+      → length (rs ++ effect_temporaries w.unit e) ≤ w.registers → ReachSame h spot low bound living (effect_with T (Some e) w.call) (effects.effect w.unit bound rs e)
+  effect_reached h spot low bound living s g rs e pure q l behind enough = λ regs from t m le.
+      reached_done w Anything low regs from (eval_with T e w.call from) (runs w n t (effects.effect w.unit bound rs e) regs)
+      (effect_reaches w n h s g low bound from t le rs behind regs m.standing m.beside e pure q l enough)
+
   effect_does : (h : Here) (spot : Spot) (low : ℕ) (bound : Bindings) (living : List ℕ) (s : Sight) (g : Scene w n s) (rs : List MonType) (e : Expression) → IsEffectOrCall e → WellTyped s e → EffectHasLetters e → low ≤ length rs
       → length (rs ++ effect_temporaries w.unit e) ≤ w.registers → DoSame h spot low bound living (effect_with T (Some e) w.call) (effects.effect w.unit bound rs e)
   effect_does h spot low bound living s g rs e pure q l behind enough = λ regs from t m le.
-      effect_follows w n h s g low bound from t le rs behind regs m.standing m.beside e pure q l enough
+      reached_follows w h Anything low regs from (effect_with T (Some e) w.call from) (runs w n t (effects.effect w.unit bound rs e) regs)
+      (effect_reached h spot low bound living s g rs e pure q l behind enough regs from t m le)
 
-  effect_if_any_does : (h : Here) (spot : Spot) (low : ℕ) (bound : Bindings) (living : List ℕ) (s : Sight) (g : Scene w n s) (rs : List MonType) (e : Option Expression) → WhereAny IsEffect e → WhereAny (WellTyped s) e
-      → Any EffectHasLetters e → low ≤ length rs → length (rs ++ any_temporaries (effect_temporaries w.unit) e) ≤ w.registers → DoSame h spot low bound living (effect_with T e w.call) (effect_if_any w.unit bound rs e)
-  effect_if_any_does h spot low bound living s g rs None pure q l behind enough = nothing_does h spot low bound living
-  effect_if_any_does h spot low bound living s g rs (Some e) pure q l behind enough = effect_does h spot low bound living s g rs e (effect_or_call e pure) q l behind enough
+  effect_if_any_reached : (h : Here) (spot : Spot) (low : ℕ) (bound : Bindings) (living : List ℕ) (s : Sight) (g : Scene w n s) (rs : List MonType) (e : Option Expression) → WhereAny IsEffect e → WhereAny (WellTyped s) e
+      → Any EffectHasLetters e → low ≤ length rs → length (rs ++ any_temporaries (effect_temporaries w.unit) e) ≤ w.registers → ReachSame h spot low bound living (effect_with T e w.call) (effect_if_any w.unit bound rs e)
+  effect_if_any_reached h spot low bound living s g rs None pure q l behind enough = nothing_reached h spot low bound living
+  effect_if_any_reached h spot low bound living s g rs (Some e) pure q l behind enough = effect_reached h spot low bound living s g rs e (effect_or_call e pure) q l behind enough
 
   -- ---- conditions
 
   condition_tested : (h : Here) (spot : Spot) (low : ℕ) (bound : Bindings) (living : List ℕ) (s : Sight) (g : Scene w n s) (rs : List MonType) (e : Expression) → IsPure e → IsCondition s e → HasLetters e → low ≤ length rs
-      → length (rs ++ temporaries e) ≤ w.registers → (regs : List Value) (from : State) (t : Target) → Meets w h spot low bound living regs from t
-      → Tested w from t low regs (source.condition_of T e w.call from) (runs w n t (setup w.unit bound rs e) regs) (condition_of w.unit bound rs e)
-  condition_tested h spot low bound living s g rs e pure q l behind enough regs from t m =
-      by (expressions.tests w n s g.knows bound from t m.beside.store_is m.standing.bounded low e q.scalar.scalar rs q.scalar.is pure q.typed l behind regs m.standing.anchored (omega (arith, enough, m.standing.registers)))
-    where
-      by : Tests w from t (source.condition_of T e w.call from) regs (length rs) (length (rs ++ temporaries e)) (runs w n t (setup w.unit bound rs e) regs) (condition_of w.unit bound rs e)
-          → Tested w from t low regs (source.condition_of T e w.call from) (runs w n t (setup w.unit bound rs e) regs) (condition_of w.unit bound rs e)
-      by (HasNoTest at x) = NotTested at x
-      by (HasTest v x after same run test) =
-          let c = test after (same_all (length (rs ++ temporaries e)) after) in
-          IsTested v c.number x c.alike after (same_less low (length rs) regs after behind same) run (ap (λ o. monitored.◌>>=◌ o integer_of) c.has)
+      → length (rs ++ temporaries e) ≤ w.registers → (regs : List Value) (from : State) (t : Target) → Meets w h spot low bound living regs from t → from.steps ≤ n
+      → Reaches w (Tested w (length (rs ++ temporaries e)) (condition_of w.unit bound rs e)) low regs from (source.condition_of T e w.call from) (runs w n t (setup w.unit bound rs e) regs)
+  condition_tested h spot low bound living s g rs e pure q l behind enough regs from t m le =
+      let high = length (rs ++ temporaries e) in
+      let c = condition_of w.unit bound rs e in
+      let r = source.condition_of T e w.call from in
+      let code = runs w n t (setup w.unit bound rs e) regs in
+      reached_lower w (Tested w high c) low (length rs) regs from r code behind
+      (test_reaches w from t r regs (length rs) high code c m.standing.bounded m.beside
+      (expressions.tests w n s g.knows bound from t m.beside.store_is m.standing.bounded low e q.scalar.scalar rs q.scalar.is pure q.typed l behind regs m.standing.anchored (omega (arith, enough, m.standing.registers))))
 
   -- `if`
   choice_does : (h : Here) (spot : Spot) (low : ℕ) (bound : Bindings) (living : List ℕ) (s : Sight) (g : Scene w n s) (rs : List MonType) (e : Expression) (x y : Evaluation (Unit {0})) (a b : MonStatements)
@@ -188,26 +203,16 @@ module _ (w : Setting) (n : ℕ) where
       → low ≤ length rs → length (rs ++ temporaries e) ≤ w.registers → DoSame h spot low bound living x a → DoSame h spot low bound living y b
       → DoSame h spot low bound living (λ s. on_outcome (source.condition_of T e w.call s) (λ v. source.choose v x y)) (before (setup w.unit bound rs e) (one (tree.If (condition_of w.unit bound rs e) a b)))
   choice_does h spot low bound living s g rs e x y a b pure q l behind enough f k = λ regs from t m le.
-      by regs from t m le (source.condition_of T e w.call from) (condition_tested h spot low bound living s g rs e pure q l behind enough regs from t m)
-    where
-      c : MonExpression
-      c = condition_of w.unit bound rs e
-
-      code : MonStatements
-      code = before (setup w.unit bound rs e) (one (tree.If c a b))
-
-      by : (regs : List Value) (from : State) (t : Target) → Meets w h spot low bound living regs from t → from.steps ≤ n → (r : Outcome Value) → Tested w from t low regs r (runs w n t (setup w.unit bound rs e) regs) c
-          → Follows w h low regs Next from (on_outcome r (λ v. source.choose v x y)) (runs w n t code regs)
-      by regs from t m le r (NotTested at i) = undefined_here w h low regs Next from (on_outcome r (λ v. source.choose v x y)) (runs w n t code regs) at (ap (λ r. on_outcome r (λ v. source.choose v x y)) i)
-      by regs from t m le r (IsTested v i e1 null after same run has) =
-          let later = later_same from m.standing.bounded in
-          let m2 = meets_later w h spot low bound living regs after from from t t [] same later m.beside m in
-          let target_is : runs w n t code regs ≡ monitored.writes [] (monitored.choose i (runs w n t a after) (runs w n t b after)) =
-          before_is w.globals (setup w.unit bound rs e) (one (tree.If c a b)) w.calls n regs t ∙ ap (λ q. then_do q (at_next (exec_all over_blocks w.globals (one (tree.If c a b)) w.calls n))) run
-          ∙ ap (monitored.writes []) (choice_runs w n t c a b after i has) in
-          subst (λ r. Follows w h low regs Next from (on_outcome r (λ v. source.choose v x y)) (runs w n t code regs)) (sym e1)
-          (subst (λ q. Follows w h low regs Next from (source.choose v x y from) q) (sym target_is)
-          (onward w h low regs after Next from from [] _ _ same later (follows_choice w h low after Next from from v i x y _ _ null (f after from t m2 le) (k after from t m2 le))))
+      let high = length (rs ++ temporaries e) in
+      let c = condition_of w.unit bound rs e in
+      follows_before w n h (Tested w high c) low regs Next from t (source.condition_of T e w.call from) (setup w.unit bound rs e) (one (tree.If c a b)) (λ v. source.choose v x y)
+      (condition_tested h spot low bound living s g rs e pure q l behind enough regs from t m le)
+      (λ v to after u o same later be test.
+      let is = test_runs w n high c a b v after to u test in
+      let m2 = meets_later w h spot low bound living regs after from to t u o same later be m in
+      let less : to.steps ≤ n = omega (arith, le, later.spent) in
+      subst (λ q. Follows w h low after Next to (source.choose v x y to) q) (sym is.2)
+      (follows_choice w h low after Next to to v is.0 x y _ _ is.1 (f after to u m2 less) (k after to u m2 less)))
 
   -- ---- `return`
 
@@ -216,8 +221,17 @@ module _ (w : Setting) (n : ℕ) where
   returned_does h spot low living s g r None pure q l behind enough place = λ regs from t m le.
       leave_follows w n h spot low r.bound living from regs t m None None (subst (λ k. IsResult k None) (sym q) tt) (λ u. one_is w.globals (tree.Return None) w.calls n regs u)
   returned_does h spot low living s g r (Some e) pure q l behind enough place = λ regs from t m le.
-      follows_full w n h s g Next low r.bound from t le r.kinds behind regs m.standing m.beside e k (λ v. stop (Leaves (Returns (Some v)))) rest (ap scalar_of q.ctype ∙ q.scalar.is) pure q.typed l (omega (arith, enough, long))
-      (λ v to u o after fit same la be has. by regs from t m v to u o after fit same la be (has after (same_all (length (r.kinds ++ full_temporaries e)) after)))
+      follows_before w n h (Valued w k last v_code) low regs Next from t (eval_with T e w.call from) (full_setup w.unit r.bound r.kinds e) rest (λ v. stop (Leaves (Returns (Some v))))
+      (reached_lower w (Valued w k last v_code) low (length r.kinds) regs from (eval_with T e w.call from) (runs w n t (full_setup w.unit r.bound r.kinds e) regs) behind
+      (full_reaches w n h s g low r.bound from t le r.kinds behind regs m.standing m.beside e k (ap scalar_of q.ctype ∙ q.scalar.is) pure q.typed l (omega (arith, enough, long))))
+      (λ v to after u o same later be has.
+      let taken = slice_set after last v in
+      let changed : Same low after taken = same_set low last after v (omega (arith, behind, longer r.kinds (full_temporaries e))) in
+      let there : slice_get taken last ≡ Some v = get-set_same after last v (omega (arith, same.long, m.standing.registers, enough, long)) in
+      follows_behind w n h low after taken Next to u (Stop (Leaves (Returns (Some v))) to) (set last v_code) leaves later.bounded changed (set_runs w n u last v_code after v (has.1 after (same_all last after)))
+      (leave_follows w n h spot low r.bound living to taken u (meets_later w h spot low r.bound living regs taken from to t u o (same_trans low low regs after taken (omega arith) same changed) later be m) (Some v)
+      (Some (tree.Register last)) (subst (λ o. IsResultOf o (Some v)) (sym q.scalar.is) has.0)
+      (λ x. one_is w.globals (tree.Return (Some (tree.Register last))) w.calls n taken x ∙ ap (λ y. with_value y x.steps (λ z. Done (monitored.Returns (Some z)) x [])) there)))
     where
       k : Scalar
       k = q.scalar.scalar
@@ -236,24 +250,6 @@ module _ (w : Setting) (n : ℕ) where
 
       rest : MonStatements
       rest = before (set last v_code) leaves
-
-      by : (regs : List Value) (from : State) (t : Target) → Meets w h spot low r.bound living regs from t → (v : Value) (to : State) (u : Target) (o : List ℕ) (after : List Value) → IsOf k v
-          → Same (length r.kinds) regs after → Later from to o → Beside w to.store to u → Has w v_code after u.mem v → Follows w h low after Next to (Stop (Leaves (Returns (Some v))) to) (runs w n u rest after)
-      by regs from t m v to u o after fit same la be has =
-          let taken = slice_set after last v in
-          let changed : Same low after taken = same_set low last after v (omega (arith, behind, longer r.kinds (full_temporaries e))) in
-          let mid = same_less low (length r.kinds) regs after behind same in
-          let all = same_trans low low regs after taken (omega arith) mid changed in
-          let there : slice_get taken last ≡ Some v = get-set_same after last v (omega (arith, same.long, m.standing.registers, enough, long)) in
-          let m2 = meets_later w h spot low r.bound living regs taken from to t u o all la be m in
-          let run : runs w n u rest after ≡ monitored.writes [] (runs w n u leaves taken) =
-          before_is w.globals (set last v_code) leaves w.calls n after u
-          ∙ ap (λ q. then_do q (at_next (exec_all over_blocks w.globals leaves w.calls n)))
-          (one_is w.globals (tree.Set last v_code) w.calls n after u ∙ ap (λ x. with_value x u.steps (λ y. Done (Next (slice_set after last y)) u [])) has) in
-          subst (λ q. Follows w h low after Next to (Stop (Leaves (Returns (Some v))) to) q) (sym run)
-          (onward w h low after taken Next to to [] _ _ changed (later_same to la.bounded)
-          (leave_follows w n h spot low r.bound living to taken u m2 (Some v) (Some (tree.Register last)) (subst (λ o. IsResultOf o (Some v)) (sym q.scalar.is) fit)
-          (λ x. one_is w.globals (tree.Return (Some (tree.Register last))) w.calls n taken x ∙ ap (λ y. with_value y x.steps (λ z. Done (monitored.Returns (Some z)) x [])) there)))
 
   -- ---- blocks
 
@@ -275,8 +271,8 @@ module _ (w : Setting) (n : ℕ) where
       → loops.Tests w h base spot low r.bound living n (condition_with T e w.call) (test_if_any w.unit r.bound r.kinds (spot.levels + 1) e)
   test_if_any_does h base spot low living s g r None pure q l behind enough = loops.no_test w h base spot low r.bound living n
   test_if_any_does h base spot low living s g r (Some e) pure q l behind enough =
-      loops.tests w h base spot low r.bound living n (source.condition_of T e w.call) (setup w.unit r.bound r.kinds e) (condition_of w.unit r.bound r.kinds e)
-      (λ regs from t m. condition_tested (loops.in_turn w h base spot low r.bound living n) (target.in_loop spot) low r.bound living s g r.kinds e pure q l behind enough regs from t m)
+      loops.tests w h base spot low r.bound living n (source.condition_of T e w.call) (setup w.unit r.bound r.kinds e) (condition_of w.unit r.bound r.kinds e) (length (r.kinds ++ temporaries e))
+      (λ regs from t m le. condition_tested (loops.in_turn w h base spot low r.bound living n) (target.in_loop spot) low r.bound living s g r.kinds e pure q l behind enough regs from t m le)
 
   abbrev BodyDoes : Here → Spot → ℕ → RegisterTable → List ℕ → Statement → Type 0
   BodyDoes h spot low r living a =
@@ -300,7 +296,7 @@ module _ (w : Setting) (n : ℕ) where
       (loops.turns_follow w h base spot low r.bound living n (condition_with T e w.call) (exec_with T a w.call (suc n)) (statement w.unit (target.in_loop spot) r2 a) (body base)
       (test_if_any w.unit r.bound r.kinds (spot.levels + 1) e) (test_if_any_does h base spot low living s g r e e_full e_typed e_letters behind (omega (arith, enough, f2, f3)))
       (effect_with T step w.call) (effect_if_any w.unit r3.bound r3.kinds step)
-      (λ regs from t m le. effect_if_any_does here (target.in_loop spot) low r3.bound living s g r3.kinds step step_full step_typed step_letters (omega (arith, behind, f1, f2)) enough regs from t
+      (λ regs from t m le. effect_if_any_reached here (target.in_loop spot) low r3.bound living s g r3.kinds step step_full step_typed step_letters (omega (arith, behind, f1, f2)) enough regs from t
       (meets_behind w here (target.in_loop spot) low a r2 living regs from t absent m) le)
       n regs from t (loops.meets_turn w h base spot low r.bound living n regs from t refl m) le le)
 
@@ -314,7 +310,8 @@ module _ (w : Setting) (n : ℕ) where
       in_order_same h spot low r.bound living (effect_with T (Some e) w.call) x (effects.effect w.unit r.bound r.kinds e) code (effect_does h spot low r.bound living s g r.kinds e f q l behind enough) go
   first_then (First (Declare ds)) local h spot low living s g around r x code f q l behind enough go =
       in_order_same h spot low r.bound living (initialise_all T ds w.call) x (effects.initialise_all w.unit r.bound r.kinds ds) code
-      (λ regs from t m le. initials_follow w n h low r.bound ds s g local f q l r.kinds behind enough regs from t le m.standing m.beside) go
+      (λ regs from t m le. reached_follows w h Anything low regs from (initialise_all T ds w.call from) (runs w n t (effects.initialise_all w.unit r.bound r.kinds ds) regs)
+      (initials_reach w n h low r.bound ds s g local f q l r.kinds behind enough regs from t le m.standing m.beside)) go
   first_then (First (Specify at t)) local h spot low living s g around r x code f q l behind enough go = go
   first_then _ local h spot low living s g around r x code f q l behind enough go = absurd f
 
@@ -400,7 +397,7 @@ module _ (w : Setting) (n : ℕ) where
         (loops.turns_follow w h base spot low r.bound living n (source.condition_of T e w.call) (exec_with T a w.call (suc n)) (statement w.unit (target.in_loop spot) r1 a)
         (statement_follows a s (in_loop around) here (target.in_loop spot) low r1 living (refl, refl) g sees result (refl, refl) c f.2 q.1 m.1 l.1 (omega (arith, behind, more_kinds (temporaries e) r)) enough)
         (test w.unit r.bound r.kinds k e) (test_if_any_does h base spot low living s g r (Some e) f.1 q.0 l.0 behind (omega (arith, enough, statement_grows w.unit a r1)))
-        state.done NoStatement (nothing_does (loops.in_turn w h base spot low r.bound living n) (target.in_loop spot) low r.bound living)
+        state.done NoStatement (nothing_reached (loops.in_turn w h base spot low r.bound living n) (target.in_loop spot) low r.bound living)
         n regs from t (loops.meets_turn w h base spot low r.bound living n regs from t refl x) le le))
     statement_follows (Do at a e) s around h spot low r living stands g sees result looped c f q m l behind enough = λ regs from t x le.
         let r1 = after_statement w.unit a r in
@@ -412,9 +409,9 @@ module _ (w : Setting) (n : ℕ) where
         (loops.do_turns_follow w h base spot low r.bound living n (source.condition_of T e w.call) (exec_with T a w.call (suc n)) (statement w.unit (target.in_loop spot) r a)
         (statement_follows a s (in_loop around) here (target.in_loop spot) low r living (refl, refl) g sees result (refl, refl) c.1 f.0 q.0 m l.0 behind (omega (arith, enough, more_kinds (temporaries e) r1)))
         (test w.unit r1.bound r1.kinds k e)
-        (loops.tests w h base spot low r.bound living n (source.condition_of T e w.call) (setup w.unit r1.bound r1.kinds e) (condition_of w.unit r1.bound r1.kinds e)
-        (λ regs from t m. condition_tested there (target.in_loop spot) low r1.bound living s g r1.kinds e f.1 q.1 l.1 (omega (arith, behind, statement_grows w.unit a r)) enough regs from t
-        (meets_behind w there (target.in_loop spot) low a r living regs from t c.0 m)))
+        (loops.tests w h base spot low r.bound living n (source.condition_of T e w.call) (setup w.unit r1.bound r1.kinds e) (condition_of w.unit r1.bound r1.kinds e) (length (r1.kinds ++ temporaries e))
+        (λ regs from t m le. condition_tested there (target.in_loop spot) low r1.bound living s g r1.kinds e f.1 q.1 l.1 (omega (arith, behind, statement_grows w.unit a r)) enough regs from t
+        (meets_behind w there (target.in_loop spot) low a r living regs from t c.0 m) le))
         n regs from t (loops.meets_turn w h base spot low r.bound living n regs from t refl x) le le)
     statement_follows (For at annots first e step a) s around h spot low r living stands g sees result looped c f q m l behind enough =
         let ds = declared_first first in
@@ -455,7 +452,8 @@ module _ (w : Setting) (n : ℕ) where
         let f1 = more_kinds (declaration_temporaries ds) r in
         let f2 = items_grow w.unit rest r1 in
         in_order_same h spot low r.bound living (initialise_all T ds w.call) (items_with T rest w.call (suc n)) (effects.initialise_all w.unit r.bound r.kinds ds) (items w.unit spot r1 rest)
-        (λ regs from t x le. initials_follow w n h low r.bound ds s g (there_front w.unit ds (declared_in rest) local) f.0 q.0 l.0 r.kinds behind (omega (arith, enough, f2)) regs from t le x.standing x.beside)
+        (λ regs from t x le. reached_follows w h Anything low regs from (initialise_all T ds w.call from) (runs w n t (effects.initialise_all w.unit r.bound r.kinds ds) regs)
+        (initials_reach w n h low r.bound ds s g (there_front w.unit ds (declared_in rest) local) f.0 q.0 l.0 r.kinds behind (omega (arith, enough, f2)) regs from t le x.standing x.beside))
         (items_follow rest (with_objects s ds) around h spot low r1 living stands (scene_with_all w n s ds g) (found_with_all s ds (scope_for living) sees (declarations_found-append ds (declared_in rest) (scope_for living) have).0)
         (declarations_found-append ds (declared_in rest) (scope_for living) have).1 (there_back w.unit ds (declared_in rest) local) result looped c.1 f.1 q.1 m.1 l.1 (omega (arith, behind, f1)) enough)
     items_follow (Then (Specify at t) rest) s around h spot low r living stands g sees have local result looped c f q m l behind enough =

@@ -10,17 +10,16 @@ use Rattle.c_model.specs.Memory.{Number as NumberByte}
 use Rattle.c_model.specs.State.{State, on_outcome, write, write_bytes}
 use Rattle.c_model.specs.Meaning.{write_each, padded, zero_scalars}
 use Rattle.mon_syntax.specs.declared.tree.MonType.TheVariants as kind
-use Rattle.mon_syntax.specs.Meaning.{Next}
 use Rattle.mon_syntax.specs.Trees.{Constant}
 use Rattle.c_effects.specs.Expressions.{before}
 use Rattle.c_effects.specs.Effects.{stored_at, bytes_at, zeros_at, zeros_from}
 use Rattle.c_simulation.proofs.Results.{before_is}
-use Rattle.c_simulation.specs.Standing.{Setting, Target, runs, AreOctets, Bounded, Here, Beside}
-use Rattle.c_simulation.proofs.Following.{stays, follows_then}
-use Rattle.c_simulation.specs.Following.{Follows}
+use Rattle.c_simulation.specs.Standing.{Setting, Target, runs, AreOctets, Bounded, Beside}
+use Rattle.c_simulation.specs.Reaching.{Reaches, Anything}
+use Rattle.c_simulation.proofs.Reaching.{reached_here, reaches_then}
 use Rattle.c_simulation.proofs.Values.{constant_has}
 use Rattle.instrument.proofs.ZeroBytes.{IsAligned}
-use Rattle.instrument.proofs.Zeros.{stored_at_follows, zeros_begin}
+use Rattle.instrument.proofs.Zeros.{stored_at_reaches, zeros_begin}
 
 one_farther : (p : Pointer) (d : ℕ) → shifted (shifted p d) 1 ≡ shifted p (suc d)
 one_farther Null d = refl
@@ -55,27 +54,27 @@ row_is r k d m e (suc n) on =
     ap (λ t. if t then zeros_at r k d (m + 1) (row_of_bytes (suc e) n) else before (zeros_from r k d 0 m) (zeros_at r k e 1 (row_of_bytes (suc e) n))) (eq-eqb e (d + m) on)
     ∙ row_is r k d (m + 1) (suc e) n (omega (arith, on)) ∙ ap (zeros_from r k d 0) more
 
-module _ (w : Setting) (n : ℕ) (h : Here) (low : ℕ) where
-  byte_follows : (at : Place) (p : Pointer) (r d byte : ℕ) (s : State) (t : Target) (regs : List Value) → byte < 256 → Bounded s.store → Beside w s.store s t → slice_get regs r ≡ Some (Points p) → low < length regs
-      → Follows w h low regs Next s (write_bytes at (shifted p d) (NumberByte byte ∷ []) s) (runs w n t (stored_at r low d kind.U8 (Constant kind.U8 (pos byte))) regs)
-  byte_follows at p r d byte s t regs lt bounded b points room =
-      subst (λ q. Follows w h low regs Next s q (runs w n t (stored_at r low d kind.U8 (Constant kind.U8 (pos byte))) regs)) (sym (byte_written at (shifted p d) byte s lt))
-      (stored_at_follows w n h low at (IntegerType U8) p r low d (Integer (pos byte)) s t regs (Constant kind.U8 (pos byte)) bounded b points (omega arith) room (pos byte, refl, octet_fits byte lt)
+module _ (w : Setting) (n : ℕ) (low : ℕ) where
+  byte_reaches : (at : Place) (p : Pointer) (r d byte : ℕ) (s : State) (t : Target) (regs : List Value) → byte < 256 → Bounded s.store → Beside w s.store s t → slice_get regs r ≡ Some (Points p) → low < length regs
+      → Reaches w Anything low regs s (write_bytes at (shifted p d) (NumberByte byte ∷ []) s) (runs w n t (stored_at r low d kind.U8 (Constant kind.U8 (pos byte))) regs)
+  byte_reaches at p r d byte s t regs lt bounded b points room =
+      subst (λ q. Reaches w Anything low regs s q (runs w n t (stored_at r low d kind.U8 (Constant kind.U8 (pos byte))) regs)) (sym (byte_written at (shifted p d) byte s lt))
+      (stored_at_reaches w n low at (IntegerType U8) p r low d (Integer (pos byte)) s t regs (Constant kind.U8 (pos byte)) bounded b points (omega arith) room (pos byte, refl, octet_fits byte lt)
       (λ after same. constant_has w after t.mem kind.U8 (pos byte) refl))
 
-  pub bytes_follow : (size : ℕ) (bytes : List ℕ) (at : Place) (p : Pointer) (r d : ℕ) (s : State) (t : Target) (regs : List Value) → AreOctets bytes → IsAligned p → Bounded s.store → Beside w s.store s t → slice_get regs r ≡ Some (Points p) → r < low
-      → low < length regs → Follows w h low regs Next s (write_each at (shifted p d) (padded size bytes) s) (runs w n t (bytes_at r low d size bytes) regs)
-  bytes_follow zero bytes at p r d s t regs octets aligned bounded b points below room = stays w h low regs s t bounded b
-  bytes_follow (suc size) [] at p r d s t regs octets aligned bounded b points below room =
+  pub bytes_reach : (size : ℕ) (bytes : List ℕ) (at : Place) (p : Pointer) (r d : ℕ) (s : State) (t : Target) (regs : List Value) → AreOctets bytes → IsAligned p → Bounded s.store → Beside w s.store s t → slice_get regs r ≡ Some (Points p) → r < low
+      → low < length regs → Reaches w Anything low regs s (write_each at (shifted p d) (padded size bytes) s) (runs w n t (bytes_at r low d size bytes) regs)
+  bytes_reach zero bytes at p r d s t regs octets aligned bounded b points below room = reached_here w low regs s t bounded b
+  bytes_reach (suc size) [] at p r d s t regs octets aligned bounded b points below room =
       let all : 0 + suc size ≡ suc size = omega arith in
-      subst (λ x. Follows w h low regs Next s x (runs w n t (zeros_from r low d 0 (suc size)) regs)) (sym (padding_is (suc size) at p d s))
-      (subst (λ code. Follows w h low regs Next s (zero_scalars at p (row_of_bytes d (suc size)) s) (runs w n t code regs)) (row_is r low d 0 d (suc size) (omega arith) ∙ ap (zeros_from r low d 0) all)
-      (zeros_begin w n h low (row_of_bytes d (suc size)) at p r d s t regs aligned bounded b points below room))
-  bytes_follow (suc size) (c ∷ cs) at p r d s t regs octets aligned bounded b points below room =
+      subst (λ x. Reaches w Anything low regs s x (runs w n t (zeros_from r low d 0 (suc size)) regs)) (sym (padding_is (suc size) at p d s))
+      (subst (λ code. Reaches w Anything low regs s (zero_scalars at p (row_of_bytes d (suc size)) s) (runs w n t code regs)) (row_is r low d 0 d (suc size) (omega arith) ∙ ap (zeros_from r low d 0) all)
+      (zeros_begin w n low (row_of_bytes d (suc size)) at p r d s t regs aligned bounded b points below room))
+  bytes_reach (suc size) (c ∷ cs) at p r d s t regs octets aligned bounded b points below room =
       let first = stored_at r low d kind.U8 (Constant kind.U8 (pos c)) in
       let others = bytes_at r low (suc d) size cs in
-      subst (λ q. Follows w h low regs Next s (write_each at (shifted p d) (padded (suc size) (c ∷ cs)) s) q) (sym (before_is w.globals first others w.calls n regs t))
-      (follows_then w h low regs Next s (write_bytes at (shifted p d) (NumberByte c ∷ []) s) (runs w n t first regs) (write_each at (shifted (shifted p d) 1) (padded size cs)) (λ r u. runs w n u others r)
-      (byte_follows at p r d c s t regs octets.0 bounded b points room)
-      (λ to after u o same la be. subst (λ q. Follows w h low after Next to (write_each at q (padded size cs) to) (runs w n u others after)) (sym (one_farther p d))
-      (bytes_follow size cs at p r (suc d) to u after octets.1 aligned la.bounded be (same.below r below ∙ points) below (omega (arith, room, same.long)))))
+      subst (λ q. Reaches w Anything low regs s (write_each at (shifted p d) (padded (suc size) (c ∷ cs)) s) q) (sym (before_is w.globals first others w.calls n regs t))
+      (reaches_then w Anything Anything low regs s (write_bytes at (shifted p d) (NumberByte c ∷ []) s) (runs w n t first regs) (λ _. write_each at (shifted (shifted p d) 1) (padded size cs)) (λ r u. runs w n u others r)
+      (byte_reaches at p r d c s t regs octets.0 bounded b points room)
+      (λ _ to after u o same la be _. subst (λ q. Reaches w Anything low after to (write_each at q (padded size cs) to) (runs w n u others after)) (sym (one_farther p d))
+      (bytes_reach size cs at p r (suc d) to u after octets.1 aligned la.bounded be (same.below r below ∙ points) below (omega (arith, room, same.long)))))

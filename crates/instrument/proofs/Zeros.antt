@@ -28,15 +28,17 @@ use Rattle.c_simulation.proofs.Bounds.{replicated_bytes, saved_bytes}
 use Rattle.c_simulation.proofs.Values.{constant_has}
 use Rattle.c_simulation.proofs.Results.{before_is, writes_none}
 use Rattle.c_simulation.specs.Following.{written}
-use Rattle.c_simulation.specs.Standing.{Setting, Target, runs, Has, IsOf, Bounded, Here, Beside}
+use Rattle.c_simulation.specs.Standing.{Setting, Target, runs, Has, IsOf, Bounded, Beside}
 use Rattle.c_simulation.proofs.Registers.{same_all, same_set, same_trans, get-set_same}
-use Rattle.c_simulation.proofs.Following.{later_same, onward, undefined_here}
-use Rattle.c_simulation.specs.Following.{Follows, GoesOn, IsUndefined, Later}
+use Rattle.c_simulation.proofs.Following.{later_same}
+use Rattle.c_simulation.specs.Following.{Later}
+use Rattle.c_simulation.specs.Reaching.{Reaches, Arrives, IsUndefined, Anything}
+use Rattle.c_simulation.proofs.Reaching.{reached_onward, reaches_behind, undefined_now}
 use Rattle.c_simulation.proofs.Pointers.{saved_inside, shifted_twice}
 use Rattle.c_simulation.specs.Standing.{IsInside}
 use Rattle.c_simulation.proofs.PointerValues.{scalar_register, reaches}
 use Rattle.c_simulation.proofs.Evaluating.{behind_setup, set_runs}
-use Rattle.c_simulation.proofs.Stores.{store_runs, write_follows}
+use Rattle.c_simulation.proofs.Stores.{store_runs, write_reaches}
 use Rattle.instrument.proofs.ZeroBytes.{AreZeroed, IsAligned, midway, saved_zeros, wide_saved, zeros_all, zeros_first, zeros_join, zeros_rest}
 
 -- ---- the zeros that are left out, scalar by scalar
@@ -100,26 +102,24 @@ longer_lag store mid saved p d e m n (Even none same) on z =
     Behind (subst (AreZeroed store saved (shifted p d)) all (subst (λ x. AreZeroed store saved (shifted p x) n) here (subst (λ x. AreZeroed x saved (shifted p e) n) (sym same) z)))
 longer_lag store mid saved p d e m n (Behind y) on z = Behind (zeros_join store mid saved (shifted p d) m n y (subst (λ q. AreZeroed mid saved q n) (ap (shifted p) on ∙ sym (shifted_twice p d m)) z))
 
-module _ (w : Setting) (n : ℕ) (h : Here) (low : ℕ) where
+module _ (w : Setting) (n : ℕ) (low : ℕ) where
   -- a value at an offset from where the first register points, through the second
-  pub stored_at_follows : (at : Place) (k : Scalar) (p : Pointer) (r j d : ℕ) (v : Value) (s : State) (t : Target) (regs : List Value) (e : MonExpression) → Bounded s.store → Beside w s.store s t → slice_get regs r ≡ Some (Points p)
+  pub stored_at_reaches : (at : Place) (k : Scalar) (p : Pointer) (r j d : ℕ) (v : Value) (s : State) (t : Target) (regs : List Value) (e : MonExpression) → Bounded s.store → Beside w s.store s t → slice_get regs r ≡ Some (Points p)
       → low ≤ j → j < length regs → IsOf k v → ((after : List Value) → Same j regs after → Has w e after t.mem v)
-      → Follows w h low regs Next s (write at (shifted p d) k v s) (runs w n t (stored_at r j d (scalar_register k) e) regs)
-  stored_at_follows at k p r j d v s t regs e bounded b points above room f has = by (save s.store (shifted p d) k v) refl
+      → Reaches w Anything low regs s (write at (shifted p d) k v s) (runs w n t (stored_at r j d (scalar_register k) e) regs)
+  stored_at_reaches at k p r j d v s t regs e bounded b points above room f has = by (save s.store (shifted p d) k v) refl
     where
       code : MonStatements
       code = stored_at r j d (scalar_register k) e
 
-      by : (o : Option Store) → save s.store (shifted p d) k v ≡ o → Follows w h low regs Next s (write at (shifted p d) k v s) (runs w n t code regs)
-      by None saves = undefined_here w h low regs Next s (write at (shifted p d) k v s) (runs w n t code regs) at (ap (λ o. (defined at o >>= put_store) s) saves)
+      by : (o : Option Store) → save s.store (shifted p d) k v ≡ o → Reaches w Anything low regs s (write at (shifted p d) k v s) (runs w n t code regs)
+      by None saves = undefined_now w Anything low regs s (write at (shifted p d) k v s) (runs w n t code regs) at (ap (λ o. (defined at o >>= put_store) s) saves)
       by (Some saved) saves =
           let there = subst (λ store. IsInside store (shifted p d)) (sym b.store_is) (saved_inside s.store saved (shifted p d) (scalar_size k) (bytes_from k v) saves) in
           let after = slice_set regs j (Points (shifted p d)) in
-          subst (λ q. Follows w h low regs Next s (write at (shifted p d) k v s) q)
-          (writes_none (runs w n t (one (tree.Store j (scalar_register k) e)) after)
-          ∙ sym (behind_setup w n t (set j (farther (Register r) d)) (one (tree.Store j (scalar_register k) e)) regs after (set_runs w n t j (farther (Register r) d) regs (Points (shifted p d)) (reaches w regs t.mem r p d points there))))
-          (onward w h low regs after Next s s [] (write at (shifted p d) k v s) (runs w n t (one (tree.Store j (scalar_register k) e)) after) (same_set low j regs (Points (shifted p d)) above) (later_same s bounded)
-          (write_follows w n h low at k (shifted p d) j v s t after e bounded b (get-set_same regs j (Points (shifted p d)) room) f (has after (same_set j j regs (Points (shifted p d)) (omega arith)))))
+          reaches_behind w n Anything low regs after s t (write at (shifted p d) k v s) (set j (farther (Register r) d)) (one (tree.Store j (scalar_register k) e)) bounded (same_set low j regs (Points (shifted p d)) above)
+          (set_runs w n t j (farther (Register r) d) regs (Points (shifted p d)) (reaches w regs t.mem r p d points there))
+          (write_reaches w n low at k (shifted p d) j v s t after e bounded b (get-set_same regs j (Points (shifted p d)) room) f (has after (same_set j j regs (Points (shifted p d)) (omega arith))))
 
   zero_fits : (k : CInt) → fits k (pos 0) ≡ true
   zero_fits I8 = refl
@@ -140,7 +140,7 @@ module _ (w : Setting) (n : ℕ) (h : Here) (low : ℕ) where
       let after = slice_set regs low (Points q) in
       let there = saved_inside t.mem.store saved q (int_size k) (bytes_from (IntegerType k) (Integer (pos 0))) saves in
       behind_setup w n t (set low (farther (Register r) d)) (one (tree.Store low m (Constant m (pos 0)))) regs after (set_runs w n t low (farther (Register r) d) regs (Points q) (reaches w regs t.mem r p d points there))
-      ∙ store_runs w n h low (IntegerType k) low q (Integer (pos 0)) t after (Constant m (pos 0)) saved (get-set_same regs low (Points q) room) (pos 0, refl, zero_fits k) (constant_has w after t.mem m (pos 0) (is_number k)) saves
+      ∙ store_runs w n low (IntegerType k) low q (Integer (pos 0)) t after (Constant m (pos 0)) saved (get-set_same regs low (Points q) room) (pos 0, refl, zero_fits k) (constant_has w after t.mem m (pos 0) (is_number k)) saves
 
   -- the target's zeros in bytes that are zeros in the source already
   record CatchesUp (t : Target) (saved : Store) (code : MonStatements) (regs : List Value) : Type 0 where
@@ -189,12 +189,12 @@ module _ (w : Setting) (n : ℕ) (h : Here) (low : ℕ) where
       zeros_run m 0 m d p r t regs saved (omega arith) aligned points below room (subst (λ x. Lags t.mem.store saved (shifted p x) m) here (subst (λ store. Lags store saved (shifted p d) m) (sym b.store_is) lag))
 
   -- zeros in scalars in order, after a row of zero bytes that the target hasn't stored yet
-  pub zeros_follow : (cs : List (ℕ × Scalar)) (at : Place) (p : Pointer) (r d m : ℕ) (s : State) (store : Store) (t : Target) (regs : List Value) → IsAligned p → slice_get regs r ≡ Some (Points p) → r < low → low < length regs → Beside w s.store s t
-      → Later s (record s { store = store }) [] → Lags s.store store (shifted p d) m → Follows w h low regs Next s (zero_scalars at p cs (record s { store = store })) (runs w n t (zeros_at r low d m cs) regs)
-  zeros_follow [] at p r d m s store t regs aligned points below room b later lag =
+  pub zeros_reach : (cs : List (ℕ × Scalar)) (at : Place) (p : Pointer) (r d m : ℕ) (s : State) (store : Store) (t : Target) (regs : List Value) → IsAligned p → slice_get regs r ≡ Some (Points p) → r < low → low < length regs → Beside w s.store s t
+      → Later s (record s { store = store }) [] → Lags s.store store (shifted p d) m → Reaches w Anything low regs s (zero_scalars at p cs (record s { store = store })) (runs w n t (zeros_at r low d m cs) regs)
+  zeros_reach [] at p r d m s store t regs aligned points below room b later lag =
       let c = row_run m d p r s t regs store aligned points below room b lag in
-      GoesOn (record s { store = store }) c.after (with_store store t) [] c.same later (record { store_is = refl; frames = b.frames; steps = b.steps; input = b.input }) refl c.run
-  zeros_follow (c ∷ cs) at p r d m s store t regs aligned points below room b later lag = by (zeros_follow cs at p r) (save_bytes store q size (zeros size)) refl
+      Arrives tt (record s { store = store }) c.after (with_store store t) [] c.same later (record { store_is = refl; frames = b.frames; steps = b.steps; input = b.input }) refl c.run tt
+  zeros_reach (c ∷ cs) at p r d m s store t regs aligned points below room b later lag = by (zeros_reach cs at p r) (save_bytes store q size (zeros size)) refl
     where
       size : ℕ
       size = scalar_size c.1
@@ -217,24 +217,24 @@ module _ (w : Setting) (n : ℕ) (h : Here) (low : ℕ) where
       -- the same of the scalars behind it
       Others : Type 0
       Others = (d m : ℕ) (s : State) (store : Store) (t : Target) (regs : List Value) → IsAligned p → slice_get regs r ≡ Some (Points p) → r < low → low < length regs → Beside w s.store s t → Later s (record s { store = store }) []
-          → Lags s.store store (shifted p d) m → Follows w h low regs Next s (zero_scalars at p cs (record s { store = store })) (runs w n t (zeros_at r low d m cs) regs)
+          → Lags s.store store (shifted p d) m → Reaches w Anything low regs s (zero_scalars at p cs (record s { store = store })) (runs w n t (zeros_at r low d m cs) regs)
 
       go : Others → (saved : Store) → Later s (record s { store = saved }) [] → Later now (record s { store = saved }) [] → AreZeroed store saved q size → (on : Bool) → nat_eq c.0 (d + m) ≡ on
-          → Follows w h low regs Next s (zero_scalars at p cs (record s { store = saved })) (runs w n t (if on then zeros_at r low d (m + size) cs else before (zeros_from r low d 0 m) others) regs)
+          → Reaches w Anything low regs s (zero_scalars at p cs (record s { store = saved })) (runs w n t (if on then zeros_at r low d (m + size) cs else before (zeros_from r low d 0 m) others) regs)
       go goes saved since here z true on = goes d (m + size) s saved t regs aligned points below room b since (longer_lag s.store store saved p d c.0 m size lag (eqb-true c.0 (d + m) on) z)
       go goes saved since here z false on =
           let u = with_store store t in
           let row = row_run m d p r s t regs store aligned points below room b lag in
           let rest = goes c.0 size now saved u row.after aligned (row.same.below r below ∙ points) below (omega (arith, room, row.same.long)) (record { store_is = refl; frames = b.frames; steps = b.steps; input = b.input }) here (Behind z) in
-          subst (λ x. Follows w h low regs Next s (zero_scalars at p cs (record s { store = saved })) x)
+          subst (λ x. Reaches w Anything low regs s (zero_scalars at p cs (record s { store = saved })) x)
           (sym (before_is w.globals (zeros_from r low d 0 m) others w.calls n regs t ∙ ap (λ x. then_do x (at_next (λ r2 v. runs w n v others r2))) row.run))
-          (onward w h low regs row.after Next s now [] (zero_scalars at p cs (record s { store = saved })) (runs w n u others row.after) row.same later rest)
+          (reached_onward w Anything low regs row.after s now [] (zero_scalars at p cs (record s { store = saved })) (runs w n u others row.after) row.same later rest)
 
-      by : Others → (o : Option Store) → save_bytes store q size (zeros size) ≡ o → Follows w h low regs Next s (zero_scalars at p (c ∷ cs) now) (runs w n t (zeros_at r low d m (c ∷ cs)) regs)
+      by : Others → (o : Option Store) → save_bytes store q size (zeros size) ≡ o → Reaches w Anything low regs s (zero_scalars at p (c ∷ cs) now) (runs w n t (zeros_at r low d m (c ∷ cs)) regs)
       by goes None saves = IsUndefined at now [] (source None saves) (sym (append-nil s.output)) (record { rest = written (runs w n t (zeros_at r low d m (c ∷ cs)) regs); is = refl })
       by goes (Some saved) saves =
           let kept = saved_bytes store saved q size (zeros size) later.bounded (replicated_bytes size (NumberByte 0) (omega arith)) saves in
-          subst (λ x. Follows w h low regs Next s x (runs w n t (zeros_at r low d m (c ∷ cs)) regs)) (sym (source (Some saved) saves))
+          subst (λ x. Reaches w Anything low regs s x (runs w n t (zeros_at r low d m (c ∷ cs)) regs)) (sym (source (Some saved) saves))
           (go goes saved
           (record { scope = refl; calls = refl; live = kept.live ∙ later.live; longer = omega (arith, later.longer, kept.long); bounded = kept.bounded; spent = omega arith; output = sym (append-nil s.output) })
           (record { scope = refl; calls = refl; live = kept.live; longer = omega (arith, kept.long); bounded = kept.bounded; spent = omega arith; output = sym (append-nil s.output) })
@@ -242,11 +242,11 @@ module _ (w : Setting) (n : ℕ) (h : Here) (low : ℕ) where
 
   -- from the first of them on
   pub zeros_begin : (cs : List (ℕ × Scalar)) (at : Place) (p : Pointer) (r d : ℕ) (s : State) (t : Target) (regs : List Value) → IsAligned p → Bounded s.store → Beside w s.store s t → slice_get regs r ≡ Some (Points p) → r < low → low < length regs
-      → Follows w h low regs Next s (zero_scalars at p cs s) (runs w n t (zeros_at r low d 0 cs) regs)
-  zeros_begin cs at p r d s t regs aligned bounded b points below room = zeros_follow cs at p r d 0 s s.store t regs aligned points below room b (later_same s bounded) (Even refl refl)
+      → Reaches w Anything low regs s (zero_scalars at p cs s) (runs w n t (zeros_at r low d 0 cs) regs)
+  zeros_begin cs at p r d s t regs aligned bounded b points below room = zeros_reach cs at p r d 0 s s.store t regs aligned points below room b (later_same s bounded) (Even refl refl)
 
   -- parts that are left out
-  pub zero_parts_follow : (structs : List StructType) (cs : List (ℕ × PlainType)) (at : Place) (p : Pointer) (r d : ℕ) (s : State) (t : Target) (regs : List Value) → IsAligned p → Bounded s.store → Beside w s.store s t
-      → slice_get regs r ≡ Some (Points p) → r < low → low < length regs → Follows w h low regs Next s (zero_parts structs at (shifted p d) cs s) (runs w n t (translation.zero_parts structs r low d cs) regs)
-  zero_parts_follow structs cs at p r d s t regs aligned bounded b points below room =
-      subst (λ x. Follows w h low regs Next s x (runs w n t (translation.zero_parts structs r low d cs) regs)) (sym (zeroed_parts structs cs at p d s)) (zeros_begin (scalars_in structs d cs) at p r d s t regs aligned bounded b points below room)
+  pub zero_parts_reach : (structs : List StructType) (cs : List (ℕ × PlainType)) (at : Place) (p : Pointer) (r d : ℕ) (s : State) (t : Target) (regs : List Value) → IsAligned p → Bounded s.store → Beside w s.store s t
+      → slice_get regs r ≡ Some (Points p) → r < low → low < length regs → Reaches w Anything low regs s (zero_parts structs at (shifted p d) cs s) (runs w n t (translation.zero_parts structs r low d cs) regs)
+  zero_parts_reach structs cs at p r d s t regs aligned bounded b points below room =
+      subst (λ x. Reaches w Anything low regs s x (runs w n t (translation.zero_parts structs r low d cs) regs)) (sym (zeroed_parts structs cs at p d s)) (zeros_begin (scalars_in structs d cs) at p r d s t regs aligned bounded b points below room)
