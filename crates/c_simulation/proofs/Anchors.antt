@@ -18,7 +18,7 @@ pub pointer_has : (w : Setting) (low n : ℕ) (bound : Bindings) (regs later : L
 pointer_has w low n bound regs later mem scope x number le same h e = of_anchor (h x number e).anchor
   where
     of_anchor : IsAnchored w low bound regs x number → Has w (pointer_to w.unit bound x) later mem (Points (Into number 0))
-    of_anchor (InRegister r is_bound below points) =
+    of_anchor (InRegister r is_bound below behind points) =
         ap (λ o. eval over_blocks w.globals (pointer_of o (object_of_global x (static_objects w.unit))) later mem) is_bound
         ∙ same.below r (omega (arith, below, le))
         ∙ points
@@ -30,7 +30,7 @@ pub block_has : (w : Setting) (low n : ℕ) (bound : Bindings) (regs later : Lis
 block_has w low n bound regs later scope x number le same h e local = of_anchor (h x number e).anchor
   where
     of_anchor : IsAnchored w low bound regs x number → slice_get later (block_of bound x) ≡ Some (Points (Into number 0))
-    of_anchor (InRegister r is_bound below points) =
+    of_anchor (InRegister r is_bound below behind points) =
         ap (λ o. slice_get later (block_register o)) is_bound
         ∙ same.below r (omega (arith, below, le))
         ∙ points
@@ -41,5 +41,5 @@ pub block_below : (w : Setting) (low : ℕ) (bound : Bindings) (regs : List Valu
 block_below w low bound regs scope x number h e local = of_anchor (h x number e).anchor
   where
     of_anchor : IsAnchored w low bound regs x number → block_of bound x < low
-    of_anchor (InRegister r is_bound below points) = let same : block_of bound x ≡ r = ap block_register is_bound in omega (arith, same, below)
+    of_anchor (InRegister r is_bound below behind points) = let same : block_of bound x ≡ r = ap block_register is_bound in omega (arith, same, below)
     of_anchor (AtGlobal free is_global points) = absurd (omega (arith, local, is_global))

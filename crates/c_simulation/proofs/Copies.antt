@@ -88,7 +88,7 @@ module _ (w : Setting) (n : ℕ) where
       by (Some saved) copies =
           let kept = copied_all_saved s.store saved (shifted to d) (shifted from e) (sizes_of cs) bounded copies in
           Arrives tt (record s { store = saved }) regs (with_store saved t) [] (same_all low regs)
-          (record { scope = refl; calls = refl; live = kept.live; longer = omega (arith, kept.long); bounded = kept.bounded; spent = omega arith; output = sym (append-nil s.output) })
+          (record { scope = refl; calls = refl; live = kept.live; longer = omega (arith, kept.long); bounded = kept.bounded; spent = omega arith; output = sym (append-nil s.output); marks = refl })
           (record { store_is = refl; frames = b.frames; steps = b.steps; input = b.input })
           (source (Some saved) copies)
           (copies_run cs to from r d q e t regs saved points others (ap (λ store. copy_all store (shifted to d) (shifted from e) (sizes_of cs)) b.store_is ∙ copies))

@@ -1,28 +1,29 @@
 -- How the target follows the source through statements, and how it goes on from part to part.
-use Rattle.std.proofs.Common.{◌≡◌, ℕ, ◌≤◌, ℤ, pos, Bool, true, false, cond, List, [], ◌++◌, length, refl, sym, ap, ◌∙◌, subst, arith, append_assoc}
+use Rattle.std.proofs.Common.{◌≡◌, inr, ℕ, ◌≤◌, ℤ, pos, Bool, true, false, cond, List, [], ◌++◌, length, refl, sym, ap, ◌∙◌, subst, arith, append_assoc}
 use Rattle.std.proofs.lemmas.List.{append-nil}
 use Rattle.std.specs.Ordering.{int_eq}
 use Rattle.c_syntax.specs.declared.place.Place.{Place}
 use Rattle.c_model.specs.Memory.{Value}
-use Rattle.c_model.specs.State.{State, Scope, Undefined, Over, Outcome, Normal, Stop, Evaluation, on_outcome}
+use Rattle.c_model.specs.State.{State, Scope, Mark, Undefined, Over, Outcome, Normal, Stop, Evaluation, on_outcome}
 use Rattle.c_model.specs.Meaning.{is_zero}
 use Rattle.c_model.specs.Meaning as source_meaning
 use Rattle.c_model.proofs.Agreement.{extends_trans}
 use Rattle.mon_syntax.specs.Registers.{Bindings}
 use Rattle.mon_syntax.specs.Meaning.{Done, Flow, Next, Goes, Returns, writes, then_do, at_next, choose}
 use Rattle.mon_syntax.specs.LiveBlocks.{live_in}
-use Rattle.c_simulation.specs.Following.{Later, IsResult, Follows, GoesOn, Breaks, Continues, IsLeft, IsOver, IsUndefined}
+use Rattle.c_simulation.specs.Following.{Later, Passes, IsResult, Follows, GoesOn, Breaks, Continues, IsLeft, IsOver, IsUndefined}
 use Rattle.c_simulation.specs.Labels.{end_label, next_label}
 use Rattle.c_simulation.proofs.Results.{written_writes, written_then}
 use Rattle.c_simulation.specs.Following.{written}
-use Rattle.c_simulation.specs.Standing.{Target, Did, Setting, Bounded, Here, Beside, IsAnchored, InRegister, AtGlobal, Anchored, Standing}
-use Rattle.c_simulation.specs.SameRegisters.{Same}
-use Rattle.c_simulation.proofs.Registers.{same_all, same_less, same_trans}
+use Rattle.c_simulation.specs.Standing.{Target, Did, Setting, Bounded, Here, Beside, IsAnchored, InRegister, AtGlobal, Anchored, IsKept, Standing}
+use Rattle.c_simulation.specs.Keeping.{Keeps}
+use Rattle.c_simulation.specs.SameRegisters.{Same, Stays}
+use Rattle.c_simulation.proofs.Registers.{same_all, keeps_same, stays_less, stays_same, stays_trans}
 
 -- ---- later states
 
 pub later_same : (s : State) → Bounded s.store → Later s s []
-later_same s bounded = record { scope = refl; calls = refl; live = refl; longer = omega arith; bounded = bounded; spent = omega arith; output = sym (append-nil s.output) }
+later_same s bounded = record { scope = refl; calls = refl; live = refl; longer = omega arith; bounded = bounded; spent = omega arith; output = sym (append-nil s.output); marks = refl }
 
 pub later_trans : (a b c : State) (o p : List ℕ) → Later a b o → Later b c p → Later a c (o ++ p)
 later_trans a b c o p h g = record {
@@ -33,20 +34,52 @@ later_trans a b c o p h g = record {
   bounded = g.bounded;
   spent = omega (arith, h.spent, g.spent);
   output = g.output ∙ ap (λ l. l ++ p) h.output ∙ append_assoc a.output o p;
+  marks = g.marks ∙ h.marks;
 }
 
+-- where no label was passed, and where some may have been
+pub passes_later : (from to : State) (o : List ℕ) → Later from to o → Passes from to o
+passes_later from to o l = record { scope = l.scope; calls = l.calls; live = l.live; longer = l.longer; bounded = l.bounded; spent = l.spent; output = l.output; marks = refl }
+
+pub passes_trans : (a b c : State) (o p : List ℕ) → Passes a b o → Passes b c p → Passes a c (o ++ p)
+passes_trans a b c o p h g = record {
+  scope = g.scope ∙ h.scope;
+  calls = g.calls ∙ h.calls;
+  live = g.live ∙ h.live;
+  longer = omega (arith, h.longer, g.longer);
+  bounded = g.bounded;
+  spent = omega (arith, h.spent, g.spent);
+  output = g.output ∙ ap (λ l. l ++ p) h.output ∙ append_assoc a.output o p;
+  marks = refl;
+}
+
+-- what is kept where labels are passed is kept by expressions
+pub kept_same : (w : Setting) (low : ℕ) (marks : List Mark) (regs after : List Value) → Same low regs after → IsKept w low marks regs → IsKept w low marks after
+kept_same w low marks regs after same k = record {
+  below = k.below;
+  planned = k.planned;
+  keeps = keeps_same low w.plan_to w.plan marks regs after k.below k.planned same k.keeps;
+}
+
+pub kept_later : (w : Setting) (low : ℕ) (regs after : List Value) (s to : State) (o : List ℕ) → Same low regs after → Later s to o → IsKept w low s.marks regs → IsKept w low to.marks after
+kept_later w low regs after s to o same l k = subst (λ ms. IsKept w low ms after) (sym l.marks) (kept_same w low s.marks regs after same k)
+
 -- names in sight stand where they stood, as long as their registers stay
-pub anchored_same : (w : Setting) (low : ℕ) (bound : Bindings) (regs after : List Value) (scope : Scope) → Same low regs after → Anchored w low bound regs scope → Anchored w low bound after scope
-anchored_same w low bound regs after scope same h x number e = let a = h x number e in record { own = a.own; anchor = of_anchor a.anchor }
+pub anchored_stays : (w : Setting) (low : ℕ) (bound : Bindings) (regs after : List Value) (scope : Scope) → Stays w.plan_from w.plan_to low regs after → Anchored w low bound regs scope → Anchored w low bound after scope
+anchored_stays w low bound regs after scope same h x number e = let a = h x number e in record { own = a.own; anchor = of_anchor a.anchor }
   where
     of_anchor : IsAnchored w low bound regs x number → IsAnchored w low bound after x number
-    of_anchor (InRegister r is_bound below points) = InRegister r is_bound below (same.below r below ∙ points)
+    of_anchor (InRegister r is_bound below behind points) = InRegister r is_bound below behind (same.kept r below (inr behind) ∙ points)
     of_anchor (AtGlobal free is_global points) = AtGlobal free is_global points
+
+pub anchored_same : (w : Setting) (low : ℕ) (bound : Bindings) (regs after : List Value) (scope : Scope) → Same low regs after → Anchored w low bound regs scope → Anchored w low bound after scope
+anchored_same w low bound regs after scope same h = anchored_stays w low bound regs after scope (stays_same w.plan_from w.plan_to low regs after same) h
 
 -- where the blocks of a call live as before, and its names are in sight
 pub standing_as : (w : Setting) (h : Here) (low high : ℕ) (bound also : Bindings) (regs after : List Value) (s to : State) (breaks looped : Bool) → Standing w h low bound regs s → Anchored w high also after to.scope → to.calls ≡ s.calls
-    → live_in to.store ≡ live_in s.store → length s.store ≤ length to.store → Bounded to.store → length after ≡ length regs → Standing w (record h { breaks = breaks; looped = looped }) high also after to
-standing_as w h low high bound also regs after s to breaks looped st anchored calls live longer bounded long = record {
+    → live_in to.store ≡ live_in s.store → length s.store ≤ length to.store → Bounded to.store → length after ≡ length regs → IsKept w high to.marks after
+    → Standing w (record h { breaks = breaks; looped = looped }) high also after to
+standing_as w h low high bound also regs after s to breaks looped st anchored calls live longer bounded long kept = record {
   anchored = anchored;
   active = calls ∙ st.active;
   live = live ∙ st.live;
@@ -61,33 +94,47 @@ standing_as w h low high bound also regs after s to breaks looped st anchored ca
   longer = omega (arith, st.longer, longer);
   bounded = bounded;
   registers = long ∙ st.registers;
+  kept = kept;
 }
 
 pub standing_later : (w : Setting) (h : Here) (low : ℕ) (bound : Bindings) (regs after : List Value) (s to : State) (o : List ℕ) → Same low regs after → Later s to o → Standing w h low bound regs s → Standing w h low bound after to
 standing_later w h low bound regs after s to o same l st =
     standing_as w h low low bound bound regs after s to h.breaks h.looped st (subst (Anchored w low bound after) (sym l.scope) (anchored_same w low bound regs after s.scope same st.anchored)) l.calls l.live l.longer l.bounded same.long
+    (kept_later w low regs after s to o same l st.kept)
+
+-- after a statement
+pub standing_after : (w : Setting) (h : Here) (low : ℕ) (bound : Bindings) (regs after : List Value) (s to : State) (o : List ℕ) → Stays w.plan_from w.plan_to low regs after → Keeps w.plan to.marks after → Passes s to o
+    → Standing w h low bound regs s → Standing w h low bound after to
+standing_after w h low bound regs after s to o same keeps l st =
+    standing_as w h low low bound bound regs after s to h.breaks h.looped st (subst (Anchored w low bound after) (sym l.scope) (anchored_stays w low bound regs after s.scope same st.anchored)) l.calls l.live l.longer l.bounded same.long
+    (record { below = st.kept.below; planned = st.kept.planned; keeps = keeps })
 
 module _ (w : Setting) (h : Here) (low : ℕ) where
   abbrev pub Follow : List Value → (List Value → Flow Value) → State → Outcome (Unit {0}) → Did → Type 0
   Follow regs on from r q = Follows w h low regs on from r q
 
   -- nothing is done
-  pub stays : (regs : List Value) (s : State) (t : Target) → Bounded s.store → Beside w s.store s t → Follow regs Next s (Normal tt s) (Done (Next regs) t [])
-  stays regs s t bounded b = GoesOn s regs t [] (same_all low regs) (later_same s bounded) b refl refl
+  pub stays : (regs : List Value) (s : State) (t : Target) → Bounded s.store → Keeps w.plan s.marks regs → Beside w s.store s t → Follow regs Next s (Normal tt s) (Done (Next regs) t [])
+  stays regs s t bounded keeps b = GoesOn s regs t [] (stays_same w.plan_from w.plan_to low regs regs (same_all low regs)) keeps (passes_later s s [] (later_same s bounded)) b refl refl
 
   -- what was done before is in front
-  pub onward : (regs mid : List Value) (on : List Value → Flow Value) (from s : State) (o : List ℕ) (r : Outcome (Unit {0})) (q : Did) → Same low regs mid → Later from s o → Follow mid on s r q → Follow regs on from r (writes o q)
-  onward regs mid on from s o r q same l (GoesOn u after t p m k b e f) =
-      GoesOn u after t (o ++ p) (same_trans low low regs mid after (omega arith) same m) (later_trans from s u o p l k) b e (ap (writes o) f)
-  onward regs mid on from s o r q same l (Breaks u after t p i m k b e f) =
-      Breaks u after t (o ++ p) i (same_trans low low regs mid after (omega arith) same m) (later_trans from s u o p l k) b e (ap (writes o) f)
-  onward regs mid on from s o r q same l (Continues u after t p i m k b e f) =
-      Continues u after t (o ++ p) i (same_trans low low regs mid after (omega arith) same m) (later_trans from s u o p l k) b e (ap (writes o) f)
-  onward regs mid on from s o r q same l (IsLeft v u t p i k b e f) = IsLeft v u t (o ++ p) i (later_trans from s u o p l k) b e (ap (writes o) f)
+  pub onward : (regs mid : List Value) (on : List Value → Flow Value) (from s : State) (o : List ℕ) (r : Outcome (Unit {0})) (q : Did) → Stays w.plan_from w.plan_to low regs mid → Passes from s o → Follow mid on s r q
+      → Follow regs on from r (writes o q)
+  onward regs mid on from s o r q same l (GoesOn u after t p m g k b e f) =
+      GoesOn u after t (o ++ p) (stays_trans w.plan_from w.plan_to low low regs mid after (omega arith) same m) g (passes_trans from s u o p l k) b e (ap (writes o) f)
+  onward regs mid on from s o r q same l (Breaks u after t p i m g k b e f) =
+      Breaks u after t (o ++ p) i (stays_trans w.plan_from w.plan_to low low regs mid after (omega arith) same m) g (passes_trans from s u o p l k) b e (ap (writes o) f)
+  onward regs mid on from s o r q same l (Continues u after t p i m g k b e f) =
+      Continues u after t (o ++ p) i (stays_trans w.plan_from w.plan_to low low regs mid after (omega arith) same m) g (passes_trans from s u o p l k) b e (ap (writes o) f)
+  onward regs mid on from s o r q same l (IsLeft v u t p i k b e f) = IsLeft v u t (o ++ p) i (passes_trans from s u o p l k) b e (ap (writes o) f)
   onward regs mid on from s o r q same l (IsOver x z u p d e k f) = IsOver x z u (o ++ p) d e (k ∙ ap (λ y. y ++ p) l.output ∙ append_assoc from.output o p) (ap (writes o) f)
   onward regs mid on from s o r q same l (IsUndefined at u p e k x) =
       IsUndefined at u (o ++ p) e (k ∙ ap (λ y. y ++ p) l.output ∙ append_assoc from.output o p)
       (record { rest = x.rest; is = written_writes o q ∙ ap (λ y. o ++ y) x.is ∙ sym (append_assoc o p x.rest) })
+
+  -- what an expression did
+  pub onward_same : (regs mid : List Value) (on : List Value → Flow Value) (from s : State) (o : List ℕ) (r : Outcome (Unit {0})) (q : Did) → Same low regs mid → Later from s o → Follow mid on s r q → Follow regs on from r (writes o q)
+  onward_same regs mid on from s o r q same l f = onward regs mid on from s o r q (stays_same w.plan_from w.plan_to low regs mid same) (passes_later from s o l) f
 
   -- an undefined operation at once
   pub undefined_here : (regs : List Value) (on : List Value → Flow Value) (s : State) (r : Outcome (Unit {0})) (q : Did) (at : Place) → r ≡ Stop (Over (Undefined at)) s → Follow regs on s r q
@@ -105,15 +152,16 @@ module _ (w : Setting) (h : Here) (low : ℕ) where
 
   -- a statement, and then what follows
   pub follows_then : (regs : List Value) (on : List Value → Flow Value) (from : State) (r : Outcome (Unit {0})) (q : Did) (f : Evaluation (Unit {0})) (g : List Value → Target → Did) → Follow regs Next from r q
-      → ((s : State) (after : List Value) (t : Target) (o : List ℕ) → Same low regs after → Later from s o → Beside w s.store s t → Follow after on s (f s) (g after t)) → Follow regs on from (on_outcome r (λ _. f)) (then_do q (at_next g))
-  follows_then regs on from r q f g (GoesOn s after t o m l b e e') k =
+      → ((s : State) (after : List Value) (t : Target) (o : List ℕ) → Stays w.plan_from w.plan_to low regs after → Keeps w.plan s.marks after → Passes from s o → Beside w s.store s t
+      → Follow after on s (f s) (g after t)) → Follow regs on from (on_outcome r (λ _. f)) (then_do q (at_next g))
+  follows_then regs on from r q f g (GoesOn s after t o m g2 l b e e') k =
       subst (λ r. Follow regs on from (on_outcome r (λ _. f)) (then_do q (at_next g))) (sym e)
       (subst (λ q. Follow regs on from (f s) (then_do q (at_next g))) (sym e')
-      (onward regs after on from s o (f s) (g after t) m l (k s after t o m l b)))
-  follows_then regs on from r q f g (Breaks s after t o i m l b e e') k =
-      Breaks s after t o i m l b (ap (λ r. on_outcome r (λ _. f)) e) (ap (λ q. then_do q (at_next g)) e' ∙ ap (Done (Goes (end_label h.levels) after) t) (append-nil o))
-  follows_then regs on from r q f g (Continues s after t o i m l b e e') k =
-      Continues s after t o i m l b (ap (λ r. on_outcome r (λ _. f)) e) (ap (λ q. then_do q (at_next g)) e' ∙ ap (Done (Goes (next_label h.innermost) after) t) (append-nil o))
+      (onward regs after on from s o (f s) (g after t) m l (k s after t o m g2 l b)))
+  follows_then regs on from r q f g (Breaks s after t o i m g2 l b e e') k =
+      Breaks s after t o i m g2 l b (ap (λ r. on_outcome r (λ _. f)) e) (ap (λ q. then_do q (at_next g)) e' ∙ ap (Done (Goes (end_label h.levels) after) t) (append-nil o))
+  follows_then regs on from r q f g (Continues s after t o i m g2 l b e e') k =
+      Continues s after t o i m g2 l b (ap (λ r. on_outcome r (λ _. f)) e) (ap (λ q. then_do q (at_next g)) e' ∙ ap (Done (Goes (next_label h.innermost) after) t) (append-nil o))
   follows_then regs on from r q f g (IsLeft v s t o i l b e e') k =
       IsLeft v s t o i l b (ap (λ r. on_outcome r (λ _. f)) e) (ap (λ q. then_do q (at_next g)) e' ∙ ap (Done (Returns v) t) (append-nil o))
   follows_then regs on from r q f g (IsOver x z s o d e l e') k =
@@ -123,9 +171,9 @@ module _ (w : Setting) (h : Here) (low : ℕ) where
 
   -- registers that are kept above a number are kept below it
   pub follows_lower : (high : ℕ) (regs : List Value) (on : List Value → Flow Value) (from : State) (r : Outcome (Unit {0})) (q : Did) → low ≤ high → Follows w h high regs on from r q → Follow regs on from r q
-  follows_lower high regs on from r q le (GoesOn s after t o m l b e f) = GoesOn s after t o (same_less low high regs after le m) l b e f
-  follows_lower high regs on from r q le (Breaks s after t o i m l b e f) = Breaks s after t o i (same_less low high regs after le m) l b e f
-  follows_lower high regs on from r q le (Continues s after t o i m l b e f) = Continues s after t o i (same_less low high regs after le m) l b e f
+  follows_lower high regs on from r q le (GoesOn s after t o m g l b e f) = GoesOn s after t o (stays_less w.plan_from w.plan_to low high regs after le m) g l b e f
+  follows_lower high regs on from r q le (Breaks s after t o i m g l b e f) = Breaks s after t o i (stays_less w.plan_from w.plan_to low high regs after le m) g l b e f
+  follows_lower high regs on from r q le (Continues s after t o i m g l b e f) = Continues s after t o i (stays_less w.plan_from w.plan_to low high regs after le m) g l b e f
   follows_lower high regs on from r q le (IsLeft v s t o i l b e f) = IsLeft v s t o i l b e f
   follows_lower high regs on from r q le (IsOver x z s o d e l f) = IsOver x z s o d e l f
   follows_lower high regs on from r q le (IsUndefined at s o e l ext) = IsUndefined at s o e l ext
@@ -134,9 +182,9 @@ module _ (w : Setting) (h : Here) (low : ℕ) where
 pub anywhere : (w : Setting) (h there : Here) (low : ℕ) (regs : List Value) (on : List Value → Flow Value) (from : State) (r : Outcome (Unit {0})) (q : Did) → h.breaks ≡ false → h.looped ≡ false
     → h.result ≡ there.result → Follows w h low regs on from r q
     → Follows w there low regs on from r q
-anywhere w h there low regs on from r q closed outside same (GoesOn s after t o m l b e f) = GoesOn s after t o m l b e f
-anywhere w h there low regs on from r q closed outside same (Breaks s after t o i m l b e f) = absurd cc
-anywhere w h there low regs on from r q closed outside same (Continues s after t o i m l b e f) = absurd cc
+anywhere w h there low regs on from r q closed outside same (GoesOn s after t o m g l b e f) = GoesOn s after t o m g l b e f
+anywhere w h there low regs on from r q closed outside same (Breaks s after t o i m g l b e f) = absurd cc
+anywhere w h there low regs on from r q closed outside same (Continues s after t o i m g l b e f) = absurd cc
 anywhere w h there low regs on from r q closed outside same (IsLeft v s t o i l b e f) = IsLeft v s t o (subst (λ k. IsResult k v) same i) l b e f
 anywhere w h there low regs on from r q closed outside same (IsOver x z s o d e l f) = IsOver x z s o d e l f
 anywhere w h there low regs on from r q closed outside same (IsUndefined at s o e l ext) = IsUndefined at s o e l ext

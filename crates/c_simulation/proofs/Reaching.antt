@@ -13,13 +13,13 @@ use Rattle.mon_syntax.specs.Meaning.{Done, Flow, Next, then_do, at_next, writes,
 use Rattle.mon_syntax.specs.Trees.{MonExpression, Register, If, MonStatements}
 use Rattle.c_effects.specs.Expressions.{before, one, set}
 use Rattle.c_simulation.specs.SameRegisters.{Same}
-use Rattle.c_simulation.specs.Standing.{Setting, Target, Did, runs, Has, IsOf, Bounded, Here, Beside}
+use Rattle.c_simulation.specs.Standing.{Setting, Target, Did, runs, Has, IsOf, Bounded, Here, IsKept, Beside}
 use Rattle.c_simulation.specs.Following.{Later, Evaluates, HasValue, HasNone, Places, HasPlace, HasNoPlace, Tests, HasTest, HasNoTest, Follows, GoesOn, written}
 use Rattle.c_simulation.specs.Following as following
 use Rattle.c_simulation.specs.Reaching.{Reaches, Arrives, IsOver, IsUndefined, Anything, Valued, Placed, Tested}
 use Rattle.c_simulation.proofs.Results.{written_writes, written_then, before_is, writes_none}
-use Rattle.c_simulation.proofs.Registers.{same_all, same_less, same_trans, same_set, get-set_same}
-use Rattle.c_simulation.proofs.Following.{later_same, later_trans, onward}
+use Rattle.c_simulation.proofs.Registers.{same_all, stays_same, same_less, same_trans, same_set, get-set_same}
+use Rattle.c_simulation.proofs.Following.{kept_later, later_same, later_trans, onward_same, passes_later}
 use Rattle.c_simulation.proofs.Evaluating.{behind_setup, set_runs, if_runs}
 
 pub on_give : {A : Type 0} (r : Outcome A) → on_outcome r give ≡ r
@@ -112,10 +112,12 @@ module _ (w : Setting) where
   -- ---- statements
 
   -- what reaches the next statement is followed
-  pub reached_follows : (h : Here) (P : Unit {0} → List Value → State → Target → Type 0) (low : ℕ) (regs : List Value) (from : State) (r : Outcome (Unit {0})) (q : Did) → Reaches w P low regs from r q → Follows w h low regs Next from r q
-  reached_follows h P low regs from r q (Arrives tt s after t o m l b e f p) = GoesOn s after t o m l b e f
-  reached_follows h P low regs from r q (IsOver x z s o d e l f) = following.IsOver x z s o d e l f
-  reached_follows h P low regs from r q (IsUndefined at s o e l ext) = following.IsUndefined at s o e l ext
+  pub reached_follows : (h : Here) (P : Unit {0} → List Value → State → Target → Type 0) (low : ℕ) (regs : List Value) (from : State) (r : Outcome (Unit {0})) (q : Did) → IsKept w low from.marks regs → Reaches w P low regs from r q
+      → Follows w h low regs Next from r q
+  reached_follows h P low regs from r q kept (Arrives tt s after t o m l b e f p) =
+      GoesOn s after t o (stays_same w.plan_from w.plan_to low regs after m) (kept_later w low regs after from s o m l kept).keeps (passes_later from s o l) b e f
+  reached_follows h P low regs from r q kept (IsOver x z s o d e l f) = following.IsOver x z s o d e l f
+  reached_follows h P low regs from r q kept (IsUndefined at s o e l ext) = following.IsUndefined at s o e l ext
 
   -- and then statements, which may go on in any way
   pub follows_reached : {A : Type 0} (h : Here) (P : A → List Value → State → Target → Type 0) (low : ℕ) (regs : List Value) (on : List Value → Flow Value) (from : State) (r : Outcome A) (q : Did) (f : A → Evaluation (Unit {0}))
@@ -125,7 +127,7 @@ module _ (w : Setting) where
   follows_reached h P low regs on from r q f g (Arrives a s after t o m l b e e' p) k =
       subst (λ r. Follows w h low regs on from (on_outcome r f) (then_do q (at_next g))) (sym e)
       (subst (λ q. Follows w h low regs on from (f a s) (then_do q (at_next g))) (sym e')
-      (onward w h low regs after on from s o (f a s) (g after t) m l (k a s after t o m l b p)))
+      (onward_same w h low regs after on from s o (f a s) (g after t) m l (k a s after t o m l b p)))
   follows_reached h P low regs on from r q f g (IsOver x z s o d e l e') k = following.IsOver x z s o d (ap (λ r. on_outcome r f) e) l (ap (λ q. then_do q (at_next g)) e')
   follows_reached h P low regs on from r q f g (IsUndefined at s o e l ext) k =
       following.IsUndefined at s o (ap (λ r. on_outcome r f) e) l (extends_trans o (written q) _ ext (written_then q (at_next g)))
@@ -200,7 +202,7 @@ module _ (w : Setting) where
         → runs w n t a regs ≡ Done (Next after) t [] → Follows w h low after on s r (runs w n t b after) → Follows w h low regs on s r (runs w n t (before a b) regs)
     follows_behind h low regs after on s t r a b bounded same run x =
         subst (λ q. Follows w h low regs on s r q) (writes_none (runs w n t b after) ∙ sym (behind_setup w n t a b regs after run))
-        (onward w h low regs after on s s [] r (runs w n t b after) same (later_same s bounded) x)
+        (onward_same w h low regs after on s s [] r (runs w n t b after) same (later_same s bounded) x)
 
     -- a condition is tested, after which the target chooses as the source does
     pub test_runs : (high : ℕ) (c : MonExpression) (a b : MonStatements) (v : Value) (regs : List Value) (s : State) (t : Target) → Tested w high c v regs s t

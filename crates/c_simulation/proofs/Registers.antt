@@ -6,7 +6,9 @@ use Rattle.mon_syntax.specs.declared.tree.MonType.{MonType}
 use Rattle.mon_syntax.specs.Registers.{Bindings, register_of, bound_with}
 use Rattle.std.proofs.lemmas.Bool.{eq-eqb}
 use Rattle.std.proofs.lemmas.Bool.Decides.{nat_tests}
-use Rattle.c_simulation.specs.SameRegisters.{Same}
+use Rattle.c_model.specs.State.{Mark}
+use Rattle.c_simulation.specs.Keeping.{Kept, Keeps, StandBelow}
+use Rattle.c_simulation.specs.SameRegisters.{Same, Stays}
 
 -- ---- lists
 
@@ -37,6 +39,30 @@ same_less m n regs after le h = record { long = h.long; below = λ j lt. h.below
 
 pub same_trans : (m n : ℕ) (a b c : List Value) → m ≤ n → Same m a b → Same n b c → Same m a c
 same_trans m n a b c le h g = record { long = g.long ∙ h.long; below = λ j lt. g.below j (omega (arith, lt, le)) ∙ h.below j lt }
+
+-- ---- and but for those of a plan
+
+pub stays_same : (n m low : ℕ) (regs after : List Value) → Same low regs after → Stays n m low regs after
+stays_same n m low regs after h = record { long = h.long; kept = λ j lt apart. h.below j lt }
+
+pub stays_less : (n m low high : ℕ) (regs after : List Value) → low ≤ high → Stays n m high regs after → Stays n m low regs after
+stays_less n m low high regs after le h = record { long = h.long; kept = λ j lt apart. h.kept j (omega (arith, lt, le)) apart }
+
+pub stays_trans : (n m low high : ℕ) (a b c : List Value) → low ≤ high → Stays n m low a b → Stays n m high b c → Stays n m low a c
+stays_trans n m low high a b c le h g = record { long = g.long ∙ h.long; kept = λ j lt apart. g.kept j (omega (arith, lt, le)) apart ∙ h.kept j lt apart }
+
+-- what registers keep stays as long as they do
+pub keeps_same : (n m : ℕ) (ks : List Kept) (marks : List Mark) (regs after : List Value) → m ≤ n → StandBelow m ks → Same n regs after → Keeps ks marks regs → Keeps ks marks after
+keeps_same n m [] marks regs after le s same h = tt
+keeps_same n m (k ∷ ks) marks regs after le s same h = (
+  record {
+    flag_is = same.below k.register (omega (arith, le, s.0)) ∙ h.0.flag_is;
+    value_is = λ z e. same.below (suc k.register) (omega (arith, le, s.0)) ∙ h.0.value_is z e;
+  },
+  keeps_same n m ks marks regs after le s.1 same h.1,
+)
+
+-- ---- registers that are set
 
 -- a register from n on gets a value
 pub same_set : (n r : ℕ) (regs : List Value) (v : Value) → n ≤ r → Same n regs (slice_set regs r v)

@@ -67,7 +67,7 @@ module _ (w : Setting) (n : ℕ) (low : ℕ) where
       by (Some saved) saves =
           let kept = saved_value s.store saved p k v bounded f saves in
           Arrives tt (record s { store = saved }) regs (with_store saved t) [] (same_all low regs)
-          (record { scope = refl; calls = refl; live = kept.live; longer = omega (arith, kept.long); bounded = kept.bounded; spent = omega arith; output = sym (append-nil s.output) })
+          (record { scope = refl; calls = refl; live = kept.live; longer = omega (arith, kept.long); bounded = kept.bounded; spent = omega arith; output = sym (append-nil s.output); marks = refl })
           (record { store_is = refl; frames = b.frames; steps = b.steps; input = b.input })
           (write_is (Some saved) saves)
           (store_runs k r p v t regs e saved points f has (ap (λ store. save store p k v) b.store_is ∙ saves))

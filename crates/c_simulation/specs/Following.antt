@@ -16,7 +16,8 @@ use Rattle.mon_syntax.specs.LiveBlocks.{live_in}
 use Rattle.mon_syntax.specs.Meaning.{Result, Done, Stops, Flow, Next, Goes, Returns}
 use Rattle.mon_syntax.specs.Trees.{MonExpression}
 use Rattle.c_simulation.specs.Labels.{end_label, next_label}
-use Rattle.c_simulation.specs.SameRegisters.{Same}
+use Rattle.c_simulation.specs.Keeping.{Keeps}
+use Rattle.c_simulation.specs.SameRegisters.{Same, Stays}
 use Rattle.c_simulation.specs.Standing.{Target, Did, Setting, Has, IsSmall, IsOf, IsInside, Bounded, Here, Beside}
 
 -- the bytes that a part wrote
@@ -53,7 +54,7 @@ pub data Tests (w : Setting) (s : State) (t : Target) (r : Outcome Value) (regs 
       → ((later : List Value) → Same high after later → IsTest w c later t.mem u) → Tests w s t r regs low high q c
   HasNoTest : (at : Place) → r ≡ Stop (Over (Undefined at)) s → Tests w s t r regs low high q c
 
--- a later state of the source, at the same names and with the same variables alive: what was written since
+-- a later state of the source, at the same names, with the same variables alive and no label passed: what was written since
 pub record Later (from to : State) (o : List ℕ) : Type 0 where
   pub scope : to.scope ≡ from.scope
   pub calls : to.calls ≡ from.calls
@@ -62,6 +63,11 @@ pub record Later (from to : State) (o : List ℕ) : Type 0 where
   pub bounded : Bounded to.store
   pub spent : to.steps ≤ from.steps
   pub output : to.output ≡ from.output ++ o
+  pub marks : to.marks ≡ from.marks
+
+-- the same where labels may have been passed
+abbrev pub Passes : State → State → List ℕ → Type 0
+Passes from to o = Later (record from { marks = to.marks }) to o
 
 -- a value of a scalar type, and none of another type
 abbrev pub IsResultOf : Option Scalar → Option Value → Type 0
@@ -73,20 +79,20 @@ IsResultOf (Some k) (Some v) = IsOf k v
 abbrev pub IsResult : PlainType → Option Value → Type 0
 IsResult t v = IsResultOf (scalar_of t) v
 
--- From a state, and over these registers, of which those below `low` are kept, the target's statements did what the source's did, where the source
--- goes on, leaves a loop, a switch or a loop's body, returns, or is over. The target has the source's blocks; where it leaves these or the call, what
--- was born inside is dead there already. After an undefined operation the target may do anything.
+-- From a state, and over these registers, of which those below `low` are kept but for the plan's, the target's statements did what the source's did, where
+-- the source goes on, leaves a loop, a switch or a loop's body, returns, or is over; the plan's registers have what the marks then say. The target has the
+-- source's blocks; where it leaves these or the call, what was born inside is dead there already. After an undefined operation the target may do anything.
 pub data Follows (w : Setting) (h : Here) (low : ℕ) (regs : List Value) (on : List Value → Flow Value) (from : State) (r : Outcome (Unit {0})) (q : Did)
     : Type 0 where
-  GoesOn : (s : State) (after : List Value) (t : Target) (o : List ℕ) → Same low regs after → Later from s o → Beside w s.store s t → r ≡ Normal tt s
-      → q ≡ Done (on after) t o → Follows w h low regs on from r q
-  Breaks : (s : State) (after : List Value) (t : Target) (o : List ℕ) → h.breaks ≡ true → Same low regs after → Later from s o
-      → Beside w (kill_from h.left s.store) s t → r ≡ Stop (Leaves source.Breaks) s → q ≡ Done (Goes (end_label h.levels) after) t o
-      → Follows w h low regs on from r q
-  Continues : (s : State) (after : List Value) (t : Target) (o : List ℕ) → h.looped ≡ true → Same low regs after → Later from s o
-      → Beside w (kill_from h.loop s.store) s t → r ≡ Stop (Leaves source.Continues) s → q ≡ Done (Goes (next_label h.innermost) after) t o
-      → Follows w h low regs on from r q
-  IsLeft : (v : Option Value) (s : State) (t : Target) (o : List ℕ) → IsResult h.result v → Later from s o → Beside w (kill_from w.base s.store) s t
+  GoesOn : (s : State) (after : List Value) (t : Target) (o : List ℕ) → Stays w.plan_from w.plan_to low regs after → Keeps w.plan s.marks after
+      → Passes from s o → Beside w s.store s t → r ≡ Normal tt s → q ≡ Done (on after) t o → Follows w h low regs on from r q
+  Breaks : (s : State) (after : List Value) (t : Target) (o : List ℕ) → h.breaks ≡ true → Stays w.plan_from w.plan_to low regs after
+      → Keeps w.plan s.marks after → Passes from s o → Beside w (kill_from h.left s.store) s t → r ≡ Stop (Leaves source.Breaks) s
+      → q ≡ Done (Goes (end_label h.levels) after) t o → Follows w h low regs on from r q
+  Continues : (s : State) (after : List Value) (t : Target) (o : List ℕ) → h.looped ≡ true → Stays w.plan_from w.plan_to low regs after
+      → Keeps w.plan s.marks after → Passes from s o → Beside w (kill_from h.loop s.store) s t → r ≡ Stop (Leaves source.Continues) s
+      → q ≡ Done (Goes (next_label h.innermost) after) t o → Follows w h low regs on from r q
+  IsLeft : (v : Option Value) (s : State) (t : Target) (o : List ℕ) → IsResult h.result v → Passes from s o → Beside w (kill_from w.base s.store) s t
       → r ≡ Stop (Leaves (source.Returns v)) s → q ≡ Done (Returns v) t o → Follows w h low regs on from r q
   IsOver : (e : Final) (z : machine.Final) (s : State) (o : List ℕ) → machine_end e ≡ Some z → r ≡ Stop (Over e) s → s.output ≡ from.output ++ o
       → q ≡ Stops z s.steps o → Follows w h low regs on from r q

@@ -6,7 +6,7 @@ use Rattle.c_syntax.specs.declared.types.CInt.TheVariants.{U64}
 use Rattle.c_syntax.specs.Layouts.{Scalar, IntegerType, PointerType, size_of}
 use Rattle.c_model.specs.Integers.{fits}
 use Rattle.c_model.specs.Memory.{Pointer, Null, Into, Value, Integer, Points, Byte, Unwritten, Number, Piece, LoosePiece, Store, block_at, live_size}
-use Rattle.c_model.specs.State.{State, Scope, find}
+use Rattle.c_model.specs.State.{State, Scope, Mark, find}
 use Rattle.c_model.specs.Meaning.{Callee, tables_of, text_at, literal}
 use Rattle.mon_syntax.specs.Registers.{Bindings, register_of}
 use Rattle.mon_syntax.specs.Meaning.{Result, Flow, exec_all, eval}
@@ -19,6 +19,7 @@ use Rattle.c_model.specs.TypedTrees.{HasKnownSize}
 use Rattle.c_effects.specs.Expressions.{global_index, object_of_global, object_of_literal}
 use Rattle.track_scopes.specs.Lives.{AreFrom, AreBefore}
 use Rattle.c_model.specs.StaticObjects.{static_objects}
+use Rattle.c_simulation.specs.Keeping.{Kept, Keeps, StandBelow}
 
 -- a state of the target, and what statements of it did
 abbrev pub Target : Type 0
@@ -41,6 +42,10 @@ pub record Setting : Type 0 where
   pub base : ℕ
   pub around : List LiveBlock
   pub active : ℕ
+  -- the terms that are kept where labels are passed, and from which register to which these stand
+  pub plan : List Kept
+  pub plan_from : ℕ
+  pub plan_to : ℕ
 
 -- what statements of the target do, with loops of at most n turns
 abbrev pub runs : Setting → ℕ → Target → MonStatements → List Value → Did
@@ -52,10 +57,11 @@ Has w e regs mem v = eval over_blocks w.globals e regs mem ≡ Some v
 
 -- ---- registers
 
--- where the object of a declaration stands, in the block with this number: a register below `low` is bound to the declaration and points to the
--- start of the block, or else it is a global's
+-- where the object of a declaration stands, in the block with this number: a register below `low` and behind those of the plan is bound to the
+-- declaration and points to the start of the block, or else it is a global's
 pub data IsAnchored (w : Setting) (low : ℕ) (bound : Bindings) (regs : List Value) (x number : ℕ) : Type 0 where
-  InRegister : (r : ℕ) → register_of bound x ≡ Some r → r < low → slice_get regs r ≡ Some (Points (Into number 0)) → IsAnchored w low bound regs x number
+  InRegister : (r : ℕ) → register_of bound x ≡ Some r → r < low → w.plan_to ≤ r → slice_get regs r ≡ Some (Points (Into number 0))
+      → IsAnchored w low bound regs x number
   AtGlobal : register_of bound x ≡ None → global_index x w.unit.globals < length w.unit.globals
       → slice_get w.globals (object_of_global x (static_objects w.unit)) ≡ Some (Points (Into number 0))
       → IsAnchored w low bound regs x number
@@ -135,6 +141,12 @@ pub record Here : Type 0 where
   pub innermost : ℕ
   pub result : PlainType
 
+-- the registers of the plan stand below `low`, and have what the marks say
+pub record IsKept (w : Setting) (low : ℕ) (marks : List Mark) (regs : List Value) : Type 0 where
+  pub below : w.plan_to ≤ low
+  pub planned : StandBelow w.plan_to w.plan
+  pub keeps : Keeps w.plan marks regs
+
 -- a state of the source in which these live, and what the registers below `low` have of it
 pub record Standing (w : Setting) (h : Here) (low : ℕ) (bound : Bindings) (regs : List Value) (s : State) : Type 0 where
   pub anchored : Anchored w low bound regs s.scope
@@ -151,6 +163,7 @@ pub record Standing (w : Setting) (h : Here) (low : ℕ) (bound : Bindings) (reg
   pub longer : h.left ≤ length s.store
   pub bounded : Bounded s.store
   pub registers : length regs ≡ w.registers
+  pub kept : IsKept w low s.marks regs
 
 -- the state of the target beside it, which has these blocks
 pub record Beside (w : Setting) (store : Store) (s : State) (t : Target) : Type 0 where

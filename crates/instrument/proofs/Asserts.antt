@@ -32,9 +32,9 @@ use Rattle.annot_code.proofs.Asserted.{assertion_grows, behind_grows}
 use Rattle.annot_code.proofs.Theorem.{code_judges}
 use Rattle.instrument.proofs.RangedTrees.{AreRangedAsserts}
 use Rattle.c_simulation.proofs.Results.{one_is, before_is, writes_none}
-use Rattle.c_simulation.specs.Standing.{Setting, Target, Did, runs, Bounded, Anchored, Here, Standing, Beside}
-use Rattle.c_simulation.proofs.Registers.{same_less}
-use Rattle.c_simulation.proofs.Following.{stays, follows_then, standing_later}
+use Rattle.c_simulation.specs.Standing.{Setting, Target, Did, runs, Bounded, Anchored, Here, IsKept, Standing, Beside}
+use Rattle.c_simulation.proofs.Registers.{same_less, stays_same}
+use Rattle.c_simulation.proofs.Following.{kept_same, stays, follows_then, standing_after}
 use Rattle.c_simulation.specs.Following.{Follows, GoesOn, IsOver, Later}
 use Rattle.c_simulation.proofs.Values.{HasNumber}
 use Rattle.c_simulation.proofs.Anchors.{pointer_has}
@@ -73,13 +73,14 @@ module _ (w : Setting) (n : ℕ) (low : ℕ) (bound : Bindings) (s : State) (t :
         monitored.judged over_blocks d v (machine.Broken a.number a.place.line a.kind how.Undefined) (machine.Broken a.number a.place.line a.kind how.False) (Done (Next regs) (stepped t k) []) k
 
     later_steps : (k : ℕ) → k ≤ s.steps → Later s (record s { steps = k }) []
-    later_steps k le = record { scope = refl; calls = refl; live = refl; longer = omega arith; bounded = bounded; spent = le; output = sym (append-nil s.output) }
+    later_steps k le = record { scope = refl; calls = refl; live = refl; longer = omega arith; bounded = bounded; spent = le; output = sym (append-nil s.output); marks = refl }
 
-    says_follows : (a : Annotation) (regs after : List Value) (says : Bool) (k : ℕ) → k ≤ s.steps → Same low regs after
+    says_follows : (a : Annotation) (regs after : List Value) (says : Bool) (k : ℕ) → k ≤ s.steps → IsKept w low s.marks regs → Same low regs after
         → Follows w h low regs Next s (source.judged a (Says says k) s) (judged_later a k (pos 1) (truth says) after)
-    says_follows a regs after true k le same =
-        GoesOn (record s { steps = k }) after (stepped t k) [] same (later_steps k le) (record { store_is = b.store_is; frames = b.frames; steps = refl; input = b.input }) refl refl
-    says_follows a regs after false k le same =
+    says_follows a regs after true k le kept same =
+        GoesOn (record s { steps = k }) after (stepped t k) [] (stays_same w.plan_from w.plan_to low regs after same)
+        (kept_same w low s.marks regs after same kept).keeps (later_steps k le) (record { store_is = b.store_is; frames = b.frames; steps = refl; input = b.input }) refl refl
+    says_follows a regs after false k le kept same =
         IsOver (Broken a.number a.place.line a.kind how.False) (machine.Broken a.number a.place.line a.kind how.False) (record s { steps = k }) [] refl refl (sym (append-nil s.output)) refl
 
     nothing_follows : (a : Annotation) (regs after : List Value) (v : ℤ) (k : ℕ) → Follows w h low regs Next s (source.judged a (SaysNothing k) s) (judged_later a k (pos 0) v after)
@@ -94,37 +95,37 @@ module _ (w : Setting) (n : ℕ) (low : ℕ) (bound : Bindings) (s : State) (t :
         before_is w.globals j.stmts ask w.calls n regs t ∙ ap (λ q. then_do q (at_next (λ r u. runs w n u ask r))) f.is ∙ writes_none (runs w n (stepped t k) ask f.after)
         ∙ assert_runs a (stepped t k) (Register j.flag) (Register j.truth) (truth (is_some says)) (truth (is_true says)) f.after f.holds.flag_is f.holds.truth_is
 
-    answer_follows : (a : Annotation) (j : Judgement) (rs : List MonType) (regs : List Value) (q : Answer) → low ≤ length rs → steps_of q ≤ s.steps → Judges (judging regs) rs j q
+    answer_follows : (a : Annotation) (j : Judgement) (rs : List MonType) (regs : List Value) (q : Answer) → low ≤ length rs → IsKept w low s.marks regs → steps_of q ≤ s.steps → Judges (judging regs) rs j q
         → Follows w h low regs Next s (source.judged a q s) (runs w n t (asserted a j) regs)
-    answer_follows a j rs regs (Says says k) behind le f =
-        subst (Follows w h low regs Next s (source.judged a (Says says k) s)) (sym (asked_runs a j rs k (Some says) regs f)) (says_follows a regs f.after says k le (same_less low (length rs) regs f.after behind f.same))
-    answer_follows a j rs regs (SaysNothing k) behind le f =
+    answer_follows a j rs regs (Says says k) behind kept le f =
+        subst (Follows w h low regs Next s (source.judged a (Says says k) s)) (sym (asked_runs a j rs k (Some says) regs f)) (says_follows a regs f.after says k le kept (same_less low (length rs) regs f.after behind f.same))
+    answer_follows a j rs regs (SaysNothing k) behind kept le f =
         subst (Follows w h low regs Next s (source.judged a (SaysNothing k) s)) (sym (asked_runs a j rs k None regs f)) (nothing_follows a regs f.after (pos 0) k)
-    answer_follows a j rs regs OutOfSteps behind le f =
+    answer_follows a j rs regs OutOfSteps behind kept le f =
         let ask = one (Assert (Register j.flag) (Register j.truth) a.number a.place.line a.kind) in
         IsOver Spent machine.Spent (record s { steps = 0 }) [] refl refl (sym (append-nil s.output)) (before_is w.globals j.stmts ask w.calls n regs t ∙ ap (λ q. then_do q (at_next (λ r u. runs w n u ask r))) f)
 
     clause_follows : (sight : Sight) → AreFound sight.entities s.scope → (a : Annotation) (c : ClauseBody) → IsShortClause c → ClauseTyped sight c → ClauseRanged c → (rs : List MonType) → low ≤ length rs → (regs : List Value)
-        → length (clause_judgement w.unit bound c rs).used ≤ length regs → Anchored w low bound regs s.scope
+        → length (clause_judgement w.unit bound c rs).used ≤ length regs → IsKept w low s.marks regs → Anchored w low bound regs s.scope
         → Follows w h low regs Next s (source.judged a (clause c s [] s.steps) s) (runs w n t (asserted a (clause_judgement w.unit bound c rs)) regs)
-    clause_follows sight found a (Raw f) p q r rs behind regs room anchored = absurd p
-    clause_follows sight found a (logic.Value c) p q r rs behind regs room anchored = absurd q
-    clause_follows sight found a (Behaviors names) p q r rs behind regs room anchored = absurd q
-    clause_follows sight found a (Holds c) p q r rs behind regs room anchored =
+    clause_follows sight found a (Raw f) p q r rs behind regs room kept anchored = absurd p
+    clause_follows sight found a (logic.Value c) p q r rs behind regs room kept anchored = absurd q
+    clause_follows sight found a (Behaviors names) p q r rs behind regs room kept anchored = absurd q
+    clause_follows sight found a (Holds c) p q r rs behind regs room kept anchored =
         let j = judgement w.unit bound c rs in
         subst (λ i. Follows w h low regs Next s (source.judged a (pred c s [] i) s) (runs w n t (asserted a j) regs)) b.steps
-        (answer_follows a j rs regs (pred c s [] t.steps) behind (subst (λ i. steps_of (pred c s [] t.steps) ≤ i) b.steps (steps_pred c s [] t.steps))
+        (answer_follows a j rs regs (pred c s [] t.steps) behind kept (subst (λ i. steps_of (pred c s [] t.steps) ≤ i) b.steps (steps_pred c s [] t.steps))
         (code_judges (judging regs) c rs (stands regs b.store_is anchored) (ranges_hold s bounded) r (predicate_found sight s.scope found c q) behind room))
 
     assertion_follows : (sight : Sight) → AreFound sight.entities s.scope → (a : Annotation) → IsAssert a → ClauseTyped sight a.body → ClauseRanged a.body → (rs : List MonType) → low ≤ length rs
-        → (regs : List Value) → length (behind_assertion w.unit bound rs a) ≤ length regs → Anchored w low bound regs s.scope → Follows w h low regs Next s (check a s) (runs w n t (assertion w.unit bound rs a) regs)
-    assertion_follows sight found a p q r rs behind regs room anchored = clause_follows sight found a a.body p.body q r rs behind regs room anchored
+        → (regs : List Value) → length (behind_assertion w.unit bound rs a) ≤ length regs → IsKept w low s.marks regs → Anchored w low bound regs s.scope → Follows w h low regs Next s (check a s) (runs w n t (assertion w.unit bound rs a) regs)
+    assertion_follows sight found a p q r rs behind regs room kept anchored = clause_follows sight found a a.body p.body q r rs behind regs room kept anchored
 
 module _ (w : Setting) (n : ℕ) (h : Here) (sight : Sight) (low : ℕ) (bound : Bindings) where
   pub assertions_follow : (annots : List Annotation) → AreRangedAsserts annots → AnnotationsTyped sight annots → (rs : List MonType) → low ≤ length rs → length (behind_assertions w.unit bound rs annots) ≤ w.registers
       → (regs : List Value) (s : State) (t : Target) → AreFound sight.entities s.scope → Standing w h low bound regs s → Beside w s.store s t
       → Follows w h low regs Next s (checks annots s) (runs w n t (assertions w.unit bound rs annots) regs)
-  assertions_follow [] p q rs behind room regs s t found m b = stays w h low regs s t m.bounded b
+  assertions_follow [] p q rs behind room regs s t found m b = stays w h low regs s t m.bounded m.kept.keeps b
   assertions_follow (a ∷ annots) p q rs behind room regs s t found m b =
       let here = behind_assertion w.unit bound rs a in
       let more = behind_grows w.unit bound here annots in
@@ -133,7 +134,7 @@ module _ (w : Setting) (n : ℕ) (h : Here) (sight : Sight) (low : ℕ) (bound :
       let others = assertions w.unit bound here annots in
       subst (λ q. Follows w h low regs Next s (checks (a ∷ annots) s) q) (sym (before_is w.globals first others w.calls n regs t))
       (follows_then w h low regs Next s (check a s) (runs w n t first regs) (checks annots) (λ r u. runs w n u others r)
-      (assertion_follows w n low bound s t h b m.bounded sight found a p.are.0 q.0 p.ranged.0 rs behind regs (omega (arith, more, room, m.registers)) m.anchored)
-      (λ to after u o same la be.
+      (assertion_follows w n low bound s t h b m.bounded sight found a p.are.0 q.0 p.ranged.0 rs behind regs (omega (arith, more, room, m.registers)) m.kept m.anchored)
+      (λ to after u o same keeps la be.
       assertions_follow annots (record { are = p.are.1; ranged = p.ranged.1 }) q.1 here (omega (arith, behind, this)) room after to u (subst (AreFound sight.entities) (sym la.scope) found)
-      (standing_later w h low bound regs after s to o same la m) be))
+      (standing_after w h low bound regs after s to o same keeps la m) be))

@@ -19,7 +19,8 @@ use Rattle.mon_syntax.proofs.FlatBlocks.{live-born}
 use Rattle.track_scopes.specs.Blocks.{with_pointer, entered, with_born}
 use Rattle.track_scopes.specs.Lives.{AreFrom, Point, PointInOrder, PointToBorn, with_variables}
 use Rattle.c_simulation.specs.Standing.{Setting, Bounded, Here, Standing, IsAnchored, InRegister, AtGlobal, IsInSight, Anchored}
-use Rattle.c_simulation.proofs.Following.{anchored_same}
+use Rattle.c_simulation.specs.Keeping.{Keeps}
+use Rattle.c_simulation.proofs.Following.{anchored_same, kept_same}
 use Rattle.c_simulation.proofs.Bounds.{bounded_append, replicated_bytes}
 use Rattle.instrument.proofs.Own.{AreOwn, AllCanBeBorn}
 use Rattle.mon_syntax.specs.declared.tree.MonType.TheVariants.{Ptr}
@@ -29,9 +30,10 @@ use Rattle.c_simulation.proofs.Registers.{register_of-bound_same, register_of-bo
 -- ---- names in sight
 
 -- a name is in sight, and its register points to its block
-pub anchored_born : (w : Setting) (p number x : ℕ) (bound : Bindings) (regs : List Value) (scope : Scope) → nat_eq x 4294967295 ≡ false → slice_get regs p ≡ Some (Points (Into number 0)) → Anchored w p bound regs scope
+pub anchored_born : (w : Setting) (p number x : ℕ) (bound : Bindings) (regs : List Value) (scope : Scope) → nat_eq x 4294967295 ≡ false → w.plan_to ≤ p → slice_get regs p ≡ Some (Points (Into number 0))
+    → Anchored w p bound regs scope
     → Anchored w (suc p) (bound_with x p bound) regs ((x, number) ∷ scope)
-anchored_born w p number x bound regs scope own there h y at e = by (nat_eq x y) refl e
+anchored_born w p number x bound regs scope own apart there h y at e = by (nat_eq x y) refl e
   where
     by : (t : Bool) → nat_eq x y ≡ t → cond t (Some number) (find y scope) ≡ Some at → IsInSight w (suc p) (bound_with x p bound) regs y at
     by true f g =
@@ -39,33 +41,33 @@ anchored_born w p number x bound regs scope own there h y at e = by (nat_eq x y)
         let one : number ≡ at = cc in
         record {
           own = subst (λ z. nat_eq z 4294967295 ≡ false) same own;
-          anchor = InRegister p (ap (λ z. register_of (bound_with x p bound) z) (sym same) ∙ register_of-bound_same x p bound) (omega arith) (there ∙ ap (λ i. Some (Points (Into i 0))) one);
+          anchor = InRegister p (ap (λ z. register_of (bound_with x p bound) z) (sym same) ∙ register_of-bound_same x p bound) (omega arith) apart (there ∙ ap (λ i. Some (Points (Into i 0))) one);
         }
     by false f g = let a = h y at g in record { own = a.own; anchor = of_anchor a.anchor }
       where
         of_anchor : IsAnchored w p bound regs y at → IsAnchored w (suc p) (bound_with x p bound) regs y at
-        of_anchor (InRegister r is_bound below points) = InRegister r (register_of-bound_other x p y bound f ∙ is_bound) (omega (arith, below)) points
+        of_anchor (InRegister r is_bound below behind points) = InRegister r (register_of-bound_other x p y bound f ∙ is_bound) (omega (arith, below)) behind points
         of_anchor (AtGlobal free is_global points) = AtGlobal (register_of-bound_other x p y bound f ∙ free) is_global points
 
 pub anchored_higher : (w : Setting) (low high : ℕ) (bound : Bindings) (regs : List Value) (scope : Scope) → low ≤ high → Anchored w low bound regs scope → Anchored w high bound regs scope
 anchored_higher w low high bound regs scope le h x number e = let a = h x number e in record { own = a.own; anchor = of_anchor a.anchor }
   where
     of_anchor : IsAnchored w low bound regs x number → IsAnchored w high bound regs x number
-    of_anchor (InRegister r is_bound below points) = InRegister r is_bound (omega (arith, le, below)) points
+    of_anchor (InRegister r is_bound below behind points) = InRegister r is_bound (omega (arith, le, below)) behind points
     of_anchor (AtGlobal free is_global points) = AtGlobal free is_global points
 
 -- all that were born are in sight
-pub anchored_entered : (w : Setting) (structs : List StructType) (ds : List Declaration) (r : RegisterTable) (p : ℕ) (regs : List Value) (s : State) → AreOwn ds → length r.kinds ≡ p → PointInOrder regs p (length s.store + 1) ds
+pub anchored_entered : (w : Setting) (structs : List StructType) (ds : List Declaration) (r : RegisterTable) (p : ℕ) (regs : List Value) (s : State) → AreOwn ds → length r.kinds ≡ p → w.plan_to ≤ p → PointInOrder regs p (length s.store + 1) ds
     → Anchored w p r.bound regs s.scope
     → Anchored w (p + length ds) (entered ds r).bound regs (with_variables structs ds s).scope
-anchored_entered w structs [] r p regs s own e there h = anchored_higher w p (p + 0) r.bound regs s.scope (omega arith) h
-anchored_entered w structs (d ∷ ds) r p regs s own e there h =
+anchored_entered w structs [] r p regs s own e apart there h = anchored_higher w p (p + 0) r.bound regs s.scope (omega arith) h
+anchored_entered w structs (d ∷ ds) r p regs s own e apart there h =
     let to : State = record s { store = s.store ++ new_block Stack (size_of structs d.ctype) ∷ []; scope = (number_of d, length s.store + 1) ∷ s.scope } in
     let long : suc (length s.store + 1) ≡ length to.store + 1 = omega (arith, length-append s.store (new_block Stack (size_of structs d.ctype) ∷ [])) in
     let sum : suc p + length ds ≡ p + suc (length ds) = omega arith in
     subst (λ n. Anchored w n (entered (d ∷ ds) r).bound regs (with_variables structs (d ∷ ds) s).scope) sum
-    (anchored_entered w structs ds (with_pointer d r) (suc p) regs to own.1 (omega (arith, e, length-append r.kinds (Ptr ∷ []))) (subst (λ n. PointInOrder regs (suc p) n ds) long there.1)
-    (subst (λ i. Anchored w (suc p) (bound_with (number_of d) i r.bound) regs to.scope) (sym e) (anchored_born w p (length s.store + 1) (number_of d) r.bound regs s.scope own.0 there.0 h)))
+    (anchored_entered w structs ds (with_pointer d r) (suc p) regs to own.1 (omega (arith, e, length-append r.kinds (Ptr ∷ []))) (omega (arith, apart)) (subst (λ n. PointInOrder regs (suc p) n ds) long there.1)
+    (subst (λ i. Anchored w (suc p) (bound_with (number_of d) i r.bound) regs to.scope) (sym e) (anchored_born w p (length s.store + 1) (number_of d) r.bound regs s.scope own.0 apart there.0 h)))
 
 -- the numbers of names in sight
 abbrev pub names_of : Scope → List ℕ
@@ -104,38 +106,40 @@ pub blocks_from : (structs : List StructType) (base number : ℕ) (ds : List Dec
 blocks_from structs base number [] live lt h = h
 blocks_from structs base number (d ∷ ds) live lt h = blocks_from structs base (suc number) ds (record { number = number; size = size_of structs d.ctype } ∷ live) (omega (arith, lt)) (lt, h)
 
--- registers below a number point to these blocks
-abbrev pub Pointed : ℕ → List Value → List ℕ → List LiveBlock → Type 0
-Pointed low regs [] [] = Unit {0}
-Pointed low regs [] (b ∷ bs) = ⊥
-Pointed low regs (p ∷ ps) [] = ⊥
-Pointed low regs (p ∷ ps) (b ∷ bs) = (p < low) × (slice_get regs p ≡ Some (Points (Into b.number 0))) × Pointed low regs ps bs
+-- registers from one number to another point to these blocks
+abbrev pub Pointed : ℕ → ℕ → List Value → List ℕ → List LiveBlock → Type 0
+Pointed least low regs [] [] = Unit {0}
+Pointed least low regs [] (b ∷ bs) = ⊥
+Pointed least low regs (p ∷ ps) [] = ⊥
+Pointed least low regs (p ∷ ps) (b ∷ bs) = (p < low) × (slice_get regs p ≡ Some (Points (Into b.number 0))) × (least ≤ p) × Pointed least low regs ps bs
 
-pub pointed_point : (low : ℕ) (regs : List Value) (ps : List ℕ) (bs : List LiveBlock) → Pointed low regs ps bs → Point regs ps bs
-pointed_point low regs [] [] h = tt
-pointed_point low regs [] (b ∷ bs) h = absurd h
-pointed_point low regs (p ∷ ps) [] h = absurd h
-pointed_point low regs (p ∷ ps) (b ∷ bs) h = (h.1, pointed_point low regs ps bs h.2)
+pub pointed_point : (least low : ℕ) (regs : List Value) (ps : List ℕ) (bs : List LiveBlock) → Pointed least low regs ps bs → Point regs ps bs
+pointed_point least low regs [] [] h = tt
+pointed_point least low regs [] (b ∷ bs) h = absurd h
+pointed_point least low regs (p ∷ ps) [] h = absurd h
+pointed_point least low regs (p ∷ ps) (b ∷ bs) h = (h.1, pointed_point least low regs ps bs h.3)
 
-pub pointed_same : (low high : ℕ) (regs after : List Value) (ps : List ℕ) (bs : List LiveBlock) → low ≤ high → ((j : ℕ) → j < low → slice_get after j ≡ slice_get regs j) → Pointed low regs ps bs → Pointed high after ps bs
-pointed_same low high regs after [] [] le same h = tt
-pointed_same low high regs after [] (b ∷ bs) le same h = absurd h
-pointed_same low high regs after (p ∷ ps) [] le same h = absurd h
-pointed_same low high regs after (p ∷ ps) (b ∷ bs) le same h = (omega (arith, le, h.0), same p h.0 ∙ h.1, pointed_same low high regs after ps bs le same h.2)
+pub pointed_same : (least low high : ℕ) (regs after : List Value) (ps : List ℕ) (bs : List LiveBlock) → low ≤ high → ((j : ℕ) → j < low → least ≤ j → slice_get after j ≡ slice_get regs j) → Pointed least low regs ps bs
+    → Pointed least high after ps bs
+pointed_same least low high regs after [] [] le same h = tt
+pointed_same least low high regs after [] (b ∷ bs) le same h = absurd h
+pointed_same least low high regs after (p ∷ ps) [] le same h = absurd h
+pointed_same least low high regs after (p ∷ ps) (b ∷ bs) le same h = (omega (arith, le, h.0), same p h.0 h.2 ∙ h.1, h.2, pointed_same least low high regs after ps bs le same h.3)
 
-pub pointed_append : (low : ℕ) (regs : List Value) (ps qs : List ℕ) (xs bs : List LiveBlock) → Pointed low regs ps xs → Pointed low regs qs bs → Pointed low regs (ps ++ qs) (xs ++ bs)
-pointed_append low regs [] qs [] bs h g = g
-pointed_append low regs [] qs (x ∷ xs) bs h g = absurd h
-pointed_append low regs (p ∷ ps) qs [] bs h g = absurd h
-pointed_append low regs (p ∷ ps) qs (x ∷ xs) bs h g = (h.0, h.1, pointed_append low regs ps qs xs bs h.2 g)
+pub pointed_append : (least low : ℕ) (regs : List Value) (ps qs : List ℕ) (xs bs : List LiveBlock) → Pointed least low regs ps xs → Pointed least low regs qs bs → Pointed least low regs (ps ++ qs) (xs ++ bs)
+pointed_append least low regs [] qs [] bs h g = g
+pointed_append least low regs [] qs (x ∷ xs) bs h g = absurd h
+pointed_append least low regs (p ∷ ps) qs [] bs h g = absurd h
+pointed_append least low regs (p ∷ ps) qs (x ∷ xs) bs h g = (h.0, h.1, h.2, pointed_append least low regs ps qs xs bs h.3 g)
 
-pub pointed_born : (structs : List StructType) (p number : ℕ) (ds : List Declaration) (regs : List Value) (ps : List ℕ) (bs : List LiveBlock) → PointInOrder regs p number ds → Pointed p regs ps bs
-    → Pointed (p + length ds) regs (with_born p ds ps) (with_blocks structs number ds bs)
-pointed_born structs p number [] regs ps bs there h = pointed_same p (p + 0) regs regs ps bs (omega arith) (λ j lt. refl) h
-pointed_born structs p number (d ∷ ds) regs ps bs there h =
+pub pointed_born : (structs : List StructType) (least p number : ℕ) (ds : List Declaration) (regs : List Value) (ps : List ℕ) (bs : List LiveBlock) → least ≤ p → PointInOrder regs p number ds → Pointed least p regs ps bs
+    → Pointed least (p + length ds) regs (with_born p ds ps) (with_blocks structs number ds bs)
+pointed_born structs least p number [] regs ps bs apart there h = pointed_same least p (p + 0) regs regs ps bs (omega arith) (λ j lt more. refl) h
+pointed_born structs least p number (d ∷ ds) regs ps bs apart there h =
     let sum : suc p + length ds ≡ p + suc (length ds) = omega arith in
-    subst (λ n. Pointed n regs (with_born (suc p) ds (p ∷ ps)) (with_blocks structs (suc number) ds (record { number = number; size = size_of structs d.ctype } ∷ bs))) sum
-    (pointed_born structs (suc p) (suc number) ds regs (p ∷ ps) (record { number = number; size = size_of structs d.ctype } ∷ bs) there.1 (omega arith, there.0, pointed_same p (suc p) regs regs ps bs (omega arith) (λ j lt. refl) h))
+    subst (λ n. Pointed least n regs (with_born (suc p) ds (p ∷ ps)) (with_blocks structs (suc number) ds (record { number = number; size = size_of structs d.ctype } ∷ bs))) sum
+    (pointed_born structs least (suc p) (suc number) ds regs (p ∷ ps) (record { number = number; size = size_of structs d.ctype } ∷ bs) (omega (arith, apart)) there.1
+    (omega arith, there.0, apart, pointed_same least p (suc p) regs regs ps bs (omega arith) (λ j lt more. refl) h))
 
 -- ---- bounds
 
@@ -195,12 +199,13 @@ pub record IsBesides (s to : State) : Type 0 where
   pub steps : to.steps ≡ s.steps
   pub input : to.input ≡ s.input
   pub output : to.output ≡ s.output
+  pub marks : to.marks ≡ s.marks
 
 pub besides : (structs : List StructType) (ds : List Declaration) (s : State) → IsBesides s (with_variables structs ds s)
-besides structs [] s = record { calls = refl; steps = refl; input = refl; output = refl }
+besides structs [] s = record { calls = refl; steps = refl; input = refl; output = refl; marks = refl }
 besides structs (d ∷ ds) s =
     let h = besides structs ds (record s { store = s.store ++ new_block Stack (size_of structs d.ctype) ∷ []; scope = (number_of d, length s.store + 1) ∷ s.scope }) in
-    record { calls = h.calls; steps = h.steps; input = h.input; output = h.output }
+    record { calls = h.calls; steps = h.steps; input = h.input; output = h.output; marks = h.marks }
 
 -- those of the call, and those around it
 pub all_apart : (a b c d : List LiveBlock) → (a ++ (b ++ c)) ++ d ≡ a ++ (b ++ (c ++ d))
@@ -233,7 +238,8 @@ module _ (w : Setting) (h : Here) (low : ℕ) (r : RegisterTable) (ds : List Dec
   standing_born own =
       let b = besides w.unit.structs ds s in
       record {
-        anchored = anchored_entered w w.unit.structs ds r (length r.kinds) after s own refl born.point (anchored_higher w low (length r.kinds) r.bound after s.scope le (anchored_same w low r.bound regs after s.scope new_same st.anchored));
+        anchored = anchored_entered w w.unit.structs ds r (length r.kinds) after s own refl (omega (arith, st.kept.below, le)) born.point
+            (anchored_higher w low (length r.kinds) r.bound after s.scope le (anchored_same w low r.bound regs after s.scope new_same st.anchored));
         active = b.calls ∙ st.active;
         live =
             live_with w.unit.structs ds s ∙ ap (with_blocks w.unit.structs (length s.store + 1) ds) st.live
@@ -253,4 +259,7 @@ module _ (w : Setting) (h : Here) (low : ℕ) (r : RegisterTable) (ds : List Dec
         longer = omega (arith, st.longer, long_with w.unit.structs ds s);
         bounded = bounded_born w.unit.structs ds s to done st.bounded;
         registers = born.long ∙ st.registers;
+        kept =
+            let here = kept_same w low s.marks regs after new_same st.kept in
+            record { below = omega (arith, here.below, le); planned = here.planned; keeps = subst (λ ms. Keeps w.plan ms after) (sym b.marks) here.keeps };
       }

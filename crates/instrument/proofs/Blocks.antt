@@ -1,5 +1,5 @@
 -- A block of variables: they are born, something is done, and they die, whichever way the block is left.
-use Rattle.std.proofs.Common.{◌≡◌, ℕ, ◌+◌, ◌≤◌, List, [], ◌++◌, length, refl, sym, ap, ◌∙◌, subst, arith}
+use Rattle.std.proofs.Common.{◌≡◌, inr, ℕ, ◌+◌, ◌≤◌, List, [], ◌++◌, length, refl, sym, ap, ◌∙◌, subst, arith}
 use Rattle.std.proofs.lemmas.List.{append-nil}
 use Rattle.c_syntax.specs.Statements.{Declaration}
 use Rattle.c_model.specs.Memory.{Value, kill_from}
@@ -19,15 +19,16 @@ use Rattle.track_scopes.specs.Lives.{AreFrom, with_store, PointToBorn, Births, A
 use Rattle.instrument.specs.Translation.{Spot, alive}
 use Rattle.c_simulation.specs.Labels.{end_label, next_label}
 use Rattle.instrument.specs.Translation as translation
-use Rattle.c_simulation.specs.SameRegisters.{Same}
+use Rattle.c_simulation.specs.Keeping.{Keeps}
+use Rattle.c_simulation.specs.SameRegisters.{Same, Stays}
 use Rattle.c_simulation.specs.Standing.{Target, Did, Setting, runs, Here, Standing, Beside}
 use Rattle.c_simulation.proofs.Results.{writes_none, written_then, before_is}
 use Rattle.c_simulation.specs.Following.{written}
-use Rattle.c_simulation.proofs.Registers.{same_trans}
+use Rattle.c_simulation.proofs.Registers.{stays_same, stays_trans}
 use Rattle.instrument.proofs.Lives.{length-killed}
 use Rattle.instrument.proofs.Deaths.{kill_more, bounded_killed, all_before, live_killed}
-use Rattle.c_simulation.proofs.Following.{standing_later}
-use Rattle.c_simulation.specs.Following.{Later, Follows, GoesOn, Breaks, Continues, IsLeft, IsOver, IsUndefined}
+use Rattle.c_simulation.proofs.Following.{standing_after, standing_later}
+use Rattle.c_simulation.specs.Following.{Later, Passes, Follows, GoesOn, Breaks, Continues, IsLeft, IsOver, IsUndefined}
 use Rattle.instrument.proofs.Births.{can_be_born, names_of, names_of-born, with_numbers, with_blocks, Pointed, pointed_point, pointed_same, pointed_born, besides, long_with, behind_births, new_same, new_live, are_new, standing_born}
 use Rattle.instrument.proofs.Own.{AreOwn, AllCanBeBorn}
 
@@ -37,9 +38,9 @@ use Rattle.instrument.proofs.Own.{AreOwn, AllCanBeBorn}
 pub record Meets (w : Setting) (h : Here) (spot : Spot) (low : ℕ) (bound : Bindings) (living : List ℕ) (regs : List Value) (s : State) (t : Target) : Type 0 where
   pub standing : Standing w h low bound regs s
   pub beside : Beside w s.store s t
-  pub inside : Pointed low regs spot.inside h.inner
-  pub between : Pointed low regs spot.between h.between
-  pub outside : Pointed low regs spot.outside h.outer
+  pub inside : Pointed w.plan_to low regs spot.inside h.inner
+  pub between : Pointed w.plan_to low regs spot.between h.between
+  pub outside : Pointed w.plan_to low regs spot.outside h.outer
   pub names : names_of s.scope ≡ living
 
 pub meets_later : (w : Setting) (h : Here) (spot : Spot) (low : ℕ) (bound : Bindings) (living : List ℕ) (regs after : List Value) (s to : State) (t u : Target) (o : List ℕ) → Same low regs after → Later s to o → Beside w to.store to u
@@ -47,9 +48,21 @@ pub meets_later : (w : Setting) (h : Here) (spot : Spot) (low : ℕ) (bound : Bi
 meets_later w h spot low bound living regs after s to t u o same l b m = record {
   standing = standing_later w h low bound regs after s to o same l m.standing;
   beside = b;
-  inside = pointed_same low low regs after spot.inside h.inner (omega arith) same.below m.inside;
-  between = pointed_same low low regs after spot.between h.between (omega arith) same.below m.between;
-  outside = pointed_same low low regs after spot.outside h.outer (omega arith) same.below m.outside;
+  inside = pointed_same w.plan_to low low regs after spot.inside h.inner (omega arith) (λ j lt more. same.below j lt) m.inside;
+  between = pointed_same w.plan_to low low regs after spot.between h.between (omega arith) (λ j lt more. same.below j lt) m.between;
+  outside = pointed_same w.plan_to low low regs after spot.outside h.outer (omega arith) (λ j lt more. same.below j lt) m.outside;
+  names = ap names_of l.scope ∙ m.names;
+}
+
+-- after a statement
+pub meets_after : (w : Setting) (h : Here) (spot : Spot) (low : ℕ) (bound : Bindings) (living : List ℕ) (regs after : List Value) (s to : State) (t u : Target) (o : List ℕ) → Stays w.plan_from w.plan_to low regs after
+    → Keeps w.plan to.marks after → Passes s to o → Beside w to.store to u → Meets w h spot low bound living regs s t → Meets w h spot low bound living after to u
+meets_after w h spot low bound living regs after s to t u o same keeps l b m = record {
+  standing = standing_after w h low bound regs after s to o same keeps l m.standing;
+  beside = b;
+  inside = pointed_same w.plan_to low low regs after spot.inside h.inner (omega arith) (λ j lt more. same.kept j lt (inr more)) m.inside;
+  between = pointed_same w.plan_to low low regs after spot.between h.between (omega arith) (λ j lt more. same.kept j lt (inr more)) m.between;
+  outside = pointed_same w.plan_to low low regs after spot.outside h.outer (omega arith) (λ j lt more. same.kept j lt (inr more)) m.outside;
   names = ap names_of l.scope ∙ m.names;
 }
 
@@ -57,16 +70,17 @@ meets_later w h spot low bound living regs after s to t u o same l b m = record 
 
 -- variables were born in a state, and others lived there; registers from `low` on point to them
 module _ (w : Setting) (h : Here) (n : ℕ) (old : State) (new : List LiveBlock) (low high : ℕ) (le : low ≤ high) (regs mid : List Value) (same : Same low regs mid) (blocks : List ℕ) (code : MonStatements) (leave : lives.EndLives blocks code)
-    (points : Pointed high mid blocks new) (are_new : AreFrom (length old.store) new) (deep : h.left ≤ length old.store) (deeper : h.loop ≤ h.left) (nested : w.base ≤ h.loop) (from : State) (born : live_in from.store ≡ new ++ live_in old.store)
+    (points : Pointed w.plan_to high mid blocks new) (are_new : AreFrom (length old.store) new) (deep : h.left ≤ length old.store) (deeper : h.loop ≤ h.left) (nested : w.base ≤ h.loop)
+    (from : State) (born : live_in from.store ≡ new ++ live_in old.store)
     (long : length old.store ≤ length from.store) (spent : from.steps ≤ old.steps) (output : from.output ≡ old.output) where
   abbrev ends : Did → Did
   ends q = then_do q (at_next (exec_all over_blocks w.globals code w.calls n))
 
-  module _ (s : State) (o : List ℕ) (l : Later from s o) where
+  module _ (s : State) (o : List ℕ) (l : Passes from s o) where
     pub there : live_in s.store ≡ new ++ live_in old.store
     there = l.live ∙ born
 
-    pub later_back : Later old (back_to old s) o
+    pub later_back : Passes old (back_to old s) o
     later_back = record {
       scope = refl;
       calls = refl;
@@ -75,6 +89,7 @@ module _ (w : Setting) (h : Here) (n : ℕ) (old : State) (new : List LiveBlock)
       bounded = bounded_killed (length old.store) s.store l.bounded;
       spent = omega (arith, spent, l.spent);
       output = l.output ∙ ap (λ x. x ++ o) output;
+      marks = refl;
     }
 
     -- what was born since some block is dead already
@@ -85,24 +100,25 @@ module _ (w : Setting) (h : Here) (n : ℕ) (old : State) (new : List LiveBlock)
     abbrev pub died : Target → Target
     died t = with_store (kill_from (length old.store) t.mem.store) t
 
-    pub deaths_run : (after : List Value) (t : Target) → Same high mid after → Beside w s.store s t → exec_all over_blocks w.globals code w.calls n after t ≡ Done (Next after) (died t) []
+    pub deaths_run : (after : List Value) (t : Target) → Stays w.plan_from w.plan_to high mid after → Beside w s.store s t → exec_all over_blocks w.globals code w.calls n after t ≡ Done (Next after) (died t) []
     deaths_run after t same2 b =
         leave w.globals w.calls n (length old.store) after t new (live_in old.store) (ap live_in b.store_is ∙ there) are_new (all_before old.store)
-        (pointed_point high after blocks new (pointed_same high high mid after blocks new (omega arith) same2.below points))
+        (pointed_point w.plan_to high after blocks new (pointed_same w.plan_to high high mid after blocks new (omega arith) (λ j lt more. same2.kept j lt (inr more)) points))
 
     pub beside_died : (t : Target) → Beside w s.store s t → Beside w (back_to old s).store (back_to old s) (died t)
     beside_died t b = record { store_is = ap (kill_from (length old.store)) b.store_is; frames = b.frames; steps = b.steps; input = b.input }
 
   -- the source leaves the block, and in the target its variables die where control comes to the end
   pub block_ends : (inner : List LiveBlock) (r : Outcome (Unit {0})) (q : Did) → Follows w (record h { inner = inner }) high mid Next from r q → Follows w h low regs Next old (restored old r) (ends q)
-  block_ends inner r q (GoesOn s after t o m l b e f) =
-      GoesOn (back_to old s) after (died s o l t) o (same_trans low high regs mid after le same m) (later_back s o l) (beside_died s o l t b) (ap (restored old) e)
+  block_ends inner r q (GoesOn s after t o m g l b e f) =
+      GoesOn (back_to old s) after (died s o l t) o (stays_trans w.plan_from w.plan_to low high regs mid after le (stays_same w.plan_from w.plan_to low regs mid same) m) g (later_back s o l) (beside_died s o l t b) (ap (restored old) e)
       (ap ends f ∙ ap (writes o) (deaths_run s o l after t m b) ∙ ap (Done (Next after) (died s o l t)) (append-nil o))
-  block_ends inner r q (Breaks s after t o i m l b e f) =
-      Breaks (back_to old s) after t o i (same_trans low high regs mid after le same m) (later_back s o l) (beside_back s o l h.left t deep b) (ap (restored old) e)
+  block_ends inner r q (Breaks s after t o i m g l b e f) =
+      Breaks (back_to old s) after t o i (stays_trans w.plan_from w.plan_to low high regs mid after le (stays_same w.plan_from w.plan_to low regs mid same) m) g (later_back s o l) (beside_back s o l h.left t deep b) (ap (restored old) e)
       (ap ends f ∙ ap (Done (Goes (end_label h.levels) after) t) (append-nil o))
-  block_ends inner r q (Continues s after t o i m l b e f) =
-      Continues (back_to old s) after t o i (same_trans low high regs mid after le same m) (later_back s o l) (beside_back s o l h.loop t (omega (arith, deeper, deep)) b) (ap (restored old) e)
+  block_ends inner r q (Continues s after t o i m g l b e f) =
+      Continues (back_to old s) after t o i (stays_trans w.plan_from w.plan_to low high regs mid after le (stays_same w.plan_from w.plan_to low regs mid same) m) g
+      (later_back s o l) (beside_back s o l h.loop t (omega (arith, deeper, deep)) b) (ap (restored old) e)
       (ap ends f ∙ ap (Done (Goes (next_label h.innermost) after) t) (append-nil o))
   block_ends inner r q (IsLeft v s t o i l b e f) =
       IsLeft v (back_to old s) t o i (later_back s o l) (beside_back s o l w.base t (omega (arith, nested, deeper, deep)) b) (ap (restored old) e)
@@ -141,9 +157,10 @@ module _ (w : Setting) (h : Here) (spot : Spot) (low : ℕ) (r : RegisterTable) 
         record {
           standing = standing_born w h low r ds regs after s le m.standing born done own;
           beside = record { store_is = refl; frames = m.beside.frames; steps = m.beside.steps ∙ sym b.steps; input = m.beside.input ∙ sym b.input };
-          inside = pointed_born w.unit.structs p (length s.store + 1) ds after spot.inside h.inner born.point (pointed_same low p regs after spot.inside h.inner le (λ j lt. born.before j (omega (arith, lt, le))) m.inside);
-          between = pointed_same low (p + length ds) regs after spot.between h.between (omega (arith, le)) (λ j lt. born.before j (omega (arith, lt, le))) m.between;
-          outside = pointed_same low (p + length ds) regs after spot.outside h.outer (omega (arith, le)) (λ j lt. born.before j (omega (arith, lt, le))) m.outside;
+          inside = pointed_born w.unit.structs w.plan_to p (length s.store + 1) ds after spot.inside h.inner (omega (arith, le, m.standing.kept.below)) born.point
+              (pointed_same w.plan_to low p regs after spot.inside h.inner le (λ j lt more. born.before j (omega (arith, lt, le))) m.inside);
+          between = pointed_same w.plan_to low (p + length ds) regs after spot.between h.between (omega (arith, le)) (λ j lt more. born.before j (omega (arith, lt, le))) m.between;
+          outside = pointed_same w.plan_to low (p + length ds) regs after spot.outside h.outer (omega (arith, le)) (λ j lt more. born.before j (omega (arith, lt, le))) m.outside;
           names = names_of-born w.unit.structs ds s ∙ ap (with_numbers ds) m.names;
         }
 
@@ -161,7 +178,7 @@ module _ (w : Setting) (h : Here) (spot : Spot) (low : ℕ) (r : RegisterTable) 
         block_ends w h n s (with_blocks w.unit.structs (length s.store + 1) ds []) low (p + length ds) (omega (arith, le)) regs after
         (new_same w h low r ds regs after s le m.standing born done)
         (with_born p ds []) (deaths (with_born p ds [])) leave
-        (pointed_born w.unit.structs p (length s.store + 1) ds after [] [] born.point tt)
+        (pointed_born w.unit.structs w.plan_to p (length s.store + 1) ds after [] [] (omega (arith, le, m.standing.kept.below)) born.point tt)
         (are_new w h low r ds regs after s le m.standing born done) m.standing.longer m.standing.deeper m.standing.nested to
         (new_live w h low r ds regs after s le m.standing born done) (long_with w.unit.structs ds s) le_steps b.output
         (with_blocks w.unit.structs (length s.store + 1) ds h.inner) (x to) q f

@@ -109,6 +109,9 @@ module _ (p : TranslationUnit) (parts : Parts p p.funcs) (gs : List Value)
     base = base;
     around = around;
     active = active;
+    plan = [];
+    plan_from = 0;
+    plan_to = 0;
   }
 
   -- the calls of all functions do the same

@@ -41,8 +41,8 @@ use Rattle.instrument.specs.Translation.{functions_from, function_name, translat
 use Rattle.c_simulation.specs.Standing.{Target, Did, Setting, Beside, Bounded, runs, Anchored}
 use Rattle.c_simulation.proofs.Results.{writes_none, written_then, before_is}
 use Rattle.c_simulation.specs.Following.{written}
-use Rattle.c_simulation.proofs.Following.{onward}
-use Rattle.c_simulation.specs.Following.{Later, Follows, GoesOn, Breaks, Continues, IsLeft, IsOver, IsUndefined}
+use Rattle.c_simulation.proofs.Following.{onward_same}
+use Rattle.c_simulation.specs.Following.{Passes, Follows, GoesOn, Breaks, Continues, IsLeft, IsOver, IsUndefined}
 use Rattle.instrument.proofs.Births.{names_of, with_numbers}
 use Rattle.instrument.proofs.Blocks.{Meets}
 use Rattle.instrument.proofs.Functions.{setting, how_many, at_body, MeetsBody, body_code, zero_of, registers_full}
@@ -55,7 +55,7 @@ use Rattle.instrument.proofs.Globals.{HasGlobals, globals_at_start}
 use Rattle.instrument.proofs.Starts.{pointers, literal_points, anchored_at_start, start_blocks}
 use Rattle.c_simulation.proofs.Registers.{same_all}
 use Rattle.c_effects.specs.Letters.{InitialsHaveLetters}
-use Rattle.c_simulation.specs.SameRegisters.{Same}
+use Rattle.c_simulation.specs.SameRegisters.{Stays}
 use Rattle.instrument.proofs.Deaths.{all_before}
 use Rattle.c_simulation.proofs.Calls.{IsCalled}
 use Rattle.instrument.proofs.Callees.{main, functions, calls_at}
@@ -166,11 +166,11 @@ module _ (w : Setting) (base : ℕ) (blocks : List LiveBlock) (low : ℕ) (regs 
   ended q = monitored.ran over_blocks (then_do q (at_return over_blocks (Integer (pos 0))))
 
   ends_agree : (r : Outcome (Unit {0})) (q : Did) → Follows w (at_body base blocks int_type) low regs Next from r q → Agrees (ran (answered s0 r)) (ended q)
-  ends_agree r q (GoesOn s after t o same l b e e') =
+  ends_agree r q (GoesOn s after t o same keeps l b e e') =
       subst (λ r. Agrees (ran (answered s0 r)) (ended q)) (sym e)
       (ap ended e' ∙ ap (λ x. ran_with (machine.Exits (pos 0)) x t.steps) (append-nil o ∙ sym (l.output ∙ ap (λ x. x ++ o) empty)) ∙ ap (ran_with (machine.Exits (pos 0)) s.output) b.steps)
-  ends_agree r q (Breaks s after t o i m l b e e') = absurd cc
-  ends_agree r q (Continues s after t o i m l b e e') = absurd cc
+  ends_agree r q (Breaks s after t o i m g2 l b e e') = absurd cc
+  ends_agree r q (Continues s after t o i m g2 l b e e') = absurd cc
   ends_agree r q (IsLeft None s t o i l b e e') = absurd i
   ends_agree r q (IsLeft (Some v) s t o i l b e e') =
       let is : (z : ℤ) × (v ≡ Integer z) × (fits I32 z ≡ true) = i in
@@ -217,12 +217,13 @@ module _ (w : Setting) (low : ℕ) (regs : List Value) (from : State) (empty : f
   goes_on q = monitored.ran over_blocks (then_do (then_do q (at_next g)) (at_return over_blocks z))
 
   front_agrees : (r : Outcome (Unit {0})) (q : Did)
-      → ((s : State) (after : List Value) (t : Target) (o : List ℕ) → Same low regs after → Later from s o → Beside w s.store s t → Agrees (ran (x s)) (monitored.ran over_blocks (then_do (writes o (g after t)) (at_return over_blocks z))))
+      → ((s : State) (after : List Value) (t : Target) (o : List ℕ) → Stays w.plan_from w.plan_to low regs after → Passes from s o → Beside w s.store s t
+      → Agrees (ran (x s)) (monitored.ran over_blocks (then_do (writes o (g after t)) (at_return over_blocks z))))
       → Follows w (at_body 0 [] int_type) low regs Next from r q → Agrees (ran (on_outcome r (λ _. x))) (goes_on q)
-  front_agrees r q go (GoesOn s after t o same l b e e') =
+  front_agrees r q go (GoesOn s after t o same keeps l b e e') =
       subst (λ r. Agrees (ran (on_outcome r (λ _. x))) (goes_on q)) (sym e) (subst (λ q. Agrees (ran (x s)) (goes_on q)) (sym e') (go s after t o same l b))
-  front_agrees r q go (Breaks s after t o i m l b e e') = absurd cc
-  front_agrees r q go (Continues s after t o i m l b e e') = absurd cc
+  front_agrees r q go (Breaks s after t o i m g2 l b e e') = absurd cc
+  front_agrees r q go (Continues s after t o i m g2 l b e e') = absurd cc
   front_agrees r q go (IsLeft None s t o i l b e e') = absurd i
   front_agrees r q go (IsLeft (Some v) s t o i l b e e') =
       let is : (z : ℤ) × (v ≡ Integer z) × (fits I32 z ≡ true) = i in
@@ -345,6 +346,7 @@ module _ (p : TranslationUnit) (parts : Parts p p.funcs) (main_is : main_fault p
         longer = omega arith;
         bounded = bounded;
         registers = long ∙ opens_long;
+        kept = record { below = omega arith; planned = tt; keeps = tt };
       };
       beside = record { store_is = store_is; frames = frames; steps = steps; input = input_is };
       inside = tt;
@@ -402,8 +404,8 @@ module _ (p : TranslationUnit) (parts : Parts p p.funcs) (main_is : main_fault p
 
     from_silent : Follows (w s.store) (at_body (length s.store) [] int_type) low after Next silent (body_with T f.body call (suc n) entered) (writes o did)
     from_silent =
-        onward (w s.store) (at_body (length s.store) [] int_type) low after after Next silent entered o (body_with T f.body call (suc n) entered) did (same_all low after)
-        (record { scope = refl; calls = refl; live = refl; longer = omega arith; bounded = bounded; spent = omega arith; output = written_is }) body_does
+        onward_same (w s.store) (at_body (length s.store) [] int_type) low after after Next silent entered o (body_with T f.body call (suc n) entered) did (same_all low after)
+        (record { scope = refl; calls = refl; live = refl; longer = omega arith; bounded = bounded; spent = omega arith; output = written_is; marks = refl }) body_does
 
     main_agrees : Agrees (ran (main_with T (function_named p (codes "main") p.funcs) call (suc n) s)) (monitored.ran over_blocks (then_do (writes o (runs (w s.store) n t (code_of p mine f) after)) (at_return over_blocks (zero_of f))))
     main_agrees =
@@ -437,7 +439,7 @@ module _ (p : TranslationUnit) (parts : Parts p p.funcs) (main_is : main_fault p
 
   globals_do : Follows first_setting (at_body 0 [] int_type) 0 opens Next (start p input n) (initialise_all T p.globals call (start p input n)) fronts
   globals_do =
-      globals_at_start first_setting (has_globals first_setting known refl) n (at_body 0 [] int_type) [] opens input n entered_target (omega (arith, room, opens_long)) opens_long
+      globals_at_start first_setting (has_globals first_setting known refl) n (at_body 0 [] int_type) [] opens input n entered_target (omega (arith, room, opens_long)) opens_long (record { below = omega arith; planned = tt; keeps = tt })
       (record { store_is = start_blocks p; frames = refl; steps = refl; input = refl })
 
   -- the translation keeps the meaning

@@ -160,14 +160,14 @@ anchored_behind w a r low regs scope absent h x number e =
     same = statement_other w.unit x a r (not_in_sight x number scope (declared_within a) absent e)
 
     of_anchor : IsAnchored w low r.bound regs x number → IsAnchored w low (after_statement w.unit a r).bound regs x number
-    of_anchor (InRegister k is_bound below points) = InRegister k (same ∙ is_bound) below points
+    of_anchor (InRegister k is_bound below behind points) = InRegister k (same ∙ is_bound) below behind points
     of_anchor (AtGlobal free is_global points) = AtGlobal (same ∙ free) is_global points
 
 pub meets_behind : (w : Setting) (h : Here) (spot : Spot) (low : ℕ) (a : Statement) (r : RegisterTable) (living : List ℕ) (regs : List Value) (s : State) (t : Target) → AreAbsent living (declared_within a)
     → Meets w h spot low r.bound living regs s t → Meets w h spot low (after_statement w.unit a r).bound living regs s t
 meets_behind w h spot low a r living regs s t absent m = record {
   standing = standing_as w h low low r.bound (after_statement w.unit a r).bound regs regs s s h.breaks h.looped m.standing
-      (anchored_behind w a r low regs s.scope (subst (λ l. AreAbsent l (declared_within a)) (sym m.names) absent) m.standing.anchored) refl refl (omega arith) m.standing.bounded refl;
+      (anchored_behind w a r low regs s.scope (subst (λ l. AreAbsent l (declared_within a)) (sym m.names) absent) m.standing.anchored) refl refl (omega arith) m.standing.bounded refl m.standing.kept;
   beside = m.beside;
   inside = m.inside;
   between = m.between;

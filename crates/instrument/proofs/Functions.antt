@@ -1,5 +1,6 @@
 -- A call of a function: a step, a frame, the parameters, the body, and what the call gives.
-use Rattle.std.proofs.Common.{◌≡◌, ℕ, zero, suc, ◌+◌, ◌-◌, ◌≤◌, pos, Bool, true, false, cond, if◌then◌else◌, nat_eq, nat_lt, List, [], ◌∷◌, ◌++◌, length, length-append, append_assoc, Some, None, refl, sym, ap, ◌∙◌, subst, arith, drop, length-drop}
+use Rattle.std.proofs.Common.{◌≡◌, inr, ℕ, zero, suc, ◌+◌, ◌-◌, ◌≤◌, pos, Bool, true, false, cond, if◌then◌else◌, nat_eq, nat_lt, List, [], ◌∷◌, ◌++◌, length, length-append, append_assoc, Some, None, refl, sym, ap, ◌∙◌, subst}
+use Rattle.std.proofs.Common.{arith, drop, length-drop}
 use Rattle.std.proofs.lemmas.List.{append-nil, length-map}
 use Rattle.c_syntax.specs.declared.place.Place.{Place}
 use Rattle.c_syntax.specs.declared.types.Segment.TheVariants as segment
@@ -29,7 +30,7 @@ use Rattle.track_scopes.specs.Lives.{AreFrom, with_store}
 use Rattle.instrument.specs.Translation.{Spot, body_part, code_of, outermost, front, front_temporaries, function_of, value_types, registers_of_body, result_of}
 use Rattle.mon_syntax.specs.declared.tree.MonType.{MonType}
 use Rattle.instrument.specs.Translation as target
-use Rattle.c_simulation.specs.Standing.{Target, Did, Setting, runs, Bounded, Here, Beside, Anchored}
+use Rattle.c_simulation.specs.Standing.{Target, Did, Setting, runs, Bounded, Here, Beside, Anchored, IsKept}
 use Rattle.track_scopes.proofs.Deaths.{deaths_end}
 use Rattle.c_simulation.proofs.Results.{writes_none, written_then, before_is}
 use Rattle.c_simulation.specs.Following.{written}
@@ -37,7 +38,7 @@ use Rattle.c_simulation.proofs.Registers.{get-end}
 use Rattle.instrument.proofs.Lives.{length-killed}
 use Rattle.instrument.proofs.Deaths.{bounded_killed, all_before, live_killed}
 use Rattle.c_simulation.proofs.Following.{standing_as}
-use Rattle.c_simulation.specs.Following.{Later, Follows, GoesOn, Breaks, Continues, IsLeft, IsOver, IsUndefined}
+use Rattle.c_simulation.specs.Following.{Later, Passes, Follows, GoesOn, Breaks, Continues, IsLeft, IsOver, IsUndefined}
 use Rattle.instrument.proofs.Births.{with_numbers, pointed_point, pointed_same}
 use Rattle.instrument.proofs.Blocks.{Meets}
 use Rattle.instrument.proofs.Parameters.{AreScalars, HoldInOrder, BearsAll, AllBorn, SomeFull, SomeUndefined, parameters_follow}
@@ -52,10 +53,10 @@ use Rattle.instrument.proofs.Objects.{names_at_start}
 abbrev marked : State → List Mark → State
 marked s ms = record s { marks = ms }
 
-meets_marked : (w : Setting) (h : Here) (spot : Spot) (low : ℕ) (bound : Bindings) (living : List ℕ) (regs : List Value) (s : State) (t : Target) (ms : List Mark) → Meets w h spot low bound living regs s t
-    → Meets w h spot low bound living regs (marked s ms) t
-meets_marked w h spot low bound living regs s t ms m = record {
-  standing = standing_as w h low low bound bound regs regs s (marked s ms) h.breaks h.looped m.standing m.standing.anchored refl refl (omega arith) m.standing.bounded refl;
+meets_marked : (w : Setting) (h : Here) (spot : Spot) (low : ℕ) (bound : Bindings) (living : List ℕ) (regs : List Value) (s : State) (t : Target) (ms : List Mark) → IsKept w low ms regs
+    → Meets w h spot low bound living regs s t → Meets w h spot low bound living regs (marked s ms) t
+meets_marked w h spot low bound living regs s t ms kept m = record {
+  standing = standing_as w h low low bound bound regs regs s (marked s ms) h.breaks h.looped m.standing m.standing.anchored refl refl (omega arith) m.standing.bounded refl kept;
   beside = record { store_is = m.beside.store_is; frames = m.beside.frames; steps = m.beside.steps; input = m.beside.input };
   inside = m.inside;
   between = m.between;
@@ -95,7 +96,7 @@ module _ (w : Setting) (s from : State) (base : w.base ≡ length s.store) (arou
   are_new : AreFrom (length s.store) blocks
   are_new = subst (λ n. AreFrom n blocks) base (subst (AreFrom w.base) (append-nil blocks) m0.standing.since_call)
 
-  module _ (to : State) (o : List ℕ) (l : Later from to o) where
+  module _ (to : State) (o : List ℕ) (l : Passes from to o) where
     live_is : live_in to.store ≡ blocks ++ live_in s.store
     live_is = l.live ∙ m0.standing.live ∙ ap (λ bs. blocks ++ bs) around
 
@@ -108,6 +109,7 @@ module _ (w : Setting) (s from : State) (base : w.base ≡ length s.store) (arou
       bounded = bounded_killed (length s.store) to.store l.bounded;
       spent = omega (arith, spent, l.spent);
       output = l.output ∙ ap (λ x. x ++ o) output;
+      marks = refl;
     }
 
     even_there : (u : Target) → Beside w (kill_from w.base to.store) to u → Even (back_from_call s to) (left_frame over_blocks u)
@@ -119,7 +121,7 @@ module _ (w : Setting) (s from : State) (base : w.base ≡ length s.store) (arou
     }
 
   pub function_ends : (r : Outcome (Unit {0})) (q : Did) → Follows w (at_body w.base blocks f.result) low regs Next from r q → Called s f.result (answered s (returned_by f r)) (ended q)
-  function_ends r q (GoesOn to after t o same l b e g) =
+  function_ends r q (GoesOn to after t o same keeps l b e g) =
       subst (λ x. Called s f.result (answered s (returned_by f x)) (ended q)) (sym e) (by f.result)
     where
       dead : Target
@@ -131,7 +133,7 @@ module _ (w : Setting) (s from : State) (base : w.base ≡ length s.store) (arou
       dies : exec_all over_blocks w.globals (deaths ps) w.calls n after t ≡ Done (Next after) dead []
       dies =
           leave w.globals w.calls n w.base after t blocks w.around (ap live_in b.store_is ∙ l.live ∙ m0.standing.live) (subst (AreFrom w.base) (append-nil blocks) m0.standing.since_call) m0.standing.before_call
-          (subst (λ xs. lives.Point after xs blocks) here (pointed_point low after spot.inside blocks (pointed_same low low regs after spot.inside blocks (omega arith) same.below m0.inside)))
+          (subst (λ xs. lives.Point after xs blocks) here (pointed_point w.plan_to low after spot.inside blocks (pointed_same w.plan_to low low regs after spot.inside blocks (omega arith) (λ j lt more. same.kept j lt (inr more)) m0.inside)))
 
       target_is : ended q ≡ Done (zero_of f) (left_frame over_blocks dead) o
       target_is =
@@ -143,8 +145,8 @@ module _ (w : Setting) (s from : State) (base : w.base ≡ length s.store) (arou
       by (Int k) = HasNoMeaning f.close (back_from_call s to) o refl (l.output ∙ ap (λ x. x ++ o) output) (record { rest = []; is = ap written target_is ∙ sym (append-nil o) })
       by (Ptr t) = HasNoMeaning f.close (back_from_call s to) o refl (l.output ∙ ap (λ x. x ++ o) output) (record { rest = []; is = ap written target_is ∙ sym (append-nil o) })
       by _ = calls.Gives None (zero_of f) (back_from_call s to) (left_frame over_blocks dead) o tt tt (came_back to o l) (even_there to o l dead beside_dead) refl target_is
-  function_ends r q (Breaks to after t o i m l b e g) = absurd cc
-  function_ends r q (Continues to after t o i m l b e g) = absurd cc
+  function_ends r q (Breaks to after t o i m keeps l b e g) = absurd cc
+  function_ends r q (Continues to after t o i m keeps l b e g) = absurd cc
   function_ends r q (IsLeft None to t o i l b e g) =
       calls.Gives None (zero_of f) (back_from_call s to) (left_frame over_blocks t) o i tt (came_back to o l) (even_there to o l t b)
       (ap (λ x. answered s (returned_by f x)) e)
@@ -220,6 +222,9 @@ module _ (p : TranslationUnit) (globals : List Value) (main index : ℕ) (f : Fu
     base = length store;
     around = live_in store;
     active = active;
+    plan = [];
+    plan_from = 0;
+    plan_to = 0;
   }
 
   -- where the body stands, with so many parameters, whose blocks are these
@@ -317,6 +322,7 @@ module _ (p : TranslationUnit) (globals : List Value) (main index : ℕ) (f : Fu
           longer = omega arith;
           bounded = bounded;
           registers = opens_long;
+          kept = record { below = omega arith; planned = tt; keeps = tt };
         };
         beside = record { store_is = even.store_is; frames = ap (λ k. k + 1) even.frames; steps = even.steps; input = even.input };
         inside = tt;
@@ -343,7 +349,8 @@ module _ (p : TranslationUnit) (globals : List Value) (main index : ℕ) (f : Fu
           HasNoMeaning x (back_from_call s to) [] (ap finish e) (o ∙ sym (append-nil s.output)) (record { rest = written (tail (runs w n entered_target (target.parameters p first 0 f.params) opens)); is = refl })
       framed (AllBorn to regs u blocks e x m l) =
           let ms : List Mark = record { label = None; scope = to.scope; store = to.store } ∷ to.marks in
-          let m2 = meets_marked w (at_body (length s.store) blocks f.result) spot_of_body (first + count) (registers_of_body own f).bound (with_numbers f.params names_around) regs to u ms m in
+          let m2 = meets_marked w (at_body (length s.store) blocks f.result) spot_of_body (first + count) (registers_of_body own f).bound (with_numbers f.params names_around)
+          regs to u ms (record { below = omega arith; planned = tt; keeps = tt }) m in
           let body_did = body s.store (s.calls + 1) blocks regs (marked to ms) u m2 (omega (arith, le, l.spent)) in
           let did = runs w n u body_code regs in
           subst (λ r. Called s f.result r (tail (runs w n entered_target (target.parameters p first 0 f.params) opens))) (sym (ap finish e))
@@ -386,7 +393,7 @@ module _ (p : TranslationUnit) (globals : List Value) (main index : ℕ) (f : Fu
 
     stepped : (s : State) (k : ℕ) (r : Outcome Value) (q : Result Target Value) → s.steps ≡ suc k → Called (with_step s k) f.result r q → Called s f.result r q
     stepped s k r q e (calls.Gives z v to u o i x c d a b) =
-        calls.Gives z v to u o i x (record { scope = c.scope; calls = c.calls; live = c.live; longer = c.longer; bounded = c.bounded; spent = omega (arith, e, c.spent); output = c.output }) d a b
+        calls.Gives z v to u o i x (record { scope = c.scope; calls = c.calls; live = c.live; longer = c.longer; bounded = c.bounded; spent = omega (arith, e, c.spent); output = c.output; marks = c.marks }) d a b
     stepped s k r q e (EndsRun x z to o d a l b) = EndsRun x z to o d a l b
     stepped s k r q e (HasNoMeaning x to o a l b) = HasNoMeaning x to o a l b
 

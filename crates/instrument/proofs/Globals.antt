@@ -12,7 +12,7 @@ use Rattle.c_model.specs.AcceptedPrograms.{AreConstant}
 use Rattle.instrument.proofs.Sights.{GlobalsInPlace}
 use Rattle.c_effects.specs.Letters.{InitialsHaveLetters}
 use Rattle.instrument.specs.Translation.{monitored_globals, all_global_temporaries, initialise_globals}
-use Rattle.c_simulation.specs.Standing.{Setting, Target, runs, Here, Beside}
+use Rattle.c_simulation.specs.Standing.{Setting, Target, runs, Here, IsKept, Beside}
 use Rattle.c_simulation.specs.Following.{Follows}
 use Rattle.c_simulation.specs.Reaching.{Anything}
 use Rattle.c_simulation.proofs.Reaching.{reached_follows}
@@ -50,9 +50,9 @@ module _ (w : Setting) (has : HasGlobals w) where
 
   -- the globals of a program take their initialisers, or keep the zeros in which they are born, before anything else is done
   pub globals_at_start : (n : ℕ) (h : Here) (rs : List MonType) (regs : List Value) (input : Input) (steps : ℕ) (t : Target) → length (rs ++ all_global_temporaries w.unit.globals) ≤ w.registers → length regs ≡ w.registers
-      → Beside w (start w.unit input steps).store (start w.unit input steps) t
+      → IsKept w (length rs) [] regs → Beside w (start w.unit input steps).store (start w.unit input steps) t
       → Follows w h (length rs) regs Next (start w.unit input steps) (initialise_all (tables_of w.unit) w.unit.globals w.call (start w.unit input steps)) (runs w n t (initialise_globals w.unit rs w.unit.globals) regs)
-  globals_at_start n h rs regs input steps t room long beside =
-      reached_follows w h Anything (length rs) regs (start w.unit input steps) _ _
+  globals_at_start n h rs regs input steps t room long kept beside =
+      reached_follows w h Anything (length rs) regs (start w.unit input steps) _ _ kept
       (globals_reach w n (length rs) w.unit.globals (all_known [] w.unit.globals refl has.constant has.letters) rs (omega arith) room regs (start w.unit input steps) t long
       (anchored_at_start w (length rs) regs has.pointers has.own) (bounded_at_start w.unit has.room has.texts) beside)

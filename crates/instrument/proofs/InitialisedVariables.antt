@@ -124,14 +124,14 @@ pub anchored_anywhere : (w : Setting) (low high : ℕ) (regs after : List Value)
 anchored_anywhere w low high regs after scope m x number found = let a = m x number found in record { own = a.own; anchor = of_anchor a.anchor }
   where
     of_anchor : IsAnchored w low [] regs x number → IsAnchored w high [] after x number
-    of_anchor (InRegister r is_bound below points) = absurd cc
+    of_anchor (InRegister r is_bound below behind points) = absurd cc
     of_anchor (AtGlobal free is_global points) = AtGlobal free is_global points
 
 global_points : (w : Setting) (low : ℕ) (regs : List Value) (scope : Scope) (x number : ℕ) → Anchored w low [] regs scope → find x scope ≡ Some number → slice_get w.globals (object_of_global x (static_objects w.unit)) ≡ Some (Points (Into number 0))
 global_points w low regs scope x number m found = of_anchor (m x number found).anchor
   where
     of_anchor : IsAnchored w low [] regs x number → slice_get w.globals (object_of_global x (static_objects w.unit)) ≡ Some (Points (Into number 0))
-    of_anchor (InRegister r is_bound below points) = absurd cc
+    of_anchor (InRegister r is_bound below behind points) = absurd cc
     of_anchor (AtGlobal free is_global points) = points
 
 module _ (w : Setting) (n : ℕ) (low : ℕ) where

@@ -86,6 +86,7 @@ module _ (s : State) (t : Target) (even : Even s t) (bounded : Bounded s.store) 
         bounded = bounded_with_heap s.store place bytes bounded (small place refl) are;
         spent = omega arith;
         output = sym (append-nil s.output);
+        marks = refl;
       })
       (record { store_is = ap (λ store. store ++ heap_block place bytes ∷ []) even.store_is; frames = even.frames; steps = even.steps; input = even.input })
       refl (ap (λ (store : Store). Done (Points (Into (length store + 1) 0)) there []) even.store_is)
@@ -119,7 +120,7 @@ module _ (s : State) (t : Target) (even : Even s t) (bounded : Bounded s.store) 
       by (Some store) e =
           let kept = freed_saved s.store store p bounded e in
           Gives None (Integer (pos 0)) (record s { store = store }) (record t { mem = record t.mem { store = store } }) [] tt tt
-          (record { scope = refl; calls = refl; live = kept.live; longer = omega (arith, kept.long); bounded = kept.bounded; spent = omega arith; output = sym (append-nil s.output) })
+          (record { scope = refl; calls = refl; live = kept.live; longer = omega (arith, kept.long); bounded = kept.bounded; spent = omega arith; output = sym (append-nil s.output); marks = refl })
           (record { store_is = refl; frames = even.frames; steps = even.steps; input = even.input })
           refl refl
 
@@ -180,7 +181,7 @@ module _ (w : Setting) (n depth : ℕ) (calls : w.call ≡ call_of w.unit depth)
           (one_is w.globals (PutChar into (effects.first_of args)) w.calls n regs t
           ∙ ap (λ o. with_value (bind o integer_of) t.steps (λ i. Done (Next (given_to into (Integer (pos (byte_of i))) regs)) t (byte_of i ∷ []))) (first_has w args regs t.mem (Integer z) has))
           (Gives (Some v) v to t (byte ∷ []) (pos byte, refl, byte_fits byte (byte_below z)) refl
-          (record { scope = refl; calls = refl; live = refl; longer = omega arith; bounded = bounded; spent = omega arith; output = refl })
+          (record { scope = refl; calls = refl; live = refl; longer = omega arith; bounded = bounded; spent = omega arith; output = refl; marks = refl })
           (record { store_is = even.store_is; frames = even.frames; steps = even.steps; input = even.input })
           refl refl)
 
@@ -198,7 +199,7 @@ module _ (w : Setting) (n depth : ℕ) (calls : w.call ≡ call_of w.unit depth)
       let rest : Input = record { bytes = bytes; tail = tail } in
       let v = Integer (pos (b % 256)) in
       Gives (Some v) v (record s { input = rest }) (record t { input = rest }) [] (pos (b % 256), refl, byte_fits (b % 256) (omega arith)) refl
-      (record { scope = refl; calls = refl; live = refl; longer = omega arith; bounded = bounded; spent = omega arith; output = sym (append-nil s.output) })
+      (record { scope = refl; calls = refl; live = refl; longer = omega arith; bounded = bounded; spent = omega arith; output = sym (append-nil s.output); marks = refl })
       (record { store_is = even.store_is; frames = even.frames; steps = even.steps; input = refl }) refl refl
 
   read_runs : (o : Option (ℤ × Input)) (t : Target) (into : Option ℕ) (regs : List Value) → with_read o t.steps (λ z input. Done (Next (given_to into (Integer z) regs)) (record t { input = input }) []) ≡ then_do

@@ -20,18 +20,19 @@ use Rattle.c_effects.specs.Expressions.{before, one}
 use Rattle.track_scopes.specs.Lives.{AreBefore}
 use Rattle.instrument.specs.Translation.{Spot, in_loop, leave_where_zero, loop}
 use Rattle.c_simulation.specs.Labels.{end_label, next_label}
-use Rattle.c_simulation.specs.SameRegisters.{Same}
+use Rattle.c_simulation.specs.Keeping.{Keeps}
+use Rattle.c_simulation.specs.SameRegisters.{Same, Stays}
 use Rattle.c_simulation.specs.Standing.{Target, Did, Setting, runs, Here, Standing, Beside}
 use Rattle.c_simulation.proofs.Results.{writes_none, written_then, one_is, before_is, rest_first}
 use Rattle.c_simulation.specs.Following.{written}
-use Rattle.c_simulation.proofs.Registers.{same_all}
+use Rattle.c_simulation.proofs.Registers.{same_all, stays_same}
 use Rattle.instrument.proofs.Deaths.{kill_none, all_before}
 use Rattle.c_simulation.specs.Reaching.{Reaches, Anything, Tested}
-use Rattle.c_simulation.proofs.Following.{later_same, onward, follows_choice, anywhere, standing_as}
+use Rattle.c_simulation.proofs.Following.{later_same, onward, passes_later, follows_choice, anywhere, standing_as}
 use Rattle.c_simulation.proofs.Reaching.{follows_reached, test_runs}
-use Rattle.c_simulation.specs.Following.{Later, Follows, GoesOn, Breaks, Continues, IsLeft, IsOver, IsUndefined}
+use Rattle.c_simulation.specs.Following.{Later, Passes, Follows, GoesOn, Breaks, Continues, IsLeft, IsOver, IsUndefined}
 use Rattle.instrument.proofs.Births.{pointed_append, all_apart}
-use Rattle.instrument.proofs.Blocks.{Meets, meets_later}
+use Rattle.instrument.proofs.Blocks.{Meets, meets_after, meets_later}
 
 -- a label catches its own jump
 same_label : (l : List ℕ) → bytes_eq l l ≡ true
@@ -57,7 +58,7 @@ target_stepped t k = record t { steps = k }
 pub meets_stepped : (w : Setting) (h : Here) (spot : Spot) (low : ℕ) (bound : Bindings) (living : List ℕ) (regs : List Value) (s : State) (t : Target) (k : ℕ) → Meets w h spot low bound living regs s t
     → Meets w h spot low bound living regs (stepped s k) (target_stepped t k)
 meets_stepped w h spot low bound living regs s t k m = record {
-  standing = standing_as w h low low bound bound regs regs s (stepped s k) h.breaks h.looped m.standing m.standing.anchored refl refl (omega arith) m.standing.bounded refl;
+  standing = standing_as w h low low bound bound regs regs s (stepped s k) h.breaks h.looped m.standing m.standing.anchored refl refl (omega arith) m.standing.bounded refl m.standing.kept;
   beside = record { store_is = m.beside.store_is; frames = m.beside.frames; steps = refl; input = m.beside.input };
   inside = m.inside;
   between = m.between;
@@ -65,14 +66,14 @@ meets_stepped w h spot low bound living regs s t k m = record {
   names = m.names;
 }
 
-later_stepped : (s to : State) (k : ℕ) (o : List ℕ) → s.steps ≡ suc k → Later (stepped s k) to o → Later s to o
-later_stepped s to k o e l = record { scope = l.scope; calls = l.calls; live = l.live; longer = l.longer; bounded = l.bounded; spent = omega (arith, e, l.spent); output = l.output }
+later_stepped : (s to : State) (k : ℕ) (o : List ℕ) → s.steps ≡ suc k → Passes (stepped s k) to o → Passes s to o
+later_stepped s to k o e l = record { scope = l.scope; calls = l.calls; live = l.live; longer = l.longer; bounded = l.bounded; spent = omega (arith, e, l.spent); output = l.output; marks = refl }
 
 from_stepped : (w : Setting) (h : Here) (low : ℕ) (regs : List Value) (on : List Value → Flow Value) (s : State) (k : ℕ) (r : Outcome (Unit {0})) (q : Did) → s.steps ≡ suc k → Follows w h low regs on (stepped s k) r q
     → Follows w h low regs on s r q
-from_stepped w h low regs on s k r q x (GoesOn to after t o m l b e f) = GoesOn to after t o m (later_stepped s to k o x l) b e f
-from_stepped w h low regs on s k r q x (Breaks to after t o i m l b e f) = Breaks to after t o i m (later_stepped s to k o x l) b e f
-from_stepped w h low regs on s k r q x (Continues to after t o i m l b e f) = Continues to after t o i m (later_stepped s to k o x l) b e f
+from_stepped w h low regs on s k r q x (GoesOn to after t o m g l b e f) = GoesOn to after t o m g (later_stepped s to k o x l) b e f
+from_stepped w h low regs on s k r q x (Breaks to after t o i m g l b e f) = Breaks to after t o i m g (later_stepped s to k o x l) b e f
+from_stepped w h low regs on s k r q x (Continues to after t o i m g l b e f) = Continues to after t o i m g (later_stepped s to k o x l) b e f
 from_stepped w h low regs on s k r q x (IsLeft v to t o i l b e f) = IsLeft v to t o i (later_stepped s to k o x l) b e f
 from_stepped w h low regs on s k r q x (IsOver y z to o d e l f) = IsOver y z to o d e l f
 from_stepped w h low regs on s k r q x (IsUndefined at to o e l ext) = IsUndefined at to o e l ext
@@ -118,7 +119,7 @@ module _ (w : Setting) (h : Here) (base : ℕ) (spot : Spot) (low : ℕ) (bound 
 
   pub meets_body : (regs : List Value) (s : State) (t : Target) → Meet regs s t → MeetInBody regs s t
   meets_body regs s t m = record {
-    standing = standing_as w in_turn low low bound bound regs regs s s true true m.standing m.standing.anchored refl refl (omega arith) m.standing.bounded refl;
+    standing = standing_as w in_turn low low bound bound regs regs s s true true m.standing m.standing.anchored refl refl (omega arith) m.standing.bounded refl m.standing.kept;
     beside = m.beside;
     inside = m.inside;
     between = m.between;
@@ -144,13 +145,14 @@ module _ (w : Setting) (h : Here) (base : ℕ) (spot : Spot) (low : ℕ) (bound 
       longer = omega (arith, e);
       bounded = r.bounded;
       registers = r.registers;
+      kept = r.kept;
     };
     beside = m.beside;
     inside = tt;
     between = tt;
     outside =
-        pointed_append low regs spot.inside (spot.between ++ spot.outside) h.inner (h.between ++ h.outer) m.inside
-        (pointed_append low regs spot.between spot.outside h.between h.outer m.between m.outside);
+        pointed_append w.plan_to low regs spot.inside (spot.between ++ spot.outside) h.inner (h.between ++ h.outer) m.inside
+        (pointed_append w.plan_to low regs spot.between spot.outside h.between h.outer m.between m.outside);
     names = m.names;
   }
     where
@@ -166,6 +168,9 @@ module _ (w : Setting) (h : Here) (base : ℕ) (spot : Spot) (low : ℕ) (bound 
   meet_later : (regs after : List Value) (s to : State) (t u : Target) (o : List ℕ) → Same low regs after → Later s to o → Beside w to.store to u → Meet regs s t → Meet after to u
   meet_later regs after s to t u o same l b m = meets_later w in_turn (in_loop spot) low bound living regs after s to t u o same l b m
 
+  meet_after : (regs after : List Value) (s to : State) (t u : Target) (o : List ℕ) → Stays w.plan_from w.plan_to low regs after → Keeps w.plan to.marks after → Passes s to o → Beside w to.store to u → Meet regs s t → Meet after to u
+  meet_after regs after s to t u o same keeps l b m = meets_after w in_turn (in_loop spot) low bound living regs after s to t u o same keeps l b m
+
   -- ---- the body, after which a `continue` goes on
 
   body_on : (regs : List Value) (t : Target) (o : List ℕ) (g : Go) → then_do (then_do (Done (Next regs) t o) (at_label (next_label loops))) (at_next g) ≡ writes o (g regs t)
@@ -180,23 +185,23 @@ module _ (w : Setting) (h : Here) (base : ℕ) (spot : Spot) (low : ℕ) (bound 
   body_breaks regs t o g = ap (Done (Goes (end_label loops) regs) t) (append-nil (o ++ []) ∙ append-nil o)
 
   -- where the body is left, what was born in it is dead, so that the blocks are those of the source
-  all_dead : (from s : State) (o : List ℕ) (t : Target) → AreBefore base (live_in from.store) → Later from s o → Beside w (kill_from base s.store) s t → Beside w s.store s t
+  all_dead : (from s : State) (o : List ℕ) (t : Target) → AreBefore base (live_in from.store) → Passes from s o → Beside w (kill_from base s.store) s t → Beside w s.store s t
   all_dead from s o t none l b = record { store_is = b.store_is ∙ kill_none base s.store (subst (AreBefore base) (sym l.live) none); frames = b.frames; steps = b.steps; input = b.input }
 
   -- a loop's body, and then what comes after it
   follows_body : (regs : List Value) (from : State) (r : Outcome (Unit {0})) (q : Did) (again : Evaluation (Unit {0})) (g : Go) → AreBefore base (live_in from.store) → Follows w in_body low regs Next from r q
-      → ((s : State) (after : List Value) (t : Target) (o : List ℕ) → Same low regs after → Later from s o → Beside w s.store s t → Turns after s (again s) (g after t))
+      → ((s : State) (after : List Value) (t : Target) (o : List ℕ) → Stays w.plan_from w.plan_to low regs after → Keeps w.plan s.marks after → Passes from s o → Beside w s.store s t → Turns after s (again s) (g after t))
       → Turns regs from (after_body r again) (then_do (then_do q (at_label (next_label loops))) (at_next g))
-  follows_body regs from r q again g none (GoesOn s after t o m l b e e') k =
+  follows_body regs from r q again g none (GoesOn s after t o m g2 l b e e') k =
       subst (λ r. Turns regs from (after_body r again) (then_do (then_do q (at_label (next_label loops))) (at_next g))) (sym e)
       (subst (λ q. Turns regs from (again s) q) (sym (ap (λ q. then_do (then_do q (at_label (next_label loops))) (at_next g)) e' ∙ body_on after t o g))
-      (onward w in_turn low regs after (Goes (end_label loops)) from s o _ _ m l (k s after t o m l b)))
-  follows_body regs from r q again g none (Continues s after t o i m l b e e') k =
+      (onward w in_turn low regs after (Goes (end_label loops)) from s o _ _ m l (k s after t o m g2 l b)))
+  follows_body regs from r q again g none (Continues s after t o i m g2 l b e e') k =
       subst (λ r. Turns regs from (after_body r again) (then_do (then_do q (at_label (next_label loops))) (at_next g))) (sym e)
       (subst (λ q. Turns regs from (again s) q) (sym (ap (λ q. then_do (then_do q (at_label (next_label loops))) (at_next g)) e' ∙ body_continues after t o g))
-      (onward w in_turn low regs after (Goes (end_label loops)) from s o _ _ m l (k s after t o m l (all_dead from s o t none l b))))
-  follows_body regs from r q again g none (Breaks s after t o i m l b e e') k =
-      GoesOn s after t o m l (all_dead from s o t none l b) (ap (λ r. after_body r again) e) (ap (λ q. then_do (then_do q (at_label (next_label loops))) (at_next g)) e' ∙ body_breaks after t o g)
+      (onward w in_turn low regs after (Goes (end_label loops)) from s o _ _ m l (k s after t o m g2 l (all_dead from s o t none l b))))
+  follows_body regs from r q again g none (Breaks s after t o i m g2 l b e e') k =
+      GoesOn s after t o m g2 l (all_dead from s o t none l b) (ap (λ r. after_body r again) e) (ap (λ q. then_do (then_do q (at_label (next_label loops))) (at_next g)) e' ∙ body_breaks after t o g)
   follows_body regs from r q again g none (IsLeft v s t o i l b e e') k =
       IsLeft v s t o i l b (ap (λ r. after_body r again) e) (ap (λ q. then_do (then_do q (at_label (next_label loops))) (at_next g)) e' ∙ ap (Done (Returns v) t) (append-nil (o ++ []) ∙ append-nil o))
   follows_body regs from r q again g none (IsOver y z s o d e l e') k =
@@ -213,9 +218,9 @@ module _ (w : Setting) (h : Here) (base : ℕ) (spot : Spot) (low : ℕ) (bound 
       ∙ ap (Done (Next regs) t) (append-nil o)
 
   follows_label : (regs : List Value) (from : State) (r : Outcome (Unit {0})) (q : Did) → Turns regs from r q → Follows w in_turn low regs Next from r (then_do q (at_label (end_label loops)))
-  follows_label regs from r q (GoesOn s after t o m l b e e') = GoesOn s after t o m l b e (ap (λ q. then_do q (at_label (end_label loops))) e' ∙ caught after t o)
-  follows_label regs from r q (Breaks s after t o i m l b e e') = absurd cc
-  follows_label regs from r q (Continues s after t o i m l b e e') = absurd cc
+  follows_label regs from r q (GoesOn s after t o m g l b e e') = GoesOn s after t o m g l b e (ap (λ q. then_do q (at_label (end_label loops))) e' ∙ caught after t o)
+  follows_label regs from r q (Breaks s after t o i m g l b e e') = absurd cc
+  follows_label regs from r q (Continues s after t o i m g l b e e') = absurd cc
   follows_label regs from r q (IsLeft v s t o i l b e e') = IsLeft v s t o i l b e (ap (λ q. then_do q (at_label (end_label loops))) e' ∙ ap (Done (Returns v) t) (append-nil o))
   follows_label regs from r q (IsOver y z s o d e l e') = IsOver y z s o d e l (ap (λ q. then_do q (at_label (end_label loops))) e')
   follows_label regs from r q (IsUndefined at s o e l ext) = IsUndefined at s o e l (extends_trans o (written q) _ ext (written_then q (at_label (end_label loops))))
@@ -261,7 +266,7 @@ module _ (w : Setting) (h : Here) (base : ℕ) (spot : Spot) (low : ℕ) (bound 
         (subst (λ q. Turns regs s (source.choose v turn done s) q) (sym (then_choice is.0 stay jump (at_next go)))
         (follows_choice w in_turn low regs (Goes (end_label loops)) s s v is.0 turn done _ _ is.1
         (subst (λ q. Turns regs s (turn s) q) (sym (writes_none (go regs t))) goes)
-        (GoesOn s regs t [] (same_all low regs) (later_same s m.standing.bounded) m.beside refl refl)))
+        (GoesOn s regs t [] (stays_same w.plan_from w.plan_to low regs regs (same_all low regs)) m.standing.kept.keeps (passes_later s s [] (later_same s m.standing.bounded)) m.beside refl refl)))
 
     pub tests : Tests condition (before setup leaves)
     tests = record { goes = by }
@@ -307,7 +312,7 @@ module _ (w : Setting) (h : Here) (base : ℕ) (spot : Spot) (low : ℕ) (bound 
         (follows_body regs s1 (body s1) (runs w n t1 a regs) again (λ r t. then_do (monitored.exec_all over_blocks w.globals b w.calls n r t) (at_next others))
         (subst (AreBefore base) (sym m.standing.live) m.standing.before_loop)
         (body_follows regs s1 t1 (meets_body regs s1 t1 m1) (omega (arith, e, le)))
-        (λ to after u o same l be. go to after u (meet_later regs after s1 to t1 u o same l be m1) l.spent))))
+        (λ to after u o same keeps l be. go to after u (meet_after regs after s1 to t1 u o same keeps l be m1) l.spent))))
 
     -- `while` and `for`
     module _ (front : MonStatements) (front_tests : Tests condition front) (behind : Evaluation (Unit {0})) (b : MonStatements) (behind_reaches : (regs : List Value) (s : State) (t : Target) → Meet regs s t → s.steps ≤ n

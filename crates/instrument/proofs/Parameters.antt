@@ -174,6 +174,7 @@ module _ (w : Setting) (n : ℕ)
             bounded = kept.bounded;
             spent = omega arith;
             output = sym (append-nil s.output);
+            marks = refl;
           } in
           let beside : Beside w saved (written saved) (with_store saved target_born) = record { store_is = refl; frames = m1.beside.frames; steps = m1.beside.steps; input = m1.beside.input } in
           let m2 = meets_later w (behind_births w.unit.structs h s (d ∷ [])) (with_variables p (d ∷ []) spot) (p + length (d ∷ [])) (with_pointer d r).bound (with_numbers (d ∷ []) living) after after born (written saved) target_born

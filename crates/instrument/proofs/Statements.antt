@@ -44,20 +44,20 @@ use Rattle.c_simulation.specs.Standing.{Target, Setting, runs, Here, Beside}
 use Rattle.track_scopes.proofs.Births.{births_enter}
 use Rattle.track_scopes.proofs.Deaths.{deaths_end}
 use Rattle.c_simulation.proofs.Results.{writes_none, one_is, before_is}
-use Rattle.c_simulation.proofs.Registers.{get-set_same, same_all, same_trans, same_set, longer}
+use Rattle.c_simulation.proofs.Registers.{get-set_same, same_all, same_trans, same_set, longer, stays_same}
 use Rattle.c_simulation.specs.Reaching.{Reaches, Anything, Tested, Valued}
-use Rattle.c_simulation.proofs.Following.{later_same, stays, follows_choice, follows_then}
+use Rattle.c_simulation.proofs.Following.{later_same, passes_later, stays, follows_choice, follows_then}
 use Rattle.c_simulation.proofs.Evaluating.{set_runs}
 use Rattle.c_simulation.proofs.Reaching.{follows_before, follows_behind, reached_done, reached_follows, reached_here, reached_lower, test_reaches, test_runs}
 use Rattle.c_simulation.specs.Following.{IsResult, IsResultOf, Follows, Breaks, Continues, IsLeft}
 use Rattle.instrument.proofs.Births.{with_numbers, pointed_point, pointed_append, all_apart, behind_births}
-use Rattle.instrument.proofs.Blocks.{Meets, meets_later, block_follows}
+use Rattle.instrument.proofs.Blocks.{Meets, meets_after, meets_later, block_follows}
 use Rattle.instrument.proofs.Loops as loops
 use Rattle.instrument.proofs.Declared.{AreBorn, CanDeclare, ElseCanDeclare, ItemsCanDeclare, AreAbsent, meets_behind, more_kinds, statement_grows, else_grows, first_grows, items_grow}
 use Rattle.c_simulation.proofs.Expressions as expressions
 use Rattle.c_simulation.proofs.Expressions.{handed_on}
 use Rattle.c_model.specs.TypedAnnotations.{StatementNoted, ElseNoted, ItemsNoted}
-use Rattle.c_simulation.specs.SameRegisters.{Same}
+use Rattle.c_simulation.specs.SameRegisters.{Same, Stays}
 use Rattle.instrument.proofs.InitialisedVariables.{initials_reach}
 use Rattle.instrument.proofs.Scenes.{Scene, scene_inner, scene_with_all, scene_behind_first, AreFound, DeclarationsFound, found_with_all, declarations_found-append}
 use Rattle.instrument.proofs.Sight.{scope_for, sees_found, sees_born, declared_born}
@@ -93,20 +93,20 @@ module _ (w : Setting) (n : ℕ) (h : Here) (spot : Spot) (low : ℕ) (bound : B
   left_dead : runs w n t (deaths spot.inside) regs ≡ Done (Next regs) (dead h.left) []
   left_dead =
       deaths_end spot.inside w.globals w.calls n h.left regs t h.inner (h.between ++ (h.outer ++ w.around)) live_is m.standing.since_left m.standing.before_left
-      (pointed_point low regs spot.inside h.inner m.inside)
+      (pointed_point w.plan_to low regs spot.inside h.inner m.inside)
 
   -- those born inside the loop
   loop_dead : runs w n t (deaths (spot.inside ++ spot.between)) regs ≡ Done (Next regs) (dead h.loop) []
   loop_dead =
       deaths_end (spot.inside ++ spot.between) w.globals w.calls n h.loop regs t (h.inner ++ h.between) (h.outer ++ w.around) (live_is ∙ sym (append_assoc h.inner h.between (h.outer ++ w.around))) m.standing.since_loop
-      m.standing.before_loop (pointed_point low regs (spot.inside ++ spot.between) (h.inner ++ h.between) (pointed_append low regs spot.inside spot.between h.inner h.between m.inside m.between))
+      m.standing.before_loop (pointed_point w.plan_to low regs (spot.inside ++ spot.between) (h.inner ++ h.between) (pointed_append w.plan_to low regs spot.inside spot.between h.inner h.between m.inside m.between))
 
   -- all of the call
   call_dead : runs w n t (deaths (target.all_live spot)) regs ≡ Done (Next regs) (dead w.base) []
   call_dead =
       deaths_end (target.all_live spot) w.globals w.calls n w.base regs t (h.inner ++ (h.between ++ h.outer)) w.around (live_is ∙ sym (all_apart h.inner h.between h.outer w.around)) m.standing.since_call m.standing.before_call
-      (pointed_point low regs (target.all_live spot) (h.inner ++ (h.between ++ h.outer))
-      (pointed_append low regs spot.inside (spot.between ++ spot.outside) h.inner (h.between ++ h.outer) m.inside (pointed_append low regs spot.between spot.outside h.between h.outer m.between m.outside)))
+      (pointed_point w.plan_to low regs (target.all_live spot) (h.inner ++ (h.between ++ h.outer))
+      (pointed_append w.plan_to low regs spot.inside (spot.between ++ spot.outside) h.inner (h.between ++ h.outer) m.inside (pointed_append w.plan_to low regs spot.between spot.outside h.between h.outer m.between m.outside)))
 
   -- what stands after deaths
   behind_deaths : (base : ℕ) (d a : MonStatements) → runs w n t d regs ≡ Done (Next regs) (dead base) [] → runs w n t (before d a) regs ≡ runs w n (dead base) a regs
@@ -118,20 +118,24 @@ module _ (w : Setting) (n : ℕ) (h : Here) (spot : Spot) (low : ℕ) (bound : B
   goto_is : (base : ℕ) (d : MonStatements) (l k : List ℕ) → runs w n t d regs ≡ Done (Next regs) (dead base) [] → k ≡ l → runs w n t (before d (one (tree.Goto k))) regs ≡ Done (Goes l regs) (dead base) []
   goto_is base d l k x e = behind_deaths base d (one (tree.Goto k)) x ∙ one_is w.globals (tree.Goto k) w.calls n regs (dead base) ∙ ap (λ i. Done (Goes i regs) (dead base) []) e
 
+  still : Stays w.plan_from w.plan_to low regs regs
+  still = stays_same w.plan_from w.plan_to low regs regs (same_all low regs)
+
   pub break_follows : spot.levels ≡ h.levels → h.breaks ≡ true → Follows w h low regs Next s (Stop (Leaves state.Breaks) s) (runs w n t (before (deaths spot.inside) (one (tree.Goto (end_label spot.levels)))) regs)
   break_follows at breaks =
-      Breaks s regs (dead h.left) [] breaks (same_all low regs) (later_same s m.standing.bounded) (beside_dead h.left) refl (goto_is h.left (deaths spot.inside) (end_label h.levels) (end_label spot.levels) left_dead (ap end_label at))
+      Breaks s regs (dead h.left) [] breaks still m.standing.kept.keeps (passes_later s s [] (later_same s m.standing.bounded)) (beside_dead h.left) refl
+      (goto_is h.left (deaths spot.inside) (end_label h.levels) (end_label spot.levels) left_dead (ap end_label at))
 
   pub continue_follows : spot.innermost ≡ h.innermost → h.looped ≡ true
       → Follows w h low regs Next s (Stop (Leaves state.Continues) s) (runs w n t (before (deaths (spot.inside ++ spot.between)) (one (tree.Goto (next_label spot.innermost)))) regs)
   continue_follows at looped =
-      Continues s regs (dead h.loop) [] looped (same_all low regs) (later_same s m.standing.bounded) (beside_dead h.loop) refl
+      Continues s regs (dead h.loop) [] looped still m.standing.kept.keeps (passes_later s s [] (later_same s m.standing.bounded)) (beside_dead h.loop) refl
       (goto_is h.loop (deaths (spot.inside ++ spot.between)) (next_label h.innermost) (next_label spot.innermost) loop_dead (ap next_label at))
 
   pub leave_follows : (v : Option Value) (e : Option MonExpression) → IsResult h.result v → ((u : Target) → runs w n u (one (tree.Return e)) regs ≡ Done (monitored.Returns v) u [])
       → Follows w h low regs Next s (Stop (Leaves (Returns v)) s) (runs w n t (before (deaths (target.all_live spot)) (one (tree.Return e))) regs)
   leave_follows v e i run =
-      IsLeft v s (dead w.base) [] i (later_same s m.standing.bounded) (beside_dead w.base) refl (behind_deaths w.base (deaths (target.all_live spot)) (one (tree.Return e)) call_dead ∙ run (dead w.base))
+      IsLeft v s (dead w.base) [] i (passes_later s s [] (later_same s m.standing.bounded)) (beside_dead w.base) refl (behind_deaths w.base (deaths (target.all_live spot)) (one (tree.Return e)) call_dead ∙ run (dead w.base))
 
 -- ---- statements
 
@@ -149,7 +153,7 @@ module _ (w : Setting) (n : ℕ) where
   in_order h spot low bound later living x y a b f again g = λ regs from t m le.
       subst (λ q. Follows w h low regs Next from ((x >> y) from) q) (sym (before_is w.globals a b w.calls n regs t))
       (follows_then w h low regs Next from _ _ y (exec_all over_blocks w.globals b w.calls n) (f regs from t m le)
-      (λ to after u o same l be. g after to u (again after to u (meets_later w h spot low bound living regs after from to t u o same l be m)) (omega (arith, le, l.spent))))
+      (λ to after u o same keeps l be. g after to u (again after to u (meets_after w h spot low bound living regs after from to t u o same keeps l be m)) (omega (arith, le, l.spent))))
 
   -- the same registers
   in_order_same : (h : Here) (spot : Spot) (low : ℕ) (bound : Bindings) (living : List ℕ) (x y : Evaluation (Unit {0})) (a b : MonStatements) → DoSame h spot low bound living x a → DoSame h spot low bound living y b
@@ -157,7 +161,7 @@ module _ (w : Setting) (n : ℕ) where
   in_order_same h spot low bound living x y a b f g = in_order h spot low bound bound living x y a b f (λ regs s t m. m) g
 
   nothing_does : (h : Here) (spot : Spot) (low : ℕ) (bound : Bindings) (living : List ℕ) → DoSame h spot low bound living state.done NoStatement
-  nothing_does h spot low bound living = λ regs from t m le. stays w h low regs from t m.standing.bounded m.beside
+  nothing_does h spot low bound living = λ regs from t m le. stays w h low regs from t m.standing.bounded m.standing.kept.keeps m.beside
 
   -- what a part of the source comes to, and a part of the target
   abbrev pub ReachSame : Here → Spot → ℕ → Bindings → List ℕ → Evaluation (Unit {0}) → MonStatements → Type 0
@@ -175,7 +179,7 @@ module _ (w : Setting) (n : ℕ) where
   effect_does : (h : Here) (spot : Spot) (low : ℕ) (bound : Bindings) (living : List ℕ) (s : Sight) (g : Scene w n s) (rs : List MonType) (e : Expression) → IsEffectOrCall e → WellTyped s e → EffectHasLetters e → low ≤ length rs
       → length (rs ++ effect_temporaries w.unit e) ≤ w.registers → DoSame h spot low bound living (effect_with T (Some e) w.call) (effects.effect w.unit bound rs e)
   effect_does h spot low bound living s g rs e pure q l behind enough = λ regs from t m le.
-      reached_follows w h Anything low regs from (effect_with T (Some e) w.call from) (runs w n t (effects.effect w.unit bound rs e) regs)
+      reached_follows w h Anything low regs from (effect_with T (Some e) w.call from) (runs w n t (effects.effect w.unit bound rs e) regs) m.standing.kept
       (effect_reached h spot low bound living s g rs e pure q l behind enough regs from t m le)
 
   effect_if_any_reached : (h : Here) (spot : Spot) (low : ℕ) (bound : Bindings) (living : List ℕ) (s : Sight) (g : Scene w n s) (rs : List MonType) (e : Option Expression) → WhereAny IsEffect e → WhereAny (WellTyped s) e
@@ -310,7 +314,7 @@ module _ (w : Setting) (n : ℕ) where
       in_order_same h spot low r.bound living (effect_with T (Some e) w.call) x (effects.effect w.unit r.bound r.kinds e) code (effect_does h spot low r.bound living s g r.kinds e f q l behind enough) go
   first_then (First (Declare ds)) local h spot low living s g around r x code f q l behind enough go =
       in_order_same h spot low r.bound living (initialise_all T ds w.call) x (effects.initialise_all w.unit r.bound r.kinds ds) code
-      (λ regs from t m le. reached_follows w h Anything low regs from (initialise_all T ds w.call from) (runs w n t (effects.initialise_all w.unit r.bound r.kinds ds) regs)
+      (λ regs from t m le. reached_follows w h Anything low regs from (initialise_all T ds w.call from) (runs w n t (effects.initialise_all w.unit r.bound r.kinds ds) regs) m.standing.kept
       (initials_reach w n h low r.bound ds s g local f q l r.kinds behind enough regs from t le m.standing m.beside)) go
   first_then (First (Specify at t)) local h spot low living s g around r x code f q l behind enough go = go
   first_then _ local h spot low living s g around r x code f q l behind enough go = absurd f
@@ -452,7 +456,7 @@ module _ (w : Setting) (n : ℕ) where
         let f1 = more_kinds (declaration_temporaries ds) r in
         let f2 = items_grow w.unit rest r1 in
         in_order_same h spot low r.bound living (initialise_all T ds w.call) (items_with T rest w.call (suc n)) (effects.initialise_all w.unit r.bound r.kinds ds) (items w.unit spot r1 rest)
-        (λ regs from t x le. reached_follows w h Anything low regs from (initialise_all T ds w.call from) (runs w n t (effects.initialise_all w.unit r.bound r.kinds ds) regs)
+        (λ regs from t x le. reached_follows w h Anything low regs from (initialise_all T ds w.call from) (runs w n t (effects.initialise_all w.unit r.bound r.kinds ds) regs) x.standing.kept
         (initials_reach w n h low r.bound ds s g (there_front w.unit ds (declared_in rest) local) f.0 q.0 l.0 r.kinds behind (omega (arith, enough, f2)) regs from t le x.standing x.beside))
         (items_follow rest (with_objects s ds) around h spot low r1 living stands (scene_with_all w n s ds g) (found_with_all s ds (scope_for living) sees (declarations_found-append ds (declared_in rest) (scope_for living) have).0)
         (declarations_found-append ds (declared_in rest) (scope_for living) have).1 (there_back w.unit ds (declared_in rest) local) result looped c.1 f.1 q.1 m.1 l.1 (omega (arith, behind, f1)) enough)

@@ -236,8 +236,8 @@ module _ (w : Setting) (n : ℕ) (low : ℕ) where
           let kept = saved_bytes store saved q size (zeros size) later.bounded (replicated_bytes size (NumberByte 0) (omega arith)) saves in
           subst (λ x. Reaches w Anything low regs s x (runs w n t (zeros_at r low d m (c ∷ cs)) regs)) (sym (source (Some saved) saves))
           (go goes saved
-          (record { scope = refl; calls = refl; live = kept.live ∙ later.live; longer = omega (arith, later.longer, kept.long); bounded = kept.bounded; spent = omega arith; output = sym (append-nil s.output) })
-          (record { scope = refl; calls = refl; live = kept.live; longer = omega (arith, kept.long); bounded = kept.bounded; spent = omega arith; output = sym (append-nil s.output) })
+          (record { scope = refl; calls = refl; live = kept.live ∙ later.live; longer = omega (arith, later.longer, kept.long); bounded = kept.bounded; spent = omega arith; output = sym (append-nil s.output); marks = refl })
+          (record { scope = refl; calls = refl; live = kept.live; longer = omega (arith, kept.long); bounded = kept.bounded; spent = omega arith; output = sym (append-nil s.output); marks = refl })
           (saved_zeros store saved q size (scalar_some c.1) saves) (nat_eq c.0 (d + m)) refl)
 
   -- from the first of them on
