@@ -2,7 +2,6 @@
 
 ghost use Rattle.std.specs.Prelude.{◌≡◌, ◌+◌, ◌*◌, ◌^◌, ◌<◌, ◌≤◌, length};
 ghost use Rattle.raw_seg.specs.Bytes.{number_of, bytes_of, bytes_at, with_bytes, IsWidth};
-ghost use Rattle.raw_seg.specs.Runs.{with_words, with_low_halves};
 
 /// The number in `width` bytes from a place on, the lowest first.
 #[inline(always)]
@@ -109,29 +108,4 @@ pub fn put(bytes: &mut [u8], at: usize, new: &[u8])
     ensures len { length bytes.new ≡ length bytes.old }
 {
     bytes[at..at + new.len()].copy_from_slice(new);
-}
-
-/// Writes two numbers over each sixteen bytes from a place on, so many times.
-pub fn fill_words(bytes: &mut [u8], at: usize, count: usize, first: u64, second: u64)
-    requires { at + 16 * count ≤ length bytes.old }
-    ensures bytes { bytes.new ≡ with_words bytes.old at first second count }
-    ensures len { length bytes.new ≡ length bytes.old }
-{
-    for i in 0..count {
-        put(bytes, at + 16 * i, &first.to_le_bytes());
-        put(bytes, at + 16 * i + 8, &second.to_le_bytes());
-    }
-}
-
-/// Keeps the lower half of the first word of each sixteen bytes from a place on, so many times.
-pub fn keep_low_halves(bytes: &mut [u8], at: usize, count: usize)
-    requires { at + 16 * count ≤ length bytes.old }
-    ensures bytes { bytes.new ≡ with_low_halves bytes.old at count }
-    ensures len { length bytes.new ≡ length bytes.old }
-{
-    for i in 0..count {
-        let place = at + 16 * i;
-        let word = number_8(bytes, place);
-        put(bytes, place, &(word % 4294967296).to_le_bytes());
-    }
 }

@@ -6,7 +6,6 @@ ghost use Rattle.std.specs.Prelude.{nat_le, if◌then◌else◌, Some, None, IfO
 ghost use Rattle.std.specs.Bool.{OnTrue};
 ghost use Rattle.std.specs.Vec.{vec_capacity, vec_len};
 ghost use Rattle.raw_seg.specs.Bytes.{number_of, bytes_of, bytes_at, with_bytes, IsWidth};
-ghost use Rattle.raw_seg.specs.Runs.{with_words, with_low_halves};
 ghost use Rattle.raw_seg.specs.Zeros.{zeros_to, IsReach};
 
 use std::alloc::{AllocError, Global};
@@ -16,7 +15,7 @@ use std::sync::ledger::Ledger;
 mod bytes;
 pub mod steps;
 
-use bytes::{fill_words, keep_low_halves, number_in, number_of_8, put, put_number};
+use bytes::{number_in, number_of_8, put, put_number};
 use steps::Steps;
 
 // Zeros are written up to a multiple of so many bytes, where a place is reached for the first time.
@@ -60,16 +59,6 @@ impl Seg {
         ensures { result ≡ length self.now }
     {
         self.len
-    }
-
-    /// How many of the first bytes were written: whole units of 16 bytes, or all. Those behind are zeros.
-    #[inline(always)]
-    pub fn reach(&self) -> usize
-        ensures inside { result ≤ length self.now }
-        ensures whole { IsReach (length self.now) result }
-        ensures zeros { (k : ℕ) → result ≤ k → get_or self.now k 0 ≡ 0 }
-    {
-        self.bytes.len()
     }
 
     /// The number in `width` bytes, the lowest first.
@@ -202,58 +191,6 @@ impl Seg {
         } else {
             self.set_word_behind(at, value);
         }
-    }
-
-    /// Writes two numbers over each sixteen bytes from a place on, so many times.
-    pub fn fill_words(&mut self, at: usize, count: usize, first: u64, second: u64)
-        requires inside { at + 16 * count ≤ length self.old }
-        ensures bytes { self.new ≡ with_words self.old at first second count }
-        ensures len { length self.new ≡ length self.old }
-    {
-        let _ = self.len();
-        reach(&mut self.bytes, at + 16 * count, self.len);
-        fill_words(&mut self.bytes, at, count, first, second);
-    }
-
-    /// Writes zeros over the upper half of the first word of each sixteen bytes from a place on, so many times.
-    pub fn keep_low_halves(&mut self, at: usize, count: usize)
-        requires inside { at + 16 * count ≤ length self.old }
-        ensures bytes { self.new ≡ with_low_halves self.old at count }
-        ensures len { length self.new ≡ length self.old }
-    {
-        let _ = self.len();
-        reach(&mut self.bytes, at + 16 * count, self.len);
-        keep_low_halves(&mut self.bytes, at, count);
-    }
-
-    /// Writes two numbers over the sixteen bytes from a place on.
-    #[inline(always)]
-    pub fn set_words(&mut self, at: usize, first: u64, second: u64)
-        requires aligned { at % 16 ≡ 0 }
-        requires inside { at + 16 ≤ length self.old }
-        ensures bytes { self.new ≡ with_bytes (with_bytes self.old at (bytes_of 8 first)) (at + 8) (bytes_of 8 second) }
-        ensures len { length self.new ≡ length self.old }
-    {
-        let _ = self.len();
-        if at < self.bytes.len() {
-            put(&mut self.bytes, at, &first.to_le_bytes());
-            put(&mut self.bytes, at + 8, &second.to_le_bytes());
-        } else {
-            self.set_words_behind(at, first, second);
-        }
-    }
-
-    // The same, also where not all of these bytes were written.
-    #[cold]
-    #[inline(never)]
-    fn set_words_behind(&mut self, at: usize, first: u64, second: u64)
-        requires { at + 16 ≤ length self.old }
-        ensures bytes { self.new ≡ with_bytes (with_bytes self.old at (bytes_of 8 first)) (at + 8) (bytes_of 8 second) }
-        ensures len { length self.new ≡ length self.old }
-    {
-        let _ = self.len();
-        self.copy_in(at, &first.to_le_bytes());
-        self.copy_in(at + 8, &second.to_le_bytes());
     }
 
     // The same of one number.
