@@ -19,12 +19,14 @@ use Rattle.c_lower.specs.Code.{is_short, expression_code, arguments_code, OpenLa
 use Rattle.c_lower.specs.Code.{entry_named}
 use Rattle.c_lower.specs.Sound.{operands_of, operands_behind, target, IsEmptyAt, IsSound}
 use Rattle.c_lower.proofs.Placed.{length_choice, length_loop, HasAt, has_front, has_back, has_join, has_behind}
+use Rattle.c_lower.proofs.Extends.{pushed_before}
 use Rattle.c_lower.proofs.Operands.{Leads, leads_on, call_leads, test_leads, statement_leads, statements_lead, function_leads, functions_lead}
 
--- ---- instructions that neither jump nor call
+-- ---- instructions that neither jump nor call nor return
 
 abbrev pub is_call : Instr → Bool
 is_call (instr.Call f k) = true
+is_call instr.Return = true
 is_call i = false
 
 abbrev pub Stays : Instr → Type 0
@@ -80,7 +82,7 @@ returned_stays (Some e) = expression_stays e
 -- ---- places
 
 -- one instruction more
-take_one : (code : List Instr) (p : ℕ) (i : Instr) → slice_get code p ≡ Some i → take (p + 1) code ≡ take p code ++ i ∷ []
+pub take_one : (code : List Instr) (p : ℕ) (i : Instr) → slice_get code p ≡ Some i → take (p + 1) code ≡ take p code ++ i ∷ []
 take_one code p i h =
     take_more code p i (slice_get_within code p i h) ∙ ap (λ x. take p code ++ x ∷ []) (get_or_from_slice_get code p i i h)
 
@@ -111,6 +113,7 @@ module _ (code : List Instr) where
     jumps : (to : ℕ) → target p i ≡ Some to → IsEmptyAt code to
     behind : (to : ℕ) → target p i ≡ Some to → Empty (p + 1)
     calls : (f k : ℕ) → i ≡ instr.Call f k → operands_behind 0 (take (p + 1) code) ≡ Some 1
+    returns : i ≡ instr.Return → Empty (p + 1)
     back : (n : ℕ) → i ≡ instr.GoBack n → slice_get code (p - n) ≡ Some instr.Step
 
   abbrev AllFit : ℕ → List Instr → Type 0
@@ -138,6 +141,7 @@ module _ (code : List Instr) where
     jumps = λ to e. absurd (cc (s p).0);
     behind = λ to e. absurd (cc (s p).0);
     calls = λ f k e. absurd (no_call f k e);
+    returns = λ e. absurd (no_return e);
     back = λ n e. absurd (no_target n e);
   }
     where
@@ -146,6 +150,9 @@ module _ (code : List Instr) where
 
       no_call : (f k : ℕ) → i ≡ instr.Call f k → ⊥
       no_call f k e = cc ((s p).1, ap is_call e)
+
+      no_return : i ≡ instr.Return → ⊥
+      no_return e = cc ((s p).1, ap is_call e)
 
   stays_fit : (p : ℕ) (is : List Instr) → AllStay is → AllFit p is
   stays_fit p [] s = tt
@@ -157,7 +164,18 @@ module _ (code : List Instr) where
     jumps = λ q e. let same : to ≡ q = cc in subst (IsEmptyAt code) same (record { inside = inside; empty = empty });
     behind = λ q e. behind;
     calls = λ f k e. absurd (cc (t, ap (target p) e));
+    returns = λ e. absurd (cc (t, ap (target p) e));
     back = back;
+  }
+
+  -- a return takes all operands
+  return_fits : (p : ℕ) → Empty (p + 1) → Fits p instr.Return
+  return_fits p empty = record {
+    jumps = λ to e. absurd (cc (e));
+    behind = λ to e. absurd (cc (e));
+    calls = λ f k e. absurd (cc (e));
+    returns = λ e. empty;
+    back = λ n e. absurd (cc (e));
   }
 
   -- a jump back to a step
@@ -214,11 +232,12 @@ module _ (code : List Instr) where
       )
 
   -- a call takes all operands
-  call_fits : (p : ℕ) (i : Instr) → target p i ≡ None → operands_behind 0 (take (p + 1) code) ≡ Some 1 → Fits p i
-  call_fits p i t one = record {
+  call_fits : (p : ℕ) (i : Instr) → target p i ≡ None → (operands_of i).given ≡ 1 → operands_behind 0 (take (p + 1) code) ≡ Some 1 → Fits p i
+  call_fits p i t given one = record {
     jumps = λ q e. absurd (cc (t, e));
     behind = λ q e. absurd (cc (t, e));
     calls = λ f k e. one;
+    returns = λ e. let none : 0 ≡ 1 = sym (ap (λ j. (operands_of j).given) e) ∙ given in absurd (cc none);
     back = λ n e. absurd (cc (t, ap (target p) e));
   }
 
@@ -232,7 +251,7 @@ module _ (code : List Instr) where
       let e : p + length (ca ++ i ∷ []) ≡ p + length ca + 1 = omega (arith, length-append ca (i ∷ [])) in
       let one = operands_on p 1 (ca ++ i ∷ []) empty (has_join code p ca (i ∷ []) (has_front code p ca _ has) (h.0, tt)) (call_leads args i taken given) in
       fit_on p ca _ (stays_fit p ca (arguments_stay args)) (
-        call_fits (p + length ca) i (t (p + length ca)) (subst (λ n. operands_behind 0 (take n code) ≡ Some 1) e one),
+        call_fits (p + length ca) i (t (p + length ca)) given (subst (λ n. operands_behind 0 (take n code) ≡ Some 1) e one),
         stays_fit (p + length ca + 1) (result_code r ∷ []) (result_stays r),
       )
 
@@ -347,7 +366,11 @@ module _ (code : List Instr) where
         let empty = subst Empty end (empty_on p (statements_code a behind ls') em has (statements_lead a behind ls')) in
         statements_fit a p behind ls' em two (ends_last ls l behind two empty w) n has
     statement_fits (Goto l) p behind ls em two w n has = goto_fits p (behind_label ls l) behind em (label_ends ls l behind w) n has
-    statement_fits (Return e) p behind ls em two w n has = stays_fit p _ (stay_then (returned_code e) instr.Return (returned_stays e) (λ q. (refl, refl)))
+    statement_fits (Return e) p behind ls em two w n has =
+        let ca = returned_code e in
+        let at : p + length (ca ++ instr.Return ∷ []) ≡ p + length ca + 1 = omega (arith, length-append ca (instr.Return ∷ [])) in
+        let empty = empty_on p (ca ++ instr.Return ∷ []) em has (statement_leads (Return e) behind ls) in
+        fit_on p ca (instr.Return ∷ []) (stays_fit p ca (returned_stays e)) (return_fits (p + length ca) (subst Empty at empty), tt)
 
     statements_fit : (a : MonStatements) (p behind : ℕ) (ls : List OpenLabel) → Empty p → 2 ≤ behind → OpenEnds ls behind
         → p + length (statements_code a behind ls) + behind ≡ length code → HasAt code p (statements_code a behind ls) → AllFit p (statements_code a behind ls)
@@ -371,8 +394,10 @@ module _ (code : List Instr) where
       let cb = statements_code f.body (2 + behind) [] in
       let end = instr.Push (pos 0) ∷ (instr.Return ∷ []) in
       let len : length (function_code f behind) ≡ length cb + 2 = length-append cb end in
+      let at : p + length (function_code f behind) ≡ p + length cb + 1 + 1 = omega (arith, len) in
+      let empty = empty_on p (function_code f behind) em has (function_leads f behind) in
       fit_on p cb end (statements_fit f.body p (2 + behind) [] em (omega arith) tt (omega (arith, len, n)) (has_front code p cb end has))
-      (stays_fit (p + length cb) end ((λ q. (refl, refl)), ((λ q. (refl, refl)), tt)))
+      (stay_fits (p + length cb) (instr.Push (pos 0)) (λ q. (refl, refl)), (return_fits (p + length cb + 1) (subst Empty at empty), tt))
 
   functions_fit : (fs : List MonFunction) (p : ℕ) → Empty p → p + length (functions_code fs) ≡ length code → HasAt code p (functions_code fs)
       → AllFit p (functions_code fs)
@@ -444,6 +469,8 @@ module _ (name : List ℕ) (fs : List MonFunction) where
     jumps = λ p i to h t. (each_fits p i h).jumps to t;
     behind = λ p i to h t. (each_fits p i h).behind to t;
     calls = λ p f k h. (each_fits p (instr.Call f k) h).calls f k refl;
+    returns = λ p h. (each_fits p instr.Return h).returns refl;
+    extends = λ p low h. pushed_before fs p low h;
     back = λ p n h. (each_fits p (instr.GoBack n) h).back n refl;
     starts = starts_empty all fs 0 refl whole (has_behind all []);
     main = named_empty all name fs 0 refl whole (has_behind all []);

@@ -8,4 +8,5 @@ pub mod Patched
 pub mod Written
 pub mod Starts
 pub mod Operands
+pub mod Extends
 pub mod Jumps
