@@ -10,3 +10,4 @@ pub mod Starts
 pub mod Operands
 pub mod Extends
 pub mod Jumps
+pub mod Levels

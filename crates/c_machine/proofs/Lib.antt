@@ -16,6 +16,7 @@ pub mod Calling
 pub mod Kept
 -- runs
 pub mod Measure
+pub mod Levels
 pub mod Courses
 pub mod Finished
 -- runs that are done at once

@@ -1,6 +1,8 @@
 use Rattle.std.proofs.Common.{◌≡◌, ◌≤◌, ◌<◌, ℕ, ◌+◌, take, Some, pos, get_or, ⊎_elim, sym, ap, ◌∙◌, arith}
 use Rattle.std.proofs.lemmas.Bool.{cases_lt}
 use Rattle.std.proofs.lemmas.Bool.Decides.{nat_tests}
+use Rattle.std.specs.Prelude.{slice_get}
+use Rattle.std.proofs.lemmas.Option.{same_Some, slice_get-get_or}
 use Rattle.std.proofs.lemmas.List.{take_more}
 use Rattle.c_lower.specs.declared.code.Instr.TheVariants as instr
 use Rattle.c_lower.specs.Sound.{operands_behind}
@@ -22,6 +24,11 @@ loop-instr-preserved c =
     record {
       small = omega (arith, h.small, c.behind-count.ensures.most);
       exact = exact;
+      short = λ p z lt e.
+          ⊎_elim
+          (λ (before : p < at). h.short p z before e)
+          (λ (here : at ≤ p). let same : p ≡ at = omega arith in c.pushes_short.ensures z (same_Some _ _ (sym (slice_get-get_or code at none c.loop-instr-test.true) ∙ ap (slice_get code) (sym same) ∙ e)))
+          (cases_lt p at);
       most = λ p k le e.
           ⊎_elim
           (λ (last : at < p). let same : p ≡ at + 1 = omega arith in omega (arith, covers, exact k (ap (λ i. operands_behind 0 (take i code)) (sym same) ∙ e)))

@@ -18,4 +18,5 @@ returns c =
       calls = refl;
       onward = omega arith;
       fit = record { height = simp length-set (omega arith); base = c.requires.fit.base; nested = c.requires.fit.nested };
+      roomy = simp length-set (omega arith);
     }
