@@ -12,92 +12,8 @@ top=$(cd -- "$(dirname -- "${BASH_SOURCE[0]}")/.." && pwd)
 scratch=$(mktemp -d)
 trap 'rm -rf "$scratch"' EXIT
 
-# a loop of so many turns
-loop_of() {
-  cat <<C
-int main(void) {
-  long sum = 0;
-  for (int turn = 0; turn < $1; turn++) {
-    sum += turn;
-    //@ assert sum >= turn;
-  }
-  return sum % 100;
-}
-C
-}
-
-# the Fibonacci number of this index, by recursion
-fib_of() {
-  cat <<C
-int fib(int n) {
-  if (n < 2)
-    return n;
-  int a = fib(n - 1);
-  int b = fib(n - 2);
-  return a + b;
-}
-int main(void) {
-  int f = fib($1);
-  return f % 100;
-}
-C
-}
-
-# an array of 1,000 elements that is summed so many times, with an assert after each
-sum_of() {
-  cat <<C
-int numbers[1000];
-int main(void) {
-  for (int i = 0; i < 1000; i++)
-    numbers[i] = i;
-  for (int time = 0; time < $1; time++) {
-    long sum = 0;
-    for (int i = 0; i < 1000; i++)
-      sum += numbers[i];
-    /*@ assert sum == 499500; */
-  }
-  return 0;
-}
-C
-}
-
-# a bubble sort of so many elements that stand backwards
-sort_of() {
-  cat <<C
-int numbers[$1];
-int main(void) {
-  for (int i = 0; i < $1; i++)
-    numbers[i] = $1 - i;
-  for (int end = $1; end > 1; end--)
-    for (int i = 1; i < end; i++)
-      if (numbers[i - 1] > numbers[i]) {
-        int kept = numbers[i];
-        numbers[i] = numbers[i - 1];
-        numbers[i - 1] = kept;
-      }
-  int least = numbers[0];
-  //@ assert least == 1;
-  return 0;
-}
-C
-}
-
-# so many blocks on the heap, each freed before the next is born
-heap_of() {
-  cat <<C
-#include <stdlib.h>
-int main(void) {
-  for (int i = 0; i < $1; i++) {
-    int *block = malloc(16);
-    if (block == 0)
-      return 1;
-    *block = i;
-    free(block);
-  }
-  return 0;
-}
-C
-}
+# shellcheck source=bench/workloads
+. "$top/bench/workloads"
 
 # a text of nearly 200,000 tokens, whose statements come after its end
 long_of() {
@@ -118,20 +34,6 @@ int f(int n) {
 }
 int main(void) {
   return f(0);
-}
-C
-}
-
-# a program of 8 lines
-least() {
-  cat <<'C'
-int half(int n) {
-  //@ assert n >= 0;
-  return n / 2;
-}
-int main(void) {
-  int n = half(12);
-  return n;
 }
 C
 }

@@ -13,114 +13,23 @@ export EACSL_QUIET=1
 
 command -v g++ >/dev/null || command -v clang++ >/dev/null || { echo 'skipped, no C++ compiler is there'; exit; }
 
-loop_text() {
-  cat <<'C'
-int main(void) {
-  long sum = 0;
-  for (int turn = 0; turn < 5000000; turn++) {
-    sum += turn;
-    //@ assert sum >= turn;
-  }
-  return sum % 100;
-}
-C
-}
+# shellcheck source=bench/workloads
+. "$top/bench/workloads"
 
-sums_text() {
-  cat <<'C'
-int numbers[1000];
+# a loop of so many turns with an assert of three parts
+assert_of() {
+  cat <<C
 int main(void) {
-  for (int i = 0; i < 1000; i++)
-    numbers[i] = i;
-  for (int time = 0; time < 20000; time++) {
-    long sum = 0;
-    for (int i = 0; i < 1000; i++)
-      sum += numbers[i];
-    /*@ assert sum == 499500; */
+  for (int i = 0; i < $1; i++) {
+    /*@ assert 0 <= i && i < $(($1 + 1)) && (i & 1) == i % 2; */
   }
   return 0;
-}
-C
-}
-
-assert_text() {
-  cat <<'C'
-int main(void) {
-  for (int i = 0; i < 5000000; i++) {
-    /*@ assert 0 <= i && i < 5000001 && (i & 1) == i % 2; */
-  }
-  return 0;
-}
-C
-}
-
-fib_text() {
-  cat <<'C'
-int fib(int n) {
-  if (n < 2)
-    return n;
-  int a = fib(n - 1);
-  int b = fib(n - 2);
-  return a + b;
-}
-int main(void) {
-  int f = fib(30);
-  return f % 100;
-}
-C
-}
-
-sort_text() {
-  cat <<'C'
-int numbers[2000];
-int main(void) {
-  for (int i = 0; i < 2000; i++)
-    numbers[i] = 2000 - i;
-  for (int end = 2000; end > 1; end--)
-    for (int i = 1; i < end; i++)
-      if (numbers[i - 1] > numbers[i]) {
-        int kept = numbers[i];
-        numbers[i] = numbers[i - 1];
-        numbers[i - 1] = kept;
-      }
-  int least = numbers[0];
-  //@ assert least == 1;
-  return 0;
-}
-C
-}
-
-heap_text() {
-  cat <<'C'
-#include <stdlib.h>
-int main(void) {
-  for (int i = 0; i < 1200000; i++) {
-    int *block = malloc(16);
-    if (block == 0)
-      return 1;
-    *block = i;
-    free(block);
-  }
-  return 0;
-}
-C
-}
-
-least_text() {
-  cat <<'C'
-int half(int n) {
-  //@ assert n >= 0;
-  return n / 2;
-}
-int main(void) {
-  int n = half(12);
-  return n;
 }
 C
 }
 
 # about 4,000 lines: in functions of 20, and in one
-functions_text() {
+functions() {
   awk 'BEGIN {
     for (f = 0; f < 190; f++) {
       print "int f" f "(int n) {\n  int a[8] = {0};"
@@ -133,7 +42,7 @@ functions_text() {
   }'
 }
 
-one_function_text() {
+one_function() {
   awk 'BEGIN {
     print "int main(void) {\n  int a[8] = {0};\n  int n = 1;"
     for (i = 0; i < 1330; i++) print "  n = n * 7 % 1001;\n  a[n & 7] += n;\n  //@ assert -1001 < n && n < 1001;"
@@ -141,9 +50,9 @@ one_function_text() {
   }'
 }
 
-# user milliseconds, the least of five runs, and KiB
+# the user milliseconds of a command, the least of five runs
 measured() {
-  python3 "$top/bench/measure.py" 5 /dev/null "$@" | cut -d' ' -f2,4
+  python3 "$top/bench/measure.py" 5 /dev/null "$@" | cut -d' ' -f4
 }
 
 # Launches a text, and finds the native program that was run, which is kept: `native`.
@@ -162,22 +71,22 @@ first_launch() {
   compiled=$(<"$scratch/compiled")
 }
 
-# a line of figures of a text
+# a line of figures of a workload of this size
 line() {
-  local name=$1 what=$2 by_run by_gcc by_native
-  "${name}_text" >"$scratch/$name.c"
+  local name=$1 size=$2 what=$3 by_run by_gcc by_native
+  "${name}_of" "$size" >"$scratch/$name.c"
   launch "$name"
   gcc -O0 -w -o "$scratch/$name" "$scratch/$name.c"
   by_native=$(measured "$native" --steps 1000000000)
   by_gcc=$(measured "$scratch/$name")
   by_run=$(measured "$top/eacsl" run "$scratch/$name.c" --steps 1000000000)
-  awk -v what="$what" -v native="${by_native#* }" -v gcc="${by_gcc#* }" -v run="${by_run#* }" 'BEGIN {
+  awk -v what="$what" -v native="$by_native" -v gcc="$by_gcc" -v run="$by_run" 'BEGIN {
     printf "%-34s %8.1f %8.1f %8.1f %8.1f %8.3f\n", what, native, gcc, run, (gcc > 0 ? native / gcc : 0), (run > 0 ? native / run : 0) }'
 }
 
 # a line of the seconds that a text's first launch takes
 first_line() {
-  "$1_text" >"$scratch/$1.c"
+  "$1" >"$scratch/$1.c"
   first_launch "$1"
   printf '%-34s %8.1f\n' "$2" "$compiled"
 }
@@ -186,12 +95,12 @@ first_line() {
 "$top/eacsl" --build >&2
 
 printf '%-34s %8s %8s %8s %8s %8s\n' 'user milliseconds' native 'gcc -O0' run 'to gcc' 'to run'
-line loop 'a loop with a sum and an assert'
-line sums 'sums of 1,000 elements'
-line assert 'an assert of three parts'
-line fib 'fib(30)'
-line sort 'a sort of 2,000 elements'
-line heap 'blocks of the heap'
+line loop 5000000 'a loop with a sum and an assert'
+line sum 20000 'sums of 1,000 elements'
+line assert 5000000 'an assert of three parts'
+line fib 30 'fib(30)'
+line sort 2000 'a sort of 2,000 elements'
+line heap 1200000 'blocks of the heap'
 printf '\n%-34s %8s\n' 'seconds of the first launch' user
 first_line functions '4,000 lines in functions of 20'
 first_line one_function '4,000 lines in one function'
