@@ -1,30 +1,11 @@
--- Globals that are found in order, and literals.
-use Rattle.std.proofs.Common.{◌≡◌, ℕ, zero, suc, slice_get, List, [], ◌∷◌, Bool, true, false, length, get_or, ltb, map, nat_eq, refl, ap, subst, sym, ◌∙◌}
+-- Literals that are found by their numbers.
+use Rattle.std.proofs.Common.{◌≡◌, ℕ, zero, suc, slice_get, List, [], ◌∷◌, true, false, length, get_or, ltb, map, refl, ap, subst, sym, ◌∙◌}
 use Rattle.std.proofs.Math.Dec.{nltb→le, ltb→lt}
 use Rattle.std.proofs.lemmas.Option.{slice_get_past, slice_get-get_or}
-use Rattle.std.specs.Prelude.{Some, None, if◌then◌else◌, T, not}
-use Rattle.std.proofs.lemmas.Bool.{eqb-true, eq-eqb}
-use Rattle.c_syntax.specs.declared.statement.Decl.{Decl}
+use Rattle.std.specs.Prelude.{Some, None, T, not}
 use Rattle.c_syntax.specs.declared.program.Text.{Text}
 use Rattle.c_syntax.specs.Programs.{StringLiteral, plain_text}
-use Rattle.c_syntax.specs.Statements.{plain_decl}
 use Rattle.c_model.specs.Meaning.{text_at}
-use Rattle.c_effects.specs.Expressions.{global_index}
-
--- numbers that aren't equal
-differ : (a b : ℕ) → (a ≡ b → ⊥) → nat_eq a b ≡ false
-differ a b distinct = by (nat_eq a b) refl
-  where
-    by : (t : Bool) → nat_eq a b ≡ t → t ≡ false
-    by true e = absurd (distinct (eqb-true a b e))
-    by false e = refl
-
-pub global_here : (x : ℕ) (d : Decl) (ds : List Decl) → d.place.offset ≡ x → 0 ≡ global_index x (map plain_decl (d ∷ ds))
-global_here x d ds e = sym (ap (λ b. if b then 0 else suc (global_index x (map plain_decl ds))) (eq-eqb d.place.offset x e))
-
-pub global_later : (x : ℕ) (d : Decl) (ds : List Decl) → (d.place.offset ≡ x → ⊥)
-    → suc (global_index x (map plain_decl ds)) ≡ global_index x (map plain_decl (d ∷ ds))
-global_later x d ds distinct = sym (ap (λ b. if b then 0 else suc (global_index x (map plain_decl ds))) (differ d.place.offset x distinct))
 
 -- an element by its index
 pub found : {A : Type 0} (xs : List A) (n : ℕ) (x : A) → true ≡ ltb n (length xs) → x ≡ get_or xs n x → slice_get xs n ≡ Some x

@@ -1,7 +1,7 @@
 -- Ours: a choice of code; what it has to do is C99 6.5, by the theorem of the translation.
 -- Expressions in monitored C: each variable is read from its block, to which a register points. What an expression evaluates only at times, as
 -- the right side of `&&`, stands before it, in an `if` that sets a temporary register.
-use Rattle.std.specs.Prelude.{ℕ, zero, suc, pos, List, [], ◌∷◌, ◌++◌, length, Option, Some, None, Bool, false, if◌then◌else◌, nat_eq}
+use Rattle.std.specs.Prelude.{ℕ, pos, List, [], ◌∷◌, ◌++◌, length, Option, Some, None, if◌then◌else◌}
 use Rattle.c_syntax.specs.declared.types.CInt.{CInt}
 use Rattle.c_syntax.specs.declared.types.CInt.TheVariants as c
 use Rattle.c_syntax.specs.declared.expression.UnOp.{UnOp}
@@ -12,11 +12,9 @@ use Rattle.c_syntax.specs.Ctypes as source_type
 use Rattle.c_syntax.specs.Ctypes.{PlainType, Int}
 use Rattle.c_syntax.specs.Expressions as source
 use Rattle.c_syntax.specs.Expressions.{Expression, Node, type_of}
-use Rattle.c_syntax.specs.Statements.{Declaration}
 use Rattle.c_syntax.specs.Programs.{StructType, TranslationUnit}
 use Rattle.c_syntax.specs.Layouts.{scalar_of, size_of, offset_of, target_of}
-use Rattle.c_model.specs.Formed.{number_of}
-use Rattle.c_model.specs.StaticObjects.{StaticObject, OfGlobal, OfLiteral, static_objects}
+use Rattle.c_model.specs.StaticObjects.{static_objects}
 use Rattle.c_model.specs.Meaning.{is_array, is_of_library, unit_of}
 use Rattle.c_model.specs.Conversions.{operation_type}
 use Rattle.mon_syntax.specs.declared.tree.MonOp.{MonOp}
@@ -28,6 +26,7 @@ use Rattle.mon_syntax.specs.Trees.{MonExpression, Register, Global, Constant, Bi
 use Rattle.mon_syntax.specs.Trees.{MonStatements, NoStatement, Then}
 use Rattle.mon_syntax.specs.Registers.{Bindings, register_of}
 use Rattle.mon_syntax.specs.Checking.{same_type}
+pub use Rattle.mon_syntax.specs.ObjectIndices.{global_index, object_of_global, object_of_literal}
 use Rattle.mon_syntax.specs.Valid.{result_type}
 
 -- ---- types and operators
@@ -189,32 +188,6 @@ temporaries (Node at t (source.Index a b)) = temporaries a ++ temporaries b
 temporaries (Node at t (source.Dot a m)) = temporaries a
 temporaries (Node at t (source.Arrow a m)) = temporaries a
 temporaries (Node at t (source.Comma a b)) = []
-
--- the index, among the globals, of the one with this number
-abbrev pub global_index : ℕ → List Declaration → ℕ
-global_index x [] = 0
-global_index x (d ∷ ds) = if nat_eq (number_of d) x then 0 else suc (global_index x ds)
-
--- whether an object is the global with this number
-abbrev pub is_global : ℕ → StaticObject → Bool
-is_global x (OfGlobal d) = nat_eq (number_of d) x
-is_global x (OfLiteral l) = false
-
--- the index, among globals and literals in the order of the text, of the global with this number
-abbrev pub object_of_global : ℕ → List StaticObject → ℕ
-object_of_global x [] = 0
-object_of_global x (o ∷ os) = if is_global x o then 0 else suc (object_of_global x os)
-
--- how many literals stand between an object and a literal, none where it is that literal itself
-abbrev pub literals_behind : ℕ → StaticObject → Option ℕ
-literals_behind n (OfGlobal d) = Some n
-literals_behind zero (OfLiteral l) = None
-literals_behind (suc n) (OfLiteral l) = Some n
-
--- the index of a literal among them
-abbrev pub object_of_literal : ℕ → List StaticObject → ℕ
-object_of_literal n [] = 0
-object_of_literal n (o ∷ os) = elim (literals_behind n o) [ None ↦ 0 | Some m ↦ suc (object_of_literal m os) ]
 
 -- the pointer to the block of a declaration: in the register that is bound to it, or else that of a global
 abbrev pub pointer_of : Option ℕ → ℕ → MonExpression

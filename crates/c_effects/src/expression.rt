@@ -11,7 +11,6 @@ ghost use Rattle.c_effects.specs.Named.{both_set_by, condition_by, either_set_by
 ghost use Rattle.c_effects.specs.Parts.{arrow_of, binary_of, both_of, cast_of, choice_of, dot_of, either_of, index_of, named_value, unary_of};
 
 use crate::conversion::value_type;
-use crate::object_index::{object_of_global, object_of_literal};
 use crate::operator::{
     condition, constant, converted, farther, indexed, loaded, operated, register, truth, unary,
 };
@@ -29,10 +28,7 @@ pub fn pointer_to(alloc: Global, names: &Registers<'_>, x: u32) -> Result<MonExp
 {
     match names.register_of(x) {
         Some(number) => register(alloc, number),
-        None => {
-            let number = object_of_global(names.globals(), names.texts(), x)?;
-            MonExpr::new(alloc, MonExprKind::Global(number))
-        }
+        None => { MonExpr::new(alloc, MonExprKind::Global(names.object_of_global(x))) }
     }
 }
 
@@ -40,8 +36,7 @@ pub fn pointer_to(alloc: Global, names: &Registers<'_>, x: u32) -> Result<MonExp
 fn literal(alloc: Global, names: &Registers<'_>, n: u32) -> Result<MonExpr, AllocError>
     ensures { IfOk result (λ m. plain_monitored m ≡ literal (unit_of names.now) n) }
 {
-    let number = object_of_literal(names.globals(), names.texts(), n)?;
-    MonExpr::new(alloc, MonExprKind::Global(number))
+    MonExpr::new(alloc, MonExprKind::Global(names.object_of_literal(n)))
 }
 
 // The value of a variable. The one pointer of the library is `NULL`.

@@ -1,14 +1,12 @@
 //! Where objects and their parts stand.
 
-ghost use Rattle.std.specs.Prelude.{◌≡◌, ◌≤◌, IfOk, length, map};
+ghost use Rattle.std.specs.Prelude.{◌≡◌, IfOk, map};
 ghost use Rattle.c_syntax.specs.Ctypes.{plain_type};
 ghost use Rattle.c_syntax.specs.Programs.{plain_layout};
-ghost use Rattle.c_syntax.specs.Statements.{plain_decl};
 ghost use Rattle.c_syntax.specs.Layouts.{size_of, target_of};
 ghost use Rattle.c_model.specs.Meaning.{unit_of};
-ghost use Rattle.c_effects.specs.Expressions.{global_index};
 
-use c_syntax::{CType, Decl, Layout};
+use c_syntax::{CType, Layout};
 use std::alloc::AllocError;
 use track_scopes::size::size_of;
 
@@ -30,18 +28,4 @@ pub fn unit_of(structs: &[Layout], t: &CType, u: &CType) -> Result<u64, AllocErr
         CType::Ptr(_) => target_size(structs, t),
         _ => target_size(structs, u),
     }
-}
-
-/// The index of the global with this number, or else how many there are.
-pub fn global_index(globals: &[Decl], number: u32) -> usize
-    ensures { result ≡ global_index number (map plain_decl globals.now) }
-{
-    let mut index = 0;
-    'globals: for d in globals {
-        if d.place.offset == number {
-            return index;
-        }
-        index += 1;
-    }
-    index
 }

@@ -7,7 +7,6 @@
 // what code is made of
 pub mod conversion;
 pub mod layout;
-pub mod object_index;
 pub mod operator;
 pub mod part;
 pub mod scalars;

@@ -16,7 +16,6 @@ ghost use Rattle.c_effects.specs.Objects.{base_by, direct_register, part_registe
 
 use crate::conversion::value_type;
 use crate::expression::{expression, place};
-use crate::layout::global_index;
 use crate::operator::{farther, register};
 use crate::part::then;
 use crate::slot::Part;
@@ -41,11 +40,10 @@ fn direct(names: &Registers<'_>, e: &Expr) -> Option<u32>
 {
     match &*e.kind {
         ExprKind::Variable(x) => {
-            let globals = names.globals();
-            if globals.len() <= global_index(globals, x.decl) {
-                Some(block_of(names, x.decl))
-            } else {
+            if names.is_global(x.decl) {
                 None
+            } else {
+                Some(block_of(names, x.decl))
             }
         }
         ExprKind::Number(_, _)

@@ -1,7 +1,7 @@
 -- Ours: plain forms.
 -- The plain form of what the translation takes: of what may be left out of a statement, and of where a statement stands; and what statements
 -- become where a function's names are these.
-use Rattle.std.specs.Prelude.{◌≡◌, ◌≤◌, ℕ, zero, suc, ◌+◌, max, Bool, List, [], ◌∷◌, ◌++◌, reverse, Option, Some, None}
+use Rattle.std.specs.Prelude.{ℕ, zero, suc, ◌+◌, Bool, List, [], ◌∷◌, ◌++◌, reverse, Option, Some, None}
 use Rattle.c_syntax.specs.declared.place.Place.{Place}
 use Rattle.c_syntax.specs.declared.statement.Item.{Item}
 use Rattle.c_syntax.specs.declared.statement.Stmt.{Stmt}
@@ -12,7 +12,7 @@ use Rattle.c_syntax.specs.Programs.{Function, TranslationUnit}
 use Rattle.c_syntax.specs.Statements.{Declaration, Statement, ElsePart, ForFirst, NoFirst, First, BlockItem, Declare, Specify, Run, Asserts, BlockItems}
 use Rattle.c_syntax.specs.Statements.{NoItem, Then, While, Do, Initialiser, plain_stmt, plain_item}
 use Rattle.c_model.specs.Formed.{number_of}
-use Rattle.c_model.specs.StaticObjects.{StaticObject, OfGlobal, OfLiteral, static_objects}
+use Rattle.c_model.specs.StaticObjects.{static_objects}
 use Rattle.mon_syntax.specs.declared.tree.MonType.TheVariants.{Ptr}
 use Rattle.mon_syntax.specs.Registers.{Names, next_register, with_kinds, with_table}
 use Rattle.mon_syntax.specs.Trees.{MonStatements, NoStatement, Global}
@@ -20,7 +20,6 @@ use Rattle.track_scopes.specs.Blocks.{births, entered}
 use Rattle.c_effects.specs.Effects.{any_temporaries}
 use Rattle.c_effects.specs.Expressions.{before, object_of_global, set, temporaries}
 use Rattle.c_effects.specs.Named.{initialise_by, unit_of, with_registers}
-use Rattle.instrument.specs.declared.global.Passed.{Passed}
 use Rattle.instrument.specs.declared.spot.Spot as code
 use Rattle.instrument.specs.Translation.{Spot, after_body, after_else, after_first, after_item, after_items, after_statement, else_part, first_part, for_turns}
 use Rattle.instrument.specs.Translation.{code_of, front, front_temporaries, global_temporaries, in_loop, item, items, returned, statement, test, test_if_any}
@@ -147,23 +146,6 @@ global_initialised n d = started n (object_of_global (number_of d) (static_objec
 abbrev pub globals_initialised : Names → List Declaration → MonStatements
 globals_initialised n [] = NoStatement
 globals_initialised n (d ∷ ds) = before (global_initialised n d) (globals_initialised (with_registers (global_temporaries d.init) n) ds)
-
--- ---- a walk over globals and literals in the order of the text
-
--- whether the walk tells the index of the next object: if it is a global whose number lies above those of the globals that it has passed
-abbrev pub IsNext : TranslationUnit → Passed → StaticObject → Type 0
-IsNext p w (OfGlobal d) = w.above ≤ number_of d → w.count ≡ object_of_global (number_of d) (static_objects p)
-IsNext p w (OfLiteral l) = Unit {0}
-
--- an object, if it is a global
-abbrev pub as_global : StaticObject → List Declaration
-as_global (OfGlobal d) = d ∷ []
-as_global (OfLiteral l) = []
-
--- the walk that has passed one more
-abbrev pub passed_with : Passed → StaticObject → Passed
-passed_with w (OfGlobal d) = record { count = w.count + 1; above = max w.above (number_of d + 1) }
-passed_with w (OfLiteral l) = record { count = w.count + 1; above = w.above }
 
 -- ---- functions
 

@@ -1,6 +1,7 @@
 -- The indices of a program's definitions, noted one after another.
-use Rattle.std.proofs.Common.{◌≡◌, ℕ, suc, ◌+◌, ◌<◌, Bool, true, false, if◌then◌else◌, List, ◌∷◌, length, drop, get_or, Option, Some, None, is_some, option_map, nat_eq, refl, ap, ◌∙◌, sym, arith}
+use Rattle.std.proofs.Common.{◌≡◌, ℕ, suc, ◌+◌, ◌<◌, ◌≤◌, Bool, true, false, if◌then◌else◌, List, [], ◌∷◌, length, length-drop, drop, get_or, Option, Some, None, is_some, option_map, nat_eq, refl, ap, ◌∙◌, sym, arith}
 use Rattle.std.proofs.Math.Seq.{drop-cons}
+use Rattle.std.proofs.lemmas.List.{nil_from_length}
 use Rattle.c_syntax.specs.declared.statement.Stmt.{Stmt}
 use Rattle.c_syntax.specs.Programs.{Function}
 use Rattle.c_syntax.specs.Statements.{plain_stmt}
@@ -37,3 +38,7 @@ pub left_at : {A B : Type 0} (f : List A → B) (l : List A) (i : ℕ) (x y : A)
 left_at f l i x y lt e same =
     let next : suc i ≡ i + 1 = omega arith in
     ap f (drop-cons l i x lt) ∙ ap (λ z. f (z ∷ drop (suc i) l)) (sym e ∙ same) ∙ ap (λ j. f (y ∷ drop j l)) next
+
+-- and nothing is left behind its end
+pub none_left : {A B : Type 0} (f : List A → B) (l : List A) (i : ℕ) → length l ≤ i → f (drop i l) ≡ f []
+none_left f l i le = ap f (nil_from_length (drop i l) (omega (arith, length-drop i l)))

@@ -62,4 +62,5 @@ mod WorkedHeap
 mod WorkedTexts
 -- registers and definitions, while functions are made
 pub mod Indices
+pub mod ObjectIndices
 pub mod Bindings

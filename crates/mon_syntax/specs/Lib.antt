@@ -3,6 +3,7 @@ pub mod Arithmetic
 pub mod Globals
 pub mod Registers
 pub mod Indices
+pub mod ObjectIndices
 pub mod Memory
 pub mod Meaning
 pub mod BlockMemory

@@ -3,6 +3,7 @@
 
 pub mod definition;
 pub mod laws;
+pub mod object_indices;
 pub mod registers;
 pub mod spot;
 pub mod tree;

@@ -1,8 +1,10 @@
 //! The registers of a function in monitored C while it is made.
 
-ghost use Rattle.std.specs.Prelude.{◌≡◌, ◌<◌, ◌∷◌, [], IfOk, IsOk, OnOk, map, slice_get};
-ghost use Rattle.c_syntax.specs.Programs.{plain_func};
+ghost use Rattle.std.specs.Prelude.{◌≡◌, ◌<◌, ◌∷◌, [], IfOk, IsOk, OnOk, length, map, nat_lt, slice_get};
+ghost use Rattle.c_syntax.specs.Programs.{plain_func, plain_program};
+ghost use Rattle.c_model.specs.StaticObjects.{static_objects};
 ghost use Rattle.mon_syntax.specs.Indices.{index_of};
+ghost use Rattle.mon_syntax.specs.ObjectIndices.{global_index, object_of_global, object_of_literal};
 ghost use Rattle.mon_syntax.specs.Registers.{next_register, no_registers, register_of, with_binding, with_kinds, with_table};
 
 use crate::definition::Definitions;
@@ -118,6 +120,27 @@ impl<'a> Registers<'a> {
         ensures { result ≡ index_of number (map plain_func self.now.program.funcs.items) }
     {
         self.definitions.index_of(number)
+    }
+
+    /// The index of the global with this number, among globals and literals in the order of the text.
+    pub fn object_of_global(&self, number: u32) -> u32
+        ensures { result ≡ object_of_global number (static_objects (plain_program self.now.program)) }
+    {
+        self.definitions.object_of_global(number)
+    }
+
+    /// Whether a global has this number.
+    pub fn is_global(&self, number: u32) -> bool
+        ensures { result ≡ nat_lt (global_index number (plain_program self.now.program).globals) (length (plain_program self.now.program).globals) }
+    {
+        self.definitions.is_global(number)
+    }
+
+    /// The index of a literal.
+    pub fn object_of_literal(&self, n: u32) -> u32
+        ensures { result ≡ object_of_literal n (static_objects (plain_program self.now.program)) }
+    {
+        self.definitions.object_of_literal(n)
     }
 
     /// The names of the program's text.

@@ -23,5 +23,5 @@ returns-in_ok-then-in-Some-clause-code c =
     on_ok_then c.initialise.result
     (started_code c.args.names.now c.fresh.new.self (object_of_global c.args.d.now.place.offset (static_objects (unit_of c.args.names.now)))
     pointer.pointer (plain_type d.ctype) (plain_decl d).init (x.0, plain_init x.1) t0 (plain_stmts c.then.new.to.items) (plain_stmts c.initialise.new.to.items)
-    (has_initialiser d x c.in-Some.is) pointer.ensures.number pointer.ensures.names (c.in_ok-then-in-Some.ensures ∙ ap (λ e. before t0 (set pointer.pointer e)) (c.in_ok-start-in-Some.ensures ∙ ap Global c.in_ok-index-in-Some.ensures)))
+    (has_initialiser d x c.in-Some.is) pointer.ensures.number pointer.ensures.names (c.in_ok-then-in-Some.ensures ∙ ap (λ e. before t0 (set pointer.pointer e)) (c.in_ok-start-in-Some.ensures ∙ ap Global c.object_of_global-index.ensures)))
     c.initialise.ensures.code

@@ -4,7 +4,7 @@ use Rattle.c_syntax.specs.Programs.{plain_func}
 use Rattle.c_model.specs.Meaning.{is_definition}
 use Rattle.mon_syntax.specs.Indices.{index_of}
 use Rattle.mon_syntax.specs.Indices.{index_from}
-use Rattle.mon_syntax.proofs.Indices.{left_at}
+use Rattle.mon_syntax.proofs.Indices.{left_at, none_left}
 use Rattle.mon_syntax.proofs.Indices.{defined, noted, passed}
 use Rattle.mon_syntax.proofs.definition.Definitions.new.Goals as goal
 use Rattle.mon_syntax.proofs.definition.Definitions.new.Goals.{then-is_some+in_ok-note, else-is_some}
@@ -29,3 +29,16 @@ funcs-preserved c =
         omega (arith, w.count-is, c.funcs.invariant.1),
       )
     ]
+
+pub invariant_of-result : goal.invariant_of-result
+invariant_of-result c =
+    let found = c.in_ok-objects.ensures in
+    record {
+      indexed = λ n.
+          let fs = c.deref-f-items.result.now in
+          ap (λ l. index_from (get nat_eq c.funcs.indices n) c.funcs.count (index_of n l)) (sym (none_left (map plain_func) fs c.funcs.f-index (omega (arith, c.funcs-test.false))))
+          ∙ c.funcs.invariant.0 n ∙ ap (λ fs. index_of n (map plain_func fs)) c.deref-f-items.ensures.value;
+      globals = found.globals;
+      which = found.which;
+      literals = found.literals;
+    }
