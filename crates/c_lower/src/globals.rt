@@ -3,15 +3,9 @@
 ghost use Rattle.std.specs.Prelude.{◌≡◌, IfOk, map};
 ghost use Rattle.mon_syntax.specs.Trees.{plain_content, plain_global};
 
-use c_syntax::Name;
+use c_syntax::copy::copy_name;
 use mon_syntax::{GlobalContent, MonGlobal};
 use std::alloc::{AllocError, Global};
-
-fn copy_name(alloc: Global, name: &Name) -> Result<Name, AllocError>
-    ensures { IfOk result (λ copy. copy ≡ name.now) }
-{
-    Ok(Name::new(name.bytes().to_vec(alloc)?))
-}
 
 fn copy_content(alloc: Global, content: &GlobalContent) -> Result<GlobalContent, AllocError>
     ensures { IfOk result (λ copy. plain_content copy ≡ plain_content content.now) }

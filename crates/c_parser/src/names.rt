@@ -3,14 +3,8 @@
 ghost use Rattle.std.specs.Prelude.{◌≡◌, IfOk};
 
 use c_syntax::Name;
+use c_syntax::copy::copy_name;
 use std::alloc::{AllocError, Global};
-
-fn copy_name(alloc: Global, name: &Name) -> Result<Name, AllocError>
-    ensures { IfOk result (λ copy. copy ≡ name.now) }
-{
-    let bytes = Vec::from_slice(alloc, name.bytes())?;
-    Ok(Name::new(bytes))
-}
 
 /// Copies of names, in their order.
 pub fn copy_names(alloc: Global, names: &[Name]) -> Result<Vec<Name>, AllocError>

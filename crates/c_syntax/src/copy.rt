@@ -1,11 +1,19 @@
-//! Copies of types, and of the expressions that stand in them.
+//! Copies of names and types, and of the expressions that stand in types.
 
 ghost use Rattle.std.specs.Prelude.{◌≡◌, IfOk, Ok};
 ghost use Rattle.c_syntax.specs.Expressions.{plain_expr, plain_exprs, plain_kind, plain_length, plain_type};
 
 use crate::expression::{Expr, ExprKind};
+use crate::name::Name;
 use crate::types::{CType, Length};
 use std::alloc::{AllocError, Global};
+
+/// A copy of a name.
+pub fn copy_name(alloc: Global, name: &Name) -> Result<Name, AllocError>
+    ensures { IfOk result (λ copy. copy ≡ name.now) }
+{
+    Ok(Name::new(name.bytes().to_vec(alloc)?))
+}
 
 /// A copy of a type.
 #[cycle(copy)]
