@@ -18,7 +18,7 @@ use Rattle.c_effects.specs.Expressions.{before, one, in_type}
 use Rattle.c_effects.specs.Named.{unit_of}
 use Rattle.annot_code.specs.declared.judge.Judged as code
 use Rattle.annot_code.specs.Code.{Reading, Code, term_type, with_value, conjunction, guarded, take, take_none, branch, truth_code, sure_code, is_sure, both_asked, left_first, connected, operated, is_total}
-use Rattle.annot_code.specs.Code.{variable_code, is_known, relation_code, term_code, chain_code, pred_code, sure_readings, sure_readings_of_term, known_at_right, judged_by, judged_anew, judged_with, Judgement, judgement, nothing_said}
+use Rattle.annot_code.specs.Code.{variable_code, is_known, relation_code, term_code, chain_code, pred_code, sure_readings, sure_readings_of_term, known_at_right, judged_by, judged_anew, judged_with, Judgement, judgement}
 use Rattle.annot_code.specs.Code.{type_of_width, working, width_of, type_of, binary_value}
 use Rattle.annot_code.specs.Inside.{StayInside, AreInside}
 use Rattle.annot_code.specs.Plain.{judgement_of}
@@ -183,10 +183,6 @@ judgement_inside p bound q rs =
     let c = pred_code p bound q [] rs in
     let h = with_inside c.flag c (pred_inside p bound q [] rs) in
     record { stay = h.0; no_step = h.1 }
-
--- what a clause that isn't typed becomes
-pub nothing_said_inside : (rs : List MonType) → AreInside (nothing_said rs).stmts
-nothing_said_inside rs = let h = anew_inside (Constant I32 (pos 0)) (truth_code false rs) nothing_inside in record { stay = h.0; no_step = h.1 }
 
 pub of_inside : {E : Type 0} (r : Result code.Judged E) (ks : List MonType) (n : Names) (q : Predicate) → IfOk r (λ j. judgement_of j ks ≡ judgement_by n q) → IfOk r (λ j. AreInside (judgement_of j ks).stmts)
 of_inside r ks n q made =

@@ -47,7 +47,7 @@ use Rattle.annot_code.specs.Inside.{open_in_all}
 use Rattle.annot_code.proofs.Opens.{open_before, open_one, open_if, open_guarded, open_take, open_none}
 use Rattle.annot_code.proofs.Depths.{deep_before, deep_if, deep_guarded, deep_take, some_term, some_nodes}
 use Rattle.annot_code.proofs.Prefixes.{operated_begins, connected_begins, term_begins, chain_begins, pred_begins, judged_begins}
-use Rattle.annot_code.proofs.ValidParts.{flag_open, flag_more, before_valid, expression, set_valid, number_valid, register_valid, FlagValid, Valid, flag_both, guarded_valid, take_valid, take_none_valid, two_valid}
+use Rattle.annot_code.proofs.ValidParts.{flag_open, before_valid, expression, set_valid, number_valid, register_valid, FlagValid, Valid, flag_both, guarded_valid, take_valid, take_none_valid, two_valid}
 use Rattle.annot_code.proofs.ValidParts.{changed_valid, branch_valid, truth_valid, connected_valid}
 use Rattle.c_model.specs.StaticObjects.{static_objects}
 
@@ -278,9 +278,6 @@ module _ (p : TranslationUnit) (bound : Bindings) (g : ℕ) (gs : List Signature
   -- a term that was computed already
   again_is_code : (u : LogicTerm) (y : Code) → IsCode y (type_of u) (nodes_of_term u) 1 → IsCode (sure_code y.value y.used) (type_of u) (nodes_of_term u) 1
   again_is_code u y v = record { statements = tt; deep = omega arith; opened = omega arith; flag = tt; typed = v.typed; parens = v.parens }
-
-  more_code : (c : Code) (t : MonType) (m n s : ℕ) → m ≤ n → IsCode c t m s → IsCode c t n s
-  more_code c t m n s le v = record { statements = v.statements; deep = omega (arith, v.deep, le); opened = omega (arith, v.opened, le); flag = flag_more g gs ts result ls c.flag m n le v.flag; typed = v.typed; parens = omega (arith, v.parens, le) }
 
   -- ---- everything
 

@@ -1,6 +1,6 @@
 -- Enumerators, one after another.
 use Rattle.std.proofs.Common.{◌≡◌, ℤ, pos, ◌+ℤ◌, List, [], ◌∷◌, ◌++◌, refl, sym, ap, ◌∙◌, subst, map, append_assoc, Option, Err}
-use Rattle.std.proofs.lemmas.List.{append-nil, map-append}
+use Rattle.std.proofs.lemmas.List.{map-append}
 use Rattle.c_syntax.specs.declared.program.Enumerator.{Enumerator}
 use Rattle.c_syntax.specs.Expressions.{Expression}
 use Rattle.c_syntax.specs.Programs.{EnumConstant, plain_enumerator}
@@ -30,9 +30,6 @@ first_is s next e es = by (own_name s (is_declared_in_file s e.name) e.place e.n
 one_more : (done : List EnumConstant) (x : EnumConstant) (c : Checked (Sight × List EnumConstant)) → behind_enumerators done (one_part c (λ p. Good (p.0, x ∷ p.1))) ≡ behind_enumerators (done ++ x ∷ []) c
 one_more done x (Good p) = ap (λ l. Good (p.0, l)) (sym (append_assoc done (x ∷ []) p.1))
 one_more done x (Bad f fs) = refl
-
-pub all_enumerators : (s : Sight) (done : List EnumConstant) → behind_enumerators done (Good (s, [])) ≡ Good (s, done)
-all_enumerators s done = ap (λ l. Good (s, l)) (append-nil done)
 
 module _ (s t : Sight) (next : ℤ) (all : List EnumConstant) (done : List Enumerator) (list : List Enumerator) (e : Enumerator) (rest : List Enumerator)
     (before : typed_enumerators s (pos 0) all ≡ behind_enumerators (map plain_enumerator done) (typed_enumerators t next (map plain_enumerator list))) (is : list ≡ e ∷ rest)

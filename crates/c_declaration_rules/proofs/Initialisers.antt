@@ -1,5 +1,5 @@
 -- Initialisers that are lists.
-use Rattle.std.proofs.Common.{◌≡◌, ℕ, suc, ◌<◌, List, [], ◌∷◌, length, drop, get_or, slice_set, arith, refl, sym, ap, ◌∙◌, subst, Bool, true, false, ◌&&◌, if◌then◌else◌, Some, None, option_map, Result, Ok, Err, ◌≤◌}
+use Rattle.std.proofs.Common.{◌≡◌, ℕ, suc, ◌<◌, List, [], ◌∷◌, length, drop, get_or, slice_set, arith, refl, sym, ap, ◌∙◌, subst, Bool, true, false, ◌&&◌, if◌then◌else◌, Some, None, option_map, Result, ◌≤◌}
 use Rattle.std.specs.Prelude.{Vec}
 use Rattle.std.specs.declared.alloc.Global.{Global}
 use Rattle.c_syntax.specs.declared.place.Place.{Place}
@@ -9,14 +9,11 @@ use Rattle.c_syntax.specs.Ctypes.{PlainType, Void, Int, Ptr, Array, Struct, Name
 use Rattle.c_syntax.specs.Expressions.{Expression, place_of}
 use Rattle.c_syntax.specs.Statements.{Initialiser, One, Many, Initialisers, NoInitialiser, Listed, plain_init, plain_inits}
 use Rattle.c_syntax.proofs.Rows.{many_is}
-use Rattle.c_syntax.specs.RefusalCodes.{type_code}
-use Rattle.c_model.specs.Checked.{Checked, Good, faulty, one_part, refusing}
-use Rattle.c_model.specs.ExpressionTyping.{Sight, is_character, is_scalar, no_type, typed}
+use Rattle.c_model.specs.Checked.{Checked, Good, one_part}
+use Rattle.c_model.specs.ExpressionTyping.{Sight, is_character, is_scalar, typed}
 use Rattle.c_model.specs.DeclarationTyping.{initial_value, is_text_array, next_slot, no_more, slots_of, too_many, typed_alone, typed_initialiser, typed_items, typed_text}
 use Rattle.c_expression_rules.specs.declared.fault.TypeFault.{TypeFault}
-use Rattle.c_expression_rules.specs.declared.fault.TypeFault.TheVariants.{Refused}
 use Rattle.c_expression_rules.specs.Answers.{Answers}
-use Rattle.c_expression_rules.proofs.Least.{one_refused}
 use Rattle.c_declaration_rules.specs.Initialisers.{is_text_alone, slot, without_braces}
 use Rattle.c_declaration_rules.proofs.Parts.{one_made}
 use Rattle.c_declaration_rules.proofs.Lists.{text_array_is}
@@ -109,22 +106,6 @@ alone_in_place s ok t (z ∷ zs) (w ∷ ws) x y r lt len same at h =
     subst (λ w. Answers (λ (u : Unit {0}). Listed (plain_init y) (plain_inits ws)) (typed_alone s ok t (Listed (plain_init w) (plain_inits zs))) r) (at ∙ same x) h
 
 -- ---- items for which there is no object
-
-module _ (s : Sight) (e : Expression) (e' : Expression) (is : Initialisers)
-  where
-    -- its expression has a fault
-    pub item_refused : (f : TypeFault) → Answers (λ (u : Unit {0}). e') (typed s e) (Err f) → Answers {T = Unit {0}} (λ u. is) (too_many s (One e)) (Err f)
-    item_refused f h = one_refused (λ x. faulty (no_type (place_of e))) (λ (u : Unit {0}). e') (λ (u : Unit {0}). is) (typed s e) f h
-
-    -- it has none
-    pub item_told : (u : Unit {0}) → Answers (λ (u : Unit {0}). e') (typed s e) (Ok u) → Answers {T = Unit {0}} (λ u. is) (too_many s (One e)) (Err (Refused (record { code = type_code; place = place_of e })))
-    item_told u h = ap (λ c. refusing (one_part c (λ x. faulty {A = Initialisers} (no_type (place_of e))))) h
-
--- what stands behind the first item of one that is alone
-pub none_behind : (s : Sight) (old : List Init) → length old < 2 → no_more s (plain_inits (drop 1 old)) ≡ Good (plain_inits (drop 1 old))
-none_behind s [] lt = refl
-none_behind s (x ∷ []) lt = refl
-none_behind s (x ∷ y ∷ ys) lt = absurd (omega (arith, lt))
 
 pub some_behind : (s : Sight) (old : List Init) (x : Init) (is : Initialisers) (r : Result (Unit {0}) TypeFault) → 2 ≤ length old → x ≡ get_or old 1 x
     → Answers (λ (u : Unit {0}). is) (too_many s (plain_init x)) r → Answers (λ (u : Unit {0}). is) (no_more s (plain_inits (drop 1 old))) r

@@ -10,7 +10,7 @@ use Rattle.c_syntax.specs.Layouts.{count_of, members_of_struct}
 use Rattle.c_syntax.specs.Statements.{Initialiser, One, Many, Initialisers, NoInitialiser, Listed, plain_init, plain_inits}
 use Rattle.c_model.specs.Checked.{Checked, Good, Bad, both_parts, one_part, faulty}
 use Rattle.c_model.specs.ExpressionTyping.{Sight, no_type, typed}
-use Rattle.c_model.specs.DeclarationTyping.{Slots, Each, Members, member_types, next_slot, place_of_initialiser, slots_of, too_many, typed_initialiser, typed_items}
+use Rattle.c_model.specs.DeclarationTyping.{Slots, Each, Members, member_types, next_slot, place_of_initialiser, too_many, typed_initialiser, typed_items}
 use Rattle.c_expression_rules.specs.declared.fault.TypeFault.{TypeFault}
 use Rattle.c_expression_rules.specs.declared.fault.TypeFault.TheVariants.{Refused, Memory}
 use Rattle.c_expression_rules.specs.Answers.{Answers, both, first_of}
@@ -24,9 +24,6 @@ abbrev pub slots_at : Sight → PlainType → ℕ → Slots
 slots_at s (Array t n) k = Each t (count_of n - k)
 slots_at s (Struct n) k = Members (drop k (member_types (slice_get s.structs n)))
 slots_at s t k = Each t (1 - k)
-
-abbrev from_slot : Sight → PlainType → ℕ → Option PlainType → Option (PlainType × Slots)
-from_slot s t k o = option_map (λ u. (u, slots_at s t (suc k))) o
 
 each_at : (t : PlainType) (n k : ℕ) → next_slot (Each t (n - k)) ≡ option_map (λ u. (u, Each t (n - suc k))) (cond (nat_lt k n) (Some t) None)
 each_at t n k = by (nat_lt k n) refl
@@ -61,16 +58,6 @@ slot_is s (Ptr t) k = one_at (Ptr t) k
 slot_is s (Named x) k = one_at (Named x) k
 slot_is s (StructTag x tag) k = one_at (StructTag x tag) k
 slot_is s (EnumTag x at) k = one_at (EnumTag x at) k
-
-pub slots_start : (s : Sight) (t : PlainType) → slots_at s t 0 ≡ slots_of s t
-slots_start s (Array t n) = ap (Each t) (omega arith)
-slots_start s (Struct n) = refl
-slots_start s Void = refl
-slots_start s (Int i) = refl
-slots_start s (Ptr t) = refl
-slots_start s (Named x) = refl
-slots_start s (StructTag x tag) = refl
-slots_start s (EnumTag x at) = refl
 
 -- each of these items has an object, and behind them are these
 abbrev pub SlotsBehind : List Init → Slots → Slots → Type 0

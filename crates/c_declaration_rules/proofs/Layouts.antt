@@ -27,13 +27,6 @@ greater_second a b le = by (nat_lt a b) refl
     by true e = greater_by a b true e
     by false e = greater_by a b false e ∙ (let l : b ≤ a = grind (arith, nat_tests, e) in omega (arith, l, le))
 
-pub greater_left : (a b : ℕ) → a ≤ greater a b
-greater_left a b = by (nat_lt a b) refl
-  where
-    by : (t : Bool) → nat_lt a b ≡ t → a ≤ greater a b
-    by true e = let g = greater_by a b true e in let l : a < b = grind (arith, nat_tests, e) in omega (arith, g, l)
-    by false e = let g = greater_by a b false e in omega (arith, g)
-
 pub greater_right : (a b : ℕ) → b ≤ greater a b
 greater_right a b = by (nat_lt a b) refl
   where
@@ -64,9 +57,6 @@ module _ (structs : List StructType)
 
     pub widest_start : (ms : List StructMember) → greater 1 (widest structs ms) ≡ widest structs ms
     widest_start ms = greater_second 1 (widest structs ms) (widest_some ms)
-
-    pub widest_end : (a : ℕ) → 1 ≤ a → greater a 1 ≡ a
-    widest_end a le = greater_first a 1 le
 
     pub widest_more : (ms : List StructMember) (m : StructMember) → widest structs (ms ++ m ∷ []) ≡ greater (widest structs ms) (align_of structs m.ctype)
     widest_more [] m = greater_comm (align_of structs m.ctype)

@@ -166,14 +166,6 @@ pub braces_off : (at : Place) (v : Vec Init Global) (xs : List Init) (x : Init) 
 braces_off at v xs x e =
     sym (ap without_braces (many_is at v) ∙ ap (λ l. last_item (Many at (plain_inits l)) (plain_inits l)) e ∙ last_snoc (Many at (plain_inits (xs ++ x ∷ []))) xs x)
 
-pub braces_kept : (at : Place) (v w : Vec Init Global) → v.items ≡ [] → w.items ≡ [] → plain_init (init.Many at w) ≡ without_braces (plain_init (init.Many at v))
-braces_kept at v w e f =
-    many_is at w ∙ ap (λ l. Many at (plain_inits l)) f ∙ sym (ap without_braces (many_is at v) ∙ ap (λ l. last_item (Many at (plain_inits l)) (plain_inits l)) e)
-
-pub no_items : (xs : List Init) → length xs ≡ 0 → xs ≡ []
-no_items [] e = refl
-no_items (x ∷ xs) e = absurd (omega (arith, e))
-
 -- two reads of one element
 pub same_at : {A : Type 0} (xs : List A) (i : ℕ) (x y : A) → i < length xs → x ≡ get_or xs i x → y ≡ get_or xs i y → x ≡ y
 same_at [] i x y lt e f = absurd (omega (arith, lt))

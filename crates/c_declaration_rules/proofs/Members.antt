@@ -61,11 +61,6 @@ module _ (s : Sight) (struct : StructType) (m : StructMember) (t : PlainType) (g
     with_member_is k ends =
         ap (λ (a : StructType). with_struct s k (if ends then a else record a { size = 0 }) (greater (number_at s.levels k) (suc (levels_of s.levels t)))) added_is
 
--- a member whose type is refused
-pub unsized_member : {S T : Type 0} (p : S → PlainType) (q : T → PlainType) (s : Sight) (struct : StructType) (m : StructMember) (h : TypeFault)
-    → Answers p (object_member s m.place m.ctype) (Err h) → Answers q (typed_member_type s struct m) (Err h)
-unsized_member p q s struct m h x = one_refused (λ t. where_so (nat_le (member_added s struct t m).size most_bytes) (too_large m.place) (Good t)) p q (object_member s m.place m.ctype) h x
-
 member_in_turn : (s : Sight) (k : ℕ) (struct : StructType) (m : StructMember) (ends : Bool) → typed_member s k struct m ends ≡ one_part (checked_member s struct m) (λ t. Good (with_member s k struct t m ends))
 member_in_turn s k struct m ends = by (new_member m.name m.place struct.members) (typed_member_type s struct m)
   where

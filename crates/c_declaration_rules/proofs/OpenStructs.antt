@@ -130,21 +130,6 @@ module _ {S : Type 0} (names all : IndexSet ℕ S) (name : ℕ) (more : (q : ℕ
     names_more ms m e has x =
         more x ∙ any_more (nat_eq name x) (contains nat_eq names x) ∙ ap (λ c. c || nat_eq name x) (has x) ∙ ap (λ n. is_there (member_among x ms) || nat_eq n x) e ∙ sym (there_more x ms m)
 
-    -- a name more that is kept, of a member fewer that is left
-    pub names_step : (m : StructMember) (ms : List StructMember) (x : ℕ) → name ≡ m.name
-        → (contains nat_eq all x || is_there (member_among x ms)) ≡ (contains nat_eq names x || is_there (member_among x (m ∷ ms)))
-    names_step m ms x e =
-        ap (λ c. c || is_there (member_among x ms)) (more x) ∙ ap (λ n. cond (nat_eq n x) true (contains nat_eq names x) || is_there (member_among x ms)) e ∙ by (nat_eq m.name x) (contains nat_eq names x)
-      where
-        by : (b c : Bool) → (cond b true c || is_there (member_among x ms)) ≡ (c || is_there (if b then Some m else member_among x ms))
-        by true true = refl
-        by true false = refl
-        by false c = refl
-
-pub any_left : (b : Bool) → (b || false) ≡ b
-any_left true = refl
-any_left false = refl
-
 -- ---- what is kept goes with its struct
 
 pub open_more : {S : Type 0} (structs : List StructType) (k : ℕ) (struct : StructType) (m : StructMember) (g : Grown) (names all : IndexSet ℕ S) (name : ℕ) → slice_get structs k ≡ Some struct → IsLaid structs struct

@@ -1,19 +1,16 @@
 -- Parts that are joined in this order, and the types of objects and of parameters.
-use Rattle.std.proofs.Common.{◌≡◌, refl, sym, ap, ◌∙◌, subst, true, false, Option, Result, Ok, Err}
+use Rattle.std.proofs.Common.{◌≡◌, refl, sym, ap, ◌∙◌, subst, false, Option, Result, Ok, Err}
 use Rattle.c_syntax.specs.declared.place.Place.{Place}
 use Rattle.c_syntax.specs.Ctypes.{PlainType, Ptr, Array, PlainLength, Left, Written, Count}
 use Rattle.c_syntax.specs.Statements.{Initialiser}
 use Rattle.c_model.specs.Library.{is_there}
 use Rattle.c_model.specs.Checked.{Checked, Good, both_parts, one_part}
-use Rattle.c_model.specs.ExpressionTyping.{Sight, known_type, typed_length}
-use Rattle.c_model.specs.DeclarationTyping.{completed, object_type, typed_outer, typed_parameter_type}
+use Rattle.c_model.specs.ExpressionTyping.{Sight, typed_length}
+use Rattle.c_model.specs.DeclarationTyping.{typed_outer, typed_parameter_type}
 use Rattle.c_expression_rules.specs.declared.fault.TypeFault.{TypeFault}
 use Rattle.c_expression_rules.specs.declared.fault.TypeFault.TheVariants.{Refused, Memory}
-use Rattle.c_expression_rules.specs.Answers.{Answers, IfTold, both, first_of}
-use Rattle.c_expression_rules.specs.Operators.{has_size}
+use Rattle.c_expression_rules.specs.Answers.{Answers, both, first_of}
 use Rattle.c_expression_rules.proofs.Least.{both_made, both_refused, one_refused}
-use Rattle.c_expression_rules.proofs.Besides.{sized_type}
-use Rattle.c_expression_rules.proofs.Told.{told_map}
 use Rattle.c_declaration_rules.specs.Objects.{behind, is_left, sized_object, typed_pointed}
 
 -- a refusal says nothing of the tree
@@ -51,24 +48,6 @@ module _ (s : Sight) (at : Place) (t : PlainType) (i : Option (Place × Initiali
   where
     pub object_refused : {S T : Type 0} (p : S → PlainType) (q : T → PlainType) (h : TypeFault) → Answers p (typed_outer (is_there i) s at t) (Err h) → Answers q (sized_object s at t i) (Err h)
     object_refused p q h x = one_refused _ p q (typed_outer (is_there i) s at t) h x
-
-    -- the type has no fault, and is asked for its size with its length
-    pub object_sized : (u v : PlainType) (a : Result (Unit {0}) TypeFault) → typed_outer (is_there i) s at t ≡ Good u → v ≡ completed s u i → Answers (λ (w : Unit {0}). w) (has_size s at v) a
-        → Answers (λ (w : Unit {0}). v) (sized_object s at t i) a
-    object_sized u v a is same ha =
-        subst (λ c. Answers (λ (w : Unit {0}). v) (one_part c (λ t. object_type s at (completed s t i))) a) (sym is)
-        (subst (λ z. Answers (λ (w : Unit {0}). v) (object_type s at z) a) same (sized_type s at v a ha))
-
-    -- what is known of it, with its length
-    pub object_known : {T : Type 0} (u v : PlainType) (a : Result T TypeFault) → IfTold a (u ≡ known_type s t) → v ≡ completed s u i → IfTold a (v ≡ completed s (known_type s t) i)
-    object_known u v a h same = told_map a (λ e. same ∙ ap (λ z. completed s z i) e) h
-
--- the parts of a parameter's type that is written as an array, whose length may be left out
-pub array_left : (s : Sight) (at : Place) (t t' : PlainType) (n : PlainLength) (a : Result (Unit {0}) TypeFault) → is_left n ≡ true → Answers (λ (u : Unit {0}). Ptr t') (typed_pointed s at t) a
-    → Answers (λ (u : Unit {0}). Ptr t') (typed_parameter_type s at (Array t n)) a
-array_left s at t t' Left a l h = h
-array_left s at t t' (Written e) a l h = absurd cc
-array_left s at t t' (Count k) a l h = absurd cc
 
 pub array_made : (s : Sight) (at : Place) (t t' : PlainType) (n n' : PlainLength) (a b r : Result (Unit {0}) TypeFault) → is_left n ≡ false → Answers (λ (u : Unit {0}). Ptr t') (typed_pointed s at t) a
     → Answers (λ (u : Unit {0}). n') (typed_length s at n) b → r ≡ both a b → Answers (λ (u : Unit {0}). Ptr t') (typed_parameter_type s at (Array t n)) r

@@ -8,7 +8,7 @@ use Rattle.c_effects.specs.declared.slot.Slot.{Slot}
 use Rattle.c_effects.specs.declared.zeros.Row.{Row}
 use Rattle.c_effects.specs.Expressions.{before}
 use Rattle.c_effects.specs.Effects.{copies_at}
-use Rattle.c_effects.specs.Scalars.{done_to, row_after, row_of, rows_stored, task_after}
+use Rattle.c_effects.specs.Scalars.{done_to, row_after, rows_stored, task_after}
 use Rattle.c_effects.specs.Zeros.{row_stored, row_with}
 use Rattle.c_effects.specs.declared.scalars.Task.{Task}
 use Rattle.c_effects.specs.declared.scalars.Task.TheVariants.{Zero, Copy}
@@ -78,10 +78,6 @@ no_element at size (suc left) inside le = absurd (omega arith)
 -- a turn of a loop over elements or members: what is done in it, and the task that is left
 pub task_more : {left all : Task} (t1 : Task) (xs ys : List (ℕ × Scalar)) (t : Task) → left ≡ task_after (task_after t xs) ys → t1 ≡ task_after t xs → left ≡ all → task_after t1 ys ≡ all
 task_more t1 xs ys t is after kept = ap (λ u. task_after u ys) after ∙ sym is ∙ kept
-
--- what a task for zeros leaves
-pub row_left : (t : Task) (s : Slot) (row after : Row) → t ≡ Zero s after → row_of row t ≡ after
-row_left t s row after is = ap (row_of row) is
 
 -- the scalars of a struct
 pub struct_scalars : (structs : List StructType) (deep n offset : ℕ) (o : Option StructType) → 0 < deep → o ≡ slice_get structs n

@@ -1,11 +1,8 @@
 -- The items of a block, one after another.
-use Rattle.std.proofs.Common.{◌≡◌, List, [], ◌∷◌, ◌++◌, refl, sym, ap, ◌∙◌, Err}
+use Rattle.std.proofs.Common.{◌≡◌, List, [], ◌∷◌, ◌++◌, refl, sym, ap, ◌∙◌}
 use Rattle.c_syntax.specs.declared.statement.Item.{Item}
 use Rattle.c_syntax.specs.Statements.{BlockItem, BlockItems, NoItem, Then, plain_item, plain_items}
 use Rattle.c_model.specs.Checked.{Checked, Good, Bad, one_part}
-use Rattle.c_expression_rules.specs.declared.fault.TypeFault.{TypeFault}
-use Rattle.c_expression_rules.specs.Answers.{Answers}
-use Rattle.c_expression_rules.proofs.Least.{one_refused}
 
 abbrev pub append : BlockItems → BlockItems → BlockItems
 append NoItem js = js
@@ -38,10 +35,6 @@ module _ (done : BlockItems) (m : Checked BlockItem) (rest : BlockItem → Check
   where
     next_item : (i : BlockItem) → m ≡ Good i → behind_block done (one_part m (λ i. one_part (rest i) (λ is. Good (Then i is)))) ≡ behind_block (append done (Then i NoItem)) (rest i)
     next_item i is = ap (λ c. behind_block done (one_part c (λ i. one_part (rest i) (λ is. Good (Then i is))))) is ∙ items_in_front done i (rest i)
-
-    -- the first of the items is refused
-    pub item_refused : {S T : Type 0} (p : T → BlockItem) (s : S → BlockItems) (h : TypeFault) → Answers p m (Err h) → Answers s (behind_block done (one_part m (λ i. one_part (rest i) (λ is. Good (Then i is))))) (Err h)
-    item_refused p s h a = one_refused (λ is. Good (append done is)) s s (one_part m (λ i. one_part (rest i) (λ is. Good (Then i is)))) h (one_refused (λ i. one_part (rest i) (λ is. Good (Then i is))) p s m h a)
 
 -- one more item is there
 pub items_more : (whole c : Checked BlockItems) (done done' : List Item) (x : Item) (m : Checked BlockItem) (rest : BlockItem → Checked BlockItems) → whole ≡ behind_block (plain_items done) c

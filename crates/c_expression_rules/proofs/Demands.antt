@@ -8,11 +8,11 @@ use Rattle.c_syntax.specs.Expressions.{Expression, Node, Index, type_of}
 use Rattle.c_model.specs.Integers.{integer_type}
 use Rattle.c_model.specs.Library.{is_there}
 use Rattle.c_model.specs.Checked.{Checked, Good, faulty, given, one_part, where_so}
-use Rattle.c_model.specs.ExpressionTyping.{Sight, Sized, HasSize, HasNoSize, NotYet, element, operated_in_place, is_place, is_step, is_void, no_name, no_type, pointed, sized, where_elements, where_sized}
+use Rattle.c_model.specs.ExpressionTyping.{Sight, Sized, HasSize, HasNoSize, NotYet, operated_in_place, is_place, is_step, is_void, no_name, no_type, pointed, sized, where_elements, where_sized}
 use Rattle.c_expression_rules.specs.declared.fault.TypeFault.{TypeFault}
 use Rattle.c_expression_rules.specs.Answers.{Answers}
 use Rattle.c_expression_rules.proofs.Least.{one_refused}
-use Rattle.c_expression_rules.specs.Operators.{compoundable, element_type, elements, has_size, indexed_type}
+use Rattle.c_expression_rules.specs.Operators.{compoundable, elements, has_size}
 
 module _ {A : Type 0} (s : Sight) (at : Place) (t : PlainType) (c : Checked A)
   where
@@ -59,28 +59,3 @@ module _ (s : Sight) (at : Place) (a b : Expression)
   where
     abbrev whole : PlainType → Expression
     whole t = Node at t (Index a b)
-
-    pub element_by : element s at a b ≡ one_part (indexed_type s at (type_of a) (type_of b)) (λ t. Good (whole t))
-    element_by = by (pointed (type_of a)) (pointed (type_of b)) (is_there (integer_type (type_of a))) (is_there (integer_type (type_of b)))
-      where
-        one : (t : PlainType) → where_elements s at t (Good (whole t)) ≡ one_part (element_type s at t) (λ t. Good (whole t))
-        one t = sides (is_void t) (sized s.structs t)
-          where
-            sides : (v : Bool) (k : Sized)
-                → where_so (not v) (no_type at) (elim k [ HasSize ↦ Good (whole t) | HasNoSize ↦ faulty (no_type at) | NotYet ↦ faulty (no_name at) ])
-                ≡ one_part (where_so (not v) (no_type at) (elim k [ HasSize ↦ Good t | HasNoSize ↦ faulty (no_type at) | NotYet ↦ faulty (no_name at) ])) (λ t. Good (whole t))
-            sides true k = refl
-            sides false HasSize = refl
-            sides false HasNoSize = refl
-            sides false NotYet = refl
-
-        side : (t : PlainType) (p : Bool) → where_so p (no_type at) (where_elements s at t (Good (whole t))) ≡ one_part (where_so p (no_type at) (element_type s at t)) (λ t. Good (whole t))
-        side t true = one t
-        side t false = refl
-
-        by : (o q : Option PlainType) (x y : Bool)
-            → elim o [ Some t ↦ where_so y (no_type at) (where_elements s at t (Good (whole t))) | None ↦ given q (no_type at) (λ t. where_so x (no_type at) (where_elements s at t (Good (whole t)))) ]
-            ≡ one_part (elim o [ Some t ↦ where_so y (no_type at) (element_type s at t) | None ↦ given q (no_type at) (λ t. where_so x (no_type at) (element_type s at t)) ]) (λ t. Good (whole t))
-        by (Some t) q x y = side t y
-        by None (Some t) x y = side t x
-        by None None x y = refl

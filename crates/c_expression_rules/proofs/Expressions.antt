@@ -58,10 +58,6 @@ form_is s at t (Dot a m) = refl
 form_is s at t (Arrow a m) = refl
 form_is s at t (Comma a b) = two_in_turn (λ a b. Good (Node at (type_of b) (Comma a b))) (typed s a) (decayed_of (typed s b))
 
--- what is known by its form is known of an expression
-pub by_form : {T : Type 0} (p : T → Expression) (s : Sight) (at : Place) (t : PlainType) (k : ExpressionKind) (r : Result T TypeFault) → Answers p (typed_kind s at k) r → Answers p (typed s (Node at t k)) r
-by_form p s at t k r h = subst (λ c. Answers p c r) (sym (form_is s at t k)) h
-
 -- ---- calls
 
 -- a call by its form

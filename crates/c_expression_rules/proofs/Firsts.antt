@@ -1,7 +1,6 @@
 -- The number of the first of each key in a list, and what is found by it.
 use Rattle.std.proofs.Common.{◌≡◌, ℕ, zero, suc, ◌+◌, ◌<◌, List, [], ◌∷◌, ◌++◌, refl, sym, ap, ◌∙◌, subst, arith, length, map, cond, nat_eq, get_or, Bool, true, false, is_some, Option, Some, None, option_map}
 use Rattle.std.proofs.lemmas.Bool.Decides.{nat_tests}
-use Rattle.std.proofs.lemmas.List.{length-map, map-append}
 use Rattle.std.specs.Map.{lookup}
 use Rattle.c_model.specs.ExpressionTyping.{or_else}
 use Rattle.c_expression_rules.specs.Firsts.{AreFirst, Notes, first_number}
@@ -116,9 +115,3 @@ first_new firsts more y n fresh with_it ks count first x =
         let t : nat_eq x y ≡ false = grind (arith, nat_tests, eb) in
         sym eo ∙ ap (λ b. cond b (Some (length ks)) None) (sym t)
     by false eb (Some m) eo = sym eo
-
--- so a list has its table where it has one more
-pub first_more : {A : Type 0} (key : A → ℕ) (xs all : List A) (a : A) (firsts more : List (ℕ × ℕ)) (y n : ℕ) → all ≡ xs ++ a ∷ [] → y ≡ key a → n ≡ length xs → Notes firsts y n more → AreFirst (map key xs) firsts
-    → AreFirst (map key all) more
-first_more key xs all a firsts more y n is named count notes first =
-    subst (λ ks. AreFirst ks more) (ap (λ k. map key xs ++ k ∷ []) named ∙ sym (map-append key xs (a ∷ [])) ∙ ap (map key) (sym is)) (notes (map key xs) (count ∙ sym (length-map xs key)) first)

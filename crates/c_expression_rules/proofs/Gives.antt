@@ -27,13 +27,3 @@ gives_given R (Some a) f k h = h a refl
 pub gives_where : {B : Type 0} (R : B → Type 0) (t : Bool) (f : Fault) (c : Checked B) → (t ≡ true → Gives R c) → Gives R (where_so t f c)
 gives_where R true f c h = h refl
 gives_where R false f c h = tt
-
--- what follows of the value
-pub gives_more : {A : Type 0} (P Q : A → Type 0) (c : Checked A) → ((a : A) → P a → Q a) → Gives P c → Gives Q c
-gives_more P Q (Good a) h g = h a g
-gives_more P Q (Bad f fs) h g = tt
-
--- the value itself
-pub gives_self : {A : Type 0} (P : A → Type 0) (c : Checked A) → Gives P c → Gives (λ a. P a × (c ≡ Good a)) c
-gives_self P (Good a) g = (g, refl)
-gives_self P (Bad f fs) g = tt

@@ -88,14 +88,6 @@ one_refused k p s m Memory x = tt
 pub one_then : {A B S T : Type 0} (k : A → Checked B) (p : T → A) (s : S → B) (m : Checked A) (t : T) (r : Result S TypeFault) → Answers p m (Ok t) → Answers s (k (p t)) r → Answers s (one_part m k) r
 one_then k p s m t r is h = subst (λ c. Answers s (one_part c k) r) (sym is) h
 
--- two parts that have no fault
-pub both_then : {A B C S : Type 0} (k : A → B → Checked C) (p : Unit {0} → A) (q : Unit {0} → B) (s : S → C) (m : Checked A) (n : Checked B) (a b : Result (Unit {0}) TypeFault) (u : Unit {0}) (r : Result S TypeFault)
-    → Answers p m a → Answers q n b → both a b ≡ Ok u → Answers s (k (p tt) (q tt)) r → Answers s (both_parts m n k) r
-both_then k p q s m n (Ok x) (Ok y) u r ha hb j h = subst (λ c. Answers s (both_parts c n k) r) (sym ha) (subst (λ c. Answers s (both_parts (Good (p tt)) c k) r) (sym hb) h)
-both_then k p q s m n (Ok x) (Err g) u r ha hb j h = absurd cc
-both_then k p q s m n (Err f) (Ok y) u r ha hb j h = absurd cc
-both_then k p q s m n (Err f) (Err g) u r ha hb j h = absurd cc
-
 -- two parts as one
 pub both_answers : {A B T : Type 0} (p : T → A) (q : Unit {0} → B) (m : Checked A) (n : Checked B) (a : Result T TypeFault) (b : Result (Unit {0}) TypeFault) (r : Result T TypeFault)
     → Answers p m a → Answers q n b → both a b ≡ r → Answers (λ x. (p x, q tt)) (both_parts m n two) r

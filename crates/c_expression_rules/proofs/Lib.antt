@@ -2,7 +2,6 @@ pub mod InPlace
 pub mod Least
 pub mod Lists
 pub mod BlockItems
-pub mod Names
 pub mod Newest
 pub mod Gives
 pub mod Firsts

@@ -1,5 +1,5 @@
 -- Initialisers and the zeros of what they leave out, part by part.
-use Rattle.std.proofs.Common.{◌≡◌, ℕ, zero, suc, ◌+◌, ◌-◌, ◌<◌, true, false, List, [], ◌∷◌, ◌++◌, length, drop, Option, Some, None, refl, sym, ap, ◌∙◌, arith}
+use Rattle.std.proofs.Common.{◌≡◌, ℕ, zero, suc, ◌+◌, ◌-◌, true, false, List, [], ◌∷◌, ◌++◌, length, drop, Option, Some, None, refl, sym, ap, ◌∙◌, arith}
 use Rattle.std.specs.Prelude.{pos, not, if◌then◌else◌}
 use Rattle.c_syntax.specs.declared.expression.Expr.{Expr}
 use Rattle.c_syntax.specs.declared.place.Place.{Place}
@@ -40,22 +40,6 @@ no_byte r k d zero bytes e = refl
 no_byte r k d (suc n) [] e = refl
 no_byte r k d (suc n) (b ∷ bytes) e = absurd cc
 
-pub byte_left : (n : ℕ) (bytes : List ℕ) (b : ℕ) (bs : List ℕ) → Some (b, bs) ≡ next_byte n bytes → 0 < n
-byte_left zero bytes b bs e = absurd cc
-byte_left (suc n) bytes b bs e = omega arith
-
-pub next_none : (n : ℕ) (bytes : List ℕ) → n ≡ 0 → None ≡ next_byte n bytes
-next_none zero bytes e = refl
-next_none (suc n) bytes e = absurd (omega (arith, e))
-
-pub next_empty : (n : ℕ) → None ≡ next_byte n []
-next_empty zero = refl
-next_empty (suc n) = refl
-
-pub next_some : (n b : ℕ) (bs : List ℕ) → 0 < n → Some (b, bs) ≡ next_byte n (b ∷ bs)
-next_some zero b bs lt = absurd (omega (arith, lt))
-next_some (suc n) b bs lt = refl
-
 -- ---- parts
 
 -- the scalars of one more part
@@ -66,10 +50,6 @@ parts_more structs d (x ∷ cs) c e = let same : x ≡ c = cc in ap (λ y. moved
 pub no_part : (structs : List StructType) (d : ℕ) (cs : List (ℕ × PlainType)) → None ≡ first_part cs → scalars_in structs d cs ≡ []
 no_part structs d [] e = refl
 no_part structs d (x ∷ cs) e = absurd cc
-
-pub fewer_parts : (cs : List (ℕ × PlainType)) (c : ℕ × PlainType) → Some c ≡ first_part cs → length (drop 1 cs) < length cs
-fewer_parts [] c e = absurd cc
-fewer_parts (x ∷ cs) c e = omega arith
 
 -- ---- initialisers
 

@@ -79,10 +79,6 @@ goto_free : (o : Option ℕ) (behind : ℕ) → IsFree (goto_code o behind)
 goto_free None behind before = (tt, tt)
 goto_free (Some a) behind before = (tt, tt)
 
--- an expression's code and an instruction, and others
-then_free : (a : List Instr) (i : Instr) (rest : List Instr) → IsFree a → IsFree (i ∷ rest) → IsFree (a ++ (i ∷ rest))
-then_free a i rest h k = free_on a (i ∷ rest) h k
-
 mutual
   statement_free : (a : MonStatement) (behind : ℕ) (ls : List OpenLabel) → IsFree (statement_code a behind ls)
   statement_free (Set r e) behind ls = free_on (expression_code e) (instr.Put r ∷ []) (expression_free e) (λ q. (tt, tt))

@@ -28,9 +28,6 @@ agrees_extends : (e : Option Final) (output : List ℕ) (left : ℕ) (b : Ran) �
 agrees_extends None output left b h = h
 agrees_extends (Some e) output left b h = subst (λ (x : Ran). Extends output x.output) (sym h) (extends_same output)
 
-pub Agrees-extends : (a : source_run.Ran) (b : Ran) → Agrees a b → Extends a.output b.output
-Agrees-extends a b h = agrees_extends (machine_end a.final) a.output a.left b h
-
 -- an end that is no fault stays one
 keeps_end : (f e : Final) → end_without_fault f ≡ Some e → end_without_fault e ≡ Some e
 keeps_end (Exits z) e q = let same : Exits z ≡ e = cc in subst (λ x. end_without_fault x ≡ Some x) same refl

@@ -69,10 +69,6 @@ pointer_is_no_call s e h = address_is_no_call s e (middle (is_pointer (type_of e
 
 -- ---- string literals
 
--- a string literal in casts
-abbrev IsTextInCasts : Expression → Type 0
-IsTextInCasts e = (ts : List PlainType) × (at : Place) × (t : PlainType) × (n : ℕ) × (e ≡ in_casts ts (Node at t (Text n)))
-
 casts_of_text : (ts : List PlainType) (at : Place) (t : PlainType) (n : ℕ) → is_call (in_casts ts (Node at t (Text n))) ≡ false
 casts_of_text [] at t n = refl
 casts_of_text (u ∷ []) at t n = refl

@@ -65,9 +65,6 @@ is_heap-true Literal e = absurd cc
 is_heap-true Stack e = absurd cc
 is_heap-true Heap e = refl
 
-pub is_heap-of : (k : BlockKind) → k ≡ Heap → is_heap k ≡ true
-is_heap-of k e = ap is_heap e
-
 pub kind_of_heap : (k : BlockKind) → is_heap k ≡ true → k ≡ Heap
 kind_of_heap = is_heap-true
 

@@ -1,13 +1,4 @@
 -- Typing keeps the forms of declarations, statements and functions: effects stay where they may stand, and statements are as deep.
-use Rattle.c_syntax.specs.declared.types.CInt.{CInt}
-use Rattle.c_syntax.specs.Ctypes.{Int}
-use Rattle.c_syntax.specs.Expressions.{place_of}
-use Rattle.c_model.specs.StatementTyping.{controlling}
-use Rattle.c_model.specs.Conversions.{promoted}
-use Rattle.c_model.specs.Integers.{integer_type}
-use Rattle.c_model.specs.ExpressionTyping.{in_int}
-use Rattle.c_model.proofs.TypedParts.{gives_given}
-use Rattle.c_model.proofs.KeptExpressions.{in_type_pure}
 use Rattle.std.proofs.Common.{◌≡◌, suc, ◌+◌, ◌≤◌, max, List, [], ◌∷◌, Option, Some, None, Bool, true, false, not, ◌&&◌, if◌then◌else◌, cond, refl, sym, ap, ◌∙◌, subst}
 use Rattle.c_syntax.specs.declared.place.Place.{Place}
 use Rattle.c_syntax.specs.Ctypes.{PlainType}
@@ -176,11 +167,6 @@ first_kept s known r (First (Specify at t)) p h =
     gives_one (λ i. FirstPlaced (First i)) FirstPlaced (typed_item s r (Specify at t)) (λ i. Good (First i))
     (gives_one (λ u. Unit {0}) (λ i. FirstPlaced (First i)) (typed_type s at t) (λ u. Good (Specify at u)) (anything (typed_type s at t)) (λ u v. tt)) (λ i k. k)
 first_kept s known r _ p h = absurd p
-
-controlling_kept : (s : Sight) (e : Expression) → IsPure e → Gives (λ (x : CInt × Expression). IsPure x.1) (one_part (decayed_of (typed s e)) controlling)
-controlling_kept s e p =
-    gives_one IsPure (λ (x : CInt × Expression). IsPure x.1) (decayed_of (typed s e)) controlling (value_pure s e p) (λ x h.
-    gives_given (λ (x : CInt × Expression). IsPure x.1) (integer_type (type_of x)) (no_type (place_of x)) (λ k. Good (promoted k, in_int (promoted k) x)) (λ k c. in_type_pure (Int (promoted k)) x h))
 
 mutual
   statement_kept : (s : Sight) → SeesResults s → (r : Around) (a : Statement) → StatementPlaced AreReadAsserts a → EachIn HasBareCall a → Gives (IsKept a) (typed_statement s r a)

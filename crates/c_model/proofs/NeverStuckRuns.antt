@@ -100,15 +100,8 @@ values P Q L (Stop (Leaves l) s) h f = h
 values P Q L (Stop (Over e) s) h f = h
 values P Q L (Stop Stuck s) h f = h
 
-pub gives_anything : {A : Type 0} {P : A → Type 0} {L : Leave → Type 0} (m : Evaluation A) → Gives P L m → Gives Anything L m
-gives_anything {P = P} {L = L} m g = record { at = λ s. values P Anything L (m s) (g.at s) (λ _ _. tt) }
-
 pub gives_values : {A : Type 0} {P : A → Type 0} {L : Leave → Type 0} (Q : A → Type 0) (m : Evaluation A) → Gives P L m → ((a : A) → P a → Q a) → Gives Q L m
 gives_values {P = P} {L = L} Q m g f = record { at = λ s. values P Q L (m s) (g.at s) f }
-
-pub gives_if : {A : Type 0} {P : A → Type 0} {L : Leave → Type 0} (t : Bool) (a b : Evaluation A) → Gives P L a → Gives P L b → Gives P L (if t then a else b)
-gives_if true a b f g = f
-gives_if false a b f g = g
 
 pub gives_cond : {A : Type 0} {P : A → Type 0} {L : Leave → Type 0} (t : Bool) (a b : Evaluation A) → Gives P L a → Gives P L b → Gives P L (cond t a b)
 gives_cond true a b f g = f

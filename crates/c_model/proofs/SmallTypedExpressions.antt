@@ -142,9 +142,6 @@ module _ (new : List StructType)
     pub type_small : (e : Expression) → AreTypesSmall e → Small new (type_of e)
     type_small (Node at t k) h = h.0
 
-    cast_small : (t : PlainType) (e : Expression) → Small new t → AreTypesSmall e → AreTypesSmall (Node (place_of e) t (Cast t e))
-    cast_small t e w h = (w, h)
-
     pub in_type_small : (t : PlainType) (e : Expression) → Small new t → AreTypesSmall e → AreTypesSmall (in_type t e)
     in_type_small t e w h = by (same_type (type_of e) t)
       where

@@ -112,10 +112,6 @@ points_placed : (store : Store) (o : Option Pointer) (v : Value) → ((q : Point
 points_placed store None v h e = absurd cc
 points_placed store (Some q) v h e = let same : Points q ≡ v = cc in subst (IsPlacedValue store) same (h q refl)
 
-integer_placed : {A : Type 0} (store : Store) (o : Option A) (f : A → ℤ) (v : Value) → option_map (λ a. Integer (f a)) o ≡ Some v → IsPlacedValue store v
-integer_placed store None f v e = absurd cc
-integer_placed store (Some a) f v e = let same : Integer (f a) ≡ v = cc in subst (IsPlacedValue store) same tt
-
 farther_placed : (store : Store) (unit : ℕ) (p q : Pointer) (i : ℤ) → farther store unit p i ≡ Some q → IsPlaced store q
 farther_placed store unit p q i e = moved_placed store p q (i *ℤ pos unit) e
 
@@ -254,9 +250,6 @@ indexed_placed unit store (Integer i) NoValue q e = absurd cc
 indexed_placed unit store NoValue y q e = absurd cc
 
 -- ---- changes of the store
-
-abbrev with_store : State → Store → State
-with_store s store = record s { store = store }
 
 pub after_changed : {source : TranslationUnit} (s : State) (at : Place) (f : Store → Option Store) → IsSoundState source s → ((store : Store) → f s.store ≡ Some store → BlocksStay s.store store × IsSound store) → After source Any s (changed at f s)
 after_changed {source = source} s at f st h = by (f s.store) refl

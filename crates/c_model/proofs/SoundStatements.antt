@@ -38,11 +38,6 @@ use Rattle.c_model.proofs.SoundSteps.{keeps_choose, after_switch_any, keeps_turn
 object_any : {source : TranslationUnit} (at : Place) (x : ℕ) → Keeps source Any (object at x)
 object_any at x s st = after_defined Any s at (start_of (find x s.scope)) st (λ p e. tt)
 
-padded_plain : (n : ℕ) (bytes : List ℕ) → AreBytes bytes → ArePlain (padded n bytes)
-padded_plain zero bytes h = no_bytes
-padded_plain (suc n) [] h = one_more 0 (padded n []) (omega arith) (padded_plain n [] tt)
-padded_plain (suc n) (b ∷ bs) h = one_more b (padded n bs) h.0 (padded_plain n bs h.1)
-
 -- bytes one by one
 abbrev PlainEach : List Byte → Type 0
 PlainEach [] = Unit {0}

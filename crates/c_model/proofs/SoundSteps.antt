@@ -5,8 +5,8 @@ use Rattle.c_syntax.specs.declared.place.Place.{Place}
 use Rattle.c_syntax.specs.declared.types.Segment.{Segment}
 use Rattle.c_syntax.specs.declared.types.Segment.TheVariants.{Frames}
 use Rattle.c_syntax.specs.declared.types.BlockKind.TheVariants as block
-use Rattle.c_syntax.specs.Logic.{LogicTerm, Links, NoLink, Linked, Binder, Predicate, Truth, NonZero, Chain, Not, Connected}
-use Rattle.c_syntax.specs.Logic.{Branch, Quantified, Guards, NoGuard, Guarded, ClauseBody, Raw, Holds, Annotation, Behaviors, Asks, Separated}
+use Rattle.c_syntax.specs.Logic.{LogicTerm}
+use Rattle.c_syntax.specs.Logic.{ClauseBody, Raw, Holds, Annotation, Behaviors}
 use Rattle.c_syntax.specs.Logic as logic
 use Rattle.c_syntax.specs.Statements.{Declaration}
 use Rattle.c_syntax.specs.Programs.{NamedBehavior, FunctionContract, TranslationUnit}
@@ -15,7 +15,7 @@ use Rattle.c_model.specs.Memory.{Pointer, Value, Byte, new_block, Store, save_by
 use Rattle.c_model.specs.Memory.{Unwritten, Number as NumberByte}
 use Rattle.c_model.specs.State.{Mark, State, Breaks, Continues, Returns, End, Leaves, Over, Stuck, Spent, Full, Outcome, Normal, Stop, Evaluation}
 use Rattle.c_model.specs.State.{◌>>=◌, ◌>>◌, give, done, stop, step_from, step, write_bytes, birth_of, birth, births}
-use Rattle.c_model.specs.State.{alone, frame, mark, back_to, restored, within, answered, called}
+use Rattle.c_model.specs.State.{alone, frame, mark, back_to, restored, within, answered}
 use Rattle.c_model.specs.Logic.{TermValue, Mathematical, Environment, Answer, Says, SaysNothing, OutOfSteps}
 use Rattle.c_model.specs.Logic.{judged, Addressed}
 use Rattle.c_model.specs.Predicates.{term, clause, check_in, checks_in, invariant, invariants}
@@ -200,9 +200,6 @@ answered_any old (Stop e s) st h = record {
   sound = call_sound old s st h.stay h.sound;
   gives = ended_onward s (back_from_call old s) e (stay_killed (length old.store) s.store) h.gives;
 }
-
-pub keeps_called : {source : TranslationUnit} (m : Evaluation Value) → Keeps source Placed m → Keeps source Placed (called m)
-keeps_called m h s st = answered_after s (m s) st (h s st)
 
 pub keeps_alone : {source : TranslationUnit} → Keeps source Any (alone (global_scope source))
 keeps_alone {source = source} s st = record { stay = stay_same s.store; sound = record { now = memory_alone source s.store s.scope st.now; past = λ l m e. absurd cc }; gives = tt }

@@ -68,9 +68,6 @@ together_written bs ys off t f room = record { own = λ i k p e. own i k p e (re
 
 -- ---- bytes that are written
 
-NoPieces : List Byte → Type 0
-NoPieces ys = (i k : ℕ) (p : Pointer) → get_or ys i Unwritten ≡ Piece p k → ⊥
-
 pub no_pieces_fit : (ys : List Byte) (off : ℕ) → ((i k : ℕ) (p : Pointer) → get_or ys i Unwritten ≡ Piece p k → ⊥) → FitAt off ys
 no_pieces_fit ys off none = record { own = λ i k p e. absurd (none i k p e); one = λ i j k l p q e d. absurd (none i k p e); whole = λ i k p e. absurd (none i k p e) }
 

@@ -1,22 +1,15 @@
 -- Each item of a typed file is typed with structs that the whole file has so too.
 use Rattle.std.proofs.Common.{◌≡◌, ℕ, zero, suc, ◌||◌, ℤ, pos, ◌+ℤ◌, refl, sym, ap, subst, List, [], ◌∷◌, map, Option, Some, None, Bool, true, false, nat_eq, slice_get}
-use Rattle.c_syntax.specs.Statements.{Declaration}
-use Rattle.c_syntax.specs.Programs.{StructType, EnumConstant, Function, TranslationUnit}
-use Rattle.c_model.specs.Checked.{Checked, Good, Bad, one_part, both_parts}
+use Rattle.c_syntax.specs.Programs.{StructType, EnumConstant, TranslationUnit}
+use Rattle.c_model.specs.Checked.{Good, one_part, both_parts}
 use Rattle.c_model.specs.ExpressionTyping.{Sight, is_among}
 use Rattle.c_model.specs.DeclarationTyping.{is_declared_in_file, own_name, typed_global, typed_typedef, typed_member, typed_value, with_enumerator, typed_enumerators}
-use Rattle.c_model.specs.UnitTyping.{FileItem, StructHead, Member, AnEnum, ATypedef, AGlobal, AFunction, unknown, with_function, typed_function, Progress, new_tag, typed_item_of_file, typed_items_of_file}
-use Rattle.c_model.specs.UnitTyping.{at_start, items_of_file, with_progress, typed_unit}
-use Rattle.c_model.specs.TypedTrees.{IsDeclared, FunctionTyped}
-use Rattle.c_model.specs.PlacedTrees.{FilePlaced, MembersInOrder}
-use Rattle.c_model.specs.TypedFiles.{GlobalStands, FunctionStands, ItemStands}
-use Rattle.c_model.specs.TextTypingLaws.{IsWholeSight}
-use Rattle.c_model.proofs.TypedParts.{Gives, gives_of, gives_one}
+use Rattle.c_model.specs.UnitTyping.{FileItem, StructHead, Member, AnEnum, ATypedef, AGlobal, AFunction, unknown, typed_function, Progress, new_tag, typed_item_of_file}
+use Rattle.c_model.specs.PlacedTrees.{MembersInOrder}
+use Rattle.c_model.proofs.TypedParts.{Gives, gives_one}
 use Rattle.c_model.proofs.TypedDeclarations.{anything}
-use Rattle.c_model.proofs.TypedUnits.{first_sight_whole, gives_two, StandsThen, item_stands}
-use Rattle.c_model.proofs.StableConstants.{Grows}
-use Rattle.c_model.proofs.StableStatements.{AreSized, Widens, at_last, declared_kept, function_kept}
-use Rattle.c_model.proofs.GrownStructs.{AreKnown, IsGrown, grows_by, ended_by, member_grown}
+use Rattle.c_model.proofs.StableStatements.{AreSized}
+use Rattle.c_model.proofs.GrownStructs.{AreKnown, IsGrown, ended_by, member_grown}
 
 -- ---- the structs behind an item
 
@@ -93,34 +86,6 @@ item_grown p ended r h (AFunction f) o =
 
 -- ---- items
 
--- known structs that the last ones have too, with members that have sizes
-pub record IsBelow (last : List StructType) (structs : List StructType) : Type 0 where
-  pub grows : Grows structs last
-  pub members : (n : ℕ) (x : StructType) → slice_get structs n ≡ Some x → AreSized structs x.members
-
--- items that stand as they are typed, where the structs are below the last ones
-abbrev pub ItemsStandBelow : TranslationUnit → List StructType → Progress → List FileItem → Progress → Type 0
-ItemsStandBelow p last r [] q = q ≡ r
-ItemsStandBelow p last r (i ∷ is) q = (next : Progress) × ItemStands p r i next × IsBelow last r.sight.structs × ItemsStandBelow p last next is q
-
-record StandBelow (p : TranslationUnit) (r : Progress) (is : List FileItem) (q : Progress) : Type 0 where
-  stand : ItemsStandBelow p q.sight.structs r is q
-  grows : Grows r.sight.structs q.sight.structs
-
-items_below : (p : TranslationUnit) (ended : List ℕ) (r : Progress) → IsWholeSight r.sight → AreKnown ended r.sight.structs → (is : List FileItem) → FilePlaced is → MembersInOrder ended is
-    → Gives (StandBelow p r is) (typed_items_of_file p r is)
-items_below p ended r w h [] o m = record { stand = refl; grows = λ n x e z. e }
-items_below p ended r w h (i ∷ is) o m =
-    gives_one (λ q. StandsThen p r i q × GrownBy ended r i q) (StandBelow p r (i ∷ is)) (typed_item_of_file p r i) (λ r. typed_items_of_file p r is)
-    (gives_two (StandsThen p r i) (GrownBy ended r i) (typed_item_of_file p r i) (item_stands p r w i o.0) (item_grown p ended r h i (first_in_order ended i is m))) (λ q v.
-    rest q v (typed_items_of_file p q is) (items_below p (ended_after i ended) q v.0.sight v.1.known is o.1 (rest_in_order ended i is m)))
-  where
-    rest : (q : Progress) → StandsThen p r i q × GrownBy ended r i q → (c : Checked Progress) → Gives (StandBelow p q is) c → Gives (StandBelow p r (i ∷ is)) c
-    rest q v (Good z) k =
-        let g = grows_by r.sight.structs q.sight.structs z.sight.structs v.1.grows k.grows in
-        record { stand = (q, v.0.stands, record { grows = g; members = h.members }, k.stand); grows = g }
-    rest q v (Bad f fs) k = tt
-
 pub first_known : (ss : List StructType) → AreKnown [] (map unknown ss)
 first_known ss = record { known = known ss; members = λ n x e. sized_members (map unknown ss) ss n x e }
   where
@@ -134,26 +99,4 @@ first_known ss = record { known = known ss; members = λ n x e. sized_members (m
     sized_members all (s ∷ ss) zero x e = let same : unknown s ≡ x = cc in subst (λ (x : StructType). AreSized all x.members) same tt
     sized_members all (s ∷ ss) (suc n) x e = sized_members all ss n x e
 
-pub record UnitStandsBelow (p q : TranslationUnit) : Type 0 where
-  pub last : Progress
-  pub items : ItemsStandBelow p q.structs (at_start p) (items_of_file p) last
-  pub is : q ≡ with_progress p last
-
-pub unit_stands_below : (p q : TranslationUnit) → FilePlaced (items_of_file p) → MembersInOrder [] (items_of_file p) → typed_unit p ≡ Good q → UnitStandsBelow p q
-unit_stands_below p q o m is = gives_of (UnitStandsBelow p) (typed_unit p) q
-    (gives_one (StandBelow p (at_start p) (items_of_file p)) (UnitStandsBelow p) (typed_items_of_file p (at_start p) (items_of_file p)) (λ r. Good (with_progress p r))
-    (items_below p [] (at_start p) (first_sight_whole p) (first_known p.structs) (items_of_file p) o m) (λ r v. record { last = r; items = v.stand; is = refl })) is
-
 -- ---- a global and a function with the structs of the whole file
-
-widens : (last structs : List StructType) → IsBelow last structs → Widens structs last
-widens last structs b = record { grows = b.grows; members = λ n x e z. b.members n x e }
-
-pub global_at_last : (last : List StructType) (levels tags enums : List ℕ) (d : Declaration) (r q : Progress) → IsBelow last r.sight.structs → (g : GlobalStands d r q)
-    → IsDeclared (at_last last levels tags enums r.sight) g.global
-global_at_last last levels tags enums d r q b g = declared_kept last levels tags enums r.sight (widens last r.sight.structs b) g.global g.declared
-
-pub function_at_last : (p : TranslationUnit) (last : List StructType) (levels tags enums : List ℕ) (f : Function) (r q : Progress) → IsBelow last r.sight.structs
-    → (g : FunctionStands p f r q) → FunctionTyped (at_last last levels tags enums (with_function p r.sight g.func)) g.func
-function_at_last p last levels tags enums f r q b g =
-    function_kept last levels tags enums (with_function p r.sight g.func) (widens last r.sight.structs b) g.func g.typed

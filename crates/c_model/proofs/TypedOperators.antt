@@ -35,10 +35,6 @@ pub record IsSoundValue (s : Sight) (e : Expression) : Type 0 where
   pub sound : Sound s e
   pub flat : is_array (type_of e) ≡ false
 
--- of a type that has a value
-sound_as : (s : Sight) (e : Expression) → WellTyped s e → is_aggregate (type_of e) ≡ false → Sound s e
-sound_as s e w a = record { well = w; object = λ b. absurd cc }
-
 pub decayed_sound : (s : Sight) (e : Expression) → Sound s e → IsSoundValue s (decayed e)
 decayed_sound s (Node at Void k) h = record { sound = h; flat = refl }
 decayed_sound s (Node at (Int l) k) h = record { sound = h; flat = refl }
@@ -115,9 +111,6 @@ unary_sound s at op a h = by op
 
 module _ (s : Sight) (at : Place) (a b : Expression) (v : WellTyped s a) (w : WellTyped s b)
   where
-    abbrev IsWell : Expression → Type 0
-    IsWell e = WellTyped s e × (is_aggregate (type_of e) ≡ false)
-
     pub integers_well : (op : BinOp) (k l : CInt) → integer_type (type_of a) ≡ Some k → integer_type (type_of b) ≡ Some l → WellTyped s (on_integers at op k l a b)
     integers_well op k l i j = by (is_shift op) refl (is_relation op) refl
       where

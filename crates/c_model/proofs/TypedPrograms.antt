@@ -250,7 +250,3 @@ typed_file p q o is = record {
 
     values : SeesToEnd q (sight_with q q.structs) (ordinary t.items)
     values = values_to_ordinary q (sight_with q q.structs) t.items (values_among p q (same_functions p q read.functions) (sight_with q q.structs) t.items t.values)
-
--- the law of whole files
-pub typed_program : (p q : TranslationUnit) → InTextOrder p → typed_unit p ≡ Good q → ProgramTyped q
-typed_program p q o is = (typed_file p q o is).program

@@ -2,9 +2,8 @@
 use Rattle.std.proofs.Common.{◌≡◌, inr, ℕ, ◌≤◌, ℤ, pos, Bool, true, false, cond, List, [], ◌++◌, length, refl, sym, ap, ◌∙◌, subst, arith, append_assoc}
 use Rattle.std.proofs.lemmas.List.{append-nil}
 use Rattle.std.specs.Ordering.{int_eq}
-use Rattle.c_syntax.specs.declared.place.Place.{Place}
 use Rattle.c_model.specs.Memory.{Value}
-use Rattle.c_model.specs.State.{State, Scope, Mark, Undefined, Over, Outcome, Normal, Stop, Evaluation, on_outcome}
+use Rattle.c_model.specs.State.{State, Scope, Mark, Outcome, Normal, Evaluation, on_outcome}
 use Rattle.c_model.specs.Meaning.{is_zero}
 use Rattle.c_model.specs.Meaning as source_meaning
 use Rattle.c_model.proofs.Agreement.{extends_trans}
@@ -18,7 +17,7 @@ use Rattle.c_simulation.specs.Following.{written}
 use Rattle.c_simulation.specs.Standing.{Target, Did, Setting, Bounded, Here, Beside, IsAnchored, InRegister, AtGlobal, Anchored, IsKept, Standing}
 use Rattle.c_simulation.specs.Keeping.{Keeps}
 use Rattle.c_simulation.specs.SameRegisters.{Same, Stays}
-use Rattle.c_simulation.proofs.Registers.{same_all, keeps_same, stays_less, stays_same, stays_trans}
+use Rattle.c_simulation.proofs.Registers.{same_all, keeps_same, stays_same, stays_trans}
 
 -- ---- later states
 
@@ -136,10 +135,6 @@ module _ (w : Setting) (h : Here) (low : ℕ) where
   pub onward_same : (regs mid : List Value) (on : List Value → Flow Value) (from s : State) (o : List ℕ) (r : Outcome (Unit {0})) (q : Did) → Same low regs mid → Later from s o → Follow mid on s r q → Follow regs on from r (writes o q)
   onward_same regs mid on from s o r q same l f = onward regs mid on from s o r q (stays_same w.plan_from w.plan_to low regs mid same) (passes_later from s o l) f
 
-  -- an undefined operation at once
-  pub undefined_here : (regs : List Value) (on : List Value → Flow Value) (s : State) (r : Outcome (Unit {0})) (q : Did) (at : Place) → r ≡ Stop (Over (Undefined at)) s → Follow regs on s r q
-  undefined_here regs on s r q at e = IsUndefined at s [] e (sym (append-nil s.output)) (record { rest = written q; is = refl })
-
   -- 0 chooses the second on both sides
   pub follows_choice : (regs : List Value) (on : List Value → Flow Value) (from s : State) (v : Value) (i : ℤ) (a b : Evaluation (Unit {0})) (p q : Did) → int_eq i (pos 0) ≡ is_zero v → Follow regs on from (a s) p → Follow regs on from (b s) q
       → Follow regs on from (source_meaning.choose v a b s) (choose i p q)
@@ -168,15 +163,6 @@ module _ (w : Setting) (h : Here) (low : ℕ) where
       IsOver x z s o d (ap (λ r. on_outcome r (λ _. f)) e) l (ap (λ q. then_do q (at_next g)) e')
   follows_then regs on from r q f g (IsUndefined at s o e l ext) k =
       IsUndefined at s o (ap (λ r. on_outcome r (λ _. f)) e) l (extends_trans o (written q) _ ext (written_then q (at_next g)))
-
-  -- registers that are kept above a number are kept below it
-  pub follows_lower : (high : ℕ) (regs : List Value) (on : List Value → Flow Value) (from : State) (r : Outcome (Unit {0})) (q : Did) → low ≤ high → Follows w h high regs on from r q → Follow regs on from r q
-  follows_lower high regs on from r q le (GoesOn s after t o m g l b e f) = GoesOn s after t o (stays_less w.plan_from w.plan_to low high regs after le m) g l b e f
-  follows_lower high regs on from r q le (Breaks s after t o i m g l b e f) = Breaks s after t o i (stays_less w.plan_from w.plan_to low high regs after le m) g l b e f
-  follows_lower high regs on from r q le (Continues s after t o i m g l b e f) = Continues s after t o i (stays_less w.plan_from w.plan_to low high regs after le m) g l b e f
-  follows_lower high regs on from r q le (IsLeft v s t o i l b e f) = IsLeft v s t o i l b e f
-  follows_lower high regs on from r q le (IsOver x z s o d e l f) = IsOver x z s o d e l f
-  follows_lower high regs on from r q le (IsUndefined at s o e l ext) = IsUndefined at s o e l ext
 
 -- what leaves no loop and no switch stands anywhere in the call
 pub anywhere : (w : Setting) (h there : Here) (low : ℕ) (regs : List Value) (on : List Value → Flow Value) (from : State) (r : Outcome (Unit {0})) (q : Did) → h.breaks ≡ false → h.looped ≡ false

@@ -1,30 +1,25 @@
 -- How parts that reach something follow one another, and what reaches the next statement.
-use Rattle.std.proofs.Common.{◌≡◌, ℕ, suc, ◌≤◌, ◌<◌, ℤ, pos, Bool, true, false, cond, List, [], ◌++◌, length, slice_set, refl, sym, ap, ◌∙◌, subst, arith, append_assoc}
+use Rattle.std.proofs.Common.{◌≡◌, ℕ, ◌≤◌, ℤ, pos, Bool, List, [], ◌++◌, refl, sym, ap, ◌∙◌, subst, arith, append_assoc}
 use Rattle.std.proofs.lemmas.List.{append-nil}
 use Rattle.std.specs.Ordering.{int_eq}
 use Rattle.c_syntax.specs.declared.place.Place.{Place}
 use Rattle.c_syntax.specs.Layouts.{Scalar}
 use Rattle.c_model.specs.Memory.{Pointer, Value}
-use Rattle.c_model.specs.State.{State, Outcome, Normal, Stop, Over, Undefined, Evaluation, on_outcome, give, done}
+use Rattle.c_model.specs.State.{State, Outcome, Normal, Stop, Over, Undefined, Evaluation, on_outcome, done}
 use Rattle.c_model.specs.Meaning.{is_zero}
-use Rattle.c_model.specs.Meaning as source_meaning
 use Rattle.c_model.proofs.Agreement.{extends_trans}
 use Rattle.mon_syntax.specs.Meaning.{Done, Flow, Next, then_do, at_next, writes, choose}
-use Rattle.mon_syntax.specs.Trees.{MonExpression, Register, If, MonStatements}
-use Rattle.c_effects.specs.Expressions.{before, one, set}
+use Rattle.mon_syntax.specs.Trees.{MonExpression, If, MonStatements}
+use Rattle.c_effects.specs.Expressions.{before, one}
 use Rattle.c_simulation.specs.SameRegisters.{Same}
 use Rattle.c_simulation.specs.Standing.{Setting, Target, Did, runs, Has, IsOf, Bounded, Here, IsKept, Beside}
 use Rattle.c_simulation.specs.Following.{Later, Evaluates, HasValue, HasNone, Places, HasPlace, HasNoPlace, Tests, HasTest, HasNoTest, Follows, GoesOn, written}
 use Rattle.c_simulation.specs.Following as following
 use Rattle.c_simulation.specs.Reaching.{Reaches, Arrives, IsOver, IsUndefined, Anything, Valued, Placed, Tested}
 use Rattle.c_simulation.proofs.Results.{written_writes, written_then, before_is, writes_none}
-use Rattle.c_simulation.proofs.Registers.{same_all, stays_same, same_less, same_trans, same_set, get-set_same}
+use Rattle.c_simulation.proofs.Registers.{same_all, stays_same, same_less, same_trans}
 use Rattle.c_simulation.proofs.Following.{kept_later, later_same, later_trans, onward_same, passes_later}
-use Rattle.c_simulation.proofs.Evaluating.{behind_setup, set_runs, if_runs}
-
-pub on_give : {A : Type 0} (r : Outcome A) → on_outcome r give ≡ r
-on_give (Normal a s) = refl
-on_give (Stop e s) = refl
+use Rattle.c_simulation.proofs.Evaluating.{behind_setup, if_runs}
 
 module _ (w : Setting) where
   -- what was done before is in front
@@ -57,13 +52,6 @@ module _ (w : Setting) where
   reaches_then P Q low regs from r q f g (IsOver x z s o d e l e') k = IsOver x z s o d (ap (λ r. on_outcome r f) e) l (ap (λ q. then_do q (at_next g)) e')
   reaches_then P Q low regs from r q f g (IsUndefined at s o e l ext) k =
       IsUndefined at s o (ap (λ r. on_outcome r f) e) l (extends_trans o (written q) _ ext (written_then q (at_next g)))
-
-  -- what is known after a part, put in another way
-  pub reached_as : {A : Type 0} (P Q : A → List Value → State → Target → Type 0) (low : ℕ) (regs : List Value) (from : State) (r : Outcome A) (q : Did) → Reaches w P low regs from r q
-      → ((a : A) (s : State) (after : List Value) (t : Target) → Same low regs after → P a after s t → Q a after s t) → Reaches w Q low regs from r q
-  reached_as P Q low regs from r q (Arrives a s after t o m l b e e' h) k = Arrives a s after t o m l b e e' (k a s after t m h)
-  reached_as P Q low regs from r q (IsOver x z s o d e l e') k = IsOver x z s o d e l e'
-  reached_as P Q low regs from r q (IsUndefined at s o e l ext) k = IsUndefined at s o e l ext
 
   -- registers that are kept above a number are kept below it
   pub reached_lower : {A : Type 0} (P : A → List Value → State → Target → Type 0) (least low : ℕ) (regs : List Value) (from : State) (r : Outcome A) (q : Did) → least ≤ low → Reaches w P low regs from r q → Reaches w P least regs from r q
@@ -146,27 +134,12 @@ module _ (w : Setting) where
         subst (λ q. Reaches w Q low regs from (on_outcome r f) q) (sym (before_is w.globals a b w.calls n regs t))
         (reaches_then P Q low regs from r (runs w n t a regs) f (code_then b) h k)
 
-    -- statements that only the target has
-    pub reaches_also : {A : Type 0} (P Q : A → List Value → State → Target → Type 0) (low : ℕ) (regs : List Value) (from : State) (t : Target) (r : Outcome A) (a b : MonStatements) → Reaches w P low regs from r (runs w n t a regs)
-        → ((x : A) (s : State) (after : List Value) (u : Target) (o : List ℕ) → Same low regs after → Later from s o → Beside w s.store s u → P x after s u → Reaches w Q low after s (Normal x s) (runs w n u b after))
-        → Reaches w Q low regs from r (runs w n t (before a b) regs)
-    reaches_also P Q low regs from t r a b h k =
-        subst (λ r. Reaches w Q low regs from r (runs w n t (before a b) regs)) (on_give r) (reaches_before P Q low regs from t r a b give h k)
-
     -- statements that change registers alone, and what follows
     pub reaches_behind : {A : Type 0} (Q : A → List Value → State → Target → Type 0) (low : ℕ) (regs after : List Value) (s : State) (t : Target) (r : Outcome A) (a b : MonStatements) → Bounded s.store → Same low regs after
         → runs w n t a regs ≡ Done (Next after) t [] → Reaches w Q low after s r (runs w n t b after) → Reaches w Q low regs s r (runs w n t (before a b) regs)
     reaches_behind Q low regs after s t r a b bounded same run h =
         subst (λ q. Reaches w Q low regs s r q) (writes_none (runs w n t b after) ∙ sym (behind_setup w n t a b regs after run))
         (reached_onward Q low regs after s s [] r (runs w n t b after) same (later_same s bounded) h)
-
-    -- a value is put into a register
-    pub reaches_set : (k : Scalar) (low high j : ℕ) (regs : List Value) (from : State) (t : Target) (r : Outcome Value) (a : MonStatements) (e : MonExpression) → low ≤ j → high ≤ j → j < length regs
-        → Reaches w (Valued w k high e) low regs from r (runs w n t a regs) → Reaches w (Valued w k (suc j) (Register j)) low regs from r (runs w n t (before a (set j e)) regs)
-    reaches_set k low high j regs from t r a e above over room h =
-        reaches_also (Valued w k high e) (Valued w k (suc j) (Register j)) low regs from t r a (set j e) h (λ v s after u o same l b p.
-        Arrives v s (slice_set after j v) u [] (same_set low j after v above) (later_same s l.bounded) b refl (set_runs w n u j e after v (p.1 after (same_all high after)))
-        (p.0, λ later same2. same2.below j (omega arith) ∙ get-set_same after j v (omega (arith, same.long, room))))
 
     -- the value of an expression that changes nothing, and then what follows
     pub reaches_value : {A : Type 0} (Q : A → List Value → State → Target → Type 0) (k : Scalar) (low high : ℕ) (regs : List Value) (s : State) (t : Target) (r : Outcome Value) (a b : MonStatements) (e : MonExpression) (f : Value → Evaluation A)
@@ -176,16 +149,6 @@ module _ (w : Setting) where
     reaches_value Q k low high regs s t r a b e f bounded (HasNone at x) go = undefined_now Q low regs s (on_outcome r f) (runs w n t (before a b) regs) at (ap (λ r. on_outcome r f) x)
     reaches_value Q k low high regs s t r a b e f bounded (HasValue v fit x after same run has) go =
         subst (λ r. Reaches w Q low regs s (on_outcome r f) (runs w n t (before a b) regs)) (sym x) (reaches_behind Q low regs after s t (f v s) a b bounded same run (go v fit after same has))
-
-    -- 0 chooses the second on both sides
-    pub reaches_choice : {A : Type 0} (Q : A → List Value → State → Target → Type 0) (low : ℕ) (regs : List Value) (from s : State) (v : Value) (i : ℤ) (x y : Evaluation A) (p q : Did) → int_eq i (pos 0) ≡ is_zero v
-        → Reaches w Q low regs from (x s) p → Reaches w Q low regs from (y s) q → Reaches w Q low regs from (source_meaning.choose v x y s) (choose i p q)
-    reaches_choice Q low regs from s v i x y p q same f k =
-        subst (λ t. Reaches w Q low regs from (source_meaning.choose v x y s) (cond t q p)) (sym same) (by (is_zero v))
-      where
-        by : (t : Bool) → Reaches w Q low regs from (cond t y x s) (cond t q p)
-        by true = k
-        by false = f
 
     -- what reaches something, and then statements
     pub follows_before : {A : Type 0} (h : Here) (P : A → List Value → State → Target → Type 0) (low : ℕ) (regs : List Value) (on : List Value → Flow Value) (from : State) (t : Target)

@@ -45,9 +45,6 @@ same_trans m n a b c le h g = record { long = g.long ∙ h.long; below = λ j lt
 pub stays_same : (n m low : ℕ) (regs after : List Value) → Same low regs after → Stays n m low regs after
 stays_same n m low regs after h = record { long = h.long; kept = λ j lt apart. h.below j lt }
 
-pub stays_less : (n m low high : ℕ) (regs after : List Value) → low ≤ high → Stays n m high regs after → Stays n m low regs after
-stays_less n m low high regs after le h = record { long = h.long; kept = λ j lt apart. h.kept j (omega (arith, lt, le)) apart }
-
 pub stays_trans : (n m low high : ℕ) (a b c : List Value) → low ≤ high → Stays n m low a b → Stays n m high b c → Stays n m low a c
 stays_trans n m low high a b c le h g = record { long = g.long ∙ h.long; kept = λ j lt apart. g.kept j (omega (arith, lt, le)) apart ∙ h.kept j lt apart }
 

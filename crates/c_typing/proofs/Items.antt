@@ -1,12 +1,10 @@
 -- The items of a file in the order of the text.
-use Rattle.std.proofs.Common.{◌≡◌, ℕ, suc, refl, sym, ap, ◌∙◌, arith, List, [], ◌∷◌, ◌++◌, append_assoc, length, map, Bool, true, false, cond, nat_eq, nat_lt, Option, Some, None}
+use Rattle.std.proofs.Common.{◌≡◌, ℕ, suc, refl, sym, ap, ◌∙◌, List, [], ◌∷◌, ◌++◌, append_assoc, map, Bool, true, false, cond, nat_lt, Option, Some, None}
 use Rattle.std.proofs.lemmas.List.{map-append}
-use Rattle.std.proofs.lemmas.Bool.Decides.{nat_tests}
 use Rattle.std.specs.Ordering.{nat_cmp}
 use Rattle.std.specs.List.Sorted.{IsNonDecreasingBy, IsStableByKey}
 use Rattle.c_syntax.specs.declared.program.Layout.{Layout}
-use Rattle.c_syntax.specs.declared.program.Member as code_member
-use Rattle.c_syntax.specs.Programs.{StructMember, TranslationUnit, plain_layout, plain_member}
+use Rattle.c_syntax.specs.Programs.{StructMember, TranslationUnit, plain_layout}
 use Rattle.c_model.specs.UnitTyping.{FileItem, StructHead, Member, AnEnum, ATypedef, AGlobal, AFunction, offset_of_item, member_items, struct_items, unknown, inserted, in_order, items_of_file, with_tag}
 use Rattle.c_typing.specs.declared.item.FileItem as code
 use Rattle.c_typing.specs.Files.{bare, head_at, plain_file_item}
@@ -100,19 +98,3 @@ structs_left xs xs' ys ys' x y ex ey before is =
     ∙ sym (ap (λ l. map unknown (map plain_layout l)) ex ∙ ap (map unknown) (map-append plain_layout xs (x ∷ [])) ∙ map-append unknown (map plain_layout xs) (plain_layout x ∷ []))
 
 -- ---- members
-
-members_step : (k : ℕ) (m : StructMember) (ms : List StructMember) → member_items k (m ∷ ms) ≡ Member k m (nat_eq (length ms) 0) ∷ member_items k ms
-members_step k m [] = refl
-members_step k m (n ∷ ms) = let e : nat_eq (suc (length ms)) 0 ≡ false = grind (arith, nat_tests) in ap (λ b. Member k m b ∷ member_items k (n ∷ ms)) (sym e)
-
-length_plain : (ms : List code_member.Member) → length (map plain_member ms) ≡ length ms
-length_plain [] = refl
-length_plain (m ∷ ms) = ap suc (length_plain ms)
-
--- one more member is there
-pub members_more : (k : ℕ) (done done' all : List FileItem) (list : List code_member.Member) (m : code_member.Member) (rest : List code_member.Member) (ends : Bool) → done ++ member_items k (map plain_member list) ≡ all → list ≡ m ∷ rest
-    → ends ≡ nat_eq (length rest) 0 → done' ≡ done ++ Member k (plain_member m) ends ∷ [] → done' ++ member_items k (map plain_member rest) ≡ all
-members_more k done done' all list m rest ends before is last more =
-    ap (λ l. l ++ member_items k (map plain_member rest)) more ∙ append_assoc done (Member k (plain_member m) ends ∷ []) (member_items k (map plain_member rest))
-    ∙ ap (λ b. done ++ Member k (plain_member m) b ∷ member_items k (map plain_member rest)) (last ∙ ap (λ n. nat_eq n 0) (sym (length_plain rest)))
-    ∙ ap (λ l. done ++ l) (sym (members_step k (plain_member m) (map plain_member rest))) ∙ ap (λ l. done ++ member_items k (map plain_member l)) (sym is) ∙ before

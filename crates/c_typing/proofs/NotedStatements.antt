@@ -1,12 +1,12 @@
 -- Annotations of statements at a known variant.
-use Rattle.std.proofs.Common.{◌≡◌, List, [], ◌∷◌, ◌++◌, sym, ap, ◌∙◌, subst, Result, Err}
+use Rattle.std.proofs.Common.{◌≡◌, List, [], ◌∷◌, ◌++◌, sym, ap, ◌∙◌, subst, Result}
 use Rattle.std.specs.Prelude.{Vec}
 use Rattle.std.specs.declared.alloc.Global.{Global}
 use Rattle.c_syntax.specs.declared.statement.Item.{Item}
 use Rattle.c_syntax.specs.declared.place.Place.{Place}
 use Rattle.c_syntax.specs.declared.statement.StmtKind.{StmtKind}
 use Rattle.c_syntax.specs.declared.statement.StmtKind as code
-use Rattle.c_syntax.specs.Statements.{Block, BlockItem, BlockItems, plain_stmt_kind, plain_item, plain_items}
+use Rattle.c_syntax.specs.Statements.{Block, BlockItems, plain_stmt_kind, plain_item, plain_items}
 use Rattle.c_syntax.proofs.Rows.{block_is}
 use Rattle.c_model.specs.Checked.{Checked, Good}
 use Rattle.c_model.specs.ExpressionTyping.{Sight, inner}
@@ -15,7 +15,7 @@ use Rattle.c_model.specs.AnnotationTyping.{noted_statement, noted_item, noted_it
 use Rattle.c_expression_rules.specs.declared.fault.TypeFault.{TypeFault}
 use Rattle.c_expression_rules.specs.Answers.{Answers}
 use Rattle.c_expression_rules.proofs.Lists.{made_of}
-use Rattle.c_expression_rules.proofs.BlockItems.{behind_block, all_items, item_refused, items_more}
+use Rattle.c_expression_rules.proofs.BlockItems.{behind_block, all_items, items_more}
 
 module _ (s : Sight) (at : Place) (k : StmtKind)
   where
@@ -35,14 +35,6 @@ module _ (s t t' : Sight) (done done' : List Item) (x : Item) (now : t' ≡ behi
     block_more all list i rest before is good =
         items_more (noted_items s all) (noted_items t (plain_items list)) done done' x (noted_item t (plain_item i)) (λ y. noted_items (behind t y) (plain_items rest)) before (ap (λ l. noted_items t (plain_items l)) is) good more
         ∙ ap (λ q. behind_block (plain_items done') (noted_items q (plain_items rest))) (sym now)
-
--- an item is refused
-pub items_refused : {T U : Type 0} (p : T → BlockItem) (q : U → BlockItems) (whole : Checked BlockItems) (t : Sight) (done list : List Item) (i : Item) (rest : List Item) (h : TypeFault)
-    → whole ≡ behind_block (plain_items done) (noted_items t (plain_items list)) → list ≡ i ∷ rest
-    → Answers p (noted_item t (plain_item i)) (Err h) → Answers q whole (Err h)
-items_refused p q whole t done list i rest h before is bad =
-    subst (λ c. Answers q c (Err h)) (sym (before ∙ ap (λ l. behind_block (plain_items done) (noted_items t (plain_items l))) is))
-    (item_refused (plain_items done) (noted_item t (plain_item i)) (λ y. noted_items (behind t y) (plain_items rest)) p q h bad)
 
 pub block_done : (whole : Checked BlockItems) (t : Sight) (done list : List Item) → whole ≡ behind_block (plain_items done) (noted_items t (plain_items list)) → list ≡ [] → whole ≡ Good (plain_items done)
 block_done whole t done list before none = before ∙ ap (λ l. behind_block (plain_items done) (noted_items t (plain_items l))) none ∙ all_items (plain_items done)

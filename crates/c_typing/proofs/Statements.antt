@@ -1,5 +1,5 @@
 -- Statements at a known variant.
-use Rattle.std.proofs.Common.{◌≡◌, ℕ, List, [], ◌∷◌, ◌++◌, sym, ap, ◌∙◌, subst, length, Option, Result, Err}
+use Rattle.std.proofs.Common.{◌≡◌, ℕ, List, [], ◌∷◌, ◌++◌, sym, ap, ◌∙◌, subst, length, Option, Result}
 use Rattle.std.specs.Prelude.{Vec}
 use Rattle.std.specs.declared.alloc.Global.{Global}
 use Rattle.c_syntax.specs.declared.place.Place.{Place}
@@ -9,7 +9,7 @@ use Rattle.c_syntax.specs.declared.statement.Stmt.{Stmt}
 use Rattle.c_syntax.specs.declared.statement.StmtKind.{StmtKind}
 use Rattle.c_syntax.specs.declared.statement.StmtKind as code
 use Rattle.c_syntax.specs.Expressions.{plain_expr}
-use Rattle.c_syntax.specs.Statements.{Declaration, Block, Do, BlockItem, BlockItems, plain_stmt, plain_stmt_kind, plain_item, plain_items}
+use Rattle.c_syntax.specs.Statements.{Declaration, Block, Do, BlockItems, plain_stmt, plain_stmt_kind, plain_item, plain_items}
 use Rattle.c_syntax.proofs.Rows.{block_is}
 use Rattle.c_model.specs.Checked.{Checked, Good, one_part}
 use Rattle.c_model.specs.ExpressionTyping.{Sight, inner}
@@ -21,7 +21,7 @@ use Rattle.c_expression_rules.specs.Sights.{left}
 use Rattle.c_typing.specs.Blocks.{behind_items}
 use Rattle.c_typing.specs.Trees.{plain_for_first}
 use Rattle.c_expression_rules.proofs.Lists.{made_of}
-use Rattle.c_expression_rules.proofs.BlockItems.{behind_block, all_items, item_refused, items_more}
+use Rattle.c_expression_rules.proofs.BlockItems.{behind_block, all_items, items_more}
 use Rattle.c_typing.proofs.Blocks.{left_block, left_for, left_parameters}
 
 module _ (s : Sight) (r : Around) (at : Place) (k : StmtKind)
@@ -53,14 +53,6 @@ module _ (s t t' : Sight) (r : Around) (done done' : List Item) (x : Item) (now 
     block_more all list i rest before is good =
         items_more (typed_items s r all) (typed_items t r (plain_items list)) done done' x (typed_item t r (plain_item i)) (λ y. typed_items (behind t y) r (plain_items rest)) before (ap (λ l. typed_items t r (plain_items l)) is) good more
         ∙ ap (λ u. behind_block (plain_items done') (typed_items u r (plain_items rest))) (sym now)
-
--- an item is refused
-pub items_refused : {T U : Type 0} (p : T → BlockItem) (q : U → BlockItems) (whole : Checked BlockItems) (t : Sight) (r : Around) (done list : List Item) (i : Item) (rest : List Item) (h : TypeFault)
-    → whole ≡ behind_block (plain_items done) (typed_items t r (plain_items list)) → list ≡ i ∷ rest
-    → Answers p (typed_item t r (plain_item i)) (Err h) → Answers q whole (Err h)
-items_refused p q whole t r done list i rest h before is bad =
-    subst (λ c. Answers q c (Err h)) (sym (before ∙ ap (λ l. behind_block (plain_items done) (typed_items t r (plain_items l))) is))
-    (item_refused (plain_items done) (typed_item t r (plain_item i)) (λ y. typed_items (behind t y) r (plain_items rest)) p q h bad)
 
 pub block_done : (whole : Checked BlockItems) (t : Sight) (r : Around) (done list : List Item) → whole ≡ behind_block (plain_items done) (typed_items t r (plain_items list)) → list ≡ [] → whole ≡ Good (plain_items done)
 block_done whole t r done list before none = before ∙ ap (λ l. behind_block (plain_items done) (typed_items t r (plain_items l))) none ∙ all_items (plain_items done)

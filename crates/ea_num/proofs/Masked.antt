@@ -72,10 +72,6 @@ both_within a b v w = record { left = record { lo_in = v.lo_fits.sfits; hi_in = 
 pub in_bits_of_both : (a b : Range) → IsWithin128 a → IsWithin128 b → BothInBits (bits_of_both a b) a b
 in_bits_of_both a b v w = both_from_test (bits_of_both a b) a b (least_from-holds (λ j. range_in_bits j a && range_in_bits j b) 127 0 (test_of_both 127 a b (both_within a b v w)))
 
--- the greatest of the bounds, a negative one by its complement
-greatest_mag : Range → Range → ℕ
-greatest_mag a b = max (max (mag a.lo) (mag a.hi)) (max (mag b.lo) (mag b.hi))
-
 -- a number of n bits is no number of fewer
 no_fewer_bits : (i n m : ℕ) → i < n → 2 ^ n ≤ 2 * m + 1 → m < 2 ^ i → ⊥
 no_fewer_bits i n m l h k =

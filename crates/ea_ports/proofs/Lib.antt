@@ -1,4 +1,3 @@
 pub mod Told
-pub mod Counts
 pub mod Known
 pub mod Buffered

@@ -5,7 +5,7 @@ use Rattle.std.proofs.lemmas.Bool.{cases_lt, cases_eq}
 use Rattle.std.proofs.lemmas.List.{get_or_past, length-replicate, get_or-replicate}
 use Rattle.std.proofs.lemmas.List.Elements.{All-contains, All-contains_itself}
 use Rattle.std.proofs.lemmas.Option.{none-some, same_Some}
-use Rattle.seg_heap.specs.Placement.{Live, Heap, AreApart, IsLeastPlace, IsStart, end_of, rounded_size, with_block, without_block}
+use Rattle.seg_heap.specs.Placement.{Live, Heap, AreApart, IsLeastPlace, end_of, rounded_size, with_block, without_block}
 use Rattle.seg_heap.specs.Placement.{IsFree as FitsAt}
 use Rattle.seg_heap.proofs.Members.{with_block_has, with_block_keeps, with_block_only, without_block_keeps, without_block_only}
 use Rattle.shadow_segments.specs.declared.BlockNote.{BlockNote}
@@ -221,10 +221,6 @@ placed_died h q ns n at p there is apart = record {
     only u m e (inr x) (inl y) = absurd (none-some m (sym (filled_inside ns (first_unit n) (units n.length) None u None mine.inside x y) ∙ e))
     only u m e (inl below) y = old u m (sym (filled_outside ns (first_unit n) (units n.length) None u None (inl below)) ∙ e) (inl below)
     only u m e (inr x) (inr above) = old u m (sym (filled_outside ns (first_unit n) (units n.length) None u None (inr above)) ∙ e) (inr above)
-
--- a live block's start is one of the placer's
-pub placed_start : (h : Heap) (ns : List (Option BlockNote)) (n : BlockNote) (at : ℕ) → IsPlaced h ns → get_or ns at None ≡ Some n → IsStart h n.base
-placed_start h ns n at p there = let c = p.only at n there in (c.0, record { place = n.base; length = n.length }, c.1, c.2, refl)
 
 -- nothing is placed in an empty heap
 pub placed_none : (h : Heap) (ns : List (Option BlockNote)) (len : ℕ) → len % 16 ≡ 0 → h.units ≡ len / 16 → h.live ≡ [] → ns ≡ replicate (len / 16) None → IsPlaced h ns

@@ -36,31 +36,6 @@ module _ {T : Type 0} {A B C : Type 0} (U : Syntax T A) (P : A → Syntax T B) (
   pub to_left : Same (U then λ u. P u then Q) ((U then P) then Q)
   to_left = record { reads = left_reads; reads_back = left_reads_back; begun = left_begun; begun_back = left_begun_back; late = left_late; late_back = left_late_back }
 
-module _ {T : Type 0} (K : T → ℕ) {A : Type 0} (ks js : List ℕ) where
-  parts_read : (G G' H H' : Syntax T A) → ((a : List T) (x : A) → G.reads a x → G'.reads a x) → ((a : List T) (x : A) → H.reads a x → H'.reads a x) → (a : List T) (x : A) → (choice K ks G H).reads a x → (choice K js G' H').reads a x
-  parts_read G G' H H' f g a x (inl r) = inl (f a x r)
-  parts_read G G' H H' f g a x (inr r) = inr (g a x r)
-
-  parts_begun : (G G' H H' : Syntax T A) → ((a : List T) → G.begun a → G'.begun a) → ((a : List T) → H.begun a → H'.begun a) → (a : List T) → (choice K ks G H).begun a → (choice K js G' H').begun a
-  parts_begun G G' H H' f g a (inl r) = inl (f a r)
-  parts_begun G G' H H' f g a (inr r) = inr (g a r)
-
-  parts_late : (G G' H H' : Syntax T A) → ((i : ℕ) (a : List T) (t : T) → G.late i a t → G'.late i a t) → ((i : ℕ) (a : List T) (t : T) → H.late i a t → H'.late i a t) → (i : ℕ) (a : List T) (t : T) → (choice K ks G H).late i a t
-      → (choice K js G' H').late i a t
-  parts_late G G' H H' f g i a t (inl r) = inl (f i a t r)
-  parts_late G G' H H' f g i a t (inr r) = inr (g i a t r)
-
--- alternatives are the same where their parts are, whatever the kinds that decide
-pub both_parts : {T : Type 0} (K : T → ℕ) {A : Type 0} (ks js : List ℕ) {G G' H H' : Syntax T A} → Same G G' → Same H H' → Same (choice K ks G H) (choice K js G' H')
-both_parts K ks js {G} {G'} {H} {H'} g h = record {
-  reads = parts_read K ks js G G' H H' g.reads h.reads;
-  reads_back = parts_read K js ks G' G H' H g.reads_back h.reads_back;
-  begun = parts_begun K ks js G G' H H' g.begun h.begun;
-  begun_back = parts_begun K js ks G' G H' H g.begun_back h.begun_back;
-  late = parts_late K ks js G G' H H' g.late h.late;
-  late_back = parts_late K js ks G' G H' H g.late_back h.late_back;
-}
-
 pub unchanged : {T A : Type 0} (G : Syntax T A) → Same G G
 unchanged G = record { reads = λ a x r. r; reads_back = λ a x r. r; begun = λ a b. b; begun_back = λ a b. b; late = λ i a t l. l; late_back = λ i a t l. l }
 
@@ -74,22 +49,6 @@ joined s t = record {
       λ i a v l. t.late i a v (s.late i a v l);
   late_back = λ i a v l. s.late_back i a v (t.late_back i a v l);
 }
-
--- sequences are the same where their parts are
-module _ {T A B : Type 0} where
-  sequence_reads : (G G' : Syntax T A) (H H' : A → Syntax T B) → ((a : List T) (x : A) → G.reads a x → G'.reads a x) → ((x : A) (a : List T) (y : B) → (H x).reads a y → (H' x).reads a y) → (a : List T) (y : B) → (G then H).reads a y
-      → (G' then H').reads a y
-  sequence_reads G G' H H' f g a y (b, c, x, e, r, s) = (b, c, x, e, f b x r, g x c y s)
-
-  sequence_begun : (G G' : Syntax T A) (H H' : A → Syntax T B) → ((a : List T) (x : A) → G.reads a x → G'.reads a x) → ((a : List T) → G.begun a → G'.begun a) → ((x : A) (a : List T) → (H x).begun a → (H' x).begun a) → (a : List T)
-      → (G then H).begun a → (G' then H').begun a
-  sequence_begun G G' H H' f g h a (inl b) = inl (g a b)
-  sequence_begun G G' H H' f g h a (inr (b, c, x, e, r, s)) = inr (b, c, x, e, f b x r, h x c s)
-
-  sequence_late : (G G' : Syntax T A) (H H' : A → Syntax T B) → ((a : List T) (x : A) → G.reads a x → G'.reads a x) → ((i : ℕ) (a : List T) (t : T) → G.late i a t → G'.late i a t)
-      → ((x : A) (i : ℕ) (a : List T) (t : T) → (H x).late i a t → (H' x).late i a t) → (i : ℕ) (a : List T) (t : T) → (G then H).late i a t → (G' then H').late i a t
-  sequence_late G G' H H' f g h i a t (inl b) = inl (g i a t b)
-  sequence_late G G' H H' f g h i a t (inr (b, c, x, e, r, s)) = inr (b, c, x, e, f b x r, h x i c t s)
 
 -- ---- a repetition is no turn, or a turn and the repetition after it
 

@@ -132,9 +132,6 @@ parted_at (suc n) (t ∷ ts) lt = let p = parted_at n ts (omega arith) in (t ∷
 same_parting : {T : Type 0} (f : List T) (t : T) (u front rest : List T) → f ++ (t ∷ u) ≡ front ++ rest → (f ++ (t ∷ [])) ++ u ≡ front ++ rest
 same_parting f t u front rest e = append_assoc f (t ∷ []) u ∙ e
 
-place_is : {T A : Type 0} (r s : Result (A × List T) Fault) → r ≡ s → place r ≡ place s
-place_is r s e = ap place e
-
 above : (a b : ℕ) → (b ≤ a) ⊎ (a < b)
 above a b = decided (ltb a b) refl
   where

@@ -61,9 +61,6 @@ module _ (ws : Vocabulary) where
   abbrev behind_cast : Place → CastType → Syntax PlainToken Form
   behind_cast at t = mark ws right_paren then λ _. P then λ x. gives (Cast at t x)
 
-  abbrev cast_alternative : Syntax PlainToken Form
-  cast_alternative = mark ws left_paren then λ at. production.cast_type ws then λ t. behind_cast at t
-
   to_cast_type : (at : Place) → Within (type_name ws (expression ws) then λ t. behind_cast at (OfC t)) (production.cast_type ws then λ t. behind_cast at t)
   to_cast_type at = handed (type_name ws (expression ws)) OfC (behind_cast at) so in_turn (first no [] _ (itself _)) (λ t. itself _)
 

@@ -105,9 +105,6 @@ module _ (ws : Vocabulary) where
 
   -- ---- which way a chain goes on
 
-  abbrev GoesOn : ChainDirection → List (ℕ × Relation) → ChainDirection → PlainToken → Relation × Place → Type 0
-  GoesOn d table c t x = (direction_behind d x.0 ≡ c) × (placed (mark_entry table) t ≡ Some x)
-
   -- a way that each of its relations keeps
   module _ (d : ChainDirection) (keeps : AllEntries (λ m r. direction_behind d r ≡ d) (relations_behind d)) where
     stays : (t : PlainToken) (x : Relation × Place) → placed (mark_entry (relations_behind d)) t ≡ Some x → direction_behind d x.0 ≡ d

@@ -55,10 +55,6 @@ moved_sums : (op : PointerOp) (n : ℕ) (b : Based) (i : ℤ) → sum_of (moved_
 moved_sums Plus n b i = on_sums (pos n *ℤ i) b
 moved_sums Minus n b i = on_sums (neg_ℤ (pos n *ℤ i)) b
 
--- a pair of the same sum
-to_sum : (o : Option Based) (b : Based) (x : question.Address) → o ≡ Some b → sum_of b ≡ x → SumsTo o x
-to_sum o b x e s = (b, e, s)
-
 address_is : (x y : question.Address) → Some (Addressed x) ≡ Some (Addressed y) → x ≡ y
 address_is x y e = cc
 

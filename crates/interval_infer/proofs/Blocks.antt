@@ -1,5 +1,5 @@
 -- Statements and functions whose annotations have their ranges, one after another.
-use Rattle.std.proofs.Common.{◌≡◌, List, [], ◌∷◌, ◌++◌, sym, ap, ◌∙◌, subst, map, Result, Err}
+use Rattle.std.proofs.Common.{◌≡◌, List, [], ◌∷◌, ◌++◌, sym, ap, ◌∙◌, subst, map, Result}
 use Rattle.std.specs.Prelude.{Vec}
 use Rattle.std.specs.declared.alloc.Global.{Global}
 use Rattle.c_syntax.specs.declared.place.Place.{Place}
@@ -7,15 +7,15 @@ use Rattle.c_syntax.specs.declared.program.Func.{Func}
 use Rattle.c_syntax.specs.declared.statement.Item.{Item}
 use Rattle.c_syntax.specs.declared.statement.StmtKind.{StmtKind}
 use Rattle.c_syntax.specs.declared.statement.StmtKind as code
-use Rattle.c_syntax.specs.Statements.{Block, BlockItem, BlockItems, plain_stmt_kind, plain_item, plain_items}
+use Rattle.c_syntax.specs.Statements.{Block, BlockItems, plain_stmt_kind, plain_item, plain_items}
 use Rattle.c_syntax.specs.Programs.{Function, plain_func}
 use Rattle.c_syntax.proofs.Rows.{block_is}
 use Rattle.c_model.specs.Checked.{Checked, Good}
 use Rattle.c_model.specs.AnnotationRanges.{ranged_statement, ranged_item, ranged_items, ranged_function, ranged_functions}
 use Rattle.c_expression_rules.specs.declared.fault.TypeFault.{TypeFault}
 use Rattle.c_expression_rules.specs.Answers.{Answers}
-use Rattle.c_expression_rules.proofs.Lists.{behind_parts, all_parts, list_more, part_refused, made_of}
-use Rattle.c_expression_rules.proofs.BlockItems.{behind_block, all_items, item_refused, items_more}
+use Rattle.c_expression_rules.proofs.Lists.{behind_parts, all_parts, list_more, made_of}
+use Rattle.c_expression_rules.proofs.BlockItems.{behind_block, all_items, items_more}
 
 -- a block in its place
 pub block_in_place : (at : Place) (k : StmtKind) (v w : Vec Item Global) (result : Result (Unit {0}) TypeFault) → k ≡ code.Block v → Answers (λ (u : Unit {0}). plain_items w.items) (ranged_items (plain_items v.items)) result
@@ -31,13 +31,6 @@ pub block_more : (done done' : List Item) (x : Item) → done' ≡ done ++ x ∷
 block_more done done' x more whole list i rest before is good =
     items_more whole (ranged_items (plain_items list)) done done' x (ranged_item (plain_item i)) (λ y. ranged_items (plain_items rest)) before (ap (λ l. ranged_items (plain_items l)) is) good more
 
--- an item is refused
-pub items_refused : {T U : Type 0} (p : T → BlockItem) (q : U → BlockItems) (whole : Checked BlockItems) (done list : List Item) (i : Item) (rest : List Item) (h : TypeFault)
-    → whole ≡ behind_block (plain_items done) (ranged_items (plain_items list)) → list ≡ i ∷ rest → Answers p (ranged_item (plain_item i)) (Err h) → Answers q whole (Err h)
-items_refused p q whole done list i rest h before is bad =
-    subst (λ c. Answers q c (Err h)) (sym (before ∙ ap (λ l. behind_block (plain_items done) (ranged_items (plain_items l))) is))
-    (item_refused (plain_items done) (ranged_item (plain_item i)) (λ y. ranged_items (plain_items rest)) p q h bad)
-
 pub block_done : (whole : Checked BlockItems) (done list : List Item) → whole ≡ behind_block (plain_items done) (ranged_items (plain_items list)) → list ≡ [] → whole ≡ Good (plain_items done)
 block_done whole done list before none = before ∙ ap (λ l. behind_block (plain_items done) (ranged_items (plain_items l))) none ∙ all_items (plain_items done)
 
@@ -48,12 +41,6 @@ pub functions_more : (done done' : List Func) (x : Func) → done' ≡ done ++ x
 functions_more done done' x more whole list f rest before is good =
     list_more plain_func (λ g. g) whole (ranged_functions (map plain_func list)) done done' x (ranged_function (plain_func f)) (λ g. ranged_functions (map plain_func rest)) (plain_func x) before
     (ap (λ l. ranged_functions (map plain_func l)) is) good (λ i. plain_func x) more
-
-pub functions_refused : {T U : Type 0} (p : T → Function) (q : U → List Function) (whole : Checked (List Function)) (done list : List Func) (f : Func) (rest : List Func) (h : TypeFault)
-    → whole ≡ behind_parts (map plain_func done) (ranged_functions (map plain_func list)) → list ≡ f ∷ rest → Answers p (ranged_function (plain_func f)) (Err h) → Answers q whole (Err h)
-functions_refused p q whole done list f rest h before is bad =
-    subst (λ c. Answers q c (Err h)) (sym (before ∙ ap (λ l. behind_parts (map plain_func done) (ranged_functions (map plain_func l))) is))
-    (part_refused (map plain_func done) (ranged_function (plain_func f)) (λ g. g) (λ g. ranged_functions (map plain_func rest)) p q h bad)
 
 pub functions_done : (whole : Checked (List Function)) (done list : List Func) → whole ≡ behind_parts (map plain_func done) (ranged_functions (map plain_func list)) → list ≡ [] → whole ≡ Good (map plain_func done)
 functions_done whole done list before none = before ∙ ap (λ l. behind_parts (map plain_func done) (ranged_functions (map plain_func l))) none ∙ all_parts (map plain_func done)

@@ -26,7 +26,7 @@ use Rattle.c_model.proofs.RangedTrees.{ranging_keeps_terms}
 use Rattle.c_expression_rules.specs.declared.fault.TypeFault.{TypeFault}
 use Rattle.c_expression_rules.specs.declared.fault.TypeFault.TheVariants.{Refused, Memory}
 use Rattle.c_expression_rules.specs.Answers.{Answers, both}
-use Rattle.c_expression_rules.proofs.Least.{both_answers, both_made, both_refused, one_refused, one_then}
+use Rattle.c_expression_rules.proofs.Least.{both_answers, both_made, both_refused, one_then}
 use Rattle.interval_infer.specs.Answers.{or_no_range}
 use Rattle.interval_infer.proofs.Sound.{ranges_are_ordered}
 
@@ -107,20 +107,10 @@ module _ (at : Place) (k : TermKind) (t : Option PlainType) (r : Range)
         → Answers (λ s. Unary at t s op (plain_term a')) (ranged_term [] (plain_term_kind at k t r)) z
     unary_in_place op a a' z is ha e = at_kind (term.Unary op a) (λ s. Unary at t s op (plain_term a')) z is (one_ranged (unary_range op) (λ s. Unary at t s op) at a a' z ha e)
 
-    pub unary_refused : (op : UnOp) (a a' : Term) (h : TypeFault) (form : Range → LogicTerm) → k ≡ term.Unary op a → Is a (Err h) a' → Answers form (ranged_term [] (plain_term_kind at k t r)) (Err h)
-    unary_refused op a a' h form is ha =
-        at_kind (term.Unary op a) form (Err h) is
-        (one_refused (λ b. given (unary_range op (range_of b)) (no_range at) (λ s. Good (Unary at t s op b))) (λ (u : Unit {0}). plain_term a') form (ranged_term [] (plain_term a)) h ha)
-
     pub cast_in_place : (to : LogicType) (a a' : Term) (z : Result Range TypeFault) → k ≡ term.Cast to a → Is a (Ok tt) a' → z ≡ or_no_range (cast_range (plain_cast_type to) a'.range) at
         → Answers (λ s. Cast at t s (plain_cast_type to) (plain_term a')) (ranged_term [] (plain_term_kind at k t r)) z
     cast_in_place to a a' z is ha e =
         at_kind (term.Cast to a) (λ s. Cast at t s (plain_cast_type to) (plain_term a')) z is (one_ranged (cast_range (plain_cast_type to)) (λ s. Cast at t s (plain_cast_type to)) at a a' z ha e)
-
-    pub cast_refused : (to : LogicType) (a a' : Term) (h : TypeFault) (form : Range → LogicTerm) → k ≡ term.Cast to a → Is a (Err h) a' → Answers form (ranged_term [] (plain_term_kind at k t r)) (Err h)
-    cast_refused to a a' h form is ha =
-        at_kind (term.Cast to a) form (Err h) is
-        (one_refused (λ b. given (cast_range (plain_cast_type to) (range_of b)) (no_range at) (λ s. Good (Cast at t s (plain_cast_type to) b))) (λ (u : Unit {0}). plain_term a') form (ranged_term [] (plain_term a)) h ha)
 
     module _ (op : BinOp) (a a' b b' : Term) (q v : Result (Unit {0}) TypeFault) (is : k ≡ term.Binary op a b) (ha : Is a q a') (hb : Is b v b')
       where

@@ -1,8 +1,8 @@
 -- Bytes of numbers.
-use Rattle.std.proofs.Common.{rules, ◌≡◌, ℕ, zero, suc, ◌+◌, ◌*◌, ◌/◌, ◌%◌, ◌^◌, ◌<◌, ◌≤◌, ◌⊎◌, inl, inr, ⊎_elim, List, [], ◌∷◌, ◌++◌, length, take, drop, get_or, replicate, refl, sym, ap, ◌∙◌, arith, length-drop, length-take, pow-suc}
-use Rattle.std.proofs.Math.Nat.{div-div-eq-div-mul, div-add-mod, mod-lt, mod-eq_of_lt}
+use Rattle.std.proofs.Common.{◌≡◌, ℕ, zero, suc, ◌+◌, ◌*◌, ◌/◌, ◌%◌, ◌^◌, ◌<◌, ◌≤◌, ◌⊎◌, ⊎_elim, List, [], ◌∷◌, ◌++◌, length, take, drop, get_or, refl, sym, ap, ◌∙◌, arith, length-drop, pow-suc}
+use Rattle.std.proofs.Math.Nat.{div-div-eq-div-mul, div-add-mod, mod-lt}
 use Rattle.std.proofs.lemmas.Nat.{mod-mul-add}
-use Rattle.std.proofs.lemmas.List.{places, same_lists, drop-drop, drop-take, take-append-drop, take-take, take_at, drop_at, length-take-le, length-replicate, replicate-append-replicate, ext_get_or, get_or-take, get_or-drop}
+use Rattle.std.proofs.lemmas.List.{places, drop-drop, drop-take, take-append-drop, take-take, take_at, drop_at, length-take-le, ext_get_or, get_or-take, get_or-drop}
 use Rattle.std.specs.Int.{w64, w128, byte_at, bytes_low_first, to_le_bytes}
 use Rattle.raw_seg.specs.Bytes.{number_of, bytes_of, bytes_at, with_bytes}
 
@@ -72,22 +72,6 @@ le_bytes_8 n = let whole : n / 1 ≡ n = omega arith in low_first 0 8 n ∙ ap (
 pub le_bytes_16 : (n : ℕ) → to_le_bytes w128 n ≡ bytes_of 16 n
 le_bytes_16 n = let whole : n / 1 ≡ n = omega arith in low_first 0 16 n ∙ ap (bytes_of 16) whole
 
--- bytes written after bytes just written
-pub with_bytes-with_bytes : (bytes : List ℕ) (at : ℕ) (first second : List ℕ) → at + length first + length second ≤ length bytes → with_bytes (with_bytes bytes at first) (at + length first) second ≡ with_bytes bytes at (first ++ second)
-with_bytes-with_bytes bytes at first second le = same_lists _ _ (search (rules, places)) (λ k d h. grind (arith, places))
-
--- a fill goes on where one ended
-pub fill_more : (bytes : List ℕ) (from at n m byte : ℕ) → from + n ≡ at → from + n + m ≤ length bytes → with_bytes (with_bytes bytes from (replicate n byte)) at (replicate m byte) ≡ with_bytes bytes from (replicate (n + m) byte)
-fill_more bytes from at n m byte is le =
-    let done = replicate n byte in
-    let size : length done ≡ n = length-replicate n byte in
-    let more : length (replicate m byte) ≡ m = length-replicate m byte in
-    let here : from + length done ≡ at = omega (arith, size, is) in
-    let room : from + length done + length (replicate m byte) ≤ length bytes = omega (arith, size, more, le) in
-    ap (λ i. with_bytes (with_bytes bytes from done) i (replicate m byte)) (sym here)
-    ∙ with_bytes-with_bytes bytes from done (replicate m byte) room
-    ∙ ap (with_bytes bytes from) (replicate-append-replicate n m byte)
-
 pub length-with_bytes : (bytes : List ℕ) (at : ℕ) (new : List ℕ) → at + length new ≤ length bytes → length (with_bytes bytes at new) ≡ length bytes
 length-with_bytes bytes at new le = grind (arith, places)
 
@@ -136,21 +120,3 @@ pub number_at-stored : (bytes : List ℕ) (at width n : ℕ) → at + width ≤ 
 number_at-stored bytes at width n le =
     let size = length-bytes_of width n in
     ap (λ w. number_of (bytes_at (with_bytes bytes at (bytes_of width n)) at w)) (sym size) ∙ ap number_of (bytes_at-with_bytes bytes at (bytes_of width n) (omega (arith, le))) ∙ number_of-bytes_of width n
-
--- bytes that lie apart from those written stay
-pub bytes_at-with_bytes_apart : (bytes : List ℕ) (at : ℕ) (new : List ℕ) (other width : ℕ) → at + length new ≤ length bytes → (other + width ≤ at) ⊎ (at + length new ≤ other)
-    → bytes_at (with_bytes bytes at new) other width ≡ bytes_at bytes other width
-bytes_at-with_bytes_apart bytes at new other width le apart =
-    let long = length-with_bytes bytes at new le in
-    same_lists _ _ (omega (arith, long, length-take width (drop other (with_bytes bytes at new)), length-take width (drop other bytes), length-drop other (with_bytes bytes at new), length-drop other bytes))
-    (λ k d lt.
-    let below : k < width = omega (arith, lt, length-take width (drop other (with_bytes bytes at new))) in
-    let away : (other + k < at) ⊎ (at + length new ≤ other + k) = ⊎_elim (λ before. inl (omega (arith, before, below))) (λ behind. inr (omega (arith, behind))) apart in
-    get_or-take width (drop other (with_bytes bytes at new)) k d below
-    ∙ get_or-drop other (with_bytes bytes at new) k d
-    ∙ get_or-with_bytes_outside bytes at new (other + k) d le away
-    ∙ sym (get_or-take width (drop other bytes) k d below ∙ get_or-drop other bytes k d))
-
--- a word that was written is read again
-pub word_at-stored : (bytes : List ℕ) (at n : ℕ) → at + 8 ≤ length bytes → n < 2 ^ 64 → number_of (bytes_at (with_bytes bytes at (bytes_of 8 n)) at 8) ≡ n
-word_at-stored bytes at n le small = number_at-stored bytes at 8 n le ∙ mod-eq_of_lt small

@@ -1,20 +1,9 @@
 -- Bytes of which only the first were ever written.
-use Rattle.std.proofs.Common.{rules, ◌≡◌, ℕ, zero, suc, ◌+◌, ◌-◌, ◌%◌, ◌<◌, ◌≤◌, ⊎_elim, List, ◌∷◌, ◌++◌, length, replicate, refl, sym, ap, ◌∙◌, arith}
+use Rattle.std.proofs.Common.{rules, ◌≡◌, ℕ, zero, suc, ◌+◌, ◌-◌, ◌%◌, ◌<◌, ◌≤◌, ⊎_elim, List, ◌∷◌, length, replicate, refl, sym, ap, ◌∙◌, arith}
 use Rattle.std.proofs.lemmas.Bool.Decides.{nat_tests}
 use Rattle.std.proofs.lemmas.List.{places, same_lists}
-use Rattle.raw_seg.specs.Bytes.{number_of, bytes_of, bytes_at, with_bytes, IsWidth}
+use Rattle.raw_seg.specs.Bytes.{number_of, bytes_of, bytes_at, IsWidth}
 use Rattle.raw_seg.specs.Zeros.{zeros_to, IsReach}
-use Rattle.raw_seg.proofs.Numbers.{length-with_bytes}
-
--- what is written over the first bytes is written over all
-pub zeros_to-with_bytes : (len : ℕ) (bytes : List ℕ) (at : ℕ) (new : List ℕ) → at + length new ≤ length bytes → zeros_to len (with_bytes bytes at new) ≡ with_bytes (zeros_to len bytes) at new
-zeros_to-with_bytes len bytes at new le =
-    let long = length-with_bytes bytes at new le in
-    ap (λ n. with_bytes bytes at new ++ replicate (len - n) 0) long ∙ same_lists _ _ (search (rules, places)) (λ k d h. grind (arith, places))
-
--- what is read of the first bytes is read of all
-pub bytes_at-zeros_to : (len : ℕ) (bytes : List ℕ) (at width : ℕ) → at + width ≤ length bytes → bytes_at (zeros_to len bytes) at width ≡ bytes_at bytes at width
-bytes_at-zeros_to len bytes at width le = same_lists _ _ (search (rules, places)) (λ k d h. grind (arith, places))
 
 -- behind them are zeros
 pub zeros_behind : (len : ℕ) (bytes : List ℕ) (at width : ℕ) → length bytes ≤ at → at + width ≤ len → bytes_at (zeros_to len bytes) at width ≡ replicate width 0
@@ -40,6 +29,3 @@ bytes_behind len bytes seen at width is ge le = bytes_of-zero width ∙ sym (ap 
 -- what isn't wholly among the first bytes lies behind them
 pub is_behind : (len n at width : ℕ) → IsReach len n → IsWidth width → at % width ≡ 0 → at + width ≤ len → n < at + width → n ≤ at
 is_behind len n at width reach wide aligned le past = ⊎_elim (λ units. grind (arith, nat_tests, wide, units, aligned, past)) (λ all. absurd (omega (arith, all, le, past))) reach
-
-pub begun_16 : (len n at : ℕ) → IsReach len n → at % 16 ≡ 0 → at + 16 ≤ len → at < n → at + 16 ≤ n
-begun_16 len n at reach aligned le begun = ⊎_elim (λ units. omega (arith, units, aligned, begun)) (λ all. omega (arith, all, le)) reach

@@ -17,12 +17,6 @@ module _ (units size count s gap : ℕ) (starts before gaps : List ℕ) (keeps :
       (λ ge. omega (arith, ge))
       (cases_lt 0 (get_or starts s 0))
 
-  pub sum_fits : s + gap ≤ units
-  sum_fits = omega (arith, inside, gap_is)
-
-  starts_new : List ℕ
-  starts_new = set starts s (size + 1)
-
   module _ (starts1 before1 before2 gaps1 gaps2 : List ℕ) (g1 : gaps1 ≡ set gaps s 0) (g2 : gaps2 ≡ set gaps1 (s + count) (gap - count)) (b1 : before1 ≡ set before s 0)
       (b2 : before2 ≡ set before1 (s + count + (gap - count)) (gap - count)) (s1 : starts1 ≡ set starts s (size + 1)) where
     long_gaps1 : length gaps1 ≡ length gaps

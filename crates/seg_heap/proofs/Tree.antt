@@ -1,8 +1,8 @@
 -- The tree of gaps: a node is at least as great as each leaf below it.
-use Rattle.std.proofs.Common.{◌≡◌, ◌≢◌, ℕ, zero, suc, ◌+◌, ◌-◌, ◌*◌, ◌/◌, ◌^◌, ◌<◌, ◌≤◌, ◌⊎◌, inl, inr, ⊎_elim, max, List, length, get_or, set, drop, replicate, ap, sym, ◌∙◌, subst, arith}
-use Rattle.std.proofs.lemmas.Bool.{cases_lt, cases_eq}
+use Rattle.std.proofs.Common.{◌≡◌, ◌≢◌, ℕ, zero, suc, ◌+◌, ◌-◌, ◌*◌, ◌/◌, ◌^◌, ◌<◌, ◌≤◌, ◌⊎◌, inl, inr, ⊎_elim, max, List, length, get_or, drop, replicate, ap, sym, ◌∙◌, subst, arith}
+use Rattle.std.proofs.lemmas.Bool.{cases_lt}
 use Rattle.std.proofs.lemmas.Nat.{pow_pos, pow_below, pow-add, shr-shr, shr_le, le-div, div-mul-add}
-use Rattle.std.proofs.lemmas.List.{get_or-drop, get_or-set_same, get_or-set_other, get_or_past, get_or_default, get_or-replicate, length-set, length-replicate, length-drop, drop-set-lt, drop-set-add, drop-replicate}
+use Rattle.std.proofs.lemmas.List.{get_or-drop, get_or_past, get_or_default, get_or-replicate, length-replicate, length-drop}
 use Rattle.seg_heap.specs.Gaps.{IsTree}
 
 half : (j m : ℕ) → j / 2 ^ (m + 1) ≡ j / 2 ^ m / 2
@@ -144,13 +144,6 @@ found depth node count nodes at unit lt =
     once : (j : ℕ) → j / 2 ^ 0 ≡ j
     once j = omega arith
 
-pub found_long : (depth node count : ℕ) (nodes : List ℕ) → IsFirst depth depth node count nodes → count ≤ get_or (drop (2 ^ depth) nodes) (node - 2 ^ depth) 0
-found_long depth node count nodes at =
-    let is = leaf depth nodes (node - 2 ^ depth) in
-    let same : 2 ^ depth + (node - 2 ^ depth) ≡ node = omega (arith, at.low) in
-    let e = ap (λ z. get_or nodes z 0) same in
-    omega (arith, is, e, at.long)
-
 -- a walk up: each node but the parent of this one is as its children say
 pub record IsRising (depth node : ℕ) (nodes lengths : List ℕ) : Type 0 where
   pub some : 0 < node
@@ -158,72 +151,6 @@ pub record IsRising (depth node : ℕ) (nodes lengths : List ℕ) : Type 0 where
   pub size : length nodes ≡ 2 * 2 ^ depth
   pub others : (j : ℕ) → 0 < j → j < 2 ^ depth → j ≢ node / 2 → get_or nodes j 0 ≡ max (get_or nodes (2 * j) 0) (get_or nodes (2 * j + 1) 0)
   pub leaves : drop (2 ^ depth) nodes ≡ lengths
-
--- after the write of a leaf
-pub rises : (depth unit value : ℕ) (nodes : List ℕ) → IsTree depth nodes → unit < length (drop (2 ^ depth) nodes) → IsRising depth (2 ^ depth + unit) (set nodes (2 ^ depth + unit) value) (set (drop (2 ^ depth) nodes) unit value)
-rises depth unit value nodes tree lt =
-    let size = length-drop (2 ^ depth) nodes in
-    let at : 2 ^ depth + unit < 2 * 2 ^ depth = omega (arith, size, tree.size, lt) in
-    record {
-      some = omega (arith, pow_pos depth);
-      inside = at;
-      size = length-set nodes (2 ^ depth + unit) value ∙ tree.size;
-      others = λ j low high other.
-          (let a = get_or-set_other nodes (2 ^ depth + unit) j value 0 (λ e. omega (arith, e, high)) in
-          let b = get_or-set_other nodes (2 ^ depth + unit) (2 * j) value 0 (λ e. other (halved j (2 ^ depth + unit) e)) in
-          let c = get_or-set_other nodes (2 ^ depth + unit) (2 * j + 1) value 0 (λ e. other (halved_odd j (2 ^ depth + unit) e)) in
-          a ∙ tree.longest j low high ∙ sym (ap (λ z. max z (get_or (set nodes (2 ^ depth + unit) value) (2 * j + 1) 0)) b ∙ ap (λ z. max (get_or nodes (2 * j) 0) z) c));
-      leaves = drop-set-add (2 ^ depth) nodes unit value;
-    }
-  where
-    halved : (j n : ℕ) → 2 * j ≡ n → j ≡ n / 2
-    halved j n e = omega (arith, e)
-
-    halved_odd : (j n : ℕ) → 2 * j + 1 ≡ n → j ≡ n / 2
-    halved_odd j n e = omega (arith, e)
-
--- after the parent is written
-pub rises_more : (depth node : ℕ) (nodes leaves : List ℕ) → IsRising depth node nodes leaves → 1 < node →
-    IsRising depth (node / 2) (set nodes (node / 2) (max (get_or nodes (2 * (node / 2)) 0) (get_or nodes (2 * (node / 2) + 1) 0))) leaves
-rises_more depth node nodes leaves at more =
-    let p : ℕ = node / 2 in
-    let inside : node / 2 < 2 ^ depth = omega (arith, at.inside) in
-    record {
-      some = omega (arith, more);
-      inside = omega (arith, inside);
-      size = length-set nodes (node / 2) _ ∙ at.size;
-      others = λ j low high other. at_node j low high other (cases_eq j (node / 2));
-      leaves = drop-set-lt (2 ^ depth) nodes (node / 2) _ inside ∙ at.leaves;
-    }
-  where
-    value : ℕ
-    value = max (get_or nodes (2 * (node / 2)) 0) (get_or nodes (2 * (node / 2) + 1) 0)
-
-    small : node / 2 < length nodes
-    small = let i = at.inside in let s = at.size in omega (arith, i, s, more)
-
-    halved : (j n : ℕ) → 2 * j ≡ n → j ≡ n / 2
-    halved j n e = omega (arith, e)
-
-    halved_odd : (j n : ℕ) → 2 * j + 1 ≡ n → j ≡ n / 2
-    halved_odd j n e = omega (arith, e)
-
-    at_node : (j : ℕ) → 0 < j → j < 2 ^ depth → j ≢ node / 2 / 2 → (j ≡ node / 2) ⊎ (j ≡ node / 2 → ⊥) →
-        get_or (set nodes (node / 2) value) j 0 ≡ max (get_or (set nodes (node / 2) value) (2 * j) 0) (get_or (set nodes (node / 2) value) (2 * j + 1) 0)
-    at_node j low high other (inl e) =
-        subst (λ z. get_or (set nodes (node / 2) value) z 0 ≡ max (get_or (set nodes (node / 2) value) (2 * z) 0) (get_or (set nodes (node / 2) value) (2 * z + 1) 0)) (sym e)
-        (let some : 0 < node / 2 = omega (arith, more) in
-        let b = get_or-set_other nodes (node / 2) (2 * (node / 2)) value 0 (λ f. omega (arith, f, some)) in
-        let c = get_or-set_other nodes (node / 2) (2 * (node / 2) + 1) value 0 (λ f. omega (arith, f, some)) in
-        get_or-set_same nodes (node / 2) value 0 small ∙ sym (ap (λ z. max z (get_or (set nodes (node / 2) value) (2 * (node / 2) + 1) 0)) b ∙ ap (λ z. max (get_or nodes (2 * (node / 2)) 0) z) c))
-    at_node j low high other (inr ne) =
-        let a = get_or-set_other nodes (node / 2) j value 0 ne in
-        let b = get_or-set_other nodes (node / 2) (2 * j) value 0 (λ e. other (halved j (node / 2) e)) in
-        let c = get_or-set_other nodes (node / 2) (2 * j + 1) value 0 (λ e. other (halved_odd j (node / 2) e)) in
-        a ∙ at.others j low high ne ∙ sym (ap (λ z. max z (get_or (set nodes (node / 2) value) (2 * j + 1) 0)) b ∙ ap (λ z. max (get_or nodes (2 * j) 0) z) c)
-
-pub risen : (depth node : ℕ) (nodes leaves : List ℕ) → IsRising depth node nodes leaves → node ≤ 1 → IsTree depth nodes
-risen depth node nodes leaves at least = record { size = at.size; longest = λ j low high. at.others j low high (λ e. omega (arith, e, least, low)) }
 
 -- a tree of zeros
 pub empty : (depth : ℕ) (nodes : List ℕ) → nodes ≡ replicate (2 * 2 ^ depth) 0 → IsTree depth nodes
@@ -235,11 +162,3 @@ empty depth nodes is = subst (IsTree depth) (sym is) (record { size = length-rep
         let b = get_or-replicate {A = ℕ} (2 * 2 ^ depth) (2 * j) 0 0 (omega (arith, high)) in
         let c = get_or-replicate {A = ℕ} (2 * 2 ^ depth) (2 * j + 1) 0 0 (omega (arith, high)) in
         omega (arith, a, b, c)
-
-pub empty_leaves : (depth units : ℕ) (nodes : List ℕ) → nodes ≡ replicate (2 * 2 ^ depth) 0 → units ≤ 2 ^ depth → (units ≤ length (drop (2 ^ depth) nodes)) × (drop (2 ^ depth) nodes ≡ replicate (length (drop (2 ^ depth) nodes)) 0)
-empty_leaves depth units nodes is fits =
-    let zeros : drop (2 ^ depth) nodes ≡ replicate (2 * 2 ^ depth - 2 ^ depth) 0 = ap (drop (2 ^ depth)) is ∙ drop-replicate (2 ^ depth) (2 * 2 ^ depth) 0 in
-    let size : length (drop (2 ^ depth) nodes) ≡ 2 * 2 ^ depth - 2 ^ depth = ap length zeros ∙ length-replicate {A = ℕ} (2 * 2 ^ depth - 2 ^ depth) 0 in (
-      omega (arith, size, fits),
-      zeros ∙ ap (λ n. replicate n 0) (sym size),
-    )

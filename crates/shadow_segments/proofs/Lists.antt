@@ -35,26 +35,6 @@ changed_inside d f xs u (suc k) i e room from below =
         let after : suc u ≤ i = grind (arith, other, from) in
         rest after ∙ ap f (get_or-set_other xs u i (f (get_or xs u d)) d other)
 
--- one entry more
-pub changed_more : {A : Type 0} (d : A) (f : A → A) (xs : List A) (u k : ℕ) → u + k < length xs → set (changed d f xs u k) (u + k) (f (get_or xs (u + k) d)) ≡ changed d f xs u (k + 1)
-changed_more d f xs u k room =
-    ext_get_or d (set (changed d f xs u k) (u + k) (f (get_or xs (u + k) d))) (changed d f xs u (k + 1)) (length-set (changed d f xs u k) (u + k) (f (get_or xs (u + k) d)) ∙ length-changed d f xs u k ∙ sym (length-changed d f xs u (k + 1)))
-    (λ i lt. at i (cases_eq i (u + k)))
-  where
-    at : (i : ℕ) → (i ≡ u + k) ⊎ (i ≢ u + k) → get_or (set (changed d f xs u k) (u + k) (f (get_or xs (u + k) d))) i d ≡ get_or (changed d f xs u (k + 1)) i d
-    at i (inl same) =
-        let here : u + k < length (changed d f xs u k) = omega (arith, room, length-changed d f xs u k) in
-        ap (λ j. get_or (set (changed d f xs u k) (u + k) (f (get_or xs (u + k) d))) j d) same
-        ∙ get_or-set_same (changed d f xs u k) (u + k) (f (get_or xs (u + k) d)) d here
-        ∙ ap (λ j. f (get_or xs j d)) (sym same)
-        ∙ sym (changed_inside d f xs u (k + 1) i d (omega (arith, room)) (omega (arith, same)) (omega (arith, same)))
-    at i (inr other) = get_or-set_other (changed d f xs u k) (u + k) i (f (get_or xs (u + k) d)) d other ∙ rest i other (cases_lt i u) (cases_lt i (u + k))
-      where
-        rest : (i : ℕ) → i ≢ u + k → (i < u) ⊎ (u ≤ i) → (i < u + k) ⊎ (u + k ≤ i) → get_or (changed d f xs u k) i d ≡ get_or (changed d f xs u (k + 1)) i d
-        rest i ne (inl b) h = changed_outside d f xs u k i d (inl b) ∙ sym (changed_outside d f xs u (k + 1) i d (inl b))
-        rest i ne (inr a) (inl b) = changed_inside d f xs u k i d (omega (arith, room)) a b ∙ sym (changed_inside d f xs u (k + 1) i d (omega (arith, room)) a (omega (arith, b)))
-        rest i ne (inr a) (inr c) = changed_outside d f xs u k i d (inr c) ∙ sym (changed_outside d f xs u (k + 1) i d (inr (grind (arith, c, ne))))
-
 pub filled_is : {A : Type 0} (xs : List A) (u k : ℕ) (y : A) → filled xs u k y ≡ changed y (λ x. y) xs u k
 filled_is xs u zero y = refl
 filled_is xs u (suc k) y = filled_is (set xs u y) (suc u) k y
@@ -67,10 +47,6 @@ filled_inside xs u k y i e room from below = ap (λ l. get_or l i e) (filled_is 
 
 pub filled_outside : {A : Type 0} (xs : List A) (u k : ℕ) (y : A) (i : ℕ) (e : A) → (i < u) ⊎ (u + k ≤ i) → get_or (filled xs u k y) i e ≡ get_or xs i e
 filled_outside xs u k y i e out = ap (λ l. get_or l i e) (filled_is xs u k y) ∙ changed_outside y (λ x. y) xs u k i e out
-
-pub filled_more : {A : Type 0} (xs : List A) (u k : ℕ) (y : A) → u + k < length xs → set (filled xs u k y) (u + k) y ≡ filled xs u (k + 1) y
-filled_more xs u k y room =
-    ap (λ l. set l (u + k) y) (filled_is xs u k y) ∙ changed_more y (λ x. y) xs u k room ∙ sym (filled_is xs u (k + 1) y)
 
 -- a list by its entries, of which so many in a row are replaced
 pub filled_entries : {A : Type 0} (f g : ℕ → A) (n u k : ℕ) (y : A) → u + k ≤ n → ((i : ℕ) → u ≤ i → i < u + k → g i ≡ y) → ((i : ℕ) → i < n → (i < u) ⊎ (u + k ≤ i) → g i ≡ f i) → list_by g n ≡ filled (list_by f n) u k y

@@ -128,24 +128,6 @@ begun_outside ws first end from to u x run le besides (inr after) = at_behind ws
     go (inl lt) = at_written ws from to u run lt
     go (inr ge) = at_behind ws from to u run (⊎_elim (λ a. omega (arith, a, after)) (λ b. omega (arith, b, ge)) besides)
 
--- a run is written up to a unit, from which on it is as before, or there is none
-pub run_written : (vs ws : List Pair) (from to last next : ℕ) (run : Pair) → from ≤ last → (next ≡ last) ⊎ ((to ≤ last) × (last ≤ next))
-    → ((u : ℕ) → from ≤ u → u < to → u < last → get_or ws u nothing ≡ run) → ((u : ℕ) → (u < from) ⊎ ((to ≤ u) ⊎ (last ≤ u)) → get_or ws u nothing ≡ get_or vs u nothing)
-    → (u : ℕ) → pair_at ws next to run u ≡ pair_at vs from to run u
-run_written vs ws from to last next run le ends in_ out u = go (cases_lt u from) (cases_lt u to) (cases_lt u last)
-  where
-    go : (u < from) ⊎ (from ≤ u) → (u < to) ⊎ (to ≤ u) → (u < last) ⊎ (last ≤ u) → pair_at ws next to run u ≡ pair_at vs from to run u
-    go (inl a) y z =
-        let near : u < next = ⊎_elim (λ e. omega (arith, e, a, le)) (λ e. omega (arith, e.1, a, le)) ends in
-        at_written ws next to u run near ∙ out u (inl a) ∙ sym (at_written vs from to u run a)
-    go (inr a) (inr b) z = at_behind ws next to u run b ∙ out u (inr (inl b)) ∙ sym (at_behind vs from to u run b)
-    go (inr a) (inl b) (inl c) =
-        let near : u < next = ⊎_elim (λ e. omega (arith, e, c)) (λ e. omega (arith, e.1, c)) ends in
-        at_written ws next to u run near ∙ in_ u a b c ∙ sym (at_run vs from to u run a b)
-    go (inr a) (inl b) (inr c) =
-        let far : next ≤ u = ⊎_elim (λ e. omega (arith, e, c)) (λ e. absurd (omega (arith, e.0, b, c))) ends in
-        at_run ws next to u run far b ∙ sym (at_run vs from to u run a b)
-
 -- ---- what a unit's words are, by where it lies
 
 module _ (len from to : ℕ) (ws : List Pair) (run : Pair) (p : UnitWords) (is : words_by len (pair_at ws from to run) ≡ p) (long : (from ≤ length ws) × (length ws ≤ len) × (to ≤ len)) where
