@@ -1,8 +1,8 @@
 -- From what the production gave to what the answer means.
-use Rattle.std.proofs.Common.{◌≡◌, ℕ, zero, suc, ◌+◌, ◌-◌, ◌<◌, ◌≤◌, ◌⊎◌, inl, inr, false, List, [], ◌∷◌, ◌++◌, length, drop, Option, None, Result, Ok, Err, refl, sym, ap, subst, ◌∙◌, arith}
+use Rattle.std.proofs.Common.{◌≡◌, ℕ, zero, suc, ◌+◌, ◌-◌, ◌<◌, ◌≤◌, ◌⊎◌, inl, inr, false, List, [], ◌∷◌, ◌++◌, length, drop, None, Result, Ok, Err, refl, sym, ap, subst, ◌∙◌, arith}
 use Rattle.std.proofs.lemmas.List.{length-map}
 use Rattle.std.proofs.Math.Seq.{drop-nil}
-use Rattle.grammar.specs.Syntax.{Fault, At, Over, sees}
+use Rattle.grammar.specs.Syntax.{ParseFault, At, Over, sees}
 use Rattle.grammar.specs.Exact.{Found, RefusedAt, Unread, IsExact, Late, AtMostOne, ReadingsBegin, FrontsBegin, OneLimit}
 use Rattle.grammar.proofs.Bounds.{rest_below}
 use Rattle.grammar.proofs.Theorem.{found, refused_at, refused_over, rest_is, rest_within_text, at_most_one, readings_begin, fronts_begin, one_limit}
@@ -28,12 +28,12 @@ abbrev Numbered : Type 0
 Numbered = List Annotation × ℕ
 
 abbrev Reading : Type 0
-Reading = Result (Numbered × List PlainToken) Fault
+Reading = Result (Numbered × List PlainToken) ParseFault
 
 abbrev read : Numbered → List PlainToken → Reading
 read x rest = Ok (x, rest)
 
-abbrev refused : Fault → Reading
+abbrev refused : ParseFault → Reading
 refused f = Err f
 
 -- ---- no token can go on with a whole annotation
@@ -118,11 +118,11 @@ module _ (ts : PlainTokens) (types : List ℕ) (at first : ℕ) (start : at ≤ 
         no_contract = refl;
       }
 
-  not_read : (f : Fault) → annotation_at ts types at first ≡ Err f → NotRead (annotations (words_of ts types) first) (drop at ts.list) f
+  not_read : (f : ParseFault) → annotation_at ts types at first ≡ Err f → NotRead (annotations (words_of ts types) first) (drop at ts.list) f
   not_read (At n) h = unread (words_of ts types) first (drop at ts.list) n h
   not_read (Over i n) h = refused_over (annotations (words_of ts types) first) false (annot_open_kind ∷ []) (λ _. []) (exact (words_of ts types) first) (drop at ts.list) i n h
 
-  refused_with : (f : Fault) → annotation_at ts types at first ≡ Err f → (e : FrontFault) → RefusesWith (syntax_refusal ts f) e → RefusesAt ts types at first e
+  refused_with : (f : ParseFault) → annotation_at ts types at first ≡ Err f → (e : FrontFault) → RefusesWith (syntax_refusal ts f) e → RefusesAt ts types at first e
   refused_with f h front.Memory g = tt
   refused_with f h (front.Refused r) g = record { fault = f; parsed = h; refused = not_read f h; is = g }
 

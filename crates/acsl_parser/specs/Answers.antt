@@ -1,7 +1,7 @@
 -- Ours, in words of the grammar of ACSL 2.2 and 2.4.1 that stands in c_model/specs/AnnotationGrammar.
 -- What the answers on the tokens of a text mean.
 use Rattle.std.specs.Prelude.{◌≡◌, ◌≤◌, ◌<◌, ℕ, List, [], ◌∷◌, length, drop, slice_set, Option, None, Result, Ok, Err}
-use Rattle.grammar.specs.Syntax.{Fault}
+use Rattle.grammar.specs.Syntax.{ParseFault}
 use Rattle.grammar.specs.Exact.{Found}
 use Rattle.c_syntax.specs.Logic.{Annotation}
 use Rattle.c_syntax.specs.Tokens.{PlainToken, PlainTokens}
@@ -25,7 +25,7 @@ words_of ts types = with_types (vocabulary ts) types
 -- ---- the annotation at a place of the tokens, whose clauses take the numbers from `first` on
 
 -- the tokens from the place on, read as an annotation; with its clauses comes the number of the next one
-abbrev pub annotation_at : PlainTokens → List ℕ → ℕ → ℕ → Result ((List Annotation × ℕ) × List PlainToken) Fault
+abbrev pub annotation_at : PlainTokens → List ℕ → ℕ → ℕ → Result ((List Annotation × ℕ) × List PlainToken) ParseFault
 annotation_at ts types at first = (annotations (words_of ts types) first).parse (drop at ts.list)
 
 -- The tokens between the places are read as the annotation: they are the longest run from there on that begins one, and no token passes a limit.
@@ -41,7 +41,7 @@ pub record IsReadAt (ts : PlainTokens) (types : List ℕ) (at first : ℕ) (all 
 -- No annotation is read there: the tokens before the refused one begin an annotation and are none, and with it they don't begin one (E4), or it is the
 -- first that passes the limit (E11).
 pub record IsRefusedAt (ts : PlainTokens) (types : List ℕ) (at first : ℕ) (r : PlainRefusal) : Type 0 where
-  pub fault : Fault
+  pub fault : ParseFault
   pub parsed : annotation_at ts types at first ≡ Err fault
   pub refused : NotRead (annotations (words_of ts types) first) (drop at ts.list) fault
   pub is : r ≡ syntax_refusal ts fault

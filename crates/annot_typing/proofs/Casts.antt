@@ -13,11 +13,11 @@ use Rattle.c_expression_rules.proofs.Besides.{limited_told}
 use Rattle.c_expression_rules.proofs.Least.{one_refused}
 use Rattle.c_expression_rules.proofs.Told.{told_any}
 use Rattle.annot_typing.specs.declared.sorted.Sorted.{Sorted}
-use Rattle.annot_typing.specs.Joined.{joined}
+use Rattle.annot_typing.specs.Joined.{both_answered}
 use Rattle.annot_typing.specs.Sorts.{plain_sorted}
 use Rattle.annot_typing.proofs.Parts.{joined_refused}
 
-memory_is : {T U : Type 0} (b : Result U TypeFault) (f : TypeFault) → ◌≡◌ {A = Result (T × U) TypeFault} (joined (Err Memory) b) (Err f) → Memory ≡ f
+memory_is : {T U : Type 0} (b : Result U TypeFault) (f : TypeFault) → ◌≡◌ {A = Result (T × U) TypeFault} (both_answered (Err Memory) b) (Err f) → Memory ≡ f
 memory_is (Ok y) f j = cc
 memory_is (Err g) f j = cc
 
@@ -25,7 +25,7 @@ ok_is : {T : Type 0} {x y : T} → ◌≡◌ {A = Result T TypeFault} (Ok x) (Ok
 ok_is j = cc
 
 -- what stands beside the first of two answers stands beside the fault of both
-told_joined : {T U : Type 0} (S P : Type 0) (w : Result T TypeFault) (o : Result U TypeFault) (f : TypeFault) → IfTold w P → joined w o ≡ Err f → IfTold {T = S} (Err f) P
+told_joined : {T U : Type 0} (S P : Type 0) (w : Result T TypeFault) (o : Result U TypeFault) (f : TypeFault) → IfTold w P → both_answered w o ≡ Err f → IfTold {T = S} (Err f) P
 told_joined S P (Ok t) o f h j = told_any {T = S} {P = P} (Err f) h
 told_joined S P (Err (Refused g)) o f h j = told_any {T = S} {P = P} (Err f) h
 told_joined {T = T} {U = U} S P (Err Memory) o f h j = subst (λ f. IfTold {T = S} (Err f) P) (memory_is {T = T} {U = U} o f j) tt
@@ -42,12 +42,12 @@ module _ (s : Sight) (at : Place) (t u : PlainType) (m : Checked PlainType) (n :
     plain_parts x = (u, plain_sorted x.1)
 
     -- the type or the operand is refused
-    pub cast_refused : (f : TypeFault) (r : Result Sorted TypeFault) → joined w o ≡ Err f → r ≡ both (Err f) l → Answers plain_sorted whole r
+    pub cast_refused : (f : TypeFault) (r : Result Sorted TypeFault) → both_answered w o ≡ Err f → r ≡ both (Err f) l → Answers plain_sorted whole r
     cast_refused f r j is = limited_told plain_sorted s at t u (one_part (pair_of m n) k) (Err f) r l
         (one_refused k plain_parts plain_sorted (pair_of m n) f (joined_refused (λ (v : Unit {0}). u) plain_sorted m n w o plain_parts f hw ho j)) (told_joined Sorted (u ≡ t) w o f known j) hl is
 
     -- neither is
-    pub cast_answers : (a : Sorted) (c r : Result Sorted TypeFault) → joined w o ≡ Ok (tt, a) → Answers plain_sorted (k (u, plain_sorted a)) c → r ≡ both c l → Answers plain_sorted whole r
+    pub cast_answers : (a : Sorted) (c r : Result Sorted TypeFault) → both_answered w o ≡ Ok (tt, a) → Answers plain_sorted (k (u, plain_sorted a)) c → r ≡ both c l → Answers plain_sorted whole r
     cast_answers a c r j hc is = by w o hw ho known j
       where
         good : (y : Sorted) → y ≡ a → m ≡ Good u → n ≡ Good (plain_sorted y) → u ≡ t → Answers plain_sorted whole r
@@ -55,7 +55,7 @@ module _ (s : Sight) (at : Place) (t u : PlainType) (m : Checked PlainType) (n :
             (subst (λ m. Answers plain_sorted (one_part (pair_of m n) k) c) (sym hm) (subst (λ n. Answers plain_sorted (one_part (pair_of (Good u) n) k) c) (sym hn)
             (subst (λ z. Answers plain_sorted (k (u, plain_sorted z)) c) (sym ey) hc))) (told_any c same) hl is
 
-        by : (w : Result (Unit {0}) TypeFault) (o : Result Sorted TypeFault) → Answers (λ (v : Unit {0}). u) m w → Answers plain_sorted n o → IfTold w (u ≡ t) → joined w o ≡ Ok (tt, a)
+        by : (w : Result (Unit {0}) TypeFault) (o : Result Sorted TypeFault) → Answers (λ (v : Unit {0}). u) m w → Answers plain_sorted n o → IfTold w (u ≡ t) → both_answered w o ≡ Ok (tt, a)
             → Answers plain_sorted whole r
         by (Ok x) (Ok y) hw ho h j = let same : ◌≡◌ {A = Unit {0} × Sorted} (x, y) (tt, a) = ok_is j in good y (ap (λ p. p.1) same) hw ho h
         by (Ok x) (Err g) hw ho h j = absurd cc

@@ -8,9 +8,9 @@ use Rattle.c_syntax.specs.declared.logic.TermKind as term
 use Rattle.c_syntax.specs.declared.logic.PredKind as pred
 use Rattle.c_syntax.specs.Ctypes.{PlainType, plain_type}
 use Rattle.c_syntax.specs.Logic.{NonZero, plain_term_kind, plain_term, plain_pred_kind}
-use Rattle.c_model.specs.PredicateTyping.{place_of}
+use Rattle.c_model.specs.PredicateTyping.{place_of_term}
 
-place_is : (at : Place) (k : TermKind) (t : Option PlainType) (r : Range) → place_of (plain_term_kind at k t r) ≡ at
+place_is : (at : Place) (k : TermKind) (t : Option PlainType) (r : Range) → place_of_term (plain_term_kind at k t r) ≡ at
 place_is at (term.Number n) t r = refl
 place_is at (term.Letter n) t r = refl
 place_is at (term.Variable x) t r = refl
@@ -20,5 +20,5 @@ place_is at (term.Cast' to pa p a ta ra) t r = refl
 place_is at (term.Choice' pc o c pa p a ta ra pb q b tb rb) t r = refl
 
 -- a term as a predicate
-pub non_zero : (t : Term) → NonZero (place_of (plain_term t)) (plain_term t) ≡ plain_pred_kind t.place (pred.NonZero t)
+pub non_zero : (t : Term) → NonZero (place_of_term (plain_term t)) (plain_term t) ≡ plain_pred_kind t.place (pred.NonZero t)
 non_zero t = ap (λ at. NonZero at (plain_term t)) (place_is t.place t.kind.value (option_map plain_type t.ctype) t.range)

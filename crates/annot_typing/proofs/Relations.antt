@@ -10,7 +10,7 @@ use Rattle.c_expression_rules.specs.Answers.{Answers}
 use Rattle.c_expression_rules.proofs.Least.{one_refused}
 use Rattle.annot_typing.specs.declared.sorted.Sorted.{Sorted}
 use Rattle.annot_typing.specs.declared.sorted.Sorted.TheVariants as code
-use Rattle.annot_typing.specs.Joined.{joined}
+use Rattle.annot_typing.specs.Joined.{both_answered}
 use Rattle.annot_typing.specs.Sorts.{plain_sorted}
 use Rattle.annot_typing.specs.Relations.{is_predicate, right_side}
 use Rattle.annot_typing.proofs.Parts.{joined_answers, no_memory}
@@ -37,14 +37,14 @@ module _ {B U : Type 0} (q : U → B) (k : Bool → Checked B) (c : Checked typi
 
     -- the first side of a chain, and its relations
     pub chain_answers : (r : Result Sorted TypeFault) → Answers plain_sorted c r → Answers q (k (is_predicate r)) b
-        → Answers (λ (x : Sorted × U). (plain_sorted x.0, q x.1)) (pair_of c (k (typing.is_predicate c))) (joined r b)
+        → Answers (λ (x : Sorted × U). (plain_sorted x.0, q x.1)) (pair_of c (k (typing.is_predicate c))) (both_answered r b)
     chain_answers (Ok a) h hb = joined_answers plain_sorted q c (k (typing.is_predicate c)) (Ok a) b h (rest_known (Ok a) h (λ m. cc) hb)
     chain_answers (Err (Refused f)) h hb = joined_answers plain_sorted q c (k (typing.is_predicate c)) (Err (Refused f)) b h (rest_known (Err (Refused f)) h (λ m. cc) hb)
     chain_answers (Err Memory) h hb = no_memory (λ (x : Sorted × U). (plain_sorted x.0, q x.1)) (pair_of c (k (typing.is_predicate c))) b
 
     -- the right side of a relation, and the relations behind it
     pub link_answers : (at : Place) (left : Bool) (r : Result Sorted TypeFault) → Answers plain_sorted c r → Answers q (k (is_predicate r)) b
-        → Answers (λ x. (plain_term x.0, q x.1)) (pair_of (one_part c (typing.right_side at left)) (k (typing.is_predicate c))) (joined (right_side at left r) b)
+        → Answers (λ x. (plain_term x.0, q x.1)) (pair_of (one_part c (typing.right_side at left)) (k (typing.is_predicate c))) (both_answered (right_side at left r) b)
     link_answers at left (Ok a) h hb =
         joined_answers plain_term q (one_part c (typing.right_side at left)) (k (typing.is_predicate c)) (right_side at left (Ok a)) b (right_answers at left c (Ok a) h) (rest_known (Ok a) h (λ m. cc) hb)
     link_answers at left (Err (Refused f)) h hb =

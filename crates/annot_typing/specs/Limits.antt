@@ -12,5 +12,5 @@ abbrev pub has_small_size : Sight → Place → PlainType → Checked (Unit {0})
 has_small_size s at t = both_parts (has_size s at t) (within_limits s at t) (λ u v. Good tt)
 
 -- `sizeof` of a type that is written
-abbrev pub size_of_written : Sight → Place → PlainType → Checked Sorted
-size_of_written s at u = limited s at (known_type s u) (one_part (typed_type s at u) (size_in s at))
+abbrev pub written_size : Sight → Place → PlainType → Checked Sorted
+written_size s at u = limited s at (known_type s u) (one_part (typed_type s at u) (size_in s at))

@@ -5,7 +5,7 @@ ghost use Rattle.c_model.specs.ExpressionTyping.{limited};
 ghost use Rattle.c_model.specs.PredicateTyping.{size_in};
 ghost use Rattle.c_expression_rules.specs.Answers.{Answers};
 ghost use Rattle.c_expression_rules.specs.Sights.{plain_sight};
-ghost use Rattle.annot_typing.specs.Limits.{has_small_size, size_of_written};
+ghost use Rattle.annot_typing.specs.Limits.{has_small_size, written_size};
 ghost use Rattle.annot_typing.specs.Sorts.{plain_sorted};
 
 use crate::sorted::{Sorted, term};
@@ -41,7 +41,7 @@ fn size_in(alloc: Global, sight: &Sight, place: Place, u: &CType) -> Result<Sort
 
 /// `sizeof` of a type; one that passes a limit is a fault besides the others.
 pub fn type_size(alloc: Global, sight: &Sight, place: Place, u: &CType) -> Result<Sorted, TypeFault>
-    ensures { Answers plain_sorted (size_of_written (plain_sight sight.now) place (plain_type u.now)) result }
+    ensures { Answers plain_sorted (written_size (plain_sight sight.now) place (plain_type u.now)) result }
 {
     let mut t = copy_type(alloc, u)?;
     match type_written(alloc, sight, place, &mut t) {

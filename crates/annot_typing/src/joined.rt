@@ -1,7 +1,7 @@
 //! Parts that are typed beside one another.
 
 ghost use Rattle.std.specs.Prelude.{◌≡◌};
-ghost use Rattle.annot_typing.specs.Joined.{joined};
+ghost use Rattle.annot_typing.specs.Joined.{both_answered};
 
 use c_expression_rules::fault::{TypeFault, both};
 
@@ -10,7 +10,7 @@ pub fn joined<A: Drop, B: Drop>(
     a: Result<A, TypeFault>,
     b: Result<B, TypeFault>,
 ) -> Result<(A, B), TypeFault>
-    ensures { result ≡ joined a b }
+    ensures { result ≡ both_answered a b }
 {
     match a {
         Ok(x) => match b {

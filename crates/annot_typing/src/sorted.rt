@@ -3,7 +3,7 @@
 ghost use Rattle.std.specs.Prelude.{None};
 ghost use Rattle.c_syntax.specs.Logic.{plain_pred_kind, plain_term_kind};
 ghost use Rattle.c_model.specs.Checked.{Good};
-ghost use Rattle.c_model.specs.PredicateTyping.{APredicate, ATerm, no_range};
+ghost use Rattle.c_model.specs.PredicateTyping.{APredicate, ATerm, range_to_infer};
 ghost use Rattle.c_expression_rules.specs.Answers.{Answers};
 ghost use Rattle.annot_typing.specs.Sorts.{plain_sorted};
 
@@ -24,7 +24,7 @@ pub const NO_RANGE: Range = Range { lo: 0, hi: 0 };
 
 /// A term that reads no place.
 pub fn term(alloc: Global, place: Place, kind: TermKind) -> Result<Sorted, TypeFault>
-    ensures { Answers plain_sorted (Good (ATerm (plain_term_kind place kind None no_range))) result }
+    ensures { Answers plain_sorted (Good (ATerm (plain_term_kind place kind None range_to_infer))) result }
 {
     let kind = Box::new(alloc, kind)?;
     Ok(Sorted::Term(Term {

@@ -13,7 +13,7 @@ use Rattle.c_model.specs.ExpressionTyping.{Sight, no_type, typed}
 use Rattle.c_model.specs.DeclarationTyping.{Slots, Each, Members, member_types, next_slot, place_of_initialiser, too_many, typed_initialiser, typed_items}
 use Rattle.c_expression_rules.specs.declared.fault.TypeFault.{TypeFault}
 use Rattle.c_expression_rules.specs.declared.fault.TypeFault.TheVariants.{Refused, Memory}
-use Rattle.c_expression_rules.specs.Answers.{Answers, both, first_of}
+use Rattle.c_expression_rules.specs.Answers.{Answers, both, lesser_of}
 use Rattle.c_expression_rules.proofs.Least.{both_refused}
 use Rattle.c_declaration_rules.specs.Initialisers.{slot, type_at}
 
@@ -192,7 +192,7 @@ module _ (s : Sight) (ok : Expression → Expression → Bool)
             ∙ ap (λ c. both_parts (Good (plain_inits ys)) c (λ is i. Good (snoc is i))) hr ∙ ap Good (sym (plain_snoc ys y))
         by (Ok v) (Err g) hd hr = refused (Ok v) (Err g) g hd hr refl
         by (Err f) (Ok w) hd hr = refused (Err f) (Ok w) f hd hr refl
-        by (Err f) (Err g) hd hr = refused (Err f) (Err g) (first_of f g) hd hr refl
+        by (Err f) (Err g) hd hr = refused (Err f) (Err g) (lesser_of f g) hd hr refl
 
     -- an item without an object
     pub items_refused : (xs : List Init) (x : Init) (rest all : List Init) (ys : Initialisers) (new : Initialisers) (i : Initialiser) (sl tl : Slots) (d r b : Result (Unit {0}) TypeFault) → all ≡ xs ++ x ∷ rest
@@ -212,4 +212,4 @@ module _ (s : Sight) (ok : Expression → Expression → Bool)
         by : (d : Result (Unit {0}) TypeFault) → Answers (λ (v : Unit {0}). ys) (items sl xs) d
             → Answers (λ (v : Unit {0}). new) (both_parts (items sl xs) (over x) (λ is i. Good (snoc is i))) (both d (Err g))
         by (Ok v) hd = refused (Ok v) g hd refl
-        by (Err f) hd = refused (Err f) (first_of f g) hd refl
+        by (Err f) hd = refused (Err f) (lesser_of f g) hd refl

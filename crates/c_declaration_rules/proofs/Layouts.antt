@@ -6,7 +6,7 @@ use Rattle.c_syntax.specs.declared.program.Member.{Member}
 use Rattle.c_syntax.specs.Programs.{StructMember, StructType, plain_member}
 use Rattle.c_syntax.specs.Layouts.{align_of, aligned, size_of}
 use Rattle.c_model.specs.DeclarationTyping.{end_of, greater, laid_out, placed_from, widest}
-use Rattle.c_declaration_rules.specs.Layouts.{Grows}
+use Rattle.c_declaration_rules.specs.Layouts.{IsLaidBehind}
 
 -- ---- the greater of two
 
@@ -130,7 +130,7 @@ module _ (structs : List StructType)
     start_is (m ∷ ms) = refl
 
     -- a struct is laid out with a member behind its others
-    pub grown_is : (s : StructType) (m : StructMember) (offset align size : ℕ) → Grows structs s.members m.ctype offset align size
+    pub grown_is : (s : StructType) (m : StructMember) (offset align size : ℕ) → IsLaidBehind structs s.members m.ctype offset align size
         → laid_out structs (record s { members = s.members ++ m ∷ [] }) ≡ record s { members = s.members ++ record m { offset = offset } ∷ []; align = align; size = size }
     grown_is s m offset align size g =
         let placed : placed_from structs 0 (s.members ++ m ∷ []) ≡ s.members ++ record m { offset = offset } ∷ [] =

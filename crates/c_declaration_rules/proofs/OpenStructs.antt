@@ -12,7 +12,7 @@ use Rattle.c_model.specs.DeclarationTyping.{greater, placed_from, widest}
 use Rattle.c_model.proofs.Blocks.{slice_get-slice_set_other, slice_get-slice_set_same}
 use Rattle.c_declaration_rules.specs.declared.layout.Grown.{Grown}
 use Rattle.c_declaration_rules.specs.declared.open_struct.OpenStructs.{OpenStructs}
-use Rattle.c_declaration_rules.specs.Layouts.{Grows}
+use Rattle.c_declaration_rules.specs.Layouts.{IsLaidBehind}
 use Rattle.c_declaration_rules.specs.Members.{ended, with_last_member}
 use Rattle.c_declaration_rules.specs.OpenStructs.{AreOpen, AreSized, HasNames, IsLaid, IsOpen, IsOpenAt}
 use Rattle.c_declaration_rules.proofs.Layouts.{end_from, placed_behind, start_is, widest_more}
@@ -89,7 +89,7 @@ sized_more structs [] m h e = (e, tt)
 sized_more structs (x ∷ xs) m h e = (h.0, sized_more structs xs m h.1 e)
 
 laid_more : (structs : List StructType) (k : ℕ) (struct : StructType) (m : StructMember) (g : Grown) → slice_get structs k ≡ Some struct → IsLaid structs struct → sized structs m.ctype ≡ HasSize
-    → Grows structs struct.members m.ctype g.offset g.align g.size → IsLaid (slice_set structs k (ended false (with_last_member struct m g))) (ended false (with_last_member struct m g))
+    → IsLaidBehind structs struct.members m.ctype g.offset g.align g.size → IsLaid (slice_set structs k (ended false (with_last_member struct m g))) (ended false (with_last_member struct m g))
 laid_more structs k struct m g at laid has grows =
     let z = ended false (with_last_member struct m g) in
     let last = record m { offset = g.offset } in
@@ -133,7 +133,7 @@ module _ {S : Type 0} (names all : IndexSet ℕ S) (name : ℕ) (more : (q : ℕ
 -- ---- what is kept goes with its struct
 
 pub open_more : {S : Type 0} (structs : List StructType) (k : ℕ) (struct : StructType) (m : StructMember) (g : Grown) (names all : IndexSet ℕ S) (name : ℕ) → slice_get structs k ≡ Some struct → IsLaid structs struct
-    → HasNames names struct.members → sized structs m.ctype ≡ HasSize → Grows structs struct.members m.ctype g.offset g.align g.size
+    → HasNames names struct.members → sized structs m.ctype ≡ HasSize → IsLaidBehind structs struct.members m.ctype g.offset g.align g.size
     → ((q : ℕ) → contains nat_eq all q ≡ cond (nat_eq name q) true (contains nat_eq names q)) → name ≡ m.name → IsOpenAt (slice_set structs k (ended false (with_last_member struct m g))) k all
 open_more structs k struct m g names all name at laid has size grows more e other there =
     let z = ended false (with_last_member struct m g) in

@@ -9,9 +9,9 @@ use Rattle.c_model.specs.ExpressionTyping.{Sight, typed_length}
 use Rattle.c_model.specs.DeclarationTyping.{typed_outer, typed_parameter_type}
 use Rattle.c_expression_rules.specs.declared.fault.TypeFault.{TypeFault}
 use Rattle.c_expression_rules.specs.declared.fault.TypeFault.TheVariants.{Refused, Memory}
-use Rattle.c_expression_rules.specs.Answers.{Answers, both, first_of}
+use Rattle.c_expression_rules.specs.Answers.{Answers, both, lesser_of}
 use Rattle.c_expression_rules.proofs.Least.{both_made, both_refused, one_refused}
-use Rattle.c_declaration_rules.specs.Objects.{behind, is_left, sized_object, typed_pointed}
+use Rattle.c_declaration_rules.specs.Objects.{both_after, is_left, sized_object, typed_pointed}
 
 -- a refusal says nothing of the tree
 pub other_tree : {A T S : Type 0} (p : T → A) (q : S → A) (n : Checked A) (g : TypeFault) → Answers p n (Err g) → Answers q n (Err g)
@@ -30,14 +30,14 @@ module _ {A B T : Type 0} (d : A) (f : A → B) (q : T → A) (m : Checked (Unit
     refused a b h ha hb j = both_refused (λ u t. Good (f t)) (λ (u : Unit {0}). u) (λ u. d) made m n a b h ha hb j
 
     -- a part with a fault behind the other, which has one or hasn't
-    pub behind_made : (a : Result (Unit {0}) TypeFault) (b r : Result T TypeFault) → Answers (λ u. u) m a → Answers q n b → r ≡ behind a b → Answers made whole r
+    pub behind_made : (a : Result (Unit {0}) TypeFault) (b r : Result T TypeFault) → Answers (λ u. u) m a → Answers q n b → r ≡ both_after a b → Answers made whole r
     behind_made a b r ha hb e = subst (Answers made whole) (sym e) (by a b ha hb)
       where
-        by : (a : Result (Unit {0}) TypeFault) (b : Result T TypeFault) → Answers (λ u. u) m a → Answers q n b → Answers made whole (behind a b)
+        by : (a : Result (Unit {0}) TypeFault) (b : Result T TypeFault) → Answers (λ u. u) m a → Answers q n b → Answers made whole (both_after a b)
         by (Ok u) (Ok x) ha hb = ap (λ c. both_parts c n (λ u t. Good (f t))) ha ∙ ap (λ c. both_parts (Good u) c (λ u t. Good (f t))) hb
         by (Ok u) (Err g) ha hb = refused (Ok u) (Err g) g ha (other_tree q (λ (u : Unit {0}). d) n g hb) refl
         by (Err g) (Ok x) ha hb = both_refused (λ u t. Good (f t)) (λ (u : Unit {0}). u) (λ u. q x) made m n (Err g) (Ok tt) g ha hb refl
-        by (Err f) (Err g) ha hb = refused (Err f) (Err g) (first_of f g) ha (other_tree q (λ (u : Unit {0}). d) n g hb) refl
+        by (Err f) (Err g) ha hb = refused (Err f) (Err g) (lesser_of f g) ha (other_tree q (λ (u : Unit {0}). d) n g hb) refl
 
 -- what is made of one part
 pub one_made : {A B T : Type 0} (f : A → B) (p : T → A) (m : Checked A) (r : Result T TypeFault) → Answers p m r → Answers (λ x. f (p x)) (one_part m (λ a. Good (f a))) r

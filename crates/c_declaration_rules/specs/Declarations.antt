@@ -24,8 +24,8 @@ declaration_typed s declared global d = one_part (declarator_typed s declared d)
 abbrev pub limited_type : Sight → Place → PlainType → Checked PlainType
 limited_type s at t = limited s at (known_type s t) (typed_type s at t)
 
-abbrev pub named_type : Sight → Declaration → Checked Declaration
-named_type s d =
+abbrev pub limited_declaration : Sight → Declaration → Checked Declaration
+limited_declaration s d =
     both_parts (own_name s (is_declared_in_file s d.name) d.place d.name) (limited_type s d.place d.ctype) (λ n t. Good (record d { ctype = t }))
 
 abbrev pub scalar_parts : Sight → Bool → Place → PlainType → Checked PlainType

@@ -7,7 +7,7 @@ use Rattle.c_syntax.specs.Layouts.{align_of, aligned, size_of}
 use Rattle.c_model.specs.DeclarationTyping.{end_of, greater, placed_from, widest}
 
 -- the offset of a member of this type behind the others, and the alignment and the size of the struct with it
-pub record Grows (structs : List StructType) (ms : List StructMember) (t : PlainType) (offset align size : ℕ) : Type 0 where
+pub record IsLaidBehind (structs : List StructType) (ms : List StructMember) (t : PlainType) (offset align size : ℕ) : Type 0 where
   pub placed : placed_from structs 0 ms ≡ ms
   pub offset_is : offset ≡ aligned (align_of structs t) (end_of structs ms)
   pub align_is : align ≡ greater (widest structs ms) (align_of structs t)

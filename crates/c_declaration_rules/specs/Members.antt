@@ -10,7 +10,7 @@ use Rattle.c_model.specs.Checked.{Checked, Good, both_parts, one_part, where_so}
 use Rattle.c_model.specs.ExpressionTyping.{Sight, known_type, levels_of, limited, most_bytes, no_name, number_at, too_large, typed_type}
 use Rattle.c_model.specs.DeclarationTyping.{greater, object_type, typed_member, typed_member_type, with_struct}
 use Rattle.c_declaration_rules.specs.declared.layout.Grown.{Grown}
-use Rattle.c_declaration_rules.specs.Layouts.{Grows}
+use Rattle.c_declaration_rules.specs.Layouts.{IsLaidBehind}
 
 -- a member of the struct of an index, where the file has so many: the arm of a member in UnitTyping
 abbrev pub member_typed : Sight → ℕ → StructMember → Bool → Checked Sight
@@ -33,7 +33,7 @@ abbrev pub GrownTo : Sight → ℕ → StructMember → Grown → Bool → Sight
 GrownTo s k m g ends t = (struct : StructType) → slice_get s.structs k ≡ Some struct → t ≡ with_grown s k struct m g ends
 
 abbrev pub GrowsTo : Sight → StructType → PlainType → Grown → Type 0
-GrowsTo s struct t g = Grows s.structs struct.members t g.offset g.align g.size
+GrowsTo s struct t g = IsLaidBehind s.structs struct.members t g.offset g.align g.size
 
 -- the type of a member as an object's within the limits
 abbrev pub object_member : Sight → Place → PlainType → Checked PlainType

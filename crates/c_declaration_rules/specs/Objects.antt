@@ -11,7 +11,7 @@ use Rattle.c_model.specs.Checked.{Checked, Good, one_part}
 use Rattle.c_model.specs.ExpressionTyping.{Sight, is_void, known_type, limited, literal_at, typed_type}
 use Rattle.c_model.specs.DeclarationTyping.{completed, elements_of_parameter, object_type, scalar_type, typed_outer}
 use Rattle.c_expression_rules.specs.declared.fault.TypeFault.{TypeFault}
-use Rattle.c_expression_rules.specs.Answers.{first_of}
+use Rattle.c_expression_rules.specs.Answers.{lesser_of}
 
 abbrev pub plain_maybe_init : Option (Place × Init) → Option (Place × Initialiser)
 plain_maybe_init i = option_map (λ i. (i.0, plain_init i.1)) i
@@ -33,10 +33,10 @@ abbrev pub object_typed : Sight → Place → PlainType → Option (Place × Ini
 object_typed s at t i = limited s at (completed s (known_type s t) i) (sized_object s at t i)
 
 -- an answer, and before it that of another part, which tells no more than its fault, as one
-abbrev pub behind : {T : Type 0} → Result (Unit {0}) TypeFault → Result T TypeFault → Result T TypeFault
-behind (Ok u) b = b
-behind (Err f) (Ok x) = Err f
-behind (Err f) (Err g) = Err (first_of f g)
+abbrev pub both_after : {T : Type 0} → Result (Unit {0}) TypeFault → Result T TypeFault → Result T TypeFault
+both_after (Ok u) b = b
+both_after (Err f) (Ok x) = Err f
+both_after (Err f) (Err g) = Err (lesser_of f g)
 
 -- the elements of a parameter that is written as an array are pointed to
 abbrev pub typed_pointed : Sight → Place → PlainType → Checked PlainType
@@ -48,12 +48,12 @@ bytes_read s (Node at t (Text offset)) = option_map (λ (l : ℕ × List ℕ). l
 bytes_read s e = None
 
 -- what a function gives: nothing or a scalar
-abbrev pub result_type : Sight → Bool → Place → PlainType → Checked PlainType
-result_type s defined at t = cond (is_void t) (Good t) (scalar_type s defined at t)
+abbrev pub function_result : Sight → Bool → Place → PlainType → Checked PlainType
+function_result s defined at t = cond (is_void t) (Good t) (scalar_type s defined at t)
 
 -- the same of a type that is written
 abbrev pub written_result : Sight → Bool → Place → PlainType → Checked PlainType
-written_result s defined at t = one_part (typed_type s at t) (result_type s defined at)
+written_result s defined at t = one_part (typed_type s at t) (function_result s defined at)
 
 -- the same of a list that is one expression
 abbrev pub bytes_alone : Sight → Initialisers → Option ℕ

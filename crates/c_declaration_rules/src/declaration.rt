@@ -7,7 +7,7 @@ ghost use Rattle.c_model.specs.ExpressionTyping.{with_object};
 ghost use Rattle.c_model.specs.DeclarationTyping.{known_parameter_type, parameter_name, typed_global, typed_parameter, typed_typedef, typed_variable};
 ghost use Rattle.c_expression_rules.specs.Answers.{Answers, IfTold};
 ghost use Rattle.c_expression_rules.specs.Sights.{plain_sight};
-ghost use Rattle.c_declaration_rules.specs.Declarations.{declaration_typed, declarator_typed, initialised, limited_type, named_type};
+ghost use Rattle.c_declaration_rules.specs.Declarations.{declaration_typed, declarator_typed, initialised, limited_type, limited_declaration};
 ghost use Rattle.c_declaration_rules.specs.Declarations.{scalar_parameter, scalar_parts};
 
 use crate::initialiser::type_maybe_initialiser;
@@ -91,7 +91,7 @@ fn type_limited(alloc: Global, sight: &Sight, place: Place, t: &mut CType) -> Re
 
 /// Types the declaration of a name of a type, whose size need not be known (C99 6.7.7).
 fn type_named(alloc: Global, sight: &Sight, d: &mut Decl) -> Result<(), TypeFault>
-    ensures { Answers (λ _. plain_decl d.new) (named_type (plain_sight sight.now) (plain_decl d.old)) result }
+    ensures { Answers (λ _. plain_decl d.new) (limited_declaration (plain_sight sight.now) (plain_decl d.old)) result }
 {
     let name = own_name(sight, is_declared_in_file(sight, d.name), d.place, d.name);
     let ctype = type_limited(alloc, sight, d.place, &mut d.ctype);

@@ -6,7 +6,7 @@ ghost use Rattle.c_syntax.specs.Programs.{plain_layout, plain_member};
 ghost use Rattle.c_syntax.specs.Layouts.{align_of, align_of_struct, aligned, size_of};
 ghost use Rattle.c_model.specs.ExpressionTyping.{HasSize, levels_behind_pointer, levels_of, sized};
 ghost use Rattle.c_model.specs.DeclarationTyping.{end_of, greater, placed_from, widest};
-ghost use Rattle.c_declaration_rules.specs.Layouts.{Grows};
+ghost use Rattle.c_declaration_rules.specs.Layouts.{IsLaidBehind};
 ghost use Rattle.c_declaration_rules.specs.OpenStructs.{AreSized, IsLaid};
 
 use c_expression_rules::limits::{KnownSize, number, sized, small_size};
@@ -183,7 +183,7 @@ pub fn levels_of(levels: &[u32], t: &CType) -> Result<u32, AllocError>
 /// The layout of a struct that isn't whole with a member of this type behind its others. Its size may pass the limit.
 pub fn grow(structs: &[Layout], layout: &Layout, t: &CType) -> Result<Grown, AllocError>
     requires { IsLaid (map plain_layout structs.now) (plain_layout layout.now) }
-    ensures { IfOk result (λ g. Grows (map plain_layout structs.now) (plain_layout layout.now).members (plain_type t.now) g.offset g.align g.size) }
+    ensures { IfOk result (λ g. IsLaidBehind (map plain_layout structs.now) (plain_layout layout.now).members (plain_type t.now) g.offset g.align g.size) }
 {
     let end = members_end(structs, &layout.members)?;
     let size = size_of(structs, t)?;

@@ -4,7 +4,7 @@ ghost use Rattle.std.specs.Prelude.{◌≡◌, IfErr};
 ghost use Rattle.c_model.specs.DeclarationTyping.{is_declared_in_file, own_name};
 ghost use Rattle.c_expression_rules.specs.Answers.{Answers, IsRefusal};
 ghost use Rattle.c_expression_rules.specs.Sights.{plain_sight};
-ghost use Rattle.c_declaration_rules.specs.Objects.{behind};
+ghost use Rattle.c_declaration_rules.specs.Objects.{both_after};
 
 use c_expression_rules::fault::{TypeFault, both, no_name};
 use c_expression_rules::library::is_library_name;
@@ -34,7 +34,7 @@ pub fn own_name(sight: &Sight, declared: bool, place: Place, name: u32) -> Resul
 
 /// An answer, and before it that of another part, which tells no more than its fault, as one.
 pub fn behind<T: Drop>(a: Result<(), TypeFault>, b: Result<T, TypeFault>) -> Result<T, TypeFault>
-    ensures { result ≡ behind a b }
+    ensures { result ≡ both_after a b }
 {
     match b {
         Ok(x) => {

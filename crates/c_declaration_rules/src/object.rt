@@ -11,7 +11,7 @@ ghost use Rattle.c_model.specs.DeclarationTyping.{scalar_type, text_read, typed_
 ghost use Rattle.c_expression_rules.specs.Answers.{Answers, IfTold, IsRefusal};
 ghost use Rattle.c_expression_rules.specs.Sights.{plain_sight};
 ghost use Rattle.c_declaration_rules.specs.Objects.{bytes_alone, bytes_read, is_left, object_typed, plain_maybe_init};
-ghost use Rattle.c_declaration_rules.specs.Objects.{result_type, sized_object, typed_pointed, written_result};
+ghost use Rattle.c_declaration_rules.specs.Objects.{function_result, sized_object, typed_pointed, written_result};
 
 use c_expression_rules::conversion::{is_character, is_scalar, is_struct, is_void};
 use c_expression_rules::expression::{type_elements, type_length, type_written};
@@ -275,7 +275,7 @@ pub fn check_scalar(sight: &Sight, defined: bool, place: Place, t: &CType) -> Re
 
 /// What a function gives: nothing or a scalar.
 fn check_result(sight: &Sight, defined: bool, place: Place, t: &CType) -> Result<(), TypeFault>
-    ensures { Answers (λ _. plain_type t.now) (result_type (plain_sight sight.now) defined place (plain_type t.now)) result }
+    ensures { Answers (λ _. plain_type t.now) (function_result (plain_sight sight.now) defined place (plain_type t.now)) result }
 {
     if is_void(t) {
         Ok(())

@@ -2,7 +2,7 @@
 use Rattle.std.proofs.Common.{◌≡◌, ℕ, zero, suc, ◌+◌, ◌-◌, ◌<◌, ◌≤◌, false, List, [], ◌∷◌, length, drop, Result, Ok, Err, refl, sym, ap, subst, ◌∙◌, arith}
 use Rattle.std.proofs.lemmas.List.{length-map}
 use Rattle.std.proofs.Math.Seq.{drop-nil}
-use Rattle.grammar.specs.Syntax.{Fault, At, Over}
+use Rattle.grammar.specs.Syntax.{ParseFault, At, Over}
 use Rattle.grammar.specs.Exact.{Found, IsExact, AtMostOne, ReadingsBegin, FrontsBegin}
 use Rattle.grammar.proofs.Bounds.{rest_below}
 use Rattle.grammar.proofs.Theorem.{found, refused_over, rest_is, rest_within_text, at_most_one, readings_begin, fronts_begin}
@@ -65,11 +65,11 @@ module _ (ts : PlainTokens) (at : ℕ) (start : at ≤ length ts.list) where
       let long = drop_long at ts.list in
       record { forth = omega (arith, less, long, l, start); within = omega (arith, l); parsed = q; found = found_at e (drop k ts.list) q }
 
-  not_read : (f : Fault) → expression_at ts at ≡ Err f → NotRead (full_expression (vocabulary ts)) (drop at ts.list) f
+  not_read : (f : ParseFault) → expression_at ts at ≡ Err f → NotRead (full_expression (vocabulary ts)) (drop at ts.list) f
   not_read (At n) h = full_unread (vocabulary ts) (drop at ts.list) n h
   not_read (Over i n) h = refused_over (full_expression (vocabulary ts)) false first_expression (λ _. more_expression) (full_exact (vocabulary ts)) (drop at ts.list) i n h
 
-  refused_with : (f : Fault) → expression_at ts at ≡ Err f → (e : FrontFault) → RefusesWith (syntax_refusal ts f) e → RefusesAt ts at e
+  refused_with : (f : ParseFault) → expression_at ts at ≡ Err f → (e : FrontFault) → RefusesWith (syntax_refusal ts f) e → RefusesAt ts at e
   refused_with f h front.Memory g = tt
   refused_with f h (front.Refused r) g = record { fault = f; parsed = h; refused = not_read f h; is = g }
 
@@ -80,7 +80,7 @@ module _ (ts : PlainTokens) (at : ℕ) (start : at ≤ length ts.list) where
 
 -- ---- the same of the slices that were read
 
-abbrev Parsed : Vocabulary → List PlainToken → Result (Expression × List PlainToken) Fault
+abbrev Parsed : Vocabulary → List PlainToken → Result (Expression × List PlainToken) ParseFault
 Parsed ws list = (full_expression ws).parse list
 
 module _ (ts : PlainTokens) (at : ℕ) (ws : Vocabulary) (list rest : List Token) (same_words : ws ≡ vocabulary ts) (same_list : plain_list list ≡ ts.list) (same_rest : rest ≡ drop at list) (start : at ≤ length list) where
@@ -97,4 +97,4 @@ module _ (ts : PlainTokens) (at : ℕ) (ws : Vocabulary) (list rest : List Token
       read_at ts at starts e (plain_list behind) k (sym same ∙ h) (omega (arith, l, length-map behind plain_token, length-map list plain_token, ap length same_list))
 
   pub expression_refused : (r : ReadFault) (e : FrontFault) → Fails r (Parsed ws (plain_list rest)) → RefusesFault ts r e → RefusesAt ts at e
-  expression_refused r e h g = refused_at ts at starts r e (subst (λ (x : Result (Expression × List PlainToken) Fault). Fails r x) same h) g
+  expression_refused r e h g = refused_at ts at starts r e (subst (λ (x : Result (Expression × List PlainToken) ParseFault). Fails r x) same h) g

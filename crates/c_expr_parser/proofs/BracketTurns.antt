@@ -1,6 +1,6 @@
 -- Brackets one by one.
 use Rattle.std.proofs.Common.{◌≡◌, ℕ, true, false, List, [], ◌∷◌, ◌++◌, Ok, Err, refl}
-use Rattle.grammar.specs.Syntax.{Syntax, Fault, sees}
+use Rattle.grammar.specs.Syntax.{Syntax, ParseFault, sees}
 use Rattle.grammar.proofs.Productions.{turn, turn_fails, turn_ends}
 use Rattle.c_syntax.specs.Ctypes.{PlainLength}
 use Rattle.c_syntax.specs.Tokens.{PlainToken}
@@ -23,7 +23,7 @@ module _ (ws : Vocabulary) where
     unfolding next_bracket
     next_ok ns n ts rest e = rw e refl
 
-    next_err : (ns : List PlainLength) (ts : List PlainToken) (d : Fault) → (bracket ws L).parse ts ≡ Err d → (next_bracket ws L ns).parse ts ≡ Err d
+    next_err : (ns : List PlainLength) (ts : List PlainToken) (d : ParseFault) → (bracket ws L).parse ts ≡ Err d → (next_bracket ws L ns).parse ts ≡ Err d
     unfolding next_bracket
     next_err ns ts d e = rw e refl
 

@@ -24,7 +24,7 @@ use Rattle.c_model.specs.Vocabulary.{Vocabulary, word_at, sign_with, size_with, 
 use Rattle.c_model.specs.ExpressionGrammar.{name_kind, number_kind, letter_kind, type_name_kind, keyword_kind, mark_kind, word_kind, token_kind, kind, number_of, letter_of, kinds_of, first_type, first_any_name}
 use Rattle.c_model.specs.ExpressionGrammar.{signs_behind, sizes_behind}
 use Rattle.c_model.specs.Terminals.{placed, entry, mark_entry}
-use Rattle.c_model.specs.ExpressionGrammar.{words_behind, keyword_of, next_words, type_named, typedef_name_of, TypeStart, type_start_of, type_start, fixed, name_of, name, any_name_of, any_name}
+use Rattle.c_model.specs.ExpressionGrammar.{words_behind, keyword_of, next_words, type_named_by, typedef_name_of, TypeStart, type_start_of, type_start, fixed, name_of, name, any_name_of, any_name}
 
 -- a production is read exactly, with these sets: where it can be empty, what begins it, and what a reading can go on with
 abbrev pub IsRead : {A : Type 0} → Vocabulary → Syntax PlainToken A → Bool → List ℕ → List ℕ → Type 0
@@ -171,7 +171,7 @@ module _ (ws : Vocabulary) where
   pub next_words_good : {n : ℕ} (x : IntegerWords) → AreRead ws n (one (placed (next_words ws x))) (one (placed (next_words ws x))) false (words_behind x) []
   next_words_good x = placed_good (next_words ws x) (words_behind x) (integer_among x)
 
-  typedef_word : (n : ℕ) (w : Word) (t : PlainType) → type_named n w ≡ Some t → among (word_kind w) (type_name_kind ∷ []) ≡ true
+  typedef_word : (n : ℕ) (w : Word) (t : PlainType) → type_named_by n w ≡ Some t → among (word_kind w) (type_name_kind ∷ []) ≡ true
   typedef_word n (word.TypeName k) t e = refl
   typedef_word n _ t e = absurd cc
 

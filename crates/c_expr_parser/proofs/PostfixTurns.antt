@@ -1,6 +1,6 @@
 -- Postfix operators one by one.
 use Rattle.std.proofs.Common.{◌≡◌, true, false, List, [], Ok, Err, refl}
-use Rattle.grammar.specs.Syntax.{Fault, sees}
+use Rattle.grammar.specs.Syntax.{ParseFault, sees}
 use Rattle.grammar.proofs.Productions.{turn, turn_fails, turn_ends}
 use Rattle.c_syntax.specs.declared.place.Place.{Place}
 use Rattle.c_syntax.specs.declared.fault.ReadFault.{ReadFault}
@@ -28,11 +28,11 @@ module _ (ws : Vocabulary) where
   unfolding postfix_rest
   postfix_turn at x y ts rest s e = rw (turns x y ts rest s e) refl
 
-  fails : (at : Place) (x : Expression) (ts : List PlainToken) (d : Fault) → (postfixes ws (expression ws) x).parse ts ≡ Err d → (postfix_rest ws (expression ws) at x).parse ts ≡ Err d
+  fails : (at : Place) (x : Expression) (ts : List PlainToken) (d : ParseFault) → (postfixes ws (expression ws) x).parse ts ≡ Err d → (postfix_rest ws (expression ws) at x).parse ts ≡ Err d
   unfolding postfix_rest
   fails at x ts d e = rw e refl
 
-  once_fails : (x : Expression) (ts : List PlainToken) (d : Fault) → sees (kind ws) first_postfix ts ≡ true → (postfix_once ws (expression ws) x).parse ts ≡ Err d → (postfixes ws (expression ws) x).parse ts ≡ Err d
+  once_fails : (x : Expression) (ts : List PlainToken) (d : ParseFault) → sees (kind ws) first_postfix ts ≡ true → (postfix_once ws (expression ws) x).parse ts ≡ Err d → (postfixes ws (expression ws) x).parse ts ≡ Err d
   unfolding postfixes
   once_fails x ts d s e = turn_fails first_postfix (postfix_once ws (expression ws)) (λ z. (once_good z).here) refl x ts d s e
 

@@ -1,6 +1,6 @@
 -- Where a token can't follow, the tokens before it are no expression.
 use Rattle.std.proofs.Common.{◌≡◌, ℕ, zero, suc, ◌<◌, Bool, true, false, cond, eqb, List, [], ◌∷◌, ◌++◌, length, Some, None, Result, Ok, Err, refl, sym, ap, ◌∙◌, arith, inl, inr}
-use Rattle.grammar.specs.Syntax.{Syntax, Fault, At, one_at, among, sees, many, ◌then◌, ◌>>=◌}
+use Rattle.grammar.specs.Syntax.{Syntax, ParseFault, At, one_at, among, sees, many, ◌then◌, ◌>>=◌}
 use Rattle.grammar.specs.Exact.{Unread}
 use Rattle.grammar.proofs.Sets.{within, apart, within_self, within_left, within_both, within_among, cond_or}
 use Rattle.grammar.proofs.Parts.{widen}
@@ -101,7 +101,7 @@ module _ (ws : Vocabulary) where
           let f : (fixed ws (keyword_kind keyword.Const)).parse (t ∷ ts) ≡ Ok (t.place, ts) = rw (p, one_at) refl in
           let s : sees (kind ws) (keyword_kind keyword.Const ∷ []) (t ∷ ts) ≡ true = rw is refl in
           let c = consts_turn ws (tt {0}) (t ∷ ts) ts t.place s f in
-          let e : (type_words ws).parse ts ≡ Err (At (suc (length ts))) = sym (ap (λ (r : Result (Unit {0} × List PlainToken) Fault). r >>= λ x. (base ws then λ t. consts ws t).parse x.1) c) ∙ q in
+          let e : (type_words ws).parse ts ≡ Err (At (suc (length ts))) = sym (ap (λ (r : Result (Unit {0} × List PlainToken) ParseFault). r >>= λ x. (base ws then λ t. consts ws t).parse x.1) c) ∙ q in
           let h = at_within (type_words ws) false first_type (λ _. more_type) (types_solid {n = 0}).exact ts (suc (length ts)) e in
           omega (arith, h)
 
@@ -109,7 +109,7 @@ module _ (ws : Vocabulary) where
       other is =
           let s : sees (kind ws) (keyword_kind keyword.Const ∷ []) (t ∷ ts) ≡ false = rw is refl in
           let c = consts_ends ws (tt {0}) (t ∷ ts) s in
-          let e : (base ws then λ t. consts ws t).parse (t ∷ ts) ≡ Err (At (suc (length ts))) = sym (ap (λ (r : Result (Unit {0} × List PlainToken) Fault). r >>= λ x. (base ws then λ t. consts ws t).parse x.1) c) ∙ q in
+          let e : (base ws then λ t. consts ws t).parse (t ∷ ts) ≡ Err (At (suc (length ts))) = sym (ap (λ (r : Result (Unit {0} × List PlainToken) ParseFault). r >>= λ x. (base ws then λ t. consts ws t).parse x.1) c) ∙ q in
           elim (cond_or (eqb (kind ws t) (keyword_kind keyword.Const)) (among (kind ws t) first_base) a) [
             | inl y ↦ absurd (let z : true ≡ false = sym y ∙ is in cc)
             | inr y ↦ (behind_consts {n = n}).opens refl t ts lt y e

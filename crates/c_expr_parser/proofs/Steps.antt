@@ -1,6 +1,6 @@
 -- What a production gives, step by step.
 use Rattle.std.proofs.Common.{◌≡◌, ℕ, ◌+◌, Bool, true, false, List, [], ◌∷◌, Ok, Err, refl, ◌∙◌}
-use Rattle.grammar.specs.Syntax.{Fault, sees, gives, ◌then◌}
+use Rattle.grammar.specs.Syntax.{ParseFault, sees, gives, ◌then◌}
 use Rattle.grammar.proofs.Productions.{seq, given, turn, turn_fails, turn_ends, turn_to}
 use Rattle.grammar.proofs.Bounds.{many_is}
 use Rattle.c_syntax.specs.declared.place.Place.{Place}
@@ -84,7 +84,7 @@ module _ (ws : Vocabulary) where
   unfolding more_stars
   stars_turn x c ts rest s e = turn star_kinds (next_star ws) (λ z. (star_exact z).here) refl x (record { count = x.count + 1; constant = c }) ts rest s (next_star_ok x c ts rest e)
 
-  next_star_err : (x : Stars) (ts : List PlainToken) (d : Fault) → (star ws x.constant).parse ts ≡ Err d → (next_star ws x).parse ts ≡ Err d
+  next_star_err : (x : Stars) (ts : List PlainToken) (d : ParseFault) → (star ws x.constant).parse ts ≡ Err d → (next_star ws x).parse ts ≡ Err d
   unfolding next_star
   next_star_err x ts d e = rw e refl
 

@@ -22,7 +22,7 @@ use Rattle.c_model.specs.declared.vocabulary.IntegerWords.{IntegerWords}
 use Rattle.c_model.specs.Vocabulary.{Vocabulary, word_at, sign_with, size_with, words_with}
 use Rattle.c_model.specs.ExpressionGrammar.{name_kind, number_kind, letter_kind, type_name_kind, keyword_kind, mark_kind, word_kind, token_kind, kind, number_of, letter_of, kinds_of, signs_behind, sizes_behind, first_any_name}
 use Rattle.c_model.specs.Terminals.{placed, entry, mark_entry}
-use Rattle.c_model.specs.ExpressionGrammar.{words_behind, first_integer_words, keyword_of, next_words, named_type, type_named, typedef_name_of, fixed, name_of, name, any_name_of, any_name}
+use Rattle.c_model.specs.ExpressionGrammar.{words_behind, first_integer_words, keyword_of, next_words, named_type, type_named_by, typedef_name_of, fixed, name_of, name, any_name_of, any_name}
 use Rattle.c_expr_parser.proofs.ExactTokens.{fixed_good, name_good, number_good, letter_good, marks_good, next_words_good, any_name_good, typedef_name_good}
 use Rattle.c_expr_parser.proofs.ExactTypes.{words_within}
 
@@ -291,7 +291,7 @@ module _ (ws : Vocabulary) where
   typedef_name_taken : (t : PlainTokenKind) → among (token_kind ws t) (type_name_kind ∷ []) ≡ true → (u : PlainType) × (typedef_name_of ws t ≡ Some u)
   typedef_name_taken (tokens.Word n) h = by_word (word_at ws n) (the_kind (word_kind (word_at ws n)) type_name_kind h)
     where
-      by_word : (w : Word) → eqb (word_kind w) type_name_kind ≡ true → (u : PlainType) × (type_named n w ≡ Some u)
+      by_word : (w : Word) → eqb (word_kind w) type_name_kind ≡ true → (u : PlainType) × (type_named_by n w ≡ Some u)
       by_word (word.TypeName c) e = (named_type n c, refl)
       by_word (word.Keyword k) e = absurd (let q = eqb-true (keyword_kind k) type_name_kind e in let s = keyword_large k in omega (arith, q, s))
       by_word _ e = absurd cc

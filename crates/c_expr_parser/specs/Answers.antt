@@ -1,7 +1,7 @@
 -- Ours, in words of the grammar of C99 6.5 that stands in c_model/specs/ExpressionGrammar.
 -- What the answers on the tokens of a text mean.
 use Rattle.std.specs.Prelude.{◌≡◌, ◌≤◌, ◌<◌, ℕ, List, length, drop, Result, Ok, Err}
-use Rattle.grammar.specs.Syntax.{Syntax, Fault, At, Over}
+use Rattle.grammar.specs.Syntax.{Syntax, ParseFault, At, Over}
 use Rattle.grammar.specs.Exact.{Found, Unread, RefusedOver}
 use Rattle.c_syntax.specs.Expressions.{Expression}
 use Rattle.c_syntax.specs.Tokens.{PlainToken, PlainTokens}
@@ -15,7 +15,7 @@ use Rattle.c_model.specs.ExpressionGrammar.{full_expression}
 -- ---- the expression at a place of the tokens
 
 -- the tokens from the place on, read as an expression that stands in no other
-abbrev pub expression_at : PlainTokens → ℕ → Result (Expression × List PlainToken) Fault
+abbrev pub expression_at : PlainTokens → ℕ → Result (Expression × List PlainToken) ParseFault
 expression_at ts at = (full_expression (vocabulary ts)).parse (drop at ts.list)
 
 -- The tokens between the places are read as the expression: they are the longest run from there on that begins one, and no
@@ -27,14 +27,14 @@ pub record IsReadAt (ts : PlainTokens) (at : ℕ) (e : Expression) (behind : ℕ
   pub found : Found (full_expression (vocabulary ts)) (drop at ts.list) e (drop behind ts.list)
 
 -- the refused token can't follow those before it, which are no reading, or it is the first that passes a limit
-abbrev pub NotRead : {A : Type 0} → Syntax PlainToken A → List PlainToken → Fault → Type 0
+abbrev pub NotRead : {A : Type 0} → Syntax PlainToken A → List PlainToken → ParseFault → Type 0
 NotRead G text (At n) = Unread G text n
 NotRead G text (Over i n) = RefusedOver G text i n
 
 -- No expression is read there: the tokens before the refused one begin an expression and are none, and with it they don't
 -- begin one (E4), or it is the first that passes the limit (E11).
 pub record IsRefusedAt (ts : PlainTokens) (at : ℕ) (r : PlainRefusal) : Type 0 where
-  pub fault : Fault
+  pub fault : ParseFault
   pub parsed : expression_at ts at ≡ Err fault
   pub refused : NotRead (full_expression (vocabulary ts)) (drop at ts.list) fault
   pub is : r ≡ syntax_refusal ts fault

@@ -4,7 +4,7 @@ ghost use Rattle.std.specs.Prelude.{◌≡◌, ◌≤◌, ◌<◌, length, IfOk,
 ghost use Rattle.c_syntax.specs.Ctypes.{plain_type, plain_length};
 ghost use Rattle.c_syntax.specs.Expressions.{plain_expr, plain_kind};
 ghost use Rattle.grammar.specs.Syntax.{gives, one, sees};
-ghost use Rattle.c_model.specs.ExpressionGrammar.{kind, kinds_of, operators_at, read_as, read_name, read_operand, size_of_operand, joined};
+ghost use Rattle.c_model.specs.ExpressionGrammar.{kind, kinds_of, operators_at, read_as, read_name, read_operand, size_of_operand, connective_kind};
 ghost use Rattle.c_model.specs.Terminals.{placed, mark_entry};
 ghost use Rattle.c_model.specs.ExpressionGrammar.{written_length, bracket, brackets, type_name, indexed, dotted, arrowed, postfix_once, postfix_rest, literal};
 ghost use Rattle.c_model.specs.ExpressionGrammar.{cast_rest, sized_type, paren_rest, behind_paren, prefixed, sized, operand_but_name, operand_of};
@@ -528,7 +528,7 @@ fn next_is_operator(words: &[Word], level: u32, tokens: &[Token]) -> bool
 }
 
 fn joined(connective: Connective, left: Expr, right: Expr) -> ExprKind
-    ensures { plain_kind result ≡ joined connective (plain_expr left) (plain_expr right) }
+    ensures { plain_kind result ≡ connective_kind connective (plain_expr left) (plain_expr right) }
 {
     match connective {
         Connective::Operator(op) => ExprKind::Binary(op, left, right),

@@ -6,11 +6,11 @@ use Rattle.c_syntax.specs.declared.expression.Expr.{Expr}
 use Rattle.c_syntax.specs.Ctypes.{plain_type}
 use Rattle.c_syntax.specs.Expressions.{Node, Call, plain_exprs}
 use Rattle.c_model.specs.Checked.{Good, where_so, refusing}
-use Rattle.c_model.specs.ExpressionTyping.{call, count_of, no_type, use_as}
+use Rattle.c_model.specs.ExpressionTyping.{call, argument_count, no_type, use_as}
 use Rattle.c_expression_rules.specs.declared.signature.Signature.{Signature}
 use Rattle.c_expression_rules.specs.Signatures.{plain_signature}
 
-count_is : (xs : List Expr) → count_of (plain_exprs xs) ≡ length xs
+count_is : (xs : List Expr) → argument_count (plain_exprs xs) ≡ length xs
 count_is [] = refl
 count_is (x ∷ xs) = ap suc (count_is xs)
 

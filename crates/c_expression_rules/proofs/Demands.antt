@@ -12,7 +12,7 @@ use Rattle.c_model.specs.ExpressionTyping.{Sight, Sized, HasSize, HasNoSize, Not
 use Rattle.c_expression_rules.specs.declared.fault.TypeFault.{TypeFault}
 use Rattle.c_expression_rules.specs.Answers.{Answers}
 use Rattle.c_expression_rules.proofs.Least.{one_refused}
-use Rattle.c_expression_rules.specs.Operators.{compoundable, elements, has_size}
+use Rattle.c_expression_rules.specs.Operators.{compoundable, has_elements, has_size}
 
 module _ {A : Type 0} (s : Sight) (at : Place) (t : PlainType) (c : Checked A)
   where
@@ -24,7 +24,7 @@ module _ {A : Type 0} (s : Sight) (at : Place) (t : PlainType) (c : Checked A)
         by HasNoSize = refl
         by NotYet = refl
 
-    pub elements_then : where_elements s at t c ≡ one_part (elements s at t) (λ u. c)
+    pub elements_then : where_elements s at t c ≡ one_part (has_elements s at t) (λ u. c)
     elements_then = by (is_void t) sized_then
       where
         by : (v : Bool) → where_sized s at t c ≡ one_part (has_size s at t) (λ u. c) → where_so (not v) (no_type at) (where_sized s at t c) ≡ one_part (where_so (not v) (no_type at) (has_size s at t)) (λ u. c)
@@ -36,13 +36,13 @@ module _ (s : Sight) (at : Place) (op : BinOp) (a b whole : Expression)
     pub operated_by : operated_in_place s at op a b whole ≡ one_part (compoundable s at op a (is_there (integer_type (type_of b)))) (λ u. Good whole)
     operated_by = by (integer_type (type_of a)) (pointed (type_of a)) (is_place a && is_there (integer_type (type_of b)))
       where
-        steps : (t : PlainType) (p : Bool) → where_so p (no_type at) (where_elements s at t (Good whole)) ≡ one_part (where_so p (no_type at) (elements s at t)) (λ u. Good whole)
+        steps : (t : PlainType) (p : Bool) → where_so p (no_type at) (where_elements s at t (Good whole)) ≡ one_part (where_so p (no_type at) (has_elements s at t)) (λ u. Good whole)
         steps t true = elements_then s at t (Good whole)
         steps t false = refl
 
         by : (o : Option CInt) (q : Option PlainType) (p : Bool)
             → elim o [ Some k ↦ where_so p (no_type at) (Good whole) | None ↦ given q (no_type at) (λ t. where_so (p && is_step op true) (no_type at) (where_elements s at t (Good whole))) ]
-            ≡ one_part (elim o [ Some k ↦ where_so p (no_type at) (Good tt) | None ↦ given q (no_type at) (λ t. where_so (p && is_step op true) (no_type at) (elements s at t)) ]) (λ (u : Unit {0}). Good whole)
+            ≡ one_part (elim o [ Some k ↦ where_so p (no_type at) (Good tt) | None ↦ given q (no_type at) (λ t. where_so (p && is_step op true) (no_type at) (has_elements s at t)) ]) (λ (u : Unit {0}). Good whole)
         by (Some k) q true = refl
         by (Some k) q false = refl
         by None None p = refl

@@ -17,7 +17,7 @@ use Rattle.c_model.specs.ExpressionTyping.{Sight, typed, typed_arguments, argume
 use Rattle.c_expression_rules.specs.declared.fault.TypeFault.{TypeFault}
 use Rattle.c_expression_rules.specs.declared.fault.TypeFault.TheVariants.{Refused, Memory}
 use Rattle.c_expression_rules.specs.declared.signature.Signature.{Signature}
-use Rattle.c_expression_rules.specs.Answers.{Answers, both, first_of, plain_fault}
+use Rattle.c_expression_rules.specs.Answers.{Answers, both, lesser_of, plain_fault}
 use Rattle.c_expression_rules.specs.Callees.{known_params}
 use Rattle.c_expression_rules.specs.Forms.{typed_call, typed_call_parts, typed_kind, typed_two}
 use Rattle.c_expression_rules.specs.Signatures.{plain_signature}
@@ -162,7 +162,7 @@ arguments_more s ts xs ys x y d r hd hr =
         ∙ ap (λ c. both_parts (Good (plain_exprs ys)) c (λ es e. Good (snoc es e))) hr ∙ ap Good (sym (plain_snoc ys y))
     by (Ok u) (Err g) hd hr = refused (Ok u) (Err g) g hd hr refl
     by (Err f) (Ok v) hd hr = refused (Err f) (Ok v) f hd hr refl
-    by (Err f) (Err g) hd hr = refused (Err f) (Err g) (first_of f g) hd hr refl
+    by (Err f) (Err g) hd hr = refused (Err f) (Err g) (lesser_of f g) hd hr refl
 
 -- one turn of the loop over arguments in their places
 pub arguments_step : (s : Sight) (ts : List PlainType) (xs xs' ys ys' : List Expr) (x y : Expr) (d r : Result (Unit {0}) TypeFault) → xs' ≡ xs ++ x ∷ [] → ys' ≡ ys ++ y ∷ []

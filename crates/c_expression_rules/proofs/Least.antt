@@ -1,12 +1,12 @@
 -- The refusal is the least fault, whichever part it comes from.
 use Rattle.std.proofs.Common.{◌≡◌, List, [], ◌∷◌, ◌++◌, refl, sym, ap, ◌∙◌, subst, arith, Some, Bool, true, false, cond, nat_lt, Result, Ok, Err}
 use Rattle.std.proofs.lemmas.Bool.Decides.{nat_tests}
-use Rattle.c_model.specs.Checked.{Fault, rank, lesser, least, Checked, Good, Bad, one_part, both_parts, refusing}
+use Rattle.c_model.specs.Checked.{Fault, rank, lesser, least_fault, Checked, Good, Bad, one_part, both_parts, refusing}
 use Rattle.c_model.specs.ExpressionTyping.{two}
 use Rattle.c_expression_rules.specs.declared.fault.TypeFault.{TypeFault}
 use Rattle.c_expression_rules.specs.declared.fault.TypeFault.TheVariants.{Refused, Memory}
 use Rattle.c_expression_rules.specs.declared.fault.Fault as code
-use Rattle.c_expression_rules.specs.Answers.{plain_fault, Answers, both, first_of}
+use Rattle.c_expression_rules.specs.Answers.{plain_fault, Answers, both, lesser_of}
 
 lesser_assoc : (f g h : Fault) → lesser f (lesser g h) ≡ lesser (lesser f g) h
 lesser_assoc f g h = by (nat_lt (rank g) (rank f)) (nat_lt (rank h) (rank g)) (nat_lt (rank h) (rank f)) refl refl refl
@@ -19,9 +19,9 @@ lesser_assoc f g h = by (nat_lt (rank g) (rank f)) (nat_lt (rank h) (rank g)) (n
     by false false true ep eq er = absurd (grind (arith, nat_tests, ep, eq, er))
     by false false false ep eq er = rw (ep, er) refl
 
-least_append : (f : Fault) (fs : List Fault) (g : Fault) (gs : List Fault) → least f (fs ++ g ∷ gs) ≡ lesser (least f fs) (least g gs)
+least_append : (f : Fault) (fs : List Fault) (g : Fault) (gs : List Fault) → least_fault f (fs ++ g ∷ gs) ≡ lesser (least_fault f fs) (least_fault g gs)
 least_append f [] g gs = refl
-least_append f (h ∷ hs) g gs = ap (lesser f) (least_append h hs g gs) ∙ lesser_assoc f (least h hs) (least g gs)
+least_append f (h ∷ hs) g gs = ap (lesser f) (least_append h hs g gs) ∙ lesser_assoc f (least_fault h hs) (least_fault g gs)
 
 -- the lesser of two faults is the lesser of their plain forms
 lesser_is : (f g : code.Fault) → plain_fault (cond (nat_lt (rank (plain_fault g)) (rank (plain_fault f))) g f) ≡ lesser (plain_fault f) (plain_fault g)
@@ -51,9 +51,9 @@ module _ {A B C : Type 0} (k : A → B → Checked C)
     together (Good t) n f g e d = absurd cc
     together (Bad f fs) (Good u) f' g e d = absurd cc
     together (Bad f fs) (Bad g gs) f' g' e d =
-        let e1 : least f fs ≡ f' = cc in
-        let d1 : least g gs ≡ g' = cc in
-        ap Some (least_append f fs g gs ∙ ap (λ x. lesser x (least g gs)) e1 ∙ ap (lesser f') d1)
+        let e1 : least_fault f fs ≡ f' = cc in
+        let d1 : least_fault g gs ≡ g' = cc in
+        ap Some (least_append f fs g gs ∙ ap (λ x. lesser x (least_fault g gs)) e1 ∙ ap (lesser f') d1)
 
     -- two parts of which one is refused
     pub both_refused : {T S : Type 0} (p : T → A) (q : Unit {0} → B) (s : S → C) (m : Checked A) (n : Checked B) (a : Result T TypeFault) (b : Result (Unit {0}) TypeFault) (h : TypeFault)
@@ -73,7 +73,7 @@ module _ {A B C : Type 0} (k : A → B → Checked C)
         by Memory x = tt
     both_refused p q s m n (Err f) (Err g) h x y j = subst (λ e. Answers s (both_parts m n k) (Err e)) (err_is j) (by f g x y)
       where
-        by : (f g : TypeFault) → Answers p m (Err f) → Answers q n (Err g) → Answers s (both_parts m n k) (Err (first_of f g))
+        by : (f g : TypeFault) → Answers p m (Err f) → Answers q n (Err g) → Answers s (both_parts m n k) (Err (lesser_of f g))
         by (Refused f) (Refused g) x y = together m n (plain_fault f) (plain_fault g) x y ∙ ap Some (sym (lesser_is f g))
         by (Refused f) Memory x y = tt
         by Memory g x y = tt

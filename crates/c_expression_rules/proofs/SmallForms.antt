@@ -181,7 +181,7 @@ module _ (s : Sight) (at : Place)
 decayed_small : (s : Sight) (c : Checked Expression) → Gives (IsSmall s) c → Gives (IsSmall s) (decayed_of c)
 decayed_small s c g = gives_one (IsSmall s) (IsSmall s) c (λ e. Good (decayed e)) g (λ e h. small_decayed s.structs e h)
 
-named_small : (s : Sight) (at : Place) (x : ℕ) → Gives (IsSmall s) (plain.named s at x)
+named_small : (s : Sight) (at : Place) (x : ℕ) → Gives (IsSmall s) (plain.typed_name s at x)
 named_small s at x = by (plain.entity_named x s.entities) (plain.function_called x s.functions) (library_constant (plain.name_at s.names x)) (plain.is_null_word s x) (is_there (plain.library_function x (plain.name_at s.names x)))
   where
     by : (e : Option plain.Entity) (f : Option plain.Signature) (c : Option (CInt × ℤ)) (n l : Bool) → Gives (IsSmall s) (elim e [
@@ -249,7 +249,7 @@ typed_small s (Node at t (Bump op a)) = gives_one (λ (x : Expression). Unit {0}
     (λ x u. compounded_small s at operator.Add x (Node at int_type (Number (pos 1) (Some I32))) (Node at (type_of x) (Bump op x)) refl)
 typed_small s (Node at t (Call f es)) = gives_both (λ (x : plain.Signature). Unit {0}) (λ (y : Expressions). Unit {0}) (IsSmall s) (plain.callee s at f.name) (typed_arguments s (params_of (plain.callee s at f.name)) es) (plain.call at)
     (anything (plain.callee s at f.name)) (anything (typed_arguments s (params_of (plain.callee s at f.name)) es))
-    (λ g es u v. gives_where (IsSmall s) (nat_eq (plain.count_of es) (length g.params)) (no_type at) (Good (Node at g.result (Call (plain.use_as g.name g.decl) es))) (λ e. refl))
+    (λ g es u v. gives_where (IsSmall s) (nat_eq (plain.argument_count es) (length g.params)) (no_type at) (Good (Node at g.result (Call (plain.use_as g.name g.decl) es))) (λ e. refl))
 typed_small s (Node at t (Cast to a)) = gives_limited (IsSmall s) s at (known_type s to) (both_parts (typed_type s at to) (decayed_of (typed s a)) (plain.cast s at))
     (gives_both (λ (x : PlainType). Unit {0}) (IsSmall s) (IsSmall s) (typed_type s at to) (decayed_of (typed s a)) (plain.cast s at)
     (anything (typed_type s at to)) (decayed_small s (typed s a) (typed_small s a))

@@ -28,13 +28,13 @@ IsRefusal (Refused f) = Unit {0}
 IsRefusal Memory = ⊥
 
 -- the fault that comes of two
-abbrev pub first_of : TypeFault → TypeFault → TypeFault
-first_of (Refused f) (Refused g) = Refused (cond (nat_lt (rank (plain_fault g)) (rank (plain_fault f))) g f)
-first_of (Refused f) Memory = Memory
-first_of Memory g = Memory
+abbrev pub lesser_of : TypeFault → TypeFault → TypeFault
+lesser_of (Refused f) (Refused g) = Refused (cond (nat_lt (rank (plain_fault g)) (rank (plain_fault f))) g f)
+lesser_of (Refused f) Memory = Memory
+lesser_of Memory g = Memory
 
 -- an answer and that of another part, which tells no more than its fault, as one
 abbrev pub both : {T : Type 0} → Result T TypeFault → Result (Unit {0}) TypeFault → Result T TypeFault
 both a (Ok u) = a
 both (Ok x) (Err g) = Err g
-both (Err f) (Err g) = Err (first_of f g)
+both (Err f) (Err g) = Err (lesser_of f g)

@@ -40,8 +40,8 @@ abbrev pub converted_to : PlainType → ℤ → Option ℤ
 converted_to to x = option_map (λ k. convert k x) (integer_type to)
 
 -- a size within the limit
-abbrev pub size_in : List StructType → PlainType → Option ℤ
-size_in structs t = option_map pos (small (size_of structs t))
+abbrev pub size_number : List StructType → PlainType → Option ℤ
+size_number structs t = option_map pos (small (size_of structs t))
 
 abbrev pub folded : List StructType → Expression → Option ℤ
 folded structs (Node at t (Number n k)) = Some n
@@ -52,8 +52,8 @@ folded structs (Node at t (Both a b)) = from (folded structs a) (λ x. cond (is_
 folded structs (Node at t (Either a b)) = from (folded structs a) (λ x. cond (is_nought x) (from (folded structs b) true_of) (Some (pos 1)))
 folded structs (Node at t (Choice a b c)) = from (folded structs a) (λ x. cond (is_nought x) (folded structs c) (folded structs b))
 folded structs (Node at t (Cast to a)) = cond (is_array (type_of a)) None (from (folded structs a) (converted_to to))
-folded structs (Node at t (SizeOfType u)) = size_in structs u
-folded structs (Node at t (SizeOfExpr a)) = size_in structs (type_of a)
+folded structs (Node at t (SizeOfType u)) = size_number structs u
+folded structs (Node at t (SizeOfExpr a)) = size_number structs (type_of a)
 folded structs _ = None
 
 -- whether each size that an expression asks for is within the limit

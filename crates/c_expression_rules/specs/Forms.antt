@@ -51,7 +51,7 @@ abbrev pub typed_leaf : Sight → Place → ExpressionKind → Checked Expressio
 typed_leaf s at (Number n k) = plain.literal at n k
 typed_leaf s at (Letter n) = Good (Node at int_type (Letter n))
 typed_leaf s at (Text offset) = plain.text s at offset
-typed_leaf s at (Variable x) = plain.named s at x.name
+typed_leaf s at (Variable x) = plain.typed_name s at x.name
 typed_leaf s at _ = faulty (plain.no_type at)
 
 -- forms of one operand, and members of one

@@ -4,7 +4,7 @@ ghost use Rattle.std.specs.Prelude.{◌≡◌, ℕ, IfErr, IfOk, map};
 ghost use Rattle.c_syntax.specs.Ctypes.{Ptr, Void, plain_type};
 ghost use Rattle.c_syntax.specs.Expressions.{Arrow, Call, Dot, Node, plain_expr, plain_exprs, plain_kind};
 ghost use Rattle.c_model.specs.Checked.{one_part};
-ghost use Rattle.c_model.specs.ExpressionTyping.{arrow, call, callee, dot, is_null_word, library_name, member, named, no_function, use_as};
+ghost use Rattle.c_model.specs.ExpressionTyping.{arrow, call, callee, dot, is_null_word, library_name, member, typed_name, no_function, use_as};
 ghost use Rattle.c_expression_rules.specs.Answers.{Answers, IsRefusal};
 ghost use Rattle.c_expression_rules.specs.Callees.{callable, known_params, library_callee};
 ghost use Rattle.c_expression_rules.specs.Library.{signature_of};
@@ -75,7 +75,7 @@ pub fn mean(
     name: u32,
     kind: &mut ExprKind,
 ) -> Result<CType, TypeFault>
-    ensures { Answers (λ t. Node place (plain_type t) (plain_kind kind.new)) (named (plain_sight sight.now) place name) result }
+    ensures { Answers (λ t. Node place (plain_type t) (plain_kind kind.new)) (typed_name (plain_sight sight.now) place name) result }
 {
     match sight.entities.named(name) {
         Some(Entity::AnObject(object)) => {

@@ -6,7 +6,7 @@ ghost use Rattle.c_syntax.specs.Expressions.{plain_expr};
 ghost use Rattle.c_syntax.specs.Programs.{plain_layout};
 ghost use Rattle.c_model.specs.Integers.{integer_type};
 ghost use Rattle.c_model.specs.ExpressionTyping.{constant, is_constant, is_constant_operator, is_null, is_null_name, is_other, is_zero, tables_in};
-ghost use Rattle.c_expression_rules.specs.Constants.{converted_to, folded, from, has_small_sizes, one, size_in, true_of};
+ghost use Rattle.c_expression_rules.specs.Constants.{converted_to, folded, from, has_small_sizes, one, size_number, true_of};
 ghost use Rattle.c_expression_rules.specs.Sights.{plain_sight};
 
 use crate::arithmetic::{convert, operate, operate_one, truth};
@@ -17,7 +17,7 @@ use c_syntax::{CType, Expr, ExprKind, Layout, UnOp, Use};
 
 /// The size of a type, where it is within the limit.
 fn size_in(structs: &[Layout], t: &CType) -> Option<i128>
-    ensures { result ≡ size_in (map plain_layout structs.now) (plain_type t.now) }
+    ensures { result ≡ size_number (map plain_layout structs.now) (plain_type t.now) }
 {
     match small_size(structs, t) {
         None => None,

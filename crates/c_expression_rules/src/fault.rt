@@ -4,7 +4,7 @@ ghost use Rattle.std.specs.Prelude.{◌≡◌, IfErr};
 ghost use Rattle.c_syntax.specs.RefusalCodes.{limit_code, name_code, type_code};
 ghost use Rattle.c_model.specs.Checked.{rank};
 ghost use Rattle.c_expression_rules.specs.declared.fault.TypeFault.TheVariants.{Refused, Memory};
-ghost use Rattle.c_expression_rules.specs.Answers.{IsRefusal, both, first_of, plain_fault};
+ghost use Rattle.c_expression_rules.specs.Answers.{IsRefusal, both, lesser_of, plain_fault};
 
 use c_syntax::{Place, code};
 use std::alloc::{AllocError, AllocFailed};
@@ -78,7 +78,7 @@ fn rank(f: Fault) -> u64
 
 /// The first of two faults in the text.
 fn first_of(f: TypeFault, g: TypeFault) -> TypeFault
-    ensures is { result ≡ first_of f g }
+    ensures is { result ≡ lesser_of f g }
     ensures sure { IsRefusal f → IsRefusal g → IsRefusal result }
 {
     match f {

@@ -13,7 +13,7 @@ ghost use Rattle.c_model.specs.ExpressionTyping.{index, knows_elements, on_integ
 ghost use Rattle.c_model.specs.ExpressionTyping.{points_to_unknown, size_of_expression, size_of_type, unary_on};
 ghost use Rattle.c_expression_rules.specs.Answers.{Answers, IsRefusal};
 ghost use Rattle.c_expression_rules.specs.Operators.{assigned_with, bumped, compoundable, element_of};
-ghost use Rattle.c_expression_rules.specs.Operators.{element_type, elements, has_size, indexed_type, literal_of};
+ghost use Rattle.c_expression_rules.specs.Operators.{pointed_element, has_elements, has_size, indexed_type, typed_literal};
 ghost use Rattle.c_expression_rules.specs.Sights.{plain_sight};
 
 use crate::conversion::{
@@ -114,7 +114,7 @@ pub fn is_place(e: &Expr) -> bool
 
 /// An integer literal has the first type that holds it (C99 6.4.4.1).
 pub fn literal(place: Place, kind: &ExprKind) -> Result<CType, TypeFault>
-    ensures typed { Answers (λ t. Node place (plain_type t) (plain_kind kind.now)) (literal_of place (plain_kind kind.now)) result }
+    ensures typed { Answers (λ t. Node place (plain_type t) (plain_kind kind.now)) (typed_literal place (plain_kind kind.now)) result }
     ensures sure { IfErr result IsRefusal }
 {
     match kind {
@@ -137,7 +137,7 @@ pub fn has_size(sight: &Sight, place: Place, t: &CType) -> Result<(), TypeFault>
 
 /// A type to which a pointer goes on by elements: it isn't void, and its size is known.
 pub fn elements(sight: &Sight, place: Place, t: &CType) -> Result<(), TypeFault>
-    ensures checked { Answers (λ u. u) (elements (plain_sight sight.now) place (plain_type t.now)) result }
+    ensures checked { Answers (λ u. u) (has_elements (plain_sight sight.now) place (plain_type t.now)) result }
     ensures sure { IfErr result IsRefusal }
 {
     if is_void(t) {
@@ -421,7 +421,7 @@ pub fn on_pointers(
 
 /// The type of an element that a pointer goes on to.
 fn element_type(alloc: Global, sight: &Sight, place: Place, t: &CType) -> Result<CType, TypeFault>
-    ensures { Answers plain_type (element_type (plain_sight sight.now) place (plain_type t.now)) result }
+    ensures { Answers plain_type (pointed_element (plain_sight sight.now) place (plain_type t.now)) result }
 {
     elements(sight, place, t)?;
     let t = copy_type(alloc, t)?;

@@ -11,7 +11,7 @@ use Rattle.c_model.specs.declared.c_tokens.Fault.TheVariants as fault
 use Rattle.c_model.specs.Places.{next, walk}
 use Rattle.c_model.specs.MonitoredTokens.{Read, fresh_behind, fresh_after}
 use Rattle.c_model.specs.Pieces.{Ended, Broken, Cut, cut, piece_at, mode_after}
-use Rattle.c_model.specs.CTokens.{joined, with_string, add, refused, most_tokens, build}
+use Rattle.c_model.specs.CTokens.{joined_string, with_string, add, refused, most_tokens, build}
 
 pub cut_skip : (k : ℕ) (at : Place) (fresh : Bool) (m : Mode) (bs : List ℕ) → cut k at fresh m bs ≡ cut 0 (walk at (take k bs)) (fresh_after fresh (take k bs)) m (drop k bs)
 unfolding cut
@@ -40,7 +40,7 @@ unfolding cut
 cut_ended at fresh m [] e = refl
 cut_ended at fresh m (b ∷ bs) e = absurd (omega arith)
 
-pub with_string_last : (ts : List PlainToken) (t : PlainToken) (at : Place) (bs : List ℕ) → with_string (ts ++ t ∷ []) at bs ≡ ts ++ joined t at bs
+pub with_string_last : (ts : List PlainToken) (t : PlainToken) (at : Place) (bs : List ℕ) → with_string (ts ++ t ∷ []) at bs ≡ ts ++ joined_string t at bs
 with_string_last [] t at bs = refl
 with_string_last (x ∷ []) t at bs = refl
 with_string_last (x ∷ y ∷ ts) t at bs = ap (λ (r : List PlainToken). x ∷ r) (with_string_last (y ∷ ts) t at bs)

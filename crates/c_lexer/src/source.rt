@@ -3,7 +3,7 @@
 ghost use Rattle.std.specs.Prelude.{◌≡◌, ◌≤◌, ◌<◌, ◌+◌, ◌++◌, length, drop, map, Ok, IfOk, OnOk, MatchResult, vec_len};
 ghost use Rattle.c_syntax.specs.Tokens.{plain_token, plain_tokens};
 ghost use Rattle.c_model.specs.Pieces.{Ended};
-ghost use Rattle.c_model.specs.CTokens.{joined, with_string, add, closed, most_tokens, build, tokens_of};
+ghost use Rattle.c_model.specs.CTokens.{joined_string, with_string, add, closed, most_tokens, build, tokens_of};
 ghost use Rattle.c_lexer.specs.Reading.{seen, read_of, Refuses, Gives};
 ghost use Rattle.c_lexer.specs.Source.{FitsPiece};
 
@@ -42,7 +42,7 @@ fn tail(bytes: &[u8]) -> &[u8]
 
 /// Puts back the last token, with a string after it, which joins it where that is a string.
 fn join(list: &mut Vec<Token>, last: Token, place: Place, bytes: Vec<u8>) -> Result<(), AllocError>
-    ensures ok { OnOk result (map plain_token list.new.items ≡ map plain_token list.old.items ++ joined (plain_token last) place bytes.items) }
+    ensures ok { OnOk result (map plain_token list.new.items ≡ map plain_token list.old.items ++ joined_string (plain_token last) place bytes.items) }
     ensures most { OnOk result (vec_len list.new ≤ vec_len list.old + 2) }
     ensures least { OnOk result (vec_len list.old + 1 ≤ vec_len list.new) }
 {

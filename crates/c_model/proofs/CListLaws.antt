@@ -18,7 +18,7 @@ use Rattle.c_model.specs.MonitoredTokens as monitored
 use Rattle.c_model.specs.MonitoredTokens.{Read, fresh_behind, whole, nothing_read}
 use Rattle.c_model.specs.MonitoredTokenLaws.{place_of}
 use Rattle.c_model.specs.Pieces.{Pieces, Ended, Broken, Cut, piece_at, mode_after, cut, pieces_of}
-use Rattle.c_model.specs.CTokens.{joined, with_string, add, refused, closed, most_tokens, build, tokens_of}
+use Rattle.c_model.specs.CTokens.{joined_string, with_string, add, refused, closed, most_tokens, build, tokens_of}
 use Rattle.c_model.specs.CTokenLaws.{bytes_of, ArePlaced, Ascend, is_string, StringsApart}
 use Rattle.c_model.proofs.Spelling.{chosen}
 use Rattle.c_model.proofs.CPieceLaws.{pieces_joined, pieces_placed}
@@ -72,12 +72,12 @@ apart_push (u ∷ v ∷ ts) t other apart = (apart.0, apart_push (v ∷ ts) t ot
 record Joins (t : PlainToken) (at : Place) (bs : List ℕ) : Type 0 where
   first : PlainToken
   others : List PlainToken
-  is : joined t at bs ≡ first ∷ others
+  is : joined_string t at bs ≡ first ∷ others
   place : first.place ≡ t.place
   kind : is_string first.kind ≡ is_string t.kind
-  below : (n : ℕ) → t.place.offset < n → at.offset < n → AllBelow n (joined t at bs)
-  ascend : t.place.offset < at.offset → Ascend (joined t at bs)
-  apart : StringsApart (joined t at bs)
+  below : (n : ℕ) → t.place.offset < n → at.offset < n → AllBelow n (joined_string t at bs)
+  ascend : t.place.offset < at.offset → Ascend (joined_string t at bs)
+  apart : StringsApart (joined_string t at bs)
 
 joins : (t : PlainToken) (at : Place) (bs : List ℕ) → Joins t at bs
 joins t at bs = by t.kind t.place

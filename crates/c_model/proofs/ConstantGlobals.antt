@@ -15,7 +15,8 @@ use Rattle.c_model.specs.DeclarationTyping.{is_static_address, has_value, with_g
 use Rattle.c_model.specs.DeclarationTyping.{typed_items, typed_maybe_initialiser, own_name, is_declared_in_file, typed_object_type, typed_global, typed_typedef, typed_member, typed_enumerators, place_of_initialiser}
 use Rattle.c_model.specs.UnitTyping.{FileItem, StructHead, Member, AnEnum, ATypedef, AGlobal, AFunction, typed_function, Progress, new_tag, typed_item_of_file, typed_items_of_file, at_start, items_of_file, with_progress}
 use Rattle.c_model.specs.UnitTyping.{typed_unit}
-use Rattle.c_model.specs.TypedTrees.{WhereAny, in_casts, kind_of, TypedAs}
+use Rattle.c_model.specs.TypedTrees.{WhereAny, in_casts, TypedAs}
+use Rattle.c_syntax.specs.Trees.{kind_of}
 use Rattle.c_model.specs.AcceptedPrograms.{AreConstant}
 use Rattle.c_model.specs.Pure.{IsPure, IsPureOrCall, IsPureInitialiser, IsInitialiser}
 use Rattle.c_model.proofs.TypedParts.{Gives, gives_of, gives_one, gives_where, and_true}

@@ -4,25 +4,25 @@ use Rattle.std.proofs.lemmas.Bool.{leb-true, leb-false, le-leb, lt-leb}
 use Rattle.c_syntax.specs.declared.types.BlockKind.{BlockKind}
 use Rattle.c_syntax.specs.declared.types.BlockKind.TheVariants.{Global, Literal, Stack, Heap}
 use Rattle.c_syntax.specs.declared.types.Segment.TheVariants as segment
-use Rattle.c_model.specs.Memory.{Block, Store, block_at, Sizes, greatest_number, units, is_heap, is_apart, is_free, least, heap_place, At, NoRoom, room_at, heap_room}
+use Rattle.c_model.specs.Memory.{Block, Store, block_at, Sizes, greatest_number, units, is_heap, is_apart, is_free, first_passing, heap_place, At, NoRoom, room_at, heap_room}
 use Rattle.c_model.specs.HeapLaws.{AreApart, Before, Behind, IsPlace}
 
 -- ---- the least number that passes
 
-pub least-passes : (passes : ℕ → Bool) (k u v : ℕ) → least passes k u ≡ Some v → passes v ≡ true
+pub least-passes : (passes : ℕ → Bool) (k u v : ℕ) → first_passing passes k u ≡ Some v → passes v ≡ true
 least-passes passes zero u v e = absurd cc
 least-passes passes (suc k) u v e = by (least-passes passes k (suc u) v) (passes u) refl e
   where
-    by : (least passes k (suc u) ≡ Some v → passes v ≡ true) → (t : Bool) → passes u ≡ t → (if t then Some u else least passes k (suc u)) ≡ Some v → passes v ≡ true
+    by : (first_passing passes k (suc u) ≡ Some v → passes v ≡ true) → (t : Bool) → passes u ≡ t → (if t then Some u else first_passing passes k (suc u)) ≡ Some v → passes v ≡ true
     by rest true p h = let same : u ≡ v = cc in subst (λ x. passes x ≡ true) same p
     by rest false p h = rest h
 
 -- none before it passes
-pub least-first : (passes : ℕ → Bool) (k u v : ℕ) → least passes k u ≡ Some v → (w : ℕ) → u ≤ w → w < v → passes w ≡ false
+pub least-first : (passes : ℕ → Bool) (k u v : ℕ) → first_passing passes k u ≡ Some v → (w : ℕ) → u ≤ w → w < v → passes w ≡ false
 least-first passes zero u v e w l m = absurd cc
 least-first passes (suc k) u v e w l m = by (λ h x. least-first passes k (suc u) v h w x m) (passes u) refl e
   where
-    by : (least passes k (suc u) ≡ Some v → suc u ≤ w → passes w ≡ false) → (t : Bool) → passes u ≡ t → (if t then Some u else least passes k (suc u)) ≡ Some v → passes w ≡ false
+    by : (first_passing passes k (suc u) ≡ Some v → suc u ≤ w → passes w ≡ false) → (t : Bool) → passes u ≡ t → (if t then Some u else first_passing passes k (suc u)) ≡ Some v → passes w ≡ false
     by rest true p h = let same : u ≡ v = cc in absurd (omega (arith, same, l, m))
     by rest false p h = from_next (nat_le (suc u) w) refl
       where
@@ -31,11 +31,11 @@ least-first passes (suc k) u v e w l m = by (λ h x. least-first passes k (suc u
         from_next false f = let same : u ≡ w = omega (arith, l, leb-false _ _ f) in subst (λ x. passes x ≡ false) same p
 
 -- none of them passes where there is none
-pub least-none : (passes : ℕ → Bool) (k u : ℕ) → least passes k u ≡ None → (w : ℕ) → u ≤ w → w < u + k → passes w ≡ false
+pub least-none : (passes : ℕ → Bool) (k u : ℕ) → first_passing passes k u ≡ None → (w : ℕ) → u ≤ w → w < u + k → passes w ≡ false
 least-none passes zero u e w l m = absurd (omega (arith, l, m))
 least-none passes (suc k) u e w l m = by (λ h x. least-none passes k (suc u) h w x (omega (arith, m))) (passes u) refl e
   where
-    by : (least passes k (suc u) ≡ None → suc u ≤ w → passes w ≡ false) → (t : Bool) → passes u ≡ t → (if t then Some u else least passes k (suc u)) ≡ None → passes w ≡ false
+    by : (first_passing passes k (suc u) ≡ None → suc u ≤ w → passes w ≡ false) → (t : Bool) → passes u ≡ t → (if t then Some u else first_passing passes k (suc u)) ≡ None → passes w ≡ false
     by rest true p h = absurd cc
     by rest false p h = from_next (nat_le (suc u) w) refl
       where
@@ -44,16 +44,16 @@ least-none passes (suc k) u e w l m = by (λ h x. least-none passes k (suc u) h 
         from_next false f = let same : u ≡ w = omega (arith, l, leb-false _ _ f) in subst (λ x. passes x ≡ false) same p
 
 -- there is none where none passes
-pub least-absent : (passes : ℕ → Bool) (k u : ℕ) → ((w : ℕ) → u ≤ w → passes w ≡ false) → least passes k u ≡ None
+pub least-absent : (passes : ℕ → Bool) (k u : ℕ) → ((w : ℕ) → u ≤ w → passes w ≡ false) → first_passing passes k u ≡ None
 least-absent passes zero u h = refl
 least-absent passes (suc k) u h = rw (h u (omega arith)) (least-absent passes k (suc u) (λ w l. h w (omega (arith, l))))
 
 -- it is the first that passes
-pub least-found : (passes : ℕ → Bool) (k u v : ℕ) → u ≤ v → v < u + k → passes v ≡ true → ((w : ℕ) → u ≤ w → w < v → passes w ≡ false) → least passes k u ≡ Some v
+pub least-found : (passes : ℕ → Bool) (k u v : ℕ) → u ≤ v → v < u + k → passes v ≡ true → ((w : ℕ) → u ≤ w → w < v → passes w ≡ false) → first_passing passes k u ≡ Some v
 least-found passes zero u v l m e h = absurd (omega (arith, l, m))
 least-found passes (suc k) u v l m e h = by (nat_le (suc u) v) refl (λ n. least-found passes k (suc u) v n (omega (arith, m)) e (λ w a b. h w (omega (arith, a)) b))
   where
-    by : (t : Bool) → nat_le (suc u) v ≡ t → (suc u ≤ v → least passes k (suc u) ≡ Some v) → (if passes u then Some u else least passes k (suc u)) ≡ Some v
+    by : (t : Bool) → nat_le (suc u) v ≡ t → (suc u ≤ v → first_passing passes k (suc u) ≡ Some v) → (if passes u then Some u else first_passing passes k (suc u)) ≡ Some v
     by true f rest = let n : suc u ≤ v = leb-true _ _ f in rw (h u (omega arith) n) (rest n)
     by false f rest = let same : v ≡ u = omega (arith, l, leb-false _ _ f) in rw (subst (λ x. passes x ≡ true) same e) (ap Some (sym same))
 

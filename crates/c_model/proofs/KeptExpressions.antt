@@ -15,9 +15,10 @@ use Rattle.c_model.specs.Integers.{integer_type}
 use Rattle.c_model.specs.Library.{library_constant, is_there}
 use Rattle.c_model.specs.Checked.{Checked, Good, Bad, faulty, one_part, given, where_so}
 use Rattle.c_model.specs.ExpressionTyping.{no_name, no_type, Sight, Entity, Signature, name_at, entity_named, function_called, library_function, or_else, use_as, same_type, is_scalar, pointed, is_place, is_struct, is_step}
-use Rattle.c_model.specs.ExpressionTyping.{decayed, in_type, decayed_of, is_assigned, is_null_word, no_function, callee, first_type, rest_types, argument_for, count_of, call, params_of, where_elements, assigned_struct, assigned_scalar}
+use Rattle.c_model.specs.ExpressionTyping.{decayed, in_type, decayed_of, is_assigned, is_null_word, no_function, callee, first_type, rest_types, argument_for, argument_count, call, params_of, where_elements, assigned_struct, assigned_scalar}
 use Rattle.c_model.specs.ExpressionTyping.{compounded, operated_in_place, knows_elements, assign, bump, typed, typed_arguments}
-use Rattle.c_model.specs.TypedTrees.{IsResult, GivesNothing, GivesScalar, AsUse, AsNumber, NameTypedAs, TypedAs, KindTypedAs, in_casts, kind_of}
+use Rattle.c_model.specs.TypedTrees.{IsResult, GivesNothing, GivesScalar, AsUse, AsNumber, NameTypedAs, TypedAs, KindTypedAs, in_casts}
+use Rattle.c_syntax.specs.Trees.{kind_of}
 use Rattle.c_model.specs.Pure.{IsPure, ArePure, IsPureOrCall, IsEffect, IsEffectOrCall, HasBareCall}
 use Rattle.c_model.proofs.TypedParts.{Gives, gives_one, gives_both, gives_given, gives_where, gives_sized, gives_elements}
 use Rattle.c_model.proofs.TypedReading.{decayed_as, typed_as}
@@ -272,7 +273,7 @@ module _ (s : Sight) (known : SeesResults s) where
   call_alone : (at : Place) (t : PlainType) (f : Use) (es : Expressions) → ArePure es → Gives IsCallAlone (typed s (Node at t (Call f es)))
   call_alone at t f es h =
       gives_both HasResult ArePure IsCallAlone (callee s at f.name) (typed_arguments s (params_of (callee s at f.name)) es) (call at) (callee_result at f.name) (arguments_pure (params_of (callee s at f.name)) es h)
-      (λ g xs r p. gives_where IsCallAlone (nat_eq (count_of xs) (length g.params)) (no_type at) (Good (Node at g.result (Call (use_as g.name g.decl) xs))) (λ c. record { bare = p; effect = p; result = r }))
+      (λ g xs r p. gives_where IsCallAlone (nat_eq (argument_count xs) (length g.params)) (no_type at) (Good (Node at g.result (Call (use_as g.name g.decl) xs))) (λ c. record { bare = p; effect = p; result = r }))
 
   no_array : (at : Place) (t : PlainType) (k : ExpressionKind) → IsResult t → decayed (Node at t k) ≡ Node at t k
   no_array at Void k r = refl

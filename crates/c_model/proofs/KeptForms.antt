@@ -9,7 +9,7 @@ use Rattle.c_model.specs.DeclarationTyping.{typed_global, typed_typedef, typed_m
 use Rattle.c_model.specs.UnitTyping.{FileItem, StructHead, Member, AnEnum, ATypedef, AGlobal, AFunction, items_of_file, with_type, with_tag, with_function, typed_function, Progress, new_tag, typed_enum}
 use Rattle.c_model.specs.UnitTyping.{typed_item_of_file, typed_items_of_file, at_start, with_progress, typed_unit}
 use Rattle.c_model.specs.TextTypingLaws.{IsWholeSight}
-use Rattle.c_model.specs.PlacedTrees.{FilePlaced}
+use Rattle.c_model.specs.PlacedTrees.{FileAtOffsets}
 use Rattle.c_model.specs.Pure.{HasBareCall}
 use Rattle.c_model.specs.FullExpressions.{EachInDeclaration, EachDeclared, EachInBody, EachInFunctions}
 use Rattle.c_model.specs.TextOrder.{globals_among, functions_among}
@@ -97,7 +97,7 @@ item_kept p r w (AFunction f) q h =
     gives_one (FunctionRead AreReadAsserts) SoFar (typed_function p r.sight r.funcs f) (λ f. Good (record r { sight = with_function p r.sight f; funcs = r.funcs ++ f ∷ [] })) (function_kept p r.sight w r.funcs f q.0 q.1) (λ f k.
     record { functions = one_more (FunctionRead AreReadAsserts) r.funcs f h.functions k; globals = h.globals })
 
-items_kept : (p : TranslationUnit) (r : Progress) → IsWholeSight r.sight → (is : List FileItem) → FilePlaced is → AreReadItems is → SoFar r → Gives SoFar (typed_items_of_file p r is)
+items_kept : (p : TranslationUnit) (r : Progress) → IsWholeSight r.sight → (is : List FileItem) → FileAtOffsets is → AreReadItems is → SoFar r → Gives SoFar (typed_items_of_file p r is)
 items_kept p r w [] o q h = h
 items_kept p r w (i ∷ is) o q h =
     gives_one (λ (x : Progress). IsWholeSight x.sight × SoFar x) SoFar (typed_item_of_file p r i) (λ r. typed_items_of_file p r is)

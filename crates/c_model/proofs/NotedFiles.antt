@@ -7,7 +7,7 @@ use Rattle.c_syntax.specs.Programs.{StructMember, StructType, EnumType, Function
 use Rattle.c_model.specs.Library.{is_there}
 use Rattle.c_model.specs.Meaning.{is_definition}
 use Rattle.c_model.specs.UnitTyping.{FileItem, StructHead, Member, AnEnum, ATypedef, AGlobal, AFunction, offset_of_item, member_items, struct_items, inserted, in_order, items_of_file}
-use Rattle.c_model.specs.UnitTyping.{definition_of, first_of, number_or, signature}
+use Rattle.c_model.specs.UnitTyping.{definition_of, first_declaration, number_or, signature}
 use Rattle.c_model.specs.TextOrder.{Between, functions_among}
 use Rattle.c_model.proofs.SignaturesInSight.{offsets_of}
 
@@ -46,19 +46,19 @@ same_definition_of x (f ∷ fs) (g ∷ gs) h =
     ∙ ap (λ n. cond (is_definition f && nat_eq f.name x) (Some n) (definition_of x gs)) (same_place f g h.0)
     ∙ ap (cond (is_definition f && nat_eq f.name x) (Some f.place.offset)) (same_definition_of x fs gs h.1)
 
-same_first_of : (x : ℕ) (fs gs : List Function) → HaveOtherBodies fs gs → first_of x gs ≡ first_of x fs
+same_first_of : (x : ℕ) (fs gs : List Function) → HaveOtherBodies fs gs → first_declaration x gs ≡ first_declaration x fs
 same_first_of x [] [] h = refl
 same_first_of x [] (g ∷ gs) h = absurd h
 same_first_of x (f ∷ fs) [] h = absurd h
 same_first_of x (f ∷ fs) (g ∷ gs) h =
-    ap (λ n. cond (nat_eq n x) g.place.offset (first_of x gs)) (same_name f g h.0)
-    ∙ ap (λ n. cond (nat_eq f.name x) n (first_of x gs)) (same_place f g h.0)
+    ap (λ n. cond (nat_eq n x) g.place.offset (first_declaration x gs)) (same_name f g h.0)
+    ∙ ap (λ n. cond (nat_eq f.name x) n (first_declaration x gs)) (same_place f g h.0)
     ∙ ap (cond (nat_eq f.name x) f.place.offset) (same_first_of x fs gs h.1)
 
 pub same_signature_of : (fs gs : List Function) (f g : Function) → HaveOtherBodies fs gs → HasOtherBody f g → signature gs g ≡ signature fs f
 same_signature_of fs gs f g a h =
     ap (signature gs) h.is
-    ∙ ap (λ o. record { name = f.name; decl = number_or o (first_of f.name gs); defined = is_there o; params = map (λ (d : Declaration). d.ctype) f.params; result = f.result }) (same_definition_of f.name fs gs a)
+    ∙ ap (λ o. record { name = f.name; decl = number_or o (first_declaration f.name gs); defined = is_there o; params = map (λ (d : Declaration). d.ctype) f.params; result = f.result }) (same_definition_of f.name fs gs a)
     ∙ ap (λ n. record { name = f.name; decl = number_or (definition_of f.name fs) n; defined = is_there (definition_of f.name fs); params = map (λ (d : Declaration). d.ctype) f.params; result = f.result })
     (same_first_of f.name fs gs a)
 

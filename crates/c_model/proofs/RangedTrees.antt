@@ -31,7 +31,7 @@ use Rattle.c_model.specs.TermRanges.{ranged_zone, ranged_zones}
 use Rattle.c_model.specs.Unranged.{unknown_range, unranged_term, unranged_links, unranged_pred, unranged_guards, unranged_clause, unranged_annotations}
 use Rattle.c_model.specs.Unranged.{IsRangedTerm, AreRangedLinks, IsRangedPredicate, IsRangedClause, AreRangedAnnotations, unranged_zone, unranged_zones}
 use Rattle.c_model.specs.Unranged.{IsRangedZone, AreRangedZones}
-use Rattle.c_model.specs.MemoryQuestions.{farther}
+use Rattle.c_model.specs.MemoryQuestions.{address_farther}
 use Rattle.c_model.specs.Unranged.{RangingKeepsTerms, RangingKeepsPredicates, RangingKeepsAnnotations, RangesKeepValues, RangesKeepAnswers}
 use Rattle.c_model.proofs.TypedParts.{Gives, gives_of, gives_one, gives_both, gives_given, gives_where}
 
@@ -258,7 +258,7 @@ mutual
   place_kept (At at t r l a) s e = refl
   place_kept (Null at t r) s e = refl
   place_kept (Deref at t r a) s e = ap as_address (value_kept a s e)
-  place_kept (Member at t r d a) s e = ap (option_map (λ x. farther x (pos d))) (place_kept a s e)
+  place_kept (Member at t r d a) s e = ap (option_map (λ x. address_farther x (pos d))) (place_kept a s e)
   place_kept (Address at t r a) s e = refl
   place_kept (Moved at t r op n a b) s e = refl
   place_kept (Difference at t r n a b) s e = refl
@@ -276,7 +276,7 @@ mutual
   value_kept (At at t r l a) s e = ap (valued_at (at_label l s)) (fun_ext (λ u. value_kept a u e))
   value_kept (Null at t r) s e = refl
   value_kept (Deref at t r a) s e = ap (λ x. held_at s.store t (as_address x)) (value_kept a s e)
-  value_kept (Member at t r d a) s e = ap (λ x. held_at s.store t (option_map (λ y. farther y (pos d)) x)) (place_kept a s e)
+  value_kept (Member at t r d a) s e = ap (λ x. held_at s.store t (option_map (λ y. address_farther y (pos d)) x)) (place_kept a s e)
   value_kept (Address at t r a) s e = ap addressed (place_kept a s e)
   value_kept (Moved at t r op n a b) s e = λ i. moved op n (value_kept a s e i) (value_kept b s e i)
   value_kept (Difference at t r n a b) s e = λ i. difference s.store n (as_address (value_kept a s e i)) (as_address (value_kept b s e i))

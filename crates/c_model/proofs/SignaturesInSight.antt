@@ -7,7 +7,7 @@ use Rattle.c_syntax.specs.Programs.{Function, TranslationUnit}
 use Rattle.c_model.specs.Library.{is_there}
 use Rattle.c_model.specs.Meaning.{is_definition, definition_at}
 use Rattle.c_model.specs.ExpressionTyping.{Signature, function_called, same_type}
-use Rattle.c_model.specs.UnitTyping.{definition_of, first_of, number_or, signature, types_of, same_types, same_signature, is_compatible, is_compatible_with_all}
+use Rattle.c_model.specs.UnitTyping.{definition_of, first_declaration, number_or, signature, types_of, same_types, same_signature, is_compatible, is_compatible_with_all}
 use Rattle.c_model.specs.TextOrder.{Between}
 use Rattle.c_model.specs.FileItems.{AreScalar, IsDefined}
 use Rattle.c_model.proofs.TypedParts.{and_true, same_type_is}
@@ -196,8 +196,8 @@ in_sight p c b k hs more whole x g e d = by (definition_of x p.funcs) refl
         let f = found [] p.funcs x n 0 4294967295 i.function c b first h in
         let number : g.decl ≡ n =
         ap (λ (h : Signature). h.decl) i.is
-        ∙ ap (λ x. number_or (definition_of x p.funcs) (first_of x p.funcs)) i.name
-        ∙ ap (λ o. number_or o (first_of x p.funcs)) h in
+        ∙ ap (λ x. number_or (definition_of x p.funcs) (first_declaration x p.funcs)) i.name
+        ∙ ap (λ o. number_or o (first_declaration x p.funcs)) h in
         let below = f.below in
         record {
           function = f.definition;

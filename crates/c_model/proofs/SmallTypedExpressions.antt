@@ -20,11 +20,11 @@ use Rattle.c_model.specs.Library.{library_constant, is_there}
 use Rattle.c_model.specs.Meaning.{is_pointer}
 use Rattle.c_model.specs.Checked.{Checked, Good, Bad, faulty, one_part, both_parts, given, where_so}
 use Rattle.c_model.specs.ExpressionTyping.{no_name, no_type, Sight, Entity, AnObject, AnEnumerator, Signature, name_at, has_name, entity_named, function_called, library_function, use_as, literal_at, same_type}
-use Rattle.c_model.specs.ExpressionTyping.{is_scalar, is_void, pointed, is_place, decayed, in_type, in_int, decayed_of, literal, text, is_null_word, library_name, named, unary_on, on_integers, both_of, either_of}
+use Rattle.c_model.specs.ExpressionTyping.{is_scalar, is_void, pointed, is_place, decayed, in_type, in_int, decayed_of, literal, text, is_null_word, library_name, typed_name, unary_on, on_integers, both_of, either_of}
 use Rattle.c_model.specs.ExpressionTyping.{choice_type, pointer_choice, choice_of, is_struct, is_step, is_equality, is_difference, where_elements, on_pointers, on_pointer_and_integer, on_integer_and_pointer, binary}
 use Rattle.c_model.specs.ExpressionTyping.{is_null, are_compatible, points_to_void, knows_elements, operated, operated_in_place, element}
 use Rattle.c_model.specs.ExpressionTyping.{is_assigned, assigned_struct, assigned_scalar, compounded, assign, bump, is_cast, cast, index, member, dot, arrow, size_of_type, size_of_expression}
-use Rattle.c_model.specs.ExpressionTyping.{or_else, no_function, callee, first_type, rest_types, argument_for, count_of, call, params_of, two, typed, typed_arguments, typed_type, known_type, limited}
+use Rattle.c_model.specs.ExpressionTyping.{or_else, no_function, callee, first_type, rest_types, argument_for, argument_count, call, params_of, two, typed, typed_arguments, typed_type, known_type, limited}
 use Rattle.c_model.specs.SmallTypes.{TypesSmall, AllTypesSmall}
 use Rattle.c_model.proofs.TypedParts.{Gives, gives_one, gives_both, gives_given, gives_where, gives_sized, gives_elements, pointed_is}
 use Rattle.c_model.proofs.KnownTypes.{type_is_known}
@@ -172,7 +172,7 @@ module _ (new : List StructType)
         string_small : (at : Place) (offset : ℕ) → Gives AreTypesSmall (text s at offset)
         string_small at offset = gives_given AreTypesSmall (literal_at offset 0 s.texts) _ _ (λ l e. (text_small offset 0 s.texts i.texts l e, tt))
 
-        named_small : (at : Place) (x : ℕ) → Gives AreTypesSmall (named s at x)
+        named_small : (at : Place) (x : ℕ) → Gives AreTypesSmall (typed_name s at x)
         named_small at x = by (entity_named x s.entities) refl
           where
             by_word : (a b : Bool) → Gives AreTypesSmall (cond a (Good (Node at (Ptr Void) (Variable (use_as x 4294967295)))) (cond b (faulty (no_type at)) (faulty (no_name at))))
@@ -401,7 +401,7 @@ module _ (new : List StructType)
         parameters_of_small (Bad f fs) k = tt
 
         call_small : (at : Place) (f : Signature) (es : Expressions) → SmallSignature f → AllTypesSmall new es → Gives AreTypesSmall (call at f es)
-        call_small at f es k h = gives_where AreTypesSmall (nat_eq (count_of es) (length f.params)) _ _ (λ t. (k.0, h))
+        call_small at f es k h = gives_where AreTypesSmall (nat_eq (argument_count es) (length f.params)) _ _ (λ t. (k.0, h))
 
         -- ---- expressions
 

@@ -6,8 +6,9 @@ use Rattle.std.proofs.lemmas.List.{length-drop, length-take-le, get_or_append_le
 use Rattle.c_syntax.specs.Layouts.{PointerType}
 use Rattle.c_model.specs.Memory.{Pointer, Null, Into, Byte, Unwritten, Number, Piece, LoosePiece, Block, Store, Points, bytes_of, pieces, are_pieces, same_pointer, loosened, copied}
 use Rattle.c_model.specs.Memory.{number_of, null_of, pointer_of, is_accessible, load, bytes_in, value_from, ◌>>=◌}
-use Rattle.c_model.specs.MemoryQuestions.{Part, part, part_in, answered, all_bytes, is_piece_byte, is_zero, bytes_from, has_pointer, address_of}
-use Rattle.c_model.specs.Together.{AreTogether, AllTogether, FitAt, is_there, PointersLoad}
+use Rattle.c_model.specs.MemoryQuestions.{Part, part, part_in, answered, all_bytes, is_piece_byte, is_number_zero, part_bytes, has_pointer, address_of}
+use Rattle.c_model.specs.Together.{AreTogether, AllTogether, FitAt, PointersLoad}
+use Rattle.c_model.specs.Library.{is_there}
 use Rattle.c_model.proofs.Cells.{same_pointer-refl}
 
 -- ---- bytes of a block in which some are written
@@ -178,7 +179,7 @@ abbrev is_found : Option Pointer → Bool
 is_found None = false
 is_found (Some p) = true
 
-null_found : (o : Option ℕ) → is_zero o ≡ is_found (null_of o)
+null_found : (o : Option ℕ) → is_number_zero o ≡ is_found (null_of o)
 null_found None = refl
 null_found (Some zero) = refl
 null_found (Some (suc n)) =
@@ -187,7 +188,7 @@ null_found (Some (suc n)) =
 
 -- bytes of which pieces stand together, from the first byte of a group on
 bytes_load : (ys : List Byte) → length ys ≡ 8 → ((j l : ℕ) (p q : Pointer) (k : ℕ) → get_or ys 0 Unwritten ≡ Piece p k → get_or ys j Unwritten ≡ Piece q l → (p ≡ q) × (l ≡ j))
-    → (if all_bytes is_piece_byte ys then true else is_zero (number_of ys)) ≡ is_found (pointer_of ys)
+    → (if all_bytes is_piece_byte ys then true else is_number_zero (number_of ys)) ≡ is_found (pointer_of ys)
 bytes_load [] e each = absurd (omega (arith, e))
 bytes_load (Unwritten ∷ ys) e each = refl
 bytes_load (LoosePiece ∷ ys) e each = refl
@@ -215,7 +216,7 @@ past_end (y ∷ ys) (suc i) k p le e = past_end ys i k p (omega (arith, le)) e
 
 -- eight bytes of a block, at a multiple of eight
 group_loads : (b : Block) (i : ℕ) → length b.bytes ≡ b.size → AreTogether b.bytes → i + 8 ≤ b.size → i % 8 ≡ 0
-    → (if all_bytes is_piece_byte (take 8 (drop i b.bytes)) then true else is_zero (number_of (take 8 (drop i b.bytes)))) ≡ is_found (pointer_of (take 8 (drop i b.bytes)))
+    → (if all_bytes is_piece_byte (take 8 (drop i b.bytes)) then true else is_number_zero (number_of (take 8 (drop i b.bytes)))) ≡ is_found (pointer_of (take 8 (drop i b.bytes)))
 group_loads b i whole t room aligned = bytes_load (take 8 (drop i b.bytes)) long each
   where
     long : length (take 8 (drop i b.bytes)) ≡ 8
@@ -236,7 +237,7 @@ group_loads b i whole t room aligned = bytes_load (take 8 (drop i b.bytes)) long
     each j l p q k e d = by j l p q k e d (cases_lt j 8)
 
 abbrev is_pointer_part : Part → Bool
-is_pointer_part p = if all_bytes is_piece_byte (bytes_from p 8) then true else is_zero (number_of (bytes_from p 8))
+is_pointer_part p = if all_bytes is_piece_byte (part_bytes p 8) then true else is_number_zero (number_of (part_bytes p 8))
 
 abbrev loaded : Option (List Byte) → Bool
 loaded o = is_there (o >>= value_from PointerType)

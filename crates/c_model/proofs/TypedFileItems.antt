@@ -7,7 +7,7 @@ use Rattle.c_model.specs.ExpressionTyping.{Sight}
 use Rattle.c_model.specs.DeclarationTyping.{typed_global, typed_typedef, typed_member, typed_member_type, with_member, typed_enumerators}
 use Rattle.c_model.specs.UnitTyping.{FileItem, StructHead, Member, AnEnum, ATypedef, AGlobal, AFunction, with_function, typed_function, Progress, new_tag}
 use Rattle.c_model.specs.UnitTyping.{typed_item_of_file, typed_items_of_file, at_start, items_of_file, levels_from, sight_with, with_progress, typed_unit, with_enum_tag, behind_item, tags_of}
-use Rattle.c_model.specs.PlacedTrees.{FileItemPlaced, FilePlaced, MembersInOrder}
+use Rattle.c_model.specs.PlacedTrees.{FileItemAtOffsets, FileAtOffsets, MembersInOrder}
 use Rattle.c_model.specs.TextOrder.{enums_among, typedefs_among, globals_among, functions_among, InTextOrder}
 use Rattle.c_model.specs.TypedPrograms.{ItemTyped, ItemsTyped}
 use Rattle.c_model.specs.TypedReadings.{DeclarationTypedAs, SameDeclaration, EnumeratorsTypedAs, FunctionTypedAs}
@@ -102,7 +102,7 @@ record IsItem (p : TranslationUnit) (r : Progress) (i : FileItem) (q : Progress)
 widens : (old new : List StructType) → IsWider old new → Widens old new
 widens old new w = record { grows = w.grows; members = λ n x e z. w.members n x e }
 
-is_item : (p : TranslationUnit) (r : Progress) → IsWholeSight r.sight → (i : FileItem) → FileItemPlaced i → Gives (IsItem p r i) (typed_item_of_file p r i)
+is_item : (p : TranslationUnit) (r : Progress) → IsWholeSight r.sight → (i : FileItem) → FileItemAtOffsets i → Gives (IsItem p r i) (typed_item_of_file p r i)
 is_item p r w (StructHead k s) o = gives_one (λ u. Unit {0}) (IsItem p r (StructHead k s)) (new_tag r.tags s.place s.tag) _ (anything _) (λ u v. record {
   item = StructHead k s;
   read = refl;
@@ -226,7 +226,7 @@ one_more p r w i is next q m g h t = record {
     wider : IsWider r.sight.structs q.sight.structs
     wider = record { grows = grows; members = m }
 
-are_items : (p : TranslationUnit) (ended : List ℕ) (r : Progress) → IsWholeSight r.sight → AreKnown ended r.sight.structs → (is : List FileItem) → FilePlaced is → MembersInOrder ended is
+are_items : (p : TranslationUnit) (ended : List ℕ) (r : Progress) → IsWholeSight r.sight → AreKnown ended r.sight.structs → (is : List FileItem) → FileAtOffsets is → MembersInOrder ended is
     → Gives (AreItems p r is) (typed_items_of_file p r is)
 are_items p ended r w h [] o m = no_more p r w
 are_items p ended r w h (i ∷ is) o m =

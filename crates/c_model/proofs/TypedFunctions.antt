@@ -12,7 +12,7 @@ use Rattle.c_model.specs.DeclarationTyping.{own_name, scalar_type, typed_result,
 use Rattle.c_model.specs.StatementTyping.{typed_items}
 use Rattle.c_model.specs.UnitTyping.{with_function, with_parameter, with_parameters, typed_parameters, typed_heading, typed_body, typed_function}
 use Rattle.c_model.specs.TypedTrees.{IsScalar, IsResult, GivesNothing, GivesScalar, IsParameter, AreParameters, around_body, BodyTyped, FunctionTyped, ItemsTyped}
-use Rattle.c_model.specs.PlacedTrees.{IsOffset, ParametersPlaced, BodyPlaced, FunctionPlaced}
+use Rattle.c_model.specs.PlacedTrees.{IsOffset, ParametersAtOffsets, BodyAtOffsets, FunctionAtOffsets}
 use Rattle.c_model.specs.TextTypingLaws.{IsWholeSight}
 use Rattle.c_model.proofs.TypedHeadings.{gives_heading}
 use Rattle.c_model.proofs.TypedParts.{Gives, gives_of, gives_one, gives_both, gives_where, void_is, scalar_is}
@@ -91,7 +91,7 @@ record AreParametersThen (s : Sight) (ds : List Declaration) : Type 0 where
   are : AreParameters s ds
   offsets : AreOffsets ds
 
-parameters_typed : (s : Sight) (defined : Bool) (ds : List Declaration) → ParametersPlaced ds → Gives (AreParametersThen s) (typed_parameters s defined ds)
+parameters_typed : (s : Sight) (defined : Bool) (ds : List Declaration) → ParametersAtOffsets ds → Gives (AreParametersThen s) (typed_parameters s defined ds)
 parameters_typed s defined [] o = record { are = tt; offsets = tt }
 parameters_typed s defined (d ∷ ds) o =
     gives_one (IsParameterThen s d) (AreParametersThen s) (typed_parameter s defined d) (λ d. one_part (typed_parameters (with_parameter s d) defined ds) (λ ds. Good (d ∷ ds)))
@@ -138,7 +138,7 @@ after_function p s i f r = record {
   members = i.members;
 }
 
-body_typed : (s : Sight) → IsWholeSight s → (t : PlainType) (b : Option Statement) → BodyPlaced b → Gives (BodyTyped s t) (typed_body s t b)
+body_typed : (s : Sight) → IsWholeSight s → (t : PlainType) (b : Option Statement) → BodyAtOffsets b → Gives (BodyTyped s t) (typed_body s t b)
 body_typed s i t None o = tt
 body_typed s i t (Some (Block at items)) o =
     gives_one (ItemsTyped s (around_body t)) (BodyTyped s t) (typed_items s (around_body t) items) (λ items. Good (Some (Block at items))) (items_typed s i (around_body t) items o) (λ items w. w)
@@ -153,7 +153,7 @@ record IsHeading (s : Sight) (f g : Function) : Type 0 where
   params : AreParametersThen (inner s) g.params
   body : g.body ≡ f.body
 
-heading_typed : (s : Sight) (before : List Function) (f : Function) → FunctionPlaced f → Gives (IsHeading s f) (typed_heading s before f)
+heading_typed : (s : Sight) (before : List Function) (f : Function) → FunctionAtOffsets f → Gives (IsHeading s f) (typed_heading s before f)
 heading_typed s before f o =
     gives_heading (λ u. (is_library_name (name_at s.names f.name) ≡ false) × (declared ≡ false)) IsResult (AreParametersThen (inner s)) (IsHeading s f) s before f (own_name_is s declared f.place f.name)
     (result_is s (is_definition f) f.place f.result) (parameters_typed (inner s) (is_definition f) f.params o.params) (λ n t ds u v w. record { own_name = u.0; result = v; params = w; body = refl })
@@ -166,14 +166,14 @@ pub record IsFunctionThen (p : TranslationUnit) (s : Sight) (f : Function) : Typ
   pub typed : FunctionTyped (with_function p s f) f
   pub sight : IsWholeSight (with_function p s f)
 
-pub function_typed : (p : TranslationUnit) (s : Sight) → IsWholeSight s → (before : List Function) (f : Function) → FunctionPlaced f → Gives (IsFunctionThen p s) (typed_function p s before f)
+pub function_typed : (p : TranslationUnit) (s : Sight) → IsWholeSight s → (before : List Function) (f : Function) → FunctionAtOffsets f → Gives (IsFunctionThen p s) (typed_function p s before f)
 function_typed p s i before f o =
     gives_one (IsHeading s f) (IsFunctionThen p s) (typed_heading s before f) _ (heading_typed s before f o) (λ g v.
     let w = after_function p s i g v.result in
     gives_one (BodyTyped (with_parameters (inner (with_function p s g)) g.params) g.result) (IsFunctionThen p s)
     (typed_body (with_parameters (inner (with_function p s g)) g.params) g.result g.body) (λ b. Good (record g { body = b }))
     (body_typed (with_parameters (inner (with_function p s g)) g.params)
-    (after_parameters (inner (with_function p s g)) (inner_sight (with_function p s g) w) g.params v.params.offsets) g.result g.body (subst BodyPlaced (sym v.body) o.body))
+    (after_parameters (inner (with_function p s g)) (inner_sight (with_function p s g) w) g.params v.params.offsets) g.result g.body (subst BodyAtOffsets (sym v.body) o.body))
     (λ b h. record {
       typed = record {
         own_name = v.own_name;
@@ -185,6 +185,6 @@ function_typed p s i before f o =
     }))
 
 -- the law of functions
-pub function_is_typed : (p : TranslationUnit) (s : Sight) (before : List Function) (f g : Function) → IsWholeSight s → FunctionPlaced f → typed_function p s before f ≡ Good g
+pub function_is_typed : (p : TranslationUnit) (s : Sight) (before : List Function) (f g : Function) → IsWholeSight s → FunctionAtOffsets f → typed_function p s before f ≡ Good g
     → FunctionTyped (with_function p s g) g
 function_is_typed p s before f g i o is = (gives_of (IsFunctionThen p s) (typed_function p s before f) g (function_typed p s i before f o) is).typed

@@ -5,7 +5,7 @@ use Rattle.c_syntax.specs.Programs.{Function, TranslationUnit}
 use Rattle.c_model.specs.Library.{is_there}
 use Rattle.c_model.specs.Checked.{Good}
 use Rattle.c_model.specs.ExpressionTyping.{Sight}
-use Rattle.c_model.specs.UnitTyping.{FileItem, StructHead, Member, AnEnum, ATypedef, AGlobal, AFunction, offset_of_item, with_function, definition_of, first_of, number_or, types_of, signature, items_of_file, sight_with}
+use Rattle.c_model.specs.UnitTyping.{FileItem, StructHead, Member, AnEnum, ATypedef, AGlobal, AFunction, offset_of_item, with_function, definition_of, first_declaration, number_or, types_of, signature, items_of_file, sight_with}
 use Rattle.c_model.specs.UnitTyping.{behind_item, typed_unit}
 use Rattle.c_model.specs.TextOrder.{enums_among, typedefs_among, globals_among, functions_among, InTextOrder}
 use Rattle.c_model.specs.TypedTrees.{FunctionTyped}
@@ -117,9 +117,9 @@ definition_number x (f ∷ fs) gs h =
     let rest = definition_number x fs h.1 h.4 in
     ap (definition_of x) h.2 ∙ (λ i. cond (body i && nat_eq (h.3.name i) x) (Some (h.3.place i).offset) (rest i))
 
-first_number : (x : ℕ) (fs gs : List Function) → FunctionsTypedAs fs gs → first_of x gs ≡ first_of x fs
-first_number x [] gs h = ap (first_of x) h
-first_number x (f ∷ fs) gs h = let rest = first_number x fs h.1 h.4 in ap (first_of x) h.2 ∙ (λ i. cond (nat_eq (h.3.name i) x) (h.3.place i).offset (rest i))
+first_number : (x : ℕ) (fs gs : List Function) → FunctionsTypedAs fs gs → first_declaration x gs ≡ first_declaration x fs
+first_number x [] gs h = ap (first_declaration x) h
+first_number x (f ∷ fs) gs h = let rest = first_number x fs h.1 h.4 in ap (first_declaration x) h.2 ∙ (λ i. cond (nat_eq (h.3.name i) x) (h.3.place i).offset (rest i))
 
 -- a function has one signature among those that are read and those that are typed
 same_signature : (fs gs : List Function) → FunctionsTypedAs fs gs → (f : Function) → signature fs f ≡ signature gs f

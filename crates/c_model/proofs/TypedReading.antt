@@ -17,11 +17,11 @@ use Rattle.c_model.specs.Conversions.{promoted, common, is_shift, is_relation, r
 use Rattle.c_model.specs.Library.{library_constant, is_there}
 use Rattle.c_model.specs.Checked.{Checked, Good, Bad, faulty, one_part, both_parts, given, where_so}
 use Rattle.c_model.specs.ExpressionTyping.{no_name, no_type, Sight, Entity, AnObject, AnEnumerator, Signature, name_at, entity_named, function_called, library_function, use_as, literal_at, same_type}
-use Rattle.c_model.specs.ExpressionTyping.{is_scalar, is_void, pointed, is_place, decayed, in_type, in_int, decayed_of, literal, text, is_null_word, library_name, named, unary_on, on_integers, both_of, either_of}
+use Rattle.c_model.specs.ExpressionTyping.{is_scalar, is_void, pointed, is_place, decayed, in_type, in_int, decayed_of, literal, text, is_null_word, library_name, typed_name, unary_on, on_integers, both_of, either_of}
 use Rattle.c_model.specs.ExpressionTyping.{choice_type, choice_of, is_struct, is_step, is_equality, is_difference, where_elements, on_pointers, on_pointer_and_integer, on_integer_and_pointer, knows_elements, operated, is_null, are_compatible}
 use Rattle.c_model.specs.ExpressionTyping.{binary, operated_in_place, element}
 use Rattle.c_model.specs.ExpressionTyping.{is_assigned, assigned_struct, assigned_scalar, compounded, assign, bump, is_cast, cast, index, member, dot, arrow, size_of_type, size_of_expression}
-use Rattle.c_model.specs.ExpressionTyping.{or_else, no_function, callee, first_type, rest_types, argument_for, count_of, call, params_of, two, typed, typed_arguments, typed_type, known_type, limited}
+use Rattle.c_model.specs.ExpressionTyping.{or_else, no_function, callee, first_type, rest_types, argument_for, argument_count, call, params_of, two, typed, typed_arguments, typed_type, known_type, limited}
 use Rattle.c_model.specs.TypedTrees.{TypingLaws, AsUse, AsNumber, TypedAs, KindTypedAs, AllTypedAs}
 use Rattle.c_model.proofs.TypedSoundness.{called_name, named_of_library, gives_limited, typed_well}
 use Rattle.c_model.proofs.TypedParts.{Gives, gives_of, gives_one, gives_both, gives_given, gives_where, gives_sized, gives_elements}
@@ -64,7 +64,7 @@ module _ (s : Sight) (at : Place) (u : PlainType)
     text_as : (offset : ℕ) → Gives (TypedAs (Node at u (Text offset))) (text s at offset)
     text_as offset = gives_given _ (literal_at offset 0 s.texts) _ _ (λ l e. form_as at u _ (Text offset) (Text l.0) (l.0, refl))
 
-    named_as : (x : Use) → Gives (TypedAs (Node at u (Variable x))) (named s at x.name)
+    named_as : (x : Use) → Gives (TypedAs (Node at u (Variable x))) (typed_name s at x.name)
     named_as x = by (entity_named x.name s.entities)
       where
         by_word : (a b : Bool) → Gives (TypedAs (Node at u (Variable x))) (cond a (Good (Node at (Ptr Void) (Variable (use_as x.name 4294967295)))) (cond b (faulty (no_type at)) (faulty (no_name at))))
@@ -276,7 +276,7 @@ module _ (s : Sight)
     argument_as r (t ∷ ts) e h = gives_where (TypedAs r) (is_assigned s e t) _ _ (λ c. in_type_as r e t h)
 
     call_as : (at : Place) (u : PlainType) (f : Use) (g : Signature) (es fs : Expressions) → f.name ≡ g.name → AllTypedAs es fs → Gives (TypedAs (Node at u (Call f es))) (call at g fs)
-    call_as at u f g es fs e h = gives_where _ (nat_eq (count_of fs) (length g.params)) _ _ (λ t.
+    call_as at u f g es fs e h = gives_where _ (nat_eq (argument_count fs) (length g.params)) _ _ (λ t.
         form_as at u g.result (Call f es) (Call (use_as g.name g.decl) fs) (g.decl, fs, ap (λ x. Call (use_as x g.decl) fs) (sym e), h))
 
     -- ---- expressions

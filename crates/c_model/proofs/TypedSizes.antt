@@ -35,9 +35,9 @@ use Rattle.c_model.specs.Checked.{Fault, Checked, Good, Bad, faulty, one_part, b
 use Rattle.c_model.specs.Formed.{nodes_of, nodes_of_all, most_read}
 use Rattle.c_model.specs.ExpressionTyping.{no_name, no_type, Sight, Entity, AnObject, AnEnumerator, Signature, name_at, entity_named, function_called, library_function}
 use Rattle.c_model.specs.ExpressionTyping.{use_as, literal_at, same_type, is_void, is_scalar, pointed, is_struct, where_sized}
-use Rattle.c_model.specs.ExpressionTyping.{decayed, in_type, in_int, is_place, is_null, are_compatible, is_assigned, literal, text, is_null_word, library_name, named, unary_on, on_integers, is_step, is_equality, is_difference}
+use Rattle.c_model.specs.ExpressionTyping.{decayed, in_type, in_int, is_place, is_null, are_compatible, is_assigned, literal, text, is_null_word, library_name, typed_name, unary_on, on_integers, is_step, is_equality, is_difference}
 use Rattle.c_model.specs.ExpressionTyping.{where_elements, on_pointers, on_pointer_and_integer, on_integer_and_pointer, binary, both_of, either_of, choice_type, choice_of, assigned_scalar, assigned_struct, assigned, compounded}
-use Rattle.c_model.specs.ExpressionTyping.{assign, bump, is_cast, cast, index, member, dot, arrow, size_of_type, size_of_expression, callee, first_type, rest_types, argument_for, count_of, call, params_of}
+use Rattle.c_model.specs.ExpressionTyping.{assign, bump, is_cast, cast, index, member, dot, arrow, size_of_type, size_of_expression, callee, first_type, rest_types, argument_for, argument_count, call, params_of}
 use Rattle.c_model.specs.ExpressionTyping.{two, decayed_of, typed, typed_arguments, typed_type, known_type, limited, knows_elements, operated, operated_in_place, element}
 use Rattle.c_model.specs.Sizes.{weight_of, weight_of_all, forms_of, forms_of_all, IsSmall}
 use Rattle.c_model.proofs.TypedParts.{Gives, gives_one, gives_both, gives_given, gives_where, gives_sized, gives_elements}
@@ -134,7 +134,7 @@ library_light s at x = by (library_constant (name_at s.names x)) (is_null_word s
     by None false true = tt
     by None false false = tt
 
-named_light : (s : Sight) (at : Place) (x : ℕ) → Gives (IsLight 1) (named s at x)
+named_light : (s : Sight) (at : Place) (x : ℕ) → Gives (IsLight 1) (typed_name s at x)
 named_light s at x = by (entity_named x s.entities) (function_called x s.functions)
   where
     by : (o : Option Entity) (f : Option Signature) → Gives (IsLight 1) (elim o [
@@ -451,7 +451,7 @@ call_light : (at : Place) (f : Signature) (n : ℕ) (es : Expressions) → AreLi
 call_light at f n es h =
     let g = h.few in
     let w = h.light in
-    gives_if (IsLight (suc n)) (nat_eq (count_of es) (length f.params)) (no_type at) (Good (Node at f.result (Call (use_as f.name f.decl) es))) (record { few = omega (arith, g); light = omega (arith, w) })
+    gives_if (IsLight (suc n)) (nat_eq (argument_count es) (length f.params)) (no_type at) (Good (Node at f.result (Call (use_as f.name f.decl) es))) (record { few = omega (arith, g); light = omega (arith, w) })
 
 -- ---- all expressions
 

@@ -15,8 +15,8 @@ use Rattle.c_model.specs.Library.{Constants, constants, constant_in, library_con
 use Rattle.c_model.specs.Checked.{Fault, Checked, Good, Bad, faulty, one_part, both_parts, where_so}
 use Rattle.c_model.specs.ExpressionTyping.{no_name, no_type, too_large, Sight, Entity, AnObject, AnEnumerator, Signature, name_at, or_else, entity_named, function_called}
 use Rattle.c_model.specs.ExpressionTyping.{of_library, library_function, use_as, literal_at, HasSize, sized, is_void, is_scalar, has_small_parts, levels_of, most_levels, most_bytes, is_within_limits}
-use Rattle.c_model.specs.ExpressionTyping.{besides, limited, decayed, is_null, points_to_void, are_compatible, is_assigned, text, is_null_word, library_name, named, pointer_choice}
-use Rattle.c_model.specs.ExpressionTyping.{choice_type, choice_of, no_function, callee, first_type, rest_types, argument_for, count_of, call, params_of, two, decayed_of, typed}
+use Rattle.c_model.specs.ExpressionTyping.{besides, limited, decayed, is_null, points_to_void, are_compatible, is_assigned, text, is_null_word, library_name, typed_name, pointer_choice}
+use Rattle.c_model.specs.ExpressionTyping.{choice_type, choice_of, no_function, callee, first_type, rest_types, argument_for, argument_count, call, params_of, two, decayed_of, typed}
 use Rattle.c_model.specs.ExpressionTyping.{typed_arguments, typed_type, known_type, unary_on, binary, both_of, either_of, assign, bump, cast, index, dot, arrow, size_of_type, size_of_expression}
 use Rattle.c_model.specs.TypedTrees.{IsPointer, IsResult, GivesNothing, GivesScalar, HasKnownSize, OfObject, OfNull, CastTypes, ToVoid, OfPointer, HaveTypes, WellTyped, AreWellTyped, IsSight}
 use Rattle.c_model.proofs.TypedParts.{Gives, gives_of, gives_one, gives_both, gives_given, gives_where, gives_self, gives_sized, and_true, scalar_is, pointer_is}
@@ -155,7 +155,7 @@ module _ (s : Sight) (known : IsSight s)
   where
     -- ---- names
 
-    named_sound : (at : Place) (x : ℕ) → Gives (Sound s) (named s at x)
+    named_sound : (at : Place) (x : ℕ) → Gives (Sound s) (typed_name s at x)
     named_sound at x = by (entity_named x s.entities) refl
       where
         by_word : (a b : Bool) → Gives (Sound s) (cond a (Good (Node at (Ptr Void) (Variable (use_as x 4294967295)))) (cond b (faulty (no_type at)) (faulty (no_name at))))
@@ -313,7 +313,7 @@ module _ (s : Sight) (known : IsSight s)
     -- arguments, which have the types of as many parameters
     record IsArgued (ts : List PlainType) (es : Expressions) : Type 0 where
       well : AreWellTyped s es
-      types : count_of es ≡ length ts → HaveTypes ts es
+      types : argument_count es ≡ length ts → HaveTypes ts es
 
     none_argued : (ts : List PlainType) → IsArgued ts NoExpression
     none_argued [] = record { well = tt; types = λ e. tt }
@@ -327,8 +327,8 @@ module _ (s : Sight) (known : IsSight s)
         record { well = (in_type_well s t e w (assigned_casts s known t e w c), a.well); types = λ n. (in_type_type t e, a.types (omega (arith, n))) })
 
     call_sound : (at : Place) (f : Signature) (es : Expressions) → IsCallee f → IsArgued f.params es → Gives (Sound s) (call at f es)
-    call_sound at f es c a = gives_where (Sound s) (nat_eq (count_of es) (length f.params)) _ _ (λ t.
-        let n : count_of es ≡ length f.params = grind (arith, nat_tests, t) in record {
+    call_sound at f es c a = gives_where (Sound s) (nat_eq (argument_count es) (length f.params)) _ _ (λ t.
+        let n : argument_count es ≡ length f.params = grind (arith, nat_tests, t) in record {
           well = (a.well, record { callee = f; found = c.found; defined = c.defined; not_main = c.not_main; decl = refl; result = refl; arguments = a.types n });
           object = λ o. absurd (clash (is_aggregate f.result) o c.flat);
         })

@@ -11,7 +11,7 @@ use Rattle.c_model.specs.TypedTrees.{CasesTyped, OfInteger}
 use Rattle.c_model.proofs.TypedParts.{gives_given, integer_is}
 use Rattle.c_model.proofs.TypedDeclarations.{anything}
 use Rattle.c_model.proofs.Conversions.{fits-convert}
-use Rattle.c_model.specs.PlacedTrees.{CasesPlaced}
+use Rattle.c_model.specs.PlacedTrees.{CasesAtOffsets}
 use Rattle.std.proofs.Common.{◌≡◌, refl, List, [], ◌∷◌, Option, Some, None, true, not, ◌&&◌, ◌||◌}
 use Rattle.c_syntax.specs.declared.place.Place.{Place}
 use Rattle.c_syntax.specs.Ctypes.{PlainType, Void, Int, Ptr}
@@ -28,7 +28,7 @@ use Rattle.c_model.specs.StatementTyping.{Around, in_loop, behind, behind_first,
 use Rattle.c_model.specs.StatementTyping.{typed_item, typed_items}
 use Rattle.c_model.specs.DeclarationTyping.{typed_variable}
 use Rattle.c_model.specs.TypedTrees.{IsCondition, WellTyped, WhereAny, AreDeclared, StatementTyped, ElseTyped, FirstTyped, ItemTyped, ItemsTyped}
-use Rattle.c_model.specs.PlacedTrees.{ArePlaced, StatementPlaced, ElsePlaced, FirstPlaced, ItemPlaced, ItemsPlaced}
+use Rattle.c_model.specs.PlacedTrees.{AreAtOffsets, StatementAtOffsets, ElseAtOffsets, FirstAtOffsets, ItemAtOffsets, ItemsAtOffsets}
 use Rattle.c_model.specs.TextTypingLaws.{IsWholeSight}
 use Rattle.c_model.proofs.TypedParts.{Gives, gives_of, gives_one, gives_where, and_true, scalar_is}
 use Rattle.c_model.proofs.TypedOperators.{Sound, decayed_sound, in_type_well, in_type_type, or_cases}
@@ -102,7 +102,7 @@ module _ (s : Sight) (i : IsWholeSight s)
           scalar = scalar_is r.result (assigned_scalar s e r.result p.1);
         })
 
-declarations_typed : (s : Sight) → IsWholeSight s → (ds : List Declaration) → ArePlaced ds → Gives (AreDeclaredThen s) (typed_declarations s ds)
+declarations_typed : (s : Sight) → IsWholeSight s → (ds : List Declaration) → AreAtOffsets ds → Gives (AreDeclaredThen s) (typed_declarations s ds)
 declarations_typed s i [] o = record { declared = tt; sight = i }
 declarations_typed s i (d ∷ ds) o =
     gives_one (IsDeclaredThen s) (AreDeclaredThen s) (typed_variable s d) (λ d. one_part (typed_declarations (with_object s d) ds) (λ ds. Good (d ∷ ds))) (variable_declared s i d o.0) (λ d v.
@@ -129,7 +129,7 @@ case_fits s k used e =
     gives_where (λ z. fits k z ≡ true) (not (is_used (convert k z) used)) (no_type (place_of e)) (Good (convert k z)) (λ _. fits-convert k z)))
 
 mutual
-  statement_typed : (s : Sight) → IsWholeSight s → (r : Around) (a : Statement) → StatementPlaced a → Gives (StatementTyped s r) (typed_statement s r a)
+  statement_typed : (s : Sight) → IsWholeSight s → (r : Around) (a : Statement) → StatementAtOffsets a → Gives (StatementTyped s r) (typed_statement s r a)
   statement_typed s i r (Empty at) o = tt
   statement_typed s i r (Eval at e) o = gives_one (WellTyped s) (StatementTyped s r) (typed s e) (λ e. Good (Eval at e)) (expression_typed s i e) (λ e w. w)
   statement_typed s i r (Block at items) o =
@@ -167,7 +167,7 @@ mutual
       gives_one (CasesTyped s (in_switch r) x.0) (StatementTyped s r) (typed_cases s (in_switch r) x.0 [] false cases) (λ cs. Good (Switch at x.1 cs)) (cases_typed s i (in_switch r) x.0 [] false cases o)
       (λ cs v. (u.0, u.2, u.3, subst (λ k. CasesTyped s (in_switch r) k cs) u.1 v)))
 
-  cases_typed : (s : Sight) → IsWholeSight s → (r : Around) (k : CInt) (used : List ℤ) (has_default : Bool) (cases : Cases) → CasesPlaced cases → Gives (CasesTyped s r k) (typed_cases s r k used has_default cases)
+  cases_typed : (s : Sight) → IsWholeSight s → (r : Around) (k : CInt) (used : List ℤ) (has_default : Bool) (cases : Cases) → CasesAtOffsets cases → Gives (CasesTyped s r k) (typed_cases s r k used has_default cases)
   cases_typed s i r k used d NoCase o = tt
   cases_typed s i r k used d (AnotherCase at None items rest) o =
       gives_where (CasesTyped s r k) (not d) (no_type at) _ (λ _.
@@ -181,27 +181,27 @@ mutual
       gives_one (CasesTyped s r k) (CasesTyped s r k) (typed_cases s r k (z ∷ used) d rest) (λ rest. Good (AnotherCase at (Some (case_number k (place_of e) z)) js rest))
       (cases_typed s i r k (z ∷ used) d rest o.1) (λ cs w. ((refl, refl, f), v, w))))
 
-  else_typed : (s : Sight) → IsWholeSight s → (r : Around) (b : ElsePart) → ElsePlaced b → Gives (ElseTyped s r) (typed_else s r b)
+  else_typed : (s : Sight) → IsWholeSight s → (r : Around) (b : ElsePart) → ElseAtOffsets b → Gives (ElseTyped s r) (typed_else s r b)
   else_typed s i r NoElse o = tt
   else_typed s i r (Else a) o = gives_one (StatementTyped s r) (ElseTyped s r) (typed_statement s r a) (λ a. Good (Else a)) (statement_typed s i r a o) (λ a w. w)
 
-  first_typed : (s : Sight) → IsWholeSight s → (r : Around) (b : ForFirst) → FirstPlaced b → Gives (IsFirstThen s r) (typed_first s r b)
+  first_typed : (s : Sight) → IsWholeSight s → (r : Around) (b : ForFirst) → FirstAtOffsets b → Gives (IsFirstThen s r) (typed_first s r b)
   first_typed s i r NoFirst o = record { typed = tt; sight = i }
   first_typed s i r (First b) o = gives_one (IsItemThen s r) (IsFirstThen s r) (typed_item s r b) (λ i. Good (First i)) (item_typed s i r b o) (λ b w. record { typed = w.typed; sight = w.sight })
 
-  item_typed : (s : Sight) → IsWholeSight s → (r : Around) (b : BlockItem) → ItemPlaced b → Gives (IsItemThen s r) (typed_item s r b)
+  item_typed : (s : Sight) → IsWholeSight s → (r : Around) (b : BlockItem) → ItemAtOffsets b → Gives (IsItemThen s r) (typed_item s r b)
   item_typed s i r (Declare ds) o =
       gives_one (AreDeclaredThen s) (IsItemThen s r) (typed_declarations s ds) (λ ds. Good (Declare ds)) (declarations_typed s i ds o) (λ ds w. record { typed = w.declared; sight = w.sight })
   item_typed s i r (Specify at t) o = gives_one (λ u. Unit {0}) (IsItemThen s r) (typed_type s at t) (λ u. Good (Specify at u)) (anything (typed_type s at t)) (λ u v. record { typed = tt; sight = i })
   item_typed s i r (Run a) o = gives_one (StatementTyped s r) (IsItemThen s r) (typed_statement s r a) (λ a. Good (Run a)) (statement_typed s i r a o) (λ a w. record { typed = w; sight = i })
   item_typed s i r (Asserts annots) o = record { typed = tt; sight = i }
 
-  pub items_typed : (s : Sight) → IsWholeSight s → (r : Around) (items : BlockItems) → ItemsPlaced items → Gives (ItemsTyped s r) (typed_items s r items)
+  pub items_typed : (s : Sight) → IsWholeSight s → (r : Around) (items : BlockItems) → ItemsAtOffsets items → Gives (ItemsTyped s r) (typed_items s r items)
   items_typed s i r NoItem o = tt
   items_typed s i r (Then b rest) o =
       gives_one (IsItemThen s r) (ItemsTyped s r) (typed_item s r b) (λ i. one_part (typed_items (behind s i) r rest) (λ rest. Good (Then i rest))) (item_typed s i r b o.0) (λ b v.
       gives_one (ItemsTyped (behind s b) r) (ItemsTyped s r) (typed_items (behind s b) r rest) (λ rest. Good (Then b rest)) (items_typed (behind s b) v.sight r rest o.1) (λ rest w. (v.typed, w)))
 
 -- a typed statement is well typed
-pub statement_is_typed : (s : Sight) (r : Around) (a b : Statement) → IsWholeSight s → StatementPlaced a → typed_statement s r a ≡ Good b → StatementTyped s r b
+pub statement_is_typed : (s : Sight) (r : Around) (a b : Statement) → IsWholeSight s → StatementAtOffsets a → typed_statement s r a ≡ Good b → StatementTyped s r b
 statement_is_typed s r a b i o is = gives_of (StatementTyped s r) (typed_statement s r a) b (statement_typed s i r a o) is

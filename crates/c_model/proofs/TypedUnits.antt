@@ -15,7 +15,7 @@ use Rattle.c_model.specs.DeclarationTyping.{placed_from, is_declared_in_file, ow
 use Rattle.c_model.specs.DeclarationTyping.{typed_value, with_enumerator, typed_enumerators}
 use Rattle.c_model.specs.UnitTyping.{FileItem, StructHead, Member, AnEnum, ATypedef, AGlobal, AFunction, unknown, first_sight, with_type, typed_function, Progress, new_tag, typed_item_of_file}
 use Rattle.c_model.specs.UnitTyping.{typed_items_of_file, at_start, items_of_file, with_progress, typed_unit}
-use Rattle.c_model.specs.PlacedTrees.{FileItemPlaced, FilePlaced}
+use Rattle.c_model.specs.PlacedTrees.{FileItemAtOffsets, FileAtOffsets}
 use Rattle.c_model.specs.TypedReadings.{DeclarationTypedAs, SameDeclaration, EnumeratorsTypedAs, FunctionTypedAs}
 use Rattle.c_model.specs.TypedFiles.{ItemStands, ItemsStand, UnitStands}
 use Rattle.c_model.specs.TextTypingLaws.{is_whole, AreWhole, IsWholeSight}
@@ -121,7 +121,7 @@ pub record StandsThen (p : TranslationUnit) (r : Progress) (i : FileItem) (q : P
 same_sight : (s : Sight) → IsWholeSight s → (d : Declaration) → IsWholeSight (with_type s d)
 same_sight s i d = record { known = record { objects = i.known.objects; enumerators = i.known.enumerators; results = i.known.results }; members = i.members }
 
-pub item_stands : (p : TranslationUnit) (r : Progress) → IsWholeSight r.sight → (i : FileItem) → FileItemPlaced i → Gives (StandsThen p r i) (typed_item_of_file p r i)
+pub item_stands : (p : TranslationUnit) (r : Progress) → IsWholeSight r.sight → (i : FileItem) → FileItemAtOffsets i → Gives (StandsThen p r i) (typed_item_of_file p r i)
 item_stands p r w (StructHead k s) o =
     gives_one (λ u. Unit {0}) (StandsThen p r (StructHead k s)) (new_tag r.tags s.place s.tag) _ (anything _) (λ u v. record { stands = record { enums = refl; typedefs = refl; globals = refl; funcs = refl }; sight = w })
 item_stands p r w (Member k m ends) o = by (slice_get r.sight.structs k) refl
@@ -153,7 +153,7 @@ record StandThen (p : TranslationUnit) (r : Progress) (is : List FileItem) (q : 
   stand : ItemsStand p r is q
   sight : IsWholeSight q.sight
 
-items_stand : (p : TranslationUnit) (r : Progress) → IsWholeSight r.sight → (is : List FileItem) → FilePlaced is → Gives (StandThen p r is) (typed_items_of_file p r is)
+items_stand : (p : TranslationUnit) (r : Progress) → IsWholeSight r.sight → (is : List FileItem) → FileAtOffsets is → Gives (StandThen p r is) (typed_items_of_file p r is)
 items_stand p r w [] o = record { stand = refl; sight = w }
 items_stand p r w (i ∷ is) o =
     gives_one (StandsThen p r i) (StandThen p r (i ∷ is)) (typed_item_of_file p r i) (λ r. typed_items_of_file p r is) (item_stands p r w i o.0) (λ q v.
@@ -164,7 +164,7 @@ items_stand p r w (i ∷ is) o =
     rest q v (Bad f fs) h = tt
 
 -- the law of files
-pub unit_stands : (p q : TranslationUnit) → FilePlaced (items_of_file p) → typed_unit p ≡ Good q → UnitStands p q
+pub unit_stands : (p q : TranslationUnit) → FileAtOffsets (items_of_file p) → typed_unit p ≡ Good q → UnitStands p q
 unit_stands p q o is = gives_of (UnitStands p) (typed_unit p) q
     (gives_one (StandThen p (at_start p) (items_of_file p)) (UnitStands p) (typed_items_of_file p (at_start p) (items_of_file p)) (λ r. Good (with_progress p r))
     (items_stand p (at_start p) (first_sight_whole p) (items_of_file p) o) (λ r v. record { last = r; items = v.stand; is = refl })) is

@@ -8,7 +8,7 @@ use Rattle.c_syntax.specs.Programs.{Function}
 use Rattle.c_model.specs.Library.{is_there}
 use Rattle.c_model.specs.Meaning.{is_definition}
 use Rattle.c_model.specs.ExpressionTyping.{Sight, inner, name_at, same_type}
-use Rattle.c_model.specs.UnitTyping.{definition_of, first_of, number_or, types_of, signature, with_parameters, has_no_parameters, no_main, main_fault}
+use Rattle.c_model.specs.UnitTyping.{definition_of, first_declaration, number_or, types_of, signature, with_parameters, has_no_parameters, no_main, main_fault}
 use Rattle.c_model.specs.TypedTrees.{around_body, BodyTyped, FunctionTyped}
 use Rattle.c_model.specs.TypedAnnotations.{BodyNoted, FunctionNoted}
 use Rattle.c_model.specs.Formed.{AreAsserts, number_of, numbers_of, declared_in_body, AreNamed, FunctionNamed, FunctionsNamed}
@@ -112,7 +112,7 @@ same_definition_of : (x : ℕ) (fs : List Function) → definition_of x (map unr
 same_definition_of x [] = refl
 same_definition_of x (f ∷ fs) = λ i. cond (same_definition f i && nat_eq f.name x) (Some f.place.offset) (same_definition_of x fs i)
 
-same_first_of : (x : ℕ) (fs : List Function) → first_of x (map unranged_function fs) ≡ first_of x fs
+same_first_of : (x : ℕ) (fs : List Function) → first_declaration x (map unranged_function fs) ≡ first_declaration x fs
 same_first_of x [] = refl
 same_first_of x (f ∷ fs) = λ i. cond (nat_eq f.name x) f.place.offset (same_first_of x fs i)
 

@@ -22,8 +22,8 @@ use Rattle.c_model.specs.Pieces.{word, Pieces, Ended, Broken, Cut, pieces_of}
 -- ---- tokens
 
 -- a string literal after the last token, which it joins where that is one (C99 6.4.5 p4)
-abbrev pub joined : PlainToken → Place → List ℕ → List PlainToken
-joined t at bs = elim t.kind [
+abbrev pub joined_string : PlainToken → Place → List ℕ → List PlainToken
+joined_string t at bs = elim t.kind [
   | token.Chars cs ↦ monitored.token t.place (token.Chars (cs ++ bs)) ∷ []
   | token.Word n ↦ t ∷ monitored.token at (token.Chars bs) ∷ []
   | token.Number v c ↦ t ∷ monitored.token at (token.Chars bs) ∷ []
@@ -36,7 +36,7 @@ joined t at bs = elim t.kind [
 
 abbrev pub with_string : List PlainToken → Place → List ℕ → List PlainToken
 with_string [] at bs = monitored.token at (token.Chars bs) ∷ []
-with_string (t ∷ []) at bs = joined t at bs
+with_string (t ∷ []) at bs = joined_string t at bs
 with_string (t ∷ u ∷ ts) at bs = t ∷ with_string (u ∷ ts) at bs
 
 -- the token of a piece after those that are read

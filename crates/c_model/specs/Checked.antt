@@ -16,9 +16,9 @@ abbrev pub lesser : Fault → Fault → Fault
 lesser f g = cond (nat_lt (rank g) (rank f)) g f
 
 -- the least of faults
-abbrev pub least : Fault → List Fault → Fault
-least f [] = f
-least f (g ∷ gs) = lesser f (least g gs)
+abbrev pub least_fault : Fault → List Fault → Fault
+least_fault f [] = f
+least_fault f (g ∷ gs) = lesser f (least_fault g gs)
 
 -- what a tree is checked to be, or all faults of its smallest faulty parts
 pub data Checked (A : Type 0) : Type 0 where
@@ -57,4 +57,4 @@ where_so false f c = faulty f
 -- the fault that refuses: the least of all
 abbrev pub refusing : {A : Type 0} → Checked A → Option Fault
 refusing (Good a) = None
-refusing (Bad f fs) = Some (least f fs)
+refusing (Bad f fs) = Some (least_fault f fs)

@@ -31,6 +31,7 @@ use Rattle.c_syntax.specs.declared.expression.BumpOp.TheVariants.{PreUp, PreDown
 use Rattle.c_syntax.specs.Ctypes.{PlainType, Void, Int, Ptr, Array, Named, StructTag, EnumTag, PlainLength, Left, Written, int_type}
 use Rattle.c_syntax.specs.Expressions.{Expression, Node, ExpressionKind, Number, Letter, Text, Variable, Unary, Binary, Both, Either, Choice, Assign}
 use Rattle.c_syntax.specs.Expressions.{Bump, Call, Cast, SizeOfType, SizeOfExpr, Index, Dot, Arrow, Expressions, NoExpression, Following, place_of}
+use Rattle.c_syntax.specs.Trees.{kind_of}
 use Rattle.c_syntax.specs.Tokens as token
 use Rattle.c_syntax.specs.Tokens.{PlainTokenKind, PlainToken}
 use Rattle.c_model.specs.declared.operands.Form.{Form}
@@ -257,16 +258,13 @@ words_behind x = signs_behind x.sign ++ sizes_behind x.size
 abbrev pub read_as : Place → ExpressionKind → Expression
 read_as at k = Node at int_type k
 
-abbrev pub kind_of : Expression → ExpressionKind
-kind_of (Node at t k) = k
-
 abbrev pub use_of : ℕ → Use
 use_of n = record { name = n; decl = 0 }
 
-abbrev pub joined : Connective → Expression → Expression → ExpressionKind
-joined (Operator op) a b = Binary op a b
-joined And a b = Both a b
-joined Or a b = Either a b
+abbrev pub connective_kind : Connective → Expression → Expression → ExpressionKind
+connective_kind (Operator op) a b = Binary op a b
+connective_kind And a b = Both a b
+connective_kind Or a b = Either a b
 
 abbrev pub expressions : List Expression → Expressions
 expressions [] = NoExpression
@@ -317,9 +315,9 @@ named_type n (Library t) = Int t
 named_type n Declared = Named n
 named_type n DeclaredAssert = Named n
 
-abbrev pub type_named : ℕ → Word → Option PlainType
-type_named n (word.TypeName t) = Some (named_type n t)
-type_named n _ = None
+abbrev pub type_named_by : ℕ → Word → Option PlainType
+type_named_by n (word.TypeName t) = Some (named_type n t)
+type_named_by n _ = None
 
 -- the first word of a type, at which a parameter is cut to be read; the words of a type are read whole in `type_words`
 pub data TypeStart : Type 0 where
@@ -375,7 +373,7 @@ module _ (ws : Vocabulary) where
   integer_words = integer_word no_words then λ x. many (kind ws) words_behind integer_word x then λ y. gives (Int (integer_type y))
 
   abbrev pub typedef_name_of : PlainTokenKind → Option PlainType
-  typedef_name_of (token.Word n) = type_named n (word_at ws n)
+  typedef_name_of (token.Word n) = type_named_by n (word_at ws n)
   typedef_name_of _ = None
 
   -- TYPENAME (C99 6.7.7)
@@ -568,7 +566,7 @@ module _ (ws : Vocabulary) where
 
   -- an operator of the level with its right operand R, after the left one
   unfoldable pub joined_once : ℕ → Syntax PlainToken Expression → Expression → Syntax PlainToken Expression
-  joined_once l R left = one (placed (mark_entry (operators_at l))) then λ o. R then λ right. gives (read_as o.1 (joined o.0 left right))
+  joined_once l R left = one (placed (mark_entry (operators_at l))) then λ o. R then λ right. gives (read_as o.1 (connective_kind o.0 left right))
 
   -- what stands after an operand: operators of the levels below l with their right operands
   unfoldable pub behind_operand : Syntax PlainToken Expression → ℕ → Expression → Syntax PlainToken Expression

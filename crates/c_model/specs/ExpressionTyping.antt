@@ -410,8 +410,8 @@ library_name s at x = elim (library_constant (name_at s.names x)) [
 ]
 
 -- a name: an object, or an enumerator, in whose place its value stands
-abbrev pub named : Sight → Place → ℕ → Checked Expression
-named s at x = elim (entity_named x s.entities) [
+abbrev pub typed_name : Sight → Place → ℕ → Checked Expression
+typed_name s at x = elim (entity_named x s.entities) [
   | Some e ↦ elim e [
     | AnObject b ↦ Good (Node at b.ctype (Variable (use_as x b.decl)))
     | AnEnumerator c ↦ Good (Node at int_type (Number c.value (Some I32)))
@@ -632,13 +632,13 @@ abbrev pub argument_for : Sight → Option PlainType → Expression → Checked 
 argument_for s None e = Good e
 argument_for s (Some t) e = argument s t e
 
-abbrev pub count_of : Expressions → ℕ
-count_of NoExpression = 0
-count_of (Following e es) = suc (count_of es)
+abbrev pub argument_count : Expressions → ℕ
+argument_count NoExpression = 0
+argument_count (Following e es) = suc (argument_count es)
 
 -- the number of arguments is that of the parameters
 abbrev pub call : Place → Signature → Expressions → Checked Expression
-call at f es = where_so (nat_eq (count_of es) (length f.params)) (no_type at) (Good (Node at f.result (Call (use_as f.name f.decl) es)))
+call at f es = where_so (nat_eq (argument_count es) (length f.params)) (no_type at) (Good (Node at f.result (Call (use_as f.name f.decl) es)))
 
 -- the parameters' types, where the callee has no fault
 abbrev pub params_of : Checked Signature → List PlainType
@@ -690,7 +690,7 @@ abbrev mutual
   typed s (Node at t (Number n k)) = literal at n k
   typed s (Node at t (Letter n)) = Good (Node at int_type (Letter n))
   typed s (Node at t (Text offset)) = text s at offset
-  typed s (Node at t (Variable x)) = named s at x.name
+  typed s (Node at t (Variable x)) = typed_name s at x.name
   typed s (Node at t (Unary op a)) = one_part (typed s a) (unary_on at op)
   typed s (Node at t (Binary op a b)) = both_parts (decayed_of (typed s a)) (decayed_of (typed s b)) (binary s at op)
   typed s (Node at t (Both a b)) = both_parts (decayed_of (typed s a)) (decayed_of (typed s b)) (both_of at)

@@ -305,13 +305,13 @@ is_free [] unit count = true
 is_free (b ∷ bs) unit count = (not (b.live && is_heap b.kind) || is_apart unit count b) && is_free bs unit count
 
 -- the least number from u on, of so many, that passes a test
-abbrev pub least : (ℕ → Bool) → ℕ → ℕ → Option ℕ
-least passes zero u = None
-least passes (suc k) u = if passes u then Some u else least passes k (suc u)
+abbrev pub first_passing : (ℕ → Bool) → ℕ → ℕ → Option ℕ
+first_passing passes zero u = None
+first_passing passes (suc k) u = if passes u then Some u else first_passing passes k (suc u)
 
 -- the place of so many units in a segment of a length: the least from which on they are free and end within the segment
 unfoldable pub heap_place : ℕ → Store → ℕ → Option ℕ
-heap_place length store count = least (λ u. nat_le (u + count) length && is_free store u count) (suc length) 0
+heap_place length store count = first_passing (λ u. nat_le (u + count) length && is_free store u count) (suc length) 0
 
 -- where a block is born, or what is full
 pub data Room : Type 0 where

@@ -20,8 +20,8 @@ abbrev pub null_address : Address
 null_address = record { block = 0; offset = pos 0 }
 
 -- so many bytes farther, wherever the block ends
-abbrev pub farther : Address → ℤ → Address
-farther x d = record { block = x.block; offset = x.offset +ℤ d }
+abbrev pub address_farther : Address → ℤ → Address
+address_farther x d = record { block = x.block; offset = x.offset +ℤ d }
 
 -- ---- ranges of bytes
 
@@ -82,12 +82,12 @@ abbrev pub all_bytes : (Byte → Bool) → List Byte → Bool
 all_bytes test [] = true
 all_bytes test (b ∷ bs) = test b && all_bytes test bs
 
-abbrev pub bytes_from : Part → ℕ → List Byte
-bytes_from p n = take n (drop p.from p.block.bytes)
+abbrev pub part_bytes : Part → ℕ → List Byte
+part_bytes p n = take n (drop p.from p.block.bytes)
 
-abbrev pub is_zero : Option ℕ → Bool
-is_zero None = false
-is_zero (Some n) = nat_eq n 0
+abbrev pub is_number_zero : Option ℕ → Bool
+is_number_zero None = false
+is_number_zero (Some n) = nat_eq n 0
 
 -- ---- the questions
 
@@ -101,16 +101,16 @@ is_readable store x n a = if_any n (λ n. answered (part_at store x n a) (λ p. 
 
 -- `\initialized`: all of them are written besides
 abbrev pub is_initialized : Store → Address → ℤ → ℕ → Bool
-is_initialized store x n a = if_any n (λ n. answered (part_at store x n a) (λ p. all_bytes is_written_byte (bytes_from p n)))
+is_initialized store x n a = if_any n (λ n. answered (part_at store x n a) (λ p. all_bytes is_written_byte (part_bytes p n)))
 
 -- whether so many bytes hold a number
 abbrev pub has_number : Store → Address → ℕ → Bool
-has_number store x n = answered (part_at store x n n) (λ p. all_bytes is_number_byte (bytes_from p n))
+has_number store x n = answered (part_at store x n n) (λ p. all_bytes is_number_byte (part_bytes p n))
 
 -- whether eight bytes are pieces of pointers, or the number 0
 abbrev pub has_pointer : Store → Address → Bool
 has_pointer store x =
-    answered (part_at store x 8 8) (λ p. if all_bytes is_piece_byte (bytes_from p 8) then true else is_zero (number_of (bytes_from p 8)))
+    answered (part_at store x 8 8) (λ p. if all_bytes is_piece_byte (part_bytes p 8) then true else is_number_zero (number_of (part_bytes p 8)))
 
 -- inside a live block, or one past its end
 abbrev pub inside : Store → Address → Option Part
@@ -138,8 +138,8 @@ abbrev pub offset_in : Option Part → ℕ
 offset_in None = 0
 offset_in (Some p) = p.from
 
-abbrev pub offset_of : Store → Address → ℕ
-offset_of store x = offset_in (inside store x)
+abbrev pub offset_in_block : Store → Address → ℕ
+offset_in_block store x = offset_in (inside store x)
 
 -- `\separated`: two ranges share no byte of a block, or of null, whether or not the block lives
 abbrev pub meet : Address → ℤ → Address → ℤ → Bool

@@ -31,7 +31,7 @@ abbrev pub IsMisplaced : PlainTokens → TranslationUnit → Place → Type 0
 IsMisplaced ts p at = Accepts (unit (vocabulary ts) ts.names (texts_of ts.list)) ts.list (p, Some at)
 
 -- The tokens are no program: the fault's token can't follow those before it, or it is the first that passes a limit.
-pub record IsSyntaxFault (ts : PlainTokens) (f : grammar.Fault) : Type 0 where
+pub record IsSyntaxFault (ts : PlainTokens) (f : grammar.ParseFault) : Type 0 where
   pub refused : Refused (unit (vocabulary ts) ts.names (texts_of ts.list)) ts.list f
   pub unread : (x : TranslationUnit × Option Place) → Accepts (unit (vocabulary ts) ts.names (texts_of ts.list)) ts.list x → ⊥
 
@@ -70,7 +70,7 @@ pub record AcceptedText (text : List ℕ) (p : TranslationUnit) : Type 0 where
 -- the text is refused with r, by the first phase that finds a fault
 pub data RefusedText (text : List ℕ) (r : PlainRefusal) : Type 0 where
   ByTokens : tokens_of text ≡ Err r → RefusedText text r
-  ByGrammar : (ts : PlainTokens) (f : grammar.Fault) → tokens_of text ≡ Ok ts → IsSyntaxFault ts f → r ≡ syntax_refusal ts f → RefusedText text r
+  ByGrammar : (ts : PlainTokens) (f : grammar.ParseFault) → tokens_of text ≡ Ok ts → IsSyntaxFault ts f → r ≡ syntax_refusal ts f → RefusedText text r
   ByPlaces : (ts : PlainTokens) (tree : TranslationUnit) (at : Place) → tokens_of text ≡ Ok ts → IsMisplaced ts tree at
       → r ≡ refused_at_place ts misplaced_code at → RefusedText text r
   ByNamesAndTypes : (ts : PlainTokens) (tree : TranslationUnit) (f : Fault) → tokens_of text ≡ Ok ts → IsRead ts tree → refusing (typed_unit tree) ≡ Some f

@@ -10,73 +10,73 @@ use Rattle.c_model.specs.UnitTyping.{FileItem, StructHead, Member, AnEnum, AType
 abbrev pub IsOffset : ℕ → Type 0
 IsOffset n = nat_eq n 4294967295 ≡ false
 
-abbrev pub ArePlaced : List Declaration → Type 0
-ArePlaced [] = Unit {0}
-ArePlaced (d ∷ ds) = IsOffset d.place.offset × ArePlaced ds
+abbrev pub AreAtOffsets : List Declaration → Type 0
+AreAtOffsets [] = Unit {0}
+AreAtOffsets (d ∷ ds) = IsOffset d.place.offset × AreAtOffsets ds
 
 abbrev mutual
-  pub StatementPlaced : Statement → Type 0
-  StatementPlaced (Empty at) = Unit {0}
-  StatementPlaced (Eval at e) = Unit {0}
-  StatementPlaced (Block at items) = ItemsPlaced items
-  StatementPlaced (If at e a b) = StatementPlaced a × ElsePlaced b
-  StatementPlaced (While at annots e a) = StatementPlaced a
-  StatementPlaced (Do at a e) = StatementPlaced a
-  StatementPlaced (For at annots first e step a) = FirstPlaced first × StatementPlaced a
-  StatementPlaced (Break at) = Unit {0}
-  StatementPlaced (Continue at) = Unit {0}
-  StatementPlaced (Return at e) = Unit {0}
-  StatementPlaced (Labelled at l a) = StatementPlaced a
-  StatementPlaced (Switch at e cases) = CasesPlaced cases
+  pub StatementAtOffsets : Statement → Type 0
+  StatementAtOffsets (Empty at) = Unit {0}
+  StatementAtOffsets (Eval at e) = Unit {0}
+  StatementAtOffsets (Block at items) = ItemsAtOffsets items
+  StatementAtOffsets (If at e a b) = StatementAtOffsets a × ElseAtOffsets b
+  StatementAtOffsets (While at annots e a) = StatementAtOffsets a
+  StatementAtOffsets (Do at a e) = StatementAtOffsets a
+  StatementAtOffsets (For at annots first e step a) = FirstAtOffsets first × StatementAtOffsets a
+  StatementAtOffsets (Break at) = Unit {0}
+  StatementAtOffsets (Continue at) = Unit {0}
+  StatementAtOffsets (Return at e) = Unit {0}
+  StatementAtOffsets (Labelled at l a) = StatementAtOffsets a
+  StatementAtOffsets (Switch at e cases) = CasesAtOffsets cases
 
-  pub CasesPlaced : Cases → Type 0
-  CasesPlaced NoCase = Unit {0}
-  CasesPlaced (AnotherCase at v items rest) = ItemsPlaced items × CasesPlaced rest
+  pub CasesAtOffsets : Cases → Type 0
+  CasesAtOffsets NoCase = Unit {0}
+  CasesAtOffsets (AnotherCase at v items rest) = ItemsAtOffsets items × CasesAtOffsets rest
 
-  pub ElsePlaced : ElsePart → Type 0
-  ElsePlaced NoElse = Unit {0}
-  ElsePlaced (Else a) = StatementPlaced a
+  pub ElseAtOffsets : ElsePart → Type 0
+  ElseAtOffsets NoElse = Unit {0}
+  ElseAtOffsets (Else a) = StatementAtOffsets a
 
-  pub FirstPlaced : ForFirst → Type 0
-  FirstPlaced NoFirst = Unit {0}
-  FirstPlaced (First i) = ItemPlaced i
+  pub FirstAtOffsets : ForFirst → Type 0
+  FirstAtOffsets NoFirst = Unit {0}
+  FirstAtOffsets (First i) = ItemAtOffsets i
 
-  pub ItemPlaced : BlockItem → Type 0
-  ItemPlaced (Declare ds) = ArePlaced ds
-  ItemPlaced (Specify at t) = Unit {0}
-  ItemPlaced (Run a) = StatementPlaced a
-  ItemPlaced (Asserts annots) = Unit {0}
+  pub ItemAtOffsets : BlockItem → Type 0
+  ItemAtOffsets (Declare ds) = AreAtOffsets ds
+  ItemAtOffsets (Specify at t) = Unit {0}
+  ItemAtOffsets (Run a) = StatementAtOffsets a
+  ItemAtOffsets (Asserts annots) = Unit {0}
 
-  pub ItemsPlaced : BlockItems → Type 0
-  ItemsPlaced NoItem = Unit {0}
-  ItemsPlaced (Then i rest) = ItemPlaced i × ItemsPlaced rest
+  pub ItemsAtOffsets : BlockItems → Type 0
+  ItemsAtOffsets NoItem = Unit {0}
+  ItemsAtOffsets (Then i rest) = ItemAtOffsets i × ItemsAtOffsets rest
 
 -- of a body, where there is one
-abbrev pub BodyPlaced : Option Statement → Type 0
-BodyPlaced None = Unit {0}
-BodyPlaced (Some a) = StatementPlaced a
+abbrev pub BodyAtOffsets : Option Statement → Type 0
+BodyAtOffsets None = Unit {0}
+BodyAtOffsets (Some a) = StatementAtOffsets a
 
 -- parameters, which have no initialisers
-abbrev pub ParametersPlaced : List Declaration → Type 0
-ParametersPlaced [] = Unit {0}
-ParametersPlaced (d ∷ ds) = IsOffset d.place.offset × (d.init ≡ None) × ParametersPlaced ds
+abbrev pub ParametersAtOffsets : List Declaration → Type 0
+ParametersAtOffsets [] = Unit {0}
+ParametersAtOffsets (d ∷ ds) = IsOffset d.place.offset × (d.init ≡ None) × ParametersAtOffsets ds
 
-pub record FunctionPlaced (f : Function) : Type 0 where
-  pub params : ParametersPlaced f.params
-  pub body : BodyPlaced f.body
+pub record FunctionAtOffsets (f : Function) : Type 0 where
+  pub params : ParametersAtOffsets f.params
+  pub body : BodyAtOffsets f.body
 
 -- of what a file declares
-abbrev pub FileItemPlaced : FileItem → Type 0
-FileItemPlaced (StructHead k s) = Unit {0}
-FileItemPlaced (Member k m ends) = Unit {0}
-FileItemPlaced (AnEnum e) = Unit {0}
-FileItemPlaced (ATypedef d) = Unit {0}
-FileItemPlaced (AGlobal d) = IsOffset d.place.offset
-FileItemPlaced (AFunction f) = FunctionPlaced f
+abbrev pub FileItemAtOffsets : FileItem → Type 0
+FileItemAtOffsets (StructHead k s) = Unit {0}
+FileItemAtOffsets (Member k m ends) = Unit {0}
+FileItemAtOffsets (AnEnum e) = Unit {0}
+FileItemAtOffsets (ATypedef d) = Unit {0}
+FileItemAtOffsets (AGlobal d) = IsOffset d.place.offset
+FileItemAtOffsets (AFunction f) = FunctionAtOffsets f
 
-abbrev pub FilePlaced : List FileItem → Type 0
-FilePlaced [] = Unit {0}
-FilePlaced (i ∷ is) = FileItemPlaced i × FilePlaced is
+abbrev pub FileAtOffsets : List FileItem → Type 0
+FileAtOffsets [] = Unit {0}
+FileAtOffsets (i ∷ is) = FileItemAtOffsets i × FileAtOffsets is
 
 -- no member of a struct stands behind its last one
 abbrev pub MembersInOrder : List ℕ → List FileItem → Type 0

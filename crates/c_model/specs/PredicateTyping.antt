@@ -29,26 +29,26 @@ pub data Sorted : Type 0 where
   APredicate : Predicate → Sorted
 
 -- the range of a term, until ranges are inferred
-abbrev pub no_range : Range
-no_range = from_to (pos 0) (pos 0)
+abbrev pub range_to_infer : Range
+range_to_infer = from_to (pos 0) (pos 0)
 
-abbrev pub place_of : LogicTerm → Place
-place_of (Number at t r n) = at
-place_of (Letter at t r n) = at
-place_of (Variable at t r x) = at
-place_of (Unary at t r op a) = at
-place_of (Binary at t r op a b) = at
-place_of (Cast at t r to a) = at
-place_of (Choice at t r c a b) = at
-place_of (Named at t r x) = at
-place_of (At at t r l a) = at
-place_of (Null at t r) = at
-place_of (Deref at t r a) = at
-place_of (Member at t r d a) = at
-place_of (Address at t r a) = at
-place_of (Moved at t r op n a b) = at
-place_of (Difference at t r n a b) = at
-place_of (Told at t r f a) = at
+abbrev pub place_of_term : LogicTerm → Place
+place_of_term (Number at t r n) = at
+place_of_term (Letter at t r n) = at
+place_of_term (Variable at t r x) = at
+place_of_term (Unary at t r op a) = at
+place_of_term (Binary at t r op a b) = at
+place_of_term (Cast at t r to a) = at
+place_of_term (Choice at t r c a b) = at
+place_of_term (Named at t r x) = at
+place_of_term (At at t r l a) = at
+place_of_term (Null at t r) = at
+place_of_term (Deref at t r a) = at
+place_of_term (Member at t r d a) = at
+place_of_term (Address at t r a) = at
+place_of_term (Moved at t r op n a b) = at
+place_of_term (Difference at t r n a b) = at
+place_of_term (Told at t r f a) = at
 
 -- ---- what a form demands of its parts, which have no fault
 
@@ -59,15 +59,15 @@ as_term at (APredicate p) = faulty (no_type at)
 
 -- a predicate; an integer is one where it isn't 0 (ACSL 2.2)
 abbrev pub as_predicate : Sorted → Predicate
-as_predicate (ATerm t) = NonZero (place_of t) t
+as_predicate (ATerm t) = NonZero (place_of_term t) t
 as_predicate (APredicate p) = p
 
 -- an object of an integer type, whose value is a mathematical integer
 abbrev pub object_term : Place → ℕ → Object → Checked Sorted
-object_term at x b = where_so (is_there (integer_type b.ctype)) (no_type at) (Good (ATerm (Variable at (Some b.ctype) no_range (use_as x b.decl))))
+object_term at x b = where_so (is_there (integer_type b.ctype)) (no_type at) (Good (ATerm (Variable at (Some b.ctype) range_to_infer (use_as x b.decl))))
 
 abbrev pub number : Place → ℤ → Sorted
-number at n = ATerm (Number at None no_range n)
+number at n = ATerm (Number at None range_to_infer n)
 
 -- a name; that of a function has no meaning in annotations
 abbrev pub term_named : Sight → Place → ℕ → Checked Sorted
@@ -78,7 +78,7 @@ term_named s at x = elim (entity_named x s.entities) [
 
 -- an operator on one integer; no pointer and no address is there
 abbrev pub on_integer : Place → UnOp → Sorted → Checked Sorted
-on_integer at op a = one_part (as_term at a) (λ t. Good (ATerm (Unary at None no_range op t)))
+on_integer at op a = one_part (as_term at a) (λ t. Good (ATerm (Unary at None range_to_infer op t)))
 
 abbrev pub unary_on : Place → UnOp → Sorted → Checked Sorted
 unary_on at unary.Plus a = on_integer at unary.Plus a
@@ -90,11 +90,11 @@ unary_on at unary.Address a = faulty (no_type at)
 
 -- an operator on two integers
 abbrev pub on_integers : Place → BinOp → Sorted → Sorted → Checked Sorted
-on_integers at op a b = one_part (as_term at a) (λ t. one_part (as_term at b) (λ u. Good (ATerm (Binary at None no_range op t u))))
+on_integers at op a b = one_part (as_term at a) (λ t. one_part (as_term at b) (λ u. Good (ATerm (Binary at None range_to_infer op t u))))
 
 -- a cast of an integer (ACSL 2.2.3), to the unbounded integers or to an integer type of C
 abbrev pub cast_as : Place → CastType → Sorted → Checked Sorted
-cast_as at to a = one_part (as_term at a) (λ t. Good (ATerm (Cast at None no_range to t)))
+cast_as at to a = one_part (as_term at a) (λ t. Good (ATerm (Cast at None range_to_infer to t)))
 
 abbrev pub cast : Place → PlainType → Sorted → Checked Sorted
 cast at to a = where_so (is_there (integer_type to)) (no_type at) (cast_as at (OfC to) a)
@@ -108,7 +108,7 @@ connected at c a b = APredicate (Connected at c (as_predicate a) (as_predicate b
 
 -- a choice is a term where both branches are terms
 abbrev pub chosen : Place → Sorted → Sorted → Sorted → Sorted
-chosen at c (ATerm a) (ATerm b) = ATerm (Choice at None no_range (as_predicate c) a b)
+chosen at c (ATerm a) (ATerm b) = ATerm (Choice at None range_to_infer (as_predicate c) a b)
 chosen at c a b = APredicate (Branch at (as_predicate c) (as_predicate a) (as_predicate b))
 
 -- whether a side of a relation has no fault and is a predicate
@@ -129,7 +129,7 @@ related at a links = one_part (as_term at a) (λ t. Good (APredicate (Chain at t
 abbrev mutual
   pub typed_form : Sight → Form → Checked Sorted
   typed_form s (read.Number at n) = Good (number at n)
-  typed_form s (read.Letter at n) = Good (ATerm (Letter at None no_range n))
+  typed_form s (read.Letter at n) = Good (ATerm (Letter at None range_to_infer n))
   typed_form s (read.Truth at b) = Good (APredicate (Truth at b))
   typed_form s (read.Name at x) = term_named s at x.name
   typed_form s (read.Unary at op a) = one_part (typed_form s a) (unary_on at op)

@@ -24,7 +24,7 @@ use Rattle.c_model.specs.Logic.{compute, related, judged, at_label, valued_at, A
 use Rattle.c_model.specs.Logic.{object_extent, elements_extent, asks, all_apart, said}
 use Rattle.c_model.specs.TermRanges.{lowered}
 use Rattle.c_model.specs.Quantifiers.{over, between}
-use Rattle.c_model.specs.MemoryQuestions.{address_of, null_address, farther}
+use Rattle.c_model.specs.MemoryQuestions.{address_of, null_address, address_farther}
 use Rattle.c_model.specs.MemoryQuestions as memory
 
 -- ---- terms
@@ -105,7 +105,7 @@ abbrev mutual
   pub place : LogicTerm → State → Environment → Option memory.Address
   place (Variable at t r x) s e = option_map address_of (start_of (find x.decl s.scope))
   place (Deref at t r a) s e = as_address (term a s e)
-  place (Member at t r d a) s e = option_map (λ x. farther x (pos d)) (place a s e)
+  place (Member at t r d a) s e = option_map (λ x. address_farther x (pos d)) (place a s e)
   place _ s e = None
 
   -- the value of a term, where it has one; a condition in it takes no step
@@ -121,7 +121,7 @@ abbrev mutual
   term (At at t r l a) s e = valued_at (at_label l s) (λ u. term a u e)
   term (Null at t r) s e = Some (Addressed null_address)
   term (Deref at t r a) s e = held_at s.store t (as_address (term a s e))
-  term (Member at t r d a) s e = held_at s.store t (option_map (λ x. farther x (pos d)) (place a s e))
+  term (Member at t r d a) s e = held_at s.store t (option_map (λ x. address_farther x (pos d)) (place a s e))
   term (Address at t r a) s e = addressed (place a s e)
   term (Moved at t r op n a b) s e = moved op n (term a s e) (term b s e)
   term (Difference at t r n a b) s e = difference s.store n (as_address (term a s e)) (as_address (term b s e))

@@ -5,7 +5,7 @@ use Rattle.c_syntax.specs.Statements.{Declaration}
 use Rattle.c_syntax.specs.Programs.{StructType, EnumConstant, EnumType, Function, TranslationUnit}
 use Rattle.c_model.specs.UnitTyping.{FileItem, StructHead, Member, AnEnum, ATypedef, AGlobal, AFunction, member_items, items_of_file}
 use Rattle.c_model.specs.Formed.{numbers_of}
-use Rattle.c_model.specs.PlacedTrees.{FilePlaced, MembersInOrder}
+use Rattle.c_model.specs.PlacedTrees.{FileAtOffsets, MembersInOrder}
 
 -- ---- places
 
@@ -72,4 +72,4 @@ pub record InTextOrder (p : TranslationUnit) : Type 0 where
   pub structs : (n : ℕ) (s : StructType) → slice_get p.structs n ≡ Some s → struct_among n (items_of_file p) ≡ StructHead n s ∷ member_items n s.members
   pub members : MembersInOrder [] (items_of_file p)
   pub filled : AllByRecursion HasMembers p.structs
-  pub placed : FilePlaced (items_of_file p)
+  pub placed : FileAtOffsets (items_of_file p)

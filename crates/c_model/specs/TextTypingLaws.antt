@@ -13,7 +13,7 @@ use Rattle.c_model.specs.AnnotationTyping.{noted_unit}
 use Rattle.c_model.specs.TypedTrees.{IsDeclared, StatementTyped, FunctionTyped, IsSight}
 use Rattle.c_model.specs.TypedReadings.{DeclarationTypedAs, StatementTypedAs, FunctionTypedAs}
 use Rattle.c_model.specs.TypedAnnotations.{FunctionsNoted}
-use Rattle.c_model.specs.PlacedTrees.{IsOffset, StatementPlaced, FunctionPlaced, FilePlaced}
+use Rattle.c_model.specs.PlacedTrees.{IsOffset, StatementAtOffsets, FunctionAtOffsets, FileAtOffsets}
 use Rattle.c_model.specs.TypedFiles.{UnitStands}
 use Rattle.c_model.specs.Formed.{AreReadAsserts}
 use Rattle.c_model.specs.ReadTree.{FunctionsRead, functions_among}
@@ -41,13 +41,13 @@ pub record TextTypingLaws : Type 0 where
   pub variable_is_read : (s : Sight) (d e : Declaration) → typed_variable s d ≡ Good e → DeclarationTypedAs d e
   pub global_is_known : (s : Sight) (d e : Declaration) → IsWholeSight s → IsOffset d.place.offset → typed_global s d ≡ Good e → IsDeclared s e
   pub global_is_read : (s : Sight) (d e : Declaration) → typed_global s d ≡ Good e → DeclarationTypedAs d e
-  pub statement_is_known : (s : Sight) (r : Around) (a b : Statement) → IsWholeSight s → StatementPlaced a → typed_statement s r a ≡ Good b
+  pub statement_is_known : (s : Sight) (r : Around) (a b : Statement) → IsWholeSight s → StatementAtOffsets a → typed_statement s r a ≡ Good b
       → StatementTyped s r b
   pub statement_is_read : (s : Sight) (r : Around) (a b : Statement) → typed_statement s r a ≡ Good b → StatementTypedAs a b
-  pub function_is_known : (p : TranslationUnit) (s : Sight) (before : List Function) (f g : Function) → IsWholeSight s → FunctionPlaced f
+  pub function_is_known : (p : TranslationUnit) (s : Sight) (before : List Function) (f g : Function) → IsWholeSight s → FunctionAtOffsets f
       → typed_function p s before f ≡ Good g → FunctionTyped (with_function p s g) g
   pub function_is_read : (p : TranslationUnit) (s : Sight) (before : List Function) (f g : Function) → typed_function p s before f ≡ Good g
       → FunctionTypedAs f g
-  pub file_is_known : (p q : TranslationUnit) → FilePlaced (items_of_file p) → typed_unit p ≡ Good q → UnitStands p q
+  pub file_is_known : (p q : TranslationUnit) → FileAtOffsets (items_of_file p) → typed_unit p ≡ Good q → UnitStands p q
   pub asserts_are_known : (p q : TranslationUnit) → FunctionsRead AreReadAsserts (functions_among (items_of_file p)) → noted_unit p ≡ Good q
       → FunctionsNoted p (sight_with p p.structs) (items_of_file p) q.funcs

@@ -67,6 +67,6 @@ abbrev pub refused_at : PlainTokens → ℕ → List PlainToken → PlainRefusal
 refused_at ts code rest = record { code = code; place = place_at ts.end rest; construct = word_at ts.names rest }
 
 -- E4 at the first token that can't follow those before it, or E11 at one that passes a limit
-abbrev pub syntax_refusal : PlainTokens → grammar.Fault → PlainRefusal
+abbrev pub syntax_refusal : PlainTokens → grammar.ParseFault → PlainRefusal
 syntax_refusal ts (grammar.At n) = refused_at ts grammar_code (last n ts.list)
 syntax_refusal ts (grammar.Over limit n) = record { code = limit_code; place = place_at ts.end (last n ts.list); construct = limit_word limit }

@@ -13,6 +13,7 @@ use Rattle.c_syntax.specs.declared.expression.BinOp.TheVariants as operator
 use Rattle.c_syntax.specs.Ctypes.{PlainType, Void, Int, Ptr, Array, Struct, PlainLength, Count, int_type}
 use Rattle.c_syntax.specs.Expressions.{Expression, Node, ExpressionKind, Number, Letter, Text, Variable, Unary, Binary, Both, Either, Choice}
 use Rattle.c_syntax.specs.Expressions.{Assign, Bump, Call}
+use Rattle.c_syntax.specs.Trees.{kind_of}
 use Rattle.c_syntax.specs.Expressions.{Cast, SizeOfType, SizeOfExpr, Index, Dot, Arrow, Comma, Expressions, NoExpression, Following, place_of, type_of}
 use Rattle.c_syntax.specs.Statements.{Switch, Cases, NoCase, AnotherCase}
 use Rattle.c_syntax.specs.Statements.{Initialiser, One, Many, Initialisers, NoInitialiser, Listed, Declaration, Statement, Empty, Eval, Block, If, While, Do}
@@ -329,6 +330,7 @@ abbrev pub AreParameters : Sight → List Declaration → Type 0
 AreParameters s [] = Unit {0}
 AreParameters s (d ∷ ds) = IsParameter s d × AreParameters (with_parameter s d) ds
 
+-- where the items of a body stand
 abbrev pub around_body : PlainType → Around
 around_body t = record { result = t; breaks = false; loops = false }
 
@@ -350,9 +352,6 @@ pub record FunctionTyped (s : Sight) (f : Function) : Type 0 where
 abbrev pub in_casts : List PlainType → Expression → Expression
 in_casts [] e = e
 in_casts (t ∷ ts) e = Node (place_of (in_casts ts e)) t (Cast t (in_casts ts e))
-
-abbrev pub kind_of : Expression → ExpressionKind
-kind_of (Node at t k) = k
 
 -- a name denotes a declaration, or a value stands in its place
 pub data NameTypedAs (x : Use) (j : ExpressionKind) : Type 0 where

@@ -120,9 +120,9 @@ definition_of x [] = None
 definition_of x (f ∷ fs) = cond (is_definition f && nat_eq f.name x) (Some f.place.offset) (definition_of x fs)
 
 -- the first declaration of a name
-abbrev pub first_of : ℕ → List Function → ℕ
-first_of x [] = 0
-first_of x (f ∷ fs) = cond (nat_eq f.name x) f.place.offset (first_of x fs)
+abbrev pub first_declaration : ℕ → List Function → ℕ
+first_declaration x [] = 0
+first_declaration x (f ∷ fs) = cond (nat_eq f.name x) f.place.offset (first_declaration x fs)
 
 abbrev pub number_or : Option ℕ → ℕ → ℕ
 number_or (Some n) d = n
@@ -135,7 +135,7 @@ types_of ds = map (λ (d : Declaration). d.ctype) ds
 abbrev pub signature : List Function → Function → Signature
 signature all f = record {
   name = f.name;
-  decl = number_or (definition_of f.name all) (first_of f.name all);
+  decl = number_or (definition_of f.name all) (first_declaration f.name all);
   defined = is_there (definition_of f.name all);
   params = types_of f.params;
   result = f.result;

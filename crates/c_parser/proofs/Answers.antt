@@ -1,6 +1,6 @@
 -- From what the productions gave to what the answers mean.
 use Rattle.std.proofs.Common.{◌≡◌, ℕ, suc, true, List, [], ◌∷◌, length, Result, Ok, Err, Option, Some, None, inl, inr, refl, sym, ap, subst, ◌∙◌}
-use Rattle.grammar.specs.Syntax.{Fault, At, Over}
+use Rattle.grammar.specs.Syntax.{ParseFault, At, Over}
 use Rattle.grammar.specs.Exact.{Accepts, AtMostOne, ReadingsBegin, FrontsBegin, OneLimit, IsExact}
 use Rattle.grammar.proofs.Parts.{ok_is}
 use Rattle.grammar.proofs.Theorem.{found, refused, accepts, accepts_back, readings_begin, fronts_begin, one_limit}
@@ -42,7 +42,7 @@ module _ (ts : PlainTokens) where
   abbrev Placed : Type 0
   Placed = TranslationUnit × Option Place
 
-  abbrev parsed : Result (Placed × List PlainToken) Fault
+  abbrev parsed : Result (Placed × List PlainToken) ParseFault
   parsed = (unit (vocabulary ts) ts.names (texts_of ts.list)).parse ts.list
 
   abbrev IsAccepted : Placed → Type 0
@@ -55,14 +55,14 @@ module _ (ts : PlainTokens) where
   whole : (p : Placed) → parsed ≡ Ok (p, []) → IsAccepted p
   whole p e = accepts_back (unit (vocabulary ts) ts.names (texts_of ts.list)) true any (λ _. any) (unit_exact (vocabulary ts) ts.names (texts_of ts.list)) ts.list p e
 
-  not_read : (r : Result (Placed × List PlainToken) Fault) → parsed ≡ r → ((p : Placed) → r ≡ Ok (p, []) → ⊥) → (p : Placed) → IsAccepted p → ⊥
+  not_read : (r : Result (Placed × List PlainToken) ParseFault) → parsed ≡ r → ((p : Placed) → r ≡ Ok (p, []) → ⊥) → (p : Placed) → IsAccepted p → ⊥
   not_read r e h p a = h p (sym e ∙ accepted_is p a)
 
-  grammar_refused : (f : Fault) → IsSyntaxFault ts f → (e : FrontFault) → RefusesWith (syntax_refusal ts f) e → Refuses e ts
+  grammar_refused : (f : ParseFault) → IsSyntaxFault ts f → (e : FrontFault) → RefusesWith (syntax_refusal ts f) e → Refuses e ts
   grammar_refused f h front.Memory g = tt
   grammar_refused f h (front.Refused x) g = inl (record { fault = f; found = h; is = g })
 
-  fault_given : (f : Fault) → parsed ≡ Err f → (e : FrontFault) → RefusesWith (syntax_refusal ts f) e → Refuses e ts
+  fault_given : (f : ParseFault) → parsed ≡ Err f → (e : FrontFault) → RefusesWith (syntax_refusal ts f) e → Refuses e ts
   fault_given f k = grammar_refused f (record {
     refused = refused (unit (vocabulary ts) ts.names (texts_of ts.list)) true any (λ _. any) (unit_exact (vocabulary ts) ts.names (texts_of ts.list)) ts.list f k;
     unread = not_read (Err f) k (λ p q. cc);
@@ -85,7 +85,7 @@ module _ (ts : PlainTokens) where
 
 -- ---- the same of the slices that were read
 
-abbrev Parsed : Vocabulary → List (List ℕ) → List StringLiteral → List PlainToken → Result ((TranslationUnit × Option Place) × List PlainToken) Fault
+abbrev Parsed : Vocabulary → List (List ℕ) → List StringLiteral → List PlainToken → Result ((TranslationUnit × Option Place) × List PlainToken) ParseFault
 Parsed ws names texts list = (unit ws names texts).parse list
 
 module _ (ts : PlainTokens) (ws : Vocabulary) (names : List (List ℕ)) (texts : List StringLiteral) (list : List PlainToken) (same_words : ws ≡ vocabulary ts) (same_names : names ≡ ts.names) (same_texts : texts ≡ texts_of ts.list)
@@ -121,9 +121,9 @@ module _ (ts : PlainTokens) (ws : Vocabulary) (names : List (List ℕ)) (texts :
   read_part x [] n e k z is g = absurd (z refl)
   read_part x (t ∷ rest) n e k z is g = left_over ts (unit_with names texts x, x.annotations.misplaced) (plain_token t) (plain_list rest) e (sym same ∙ of_parts x (plain_list (t ∷ rest)) k) (subst (λ (m : ℕ). RefusesFault ts (fault.At m) e) is g)
 
-  failed : (d : Fault) → (more_external (no_parts ws)).parse list ≡ Err d → Parsed ws names texts list ≡ Err d
+  failed : (d : ParseFault) → (more_external (no_parts ws)).parse list ≡ Err d → Parsed ws names texts list ≡ Err d
   unfolding unit
   failed d e = rw e refl
 
   pub read_fault : (r : ReadFault) (e : FrontFault) → Fails r ((more_external (no_parts ws)).parse list) → RefusesFault ts r e → Refuses e ts
-  read_fault r e k = faulty ts r e (subst (λ (x : Result ((TranslationUnit × Option Place) × List PlainToken) Fault). Fails r x) same (again r failed k))
+  read_fault r e k = faulty ts r e (subst (λ (x : Result ((TranslationUnit × Option Place) × List PlainToken) ParseFault). Fails r x) same (again r failed k))

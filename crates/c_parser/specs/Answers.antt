@@ -1,7 +1,7 @@
 -- Ours, in words of the grammar of C99 6.7 to 6.9 that stands in c_model/specs/ProgramGrammar.
 -- What the answers on the tokens of a text mean.
 use Rattle.std.specs.Prelude.{◌≡◌, ◌⊎◌}
-use Rattle.grammar.specs.Syntax.{Fault}
+use Rattle.grammar.specs.Syntax.{ParseFault}
 use Rattle.c_syntax.specs.Tokens.{PlainTokens}
 use Rattle.c_syntax.specs.RefusalCodes.{misplaced_code}
 use Rattle.c_syntax.specs.declared.place.Place.{Place}
@@ -14,7 +14,7 @@ use Rattle.c_model.specs.TokenWords.{syntax_refusal, refused_at_place}
 -- The tokens are refused by the grammar: they are no program, and the refusal names the first token that can't follow
 -- those before it (E4) or that passes a limit (E11).
 pub record IsGrammarRefusal (ts : PlainTokens) (r : PlainRefusal) : Type 0 where
-  pub fault : Fault
+  pub fault : ParseFault
   pub found : IsSyntaxFault ts fault
   pub is : r ≡ syntax_refusal ts fault
 

@@ -16,9 +16,10 @@ use Rattle.c_model.specs.declared.operands.Connective.TheVariants.{Operator, And
 use Rattle.c_model.specs.declared.vocabulary.Keyword.TheVariants as keyword
 use Rattle.c_model.specs.Vocabulary.{Vocabulary}
 use Rattle.c_model.specs.Punctuators.{question, colon, comma, left_paren, right_paren, left_bracket, right_bracket, dot, arrow}
-use Rattle.c_model.specs.ExpressionGrammar.{name_kind, number_kind, keyword_kind, mark_kind, kind, unary_operators, operators_at, levels, assignment_operators, prefix_bumps, postfix_bumps, kinds_of, first_type, first_expression, read_as, kind_of}
+use Rattle.c_model.specs.ExpressionGrammar.{name_kind, number_kind, keyword_kind, mark_kind, kind, unary_operators, operators_at, levels, assignment_operators, prefix_bumps, postfix_bumps, kinds_of, first_type, first_expression, read_as}
+use Rattle.c_syntax.specs.Trees.{kind_of}
 use Rattle.c_model.specs.ExpressionGrammar.{letter_kind, first_postfix, any_name, type_name, indexed, dotted, arrowed, postfix_once, postfixes, postfix_rest, literal_first, read_name}
-use Rattle.c_model.specs.ExpressionGrammar.{joined, expressions, ReadOperand, size_of_operand, fixed, name, Operand, closed, literal, cast_rest, sized_type, paren_rest, behind_paren, prefixed, sized, operand_but_name, operand_of, operand}
+use Rattle.c_model.specs.ExpressionGrammar.{connective_kind, expressions, ReadOperand, size_of_operand, fixed, name, Operand, closed, literal, cast_rest, sized_type, paren_rest, behind_paren, prefixed, sized, operand_but_name, operand_of, operand}
 use Rattle.c_model.specs.ExpressionGrammar.{joined_once, behind_operand, choice_rest, expression_rest, expression_of, expression, behind_name_or_callee, expression_or_call, assigned_value, assigned, bumped, behind_unary, behind_postfix, behind_form}
 use Rattle.c_model.specs.ExpressionGrammar.{effect_rest, bump_first, effect_but_name, effect, next_argument, arguments, call_rest, behind_name, effect_or_call, full_expression, full_expression_or_call, full_effect, full_effect_or_call}
 use Rattle.c_model.specs.Formed.{nodes_of, nodes_of_all}
@@ -66,7 +67,7 @@ sized_part at k x p = by x.form refl
     by form.Unary e = record { is = p.is; small = omega (arith, p.small) }
     by form.Cast e = record { is = p.is; small = omega (arith, p.small) }
 
-joined_part : (at : Place) (c : Connective) (k l : ℕ) (a b : Expression) → IsPart k a → IsPart l b → IsPart (suc (k + l)) (read_as at (joined c a b))
+joined_part : (at : Place) (c : Connective) (k l : ℕ) (a b : Expression) → IsPart k a → IsPart l b → IsPart (suc (k + l)) (read_as at (connective_kind c a b))
 joined_part at (Operator op) k l a b p q = record { is = (p.is, q.is); small = omega (arith, p.small, q.small) }
 joined_part at And k l a b p q = record { is = (p.is, q.is); small = omega (arith, p.small, q.small) }
 joined_part at Or k l a b p q = record { is = (p.is, q.is); small = omega (arith, p.small, q.small) }

@@ -8,7 +8,7 @@ use Rattle.c_model.specs.Vocabulary.{Vocabulary}
 use Rattle.c_model.specs.ProgramGrammar.{FileParts, unit_with}
 use Rattle.c_model.specs.UnitTyping.{FileItem, AnEnum, ATypedef, AGlobal, AFunction, member_items, struct_items, in_order}
 use Rattle.c_model.specs.Formed.{number_of, numbers_of}
-use Rattle.c_model.specs.PlacedTrees.{FilePlaced}
+use Rattle.c_model.specs.PlacedTrees.{FileAtOffsets}
 use Rattle.c_model.specs.ReadTree.{Between, HasMembers, struct_among, InTextOrder}
 use Rattle.c_reader.proofs.PlacedReadings.{between_higher}
 use Rattle.c_reader.proofs.Covers.{held}
@@ -108,28 +108,28 @@ globals_whole l n (d ∷ ds) h =
     let on = between_on (suc d.place.offset) n (map number_of ds) h.1 in
     (record { numbers = (omega arith, on) }, globals_whole (suc d.place.offset) n ds h.1)
 
-placed_joined : (is js : List FileItem) → FilePlaced is → FilePlaced js → FilePlaced (is ++ js)
+placed_joined : (is js : List FileItem) → FileAtOffsets is → FileAtOffsets js → FileAtOffsets (is ++ js)
 placed_joined [] js h g = g
 placed_joined (i ∷ is) js h g = (h.0, placed_joined is js h.1 g)
 
-members_placed : (k : ℕ) (ms : List StructMember) → FilePlaced (member_items k ms)
+members_placed : (k : ℕ) (ms : List StructMember) → FileAtOffsets (member_items k ms)
 members_placed k [] = tt
 members_placed k (m ∷ []) = (tt, tt)
 members_placed k (m ∷ n ∷ ms) = (tt, members_placed k (n ∷ ms))
 
-structs_placed : (k : ℕ) (ss : List StructType) → FilePlaced (struct_items k ss)
+structs_placed : (k : ℕ) (ss : List StructType) → FileAtOffsets (struct_items k ss)
 structs_placed k [] = tt
 structs_placed k (s ∷ ss) = (tt, placed_joined (member_items k s.members) (struct_items (suc k) ss) (members_placed k s.members) (structs_placed (suc k) ss))
 
-enums_placed : (es : List EnumType) → FilePlaced (map AnEnum es)
+enums_placed : (es : List EnumType) → FileAtOffsets (map AnEnum es)
 enums_placed [] = tt
 enums_placed (e ∷ es) = (tt, enums_placed es)
 
-typedefs_placed : (ds : List Declaration) → FilePlaced (map ATypedef ds)
+typedefs_placed : (ds : List Declaration) → FileAtOffsets (map ATypedef ds)
 typedefs_placed [] = tt
 typedefs_placed (d ∷ ds) = (tt, typedefs_placed ds)
 
-globals_placed : (ds : List Declaration) → AllByRecursion (λ (d : Declaration). number_of d < 4294967295) ds → FilePlaced (map AGlobal ds)
+globals_placed : (ds : List Declaration) → AllByRecursion (λ (d : Declaration). number_of d < 4294967295) ds → FileAtOffsets (map AGlobal ds)
 globals_placed [] h = tt
 globals_placed (d ∷ ds) h = (is_offset (number_of d) h.0, globals_placed ds h.1)
 
@@ -158,7 +158,7 @@ module _ (size : ℕ) (old : Vocabulary) where
   functions_whole n [] h = tt
   functions_whole n (f ∷ fs) h = (record { numbers = h.0.numbers }, functions_whole n fs h.1)
 
-  functions_placed : (n : ℕ) (fs : List Function) → n ≤ 4294967295 → AllByRecursion (IsFunction size old n) fs → FilePlaced (map AFunction fs)
+  functions_placed : (n : ℕ) (fs : List Function) → n ≤ 4294967295 → AllByRecursion (IsFunction size old n) fs → FileAtOffsets (map AFunction fs)
   functions_placed n [] le h = tt
   functions_placed n (f ∷ fs) le h = (function_placed f (between_higher f.place.offset n 4294967295 (numbers_of f) le h.0.numbers) h.0.bare, functions_placed n fs le h.1)
 
@@ -170,7 +170,7 @@ module _ (size : ℕ) (old : Vocabulary) where
         (all_joined (IsWhole n) (map ATypedef x.typedefs) _ (typedefs_whole 0 n x.typedefs h.typedefs)
         (all_joined (IsWhole n) (map AGlobal x.globals) _ (globals_whole 0 n x.globals h.globals.declares.numbers) (functions_whole n x.functions h.functions))))
 
-    all_placed : n ≤ 4294967295 → FilePlaced (items_of x)
+    all_placed : n ≤ 4294967295 → FileAtOffsets (items_of x)
     all_placed le =
         placed_joined (struct_items 0 x.definitions.structs) _ (structs_placed 0 x.definitions.structs)
         (placed_joined (map AnEnum x.definitions.enums) _ (enums_placed x.definitions.enums)

@@ -4,7 +4,7 @@ use Rattle.std.specs.Prelude.{nat_lt}
 use Rattle.std.proofs.lemmas.Bool.{ltb-true, ltb-false}
 use Rattle.std.specs.List.{AllByRecursion}
 use Rattle.c_model.specs.UnitTyping.{FileItem, StructHead, Member, AnEnum, ATypedef, AGlobal, AFunction, offset_of_item, inserted, in_order}
-use Rattle.c_model.specs.PlacedTrees.{FileItemPlaced, FilePlaced}
+use Rattle.c_model.specs.PlacedTrees.{FileItemAtOffsets, FileAtOffsets}
 use Rattle.c_model.specs.Formed.{number_of, declared_in_body}
 use Rattle.c_model.specs.ReadTree.{Between, offset_of_constant, numbers_of_item, numbers_of_items}
 use Rattle.c_reader.proofs.PlacedReadings.{between_lower, between_higher, between_joined}
@@ -151,15 +151,15 @@ between_in_order n (i ∷ is) whole once =
 
 -- ---- what is true of each item
 
-placed_inserted : (i : FileItem) (is : List FileItem) → FileItemPlaced i → FilePlaced is → FilePlaced (inserted i is)
+placed_inserted : (i : FileItem) (is : List FileItem) → FileItemAtOffsets i → FileAtOffsets is → FileAtOffsets (inserted i is)
 placed_inserted i [] p h = (p, tt)
 placed_inserted i (j ∷ is) p h = by (placed_inserted i is p h.1) (nat_lt (offset_of_item j) (offset_of_item i))
   where
-    by : FilePlaced (inserted i is) → (b : Bool) → FilePlaced (if b then j ∷ inserted i is else i ∷ j ∷ is)
+    by : FileAtOffsets (inserted i is) → (b : Bool) → FileAtOffsets (if b then j ∷ inserted i is else i ∷ j ∷ is)
     by rest true = (h.0, rest)
     by rest false = (p, (h.0, h.1))
 
-pub placed_in_order : (is : List FileItem) → FilePlaced is → FilePlaced (in_order is)
+pub placed_in_order : (is : List FileItem) → FileAtOffsets is → FileAtOffsets (in_order is)
 placed_in_order [] h = tt
 placed_in_order (i ∷ is) h = placed_inserted i (in_order is) h.0 (placed_in_order is h.1)
 

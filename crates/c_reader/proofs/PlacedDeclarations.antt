@@ -6,7 +6,7 @@ use Rattle.c_syntax.specs.Statements.{Declaration, Statement, Empty, Eval, Block
 use Rattle.c_syntax.specs.Statements.{Labelled, Switch, Cases, NoCase, AnotherCase, ForFirst, NoFirst, First, BlockItem, Declare, Specify, Run, Asserts, BlockItems, NoItem, Then}
 use Rattle.c_syntax.specs.Programs.{Function}
 use Rattle.c_model.specs.Formed.{number_of, numbers_of, declared_within, declared_in_cases, declared_in_else, declared_in_first, declared_in_item, declared_in_items, declared_in_body}
-use Rattle.c_model.specs.PlacedTrees.{IsOffset, ArePlaced, StatementPlaced, CasesPlaced, ElsePlaced, FirstPlaced, ItemPlaced, ItemsPlaced, BodyPlaced, ParametersPlaced, FunctionPlaced}
+use Rattle.c_model.specs.PlacedTrees.{IsOffset, AreAtOffsets, StatementAtOffsets, CasesAtOffsets, ElseAtOffsets, FirstAtOffsets, ItemAtOffsets, ItemsAtOffsets, BodyAtOffsets, ParametersAtOffsets, FunctionAtOffsets}
 use Rattle.c_model.specs.ReadTree.{Between}
 use Rattle.c_reader.proofs.ItemOrder.{between_on}
 use Rattle.c_reader.proofs.ParameterForms.{HasNoInitialiser}
@@ -35,12 +35,12 @@ between_below l (d ∷ ds) h =
     let le = between_on (suc (number_of d)) 4294967295 (map number_of ds) h.1 in
     (omega (arith, le), between_below (suc (number_of d)) ds h.1)
 
-placed : (ds : List Declaration) → AreBelow ds → ArePlaced ds
+placed : (ds : List Declaration) → AreBelow ds → AreAtOffsets ds
 placed [] h = tt
 placed (d ∷ ds) h = (is_offset (number_of d) h.0, placed ds h.1)
 
 mutual
-  statement_placed : (a : Statement) → AreBelow (declared_within a) → StatementPlaced a
+  statement_placed : (a : Statement) → AreBelow (declared_within a) → StatementAtOffsets a
   statement_placed (Empty at) h = tt
   statement_placed (Eval at e) h = tt
   statement_placed (Block at items) h = items_placed items h
@@ -55,39 +55,39 @@ mutual
   statement_placed (Labelled at l a) h = statement_placed a h
   statement_placed (Switch at e cases) h = cases_placed cases h
 
-  cases_placed : (cases : Cases) → AreBelow (declared_in_cases cases) → CasesPlaced cases
+  cases_placed : (cases : Cases) → AreBelow (declared_in_cases cases) → CasesAtOffsets cases
   cases_placed NoCase h = tt
   cases_placed (AnotherCase at v items rest) h =
       (items_placed items (below_front (declared_in_items items) (declared_in_cases rest) h), cases_placed rest (below_back (declared_in_items items) (declared_in_cases rest) h))
 
-  else_placed : (b : ElsePart) → AreBelow (declared_in_else b) → ElsePlaced b
+  else_placed : (b : ElsePart) → AreBelow (declared_in_else b) → ElseAtOffsets b
   else_placed NoElse h = tt
   else_placed (Else a) h = statement_placed a h
 
-  first_placed : (first : ForFirst) → AreBelow (declared_in_first first) → FirstPlaced first
+  first_placed : (first : ForFirst) → AreBelow (declared_in_first first) → FirstAtOffsets first
   first_placed NoFirst h = tt
   first_placed (First i) h = item_placed i h
 
-  item_placed : (i : BlockItem) → AreBelow (declared_in_item i) → ItemPlaced i
+  item_placed : (i : BlockItem) → AreBelow (declared_in_item i) → ItemAtOffsets i
   item_placed (Declare ds) h = placed ds h
   item_placed (Specify at t) h = tt
   item_placed (Run a) h = statement_placed a h
   item_placed (Asserts annots) h = tt
 
-  items_placed : (is : BlockItems) → AreBelow (declared_in_items is) → ItemsPlaced is
+  items_placed : (is : BlockItems) → AreBelow (declared_in_items is) → ItemsAtOffsets is
   items_placed NoItem h = tt
   items_placed (Then i is) h =
       (item_placed i (below_front (declared_in_item i) (declared_in_items is) h), items_placed is (below_back (declared_in_item i) (declared_in_items is) h))
 
-body_placed : (b : Option Statement) → AreBelow (declared_in_body b) → BodyPlaced b
+body_placed : (b : Option Statement) → AreBelow (declared_in_body b) → BodyAtOffsets b
 body_placed None h = tt
 body_placed (Some a) h = statement_placed a h
 
-parameters_placed : (ds : List Declaration) → AreBelow ds → AllByRecursion HasNoInitialiser ds → ParametersPlaced ds
+parameters_placed : (ds : List Declaration) → AreBelow ds → AllByRecursion HasNoInitialiser ds → ParametersAtOffsets ds
 parameters_placed [] h bare = tt
 parameters_placed (d ∷ ds) h bare = (is_offset (number_of d) h.0, bare.0, parameters_placed ds h.1 bare.1)
 
-pub function_placed : (f : Function) → Between f.place.offset (numbers_of f) 4294967295 → AllByRecursion HasNoInitialiser f.params → FunctionPlaced f
+pub function_placed : (f : Function) → Between f.place.offset (numbers_of f) 4294967295 → AllByRecursion HasNoInitialiser f.params → FunctionAtOffsets f
 function_placed f h bare =
     let below = between_below (suc f.place.offset) (f.params ++ declared_in_body f.body) h.1 in
     record {

@@ -21,7 +21,7 @@ use Rattle.c_model.specs.Names.{with_name, name_number}
 use Rattle.c_model.specs.MonitoredTokens.{Read, whole, nothing_read}
 use Rattle.c_model.specs.MonitoredTokenLaws.{with_names}
 use Rattle.c_model.specs.Pieces.{Pieces, Ended, Broken, Cut, begins_name, mode_after, pieces_of}
-use Rattle.c_model.specs.CTokens.{joined, with_string, add, refused, closed, most_tokens, build, tokens_of}
+use Rattle.c_model.specs.CTokens.{joined_string, with_string, add, refused, closed, most_tokens, build, tokens_of}
 use Rattle.c_model.specs.CTokenLaws.{bytes_of, IsName, Spells, AreSpelled, word_then, words_of, Ascend}
 use Rattle.c_model.specs.Vocabulary.{word_of, word_at}
 use Rattle.c_model.specs.ExpressionGrammar.{name_kind, word_kind}
@@ -142,10 +142,10 @@ behind : (n : ℕ) (ts : List PlainToken) (t : PlainToken) → AreLexed n ts →
 behind n [] t h p = (p, tt)
 behind n (u ∷ ts) t h p = (h.0, behind n ts t h.1 p)
 
-joined_lexed : (n : ℕ) (t : PlainToken) (at : Place) (bs : List ℕ) → IsLexed n t → AreBytes bs → AreLexed n (joined t at bs)
+joined_lexed : (n : ℕ) (t : PlainToken) (at : Place) (bs : List ℕ) → IsLexed n t → AreBytes bs → AreLexed n (joined_string t at bs)
 joined_lexed n t at bs h are = by t.kind t.place h
   where
-    by : (k : PlainTokenKind) (p : Place) → IsLexedKind n k → AreLexed n (joined (record { place = p; kind = k }) at bs)
+    by : (k : PlainTokenKind) (p : Place) → IsLexedKind n k → AreLexed n (joined_string (record { place = p; kind = k }) at bs)
     by (token.Chars cs) p h = (bytes_joined cs bs h are, tt)
     by (token.Word i) p h = (h, (are, tt))
     by (token.Number v c) p h = (h, (are, tt))

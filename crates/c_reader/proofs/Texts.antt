@@ -8,7 +8,7 @@ use Rattle.c_syntax.specs.declared.place.Place.{Place}
 use Rattle.c_syntax.specs.Tokens.{PlainTokens}
 use Rattle.c_syntax.specs.Programs.{TranslationUnit, PlainRefusal}
 use Rattle.c_model.specs.CTokens.{tokens_of}
-use Rattle.c_model.specs.Checked.{Fault, Checked, Good, Bad, least, refusing}
+use Rattle.c_model.specs.Checked.{Fault, Checked, Good, Bad, least_fault, refusing}
 use Rattle.c_model.specs.UnitTyping.{typed_unit, room_fault, main_fault}
 use Rattle.c_model.specs.AnnotationTyping.{noted_unit}
 use Rattle.c_model.specs.AnnotationRanges.{ranged_unit}
@@ -25,11 +25,11 @@ Answer = Result TranslationUnit PlainRefusal
 
 abbrev ranged : PlainTokens → Checked TranslationUnit → Answer
 ranged ts (Good p) = Ok p
-ranged ts (Bad f fs) = Err (checked_refusal ts (least f fs))
+ranged ts (Bad f fs) = Err (checked_refusal ts (least_fault f fs))
 
 abbrev noted : PlainTokens → Checked TranslationUnit → Answer
 noted ts (Good p) = ranged ts (ranged_unit p)
-noted ts (Bad f fs) = Err (checked_refusal ts (least f fs))
+noted ts (Bad f fs) = Err (checked_refusal ts (least_fault f fs))
 
 abbrev entered : PlainTokens → TranslationUnit → Option Fault → Answer
 entered ts p None = noted ts (noted_unit p)
@@ -41,22 +41,22 @@ housed ts p (Some f) = Err (checked_refusal ts f)
 
 abbrev settled : PlainTokens → Checked TranslationUnit → Answer
 settled ts (Good p) = housed ts p (room_fault p)
-settled ts (Bad f fs) = Err (checked_refusal ts (least f fs))
+settled ts (Bad f fs) = Err (checked_refusal ts (least_fault f fs))
 
 abbrev pub of_tree : PlainTokens → TranslationUnit → Answer
 of_tree ts p = settled ts (typed_unit p)
 
 settled_fault : (ts : PlainTokens) (c : Checked TranslationUnit) (f : Fault) → refusing c ≡ Some f → settled ts c ≡ Err (checked_refusal ts f)
 settled_fault ts (Good p) f e = absurd cc
-settled_fault ts (Bad g gs) f e = let same : least g gs ≡ f = cc in ap (λ x. Err (checked_refusal ts x)) same
+settled_fault ts (Bad g gs) f e = let same : least_fault g gs ≡ f = cc in ap (λ x. Err (checked_refusal ts x)) same
 
 noted_fault : (ts : PlainTokens) (c : Checked TranslationUnit) (f : Fault) → refusing c ≡ Some f → noted ts c ≡ Err (checked_refusal ts f)
 noted_fault ts (Good p) f e = absurd cc
-noted_fault ts (Bad g gs) f e = let same : least g gs ≡ f = cc in ap (λ x. Err (checked_refusal ts x)) same
+noted_fault ts (Bad g gs) f e = let same : least_fault g gs ≡ f = cc in ap (λ x. Err (checked_refusal ts x)) same
 
 ranged_fault : (ts : PlainTokens) (c : Checked TranslationUnit) (f : Fault) → refusing c ≡ Some f → ranged ts c ≡ Err (checked_refusal ts f)
 ranged_fault ts (Good p) f e = absurd cc
-ranged_fault ts (Bad g gs) f e = let same : least g gs ≡ f = cc in ap (λ x. Err (checked_refusal ts x)) same
+ranged_fault ts (Bad g gs) f e = let same : least_fault g gs ≡ f = cc in ap (λ x. Err (checked_refusal ts x)) same
 
 -- ---- the answers on a text
 
@@ -64,7 +64,7 @@ ranged_fault ts (Bad g gs) f e = let same : least g gs ≡ f = cc in ap (λ x. E
 record IsUnread (text : List ℕ) (a : Answer) : Type 0 where
   tokens : PlainTokens
   has : tokens_of text ≡ Ok tokens
-  fault : grammar.Fault
+  fault : grammar.ParseFault
   found : IsSyntaxFault tokens fault
   is : a ≡ Err (syntax_refusal tokens fault)
 
@@ -102,7 +102,7 @@ broken_apart text r ts e k = cc
 one_broken : (text : List ℕ) (r s : PlainRefusal) → tokens_of text ≡ Err r → tokens_of text ≡ Err s → r ≡ s
 one_broken text r s e k = cc
 
-one_syntax_fault : (ts : PlainTokens) (f g : grammar.Fault) → IsSyntaxFault ts f → IsSyntaxFault ts g → f ≡ g
+one_syntax_fault : (ts : PlainTokens) (f g : grammar.ParseFault) → IsSyntaxFault ts f → IsSyntaxFault ts g → f ≡ g
 one_syntax_fault ts f g x y = one_fault (unit (vocabulary ts) ts.names (texts_of ts.list)) (fronts (vocabulary ts) ts.names (texts_of ts.list)) ts.list (limits (vocabulary ts) ts.names (texts_of ts.list)) f g x.refused y.refused
 
 both_unread : (text : List ℕ) (a b : Answer) → IsUnread text a → IsUnread text b → a ≡ b

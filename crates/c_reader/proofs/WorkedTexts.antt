@@ -41,7 +41,7 @@ abbrev place : ℕ → ℕ → ℕ → Place
 place line column offset = record { line = line; column = column; offset = offset }
 
 -- the answer to tokens that are read to the end, or not
-abbrev read_as : PlainTokens → Result ((TranslationUnit × Option Place) × List PlainToken) grammar.Fault → Answer
+abbrev read_as : PlainTokens → Result ((TranslationUnit × Option Place) × List PlainToken) grammar.ParseFault → Answer
 read_as ts (Ok ((p, None), [])) = of_tree ts p
 read_as ts (Ok ((p, Some at), [])) = Err (refused_at_place ts misplaced_code at)
 read_as ts (Ok (x, t ∷ rest)) = Err (syntax_refusal ts (grammar.At (length (t ∷ rest))))

@@ -16,7 +16,8 @@ use Rattle.c_model.specs.AnnotationTyping.{noted_body, noted_items}
 use Rattle.c_expression_rules.specs.declared.fault.TypeFault.{TypeFault}
 use Rattle.c_expression_rules.specs.Answers.{Answers}
 use Rattle.c_expression_rules.specs.Sights.{left}
-use Rattle.c_typing.specs.Blocks.{around_body, behind_items}
+use Rattle.c_typing.specs.Blocks.{behind_items}
+use Rattle.c_model.specs.TypedTrees.{around_body}
 use Rattle.c_expression_rules.proofs.Lists.{made_of}
 use Rattle.c_typing.proofs.Blocks.{left_body}
 

@@ -14,7 +14,7 @@ use Rattle.c_expression_rules.specs.declared.fault.TypeFault.{TypeFault}
 use Rattle.c_expression_rules.specs.Answers.{Answers, both}
 use Rattle.c_expression_rules.proofs.Least.{both_refused}
 use Rattle.c_typing.specs.declared.heading.Noted.{Noted}
-use Rattle.c_typing.specs.Functions.{denoted, known, with_known, fits, fits_in, fitting, fitting_type, with_function, names_behind, typed_parts, function_in_turn}
+use Rattle.c_typing.specs.Functions.{denoted, known, with_known, fits_earlier, fits_in, fitting, fitting_type_by, with_function_by, names_behind, typed_parts, function_in_turn}
 use Rattle.c_typing.proofs.Headings.{declared_is, known_snoc, fits_is}
 
 -- ---- headings
@@ -39,20 +39,20 @@ module _ (s : Sight) (names : ℕ → Option Noted) (f : Function) (t : PlainTyp
 
     -- whether it fits those before it, where its types have no fault as they are written
     pub fitting_by : (u : Sight) (r : Result (Unit {0}) TypeFault) → ((v : Unit {0}) → b ≡ Ok v → u ≡ s) → ((h : TypeFault) → both a b ≡ Err h → r ≡ Err h)
-        → ((v : Unit {0}) → both a b ≡ Ok v → Answers (λ (w : Unit {0}). g) (fitting u names g) r) → Answers (λ (w : Unit {0}). g) (fitting_type s names f) r
-    fitting_by u r same refused fits = by (both a b) refl
+        → ((v : Unit {0}) → both a b ≡ Ok v → Answers (λ (w : Unit {0}). g) (fitting u names g) r) → Answers (λ (w : Unit {0}). g) (fitting_type_by s names f) r
+    fitting_by u r same refused fits_earlier = by (both a b) refl
       where
         second_ok : (a b : Result (Unit {0}) TypeFault) (v : Unit {0}) → both a b ≡ Ok v → b ≡ Ok v
         second_ok a (Ok w) v e = refl
         second_ok (Ok w) (Err g) v e = absurd cc
         second_ok (Err f) (Err g) v e = absurd cc
 
-        by : (c : Result (Unit {0}) TypeFault) → both a b ≡ c → Answers (λ (w : Unit {0}). g) (fitting_type s names f) r
-        by (Err h) e = subst (Answers (λ (w : Unit {0}). g) (fitting_type s names f)) (sym (refused h e))
+        by : (c : Result (Unit {0}) TypeFault) → both a b ≡ c → Answers (λ (w : Unit {0}). g) (fitting_type_by s names f) r
+        by (Err h) e = subst (Answers (λ (w : Unit {0}). g) (fitting_type_by s names f)) (sym (refused h e))
             (both_refused (λ t ds. fitting s names (record f { result = t; params = ds })) (λ (u : Unit {0}). t) (λ (u : Unit {0}). ds) (λ (w : Unit {0}). g) (typed_type s f.place f.result)
             (typed_parameters (inner s) (is_definition f) f.params) a b h ha hb e)
         by (Ok v) e = both_then (λ t ds. fitting s names (record f { result = t; params = ds })) (λ (u : Unit {0}). t) (λ (u : Unit {0}). ds) (λ (w : Unit {0}). g) (typed_type s f.place f.result)
-            (typed_parameters (inner s) (is_definition f) f.params) a b v r ha hb e (subst (λ z. Answers (λ (w : Unit {0}). g) (fitting z names g) r) (same v (second_ok a b v e)) (fits v e))
+            (typed_parameters (inner s) (is_definition f) f.params) a b v r ha hb e (subst (λ z. Answers (λ (w : Unit {0}). g) (fitting z names g) r) (same v (second_ok a b v e)) (fits_earlier v e))
 
 -- ---- a function as the definition of a file has it
 
@@ -61,13 +61,13 @@ pub record Behind (p : TranslationUnit) (s : Sight) (kept : ℕ → Option Noted
   pub functions : s.functions ≡ map (signature p.funcs) before
   pub names : (x : ℕ) → kept x ≡ known before x
 
-pub with_is : (p : TranslationUnit) (s : Sight) (f : Function) → with_function (denoted p.funcs) s f ≡ unit.with_function p s f
+pub with_is : (p : TranslationUnit) (s : Sight) (f : Function) → with_function_by (denoted p.funcs) s f ≡ unit.with_function p s f
 with_is p s f = ap (λ g. record s { functions = s.functions ++ g ∷ [] }) (declared_is p.funcs f)
 
 module _ (p : TranslationUnit) (s : Sight) (names : ℕ → Option Noted) (before : List Function) (b : Behind p s names before)
   where
     fits_all : (f : Function) → fits_in s names f ≡ is_compatible_with_all before f
-    fits_all f = (λ i. fits (function_called f.name (b.functions i)) (b.names f.name i) f) ∙ fits_is p.funcs f before
+    fits_all f = (λ i. fits_earlier (function_called f.name (b.functions i)) (b.names f.name i) f) ∙ fits_is p.funcs f before
 
     pub function_is : (f : Function) → function_in_turn (denoted p.funcs) s names f ≡ typed_function p s before f
     function_is f = (λ i. one_part (both_parts (function_name s f) (both_parts (typed_result s (is_definition f) f.place f.result)
@@ -75,7 +75,7 @@ module _ (p : TranslationUnit) (s : Sight) (names : ℕ → Option Noted) (befor
         let g = record f { result = t; params = ds } in where_so (fits_all g i) (no_name f.place) (Good g))) (λ t g. Good (record g { result = t }))) (λ n g. Good g)) (λ f. typed_parts (with_is p s f i) f))
 
     -- one more function
-    pub behind_more : (f : Function) → Behind p (with_function (denoted p.funcs) s f) (names_behind s names f) (before ++ f ∷ [])
+    pub behind_more : (f : Function) → Behind p (with_function_by (denoted p.funcs) s f) (names_behind s names f) (before ++ f ∷ [])
     behind_more f = record {
       functions = (λ i. b.functions i ++ declared_is p.funcs f i ∷ []) ∙ sym (map-append (signature p.funcs) before (f ∷ []));
       names = λ x. (λ i. with_known (function_called f.name (b.functions i)) (λ x. b.names x i) f x) ∙ known_snoc p.funcs f before x;

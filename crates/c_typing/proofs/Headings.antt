@@ -9,11 +9,11 @@ use Rattle.c_syntax.specs.Programs.{Function}
 use Rattle.c_model.specs.Meaning.{is_definition}
 use Rattle.c_model.specs.Library.{is_there}
 use Rattle.c_model.specs.ExpressionTyping.{Signature, function_called, same_int, same_length, same_type}
-use Rattle.c_model.specs.UnitTyping.{definition_of, first_of, number_or, types_of, signature, same_signature, same_types, is_compatible, is_compatible_with_all}
+use Rattle.c_model.specs.UnitTyping.{definition_of, first_declaration, number_or, types_of, signature, same_signature, same_types, is_compatible, is_compatible_with_all}
 use Rattle.c_model.proofs.TypedParts.{same_type_is}
 use Rattle.c_typing.specs.declared.heading.Callee.{Callee}
 use Rattle.c_typing.specs.declared.heading.Noted.{Noted}
-use Rattle.c_typing.specs.Functions.{first_named, denoted_by, denoted, told, was_defined, alike_with, known, is_alike, with_known, fits, declared}
+use Rattle.c_typing.specs.Functions.{first_named, denoted_by, denoted, told, was_defined, alike_with, known, is_alike, with_known, fits_earlier, declared}
 
 -- ---- what names denote
 
@@ -101,11 +101,11 @@ abbrev first_number : Option Function → ℕ
 first_number None = 0
 first_number (Some f) = f.place.offset
 
-first_is : (x : ℕ) (fs : List Function) → first_of x fs ≡ first_number (first_named x fs)
+first_is : (x : ℕ) (fs : List Function) → first_declaration x fs ≡ first_number (first_named x fs)
 first_is x [] = refl
 first_is x (f ∷ fs) = by (nat_eq f.name x) (first_is x fs)
   where
-    by : (b : Bool) → first_of x fs ≡ first_number (first_named x fs) → cond b f.place.offset (first_of x fs) ≡ first_number (cond b (Some f) (first_named x fs))
+    by : (b : Bool) → first_declaration x fs ≡ first_number (first_named x fs) → cond b f.place.offset (first_declaration x fs) ≡ first_number (cond b (Some f) (first_named x fs))
     by true e = refl
     by false e = e
 
@@ -373,17 +373,17 @@ module _ (all : List Function) (f : Function)
         by false = refl
 
     -- what is kept of functions tells which of them fit
-    pub fits_is : (gs : List Function) → fits (function_called f.name (map (signature all) gs)) (known gs f.name) f ≡ is_compatible_with_all gs f
+    pub fits_is : (gs : List Function) → fits_earlier (function_called f.name (map (signature all) gs)) (known gs f.name) f ≡ is_compatible_with_all gs f
     fits_is [] = refl
     fits_is (g ∷ gs) = by (fits_is gs) (nat_eq g.name f.name) refl (eq_sym f.name g.name)
       where
-        by : fits (function_called f.name (map (signature all) gs)) (known gs f.name) f ≡ is_compatible_with_all gs f → (b : Bool) → nat_eq g.name f.name ≡ b → nat_eq f.name g.name ≡ b
-            → fits (cond (nat_eq f.name g.name) (Some (signature all g)) (function_called f.name (map (signature all) gs))) (cond b (Some (noted (is_definition g || was_defined (known gs f.name)) (alike_with g gs))) (known gs f.name)) f
+        by : fits_earlier (function_called f.name (map (signature all) gs)) (known gs f.name) f ≡ is_compatible_with_all gs f → (b : Bool) → nat_eq g.name f.name ≡ b → nat_eq f.name g.name ≡ b
+            → fits_earlier (cond (nat_eq f.name g.name) (Some (signature all g)) (function_called f.name (map (signature all) gs))) (cond b (Some (noted (is_definition g || was_defined (known gs f.name)) (alike_with g gs))) (known gs f.name)) f
             ≡ (cond b (same_signature g f && not (is_definition g && is_definition f)) true && is_compatible_with_all gs f)
         by so true e t =
             let same : g.name ≡ f.name = grind (arith, nat_tests, e) in
-            ap (λ b. fits (cond b (Some (signature all g)) (function_called f.name (map (signature all) gs))) (Some (noted (is_definition g || was_defined (known gs f.name)) (alike_with g gs))) f) t
+            ap (λ b. fits_earlier (cond b (Some (signature all g)) (function_called f.name (map (signature all) gs))) (Some (noted (is_definition g || was_defined (known gs f.name)) (alike_with g gs))) f) t
             ∙ ap (λ b. b && not (is_definition f && (is_definition g || was_defined (known gs f.name)))) (sym (first_types g gs same (same_signature g f) refl))
             ∙ sym (both_fit (same_signature g f) (types gs) (is_definition g) (was_defined (known gs f.name)) (is_definition f))
             ∙ ap (λ b. (same_signature g f && not (is_definition g && is_definition f)) && b) (sym (compatible_by gs))
-        by so false e t = ap (λ b. fits (cond b (Some (signature all g)) (function_called f.name (map (signature all) gs))) (known gs f.name) f) t ∙ so
+        by so false e t = ap (λ b. fits_earlier (cond b (Some (signature all g)) (function_called f.name (map (signature all) gs))) (known gs f.name) f) t ∙ so

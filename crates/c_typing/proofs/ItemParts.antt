@@ -15,7 +15,7 @@ use Rattle.c_expression_rules.proofs.Least.{one_refused}
 use Rattle.c_declaration_rules.specs.declared.open_struct.OpenStructs.{OpenStructs}
 use Rattle.c_declaration_rules.specs.OpenStructs.{IsOpen}
 use Rattle.c_typing.specs.declared.heading.Callee.{Callee}
-use Rattle.c_typing.specs.Functions.{function_in_turn, names_behind, with_function}
+use Rattle.c_typing.specs.Functions.{function_in_turn, names_behind, with_function_by}
 use Rattle.c_typing.specs.Files.{Course, defined_in_turn, global_in_turn, typedef_in_turn}
 
 -- structs stay as they are where enumerators are typed
@@ -49,10 +49,10 @@ module _ (c c' : Course)
     module _ (numbers : ℕ → Option Callee)
       where
         abbrev with_defined : Function → Course × Function
-        with_defined f = (record c { sight = with_function numbers c.sight f; names = names_behind c.sight c.names f }, f)
+        with_defined f = (record c { sight = with_function_by numbers c.sight f; names = names_behind c.sight c.names f }, f)
 
         pub defined_made : (f f' : Function) (r : Result (Unit {0}) TypeFault) → Answers (λ (u : Unit {0}). f') (function_in_turn numbers c.sight c.names f) r
-            → OnOk r (c'.sight ≡ with_function numbers c.sight f') → OnOk r ((x : ℕ) → c'.names x ≡ names_behind c.sight c.names f' x) → c'.tags ≡ c.tags
+            → OnOk r (c'.sight ≡ with_function_by numbers c.sight f') → OnOk r ((x : ℕ) → c'.names x ≡ names_behind c.sight c.names f' x) → c'.tags ≡ c.tags
             → Answers (λ (u : Unit {0}). (c', f')) (defined_in_turn numbers c f) r
         defined_made f f' (Ok u) h sight names tags =
             ap (λ m. one_part m (λ f. Good (with_defined f))) h ∙ sym (λ i. Good (record { sight = sight i; tags = tags i; names = λ x. names x i }, f'))

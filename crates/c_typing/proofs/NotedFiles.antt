@@ -14,7 +14,7 @@ use Rattle.c_expression_rules.specs.Answers.{Answers}
 use Rattle.c_expression_rules.proofs.Gives.{Gives, gives_of}
 use Rattle.c_expression_rules.proofs.Least.{one_refused}
 use Rattle.c_typing.specs.declared.heading.Callee.{Callee}
-use Rattle.c_typing.specs.Functions.{denoted, with_function}
+use Rattle.c_typing.specs.Functions.{denoted, with_function_by}
 use Rattle.c_typing.specs.Files.{among, enum_of, typedef_of, global_of, function_of, kinds, without_sight, without_kinds, Finished}
 use Rattle.c_typing.specs.NotedFiles.{EnumsKnown, IsOrdered, is_ordinary, all_behind, known_in_turn, notes_in_turn}
 use Rattle.c_typing.proofs.Functions.{with_is}
@@ -92,8 +92,8 @@ module _ (p : TranslationUnit)
     notes_are (AGlobal d ∷ is) s = notes_are is (with_object s d) ∙ sym (others_in_turn (AGlobal d) refl (notes_in_turn numbers (with_object s d) (ordinary is)))
     notes_are (AFunction f ∷ is) s =
         sym (λ i. one_part (noted_function (with_is p s f i) f) (λ g. one_part (noted_functions p (with_is p s f i) is) (λ fs. Good (g ∷ fs))))
-        ∙ ap (λ n. one_part (noted_function (with_function numbers s f) f) (λ g. one_part n (λ fs. Good (g ∷ fs)))) (notes_are is (with_function numbers s f))
-        ∙ by (noted_function (with_function numbers s f) f) (notes_in_turn numbers (with_function numbers s f) (ordinary is))
+        ∙ ap (λ n. one_part (noted_function (with_function_by numbers s f) f) (λ g. one_part n (λ fs. Good (g ∷ fs)))) (notes_are is (with_function_by numbers s f))
+        ∙ by (noted_function (with_function_by numbers s f) f) (notes_in_turn numbers (with_function_by numbers s f) (ordinary is))
       where
         by : (m : Checked Function) (n : Checked (List FileItem)) → one_part m (λ g. one_part (functions_of n) (λ fs. Good (g ∷ fs)))
             ≡ functions_of (one_part (one_part m (λ g. Good (AFunction g))) (λ j. one_part n (λ js. Good (j ∷ js))))
@@ -147,7 +147,7 @@ module _ (ds : ℕ → Option Callee)
     kinds_same (AnEnum e ∷ is) s = kinds_before (AnEnum e) is (notes_in_turn ds (behind_enum s e) is) (kinds_same is (behind_enum s e))
     kinds_same (ATypedef d ∷ is) s = kinds_before (ATypedef d) is (notes_in_turn ds (unit.with_type s d) is) (kinds_same is (unit.with_type s d))
     kinds_same (AGlobal d ∷ is) s = kinds_before (AGlobal d) is (notes_in_turn ds (with_object s d) is) (kinds_same is (with_object s d))
-    kinds_same (AFunction f ∷ is) s = function_before f is (noted_function (with_function ds s f) f) (notes_in_turn ds (with_function ds s f) is) (kinds_same is (with_function ds s f))
+    kinds_same (AFunction f ∷ is) s = function_before f is (noted_function (with_function_by ds s f) f) (notes_in_turn ds (with_function_by ds s f) is) (kinds_same is (with_function_by ds s f))
 
 -- names, strings and structs
 pub record SameText (s t : Sight) : Type 0 where
@@ -172,7 +172,7 @@ text_same ds (AnEnum e ∷ is) s =
     record { names = h.names ∙ a.names; texts = h.texts ∙ a.texts; structs = h.structs ∙ a.structs }
 text_same ds (ATypedef d ∷ is) s = let h = text_same ds is (unit.with_type s d) in record { names = h.names; texts = h.texts; structs = h.structs }
 text_same ds (AGlobal d ∷ is) s = let h = text_same ds is (with_object s d) in record { names = h.names; texts = h.texts; structs = h.structs }
-text_same ds (AFunction f ∷ is) s = let h = text_same ds is (with_function ds s f) in record { names = h.names; texts = h.texts; structs = h.structs }
+text_same ds (AFunction f ∷ is) s = let h = text_same ds is (with_function_by ds s f) in record { names = h.names; texts = h.texts; structs = h.structs }
 
 -- ---- files
 

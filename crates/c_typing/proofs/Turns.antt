@@ -19,7 +19,7 @@ use Rattle.c_expression_rules.proofs.Gives.{Gives, gives_of}
 use Rattle.c_expression_rules.proofs.Least.{one_refused}
 use Rattle.c_typing.specs.declared.heading.Callee.{Callee}
 use Rattle.c_typing.specs.declared.item.FileItem as code
-use Rattle.c_typing.specs.Functions.{denoted, with_function, names_behind, function_in_turn}
+use Rattle.c_typing.specs.Functions.{denoted, with_function_by, names_behind, function_in_turn}
 use Rattle.c_typing.specs.Files.{Course, bare, course_at, item_in_turn, items_in_turn, kept, all_kept, among, enum_of, typedef_of, global_of, function_of, plain_file_item, emptied, with_items, with_sight, without_sight, Finished}
 use Rattle.c_typing.proofs.Functions.{Behind, with_is, function_is, behind_more}
 
@@ -232,9 +232,9 @@ module _ (p : TranslationUnit)
         global_step (Good d) = ap Good (sym (progress_global (record c { sight = with_object c.sight d }) js d))
         global_step (Bad f fs) = refl
 
-        function_step : (m : Checked Function) → one_part m (λ f. Good (record (progress c js) { sight = with_function numbers c.sight f; funcs = among function_of js ++ f ∷ [] }))
-            ≡ onward js (one_part (one_part m (λ f. Good (paired (record c { sight = with_function numbers c.sight f; names = names_behind c.sight c.names f }) f))) (λ x. Good (paired x.0 (AFunction x.1 ∷ []))))
-        function_step (Good f) = ap Good (sym (progress_function (record c { sight = with_function numbers c.sight f; names = names_behind c.sight c.names f }) js f))
+        function_step : (m : Checked Function) → one_part m (λ f. Good (record (progress c js) { sight = with_function_by numbers c.sight f; funcs = among function_of js ++ f ∷ [] }))
+            ≡ onward js (one_part (one_part m (λ f. Good (paired (record c { sight = with_function_by numbers c.sight f; names = names_behind c.sight c.names f }) f))) (λ x. Good (paired x.0 (AFunction x.1 ∷ []))))
+        function_step (Good f) = ap Good (sym (progress_function (record c { sight = with_function_by numbers c.sight f; names = names_behind c.sight c.names f }) js f))
         function_step (Bad f fs) = refl
 
         pub item_step : Stands p c js → (i : FileItem) → typed_item_of_file p (progress c js) i ≡ onward js (item_in_turn numbers c (bare i))
@@ -280,10 +280,10 @@ module _ (p : TranslationUnit)
 
         function_stands : Stands p c js → (m : Checked Function)
             → Gives (λ x. Stands p x.0 (js ++ x.1))
-            (one_part (one_part m (λ f. Good (paired (record c { sight = with_function numbers c.sight f; names = names_behind c.sight c.names f }) f))) (λ x. Good (paired x.0 (AFunction x.1 ∷ []))))
+            (one_part (one_part m (λ f. Good (paired (record c { sight = with_function_by numbers c.sight f; names = names_behind c.sight c.names f }) f))) (λ x. Good (paired x.0 (AFunction x.1 ∷ []))))
         function_stands stands (Bad f fs) = tt
         function_stands stands (Good f) = record {
-          behind = subst (Behind p (with_function numbers c.sight f) (names_behind c.sight c.names f)) (sym (among_append function_of js (AFunction f ∷ [])))
+          behind = subst (Behind p (with_function_by numbers c.sight f) (names_behind c.sight c.names f)) (sym (among_append function_of js (AFunction f ∷ [])))
               (behind_more p c.sight c.names (among function_of js) stands.behind f);
           names = stands.names;
           texts = stands.texts;

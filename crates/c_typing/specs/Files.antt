@@ -17,7 +17,7 @@ use Rattle.c_typing.specs.declared.heading.Noted.{Noted}
 use Rattle.c_typing.specs.declared.item.FileItem as code
 use Rattle.c_typing.specs.declared.item.FileItem.TheVariants as item
 use Rattle.c_typing.specs.declared.item.Course as code_course
-use Rattle.c_typing.specs.Functions.{function_in_turn, names_behind, with_function}
+use Rattle.c_typing.specs.Functions.{function_in_turn, names_behind, with_function_by}
 
 -- ---- items, without what the head of a struct holds besides its place and its tag
 
@@ -106,7 +106,7 @@ global_in_turn c d = one_part (typed_global c.sight d) (λ d. Good (record c { s
 abbrev pub defined_in_turn : (ℕ → Option Callee) → Course → Function → Checked (Course × Function)
 defined_in_turn numbers c f =
     one_part (function_in_turn numbers c.sight c.names f) (λ f.
-    Good (record c { sight = with_function numbers c.sight f; names = names_behind c.sight c.names f }, f))
+    Good (record c { sight = with_function_by numbers c.sight f; names = names_behind c.sight c.names f }, f))
 
 -- what is kept of a typed item
 abbrev pub kept : FileItem → List FileItem

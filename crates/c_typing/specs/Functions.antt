@@ -70,27 +70,27 @@ with_known g names f x =
     cond (nat_eq f.name x) (Some (record { defined = was_defined (names f.name) || is_definition f; alike = is_alike g (names f.name) f })) (names x)
 
 -- whether a function fits those before it, by the first of its name and by what is known of it
-abbrev pub fits : Option Signature → Option Noted → Function → Bool
-fits g None f = true
-fits None (Some n) f = true
-fits (Some g) (Some n) f = n.alike && has_type g f && not (is_definition f && n.defined)
+abbrev pub fits_earlier : Option Signature → Option Noted → Function → Bool
+fits_earlier g None f = true
+fits_earlier None (Some n) f = true
+fits_earlier (Some g) (Some n) f = n.alike && has_type g f && not (is_definition f && n.defined)
 
 -- whether it fits those that are in sight
 abbrev pub fits_in : Sight → (ℕ → Option Noted) → Function → Bool
-fits_in s names f = fits (function_called f.name s.functions) (names f.name) f
+fits_in s names f = fits_earlier (function_called f.name s.functions) (names f.name) f
 
 abbrev pub fitting : Sight → (ℕ → Option Noted) → Function → Checked Function
 fitting s names f = where_so (fits_in s names f) (no_name f.place) (Good f)
 
 -- a function whose types, as they are written, fit those before it
-abbrev pub fitting_type : Sight → (ℕ → Option Noted) → Function → Checked Function
-fitting_type s names f =
+abbrev pub fitting_type_by : Sight → (ℕ → Option Noted) → Function → Checked Function
+fitting_type_by s names f =
     both_parts (typed_type s f.place f.result) (typed_parameters (inner s) (is_definition f) f.params) (λ t ds.
     fitting s names (record f { result = t; params = ds }))
 
 abbrev pub type_of_function : Sight → (ℕ → Option Noted) → Function → Checked Function
 type_of_function s names f =
-    both_parts (typed_result s (is_definition f) f.place f.result) (fitting_type s names f) (λ t g. Good (record g { result = t }))
+    both_parts (typed_result s (is_definition f) f.place f.result) (fitting_type_by s names f) (λ t g. Good (record g { result = t }))
 
 -- a function's name and type
 abbrev pub heading : Sight → (ℕ → Option Noted) → Function → Checked Function
@@ -109,8 +109,8 @@ abbrev pub declared : Option Callee → Function → Signature
 declared o f = record { name = f.name; decl = decl_of o; defined = is_defined o; params = types_of f.params; result = f.result }
 
 -- what is in sight after a function's heading
-abbrev pub with_function : (ℕ → Option Callee) → Sight → Function → Sight
-with_function numbers s f = record s { functions = s.functions ++ declared (numbers f.name) f ∷ [] }
+abbrev pub with_function_by : (ℕ → Option Callee) → Sight → Function → Sight
+with_function_by numbers s f = record s { functions = s.functions ++ declared (numbers f.name) f ∷ [] }
 
 abbrev pub names_behind : Sight → (ℕ → Option Noted) → Function → ℕ → Option Noted
 names_behind s names f = with_known (function_called f.name s.functions) names f
@@ -122,4 +122,4 @@ abbrev pub typed_parts : Sight → Function → Checked Function
 typed_parts s f = one_part (typed_body (with_parameters (inner s) f.params) f.result f.body) (λ b. Good (record f { body = b }))
 
 abbrev pub function_in_turn : (ℕ → Option Callee) → Sight → (ℕ → Option Noted) → Function → Checked Function
-function_in_turn numbers s names f = one_part (heading s names f) (λ f. typed_parts (with_function numbers s f) f)
+function_in_turn numbers s names f = one_part (heading s names f) (λ f. typed_parts (with_function_by numbers s f) f)

@@ -12,7 +12,7 @@ use Rattle.c_model.specs.UnitTyping.{behind_enum, behind_item}
 use Rattle.c_model.specs.AnnotationTyping.{noted_function}
 use Rattle.c_expression_rules.specs.Constants.{has_small_sizes}
 use Rattle.c_typing.specs.declared.heading.Callee.{Callee}
-use Rattle.c_typing.specs.Functions.{with_function}
+use Rattle.c_typing.specs.Functions.{with_function_by}
 use Rattle.c_typing.specs.Files.{among, enum_of, typedef_of, global_of}
 
 -- ---- what is asked of a typed file
@@ -65,7 +65,7 @@ behind_in_turn numbers s (Member k m ends) = s
 behind_in_turn numbers s (AnEnum e) = behind_enum s e
 behind_in_turn numbers s (ATypedef d) = with_type s d
 behind_in_turn numbers s (AGlobal d) = with_object s d
-behind_in_turn numbers s (AFunction f) = with_function numbers s f
+behind_in_turn numbers s (AFunction f) = with_function_by numbers s f
 
 abbrev pub all_behind : (ℕ → Option Callee) → Sight → List FileItem → Sight
 all_behind numbers s [] = s
@@ -76,7 +76,7 @@ known_in_turn numbers s [] = Unit {0}
 known_in_turn numbers s (i ∷ is) = ItemKnown s i × known_in_turn numbers (behind_in_turn numbers s i) is
 
 abbrev pub note_in_turn : (ℕ → Option Callee) → Sight → FileItem → Checked FileItem
-note_in_turn numbers s (AFunction f) = one_part (noted_function (with_function numbers s f) f) (λ g. Good (AFunction g))
+note_in_turn numbers s (AFunction f) = one_part (noted_function (with_function_by numbers s f) f) (λ g. Good (AFunction g))
 note_in_turn numbers s (StructHead k struct) = Good (StructHead k struct)
 note_in_turn numbers s (Member k m ends) = Good (Member k m ends)
 note_in_turn numbers s (AnEnum e) = Good (AnEnum e)

@@ -10,8 +10,8 @@ ghost use Rattle.c_model.specs.StatementTyping.{typed_items};
 ghost use Rattle.c_model.specs.UnitTyping.{typed_body};
 ghost use Rattle.c_expression_rules.specs.Answers.{Answers};
 ghost use Rattle.c_expression_rules.specs.Sights.{plain_sight};
-ghost use Rattle.c_typing.specs.Blocks.{around_body};
-ghost use Rattle.c_typing.specs.Functions.{function_in_turn, names_behind, typed_parts, with_function};
+ghost use Rattle.c_model.specs.TypedTrees.{around_body};
+ghost use Rattle.c_typing.specs.Functions.{function_in_turn, names_behind, typed_parts, with_function_by};
 
 use crate::heading::{Callee, Noted, note_name, see_function, type_heading};
 use crate::parameter::see_parameters;
@@ -107,7 +107,7 @@ pub fn type_function(
 ) -> Result<(), TypeFault>
     ensures typed { Answers (λ _. plain_func f.new)
         (function_in_turn (get nat_eq numbers.now) (plain_sight sight.old) (get nat_eq names.old) (plain_func f.old)) result }
-    ensures behind { OnOk result (plain_sight sight.new ≡ with_function (get nat_eq numbers.now) (plain_sight sight.old) (plain_func f.new)) }
+    ensures behind { OnOk result (plain_sight sight.new ≡ with_function_by (get nat_eq numbers.now) (plain_sight sight.old) (plain_func f.new)) }
     ensures names { OnOk result ((x : ℕ) → get nat_eq names.new x ≡ names_behind (plain_sight sight.old) (get nat_eq names.old) (plain_func f.new) x) }
 {
     type_heading(alloc, sight, names, f)?;

@@ -11,8 +11,8 @@ ghost use Rattle.c_model.specs.UnitTyping.{function_name, same_types, types_of};
 ghost use Rattle.c_expression_rules.specs.Answers.{Answers, IsRefusal};
 ghost use Rattle.c_expression_rules.specs.Sights.{plain_sight};
 ghost use Rattle.c_expression_rules.specs.Signatures.{plain_signature};
-ghost use Rattle.c_typing.specs.Functions.{declared, denoted, fits, fitting, has_type, heading, is_alike, type_of_function};
-ghost use Rattle.c_typing.specs.Functions.{tells_more, was_defined, with_function, with_known, with_told};
+ghost use Rattle.c_typing.specs.Functions.{declared, denoted, fits_earlier, fitting, has_type, heading, is_alike, type_of_function};
+ghost use Rattle.c_typing.specs.Functions.{tells_more, was_defined, with_function_by, with_known, with_told};
 
 use crate::parameter::type_parameters;
 use c_declaration_rules::name::own_name;
@@ -106,7 +106,7 @@ pub struct Noted {
 
 /// Whether a function fits those that are declared before it: it has their type, and is defined once (C99 6.7 p4, 6.9 p5).
 fn fits(functions: &Functions, names: &IndexMap<u32, Noted>, f: &Func) -> bool
-    ensures { result ≡ fits (function_called f.now.name (map plain_signature functions.now.signatures.items))
+    ensures { result ≡ fits_earlier (function_called f.now.name (map plain_signature functions.now.signatures.items))
         (get nat_eq names.now f.now.name) (plain_func f.now) }
 {
     match names.get(&f.name) {
@@ -277,7 +277,7 @@ pub fn see_function(
     numbers: &IndexMap<u32, Callee>,
     f: &Func,
 ) -> Result<(), AllocError>
-    ensures { OnOk result (plain_sight sight.new ≡ with_function (get nat_eq numbers.now) (plain_sight sight.old) (plain_func f.now)) }
+    ensures { OnOk result (plain_sight sight.new ≡ with_function_by (get nat_eq numbers.now) (plain_sight sight.old) (plain_func f.now)) }
 {
     let signature = signature(alloc, numbers, f)?;
     sight.functions.push(signature)?;

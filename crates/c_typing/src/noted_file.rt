@@ -15,7 +15,7 @@ ghost use Rattle.c_expression_rules.specs.Answers.{Answers};
 ghost use Rattle.c_expression_rules.specs.Sights.{plain_sight};
 ghost use Rattle.c_phases.specs.Answers.{IsFaultRefusal, RefusedBy};
 ghost use Rattle.c_typing.specs.Files.{plain_file_item};
-ghost use Rattle.c_typing.specs.Functions.{with_function};
+ghost use Rattle.c_typing.specs.Functions.{with_function_by};
 ghost use Rattle.c_typing.specs.NotedFiles.{IsOrdered, IsSmallValue, ItemKnown, ValuesKnown, all_behind, behind_in_turn, known_in_turn};
 ghost use Rattle.c_typing.specs.NotedFiles.{note_in_turn, notes_in_turn};
 
@@ -106,8 +106,8 @@ fn note_defined(
     f: &mut Func,
 ) -> Result<(), TypeFault>
     ensures noted { Answers (λ _. plain_func f.new)
-        (noted_function (with_function (get nat_eq numbers.now) (plain_sight sight.old) (plain_func f.old)) (plain_func f.old)) result }
-    ensures behind { OnOk result (plain_sight sight.new ≡ with_function (get nat_eq numbers.now) (plain_sight sight.old) (plain_func f.old)) }
+        (noted_function (with_function_by (get nat_eq numbers.now) (plain_sight sight.old) (plain_func f.old)) (plain_func f.old)) result }
+    ensures behind { OnOk result (plain_sight sight.new ≡ with_function_by (get nat_eq numbers.now) (plain_sight sight.old) (plain_func f.old)) }
 {
     see_function(alloc, sight, numbers, f)?;
     note_function(alloc, sight, f)

@@ -8,10 +8,10 @@ use Rattle.c_syntax.specs.declared.logic.BlockFact.{BlockFact}
 use Rattle.c_syntax.specs.declared.logic.PointerOp.{PointerOp}
 use Rattle.c_syntax.specs.declared.logic.PointerOp.TheVariants.{Plus, Minus}
 use Rattle.c_model.specs.Memory.{Block, Store, block_at}
-use Rattle.c_model.specs.MemoryQuestions.{Address, Part, part, part_in, from_start, farther, answered, inside, is_inside}
+use Rattle.c_model.specs.MemoryQuestions.{Address, Part, part, part_in, from_start, address_farther, answered, inside, is_inside}
 use Rattle.c_model.specs.Operators.{quotient}
 use Rattle.c_model.specs.Ranges.{from_to, LiesIn, sum_range, difference_range}
-use Rattle.c_model.specs.Logic.{TermValue, Mathematical, Addressed, mathematical, moved_by, fact, are_together, elements_between}
+use Rattle.c_model.specs.Logic.{TermValue, Mathematical, Addressed, mathematical, moved_by, fact, are_together, elements_apart}
 use Rattle.c_model.specs.TermRanges.{offset_range, distance_range, scaled_range, then_range, member_range, moved_range, told_range, begin_range, span_range}
 use Rattle.ea_num.proofs.Linear.{sums_lie, differences_lie}
 use Rattle.ea_num.proofs.Multiplied.{products_lie, quotients_lie}
@@ -37,7 +37,7 @@ scaled_lie n a r i e h = products_lie (from_to (pos n) (pos n)) a r (pos n) i e 
 -- ---- pointers
 
 -- a member's offset
-pub members_lie : (d : ℕ) (a r : Range) (x : Address) → member_range d (Some a) ≡ Some r → LiesIn a x.offset → LiesIn r (farther x (pos d)).offset
+pub members_lie : (d : ℕ) (a r : Range) (x : Address) → member_range d (Some a) ≡ Some r → LiesIn a x.offset → LiesIn r (address_farther x (pos d)).offset
 members_lie d a r x e h =
     let sum = sums_lie (from_to (pos d) (pos d)) a r (pos d) x.offset e (one_lies (pos d)) h in
     let same : pos d +ℤ x.offset ≡ x.offset +ℤ pos d = omega (arith, ints) in
@@ -57,7 +57,7 @@ moves_lie Minus n a b r x i e h k =
 -- ---- zones
 
 -- where elements begin
-pub begins_lie : (n : ℕ) (a lo r : Range) (x : Address) (i : ℤ) → begin_range n a lo ≡ Some r → LiesIn a x.offset → LiesIn lo i → LiesIn r (farther x (pos n *ℤ i)).offset
+pub begins_lie : (n : ℕ) (a lo r : Range) (x : Address) (i : ℤ) → begin_range n a lo ≡ Some r → LiesIn a x.offset → LiesIn lo i → LiesIn r (address_farther x (pos n *ℤ i)).offset
 begins_lie n a lo r x i e h k =
     let t = then_parts (scaled_range n lo) (sum_range a) r e in
     sums_lie a t.first r x.offset (pos n *ℤ i) t.is h (scaled_lie n lo t.first i t.there k)
@@ -119,7 +119,7 @@ inside_lies store x small e = by (inside store x) refl e
     by (Some p) at e = let i = inside_parts store x p small at in subst (LiesIn offset_range) (sym i.offset) (natural_lies p.from i.from)
 
 -- the distance of two pointers into one block
-pub distances_lie : (store : Store) (n : ℕ) (x y : Address) (z : ℤ) → AreSmall store → elements_between store n x y ≡ Some (Mathematical z) → LiesIn distance_range z
+pub distances_lie : (store : Store) (n : ℕ) (x y : Address) (z : ℤ) → AreSmall store → elements_apart store n x y ≡ Some (Mathematical z) → LiesIn distance_range z
 distances_lie store n x y z small e = by (are_together store x y) refl e
   where
     is_quotient : (o : Option ℤ) → mathematical o ≡ Some (Mathematical z) → o ≡ Some z

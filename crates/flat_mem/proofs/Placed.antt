@@ -12,7 +12,7 @@ use Rattle.shadow_segments.specs.declared.BlockNote.{BlockNote}
 use Rattle.shadow_segments.specs.Shadow.{IsWhole, IsFree, first_unit, end_unit, units, filled}
 use Rattle.shadow_segments.proofs.Kept.{whole_marked, whole_cleared}
 use Rattle.shadow_segments.proofs.Lists.{length-filled, filled_inside, filled_outside}
-use Rattle.c_model.specs.Memory.{least}
+use Rattle.c_model.specs.Memory.{first_passing}
 use Rattle.mon_syntax.specs.Flat.{is_none, are_free, heap_place}
 use Rattle.flat_mem.specs.Placed.{IsNoted, IsPlaced}
 
@@ -85,19 +85,19 @@ each_free ns u zero each = refl
 each_free ns u (suc c) each =
     both_true (is_none (get_or ns u None)) (are_free ns (suc u) c) (ap is_none (each u (omega arith) (omega arith))) (each_free ns (suc u) c (λ v lo hi. each v (omega (arith, lo)) (omega (arith, hi))))
 
-least_is : (passes : ℕ → Bool) (k u v : ℕ) → u ≤ v → v < u + k → passes v ≡ true → ((i : ℕ) → i < v → passes i ≡ false) → least passes k u ≡ Some v
+least_is : (passes : ℕ → Bool) (k u v : ℕ) → u ≤ v → v < u + k → passes v ≡ true → ((i : ℕ) → i < v → passes i ≡ false) → first_passing passes k u ≡ Some v
 least_is passes zero u v le lt holds never = absurd (omega (arith, le, lt))
 least_is passes (suc k) u v le lt holds never = go (cases_eq u v) (λ after. least_is passes k (suc u) v after (omega (arith, lt)) holds never)
   where
-    go : (u ≡ v) ⊎ (u ≢ v) → (suc u ≤ v → least passes k (suc u) ≡ Some v) → least passes (suc k) u ≡ Some v
-    go (inl e) rest = ap (λ z. if z then Some u else least passes k (suc u)) (ap passes e ∙ holds) ∙ ap Some e
+    go : (u ≡ v) ⊎ (u ≢ v) → (suc u ≤ v → first_passing passes k (suc u) ≡ Some v) → first_passing passes (suc k) u ≡ Some v
+    go (inl e) rest = ap (λ z. if z then Some u else first_passing passes k (suc u)) (ap passes e ∙ holds) ∙ ap Some e
     go (inr ne) rest =
         let before : u < v = grind (arith, ne, le) in
-        ap (λ z. if z then Some u else least passes k (suc u)) (never u before) ∙ rest before
+        ap (λ z. if z then Some u else first_passing passes k (suc u)) (never u before) ∙ rest before
 
-least_none : (passes : ℕ → Bool) (k u : ℕ) → ((i : ℕ) → passes i ≡ false) → least passes k u ≡ None
+least_none : (passes : ℕ → Bool) (k u : ℕ) → ((i : ℕ) → passes i ≡ false) → first_passing passes k u ≡ None
 least_none passes zero u never = refl
-least_none passes (suc k) u never = ap (λ z. if z then Some u else least passes k (suc u)) (never u) ∙ least_none passes k (suc u) never
+least_none passes (suc k) u never = ap (λ z. if z then Some u else first_passing passes k (suc u)) (never u) ∙ least_none passes k (suc u) never
 
 module _ (h : Heap) (ns : List (Option BlockNote)) (p : IsPlaced h ns) (size : ℕ) where
   abbrev passes : ℕ → Bool

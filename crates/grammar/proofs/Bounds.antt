@@ -1,6 +1,6 @@
 -- Recursion by a bound: two neighbouring bounds agree on short texts, and so any bound that is large enough does.
 use Rattle.std.proofs.Common.{◌≡◌, ℕ, zero, suc, ◌+◌, ◌-◌, ◌<◌, ◌≤◌, Bool, true, false, List, [], ◌∷◌, ◌++◌, length, Result, Ok, Err, refl, sym, ◌∙◌, ap, subst, ◌⊎◌, inl, inr, arith, length-append}
-use Rattle.grammar.specs.Syntax.{Syntax, Fault, At, Over, among, sees, none, gives, ◌then◌, choice, loop, limit, many, ◌>>=◌}
+use Rattle.grammar.specs.Syntax.{Syntax, ParseFault, At, Over, among, sees, none, gives, ◌then◌, choice, loop, limit, many, ◌>>=◌}
 use Rattle.grammar.specs.Exact.{Takes, Fails, Overs, Late, RunsOut, IsExact, IsGood}
 use Rattle.grammar.proofs.Sets.{within, apart, within_self}
 use Rattle.grammar.proofs.Parts.{ThenFits, ChoiceFits, nil_front, none_exact, gives_exact, then_exact, choice_exact}
@@ -12,7 +12,7 @@ pub record LoopFits (A : Type 0) (ks f : A → List ℕ) (m : A → A → List �
   pub over : (x y : A) → within (m x y) (more y) ≡ true
   pub greedy : (x : A) → within (ks x) (more x) ≡ true
 
-bind_same : {A B : Type 0} (r : Result A Fault) (f g : A → Result B Fault) → ((x : A) → r ≡ Ok x → f x ≡ g x) → (r >>= f) ≡ (r >>= g)
+bind_same : {A B : Type 0} (r : Result A ParseFault) (f g : A → Result B ParseFault) → ((x : A) → r ≡ Ok x → f x ≡ g x) → (r >>= f) ≡ (r >>= g)
 bind_same (Ok x) f g h = h x refl
 bind_same (Err n) f g h = refl
 

@@ -3,7 +3,7 @@ use Rattle.std.proofs.Common.{◌≡◌, ℕ, zero, suc, ◌+◌, ◌-◌, ◌<�
 use Rattle.std.proofs.lemmas.List.{append-nil}
 use Rattle.std.proofs.Math.Seq.{drop-append_seam}
 use Rattle.std.proofs.lemmas.Bool.{lt-ltb, le-ltb, ltb-true, ltb-false}
-use Rattle.grammar.specs.Syntax.{Syntax, Fault, At, Over, among, sees, deep, at_most, capped, resumed}
+use Rattle.grammar.specs.Syntax.{Syntax, ParseFault, At, Over, among, sees, deep, at_most, capped, resumed}
 use Rattle.grammar.specs.Exact.{SameHead, Takes, Fails, Overs, Late, RunsOut, IsExact, IsGood}
 use Rattle.grammar.proofs.Sets.{sees_same}
 use Rattle.grammar.proofs.Parts.{nil_front, front_parts}
@@ -77,7 +77,7 @@ module _ {T : Type 0} (K : T → ℕ) where
       late_one [] rest v e b = let same : t ≡ v = cc in rw same b
       late_one (u ∷ us) rest v e b = absurd (let l = ap length e in omega (arith, l, length-append us (v ∷ rest)))
 
-      by_answer : (r : Result (A × List T) Fault) → G.parse (t ∷ []) ≡ r → G.begun (t ∷ [])
+      by_answer : (r : Result (A × List T) ParseFault) → G.parse (t ∷ []) ≡ r → G.begun (t ∷ [])
       by_answer (Ok x) e = let w = g.takes (t ∷ []) x.0 x.1 e in read_one x.0 w.front x.1 w.parts w.is
       by_answer (Err (At n)) e = let w = g.fails (t ∷ []) n e in stopped w.front w.rest w.parts (λ l. h (e ∙ ap (λ (k : ℕ). Err (At k)) (w.left ∙ l))) w.is
       by_answer (Err (Over i n)) e = let w = g.overs (t ∷ []) i n e in late_one w.front w.rest w.token w.parts (g.late_begins i w.front w.token w.is)
@@ -85,31 +85,31 @@ module _ {T : Type 0} (K : T → ℕ) where
 -- ---- at most n tokens
 
 -- so many tokens are left at the place of an answer
-abbrev pub place : {T A : Type 0} → Result (A × List T) Fault → ℕ
+abbrev pub place : {T A : Type 0} → Result (A × List T) ParseFault → ℕ
 place (Ok x) = length x.1
 place (Err (At m)) = m
 place (Err (Over i m)) = m
 
-pub capped_in : {T A : Type 0} (label n l : ℕ) (r : Result (A × List T) Fault) → ltb (n + place r) l ≡ false → capped label n l r ≡ r
+pub capped_in : {T A : Type 0} (label n l : ℕ) (r : Result (A × List T) ParseFault) → ltb (n + place r) l ≡ false → capped label n l r ≡ r
 capped_in label n l (Ok x) e = rw e refl
 capped_in label n l (Err (At m)) e = rw e refl
 capped_in label n l (Err (Over i m)) e = rw e refl
 
-capped_out : {T A : Type 0} (label n l : ℕ) (r : Result (A × List T) Fault) → ltb (n + place r) l ≡ true → capped label n l r ≡ Err (Over label (l - n))
+capped_out : {T A : Type 0} (label n l : ℕ) (r : Result (A × List T) ParseFault) → ltb (n + place r) l ≡ true → capped label n l r ≡ Err (Over label (l - n))
 capped_out label n l (Ok x) e = rw e refl
 capped_out label n l (Err (At m)) e = rw e refl
 capped_out label n l (Err (Over i m)) e = rw e refl
 
 -- what is not cut off is within the limit
-uncut : {T A : Type 0} (label n l : ℕ) (r : Result (A × List T) Fault) (b : Bool) → ltb (n + place r) l ≡ b → ((b ≡ false) × (capped label n l r ≡ r)) ⊎ ((b ≡ true) × (capped label n l r ≡ Err (Over label (l - n))))
+uncut : {T A : Type 0} (label n l : ℕ) (r : Result (A × List T) ParseFault) (b : Bool) → ltb (n + place r) l ≡ b → ((b ≡ false) × (capped label n l r ≡ r)) ⊎ ((b ≡ true) × (capped label n l r ≡ Err (Over label (l - n))))
 uncut label n l r false e = inl (refl, capped_in label n l r e)
 uncut label n l r true e = inr (refl, capped_out label n l r e)
 
-runs_capped : {T A : Type 0} (label n l : ℕ) (r : Result (A × List T) Fault) (b : Bool) → ltb (n + place r) l ≡ b → RunsOut r → RunsOut (capped label n l r)
+runs_capped : {T A : Type 0} (label n l : ℕ) (r : Result (A × List T) ParseFault) (b : Bool) → ltb (n + place r) l ≡ b → RunsOut r → RunsOut (capped label n l r)
 runs_capped label n l r false e h = rw (capped_in label n l r e) h
 runs_capped label n l r true e h = rw (capped_out label n l r e) tt
 
-late_capped : {T A : Type 0} (label n l : ℕ) (r : Result (A × List T) Fault) (b : Bool) (m : ℕ) → ltb (n + place r) l ≡ b → Late r m → Late (capped label n l r) m
+late_capped : {T A : Type 0} (label n l : ℕ) (r : Result (A × List T) ParseFault) (b : Bool) (m : ℕ) → ltb (n + place r) l ≡ b → Late r m → Late (capped label n l r) m
 late_capped label n l r false m e w = rw (capped_in label n l r e) w
 late_capped label n l r true m e w =
     let out : n + w.left < l = ltb-true (n + w.left) l (sym (ap (λ r. ltb (n + place r) l) w.is) ∙ e) in
@@ -148,7 +148,7 @@ module _ {T : Type 0} (K : T → ℕ) {A : Type 0} (label n : ℕ) (G : Syntax T
   far_ok f t u x front rest b l (inr (v ∷ vs, p, q)) e =
       let stops : G.parse (front ++ (v ∷ vs)) ≡ Ok (x, v ∷ vs) = l (v ∷ vs) (rw q refl) in
       let out = subst (λ (w : List T). RunsOut (G.parse w)) p (g.runs (f ++ (t ∷ [])) b) in
-      let none : v ∷ vs ≡ [] = subst (λ (r : Result (A × List T) Fault). RunsOut r) stops out in
+      let none : v ∷ vs ≡ [] = subst (λ (r : Result (A × List T) ParseFault). RunsOut r) stops out in
       absurd cc
 
   far_at : (f : List T) (t : T) (u : List T) (front rest : List T) → G.begun (f ++ (t ∷ [])) → ((v : List T) → SameHead rest v → G.parse (front ++ v) ≡ Err (At (length v))) → ((e : List T) × (front ≡ (f ++ (t ∷ [])) ++ e))
@@ -158,10 +158,10 @@ module _ {T : Type 0} (K : T → ℕ) {A : Type 0} (label n : ℕ) (G : Syntax T
   far_at f t u front rest b l (inr (v ∷ vs, p, q)) e =
       let stops : G.parse (front ++ (v ∷ vs)) ≡ Err (At (suc (length vs))) = l (v ∷ vs) (rw q refl) in
       let out = subst (λ (w : List T). RunsOut (G.parse w)) p (g.runs (f ++ (t ∷ [])) b) in
-      let none : suc (length vs) ≡ 0 = subst (λ (r : Result (A × List T) Fault). RunsOut r) stops out in
+      let none : suc (length vs) ≡ 0 = subst (λ (r : Result (A × List T) ParseFault). RunsOut r) stops out in
       absurd (omega (arith, none))
 
-  far : (f : List T) (t : T) (u : List T) (r : Result (A × List T) Fault) → G.begun (f ++ (t ∷ [])) → G.parse (f ++ (t ∷ u)) ≡ r → (place r ≤ length u) ⊎ Late r (suc (length u))
+  far : (f : List T) (t : T) (u : List T) (r : Result (A × List T) ParseFault) → G.begun (f ++ (t ∷ [])) → G.parse (f ++ (t ∷ u)) ≡ r → (place r ≤ length u) ⊎ Late r (suc (length u))
   far f t u (Ok x) b e =
       let w = g.takes (f ++ (t ∷ u)) x.0 x.1 e in
       inl (far_ok f t u x.0 w.front x.1 b w.local (front_parts (f ++ (t ∷ [])) u w.front x.1 (same_parting f t u w.front x.1 w.parts)) w.parts)
@@ -178,7 +178,7 @@ module _ {T : Type 0} (K : T → ℕ) {A : Type 0} (label n : ℕ) (G : Syntax T
   past_begun f t r front rest b le (inr ([], p, q)) = rw (p, append-nil front) b
   past_begun f t r front rest b le (inr (v ∷ vs, p, q)) = absurd (omega (arith, ap length q, length-append vs r))
 
-  past : (f : List T) (t : T) (r : List T) (p : Result (A × List T) Fault) → G.parse (f ++ (t ∷ r)) ≡ p → place p ≤ length r → G.begun (f ++ (t ∷ []))
+  past : (f : List T) (t : T) (r : List T) (p : Result (A × List T) ParseFault) → G.parse (f ++ (t ∷ r)) ≡ p → place p ≤ length r → G.begun (f ++ (t ∷ []))
   past f t r (Ok x) e le =
       let w = g.takes (f ++ (t ∷ r)) x.0 x.1 e in
       past_begun f t r w.front x.1 (g.begins w.front x.0 w.is) le (front_parts (f ++ (t ∷ [])) r w.front x.1 (same_parting f t r w.front x.1 w.parts))
@@ -408,14 +408,14 @@ module _ {T : Type 0} (K : T → ℕ) {A : Type 0} (label n : ℕ) (G : Syntax T
   pub at_most_cut : (p s : List T) → length p ≡ suc n → (at_most label n G).parse (p ++ s) ≡ resumed label s (G.parse p)
   at_most_cut p s e = by_answer (G.parse p) refl
     where
-      by_answer : (r : Result (A × List T) Fault) → G.parse p ≡ r → (at_most label n G).parse (p ++ s) ≡ resumed label s r
+      by_answer : (r : Result (A × List T) ParseFault) → G.parse p ≡ r → (at_most label n G).parse (p ++ s) ≡ resumed label s r
       by_answer (Ok x) q = cut_ok p s x.0 x.1 e q
       by_answer (Err (At m)) q = cut_at p s m e q
       by_answer (Err (Over i m)) q = kept_over p s i m (omega (arith, e)) (g.overs p i m q)
 
   -- the same by its cases, for a text that is near and then far
   module _ (ts near far : List T) (parts : ts ≡ near ++ far) (long : length near ≡ suc n) where
-    cut_answer : (r : Result (A × List T) Fault) → G.parse near ≡ r → (at_most label n G).parse ts ≡ resumed label far r
+    cut_answer : (r : Result (A × List T) ParseFault) → G.parse near ≡ r → (at_most label n G).parse ts ≡ resumed label far r
     cut_answer r e = ap (at_most label n G).parse parts ∙ at_most_cut near far long ∙ ap (resumed label far) e
 
     pub near_ok_ends : (x : A) (rest : List T) → G.parse near ≡ Ok (x, rest) → length rest ≡ 0 → (at_most label n G).parse ts ≡ Err (Over label (length far + 1))

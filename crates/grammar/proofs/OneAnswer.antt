@@ -1,6 +1,6 @@
 -- A text that its grammar refuses is refused at one token, and reading it gives that fault.
 use Rattle.std.proofs.Common.{◌≡◌, ℕ, suc, ◌<◌, List, [], ◌∷◌, ◌++◌, length, refl, sym, ap, subst, ◌∙◌, arith, append_assoc, length-append}
-use Rattle.grammar.specs.Syntax.{Syntax, Fault, At, Over}
+use Rattle.grammar.specs.Syntax.{Syntax, ParseFault, At, Over}
 use Rattle.grammar.specs.Exact.{StopsAt, RefusedAt, RefusedOver, Refused, FrontsBegin, OneLimit}
 use Rattle.grammar.proofs.Bounds.{split_same}
 
@@ -57,7 +57,7 @@ module _ {T A : Type 0} (G : Syntax T A) (fronts : FrontsBegin G) (text : List T
         let token : r.token ≡ s.token = cc in
         single i j s.front s.token (subst (λ (t : T). G.late i s.front t) token (subst (λ (a : List T). G.late i a r.token) front r.late)) s.late
 
-    pub one_fault : (f g : Fault) → Refused G text f → Refused G text g → f ≡ g
+    pub one_fault : (f g : ParseFault) → Refused G text f → Refused G text g → f ≡ g
     one_fault (At n) (At m) r s = ap At (one_at n m r s)
     one_fault (At n) (Over j m) r s = absurd (at_or_over j n m r s)
     one_fault (Over i n) (At m) r s = absurd (at_or_over i m n s r)

@@ -1,19 +1,19 @@
 -- The parts of a grammar are read exactly.
 use Rattle.std.proofs.Common.{◌≡◌, ℕ, suc, Bool, true, false, cond, List, [], ◌∷◌, ◌++◌, length, Result, Ok, Err, Option, Some, None, refl, sym, ◌∙◌, ap, subst, ◌⊎◌, inl, inr, append_assoc, arith, length-append}
 use Rattle.std.proofs.lemmas.List.{append-nil}
-use Rattle.grammar.specs.Syntax.{Syntax, among, sees, none, gives, one, one_at, ◌then◌, choice, ◌>>=◌, Fault, At, Over}
+use Rattle.grammar.specs.Syntax.{Syntax, among, sees, none, gives, one, one_at, ◌then◌, choice, ◌>>=◌, ParseFault, At, Over}
 use Rattle.grammar.specs.Exact.{SameHead, Takes, Fails, Overs, Late, RunsOut, IsExact}
 use Rattle.grammar.proofs.Sets.{within, apart, not_both, within_among, apart_among, sees_within, sees_same, same_head}
 
-pub bind_ok : {A B : Type 0} (r : Result A Fault) (f : A → Result B Fault) (y : B) → (r >>= f) ≡ Ok y → (x : A) × (r ≡ Ok x) × (f x ≡ Ok y)
+pub bind_ok : {A B : Type 0} (r : Result A ParseFault) (f : A → Result B ParseFault) (y : B) → (r >>= f) ≡ Ok y → (x : A) × (r ≡ Ok x) × (f x ≡ Ok y)
 bind_ok (Ok x) f y e = (x, refl, e)
 bind_ok (Err d) f y e = absurd cc
 
-pub bind_err : {A B : Type 0} (r : Result A Fault) (f : A → Result B Fault) (n : Fault) → (r >>= f) ≡ Err n → (r ≡ Err n) ⊎ ((x : A) × (r ≡ Ok x) × (f x ≡ Err n))
+pub bind_err : {A B : Type 0} (r : Result A ParseFault) (f : A → Result B ParseFault) (n : ParseFault) → (r >>= f) ≡ Err n → (r ≡ Err n) ⊎ ((x : A) × (r ≡ Ok x) × (f x ≡ Err n))
 bind_err (Ok x) f n e = inr (x, refl, e)
 bind_err (Err d) f n e = inl cc
 
-abbrev done : {A : Type 0} → A → Result A Fault
+abbrev done : {A : Type 0} → A → Result A ParseFault
 done x = Ok x
 
 pub ok_is : {A : Type 0} (x y : A) → done x ≡ done y → x ≡ y
@@ -219,8 +219,8 @@ module _ {T : Type 0} (K : T → ℕ) where
   clear [] b m h k = h refl
   clear (t ∷ ts) b m h k = k t ts refl
 
-  runs_then : {A B : Type 0} (r : Result (A × List T) Fault) (f : A × List T → Result (B × List T) Fault) → RunsOut r → ((x : A) → RunsOut (f (x, []))) → RunsOut (r >>= f)
-  runs_then {A} {B} (Ok x) f h k = let e : f (x.0, []) ≡ f x = ap (λ (w : List T). f (x.0, w)) (sym h) in subst (λ (q : Result (B × List T) Fault). RunsOut q) e (k x.0)
+  runs_then : {A B : Type 0} (r : Result (A × List T) ParseFault) (f : A × List T → Result (B × List T) ParseFault) → RunsOut r → ((x : A) → RunsOut (f (x, []))) → RunsOut (r >>= f)
+  runs_then {A} {B} (Ok x) f h k = let e : f (x.0, []) ≡ f x = ap (λ (w : List T). f (x.0, w)) (sym h) in subst (λ (q : Result (B × List T) ParseFault). RunsOut q) e (k x.0)
   runs_then (Err (At n)) f h k = h
   runs_then (Err (Over i n)) f h k = tt
 

@@ -1,7 +1,7 @@
 -- The exactness of a production from that of its parts, a line for each production. The sets follow from
 -- those of the parts, and each side condition is a test by computation.
 use Rattle.std.proofs.Common.{◌≡◌, ◌≤◌, ℕ, zero, suc, Bool, true, false, cond, List, [], ◌∷◌, ◌++◌, length, Ok, Err, refl, ◌∙◌, arith, Option, Some}
-use Rattle.grammar.specs.Syntax.{Syntax, Fault, among, sees, none, gives, one, ◌then◌, choice, many, knot_at, knot, deep, at_most}
+use Rattle.grammar.specs.Syntax.{Syntax, ParseFault, among, sees, none, gives, one, ◌then◌, choice, many, knot_at, knot, deep, at_most}
 use Rattle.grammar.specs.Exact.{IsExact, IsGood}
 use Rattle.grammar.proofs.Sets.{within, apart, cond_true, within_self, within_joined_right, within_left, within_right}
 use Rattle.grammar.proofs.Parts.{none_exact, gives_exact, one_exact, widen}
@@ -197,7 +197,7 @@ module _ {T : Type 0} {K : T → ℕ} where
       many_is K (λ _. ks) (λ _. f) (λ _ _. m) (λ _. ks ++ m) (turns_fit ks f m e) step g x ts ∙ rw (s, r) refl
 
   -- a turn that fails, and no turn
-  pub turn_fails : {A : Type 0} (ks : List ℕ) {f m : List ℕ} (step : A → Syntax T A) → ((x : A) → IsExact K (step x) false f (λ _. m)) → and (apart ks m) (within f ks) ≡ true → (x : A) (ts : List T) (d : Fault) → sees K ks ts ≡ true
+  pub turn_fails : {A : Type 0} (ks : List ℕ) {f m : List ℕ} (step : A → Syntax T A) → ((x : A) → IsExact K (step x) false f (λ _. m)) → and (apart ks m) (within f ks) ≡ true → (x : A) (ts : List T) (d : ParseFault) → sees K ks ts ≡ true
       → (step x).parse ts ≡ Err d → (many K (λ _. ks) step x).parse ts ≡ Err d
   turn_fails {A} ks {f} {m} step g e x ts d s r =
       many_is K (λ _. ks) (λ _. f) (λ _ _. m) (λ _. ks ++ m) (turns_fit ks f m e) step g x ts ∙ rw (s, r) refl

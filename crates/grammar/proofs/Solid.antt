@@ -1,7 +1,7 @@
 -- Where a token can't follow, the tokens before it are no reading: cut there, the text is too short.
 use Rattle.std.proofs.Common.{◌≡◌, ℕ, zero, suc, ◌+◌, ◌-◌, ◌<◌, ◌≤◌, Bool, true, false, ltb, List, [], ◌∷◌, ◌++◌, length, Result, Ok, Err, Option, Some, None, refl, sym, ◌∙◌, ap, subst, ◌⊎◌, inl, inr, append_assoc, arith, length-append}
 use Rattle.std.proofs.lemmas.List.{append-nil}
-use Rattle.grammar.specs.Syntax.{Syntax, Fault, At, Over, among, sees, gives, one, one_at, ◌then◌, choice, many, at_most, capped}
+use Rattle.grammar.specs.Syntax.{Syntax, ParseFault, At, Over, among, sees, gives, one, one_at, ◌then◌, choice, many, at_most, capped}
 use Rattle.grammar.specs.Exact.{SameHead, Late, IsExact, Unread}
 use Rattle.grammar.proofs.Sets.{within, apart, within_among, apart_among, cond_true, within_self, within_left, within_right, within_both, within_joined, among_either}
 use Rattle.grammar.proofs.Parts.{bind_err, chosen, ChoiceFits, gives_exact, choice_exact, widen}
@@ -36,7 +36,7 @@ first_of_led f1 f2 n1 e = rw (e, append-nil f1) (within_self f1)
 and_false : (n1 n2 : Bool) → n1 ≡ false → and n1 n2 ≡ false
 and_false n1 n2 e = rw e refl
 
-not_read : {T A : Type 0} (r : Result (A × List T) Fault) (x : A) (m : ℕ) → r ≡ Err (At 0) → (r ≡ Ok (x, [])) ⊎ Late r m → ⊥
+not_read : {T A : Type 0} (r : Result (A × List T) ParseFault) (x : A) (m : ℕ) → r ≡ Err (At 0) → (r ≡ Ok (x, [])) ⊎ Late r m → ⊥
 not_read r x m e (inl p) = absurd cc
 not_read r x m e (inr w) = let q = w.is in absurd cc
 

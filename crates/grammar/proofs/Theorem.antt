@@ -2,20 +2,20 @@
 use Rattle.std.proofs.Common.{◌≡◌, ℕ, suc, ◌≤◌, Bool, List, [], ◌∷◌, ◌++◌, length, drop, ◌-◌, Result, Ok, Err, refl, sym, ap, subst, ◌∙◌, ◌⊎◌, inl, inr, arith, length-append}
 use Rattle.std.proofs.lemmas.List.{append-nil}
 use Rattle.std.proofs.Math.Seq.{drop-append_seam}
-use Rattle.grammar.specs.Syntax.{Syntax, Fault, At, Over}
+use Rattle.grammar.specs.Syntax.{Syntax, ParseFault, At, Over}
 use Rattle.grammar.specs.Exact.{SameHead, Late, RunsOut, IsExact, WithinLimits, Found, RefusedAt, RefusedOver, Refused, AtMostOne, FrontsBegin, ReadingsBegin, ReadsAccepted, AcceptsRead, OneLimit}
 use Rattle.grammar.proofs.Parts.{ok_is}
 
 head_only : {T : Type 0} (t : T) (ts r : List T) → r ≡ t ∷ ts → SameHead r (t ∷ [])
 head_only t ts r e = rw e refl
 
-runs_ok : {T A : Type 0} (r : Result (A × List T) Fault) (x : A) (rest : List T) → r ≡ Ok (x, rest) → RunsOut r → rest ≡ []
+runs_ok : {T A : Type 0} (r : Result (A × List T) ParseFault) (x : A) (rest : List T) → r ≡ Ok (x, rest) → RunsOut r → rest ≡ []
 runs_ok r x rest e h = subst (λ q. RunsOut q) e h
 
-runs_at : {T A : Type 0} (r : Result (A × List T) Fault) (n : ℕ) → r ≡ Err (At n) → RunsOut r → n ≡ 0
+runs_at : {T A : Type 0} (r : Result (A × List T) ParseFault) (n : ℕ) → r ≡ Err (At n) → RunsOut r → n ≡ 0
 runs_at r n e h = subst (λ q. RunsOut q) e h
 
-abbrev refusal : {T A : Type 0} → Fault → Result (A × List T) Fault
+abbrev refusal : {T A : Type 0} → ParseFault → Result (A × List T) ParseFault
 refusal f = Err f
 
 over_is : {T A : Type 0} (i j n m : ℕ) → refusal {T = T} {A = A} (Over i n) ≡ refusal (Over j m) → n ≡ m
@@ -94,7 +94,7 @@ module _ {T : Type 0} {K : T → ℕ} {A : Type 0} (G : Syntax T A) (null : Bool
         first = λ j a v u p l. no_later text t.front a t.token v t.rest u n t.parts t.left p (the_first text i n e j a v u p l);
       }
 
-  pub refused : (text : List T) (d : Fault) → G.parse text ≡ Err d → Refused G text d
+  pub refused : (text : List T) (d : ParseFault) → G.parse text ≡ Err d → Refused G text d
   refused text (At n) e = refused_at text n e
   refused text (Over i n) e = refused_over text i n e
 

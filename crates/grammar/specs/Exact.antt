@@ -1,7 +1,7 @@
 -- Ours: the words in which each parser is proved.
 -- What it means that a production is read exactly, and what follows for its answers.
 use Rattle.std.specs.Prelude.{◌≡◌, ℕ, suc, List, [], ◌∷◌, ◌++◌, length, Result, Ok, Err, ◌<◌, ◌≤◌, ◌⊎◌, Bool, true, false}
-use Rattle.grammar.specs.Syntax.{Syntax, Fault, At, Over, among, sees}
+use Rattle.grammar.specs.Syntax.{Syntax, ParseFault, At, Over, among, sees}
 
 -- both are at their end, or go on with the same token
 abbrev pub SameHead : {T : Type 0} → List T → List T → Type 0
@@ -11,14 +11,14 @@ SameHead (t ∷ ts) [] = ⊥
 SameHead (t ∷ ts) (u ∷ us) = t ≡ u
 
 -- p read x and left rest: its tokens are a reading, and p saw no more than one token after them
-pub record Takes {T A : Type 0} (p : List T → Result (A × List T) Fault) (R : List T → A → Type 0) (ts : List T) (x : A) (rest : List T) : Type 0 where
+pub record Takes {T A : Type 0} (p : List T → Result (A × List T) ParseFault) (R : List T → A → Type 0) (ts : List T) (x : A) (rest : List T) : Type 0 where
   pub front : List T
   pub parts : ts ≡ front ++ rest
   pub is : R front x
   pub local : (u : List T) → SameHead rest u → p (front ++ u) ≡ Ok (x, u)
 
 -- p stopped with n tokens left: those before are begun, and p saw no more than one token after them
-pub record Fails {T A : Type 0} (p : List T → Result (A × List T) Fault) (B : List T → Type 0) (ts : List T) (n : ℕ) : Type 0 where
+pub record Fails {T A : Type 0} (p : List T → Result (A × List T) ParseFault) (B : List T → Type 0) (ts : List T) (n : ℕ) : Type 0 where
   pub front : List T
   pub rest : List T
   pub parts : ts ≡ front ++ rest
@@ -27,7 +27,7 @@ pub record Fails {T A : Type 0} (p : List T → Result (A × List T) Fault) (B :
   pub local : (u : List T) → SameHead rest u → p (front ++ u) ≡ Err (At (length u))
 
 -- p stopped at the limit with this label with n tokens left: the first of them is late, whatever comes after it
-pub record Overs {T A : Type 0} (p : List T → Result (A × List T) Fault) (L : ℕ → List T → T → Type 0) (ts : List T) (label n : ℕ) : Type 0 where
+pub record Overs {T A : Type 0} (p : List T → Result (A × List T) ParseFault) (L : ℕ → List T → T → Type 0) (ts : List T) (label n : ℕ) : Type 0 where
   pub front : List T
   pub token : T
   pub rest : List T
@@ -37,13 +37,13 @@ pub record Overs {T A : Type 0} (p : List T → Result (A × List T) Fault) (L :
   pub local : (u : List T) → p (front ++ (token ∷ u)) ≡ Err (Over label (suc (length u)))
 
 -- all tokens were taken, more were wanted, or a limit was passed
-abbrev pub RunsOut : {T A : Type 0} → Result (A × List T) Fault → Type 0
+abbrev pub RunsOut : {T A : Type 0} → Result (A × List T) ParseFault → Type 0
 RunsOut (Ok x) = x.1 ≡ []
 RunsOut (Err (At n)) = n ≡ 0
 RunsOut (Err (Over i n)) = Unit {0}
 
 -- a limit is passed with at least m tokens left
-pub record Late {T A : Type 0} (r : Result (A × List T) Fault) (m : ℕ) : Type 0 where
+pub record Late {T A : Type 0} (r : Result (A × List T) ParseFault) (m : ℕ) : Type 0 where
   pub label : ℕ
   pub left : ℕ
   pub enough : m ≤ left
@@ -136,7 +136,7 @@ pub record RefusedOver {T A : Type 0} (G : Syntax T A) (text : List T) (label le
   pub begun : G.begun (front ++ (token ∷ []))
   pub first : (i : ℕ) (a : List T) (t : T) (u : List T) → text ≡ a ++ (t ∷ u) → G.late i a t → length front ≤ length a
 
-abbrev pub Refused : {T A : Type 0} → Syntax T A → List T → Fault → Type 0
+abbrev pub Refused : {T A : Type 0} → Syntax T A → List T → ParseFault → Type 0
 Refused G text (At n) = RefusedAt G text n
 Refused G text (Over i n) = RefusedOver G text i n
 

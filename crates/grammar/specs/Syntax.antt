@@ -4,9 +4,9 @@ use Rattle.std.specs.Prelude.{◌≡◌, ℕ, zero, suc, ◌+◌, ◌-◌, ◌�
 use Rattle.std.specs.Prelude.{eqb, ltb}
 
 -- So many tokens are left at the fault: the first of them can't follow (`At`), or it passes the limit with this label (`Over`).
-pub data Fault : Type 0 where
-  At : ℕ → Fault
-  Over : ℕ → ℕ → Fault
+pub data ParseFault : Type 0 where
+  At : ℕ → ParseFault
+  Over : ℕ → ℕ → ParseFault
 
 -- the kind is in the set
 abbrev pub among : ℕ → List ℕ → Bool
@@ -19,7 +19,7 @@ sees K ks [] = false
 sees K ks (t ∷ ts) = among (K t) ks
 
 infixl 10 ◌>>=◌
-abbrev pub ◌>>=◌ : {A B : Type 0} → Result A Fault → (A → Result B Fault) → Result B Fault
+abbrev pub ◌>>=◌ : {A B : Type 0} → Result A ParseFault → (A → Result B ParseFault) → Result B ParseFault
 (Ok x) >>= f = f x
 (Err e) >>= f = Err e
 
@@ -32,9 +32,9 @@ pub record Syntax (T A : Type 0) : Type 1 where
   -- after these tokens this token passes the limit with this label
   pub late : ℕ → List T → T → Type 0
   -- the value of the longest reading at the front, and the tokens after it
-  pub parse : List T → Result (A × List T) Fault
+  pub parse : List T → Result (A × List T) ParseFault
 
-abbrev pub one_at : {T A : Type 0} → (T → Option A) → List T → Result (A × List T) Fault
+abbrev pub one_at : {T A : Type 0} → (T → Option A) → List T → Result (A × List T) ParseFault
 one_at f [] = Err (At 0)
 one_at f (t ∷ ts) = elim (f t) [ Some x ↦ Ok (x, ts) | None ↦ Err (At (suc (length ts))) ]
 
@@ -43,13 +43,13 @@ is_empty [] = true
 is_empty (t ∷ ts) = false
 
 -- an answer that took more than n of the tokens passes the limit at the token after n
-abbrev pub capped : {T A : Type 0} → ℕ → ℕ → ℕ → Result (A × List T) Fault → Result (A × List T) Fault
+abbrev pub capped : {T A : Type 0} → ℕ → ℕ → ℕ → Result (A × List T) ParseFault → Result (A × List T) ParseFault
 capped label n l (Ok x) = cond (ltb (n + length x.1) l) (Err (Over label (l - n))) (Ok x)
 capped label n l (Err (At m)) = cond (ltb (n + m) l) (Err (Over label (l - n))) (Err (At m))
 capped label n l (Err (Over i m)) = cond (ltb (n + m) l) (Err (Over label (l - n))) (Err (Over i m))
 
 -- the answer for a text of which s is the rest after the one token too many that was read
-abbrev pub resumed : {T A : Type 0} → ℕ → List T → Result (A × List T) Fault → Result (A × List T) Fault
+abbrev pub resumed : {T A : Type 0} → ℕ → List T → Result (A × List T) ParseFault → Result (A × List T) ParseFault
 resumed label s (Ok x) = cond (is_empty x.1) (Err (Over label (suc (length s)))) (Ok (x.0, x.1 ++ s))
 resumed label s (Err (At zero)) = Err (Over label (suc (length s)))
 resumed label s (Err (At (suc m))) = Err (At (suc m + length s))

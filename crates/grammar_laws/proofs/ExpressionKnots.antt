@@ -15,7 +15,7 @@ use Rattle.c_model.specs.Vocabulary.{Vocabulary}
 use Rattle.c_model.specs.Terminals.{placed, mark_entry}
 use Rattle.c_model.specs.Punctuators.{question, colon, left_paren, right_paren, dot, left_bracket, right_bracket}
 use Rattle.c_model.specs.ExpressionGrammar.{ReadOperand, kind, kinds_of, mark_kind, name_kind, keyword_kind, first_type, first_postfix, unary_operators}
-use Rattle.c_model.specs.ExpressionGrammar.{operators_at, levels, read_as, joined, read_operand, size_of_operand, declared_type, mark, reserved, name}
+use Rattle.c_model.specs.ExpressionGrammar.{operators_at, levels, read_as, connective_kind, read_operand, size_of_operand, declared_type, mark, reserved, name}
 use Rattle.c_model.specs.ExpressionGrammar.{literal, type_words, star_words, written_length, bracket, next_bracket, brackets, type_name, closed, indexed}
 use Rattle.c_model.specs.ExpressionGrammar.{dotted, arrowed, postfix_once, postfixes, postfix_rest, literal_first, cast_rest, sized_type, paren_rest}
 use Rattle.c_model.specs.ExpressionGrammar.{behind_paren, prefixed, sized, operand_but_name, operand_of, operand, joined_once, behind_operand, choice_rest}
@@ -96,7 +96,8 @@ module _ (ws : Vocabulary) where
   behind_operand_reaches e zero x = still (gives x)
   behind_operand_reaches e (suc l) x =
       sequence (behind_operand_reaches e l x) (λ y. repetition (kind ws) (λ _. kinds_of (operators_at l)) (λ left.
-      sequence (still (one (placed (mark_entry (operators_at l))))) (λ o. sequence (sequence (operand_reaches e type_use.Casts) (λ z. behind_operand_reaches e l z.expression)) (λ right. still (gives (read_as o.1 (joined o.0 left right)))))) y)
+      sequence (still (one (placed (mark_entry (operators_at l))))) (λ o. sequence (sequence (operand_reaches e type_use.Casts) (λ z. behind_operand_reaches e l z.expression)) (λ right.
+      still (gives (read_as o.1 (connective_kind o.0 left right)))))) y)
 
   expression_rest_reaches : {E : ℕ → Tree} {E' : Tree} → Reaches E E' → (x : Expression) → Reaches (λ k. expression_rest ws (E k) x) (expression_rest ws E' x)
   unfolding expression_rest choice_rest

@@ -20,7 +20,7 @@ use Rattle.c_model.specs.declared.vocabulary.Word.{Word}
 use Rattle.c_model.specs.declared.vocabulary.Word.TheVariants as word
 use Rattle.c_model.specs.Vocabulary.{Vocabulary, word_at, no_words, words_with, integer_type}
 use Rattle.c_model.specs.Terminals.{placed}
-use Rattle.c_model.specs.ExpressionGrammar.{kind, word_kind, token_kind, keyword_kind, words_behind, named_type, type_named, TypeStart, ConstStart, VoidStart, StructStart, EnumStart}
+use Rattle.c_model.specs.ExpressionGrammar.{kind, word_kind, token_kind, keyword_kind, words_behind, named_type, type_named_by, TypeStart, ConstStart, VoidStart, StructStart, EnumStart}
 use Rattle.c_model.specs.ExpressionGrammar.{NameStart, IntegerStart, reserved, any_name, keyword_of, next_words, integer_word, typedef_name_of, base, consts, type_words, type_start_of, type_start, type_behind}
 use Rattle.grammar_laws.specs.ExpressionProductions as production
 
@@ -301,7 +301,7 @@ module _ (ws : Vocabulary) where
       given_word : (w : Word) → word_at ws n ≡ w → type_start_of ws n w ≡ Some x.0.0 → Within Given (ConstFirst or BaseFirst)
       given_word (word.TypeName k) q e =
           let same : NameStart (named_type n k) ≡ x.0.0 = cc in
-          let named : typedef_name_of ws t.kind ≡ Some (named_type n k) = ap (typedef_name_of ws) p ∙ ap (type_named n) q in
+          let named : typedef_name_of ws t.kind ≡ Some (named_type n k) = ap (typedef_name_of ws) p ∙ ap (type_named_by n) q in
           just_as t x (named_type n k, t.place) Behind (λ u. consts ws u.0) (placed_some (typedef_name_of ws) t (named_type n k) named) (behind_name (named_type n k) same)
           so second no [] _ (second no [] _ (second no [] _ (first no [] _ (itself NameFirst))))
       given_word (word.Keyword keyword.Const) q e =
@@ -352,7 +352,7 @@ module _ (ws : Vocabulary) where
   enum_cut =
       one_by_one (λ t at e. let m = reserved_word keyword.Enum t at enum_alone e in (((EnumStart, m.0), t.place), keyword_start t keyword.Enum EnumStart m refl, itself _))
 
-  named_start : (n : ℕ) (w : Word) (u : PlainType) → type_named n w ≡ Some u → type_start_of ws n w ≡ Some (NameStart u)
+  named_start : (n : ℕ) (w : Word) (u : PlainType) → type_named_by n w ≡ Some u → type_start_of ws n w ≡ Some (NameStart u)
   named_start n (word.TypeName k) u e = ap (option_map NameStart) e
   named_start n _ u e = absurd cc
 

@@ -11,7 +11,7 @@ use Rattle.c_model.specs.declared.operands.Stars.{Stars}
 use Rattle.c_model.specs.Vocabulary.{no_words, integer_type, Vocabulary}
 use Rattle.c_model.specs.Punctuators.{times, comma, question, colon, left_paren, right_paren, dot, arrow, left_bracket, right_bracket}
 use Rattle.c_model.specs.ExpressionGrammar.{assignment_operators, prefix_bumps, postfix_bumps, use_of, expressions, no_stars, declared_type, typedef_name_of}
-use Rattle.c_model.specs.ExpressionGrammar.{ReadOperand, text_kind, number_of, letter_of, unary_operators, operators_at, levels, read_as, joined}
+use Rattle.c_model.specs.ExpressionGrammar.{ReadOperand, text_kind, number_of, letter_of, unary_operators, operators_at, levels, read_as, connective_kind}
 use Rattle.c_model.specs.ExpressionGrammar.{read_operand, read_name, fixed, mark, reserved, name, any_name, type_name}
 use Rattle.c_model.specs.declared.operands.Form.TheVariants as form
 use Rattle.c_model.specs.declared.operands.TypeUse.TheVariants as type_use
@@ -47,7 +47,8 @@ module _ (ws : Vocabulary) where
   abbrev pub level : ℕ → Syntax PlainToken Expression
   level l =
       parsed_level l then λ x.
-      repeated (λ left. one (placed (mark_entry (operators_at l))) then λ o. parsed_level l then λ right. gives (read_as o.1 (joined o.0 left right))) x
+      repeated (λ left. one (placed (mark_entry (operators_at l))) then λ o. parsed_level l then λ right.
+      gives (read_as o.1 (connective_kind o.0 left right))) x
 
   -- cast = unary | "(" type ")" cast
   abbrev pub cast : Syntax PlainToken ReadOperand

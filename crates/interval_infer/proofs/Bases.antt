@@ -19,7 +19,7 @@ use Rattle.c_model.specs.Operators.{quotient}
 use Rattle.c_model.specs.Memory.{Pointer, Into, Value, Integer, Points, NoValue, Byte, Store, load_bytes, value_from, number_of}
 use Rattle.c_model.specs.Memory.{◌>>=◌ as bind}
 use Rattle.c_model.specs.Memory as memory
-use Rattle.c_model.specs.MemoryQuestions.{Part, address_of, farther, inside}
+use Rattle.c_model.specs.MemoryQuestions.{Part, address_of, address_farther, inside}
 use Rattle.c_model.specs.MemoryQuestions as question
 use Rattle.c_model.specs.State.{State, Mark, mark_of, find, start_of}
 use Rattle.c_model.specs.Logic.{TermValue, Mathematical, Addressed, Answer, Says, SaysNothing, OutOfSteps, Environment, look, meant, mathematical, of_value, held_at, load_from, pointer_at}
@@ -46,7 +46,7 @@ base_sums : (p : Pointer) → sum_of (at_base p) ≡ address_of p
 base_sums memory.Null = refl
 base_sums (Into n i) = same_offset n (pos i +ℤ pos 0) (pos i) (omega (arith, ints))
 
-on_sums : (d : ℤ) (b : Based) → sum_of (on d b) ≡ farther (sum_of b) d
+on_sums : (d : ℤ) (b : Based) → sum_of (on d b) ≡ address_farther (sum_of b) d
 on_sums d b =
     let o = (address_of b.base).offset in
     same_offset (address_of b.base).block (o +ℤ (b.offset +ℤ d)) ((o +ℤ b.offset) +ℤ d) (omega (arith, ints))
@@ -65,12 +65,12 @@ start_sums (Some n) x e =
     (at_base (Into n 0), refl, base_sums (Into n 0) ∙ same)
 
 member_sums : (o : Option question.Address) (p : Option Based) (d : ℕ) (x : question.Address) → ((y : question.Address) → o ≡ Some y → SumsTo p y)
-    → option_map (λ y. farther y (pos d)) o ≡ Some x → SumsTo (option_map (on (pos d)) p) x
+    → option_map (λ y. address_farther y (pos d)) o ≡ Some x → SumsTo (option_map (on (pos d)) p) x
 member_sums None p d x h e = absurd cc
 member_sums (Some y) p d x h e =
     let c = h y refl in
-    let same : farther y (pos d) ≡ x = cc in
-    (on (pos d) c.0, ap (option_map (on (pos d))) c.1, on_sums (pos d) c.0 ∙ ap (λ z. farther z (pos d)) c.2 ∙ same)
+    let same : address_farther y (pos d) ≡ x = cc in
+    (on (pos d) c.0, ap (option_map (on (pos d))) c.1, on_sums (pos d) c.0 ∙ ap (λ z. address_farther z (pos d)) c.2 ∙ same)
 
 -- ---- what is read
 
@@ -230,7 +230,7 @@ mutual
   bases_add_up g n (Deref at t r a) s e x ft h =
       held_sums s.store t (as_address (term a s e)) (based g a s e) x (λ y k. bases_add_up g n a s e y ft (as_address_is (term a s e) y k)) h
   bases_add_up g n (Member at t r d a) s e x ft h =
-      held_sums s.store t (option_map (λ x. farther x (pos d)) (place a s e)) (option_map (on (pos d)) (based_place g a s e)) x
+      held_sums s.store t (option_map (λ x. address_farther x (pos d)) (place a s e)) (option_map (on (pos d)) (based_place g a s e)) x
       (λ y k. member_sums (place a s e) (based_place g a s e) d y (λ z j. places_add_up g n a s e z ft j) k) h
   bases_add_up g n (Address at t r a) s e x ft h = places_add_up g n a s e x ft (addressed_is (place a s e) x h)
   bases_add_up g n (Moved at t r op m a b) s e x ft h = moves_sum op m (term a s e) (term b s e) (based g a s e) x (λ y k. bases_add_up g n a s e y ft k) h

@@ -20,10 +20,10 @@ use Rattle.c_syntax.specs.Logic.{Number, Letter, Variable, Unary, Binary, Cast, 
 use Rattle.c_syntax.specs.Logic.{Object, Elements}
 use Rattle.c_model.specs.Integers.{integer_type, fits, value_of_bits}
 use Rattle.c_model.specs.Operators.{quotient, remainder, shift_left, shift_right}
-use Rattle.c_model.specs.Memory.{Pointer, Into, Value, Integer, Points, NoValue, Byte, Block, Store, block_at, load, load_bytes, value_from, number_of, pointer_of}
+use Rattle.c_model.specs.Memory.{Pointer, Into, Value, Integer, Points, Byte, Block, Store, block_at, load_bytes, value_from, number_of, pointer_of}
 use Rattle.c_model.specs.Memory.{◌>>=◌ as bind}
 use Rattle.c_model.specs.Memory as memory
-use Rattle.c_model.specs.MemoryQuestions.{Part, address_of, farther, inside}
+use Rattle.c_model.specs.MemoryQuestions.{Part, address_of, address_farther, inside}
 use Rattle.c_model.specs.MemoryQuestions as question
 use Rattle.c_model.specs.State.{State, Mark, mark_of, find, start_of}
 use Rattle.c_model.specs.Logic.{TermValue, Mathematical, Addressed, Answer, Says, SaysNothing, OutOfSteps, Environment, look, meant, both, compute, mathematical, of_value, held_at, load_from, pointer_at}
@@ -224,11 +224,11 @@ addressed_lies None r v h e = absurd cc
 addressed_lies (Some x) r v h e = value_lies r (Addressed x) v e (h x refl)
 
 member_lies : (o : Option question.Address) (d : ℕ) (a : Option Range) (r : Range) (x : question.Address) → member_range d a ≡ Some r
-    → ((y : question.Address) (q : Range) → o ≡ Some y → a ≡ Some q → LiesIn q y.offset) → option_map (λ y. farther y (pos d)) o ≡ Some x → LiesIn r x.offset
+    → ((y : question.Address) (q : Range) → o ≡ Some y → a ≡ Some q → LiesIn q y.offset) → option_map (λ y. address_farther y (pos d)) o ≡ Some x → LiesIn r x.offset
 member_lies None d a r x e h g = absurd cc
 member_lies (Some y) d None r x e h g = absurd cc
 member_lies (Some y) d (Some q) r x e h g =
-    let same : farther y (pos d) ≡ x = cc in
+    let same : address_farther y (pos d) ≡ x = cc in
     subst (λ w. LiesIn r w.offset) same (members_lie d q r y e (h y q refl refl))
 
 moved_lies : (op : PointerOp) (n : ℕ) (o p : Option TermValue) (a b r : Range) (v : TermValue) → moved_range op n a b ≡ Some r → Lies a o → Lies b p → moved op n o p ≡ Some v → ValueLies r v
@@ -321,7 +321,7 @@ mutual
       held_lies s.store t (as_address (term a s e)) (Some (range_of a)) r v st.now h.0
       (λ y q f k. subst (λ q. LiesIn q y.offset) (some_is (range_of a) q k) (address_lies (term a s e) (range_of a) y (λ w q. terms_lie_in_ranges n a s e w st ft h.1 q) f)) g
   terms_lie_in_ranges n (Member at t r d a) s e v st ft h g =
-      held_lies s.store t (option_map (λ x. farther x (pos d)) (place a s e)) (member_range d (address_range a)) r v st.now h.0
+      held_lies s.store t (option_map (λ x. address_farther x (pos d)) (place a s e)) (member_range d (address_range a)) r v st.now h.0
       (λ y q f k. member_lies (place a s e) d (address_range a) q y k (λ z w i j. places_lie_in_ranges n a s e w z st ft h.1 j i) f) g
   terms_lie_in_ranges n (Address at t r a) s e v st ft h g = addressed_lies (place a s e) r v (λ x f. places_lie_in_ranges n a s e r x st ft h.1 h.0 f) g
   terms_lie_in_ranges n (Moved at t r op m a c) s e v st ft h g =
@@ -389,7 +389,7 @@ elements_lie n (Some (Addressed x)) (Some (Mathematical i)) (Some (Mathematical 
     let b = there_is (begin_range n a lo) parts.0 in
     let w = there_is (end_range n a lo hi) parts.1 in
     let c = then_parts (span_range n lo hi) (sum_range a) w.0 w.1 in
-    let same : (record { start = farther x (pos n *ℤ i); length = pos n *ℤ (j -ℤ i +ℤ pos 1) }) ≡ d = cc in
+    let same : (record { start = address_farther x (pos n *ℤ i); length = pos n *ℤ (j -ℤ i +ℤ pos 1) }) ≡ d = cc in
     subst (ElementsLie n a lo hi) same (record {
       begin = b.0;
       begin_is = b.1;

@@ -13,7 +13,7 @@ use Rattle.c_syntax.specs.Layouts.{PointerType}
 use Rattle.c_syntax.specs.Logic.{LogicTerm, Variable, Cast, Choice, Named, At, Null, Deref, Member, Address, Moved, Told, range_of}
 use Rattle.c_model.specs.Memory.{Pointer, Into, Value, Integer, Points, NoValue, Store}
 use Rattle.c_model.specs.Memory as memory
-use Rattle.c_model.specs.MemoryQuestions.{Part, address_of, farther, inside}
+use Rattle.c_model.specs.MemoryQuestions.{Part, address_of, address_farther, inside}
 use Rattle.c_model.specs.MemoryQuestions as question
 use Rattle.c_model.specs.State.{State, find, start_of}
 use Rattle.c_model.specs.Logic.{TermValue, Mathematical, Addressed, Answer, Says, SaysNothing, OutOfSteps, Environment, look, meant, at_label, as_address}
@@ -29,7 +29,7 @@ pub record Based : Type 0 where
 
 -- the place that it is
 abbrev pub sum_of : Based → question.Address
-sum_of b = farther (address_of b.base) b.offset
+sum_of b = address_farther (address_of b.base) b.offset
 
 abbrev pub at_base : Pointer → Based
 at_base p = record { base = p; offset = pos 0 }

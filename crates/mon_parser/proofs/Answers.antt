@@ -1,6 +1,6 @@
 -- From what the productions gave to what the answers mean.
 use Rattle.std.proofs.Common.{◌≡◌, ℕ, suc, false, List, [], ◌∷◌, length, Result, Ok, Err, refl, sym, ap, subst, ◌∙◌}
-use Rattle.grammar.specs.Syntax.{Fault, At, Over}
+use Rattle.grammar.specs.Syntax.{ParseFault, At, Over}
 use Rattle.grammar.specs.Exact.{Refused, AtMostOne, FrontsBegin, ReadingsBegin, OneLimit}
 use Rattle.grammar.proofs.Parts.{ok_is}
 use Rattle.grammar.proofs.Theorem.{found, refused, accepts, accepts_back, at_most_one}
@@ -32,7 +32,7 @@ pub limits : (ws : Vocabulary) → OneLimit (text ws)
 limits ws = (text_exact ws).one_limit
 
 module _ (ts : PlainTokens) where
-  abbrev parsed : Result (ParsedProgram × List PlainToken) Fault
+  abbrev parsed : Result (ParsedProgram × List PlainToken) ParseFault
   parsed = (text (vocabulary ts)).parse ts.list
 
   accepted_is : (p : ParsedProgram) → IsRead ts p → parsed ≡ Ok (p, [])
@@ -42,14 +42,14 @@ module _ (ts : PlainTokens) where
   whole : (p : ParsedProgram) → parsed ≡ Ok (p, []) → IsRead ts p
   whole p e = accepts_back (text (vocabulary ts)) false (head_kind ∷ []) (λ _. static_kind ∷ first_function) (text_exact (vocabulary ts)) ts.list p e
 
-  not_read : (r : Result (ParsedProgram × List PlainToken) Fault) → parsed ≡ r → ((p : ParsedProgram) → r ≡ Ok (p, []) → ⊥) → (p : ParsedProgram) → IsRead ts p → ⊥
+  not_read : (r : Result (ParsedProgram × List PlainToken) ParseFault) → parsed ≡ r → ((p : ParsedProgram) → r ≡ Ok (p, []) → ⊥) → (p : ParsedProgram) → IsRead ts p → ⊥
   not_read r e h p a = h p (sym e ∙ accepted_is p a)
 
-  grammar_refused : (f : Fault) → Refused (text (vocabulary ts)) ts.list f → ((p : ParsedProgram) → IsRead ts p → ⊥) → (e : FrontFault) → RefusesWith (syntax_refusal ts f) e → Refuses e ts
+  grammar_refused : (f : ParseFault) → Refused (text (vocabulary ts)) ts.list f → ((p : ParsedProgram) → IsRead ts p → ⊥) → (e : FrontFault) → RefusesWith (syntax_refusal ts f) e → Refuses e ts
   grammar_refused f h n front.Memory g = tt
   grammar_refused f h n (front.Refused x) g = record { fault = f; refused = h; unread = n; is = g }
 
-  fault_given : (f : Fault) → parsed ≡ Err f → (e : FrontFault) → RefusesWith (syntax_refusal ts f) e → Refuses e ts
+  fault_given : (f : ParseFault) → parsed ≡ Err f → (e : FrontFault) → RefusesWith (syntax_refusal ts f) e → Refuses e ts
   fault_given f k = grammar_refused f (refused (text (vocabulary ts)) false (head_kind ∷ []) (λ _. static_kind ∷ first_function) (text_exact (vocabulary ts)) ts.list f k) (not_read (Err f) k (λ p q. cc))
 
   -- a fault was given
@@ -67,7 +67,7 @@ module _ (ts : PlainTokens) where
 
 -- ---- the same of the slices that were read
 
-abbrev Parsed : Vocabulary → List PlainToken → Result (ParsedProgram × List PlainToken) Fault
+abbrev Parsed : Vocabulary → List PlainToken → Result (ParsedProgram × List PlainToken) ParseFault
 Parsed ws list = (text ws).parse list
 
 module _ (ts : PlainTokens) (ws : Vocabulary) (list : List PlainToken) (same_words : ws ≡ vocabulary ts) (same_list : list ≡ ts.list) where
@@ -83,4 +83,4 @@ module _ (ts : PlainTokens) (ws : Vocabulary) (list : List PlainToken) (same_wor
   read_part p (t ∷ rest) n e k z is g = left_over ts p (plain_token t) (plain_list rest) e (sym same ∙ k) (subst (λ (m : ℕ). RefusesFault ts (fault.At m) e) is g)
 
   pub read_fault : (r : ReadFault) (e : FrontFault) → Fails r (Parsed ws list) → RefusesFault ts r e → Refuses e ts
-  read_fault r e k = faulty ts r e (subst (λ (x : Result (ParsedProgram × List PlainToken) Fault). Fails r x) same k)
+  read_fault r e k = faulty ts r e (subst (λ (x : Result (ParsedProgram × List PlainToken) ParseFault). Fails r x) same k)

@@ -38,7 +38,7 @@ of_tree ts p = settled ts p (checked ts p)
 record IsUnread (source : List ℕ) (a : Answer) : Type 0 where
   tokens : PlainTokens
   has : monitored_tokens source ≡ Ok tokens
-  fault : grammar.Fault
+  fault : grammar.ParseFault
   refused : Refused (text (vocabulary tokens)) tokens.list fault
   unread : (p : ParsedProgram) → IsRead tokens p → ⊥
   is : a ≡ Err (syntax_refusal tokens fault)
@@ -67,7 +67,7 @@ broken_apart source r ts e k = cc
 one_broken : (source : List ℕ) (r s : PlainRefusal) → monitored_tokens source ≡ Err r → monitored_tokens source ≡ Err s → r ≡ s
 one_broken source r s e k = cc
 
-one_grammar_fault : (ts : PlainTokens) (f g : grammar.Fault) → Refused (text (vocabulary ts)) ts.list f → Refused (text (vocabulary ts)) ts.list g → f ≡ g
+one_grammar_fault : (ts : PlainTokens) (f g : grammar.ParseFault) → Refused (text (vocabulary ts)) ts.list f → Refused (text (vocabulary ts)) ts.list g → f ≡ g
 one_grammar_fault ts = one_fault (text (vocabulary ts)) (fronts_begin (text (vocabulary ts)) _ _ _ (text_exact (vocabulary ts))) ts.list ((text_exact (vocabulary ts)).one_limit)
 
 both_unread : (source : List ℕ) (a b : Answer) → IsUnread source a → IsUnread source b → a ≡ b

@@ -6,7 +6,7 @@ use Rattle.std.proofs.lemmas.Option.{none-some, same_Some, slice_get_within}
 use Rattle.c_syntax.specs.declared.types.BlockKind.{BlockKind}
 use Rattle.c_syntax.specs.declared.types.BlockKind.TheVariants as kind
 use Rattle.c_model.specs.Limits.{heap_bytes}
-use Rattle.c_model.specs.Memory.{Block, Store, is_heap, is_apart, is_free, least, units, heap_place}
+use Rattle.c_model.specs.Memory.{Block, Store, is_heap, is_apart, is_free, first_passing, units, heap_place}
 use Rattle.shadow_segments.specs.declared.BlockNote.{BlockNote}
 use Rattle.mon_syntax.specs.declared.spot.RegionName.TheVariants.{Heap}
 use Rattle.mon_syntax.specs.Flat.{Flat, is_none, are_free}
@@ -17,16 +17,16 @@ use Rattle.mon_syntax.proofs.FlatLists.{head_at, block_of_head, length-heads}
 
 -- ---- the least number
 
-pub least_same : (p q : ℕ → Bool) (k u : ℕ) → ((v : ℕ) → p v ≡ q v) → least p k u ≡ least q k u
+pub least_same : (p q : ℕ → Bool) (k u : ℕ) → ((v : ℕ) → p v ≡ q v) → first_passing p k u ≡ first_passing q k u
 least_same p q zero u same = refl
 least_same p q (suc k) u same =
-    ap (λ z. if z then Some u else least p k (suc u)) (same u) ∙ ap (λ z. if q u then Some u else z) (least_same p q k (suc u) same)
+    ap (λ z. if z then Some u else first_passing p k (suc u)) (same u) ∙ ap (λ z. if q u then Some u else z) (least_same p q k (suc u) same)
 
-pub least_passes : (p : ℕ → Bool) (k u v : ℕ) → least p k u ≡ Some v → p v ≡ true
+pub least_passes : (p : ℕ → Bool) (k u v : ℕ) → first_passing p k u ≡ Some v → p v ≡ true
 least_passes p zero u v e = absurd (none-some v e)
 least_passes p (suc k) u v e = by (p u) refl e (λ f. least_passes p k (suc u) v f)
   where
-    by : (t : Bool) → p u ≡ t → (if t then Some u else least p k (suc u)) ≡ Some v → (least p k (suc u) ≡ Some v → p v ≡ true) → p v ≡ true
+    by : (t : Bool) → p u ≡ t → (if t then Some u else first_passing p k (suc u)) ≡ Some v → (first_passing p k (suc u) ≡ Some v → p v ≡ true) → p v ≡ true
     by true is f later = ap p (sym (same_Some u v f)) ∙ is
     by false is f later = later f
 
@@ -173,7 +173,7 @@ module _ (w : World) (m : Blocks) (f : Flat) (h : Holds w m f) where
 
 -- ---- places
 
-pub place_is : (long : ℕ) (s : Store) (c : ℕ) → heap_place long s c ≡ least (λ u. nat_le (u + c) long && is_free s u c) (suc long) 0
+pub place_is : (long : ℕ) (s : Store) (c : ℕ) → heap_place long s c ≡ first_passing (λ u. nat_le (u + c) long && is_free s u c) (suc long) 0
 unfolding heap_place
 place_is long s c = refl
 

@@ -4,7 +4,7 @@ use Rattle.std.specs.Prelude.{nat_eq, nat_le, nat_lt, if◌then◌else◌, Bool,
 use Rattle.c_syntax.specs.declared.types.BlockKind.{BlockKind}
 use Rattle.c_syntax.specs.declared.types.BlockKind.TheVariants as kind
 use Rattle.c_syntax.specs.declared.types.Segment.TheVariants as segment
-use Rattle.c_model.specs.Memory.{rounded, greatest_number, least}
+use Rattle.c_model.specs.Memory.{rounded, greatest_number, first_passing}
 use Rattle.shadow_segments.specs.declared.BlockNote.{BlockNote}
 use Rattle.shadow_segments.specs.Shadow.{units}
 use Rattle.mon_syntax.specs.declared.spot.RegionName.{RegionName}
@@ -181,7 +181,7 @@ are_free ns u zero = true
 are_free ns u (suc c) = is_none (get_or ns u None) && are_free ns (suc u) c
 
 abbrev pub heap_place : List (Option BlockNote) → ℕ → Option ℕ
-heap_place ns c = least (λ u. nat_le (u + c) (length ns) && are_free ns u c) (suc (length ns)) 0
+heap_place ns c = first_passing (λ u. nat_le (u + c) (length ns) && are_free ns u c) (suc (length ns)) 0
 
 -- ---- the heap
 

@@ -101,7 +101,7 @@ pub record Spells (text : List ℕ) (m : MonitoredProgram) : Type 0 where
 -- the text is refused, by the first of four phases that finds a fault
 pub data IsMonitoredRefusal (text : List ℕ) (r : PlainRefusal) : Type 0 where
   ByTokens : monitored_tokens text ≡ Err r → IsMonitoredRefusal text r
-  ByGrammar : (ts : PlainTokens) (f : grammar.Fault) → monitored_tokens text ≡ Ok ts → Refused (form.text (vocabulary ts)) ts.list f
+  ByGrammar : (ts : PlainTokens) (f : grammar.ParseFault) → monitored_tokens text ≡ Ok ts → Refused (form.text (vocabulary ts)) ts.list f
       → ((p : ParsedProgram) → IsRead ts p → ⊥) → r ≡ syntax_refusal ts f → IsMonitoredRefusal text r
   ByNamesAndTypes : (ts : PlainTokens) (p : ParsedProgram) (f : Fault) → monitored_tokens text ≡ Ok ts → IsRead ts p → checked ts p ≡ Err f
       → r ≡ check_refusal ts f → IsMonitoredRefusal text r

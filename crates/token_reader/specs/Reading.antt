@@ -2,7 +2,7 @@
 -- What a function returned is what the production gives, unless memory ran out.
 use Rattle.std.specs.Prelude.{◌≡◌, ℕ, List, map, Result, Ok, Err}
 use Rattle.std.specs.Borrow.{Bor}
-use Rattle.grammar.specs.Syntax.{Fault, At, Over}
+use Rattle.grammar.specs.Syntax.{ParseFault, At, Over}
 use Rattle.c_syntax.specs.declared.token.Token.{Token}
 use Rattle.c_syntax.specs.Tokens.{PlainToken, plain_token}
 use Rattle.c_syntax.specs.declared.fault.Limit.{Limit}
@@ -22,12 +22,12 @@ abbrev pub label : Limit → ℕ
 label limits.Expression = expression_limit
 label limits.Nesting = nesting_limit
 
-abbrev pub Fails : {Y : Type 0} → ReadFault → Result Y Fault → Type 0
+abbrev pub Fails : {Y : Type 0} → ReadFault → Result Y ParseFault → Type 0
 Fails (fault.At n) read = read ≡ Err (At n)
 Fails (fault.Over limit n) read = read ≡ Err (Over (label limit) n)
 Fails fault.Memory read = Unit {0}
 
-abbrev pub Gives : {X Y : Type 0} → (X → Y) → Result X ReadFault → Result Y Fault → Type 0
+abbrev pub Gives : {X Y : Type 0} → (X → Y) → Result X ReadFault → Result Y ParseFault → Type 0
 Gives view (Ok x) read = read ≡ Ok (view x)
 Gives view (Err e) read = Fails e read
 

@@ -14,10 +14,10 @@ use Rattle.c_syntax.specs.declared.types.CInt.TheVariants.{I8, U8, I16, U16, I32
 use Rattle.c_syntax.specs.Ctypes.{PlainType, Void, Int, Ptr, Array, StructTag, Named, Written, Count}
 use Rattle.c_syntax.specs.Formulas.{Form, Name, Number, Letter, Truth, Unary, Binary, Connected, Choice, Chain, Linked, NoLink, Cast, SizeOf, Integers, OfC}
 use Rattle.c_syntax.specs.Logic as logic
-use Rattle.c_syntax.specs.Logic.{LogicTerm, ClauseBody, Raw, Holds}
+use Rattle.c_syntax.specs.Logic.{LogicTerm, Raw, Holds}
 use Rattle.c_model.specs.Checked.{Checked, Good, Bad, one_part}
 use Rattle.c_model.specs.Library.{library_constant}
-use Rattle.c_model.specs.PredicateTyping.{Sorted, ATerm, APredicate, no_range, typed_form, typed_clause}
+use Rattle.c_model.specs.PredicateTyping.{Sorted, ATerm, APredicate, range_to_infer, typed_form, typed_clause}
 use Rattle.worked_rows.proofs.WorkedSight.{at, fault, int, char, unsigned_long, struct_s, struct_u, sight, three, f}
 
 data Sort : Type 0 where
@@ -54,10 +54,10 @@ less o = Chain (at o) (c 0) (Linked (at o) relation.Lt (one 9) NoLink)
 
 -- as typed
 abbrev c_at : ℕ → LogicTerm
-c_at o = logic.Variable (at o) (Some char) no_range (record { name = 0; decl = 100 })
+c_at o = logic.Variable (at o) (Some char) range_to_infer (record { name = 0; decl = 100 })
 
 abbrev number : ℤ → ℕ → LogicTerm
-number n o = logic.Number (at o) None no_range n
+number n o = logic.Number (at o) None range_to_infer n
 
 -- ---- primary forms
 
@@ -106,7 +106,7 @@ signs_of_integers : map (λ (op : UnOp). sort_of (Unary (at 0) op (c 1))) signs 
 signs_of_integers = refl
 
 -- -c, ~c
-signs_keep_their_operands : map (λ (op : UnOp). typed_form sight (Unary (at 0) op (c 1))) signs ≡ map (λ (op : UnOp). Good (ATerm (logic.Unary (at 0) None no_range op (c_at 1)))) signs
+signs_keep_their_operands : map (λ (op : UnOp). typed_form sight (Unary (at 0) op (c 1))) signs ≡ map (λ (op : UnOp). Good (ATerm (logic.Unary (at 0) None range_to_infer op (c_at 1)))) signs
 signs_keep_their_operands = refl
 
 no_signs_of_predicates : map (λ (op : UnOp). sort_of (Unary (at 0) op (less 2))) signs ≡ every signs (fault 6 0)
@@ -122,7 +122,7 @@ no_predicate_on_the_right : operated (c 0) (less 6) ≡ every operators (fault 6
 no_predicate_on_the_right = refl
 
 -- nothing is converted: c - 1
-an_operator_keeps_its_operands : typed_form sight (Binary (at 2) Sub (c 0) (one 4)) ≡ Good (ATerm (logic.Binary (at 2) None no_range Sub (c_at 0) (number (pos 1) 4)))
+an_operator_keeps_its_operands : typed_form sight (Binary (at 2) Sub (c 0) (one 4)) ≡ Good (ATerm (logic.Binary (at 2) None range_to_infer Sub (c_at 0) (number (pos 1) 4)))
 an_operator_keeps_its_operands = refl
 
 -- ---- relations want integers and give predicates

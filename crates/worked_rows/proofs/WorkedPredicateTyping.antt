@@ -14,7 +14,7 @@ use Rattle.c_syntax.specs.Logic.{Truth, NonZero, Chain, Not, Connected, Branch, 
 use Rattle.c_model.specs.Checked.{Fault, Good, refusing}
 use Rattle.c_model.specs.Library.{library_constant}
 use Rattle.c_model.specs.ExpressionTyping.{AnObject, AnEnumerator, Sight}
-use Rattle.c_model.specs.PredicateTyping.{Sorted, ATerm, APredicate, no_range, typed_form, typed_clause}
+use Rattle.c_model.specs.PredicateTyping.{Sorted, ATerm, APredicate, range_to_infer, typed_form, typed_clause}
 
 abbrev pub at : ℕ → Place
 at offset = record { line = 1; column = offset + 1; offset = offset }
@@ -59,10 +59,10 @@ less offset = read.Chain (at offset) (name 0 0) (read.Linked (at offset) relatio
 -- ---- terms and predicates
 
 abbrev n_at : ℕ → LogicTerm
-n_at offset = Variable (at offset) (Some int_type) no_range (record { name = 0; decl = 50 })
+n_at offset = Variable (at offset) (Some int_type) range_to_infer (record { name = 0; decl = 50 })
 
 abbrev number : ℕ → ℕ → LogicTerm
-number offset n = Number (at offset) None no_range (pos n)
+number offset n = Number (at offset) None range_to_infer (pos n)
 
 abbrev n_less : ℕ → Sorted
 n_less offset = APredicate (Chain (at offset) (n_at 0) (Linked (at offset) relation.Lt (number 9 1) NoLink))
@@ -79,10 +79,10 @@ unfolding library_constant
 typed-constant = refl
 
 -- `n + 1`, `~n`
-typed-sum : typed_form sight (read.Binary (at 2) operator.Add (name 0 0) (one 4)) ≡ Good (ATerm (Binary (at 2) None no_range operator.Add (n_at 0) (number 4 1)))
+typed-sum : typed_form sight (read.Binary (at 2) operator.Add (name 0 0) (one 4)) ≡ Good (ATerm (Binary (at 2) None range_to_infer operator.Add (n_at 0) (number 4 1)))
 typed-sum = refl
 
-typed-complement : typed_form sight (read.Unary (at 0) unary.Flip (name 1 0)) ≡ Good (ATerm (Unary (at 0) None no_range unary.Flip (n_at 1)))
+typed-complement : typed_form sight (read.Unary (at 0) unary.Flip (name 1 0)) ≡ Good (ATerm (Unary (at 0) None range_to_infer unary.Flip (n_at 1)))
 typed-complement = refl
 
 -- `n < 1`, `!n`, `n && \true`
@@ -96,20 +96,20 @@ typed-conjunction : typed_form sight (read.Connected (at 2) connective.And (name
 typed-conjunction = refl
 
 -- `n ? n : 1` is a term, and `n ? \true : 1` a predicate
-typed-choice_of_terms : typed_form sight (read.Choice (at 2) (name 0 0) (name 4 0) (one 8)) ≡ Good (ATerm (Choice (at 2) None no_range (NonZero (at 0) (n_at 0)) (n_at 4) (number 8 1)))
+typed-choice_of_terms : typed_form sight (read.Choice (at 2) (name 0 0) (name 4 0) (one 8)) ≡ Good (ATerm (Choice (at 2) None range_to_infer (NonZero (at 0) (n_at 0)) (n_at 4) (number 8 1)))
 typed-choice_of_terms = refl
 
 typed-choice_of_predicates : typed_form sight (read.Choice (at 2) (name 0 0) (read.Truth (at 4) true) (one 8)) ≡ Good (APredicate (Branch (at 2) (NonZero (at 0) (n_at 0)) (Truth (at 4) true) (NonZero (at 8) (number 8 1))))
 typed-choice_of_predicates = refl
 
 -- `(integer)n`, `(letter)n`, `(enum e)n`
-typed-cast_to_integer : typed_form sight (read.Cast (at 0) Integers (name 9 0)) ≡ Good (ATerm (Cast (at 0) None no_range Integers (n_at 9)))
+typed-cast_to_integer : typed_form sight (read.Cast (at 0) Integers (name 9 0)) ≡ Good (ATerm (Cast (at 0) None range_to_infer Integers (n_at 9)))
 typed-cast_to_integer = refl
 
-typed-cast_to_a_named_type : typed_form sight (read.Cast (at 0) (OfC (Named 4)) (name 8 0)) ≡ Good (ATerm (Cast (at 0) None no_range (OfC (Int I8)) (n_at 8)))
+typed-cast_to_a_named_type : typed_form sight (read.Cast (at 0) (OfC (Named 4)) (name 8 0)) ≡ Good (ATerm (Cast (at 0) None range_to_infer (OfC (Int I8)) (n_at 8)))
 typed-cast_to_a_named_type = refl
 
-typed-cast_to_an_enum : typed_form sight (read.Cast (at 0) (OfC (EnumTag 8 (at 6))) (name 8 0)) ≡ Good (ATerm (Cast (at 0) None no_range (OfC int_type) (n_at 8)))
+typed-cast_to_an_enum : typed_form sight (read.Cast (at 0) (OfC (EnumTag 8 (at 6))) (name 8 0)) ≡ Good (ATerm (Cast (at 0) None range_to_infer (OfC int_type) (n_at 8)))
 typed-cast_to_an_enum = refl
 
 -- `sizeof(struct s)`, `sizeof(letter[3])`

@@ -2,7 +2,7 @@ use Rattle.std.proofs.Common.{rules}
 use Rattle.c_syntax.specs.Ctypes.{plain_type}
 use Rattle.c_syntax.specs.Statements.{plain_items}
 use Rattle.c_model.specs.StatementTyping.{typed_items}
-use Rattle.c_typing.specs.Blocks.{around_body}
+use Rattle.c_model.specs.TypedTrees.{around_body}
 use Rattle.c_expression_rules.specs.Answers.{Answers}
 use Rattle.c_expression_rules.specs.Sights.{plain_sight}
 use Rattle.c_typing.proofs.Bodies.{body_in_place}

@@ -4,7 +4,7 @@ use Rattle.c_syntax.specs.Programs.{plain_func}
 use Rattle.c_expression_rules.specs.Answers.{Answers}
 use Rattle.c_expression_rules.specs.Sights.{plain_sight}
 use Rattle.c_expression_rules.proofs.Least.{one_refused}
-use Rattle.c_typing.specs.Functions.{heading, typed_parts, with_function}
+use Rattle.c_typing.specs.Functions.{heading, typed_parts, with_function_by}
 use Rattle.c_typing.proofs.function.type_function.Goals as goal
 
 pub returns-in_err-type_heading-clause-typed : goal.returns-in_err-type_heading-clause-typed
@@ -14,5 +14,5 @@ returns-in_err-type_heading-clause-typed c =
     let f = plain_func c.args.f.now in
     let g = plain_func c.type_heading.new.f in
     let h : Answers (λ (u : Unit {0}). g) (heading s (get nat_eq c.args.names.now) f) (Err c.in_err-type_heading.field-0.0) = c.in_err-type_heading.ensures.typed in
-    let whole = one_refused (λ f. typed_parts (with_function (get nat_eq c.args.numbers.now) s f) f) (λ (u : Unit {0}). g) (λ (u : Unit {0}). g) (heading s (get nat_eq c.args.names.now) f) c.in_err-type_heading.field-0.0 h in
+    let whole = one_refused (λ f. typed_parts (with_function_by (get nat_eq c.args.numbers.now) s f) f) (λ (u : Unit {0}). g) (λ (u : Unit {0}). g) (heading s (get nat_eq c.args.names.now) f) c.in_err-type_heading.field-0.0 h in
     search (rules, e, whole)

@@ -11,7 +11,7 @@ use Rattle.c_expression_rules.specs.declared.fault.TypeFault.{TypeFault}
 use Rattle.c_expression_rules.specs.Answers.{Answers, IfTold, both}
 use Rattle.c_expression_rules.specs.Sights.{plain_sight}
 use Rattle.c_expression_rules.proofs.Least.{both_made}
-use Rattle.c_typing.specs.Functions.{fitting, fitting_type}
+use Rattle.c_typing.specs.Functions.{fitting, fitting_type_by}
 use Rattle.c_typing.proofs.Functions.{fitting_by}
 use Rattle.c_typing.proofs.heading.type_signature.Goals as goal
 
@@ -34,6 +34,6 @@ returns-clause-typed c =
     let fits : (v : Unit {0}) → both c.type_written-written.result c.type_parameters-params.result ≡ Ok v → Answers (λ (w : Unit {0}). g) (fitting u names g) c.fitting_after-fits.result = λ v e. search (rules, e) in
     let whole = fitting_by s names f t ds c.type_written-written.result c.type_parameters-params.result hw hb u c.fitting_after-fits.result same refused fits in
     let all = both_made {A = PlainType} {B = Function} {C = Function} {T = Unit {0}} (λ t g. record g { result = t })
-    (λ (u : Unit {0}). t) (λ (u : Unit {0}). g) (typed_result s (is_definition f) f.place f.result) (fitting_type s names f) c.result_of-result.result
+    (λ (u : Unit {0}). t) (λ (u : Unit {0}). g) (typed_result s (is_definition f) f.place f.result) (fitting_type_by s names f) c.result_of-result.result
     c.fitting_after-fits.result c.both-2.result ha whole (sym c.both-2.ensures.is) in
     search (rules, all)
