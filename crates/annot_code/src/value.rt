@@ -10,9 +10,9 @@ ghost use Rattle.annot_code.specs.Code.{binary_value, cast_value, conjunction, c
 ghost use Rattle.annot_code.specs.Code.{relation_value, second_operand, type_of_width, unary_value, wider, working};
 
 use crate::copy::copy_of;
+use c_conversions::conversion::integer_type;
 use c_effects::conversion::register_type;
 use c_effects::operator::{constant, in_type, operation, operator_of, unary};
-use c_expression_rules::conversion::integer_type;
 use c_syntax::logic::LogicType;
 use c_syntax::{BinOp, CInt, Range, Relation, UnOp, Width};
 use ea_num::{is_inside, type_range};

@@ -5,13 +5,13 @@ use Rattle.c_syntax.specs.Ctypes.{PlainType}
 use Rattle.c_model.specs.Checked.{Checked, Good, one_part, pair_of}
 use Rattle.c_model.specs.ExpressionTyping.{Sight, limited}
 use Rattle.c_model.specs.PredicateTyping as typing
-use Rattle.c_expression_rules.specs.declared.fault.TypeFault.{TypeFault}
-use Rattle.c_expression_rules.specs.declared.fault.TypeFault.TheVariants.{Refused, Memory}
-use Rattle.c_expression_rules.specs.Answers.{Answers, IfTold, both}
+use Rattle.c_scopes.specs.declared.fault.TypeFault.{TypeFault}
+use Rattle.c_scopes.specs.declared.fault.TypeFault.TheVariants.{Refused, Memory}
+use Rattle.c_scopes.specs.Answers.{Answers, IfTold, both}
 use Rattle.c_expression_rules.specs.Structs.{within_limits}
 use Rattle.c_expression_rules.proofs.Besides.{limited_told}
-use Rattle.c_expression_rules.proofs.Least.{one_refused}
-use Rattle.c_expression_rules.proofs.Told.{told_any}
+use Rattle.c_scopes.proofs.Least.{one_refused}
+use Rattle.c_scopes.proofs.Told.{told_any}
 use Rattle.annot_typing.specs.declared.sorted.Sorted.{Sorted}
 use Rattle.annot_typing.specs.Joined.{both_answered}
 use Rattle.annot_typing.specs.Sorts.{plain_sorted}

@@ -6,7 +6,7 @@ use Rattle.c_syntax.specs.Logic.{Annotation, plain_body, plain_annot}
 use Rattle.c_model.specs.Checked.{Good}
 use Rattle.c_model.specs.ExpressionTyping.{Sight}
 use Rattle.c_model.specs.PredicateTyping.{typed_annotations, typed_clause}
-use Rattle.c_expression_rules.proofs.Lists.{behind_parts, list_more}
+use Rattle.c_scopes.proofs.Lists.{behind_parts, list_more}
 
 -- one more annotation is typed
 pub annotations_more : (s : Sight) (all : List Annotation) (list done done' : List Annot) (a : Annot) (body : Body) (rest : List Annot)

@@ -1,10 +1,10 @@
 -- Parts that are typed beside one another: both, or the first fault of the two.
 use Rattle.std.proofs.Common.{◌≡◌, refl, ap, ◌∙◌, Result, Ok, Err}
 use Rattle.c_model.specs.Checked.{Checked, Good, Bad, pair_of, refusing}
-use Rattle.c_expression_rules.specs.declared.fault.TypeFault.{TypeFault}
-use Rattle.c_expression_rules.specs.declared.fault.TypeFault.TheVariants.{Refused, Memory}
-use Rattle.c_expression_rules.specs.Answers.{Answers, both, lesser_of}
-use Rattle.c_expression_rules.proofs.Least.{both_refused}
+use Rattle.c_scopes.specs.declared.fault.TypeFault.{TypeFault}
+use Rattle.c_scopes.specs.declared.fault.TypeFault.TheVariants.{Refused, Memory}
+use Rattle.c_scopes.specs.Answers.{Answers, both, lesser_of}
+use Rattle.c_scopes.proofs.Least.{both_refused}
 use Rattle.annot_typing.specs.Joined.{both_answered}
 
 -- whether a part has a fault, and nothing else of it

@@ -4,10 +4,10 @@ use Rattle.c_syntax.specs.declared.place.Place.{Place}
 use Rattle.c_syntax.specs.Logic.{plain_term}
 use Rattle.c_model.specs.Checked.{Checked, Good, Bad, one_part, pair_of, refusing}
 use Rattle.c_model.specs.PredicateTyping as typing
-use Rattle.c_expression_rules.specs.declared.fault.TypeFault.{TypeFault}
-use Rattle.c_expression_rules.specs.declared.fault.TypeFault.TheVariants.{Refused, Memory}
-use Rattle.c_expression_rules.specs.Answers.{Answers}
-use Rattle.c_expression_rules.proofs.Least.{one_refused}
+use Rattle.c_scopes.specs.declared.fault.TypeFault.{TypeFault}
+use Rattle.c_scopes.specs.declared.fault.TypeFault.TheVariants.{Refused, Memory}
+use Rattle.c_scopes.specs.Answers.{Answers}
+use Rattle.c_scopes.proofs.Least.{one_refused}
 use Rattle.annot_typing.specs.declared.sorted.Sorted.{Sorted}
 use Rattle.annot_typing.specs.declared.sorted.Sorted.TheVariants as code
 use Rattle.annot_typing.specs.Joined.{both_answered}

@@ -9,7 +9,7 @@ use Rattle.std.specs.Prelude.{List}
 use Rattle.c_model.specs.Checked.{Fault, Checked, Good, Bad, both_parts, where_so}
 use Rattle.c_model.specs.ExpressionTyping.{Sight, too_large, most_bytes, has_small_parts, is_within_limits, levels_of, most_levels}
 use Rattle.c_model.proofs.TypedParts.{and_true}
-use Rattle.c_expression_rules.specs.Limits.{small}
+use Rattle.c_scopes.specs.Limits.{small}
 use Rattle.c_expression_rules.specs.Operators.{has_size}
 use Rattle.annot_typing.specs.Limits.{has_small_size}
 

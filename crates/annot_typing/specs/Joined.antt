@@ -1,7 +1,7 @@
 -- Ours: two answers as one. No standard says which of several faults is reported.
 use Rattle.std.specs.Prelude.{Result, Ok, Err}
-use Rattle.c_expression_rules.specs.declared.fault.TypeFault.{TypeFault}
-use Rattle.c_expression_rules.specs.Answers.{lesser_of}
+use Rattle.c_scopes.specs.declared.fault.TypeFault.{TypeFault}
+use Rattle.c_scopes.specs.Answers.{lesser_of}
 
 -- both parts, or the first fault of the two
 abbrev pub both_answered : {A B : Type 0} → Result A TypeFault → Result B TypeFault → Result (A × B) TypeFault

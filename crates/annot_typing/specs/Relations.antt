@@ -7,8 +7,8 @@ use Rattle.c_syntax.specs.declared.logic.Term.{Term}
 use Rattle.c_syntax.specs.Logic as plain
 use Rattle.c_syntax.specs.Logic.{LogicTerm, plain_term, plain_links}
 use Rattle.c_model.specs.PredicateTyping as typing
-use Rattle.c_expression_rules.specs.declared.fault.TypeFault.{TypeFault}
-use Rattle.c_expression_rules.specs.declared.fault.TypeFault.TheVariants.{Refused}
+use Rattle.c_scopes.specs.declared.fault.TypeFault.{TypeFault}
+use Rattle.c_scopes.specs.declared.fault.TypeFault.TheVariants.{Refused}
 use Rattle.annot_typing.specs.declared.sorted.Sorted.{Sorted}
 use Rattle.annot_typing.specs.declared.sorted.Sorted.TheVariants as code
 use Rattle.annot_typing.specs.Sorts.{plain_sorted}

@@ -3,18 +3,18 @@
 ghost use Rattle.c_syntax.specs.Ctypes.{plain_type};
 ghost use Rattle.c_model.specs.ExpressionTyping.{limited};
 ghost use Rattle.c_model.specs.PredicateTyping.{size_in};
-ghost use Rattle.c_expression_rules.specs.Answers.{Answers};
-ghost use Rattle.c_expression_rules.specs.Sights.{plain_sight};
+ghost use Rattle.c_scopes.specs.Answers.{Answers};
+ghost use Rattle.c_scopes.specs.Sights.{plain_sight};
 ghost use Rattle.annot_typing.specs.Limits.{has_small_size, written_size};
 ghost use Rattle.annot_typing.specs.Sorts.{plain_sorted};
 
 use crate::sorted::{Sorted, term};
 use c_expression_rules::expression::type_written;
-use c_expression_rules::fault::{TypeFault, both, too_large};
-use c_expression_rules::limits::small_size;
 use c_expression_rules::operator::has_size;
-use c_expression_rules::sight::Sight;
 use c_expression_rules::types::within_limits;
+use c_scopes::fault::{TypeFault, both, too_large};
+use c_scopes::limits::small_size;
+use c_scopes::sight::Sight;
 use c_syntax::copy::copy_type;
 use c_syntax::logic::TermKind;
 use c_syntax::{CType, Place};

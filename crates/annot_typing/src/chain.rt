@@ -4,13 +4,13 @@ ghost use Rattle.std.specs.Prelude.{◌≡◌};
 ghost use Rattle.c_syntax.specs.Logic.{Linked, plain_links, plain_term};
 ghost use Rattle.c_model.specs.Checked.{Good};
 ghost use Rattle.c_model.specs.PredicateTyping.{related};
-ghost use Rattle.c_expression_rules.specs.Answers.{Answers};
+ghost use Rattle.c_scopes.specs.Answers.{Answers};
 ghost use Rattle.annot_typing.specs.Relations.{is_predicate, right_side};
 ghost use Rattle.annot_typing.specs.Sorts.{plain_sorted};
 
 use crate::demand::as_term;
 use crate::sorted::{Sorted, predicate};
-use c_expression_rules::fault::{TypeFault, no_type};
+use c_scopes::fault::{TypeFault, no_type};
 use c_syntax::logic::{Links, PredKind, Term};
 use c_syntax::{Place, Relation};
 use std::alloc::Global;

@@ -4,13 +4,13 @@ ghost use Rattle.std.specs.Prelude.{◌≡◌, map};
 ghost use Rattle.c_syntax.specs.Formulas.{plain_form};
 ghost use Rattle.c_syntax.specs.Logic.{Raw, plain_annot, plain_body};
 ghost use Rattle.c_model.specs.PredicateTyping.{typed_annotations, typed_clause};
-ghost use Rattle.c_expression_rules.specs.Answers.{Answers};
-ghost use Rattle.c_expression_rules.specs.Sights.{plain_sight};
+ghost use Rattle.c_scopes.specs.Answers.{Answers};
+ghost use Rattle.c_scopes.specs.Sights.{plain_sight};
 
 use crate::demand::as_predicate;
 use crate::form::type_form;
-use c_expression_rules::fault::TypeFault;
-use c_expression_rules::sight::Sight;
+use c_scopes::fault::TypeFault;
+use c_scopes::sight::Sight;
 use c_syntax::logic::{Annot, Body, Formula};
 use std::alloc::Global;
 use std::mem::replace;

@@ -3,15 +3,15 @@
 ghost use Rattle.c_syntax.specs.Ctypes.{plain_type};
 ghost use Rattle.c_syntax.specs.Formulas.{plain_cast_type};
 ghost use Rattle.c_syntax.specs.Logic.{Branch, plain_pred, plain_term};
-ghost use Rattle.c_model.specs.Checked.{Good};
 ghost use Rattle.c_syntax.specs.declared.expression.UnOp.TheVariants as unary;
+ghost use Rattle.c_model.specs.Checked.{Good};
 ghost use Rattle.c_model.specs.PredicateTyping.{APredicate, as_predicate, as_term, cast, cast_as, chosen, connected, on_integer, on_integers, unary_on};
-ghost use Rattle.c_expression_rules.specs.Answers.{Answers};
+ghost use Rattle.c_scopes.specs.Answers.{Answers};
 ghost use Rattle.annot_typing.specs.Sorts.{plain_sorted};
 
 use crate::sorted::{Sorted, predicate, term};
-use c_expression_rules::conversion::integer_type;
-use c_expression_rules::fault::{TypeFault, no_type};
+use c_conversions::conversion::integer_type;
+use c_scopes::fault::{TypeFault, no_type};
 use c_syntax::logic::{Connective, LogicType, Pred, PredKind, Term, TermKind};
 use c_syntax::{BinOp, CType, Place, UnOp};
 use std::alloc::Global;

@@ -5,8 +5,8 @@ ghost use Rattle.c_syntax.specs.Ctypes.{plain_type};
 ghost use Rattle.c_syntax.specs.Logic.{plain_links};
 ghost use Rattle.c_model.specs.Checked.{one_part, pair_of};
 ghost use Rattle.c_model.specs.PredicateTyping.{is_predicate, right_side, typed_form, typed_links};
-ghost use Rattle.c_expression_rules.specs.Answers.{Answers};
-ghost use Rattle.c_expression_rules.specs.Sights.{plain_sight};
+ghost use Rattle.c_scopes.specs.Answers.{Answers};
+ghost use Rattle.c_scopes.specs.Sights.{plain_sight};
 ghost use Rattle.annot_typing.specs.Relations.{plain_chain, plain_link};
 ghost use Rattle.annot_typing.specs.Sorts.{plain_sorted, plain_three, plain_two};
 
@@ -17,9 +17,9 @@ use crate::joined::joined;
 use crate::name::term_named;
 use crate::sorted::{Sorted, predicate, term};
 use c_expression_rules::expression::type_written;
-use c_expression_rules::fault::{TypeFault, both};
-use c_expression_rules::sight::Sight;
 use c_expression_rules::types::within_limits;
+use c_scopes::fault::{TypeFault, both};
+use c_scopes::sight::Sight;
 use c_syntax::copy::copy_type;
 use c_syntax::logic::{
     Formula, FormulaKind, FormulaLinks, Links, LogicType, PredKind, Term, TermKind,

@@ -3,7 +3,7 @@
 ghost use Rattle.std.specs.Prelude.{◌≡◌};
 ghost use Rattle.annot_typing.specs.Joined.{both_answered};
 
-use c_expression_rules::fault::{TypeFault, both};
+use c_scopes::fault::{TypeFault, both};
 
 /// Two answers as one: of two faults the first in the text.
 pub fn joined<A: Drop, B: Drop>(

@@ -1,17 +1,17 @@
 //! Names of annotations (ACSL 2.2): objects of integer types, enumerators, and constants of the library.
 
 ghost use Rattle.c_model.specs.PredicateTyping.{object_term, term_named};
-ghost use Rattle.c_expression_rules.specs.Answers.{Answers};
-ghost use Rattle.c_expression_rules.specs.Entity.{plain_object};
-ghost use Rattle.c_expression_rules.specs.Sights.{plain_sight};
+ghost use Rattle.c_scopes.specs.Answers.{Answers};
+ghost use Rattle.c_scopes.specs.Entity.{plain_object};
+ghost use Rattle.c_scopes.specs.Sights.{plain_sight};
 ghost use Rattle.annot_typing.specs.Sorts.{plain_sorted};
 
 use crate::sorted::{NO_RANGE, Sorted, term};
-use c_expression_rules::conversion::integer_type;
-use c_expression_rules::entity::{Entity, Object};
-use c_expression_rules::fault::{TypeFault, no_name, no_type};
-use c_expression_rules::library::library_constant;
-use c_expression_rules::sight::{Sight, name_at};
+use c_conversions::conversion::integer_type;
+use c_scopes::entity::{Entity, Object};
+use c_scopes::fault::{TypeFault, no_name, no_type};
+use c_scopes::library::library_constant;
+use c_scopes::sight::{Sight, name_at};
 use c_syntax::copy::copy_type;
 use c_syntax::logic::{Term, TermKind};
 use c_syntax::{Place, Use};

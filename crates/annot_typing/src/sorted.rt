@@ -4,10 +4,10 @@ ghost use Rattle.std.specs.Prelude.{None};
 ghost use Rattle.c_syntax.specs.Logic.{plain_pred_kind, plain_term_kind};
 ghost use Rattle.c_model.specs.Checked.{Good};
 ghost use Rattle.c_model.specs.PredicateTyping.{APredicate, ATerm, range_to_infer};
-ghost use Rattle.c_expression_rules.specs.Answers.{Answers};
+ghost use Rattle.c_scopes.specs.Answers.{Answers};
 ghost use Rattle.annot_typing.specs.Sorts.{plain_sorted};
 
-use c_expression_rules::fault::TypeFault;
+use c_scopes::fault::TypeFault;
 use c_syntax::logic::{Pred, PredKind, Term, TermKind};
 use c_syntax::{Place, Range};
 use std::alloc::Global;

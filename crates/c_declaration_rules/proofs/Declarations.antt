@@ -7,8 +7,8 @@ use Rattle.c_model.specs.Library.{is_there}
 use Rattle.c_model.specs.Checked.{Checked, Good, Bad, both_parts, one_part}
 use Rattle.c_model.specs.ExpressionTyping.{Sight, declared_here, with_object}
 use Rattle.c_model.specs.DeclarationTyping.{is_anything, is_declared_in_file, is_static, own_name, typed_global, typed_maybe_initialiser, typed_object_type, typed_variable}
-use Rattle.c_expression_rules.specs.declared.fault.TypeFault.{TypeFault}
-use Rattle.c_expression_rules.specs.Answers.{Answers}
+use Rattle.c_scopes.specs.declared.fault.TypeFault.{TypeFault}
+use Rattle.c_scopes.specs.Answers.{Answers}
 use Rattle.c_declaration_rules.specs.Initialisers.{allowed}
 use Rattle.c_declaration_rules.specs.Declarations.{declaration_typed, initialised}
 use Rattle.c_declaration_rules.proofs.Parts.{one_made}

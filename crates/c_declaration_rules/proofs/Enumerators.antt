@@ -7,9 +7,9 @@ use Rattle.c_syntax.specs.Programs.{EnumConstant, plain_enumerator}
 use Rattle.c_model.specs.Checked.{Checked, Good, Bad, both_parts, one_part}
 use Rattle.c_model.specs.ExpressionTyping.{Sight}
 use Rattle.c_model.specs.DeclarationTyping.{is_declared_in_file, own_name, typed_enumerators, typed_value, with_enumerator}
-use Rattle.c_expression_rules.specs.declared.fault.TypeFault.{TypeFault}
-use Rattle.c_expression_rules.specs.Answers.{Answers}
-use Rattle.c_expression_rules.proofs.Least.{one_refused}
+use Rattle.c_scopes.specs.declared.fault.TypeFault.{TypeFault}
+use Rattle.c_scopes.specs.Answers.{Answers}
+use Rattle.c_scopes.proofs.Least.{one_refused}
 use Rattle.c_declaration_rules.specs.Enumerators.{behind_enumerators, enumerator_typed}
 
 -- the enumerators behind the first

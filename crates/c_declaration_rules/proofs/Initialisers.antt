@@ -12,8 +12,8 @@ use Rattle.c_syntax.proofs.Rows.{many_is}
 use Rattle.c_model.specs.Checked.{Checked, Good, one_part}
 use Rattle.c_model.specs.ExpressionTyping.{Sight, is_character, is_scalar, typed}
 use Rattle.c_model.specs.DeclarationTyping.{initial_value, is_text_array, next_slot, no_more, slots_of, too_many, typed_alone, typed_initialiser, typed_items, typed_text}
-use Rattle.c_expression_rules.specs.declared.fault.TypeFault.{TypeFault}
-use Rattle.c_expression_rules.specs.Answers.{Answers}
+use Rattle.c_scopes.specs.declared.fault.TypeFault.{TypeFault}
+use Rattle.c_scopes.specs.Answers.{Answers}
 use Rattle.c_declaration_rules.specs.Initialisers.{is_text_alone, slot, without_braces}
 use Rattle.c_declaration_rules.proofs.Parts.{one_made}
 use Rattle.c_declaration_rules.proofs.Lists.{text_array_is}

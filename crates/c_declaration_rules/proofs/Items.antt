@@ -11,10 +11,10 @@ use Rattle.c_syntax.specs.Statements.{Initialiser, One, Many, Initialisers, NoIn
 use Rattle.c_model.specs.Checked.{Checked, Good, Bad, both_parts, one_part, faulty}
 use Rattle.c_model.specs.ExpressionTyping.{Sight, no_type, typed}
 use Rattle.c_model.specs.DeclarationTyping.{Slots, Each, Members, member_types, next_slot, place_of_initialiser, too_many, typed_initialiser, typed_items}
-use Rattle.c_expression_rules.specs.declared.fault.TypeFault.{TypeFault}
-use Rattle.c_expression_rules.specs.declared.fault.TypeFault.TheVariants.{Refused, Memory}
-use Rattle.c_expression_rules.specs.Answers.{Answers, both, lesser_of}
-use Rattle.c_expression_rules.proofs.Least.{both_refused}
+use Rattle.c_scopes.specs.declared.fault.TypeFault.{TypeFault}
+use Rattle.c_scopes.specs.declared.fault.TypeFault.TheVariants.{Refused, Memory}
+use Rattle.c_scopes.specs.Answers.{Answers, both, lesser_of}
+use Rattle.c_scopes.proofs.Least.{both_refused}
 use Rattle.c_declaration_rules.specs.Initialisers.{slot, type_at}
 
 -- ---- the objects that items initialise

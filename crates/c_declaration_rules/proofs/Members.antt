@@ -8,11 +8,11 @@ use Rattle.c_syntax.specs.declared.place.Place.{Place}
 use Rattle.c_model.specs.Checked.{Fault, Checked, Good, Bad, both_parts, faulty, one_part, where_so}
 use Rattle.c_model.specs.ExpressionTyping.{Sight, Sized, HasSize, HasNoSize, NotYet, element_type, levels_of, most_bytes, no_name, no_type, number_at, sized, too_large, typed_type}
 use Rattle.c_model.specs.DeclarationTyping.{greater, member_added, typed_member, typed_member_type, with_member, with_struct}
-use Rattle.c_expression_rules.specs.declared.fault.TypeFault.{TypeFault}
-use Rattle.c_expression_rules.specs.declared.fault.TypeFault.TheVariants.{Refused, Memory}
-use Rattle.c_expression_rules.specs.Answers.{Answers, both}
+use Rattle.c_scopes.specs.declared.fault.TypeFault.{TypeFault}
+use Rattle.c_scopes.specs.declared.fault.TypeFault.TheVariants.{Refused, Memory}
+use Rattle.c_scopes.specs.Answers.{Answers, both}
 use Rattle.c_expression_rules.specs.Forms.{typed_elements}
-use Rattle.c_expression_rules.proofs.Least.{one_refused}
+use Rattle.c_scopes.proofs.Least.{one_refused}
 use Rattle.c_declaration_rules.specs.declared.layout.Grown.{Grown}
 use Rattle.c_declaration_rules.specs.Members.{GrowsTo, checked_member, ended, member_typed, new_member, object_member, small_layout, with_grown, with_last_member}
 use Rattle.c_declaration_rules.proofs.Layouts.{grown_is}

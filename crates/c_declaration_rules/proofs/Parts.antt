@@ -7,10 +7,10 @@ use Rattle.c_model.specs.Library.{is_there}
 use Rattle.c_model.specs.Checked.{Checked, Good, both_parts, one_part}
 use Rattle.c_model.specs.ExpressionTyping.{Sight, typed_length}
 use Rattle.c_model.specs.DeclarationTyping.{typed_outer, typed_parameter_type}
-use Rattle.c_expression_rules.specs.declared.fault.TypeFault.{TypeFault}
-use Rattle.c_expression_rules.specs.declared.fault.TypeFault.TheVariants.{Refused, Memory}
-use Rattle.c_expression_rules.specs.Answers.{Answers, both, lesser_of}
-use Rattle.c_expression_rules.proofs.Least.{both_made, both_refused, one_refused}
+use Rattle.c_scopes.specs.declared.fault.TypeFault.{TypeFault}
+use Rattle.c_scopes.specs.declared.fault.TypeFault.TheVariants.{Refused, Memory}
+use Rattle.c_scopes.specs.Answers.{Answers, both, lesser_of}
+use Rattle.c_scopes.proofs.Least.{both_made, both_refused, one_refused}
 use Rattle.c_declaration_rules.specs.Objects.{both_after, is_left, sized_object, typed_pointed}
 
 -- a refusal says nothing of the tree

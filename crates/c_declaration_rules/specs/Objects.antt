@@ -10,8 +10,8 @@ use Rattle.c_model.specs.Library.{is_there}
 use Rattle.c_model.specs.Checked.{Checked, Good, one_part}
 use Rattle.c_model.specs.ExpressionTyping.{Sight, is_void, known_type, limited, literal_at, typed_type}
 use Rattle.c_model.specs.DeclarationTyping.{completed, elements_of_parameter, object_type, scalar_type, typed_outer}
-use Rattle.c_expression_rules.specs.declared.fault.TypeFault.{TypeFault}
-use Rattle.c_expression_rules.specs.Answers.{lesser_of}
+use Rattle.c_scopes.specs.declared.fault.TypeFault.{TypeFault}
+use Rattle.c_scopes.specs.Answers.{lesser_of}
 
 abbrev pub plain_maybe_init : Option (Place × Init) → Option (Place × Initialiser)
 plain_maybe_init i = option_map (λ i. (i.0, plain_init i.1)) i

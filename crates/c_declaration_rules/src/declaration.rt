@@ -5,8 +5,8 @@ ghost use Rattle.c_syntax.specs.Ctypes.{plain_type};
 ghost use Rattle.c_syntax.specs.Statements.{plain_decl};
 ghost use Rattle.c_model.specs.ExpressionTyping.{with_object};
 ghost use Rattle.c_model.specs.DeclarationTyping.{known_parameter_type, parameter_name, typed_global, typed_parameter, typed_typedef, typed_variable};
-ghost use Rattle.c_expression_rules.specs.Answers.{Answers, IfTold};
-ghost use Rattle.c_expression_rules.specs.Sights.{plain_sight};
+ghost use Rattle.c_scopes.specs.Answers.{Answers, IfTold};
+ghost use Rattle.c_scopes.specs.Sights.{plain_sight};
 ghost use Rattle.c_declaration_rules.specs.Declarations.{declaration_typed, declarator_typed, initialised, limited_type, limited_declaration};
 ghost use Rattle.c_declaration_rules.specs.Declarations.{scalar_parameter, scalar_parts};
 
@@ -14,9 +14,9 @@ use crate::initialiser::type_maybe_initialiser;
 use crate::name::{behind, is_declared_in_file, own_name};
 use crate::object::{check_scalar, type_object, type_parameter_type};
 use c_expression_rules::expression::type_written;
-use c_expression_rules::fault::{TypeFault, both};
-use c_expression_rules::sight::{Sight, declared_here, with_object};
-use c_expression_rules::types::within_limits;
+use c_expression_rules::types::limited;
+use c_scopes::fault::TypeFault;
+use c_scopes::sight::{Sight, declared_here, with_object};
 use c_syntax::{CType, Decl, Place};
 use std::alloc::Global;
 
@@ -86,7 +86,7 @@ fn type_limited(alloc: Global, sight: &Sight, place: Place, t: &mut CType) -> Re
     ensures { Answers (λ _. plain_type t.new) (limited_type (plain_sight sight.now) place (plain_type t.old)) result }
 {
     let written = type_written(alloc, sight, place, t);
-    both(written, within_limits(sight, place, t))
+    limited(sight, place, t, written)
 }
 
 /// Types the declaration of a name of a type, whose size need not be known (C99 6.7.7).
@@ -151,7 +151,7 @@ fn type_scalar(
     ensures { Answers (λ _. plain_type t.new) (scalar_parameter (plain_sight sight.now) defined place (plain_type t.old)) result }
 {
     let scalar = type_scalar_parts(alloc, sight, defined, place, t);
-    both(scalar, within_limits(sight, place, t))
+    limited(sight, place, t, scalar)
 }
 
 /// Types a parameter of a function, which is defined here or isn't (C99 6.7.5.3).

@@ -4,16 +4,16 @@ ghost use Rattle.std.specs.Prelude.{◌≡◌, IfOk, Some, map, option_map, pos}
 ghost use Rattle.c_syntax.specs.Expressions.{plain_expr};
 ghost use Rattle.c_syntax.specs.Programs.{plain_enumerator};
 ghost use Rattle.c_model.specs.DeclarationTyping.{typed_enumerators, typed_value, with_enumerator};
-ghost use Rattle.c_expression_rules.specs.Answers.{Answers};
-ghost use Rattle.c_expression_rules.specs.Sights.{plain_sight};
+ghost use Rattle.c_scopes.specs.Answers.{Answers};
+ghost use Rattle.c_scopes.specs.Sights.{plain_sight};
 ghost use Rattle.c_declaration_rules.specs.Enumerators.{constant_value, enumerator_typed, int_value};
 
 use crate::name::{behind, is_declared_in_file, own_name};
 use c_expression_rules::constant::constant;
-use c_expression_rules::entity::{Entity, Enumerator as Constant};
 use c_expression_rules::expression::type_value;
-use c_expression_rules::fault::{TypeFault, no_type};
-use c_expression_rules::sight::Sight;
+use c_scopes::entity::{Entity, Enumerator as Constant};
+use c_scopes::fault::{TypeFault, no_type};
+use c_scopes::sight::Sight;
 use c_syntax::{Enumerator, Expr, Place};
 use std::alloc::Global;
 

@@ -9,8 +9,8 @@ ghost use Rattle.c_model.specs.DeclarationTyping.{end_of, greater, placed_from, 
 ghost use Rattle.c_declaration_rules.specs.Layouts.{IsLaidBehind};
 ghost use Rattle.c_declaration_rules.specs.OpenStructs.{AreSized, IsLaid};
 
-use c_expression_rules::limits::{KnownSize, number, sized, small_size};
-use c_expression_rules::sight::number_at;
+use c_scopes::limits::{KnownSize, number, sized, small_size};
+use c_scopes::sight::number_at;
 use c_syntax::layout::int_size;
 use c_syntax::{CType, Layout, Member};
 use std::alloc::AllocError;

@@ -1,14 +1,14 @@
 //! Members of structs (C99 6.7.2.1).
 
 ghost use Rattle.std.specs.Prelude.{◌≡◌, ◌<◌, IfOk, None, OnOk, false, length, map, nat_eq, slice_set};
-ghost use Rattle.indexmap.specs.IndexMap.{get};
-ghost use Rattle.indexmap.specs.IndexSet.{contains};
 ghost use Rattle.c_syntax.specs.Ctypes.{plain_type};
 ghost use Rattle.c_syntax.specs.Programs.{plain_layout, plain_member};
 ghost use Rattle.c_model.specs.DeclarationTyping.{typed_member_type};
 ghost use Rattle.c_model.specs.ExpressionTyping.{HasSize, sized};
-ghost use Rattle.c_expression_rules.specs.Answers.{Answers};
-ghost use Rattle.c_expression_rules.specs.Sights.{plain_sight};
+ghost use Rattle.c_scopes.specs.Answers.{Answers};
+ghost use Rattle.c_scopes.specs.Sights.{plain_sight};
+ghost use Rattle.indexmap.specs.IndexMap.{get};
+ghost use Rattle.indexmap.specs.IndexSet.{contains};
 ghost use Rattle.c_declaration_rules.specs.declared.open_struct.OpenStructs.{OpenStructs};
 ghost use Rattle.c_declaration_rules.specs.Members.{GrownTo, GrowsTo, checked_member, ended, member_typed};
 ghost use Rattle.c_declaration_rules.specs.Members.{name_besides, object_member, small_layout, with_last_member};
@@ -18,10 +18,10 @@ use crate::layout::{Grown, greater, grow, levels_of, more};
 use crate::name::behind;
 use crate::open_struct::{OpenStructs, keep, names_at};
 use c_expression_rules::expression::type_elements;
-use c_expression_rules::fault::{TypeFault, both, no_name, too_large};
-use c_expression_rules::limits::MOST_BYTES;
-use c_expression_rules::sight::{Sight, number_at};
-use c_expression_rules::types::within_limits;
+use c_expression_rules::types::limited;
+use c_scopes::fault::{TypeFault, no_name, too_large};
+use c_scopes::limits::MOST_BYTES;
+use c_scopes::sight::{Sight, number_at};
 use c_syntax::copy::copy_type;
 use c_syntax::{CType, Layout, Member, Place};
 use indexmap::IndexSet;
@@ -50,7 +50,7 @@ fn type_object_member(
     ensures sized { OnOk result (sized (plain_sight sight.now).structs (plain_type t.new) ≡ HasSize) }
 {
     let object = type_elements(alloc, sight, place, t);
-    both(object, within_limits(sight, place, t))
+    limited(sight, place, t, object)
 }
 
 /// A layout whose size passes no limit.

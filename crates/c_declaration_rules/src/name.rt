@@ -2,13 +2,13 @@
 
 ghost use Rattle.std.specs.Prelude.{◌≡◌, IfErr};
 ghost use Rattle.c_model.specs.DeclarationTyping.{is_declared_in_file, own_name};
-ghost use Rattle.c_expression_rules.specs.Answers.{Answers, IsRefusal};
-ghost use Rattle.c_expression_rules.specs.Sights.{plain_sight};
+ghost use Rattle.c_scopes.specs.Answers.{Answers, IsRefusal};
+ghost use Rattle.c_scopes.specs.Sights.{plain_sight};
 ghost use Rattle.c_declaration_rules.specs.Objects.{both_after};
 
-use c_expression_rules::fault::{TypeFault, both, no_name};
-use c_expression_rules::library::is_library_name;
-use c_expression_rules::sight::{Sight, declared_here, name_at};
+use c_scopes::fault::{TypeFault, both, no_name};
+use c_scopes::library::is_library_name;
+use c_scopes::sight::{Sight, declared_here, name_at};
 use c_syntax::Place;
 
 /// Whether file scope declares a name: as an object or an enumerator, as a function, or as a type.

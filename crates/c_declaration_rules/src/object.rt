@@ -8,20 +8,20 @@ ghost use Rattle.c_model.specs.ExpressionTyping.{known_type, typed_type};
 ghost use Rattle.c_model.specs.Library.{is_there};
 ghost use Rattle.c_model.specs.DeclarationTyping.{completed, elements_of_parameter, items_in, known_parameter_type, length_by, pointer_where_array};
 ghost use Rattle.c_model.specs.DeclarationTyping.{scalar_type, text_read, typed_outer, typed_parameter_type, typed_result};
-ghost use Rattle.c_expression_rules.specs.Answers.{Answers, IfTold, IsRefusal};
-ghost use Rattle.c_expression_rules.specs.Sights.{plain_sight};
+ghost use Rattle.c_scopes.specs.Answers.{Answers, IfTold, IsRefusal};
+ghost use Rattle.c_scopes.specs.Sights.{plain_sight};
 ghost use Rattle.c_declaration_rules.specs.Objects.{bytes_alone, bytes_read, is_left, object_typed, plain_maybe_init};
 ghost use Rattle.c_declaration_rules.specs.Objects.{function_result, sized_object, typed_pointed, written_result};
 
-use c_expression_rules::conversion::{is_character, is_scalar, is_struct, is_void};
+use c_conversions::conversion::{is_character, is_scalar, is_struct, is_void};
 use c_expression_rules::expression::{type_elements, type_length, type_written};
-use c_expression_rules::fault::{TypeFault, both, no_name, no_type};
-use c_expression_rules::limits::{KnownSize, number, sized};
-use c_expression_rules::literal::literal_at;
 use c_expression_rules::operator::has_size;
-use c_expression_rules::sight::Sight;
 use c_expression_rules::text::count_with_zero;
-use c_expression_rules::types::within_limits;
+use c_expression_rules::types::limited;
+use c_scopes::fault::{TypeFault, both, no_name, no_type};
+use c_scopes::limits::{KnownSize, number, sized};
+use c_scopes::literal::literal_at;
+use c_scopes::sight::Sight;
 use c_syntax::{CType, Expr, ExprKind, Init, Length, Place};
 use std::alloc::{AllocError, Global};
 use std::mem::replace;
@@ -170,7 +170,7 @@ pub fn type_object(
         (object_typed (plain_sight sight.now) place (plain_type t.old) (plain_maybe_init init.now)) result }
 {
     let object = type_sized_object(alloc, sight, place, init, t);
-    both(object, within_limits(sight, place, t))
+    limited(sight, place, t, object)
 }
 
 /// Puts a pointer to the elements in the place of an array's type.
@@ -315,5 +315,5 @@ pub fn result_of(
         → Answers (λ _. plain_type t.now) (typed_result (plain_sight sight.now) defined place u) result }
 {
     let given = written_result(sight, defined, place, written, t);
-    both(given, within_limits(sight, place, t))
+    limited(sight, place, t, given)
 }

@@ -2,12 +2,12 @@
 //! so that a further one asks none of them.
 
 ghost use Rattle.std.specs.Prelude.{◌≡◌, ◌<◌, IfOk, List, None, OnErr, OnOk, length, map, nat_eq};
-ghost use Rattle.indexmap.specs.IndexMap.{get};
 ghost use Rattle.c_syntax.specs.Programs.{StructType, plain_layout, plain_member};
+ghost use Rattle.indexmap.specs.IndexMap.{get};
 ghost use Rattle.c_declaration_rules.specs.OpenStructs.{HasNames, IsLaid, IsOpen, IsOpenAt};
 
 use crate::layout::check_laid;
-use c_expression_rules::fault::TypeFault;
+use c_scopes::fault::TypeFault;
 use c_syntax::{Layout, Member};
 use indexmap::{IndexMap, IndexSet};
 use std::alloc::{AllocError, Global};

@@ -12,7 +12,7 @@ ghost use Rattle.c_effects.specs.Named.{arguments_by, arguments_setup_by, called
 use crate::expression::expression;
 use crate::operator::constant;
 use crate::part::then;
-use c_expression_rules::sight::name_at;
+use c_scopes::sight::name_at;
 use c_syntax::{Expr, Use};
 use mon_syntax::{MemoryCall, MonExpr, MonStmt, MonStmtKind, MonType, Registers, numbered};
 use std::alloc::{AllocError, Global};

@@ -5,7 +5,7 @@ ghost use Rattle.c_syntax.specs.Ctypes.{plain_type};
 ghost use Rattle.c_model.specs.Conversions.{operation_type};
 ghost use Rattle.c_effects.specs.Expressions.{operand_type, register_type, value_type};
 
-use c_expression_rules::conversion::{common, is_shift, promoted};
+use c_conversions::conversion::{common, is_shift, promoted};
 use c_syntax::{BinOp, CInt, CType};
 use mon_syntax::MonType;
 

@@ -17,7 +17,7 @@ use crate::full::full;
 use crate::object::{current, part_at, part_in, store, target};
 use crate::operator::{compound, constant};
 use crate::scalars::copy_all;
-use c_expression_rules::conversion::is_scalar;
+use c_conversions::conversion::is_scalar;
 use c_syntax::{BinOp, BumpOp, CInt, CType, Expr, ExprKind};
 use mon_syntax::{MonStmt, MonType, Registers};
 use std::alloc::{AllocError, Global};

@@ -15,7 +15,7 @@ use crate::operator::{
     condition, constant, converted, farther, indexed, loaded, operated, register, truth, unary,
 };
 use crate::part::{alone, choose, then};
-use c_expression_rules::conversion::is_array;
+use c_conversions::conversion::is_array;
 use c_syntax::layout::{offset_in_target, offset_of_member};
 use c_syntax::{BinOp, CType, Expr, ExprKind, UnOp, Use};
 use mon_syntax::{MonExpr, MonExprKind, MonStmt, MonStmtKind, MonType, Registers};

@@ -1,16 +1,25 @@
 -- A type that passes a limit is a fault besides those that are there.
-use Rattle.std.proofs.Common.{◌≡◌, refl, sym, subst, Bool, true, false, Result, Ok, Err}
+use Rattle.std.proofs.Common.{◌≡◌, refl, sym, subst, cond, Bool, true, false, Result, Ok, Err}
+use Rattle.c_syntax.specs.RefusalCodes.{limit_code}
 use Rattle.c_syntax.specs.declared.place.Place.{Place}
 use Rattle.c_syntax.specs.Ctypes.{PlainType}
 use Rattle.c_syntax.specs.Expressions.{Expression, type_of}
 use Rattle.c_model.specs.Checked.{Fault, Checked, Good, Bad, one_part, both_parts, faulty, where_so}
 use Rattle.c_model.specs.ExpressionTyping.{Sight, Sized, HasSize, HasNoSize, NotYet, besides, element_type, is_within_limits, limited, no_name, no_type, sized, too_large}
-use Rattle.c_expression_rules.specs.declared.fault.TypeFault.{TypeFault}
-use Rattle.c_expression_rules.specs.declared.fault.TypeFault.TheVariants.{Refused, Memory}
-use Rattle.c_expression_rules.specs.Answers.{Answers, IfTold, both}
+use Rattle.c_scopes.specs.declared.fault.TypeFault.{TypeFault}
+use Rattle.c_scopes.specs.declared.fault.TypeFault.TheVariants.{Refused, Memory}
+use Rattle.c_scopes.specs.Answers.{Answers, IfTold, both}
 use Rattle.c_expression_rules.specs.Operators.{has_size}
-use Rattle.c_expression_rules.specs.Structs.{within_limits}
-use Rattle.c_expression_rules.proofs.Least.{both_made}
+use Rattle.c_expression_rules.specs.Structs.{limit_answer, within_limits}
+use Rattle.c_scopes.proofs.Least.{both_made}
+
+-- whether a type passes a limit is answered so
+pub limit_is : (s : Sight) (at : Place) (t : PlainType) → Answers (λ (u : Unit {0}). u) (within_limits s at t) (limit_answer s at t)
+limit_is s at t = by (is_within_limits s t)
+  where
+    by : (fits : Bool) → Answers (λ (u : Unit {0}). u) (where_so fits (too_large at) (Good tt)) (cond fits (Ok tt) (Err (Refused (record { code = limit_code; place = at }))))
+    by true = refl
+    by false = refl
 
 besides_is : {A : Type 0} (fits : Bool) (f : Fault) (c : Checked A) → besides fits f c ≡ both_parts c (where_so fits f (Good tt)) (λ a (u : Unit {0}). Good a)
 besides_is true f (Good a) = refl

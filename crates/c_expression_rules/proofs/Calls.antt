@@ -7,8 +7,8 @@ use Rattle.c_syntax.specs.Ctypes.{plain_type}
 use Rattle.c_syntax.specs.Expressions.{Node, Call, plain_exprs}
 use Rattle.c_model.specs.Checked.{Good, where_so, refusing}
 use Rattle.c_model.specs.ExpressionTyping.{call, argument_count, no_type, use_as}
-use Rattle.c_expression_rules.specs.declared.signature.Signature.{Signature}
-use Rattle.c_expression_rules.specs.Signatures.{plain_signature}
+use Rattle.c_scopes.specs.declared.signature.Signature.{Signature}
+use Rattle.c_scopes.specs.Signatures.{plain_signature}
 
 count_is : (xs : List Expr) → argument_count (plain_exprs xs) ≡ length xs
 count_is [] = refl

@@ -9,9 +9,9 @@ use Rattle.c_model.specs.Integers.{integer_type}
 use Rattle.c_model.specs.Library.{is_there}
 use Rattle.c_model.specs.Checked.{Checked, Good, faulty, given, one_part, where_so}
 use Rattle.c_model.specs.ExpressionTyping.{Sight, Sized, HasSize, HasNoSize, NotYet, operated_in_place, is_place, is_step, is_void, no_name, no_type, pointed, sized, where_elements, where_sized}
-use Rattle.c_expression_rules.specs.declared.fault.TypeFault.{TypeFault}
-use Rattle.c_expression_rules.specs.Answers.{Answers}
-use Rattle.c_expression_rules.proofs.Least.{one_refused}
+use Rattle.c_scopes.specs.declared.fault.TypeFault.{TypeFault}
+use Rattle.c_scopes.specs.Answers.{Answers}
+use Rattle.c_scopes.proofs.Least.{one_refused}
 use Rattle.c_expression_rules.specs.Operators.{compoundable, has_elements, has_size}
 
 module _ {A : Type 0} (s : Sight) (at : Place) (t : PlainType) (c : Checked A)

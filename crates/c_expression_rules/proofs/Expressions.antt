@@ -14,14 +14,14 @@ use Rattle.c_syntax.specs.Expressions.{Bump, Call, Cast, SizeOfType, SizeOfExpr,
 use Rattle.c_model.specs.Checked.{Fault, Checked, Good, Bad, one_part, both_parts, refusing}
 use Rattle.c_model.specs.ExpressionTyping as plain
 use Rattle.c_model.specs.ExpressionTyping.{Sight, typed, typed_arguments, argument_for, first_type, rest_types, callee, call, params_of, two, decayed_of}
-use Rattle.c_expression_rules.specs.declared.fault.TypeFault.{TypeFault}
-use Rattle.c_expression_rules.specs.declared.fault.TypeFault.TheVariants.{Refused, Memory}
-use Rattle.c_expression_rules.specs.declared.signature.Signature.{Signature}
-use Rattle.c_expression_rules.specs.Answers.{Answers, both, lesser_of, plain_fault}
+use Rattle.c_scopes.specs.declared.fault.TypeFault.{TypeFault}
+use Rattle.c_scopes.specs.declared.fault.TypeFault.TheVariants.{Refused, Memory}
+use Rattle.c_scopes.specs.declared.signature.Signature.{Signature}
+use Rattle.c_scopes.specs.Answers.{Answers, both, lesser_of, plain_fault}
 use Rattle.c_expression_rules.specs.Callees.{known_params}
 use Rattle.c_expression_rules.specs.Forms.{typed_call, typed_call_parts, typed_kind, typed_two}
-use Rattle.c_expression_rules.specs.Signatures.{plain_signature}
-use Rattle.c_expression_rules.proofs.Least.{both_refused}
+use Rattle.c_scopes.specs.Signatures.{plain_signature}
+use Rattle.c_scopes.proofs.Least.{both_refused}
 
 -- ---- the parts of an expression, and what is demanded of them
 

@@ -11,7 +11,7 @@ use Rattle.c_model.specs.Memory.{Value, Integer}
 use Rattle.c_model.specs.State.{End, Outcome, Normal, Stop, Evaluation, ◌>>=◌, on_outcome, give, defined, tested}
 use Rattle.c_model.specs.Meaning.{Tables, address, choose, converted, eval_with, is_array, place_with, truth_value}
 use Rattle.c_model.specs.ExpressionTyping.{Sight, constant, tables_in, no_callee, nowhere, integer_at, integer_value, is_constant, is_other, is_zero, most_bytes}
-use Rattle.c_expression_rules.specs.Limits.{small}
+use Rattle.c_scopes.specs.Limits.{small}
 use Rattle.c_expression_rules.specs.Constants.{from, is_nought, untrue, true_of, converted_to, folded, has_small_sizes}
 
 -- an evaluation that gives this integer, or stops

@@ -1,17 +1,5 @@
-pub mod InPlace
-pub mod Least
-pub mod Lists
-pub mod BlockItems
-pub mod Newest
 pub mod Gives
-pub mod Firsts
-pub mod Named
-pub mod Tags
-pub mod Wrapped
-pub mod Bitwise
-pub mod Shifts
 pub mod Folding
-pub mod Told
 pub mod Besides
 pub mod Small
 pub mod Demands

@@ -4,8 +4,8 @@ use Rattle.c_syntax.specs.declared.place.Place.{Place}
 use Rattle.c_syntax.specs.Ctypes.{PlainType, plain_type}
 use Rattle.c_model.specs.Checked.{Checked, Good, where_so}
 use Rattle.c_model.specs.ExpressionTyping as plain
-use Rattle.c_expression_rules.specs.declared.fault.TypeFault.{TypeFault}
-use Rattle.c_expression_rules.specs.declared.signature.Signature.{Signature}
+use Rattle.c_scopes.specs.declared.fault.TypeFault.{TypeFault}
+use Rattle.c_scopes.specs.declared.signature.Signature.{Signature}
 
 -- the parameters' types of a callee, and none where it has a fault
 abbrev pub known_params : Result Signature TypeFault → List PlainType

@@ -11,7 +11,7 @@ use Rattle.c_syntax.specs.Layouts.{size_of}
 use Rattle.c_model.specs.Integers.{convert, integer_type, operate, operate_one, truth}
 use Rattle.c_model.specs.Meaning.{is_array}
 use Rattle.c_model.specs.ExpressionTyping.{most_bytes}
-use Rattle.c_expression_rules.specs.Limits.{small}
+use Rattle.c_scopes.specs.Limits.{small}
 
 -- goes on with a value that is there
 abbrev pub from : Option ℤ → (ℤ → Option ℤ) → Option ℤ

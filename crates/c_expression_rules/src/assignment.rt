@@ -5,17 +5,17 @@ ghost use Rattle.c_syntax.specs.Ctypes.{plain_type};
 ghost use Rattle.c_syntax.specs.Expressions.{Assign, Cast, Node, plain_expr};
 ghost use Rattle.c_model.specs.ExpressionTyping.{argument, argument_for, assign, assigned, assigned_scalar};
 ghost use Rattle.c_model.specs.ExpressionTyping.{assigned_struct, cast, first_type, is_assigned, is_cast};
-ghost use Rattle.c_expression_rules.specs.Answers.{Answers};
+ghost use Rattle.c_scopes.specs.Answers.{Answers};
+ghost use Rattle.c_scopes.specs.Sights.{plain_sight};
 ghost use Rattle.c_expression_rules.specs.Constants.{has_small_sizes};
-ghost use Rattle.c_expression_rules.specs.Sights.{plain_sight};
 
 use crate::constant::is_null;
-use crate::conversion::{
+use crate::operator::{compounded, has_size, in_type, is_place};
+use c_conversions::conversion::{
     are_compatible, are_integers, is_pointer, is_scalar, is_struct, is_void, same_type,
 };
-use crate::fault::{TypeFault, no_type};
-use crate::operator::{compounded, has_size, in_type, is_place};
-use crate::sight::Sight;
+use c_scopes::fault::{TypeFault, no_type};
+use c_scopes::sight::Sight;
 use c_syntax::copy::copy_type;
 use c_syntax::{BinOp, CType, Expr, Place};
 use std::alloc::Global;

@@ -1,23 +1,23 @@
 //! Operators on two values, and choices between them (C99 6.5.5 to 6.5.12, 6.5.15).
 
-ghost use Rattle.std.specs.Prelude.{◌≡◌, IfOk, option_map, true};
+ghost use Rattle.std.specs.Prelude.{◌≡◌, IfOk, OnOk, option_map, true};
 ghost use Rattle.c_syntax.specs.Ctypes.{plain_type};
 ghost use Rattle.c_syntax.specs.Expressions.{Binary, Choice, Node, plain_expr, type_of};
 ghost use Rattle.c_model.specs.Checked.{given};
-ghost use Rattle.c_model.specs.ExpressionTyping.{binary, choice_of, choice_type, no_type, on_integer_and_pointer, on_pointer_and_integer};
+ghost use Rattle.c_model.specs.ExpressionTyping.{binary, choice_of, choice_type, in_type, no_type, on_integer_and_pointer, on_pointer_and_integer};
 ghost use Rattle.c_model.specs.ExpressionTyping.{on_pointers, operated, pointed, pointer_choice};
-ghost use Rattle.c_expression_rules.specs.Answers.{Answers};
+ghost use Rattle.c_scopes.specs.Answers.{Answers};
+ghost use Rattle.c_scopes.specs.Sights.{plain_sight};
 ghost use Rattle.c_expression_rules.specs.Constants.{has_small_sizes};
-ghost use Rattle.c_expression_rules.specs.Sights.{plain_sight};
 
 use crate::constant::is_null;
-use crate::conversion::{
+use crate::operator::{elements, in_type, knows_elements, on_integers, on_pointers};
+use c_conversions::conversion::{
     are_compatible, common, integer_type, is_equality, is_pointer, is_scalar, is_step, is_void,
     pointed, points_to_void,
 };
-use crate::fault::{TypeFault, no_name, no_type};
-use crate::operator::{elements, in_type, knows_elements, on_integers, on_pointers};
-use crate::sight::Sight;
+use c_scopes::fault::{TypeFault, no_name, no_type};
+use c_scopes::sight::Sight;
 use c_syntax::copy::copy_type;
 use c_syntax::{BinOp, CInt, CType, Expr, Place};
 use std::alloc::{AllocError, Global};
@@ -211,6 +211,15 @@ fn choice_type(
     }
 }
 
+/// Puts both operands of a choice in its type.
+fn in_choice(alloc: Global, ctype: &CType, b: &mut Expr, c: &mut Expr) -> Result<(), AllocError>
+    ensures first { OnOk result (plain_expr b.new ≡ in_type (plain_type ctype.now) (plain_expr b.old)) }
+    ensures second { OnOk result (plain_expr c.new ≡ in_type (plain_type ctype.now) (plain_expr c.old)) }
+{
+    in_type(alloc, ctype, b)?;
+    in_type(alloc, ctype, c)
+}
+
 /// `a ? b : c` (C99 6.5.15).
 pub fn choice_of(
     alloc: Global,
@@ -231,8 +240,7 @@ pub fn choice_of(
     match choice_type(alloc, sight, b, c)? {
         None => Err(no_type(place)),
         Some(ctype) => {
-            in_type(alloc, &ctype, b)?;
-            in_type(alloc, &ctype, c)?;
+            in_choice(alloc, &ctype, b, c)?;
             Ok(ctype)
         }
     }

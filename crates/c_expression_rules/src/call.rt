@@ -1,23 +1,23 @@
 //! Names and calls (C99 6.5.1, 6.5.2.2), and members of structs (C99 6.5.2.3).
 
-ghost use Rattle.std.specs.Prelude.{◌≡◌, ℕ, IfErr, IfOk, map};
+ghost use Rattle.std.specs.Prelude.{◌≡◌, ℕ, [], ◌∷◌, IfErr, IfOk, map};
 ghost use Rattle.c_syntax.specs.Ctypes.{Ptr, Void, plain_type};
 ghost use Rattle.c_syntax.specs.Expressions.{Arrow, Call, Dot, Node, plain_expr, plain_exprs, plain_kind};
 ghost use Rattle.c_model.specs.Checked.{one_part};
 ghost use Rattle.c_model.specs.ExpressionTyping.{arrow, call, callee, dot, is_null_word, library_name, member, typed_name, no_function, use_as};
-ghost use Rattle.c_expression_rules.specs.Answers.{Answers, IsRefusal};
+ghost use Rattle.c_scopes.specs.Answers.{Answers, IsRefusal};
+ghost use Rattle.c_scopes.specs.Library.{signature_of};
+ghost use Rattle.c_scopes.specs.Signatures.{plain_signature};
+ghost use Rattle.c_scopes.specs.Sights.{plain_sight};
 ghost use Rattle.c_expression_rules.specs.Callees.{callable, known_params, library_callee};
-ghost use Rattle.c_expression_rules.specs.Library.{signature_of};
-ghost use Rattle.c_expression_rules.specs.Signatures.{plain_signature};
-ghost use Rattle.c_expression_rules.specs.Sights.{plain_sight};
 
-use crate::conversion::{is_struct, pointed};
-use crate::entity::Entity;
-use crate::fault::{TypeFault, no_name, no_type};
-use crate::library::{LibraryFunction, library_constant, library_function};
 use crate::operator::{has_size, put};
-use crate::sight::{Sight, name_at};
-use crate::signature::{Signature, copy_signature};
+use c_conversions::conversion::{is_struct, pointed};
+use c_scopes::entity::Entity;
+use c_scopes::fault::{TypeFault, no_name, no_type};
+use c_scopes::library::{LibraryFunction, library_constant, library_function};
+use c_scopes::sight::{Sight, name_at};
+use c_scopes::signature::{Signature, copy_signature};
 use c_syntax::copy::copy_type;
 use c_syntax::layout::{member_among, members_of};
 use c_syntax::{CInt, CType, Expr, ExprKind, Place, Use};
@@ -101,18 +101,29 @@ pub fn mean(
     }
 }
 
+/// A type alone.
+fn one_type(alloc: Global, t: CType) -> Result<Vec<CType>, AllocError>
+    ensures { IfOk result (λ ts. map plain_type ts.items ≡ plain_type t ∷ []) }
+{
+    Ok(vec![in alloc; t]?)
+}
+
 /// The types of the parameters of a function of the library.
 fn library_params(alloc: Global, f: LibraryFunction) -> Result<Vec<CType>, AllocError>
     ensures { (x : ℕ) → IfOk result (λ ts. map plain_type ts.items ≡ (signature_of x f).params) }
 {
-    let params = match f {
-        LibraryFunction::Getchar => Vec::new(alloc),
-        LibraryFunction::Putchar | LibraryFunction::Exit => vec![in alloc; CType::Int(CInt::I32)]?,
-        LibraryFunction::Malloc => vec![in alloc; CType::Int(CInt::U64)]?,
-        LibraryFunction::Calloc => vec![in alloc; CType::Int(CInt::U64), CType::Int(CInt::U64)]?,
-        LibraryFunction::Free => vec![in alloc; pointer_to_void(alloc)?]?,
-    };
-    Ok(params)
+    match f {
+        LibraryFunction::Getchar => Ok(Vec::new(alloc)),
+        LibraryFunction::Putchar | LibraryFunction::Exit => one_type(alloc, CType::Int(CInt::I32)),
+        LibraryFunction::Malloc => one_type(alloc, CType::Int(CInt::U64)),
+        LibraryFunction::Calloc => {
+            Ok(vec![in alloc; CType::Int(CInt::U64), CType::Int(CInt::U64)]?)
+        }
+        LibraryFunction::Free => {
+            let t = pointer_to_void(alloc)?;
+            one_type(alloc, t)
+        }
+    }
 }
 
 /// The type of what a function of the library gives.

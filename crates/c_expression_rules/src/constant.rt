@@ -1,19 +1,19 @@
 //! Constant expressions (C99 6.6).
 
-ghost use Rattle.std.specs.Prelude.{◌≡◌, ◌&&◌, map, option_map, pos, true};
+ghost use Rattle.std.specs.Prelude.{◌≡◌, ◌&&◌, cond, map, true};
 ghost use Rattle.c_syntax.specs.Ctypes.{plain_type};
 ghost use Rattle.c_syntax.specs.Expressions.{plain_expr};
 ghost use Rattle.c_syntax.specs.Programs.{plain_layout};
-ghost use Rattle.c_model.specs.Integers.{integer_type};
+ghost use Rattle.c_model.specs.Integers.{operate};
 ghost use Rattle.c_model.specs.ExpressionTyping.{constant, is_constant, is_constant_operator, is_null, is_null_name, is_other, is_zero, tables_in};
-ghost use Rattle.c_expression_rules.specs.Constants.{converted_to, folded, from, has_small_sizes, one, size_number, true_of};
-ghost use Rattle.c_expression_rules.specs.Sights.{plain_sight};
+ghost use Rattle.c_scopes.specs.Sights.{plain_sight};
+ghost use Rattle.c_expression_rules.specs.Constants.{converted_to, folded, from, has_small_sizes, is_nought, one, size_number, true_of};
 
-use crate::arithmetic::{convert, operate, operate_one, truth};
-use crate::conversion::{integer_type, is_array};
-use crate::limits::small_size;
-use crate::sight::Sight;
-use c_syntax::{CType, Expr, ExprKind, Layout, UnOp, Use};
+use c_conversions::arithmetic::{convert, operate, operate_one, truth};
+use c_conversions::conversion::{integer_type, is_array};
+use c_scopes::limits::small_size;
+use c_scopes::sight::Sight;
+use c_syntax::{BinOp, CType, Expr, ExprKind, Layout, UnOp, Use};
 
 /// The size of a type, where it is within the limit.
 fn size_in(structs: &[Layout], t: &CType) -> Option<i128>
@@ -75,6 +75,36 @@ fn converted_to(to: &CType, x: Option<i128>) -> Option<i128>
     }
 }
 
+/// An operator on a value that is there.
+fn applied(t: &CType, op: UnOp, x: Option<i128>) -> Option<i128>
+    ensures { result ≡ from x (one (plain_type t.now) op) }
+{
+    match x {
+        None => None,
+        Some(x) => one(t, op, x),
+    }
+}
+
+/// An operator on two values that are there.
+fn operated(t: &CType, op: BinOp, x: Option<i128>, y: Option<i128>) -> Option<i128>
+    ensures { result ≡ from x (λ x. from y (λ y. operate (plain_type t.now) op x y)) }
+{
+    match (x, y) {
+        (Some(x), Some(y)) => operate(t, op, x, y),
+        (None, _) | (Some(_), None) => None,
+    }
+}
+
+/// The value of a choice, by those of its condition and of its operands.
+fn chosen(x: Option<i128>, other: Option<i128>, zero: Option<i128>) -> Option<i128>
+    ensures { result ≡ from x (λ x. cond (is_nought x) zero other) }
+{
+    match x {
+        None => None,
+        Some(x) => { if x == 0 { zero } else { other } }
+    }
+}
+
 /// The value of a constant expression by its forms.
 fn value_of(structs: &[Layout], e: &Expr) -> Option<i128>
     ensures { result ≡ folded (map plain_layout structs.now) (plain_expr e.now) }
@@ -82,44 +112,23 @@ fn value_of(structs: &[Layout], e: &Expr) -> Option<i128>
     match &*e.kind {
         ExprKind::Number(n, _) => Some(*n),
         ExprKind::Letter(n) => Some(i128::from(*n)),
-        ExprKind::Unary(op, a) => match value_of(structs, a) {
-            None => None,
-            Some(x) => one(&e.ctype, *op, x),
-        },
-        ExprKind::Binary(op, a, b) => match (value_of(structs, a), value_of(structs, b)) {
-            (Some(x), Some(y)) => operate(&e.ctype, *op, x, y),
-            (None, _) | (Some(_), None) => None,
-        },
-        ExprKind::Both(a, b) => match value_of(structs, a) {
-            None => None,
-            Some(x) => {
-                if x == 0 {
-                    Some(0)
-                } else {
-                    true_of(value_of(structs, b))
-                }
-            }
-        },
-        ExprKind::Either(a, b) => match value_of(structs, a) {
-            None => None,
-            Some(x) => {
-                if x == 0 {
-                    true_of(value_of(structs, b))
-                } else {
-                    Some(1)
-                }
-            }
-        },
-        ExprKind::Choice(a, b, c) => match value_of(structs, a) {
-            None => None,
-            Some(x) => {
-                if x == 0 {
-                    value_of(structs, c)
-                } else {
-                    value_of(structs, b)
-                }
-            }
-        },
+        ExprKind::Unary(op, a) => applied(&e.ctype, *op, value_of(structs, a)),
+        ExprKind::Binary(op, a, b) => {
+            operated(&e.ctype, *op, value_of(structs, a), value_of(structs, b))
+        }
+        ExprKind::Both(a, b) => {
+            chosen(value_of(structs, a), true_of(value_of(structs, b)), Some(0))
+        }
+        ExprKind::Either(a, b) => {
+            chosen(value_of(structs, a), Some(1), true_of(value_of(structs, b)))
+        }
+        ExprKind::Choice(a, b, c) => {
+            chosen(
+                value_of(structs, a),
+                value_of(structs, b),
+                value_of(structs, c),
+            )
+        }
         ExprKind::Cast(to, a) => {
             if is_array(&a.ctype) {
                 None

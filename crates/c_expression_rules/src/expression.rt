@@ -6,25 +6,25 @@ ghost use Rattle.c_syntax.specs.Expressions.{Call, Cast, Node, SizeOfExpr, SizeO
 ghost use Rattle.c_model.specs.Checked.{one_part};
 ghost use Rattle.c_model.specs.ExpressionTyping.{argument_for, constant, counted, decayed_of, first_type, known_length, known_type, rest_types, typed};
 ghost use Rattle.c_model.specs.ExpressionTyping.{typed_arguments, typed_length, typed_type};
-ghost use Rattle.c_expression_rules.specs.Answers.{Answers, IfTold};
+ghost use Rattle.c_scopes.specs.Answers.{Answers, IfTold};
+ghost use Rattle.c_scopes.specs.Sights.{plain_sight};
 ghost use Rattle.c_expression_rules.specs.Constants.{has_small_sizes};
 ghost use Rattle.c_expression_rules.specs.Forms.{cast_of, cast_parts, size_of_expr, size_of_parts, size_of_written};
 ghost use Rattle.c_expression_rules.specs.Forms.{typed_call, typed_call_parts, typed_elements};
 ghost use Rattle.c_expression_rules.specs.Forms.{typed_after_place, typed_kind, typed_leaf, typed_of_two};
 ghost use Rattle.c_expression_rules.specs.Forms.{typed_one, typed_place_and_value, typed_three, typed_two};
-ghost use Rattle.c_expression_rules.specs.Sights.{plain_sight};
 
 use crate::assignment::{argument_for, assign, cast};
 use crate::binary::{binary, choice_of};
 use crate::call::{arrow, call, callee, dot, known_params, mean};
 use crate::constant::constant;
-use crate::fault::{TypeFault, both, no_name, no_type};
 use crate::operator::{
     bump, decay, has_size, index, literal, size_of_expression, size_of_type, truth_of, unary,
 };
-use crate::sight::Sight;
 use crate::text::text;
-use crate::types::{counted, known_struct, within_limits};
+use crate::types::{counted, known_struct, limited};
+use c_scopes::fault::{TypeFault, both, no_name, no_type};
+use c_scopes::sight::Sight;
 use c_syntax::copy::copy_type;
 use c_syntax::{CInt, CType, Expr, ExprKind, Length, Place, Use};
 use std::alloc::Global;
@@ -272,7 +272,7 @@ fn type_cast(
         (cast_of (plain_sight sight.now) place (plain_type to.old) (plain_expr a.old)) result }
 {
     let parts = type_cast_parts(alloc, sight, place, to, a);
-    both(parts, within_limits(sight, place, to))
+    limited(sight, place, to, parts)
 }
 
 /// Types the type of a `sizeof` (C99 6.5.3.4).
@@ -303,7 +303,7 @@ fn type_size_of_type(
         (size_of_written (plain_sight sight.now) place (plain_type u.old)) result }
 {
     let parts = type_sized_type(alloc, sight, place, u);
-    both(parts, within_limits(sight, place, u))
+    limited(sight, place, u, parts)
 }
 
 /// Types `sizeof` of an expression (C99 6.5.3.4).
@@ -318,10 +318,8 @@ fn type_size_of_expr(
         (size_of_expr (plain_sight sight.now) place (plain_expr a.old)) result }
 {
     type_expr(alloc, sight, a)?;
-    both(
-        size_of_expression(sight, place, a),
-        within_limits(sight, place, &a.ctype),
-    )
+    let size = size_of_expression(sight, place, a);
+    limited(sight, place, &a.ctype, size)
 }
 
 /// Types the arguments of a call, each for its parameter, whether or not its function has a fault.

@@ -11,18 +11,18 @@ ghost use Rattle.c_model.specs.Conversions.{common, is_shift, promoted};
 ghost use Rattle.c_model.specs.ExpressionTyping.{assign, both_of, bump, decayed, either_of, element, in_int, in_type, is_place};
 ghost use Rattle.c_model.specs.ExpressionTyping.{index, knows_elements, on_integers, on_pointers};
 ghost use Rattle.c_model.specs.ExpressionTyping.{points_to_unknown, size_of_expression, size_of_type, unary_on};
-ghost use Rattle.c_expression_rules.specs.Answers.{Answers, IsRefusal};
+ghost use Rattle.c_scopes.specs.Answers.{Answers, IsRefusal};
+ghost use Rattle.c_scopes.specs.Sights.{plain_sight};
 ghost use Rattle.c_expression_rules.specs.Operators.{assigned_with, bumped, compoundable, element_of};
 ghost use Rattle.c_expression_rules.specs.Operators.{pointed_element, has_elements, has_size, indexed_type, typed_literal};
-ghost use Rattle.c_expression_rules.specs.Sights.{plain_sight};
 
-use crate::conversion::{
+use c_conversions::conversion::{
     are_compatible, common, fits, integer_type, is_difference, is_equality, is_relation, is_scalar,
     is_shift, is_step, is_void, pointed, promoted, result_type, same_type,
 };
-use crate::fault::{TypeFault, no_name, no_type};
-use crate::limits::{KnownSize, sized};
-use crate::sight::Sight;
+use c_scopes::fault::{TypeFault, no_name, no_type};
+use c_scopes::limits::{KnownSize, sized};
+use c_scopes::sight::Sight;
 use c_syntax::copy::copy_type;
 use c_syntax::{BinOp, BumpOp, CInt, CType, Expr, ExprKind, Place, UnOp, Use};
 use std::alloc::{AllocError, Global};

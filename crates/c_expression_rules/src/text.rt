@@ -2,30 +2,19 @@
 
 ghost use Rattle.std.specs.Prelude.{◌≡◌, ◌+◌, IfOk};
 ghost use Rattle.c_syntax.specs.Ctypes.{Array, Count, Int, plain_type};
-ghost use Rattle.c_syntax.specs.Expressions.{Node, plain_expr, plain_kind};
+ghost use Rattle.c_syntax.specs.Expressions.{Node, plain_kind};
 ghost use Rattle.c_syntax.specs.declared.types.CInt.TheVariants.{I8};
-ghost use Rattle.c_model.specs.Meaning.{string_in};
 ghost use Rattle.c_model.specs.ExpressionTyping.{text};
-ghost use Rattle.c_expression_rules.specs.Answers.{Answers};
-ghost use Rattle.c_expression_rules.specs.Sights.{plain_sight};
+ghost use Rattle.c_scopes.specs.Answers.{Answers};
+ghost use Rattle.c_scopes.specs.Sights.{plain_sight};
 
-use crate::fault::{TypeFault, no_type};
-use crate::limits::number;
-use crate::literal::literal_at;
 use crate::operator::put;
-use crate::sight::Sight;
-use c_syntax::{CInt, CType, Expr, ExprKind, Length, Place};
+use c_scopes::fault::{TypeFault, no_type};
+use c_scopes::limits::number;
+use c_scopes::literal::literal_at;
+use c_scopes::sight::Sight;
+use c_syntax::{CInt, CType, ExprKind, Length, Place};
 use std::alloc::{AllocError, Global};
-
-/// The number of the string literal that a typed expression is, where it is one.
-pub fn string_in(e: &Expr) -> Option<u32>
-    ensures { result ≡ string_in (plain_expr e.now) }
-{
-    match &*e.kind {
-        ExprKind::Text(n) => Some(*n),
-        _ => None,
-    }
-}
 
 /// The count of bytes with a 0 after them.
 pub fn count_with_zero(n: usize) -> Result<u32, AllocError>

@@ -3,13 +3,13 @@
 ghost use Rattle.std.specs.Prelude.{◌≡◌, IfErr, IfOk};
 ghost use Rattle.c_syntax.specs.Ctypes.{plain_length, plain_type};
 ghost use Rattle.c_model.specs.ExpressionTyping.{counted, known_struct};
-ghost use Rattle.c_expression_rules.specs.Answers.{Answers, IsRefusal};
-ghost use Rattle.c_expression_rules.specs.Sights.{plain_sight};
-ghost use Rattle.c_expression_rules.specs.Structs.{within_limits};
+ghost use Rattle.c_scopes.specs.Answers.{Answers, IsRefusal, both};
+ghost use Rattle.c_scopes.specs.Sights.{plain_sight};
+ghost use Rattle.c_expression_rules.specs.Structs.{limit_answer, within_limits};
 
-use crate::fault::{TypeFault, no_type, too_large};
-use crate::limits::{MOST_ELEMENTS, is_within_limits, number};
-use crate::sight::{Sight, tagged};
+use c_scopes::fault::{TypeFault, both, no_type, too_large};
+use c_scopes::limits::{MOST_ELEMENTS, is_within_limits, number};
+use c_scopes::sight::{Sight, tagged};
 use c_syntax::{CType, Length, Place};
 use std::alloc::AllocError;
 
@@ -40,6 +40,7 @@ pub fn known_struct(sight: &Sight, tag: u32) -> Result<CType, AllocError>
 /// A type that passes no limit (C99 5.2.4.1).
 pub fn within_limits(sight: &Sight, place: Place, t: &CType) -> Result<(), TypeFault>
     ensures checked { Answers (λ u. u) (within_limits (plain_sight sight.now) place (plain_type t.now)) result }
+    ensures is { result ≡ limit_answer (plain_sight sight.now) place (plain_type t.now) }
     ensures sure { IfErr result IsRefusal }
 {
     if is_within_limits(sight, t) {
@@ -47,4 +48,16 @@ pub fn within_limits(sight: &Sight, place: Place, t: &CType) -> Result<(), TypeF
     } else {
         Err(too_large(place))
     }
+}
+
+/// An answer, and whether a type passes a limit, which is a fault besides those that are there, as one.
+pub fn limited<T: Drop>(
+    sight: &Sight,
+    place: Place,
+    t: &CType,
+    answer: Result<T, TypeFault>,
+) -> Result<T, TypeFault>
+    ensures { result ≡ both answer (limit_answer (plain_sight sight.now) place (plain_type t.now)) }
+{
+    both(answer, within_limits(sight, place, t))
 }

@@ -23,7 +23,7 @@ use c_effects::object::{block_of, store};
 use c_effects::scalars::zero_scalars;
 use c_effects::slot::{Part, Slot, farther_by, store_in};
 use c_effects::zeros::{Row, zeros_in};
-use c_expression_rules::text::string_in;
+use c_scopes::literal::string_in;
 use c_syntax::{CType, Decl, Expr, Init, Layout};
 use mon_syntax::{MonStmt, MonType, Registers};
 use std::alloc::{AllocError, Global};

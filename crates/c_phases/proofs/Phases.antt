@@ -8,9 +8,9 @@ use Rattle.c_syntax.specs.Programs.{TranslationUnit}
 use Rattle.c_model.specs.Checked.{Checked, Good}
 use Rattle.c_model.specs.AnnotationTyping.{noted_unit}
 use Rattle.c_model.specs.AnnotationRanges.{ranged_unit}
-use Rattle.c_expression_rules.specs.declared.fault.TypeFault.{TypeFault}
-use Rattle.c_expression_rules.specs.declared.fault.TypeFault.TheVariants as fault
-use Rattle.c_expression_rules.specs.Answers.{plain_fault, Answers}
+use Rattle.c_scopes.specs.declared.fault.TypeFault.{TypeFault}
+use Rattle.c_scopes.specs.declared.fault.TypeFault.TheVariants as fault
+use Rattle.c_scopes.specs.Answers.{plain_fault, Answers}
 use Rattle.c_phases.specs.Facts.{IsTypedProgram, IsNotedProgram, IsRangedProgram}
 use Rattle.c_phases.specs.Answers.{RefusesFault, RefusedBy, IsFaultRefusal}
 

@@ -8,9 +8,9 @@ use Rattle.c_syntax.specs.Programs.{TranslationUnit, PlainRefusal, plain_refusal
 use Rattle.c_model.specs.Checked.{Fault, Checked, refusing}
 use Rattle.c_model.specs.Phases.{checked_refusal}
 use Rattle.token_reader.specs.Answers.{RefusesWith}
-use Rattle.c_expression_rules.specs.declared.fault.TypeFault.{TypeFault}
-use Rattle.c_expression_rules.specs.declared.fault.TypeFault.TheVariants.{Refused, Memory}
-use Rattle.c_expression_rules.specs.Answers.{plain_fault}
+use Rattle.c_scopes.specs.declared.fault.TypeFault.{TypeFault}
+use Rattle.c_scopes.specs.declared.fault.TypeFault.TheVariants.{Refused, Memory}
+use Rattle.c_scopes.specs.Answers.{plain_fault}
 
 -- the refusal for a fault in names and types
 abbrev pub RefusesFault : PlainTokens → TypeFault → FrontFault → Type 0

@@ -3,10 +3,10 @@
 ghost use Rattle.c_syntax.specs.Tokens.{plain_tokens};
 ghost use Rattle.c_model.specs.Phases.{checked_refusal, main_refusal, type_refusal};
 ghost use Rattle.token_reader.specs.Answers.{RefusesWith};
-ghost use Rattle.c_expression_rules.specs.Answers.{plain_fault};
+ghost use Rattle.c_scopes.specs.Answers.{plain_fault};
 ghost use Rattle.c_phases.specs.Answers.{RefusesFault};
 
-use c_expression_rules::fault::{Fault, TypeFault};
+use c_scopes::fault::{Fault, TypeFault};
 use c_syntax::{FrontFault, Tokens, code};
 use std::alloc::Global;
 use token_reader::refusal::{refused, refused_at_place};

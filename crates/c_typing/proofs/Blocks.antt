@@ -7,9 +7,9 @@ use Rattle.c_syntax.specs.Statements.{Declaration, BlockItem, Declare, Specify, 
 use Rattle.c_model.specs.ExpressionTyping.{Sight, Entity, inner, with_object, with_objects, AnObject}
 use Rattle.c_model.specs.StatementTyping.{behind, behind_first}
 use Rattle.c_model.specs.UnitTyping.{with_parameter, with_parameters}
-use Rattle.c_expression_rules.specs.Sights.{left}
+use Rattle.c_scopes.specs.Sights.{left}
 use Rattle.c_typing.specs.Blocks.{behind_items}
-use Rattle.c_expression_rules.proofs.BlockItems.{append, plain_snoc}
+use Rattle.c_scopes.proofs.BlockItems.{append, plain_snoc}
 
 behind_snoc : (s : Sight) (is : BlockItems) (i : BlockItem) → behind_items s (append is (Then i NoItem)) ≡ behind (behind_items s is) i
 behind_snoc s NoItem i = refl

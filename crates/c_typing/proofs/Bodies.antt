@@ -13,12 +13,12 @@ use Rattle.c_model.specs.ExpressionTyping.{Sight}
 use Rattle.c_model.specs.StatementTyping.{typed_items}
 use Rattle.c_model.specs.UnitTyping.{typed_body}
 use Rattle.c_model.specs.AnnotationTyping.{noted_body, noted_items}
-use Rattle.c_expression_rules.specs.declared.fault.TypeFault.{TypeFault}
-use Rattle.c_expression_rules.specs.Answers.{Answers}
-use Rattle.c_expression_rules.specs.Sights.{left}
+use Rattle.c_scopes.specs.declared.fault.TypeFault.{TypeFault}
+use Rattle.c_scopes.specs.Answers.{Answers}
+use Rattle.c_scopes.specs.Sights.{left}
 use Rattle.c_typing.specs.Blocks.{behind_items}
 use Rattle.c_model.specs.TypedTrees.{around_body}
-use Rattle.c_expression_rules.proofs.Lists.{made_of}
+use Rattle.c_scopes.proofs.Lists.{made_of}
 use Rattle.c_typing.proofs.Blocks.{left_body}
 
 module _ (s u v : Sight) (count innermost : ℕ) (is : BlockItems) (counted : count ≡ length s.entities) (kept : innermost ≡ s.innermost) (sight : u ≡ behind_items s is) (ends : v ≡ left count innermost u)

@@ -7,9 +7,9 @@ use Rattle.c_model.specs.Checked.{Good}
 use Rattle.c_model.specs.ExpressionTyping.{Sight, with_object, with_objects}
 use Rattle.c_model.specs.DeclarationTyping.{typed_variable}
 use Rattle.c_model.specs.StatementTyping.{typed_declarations}
-use Rattle.c_expression_rules.specs.declared.fault.TypeFault.{TypeFault}
-use Rattle.c_expression_rules.specs.Answers.{Answers}
-use Rattle.c_expression_rules.proofs.Lists.{behind_parts, part_refused, list_more}
+use Rattle.c_scopes.specs.declared.fault.TypeFault.{TypeFault}
+use Rattle.c_scopes.specs.Answers.{Answers}
+use Rattle.c_scopes.proofs.Lists.{behind_parts, part_refused, list_more}
 
 with_objects_snoc : (s : Sight) (ds : List Declaration) (d : Declaration) → with_objects s (ds ++ d ∷ []) ≡ with_object (with_objects s ds) d
 with_objects_snoc s [] d = refl

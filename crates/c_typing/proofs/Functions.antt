@@ -10,9 +10,9 @@ use Rattle.c_model.specs.ExpressionTyping.{no_name, inner, Sight, function_calle
 use Rattle.c_model.specs.DeclarationTyping.{typed_result}
 use Rattle.c_model.specs.UnitTyping as unit
 use Rattle.c_model.specs.UnitTyping.{signature, is_compatible_with_all, function_name, typed_parameters, typed_function}
-use Rattle.c_expression_rules.specs.declared.fault.TypeFault.{TypeFault}
-use Rattle.c_expression_rules.specs.Answers.{Answers, both}
-use Rattle.c_expression_rules.proofs.Least.{both_refused}
+use Rattle.c_scopes.specs.declared.fault.TypeFault.{TypeFault}
+use Rattle.c_scopes.specs.Answers.{Answers, both}
+use Rattle.c_scopes.proofs.Least.{both_refused}
 use Rattle.c_typing.specs.declared.heading.Noted.{Noted}
 use Rattle.c_typing.specs.Functions.{denoted, known, with_known, fits_earlier, fits_in, fitting, fitting_type_by, with_function_by, names_behind, typed_parts, function_in_turn}
 use Rattle.c_typing.proofs.Headings.{declared_is, known_snoc, fits_is}

@@ -9,9 +9,9 @@ use Rattle.c_model.specs.DeclarationTyping.{typed_enumerators, typed_global, typ
 use Rattle.c_model.specs.UnitTyping.{with_type}
 use Rattle.c_model.proofs.TypedBelow.{enumerators_structs}
 use Rattle.c_model.proofs.TypedParts.{Gives}
-use Rattle.c_expression_rules.specs.declared.fault.TypeFault.{TypeFault}
-use Rattle.c_expression_rules.specs.Answers.{Answers}
-use Rattle.c_expression_rules.proofs.Least.{one_refused}
+use Rattle.c_scopes.specs.declared.fault.TypeFault.{TypeFault}
+use Rattle.c_scopes.specs.Answers.{Answers}
+use Rattle.c_scopes.proofs.Least.{one_refused}
 use Rattle.c_declaration_rules.specs.declared.open_struct.OpenStructs.{OpenStructs}
 use Rattle.c_declaration_rules.specs.OpenStructs.{IsOpen}
 use Rattle.c_typing.specs.declared.heading.Callee.{Callee}

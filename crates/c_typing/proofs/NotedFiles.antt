@@ -9,10 +9,10 @@ use Rattle.c_model.specs.DeclarationTyping.{with_enumerator}
 use Rattle.c_model.specs.UnitTyping as unit
 use Rattle.c_model.specs.UnitTyping.{FileItem, StructHead, Member, AnEnum, ATypedef, AGlobal, AFunction, offset_of_item, member_items, struct_items, inserted, in_order, items_of_file, sight_with, value_typed, with_enumerators, behind_enum}
 use Rattle.c_model.specs.AnnotationTyping.{noted_function, noted_functions, noted_unit}
-use Rattle.c_expression_rules.specs.declared.fault.TypeFault.{TypeFault}
-use Rattle.c_expression_rules.specs.Answers.{Answers}
+use Rattle.c_scopes.specs.declared.fault.TypeFault.{TypeFault}
+use Rattle.c_scopes.specs.Answers.{Answers}
 use Rattle.c_expression_rules.proofs.Gives.{Gives, gives_of}
-use Rattle.c_expression_rules.proofs.Least.{one_refused}
+use Rattle.c_scopes.proofs.Least.{one_refused}
 use Rattle.c_typing.specs.declared.heading.Callee.{Callee}
 use Rattle.c_typing.specs.Functions.{denoted, with_function_by}
 use Rattle.c_typing.specs.Files.{among, enum_of, typedef_of, global_of, function_of, kinds, without_sight, without_kinds, Finished}

@@ -12,10 +12,10 @@ use Rattle.c_model.specs.Checked.{Checked, Good}
 use Rattle.c_model.specs.ExpressionTyping.{Sight, inner}
 use Rattle.c_model.specs.StatementTyping.{behind}
 use Rattle.c_model.specs.AnnotationTyping.{noted_statement, noted_item, noted_items}
-use Rattle.c_expression_rules.specs.declared.fault.TypeFault.{TypeFault}
-use Rattle.c_expression_rules.specs.Answers.{Answers}
-use Rattle.c_expression_rules.proofs.Lists.{made_of}
-use Rattle.c_expression_rules.proofs.BlockItems.{behind_block, all_items, items_more}
+use Rattle.c_scopes.specs.declared.fault.TypeFault.{TypeFault}
+use Rattle.c_scopes.specs.Answers.{Answers}
+use Rattle.c_scopes.proofs.Lists.{made_of}
+use Rattle.c_scopes.proofs.BlockItems.{behind_block, all_items, items_more}
 
 module _ (s : Sight) (at : Place) (k : StmtKind)
   where

@@ -7,9 +7,9 @@ use Rattle.c_model.specs.Checked.{Good}
 use Rattle.c_model.specs.ExpressionTyping.{Sight}
 use Rattle.c_model.specs.DeclarationTyping.{typed_parameter}
 use Rattle.c_model.specs.UnitTyping.{typed_parameters, with_parameter, with_parameters}
-use Rattle.c_expression_rules.specs.declared.fault.TypeFault.{TypeFault}
-use Rattle.c_expression_rules.specs.Answers.{Answers}
-use Rattle.c_expression_rules.proofs.Lists.{behind_parts, part_refused, list_more}
+use Rattle.c_scopes.specs.declared.fault.TypeFault.{TypeFault}
+use Rattle.c_scopes.specs.Answers.{Answers}
+use Rattle.c_scopes.proofs.Lists.{behind_parts, part_refused, list_more}
 
 with_parameters_snoc : (s : Sight) (ds : List Declaration) (d : Declaration) → with_parameters s (ds ++ d ∷ []) ≡ with_parameter (with_parameters s ds) d
 with_parameters_snoc s [] d = refl

@@ -5,7 +5,7 @@ use Rattle.c_syntax.specs.declared.refusal.FrontFault.{FrontFault}
 use Rattle.c_syntax.specs.declared.refusal.FrontFault.TheVariants as front
 use Rattle.c_syntax.specs.Tokens.{PlainTokens}
 use Rattle.c_syntax.specs.Programs.{TranslationUnit}
-use Rattle.c_expression_rules.specs.Answers.{plain_fault}
+use Rattle.c_scopes.specs.Answers.{plain_fault}
 use Rattle.c_phases.specs.Facts.{IsParsedTree, IsTypedProgram}
 use Rattle.c_phases.specs.Answers.{RefusedBy}
 use Rattle.c_typing.specs.declared.checked.ProgramFault.{ProgramFault}

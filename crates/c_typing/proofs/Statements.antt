@@ -15,13 +15,13 @@ use Rattle.c_model.specs.Checked.{Checked, Good, one_part}
 use Rattle.c_model.specs.ExpressionTyping.{Sight, inner}
 use Rattle.c_model.specs.StatementTyping.{typed_items, Around, in_loop, behind, behind_first, typed_condition, typed_statement, typed_item}
 use Rattle.c_model.specs.UnitTyping.{with_parameters}
-use Rattle.c_expression_rules.specs.declared.fault.TypeFault.{TypeFault}
-use Rattle.c_expression_rules.specs.Answers.{Answers}
-use Rattle.c_expression_rules.specs.Sights.{left}
+use Rattle.c_scopes.specs.declared.fault.TypeFault.{TypeFault}
+use Rattle.c_scopes.specs.Answers.{Answers}
+use Rattle.c_scopes.specs.Sights.{left}
 use Rattle.c_typing.specs.Blocks.{behind_items}
 use Rattle.c_typing.specs.Trees.{plain_for_first}
-use Rattle.c_expression_rules.proofs.Lists.{made_of}
-use Rattle.c_expression_rules.proofs.BlockItems.{behind_block, all_items, items_more}
+use Rattle.c_scopes.proofs.Lists.{made_of}
+use Rattle.c_scopes.proofs.BlockItems.{behind_block, all_items, items_more}
 use Rattle.c_typing.proofs.Blocks.{left_block, left_for, left_parameters}
 
 module _ (s : Sight) (r : Around) (at : Place) (k : StmtKind)

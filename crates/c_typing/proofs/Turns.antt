@@ -13,10 +13,10 @@ use Rattle.c_model.specs.DeclarationTyping.{own_name, is_declared_in_file, typed
 use Rattle.c_model.specs.UnitTyping as unit
 use Rattle.c_model.specs.UnitTyping.{FileItem, StructHead, Member, AnEnum, ATypedef, AGlobal, AFunction, Progress, typed_item_of_file, typed_items_of_file, first_sight, items_of_file, with_progress, typed_unit, new_tag}
 use Rattle.c_declaration_rules.specs.Members.{member_typed}
-use Rattle.c_expression_rules.specs.declared.fault.TypeFault.{TypeFault}
-use Rattle.c_expression_rules.specs.Answers.{Answers}
+use Rattle.c_scopes.specs.declared.fault.TypeFault.{TypeFault}
+use Rattle.c_scopes.specs.Answers.{Answers}
 use Rattle.c_expression_rules.proofs.Gives.{Gives, gives_of}
-use Rattle.c_expression_rules.proofs.Least.{one_refused}
+use Rattle.c_scopes.proofs.Least.{one_refused}
 use Rattle.c_typing.specs.declared.heading.Callee.{Callee}
 use Rattle.c_typing.specs.declared.item.FileItem as code
 use Rattle.c_typing.specs.Functions.{denoted, with_function_by, names_behind, function_in_turn}

@@ -9,7 +9,7 @@ use Rattle.c_model.specs.Checked.{Fault, Good, refusing}
 use Rattle.c_model.specs.UnitTyping.{typed_unit, room_fault, main_fault}
 use Rattle.c_model.specs.Phases.{checked_refusal, main_refusal}
 use Rattle.token_reader.specs.Answers.{RefusesWith}
-use Rattle.c_expression_rules.specs.Answers.{plain_fault}
+use Rattle.c_scopes.specs.Answers.{plain_fault}
 use Rattle.c_typing.specs.declared.checked.ProgramFault.{ProgramFault}
 use Rattle.c_typing.specs.declared.checked.ProgramFault.TheVariants as cause
 

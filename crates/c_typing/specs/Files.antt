@@ -9,9 +9,9 @@ use Rattle.c_model.specs.ExpressionTyping.{Sight, with_object}
 use Rattle.c_model.specs.DeclarationTyping.{typed_global, typed_typedef, typed_enumerators}
 use Rattle.c_model.specs.UnitTyping.{FileItem, StructHead, Member, AnEnum, ATypedef, AGlobal, AFunction, new_tag, with_tag, with_type, unknown, sight_with}
 use Rattle.c_declaration_rules.specs.Members.{member_typed}
-use Rattle.c_expression_rules.specs.declared.fault.TypeFault.{TypeFault}
-use Rattle.c_expression_rules.specs.declared.fault.TypeFault.TheVariants.{Memory}
-use Rattle.c_expression_rules.specs.Sights.{plain_sight}
+use Rattle.c_scopes.specs.declared.fault.TypeFault.{TypeFault}
+use Rattle.c_scopes.specs.declared.fault.TypeFault.TheVariants.{Memory}
+use Rattle.c_scopes.specs.Sights.{plain_sight}
 use Rattle.c_typing.specs.declared.heading.Callee.{Callee}
 use Rattle.c_typing.specs.declared.heading.Noted.{Noted}
 use Rattle.c_typing.specs.declared.item.FileItem as code

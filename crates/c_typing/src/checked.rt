@@ -5,7 +5,7 @@ ghost use Rattle.c_syntax.specs.Tokens.{plain_tokens};
 ghost use Rattle.c_phases.specs.Facts.{IsTypedProgram};
 ghost use Rattle.c_typing.specs.Standing.{Stands, Stands-prop};
 
-use c_expression_rules::Fault;
+use c_scopes::Fault;
 use c_syntax::{Program, Tokens};
 
 /// The program of a text, whose C has names and types, whose globals and literals have room, and which has `main`, with its tokens. What it

@@ -1,11 +1,11 @@
 //! Names and types of a file (C99 6.2.1, 6.9).
 
 ghost use Rattle.std.specs.Prelude.{◌≡◌, [], IfOk, OnOk, map, nat_eq};
-ghost use Rattle.indexmap.specs.IndexMap.{get};
 ghost use Rattle.c_syntax.specs.Programs.{plain_enum, plain_layout, plain_member, plain_program};
 ghost use Rattle.c_model.specs.UnitTyping.{levels_from, levels_with, tags_of, typed_unit};
-ghost use Rattle.c_expression_rules.specs.Answers.{Answers};
-ghost use Rattle.c_expression_rules.specs.Sights.{plain_sight};
+ghost use Rattle.c_scopes.specs.Answers.{Answers};
+ghost use Rattle.c_scopes.specs.Sights.{plain_sight};
+ghost use Rattle.indexmap.specs.IndexMap.{get};
 ghost use Rattle.c_typing.specs.Files.{Finished, all_kept, course_at, first_in, items_in_turn, plain_course, plain_file_item, with_sight, without_sight};
 
 use crate::heading::{Callee, denoted};
@@ -13,13 +13,13 @@ use crate::item::{Course, FileItem, add_tag, type_item};
 use crate::order::{put_items, take_items};
 use c_declaration_rules::layout::{greater, levels_of, more};
 use c_declaration_rules::open_struct::OpenStructs;
-use c_expression_rules::entities::Entities;
-use c_expression_rules::fault::TypeFault;
-use c_expression_rules::literal::{Literals, firsts_of};
-use c_expression_rules::sight::Sight;
-use c_expression_rules::signature::Functions;
-use c_expression_rules::tag::Tags;
-use c_expression_rules::type_name::TypeNames;
+use c_scopes::entities::Entities;
+use c_scopes::fault::TypeFault;
+use c_scopes::literal::{Literals, firsts_of};
+use c_scopes::sight::Sight;
+use c_scopes::signature::Functions;
+use c_scopes::tag::Tags;
+use c_scopes::type_name::TypeNames;
 use c_syntax::{EnumDef, Layout, Member, Program};
 use indexmap::IndexMap;
 use std::alloc::{AllocError, Global};

@@ -1,23 +1,23 @@
 //! Functions (C99 6.9.1).
 
 ghost use Rattle.std.specs.Prelude.{◌≡◌, ℕ, OnOk, Some, nat_eq, option_map};
-ghost use Rattle.indexmap.specs.IndexMap.{get};
 ghost use Rattle.c_syntax.specs.Ctypes.{plain_type};
 ghost use Rattle.c_syntax.specs.declared.place.Place.{Place};
 ghost use Rattle.c_syntax.specs.Statements.{plain_items, plain_stmt, plain_stmt_kind};
 ghost use Rattle.c_syntax.specs.Programs.{plain_func};
 ghost use Rattle.c_model.specs.StatementTyping.{typed_items};
 ghost use Rattle.c_model.specs.UnitTyping.{typed_body};
-ghost use Rattle.c_expression_rules.specs.Answers.{Answers};
-ghost use Rattle.c_expression_rules.specs.Sights.{plain_sight};
 ghost use Rattle.c_model.specs.TypedTrees.{around_body};
+ghost use Rattle.c_scopes.specs.Answers.{Answers};
+ghost use Rattle.c_scopes.specs.Sights.{plain_sight};
+ghost use Rattle.indexmap.specs.IndexMap.{get};
 ghost use Rattle.c_typing.specs.Functions.{function_in_turn, names_behind, typed_parts, with_function_by};
 
 use crate::heading::{Callee, Noted, note_name, see_function, type_heading};
 use crate::parameter::see_parameters;
 use crate::statement::{Around, type_items};
-use c_expression_rules::fault::TypeFault;
-use c_expression_rules::sight::{Sight, enter, leave, mark_here};
+use c_scopes::fault::TypeFault;
+use c_scopes::sight::{Sight, enter, leave, mark_here};
 use c_syntax::{CType, Func, Item, Stmt, StmtKind};
 use indexmap::IndexMap;
 use std::alloc::Global;

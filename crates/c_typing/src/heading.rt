@@ -2,26 +2,26 @@
 //! (C99 6.2.1, 6.7.5.3, 6.9).
 
 ghost use Rattle.std.specs.Prelude.{◌≡◌, ℕ, Err, IfErr, IfOk, Ok, OnOk, map, nat_eq};
-ghost use Rattle.indexmap.specs.IndexMap.{get};
 ghost use Rattle.c_syntax.specs.Ctypes.{plain_type};
 ghost use Rattle.c_syntax.specs.Statements.{plain_decl};
 ghost use Rattle.c_syntax.specs.Programs.{plain_func};
 ghost use Rattle.c_model.specs.ExpressionTyping.{function_called};
 ghost use Rattle.c_model.specs.UnitTyping.{function_name, same_types, types_of};
-ghost use Rattle.c_expression_rules.specs.Answers.{Answers, IsRefusal};
-ghost use Rattle.c_expression_rules.specs.Sights.{plain_sight};
-ghost use Rattle.c_expression_rules.specs.Signatures.{plain_signature};
+ghost use Rattle.c_scopes.specs.Answers.{Answers, IsRefusal};
+ghost use Rattle.c_scopes.specs.Sights.{plain_sight};
+ghost use Rattle.c_scopes.specs.Signatures.{plain_signature};
+ghost use Rattle.indexmap.specs.IndexMap.{get};
 ghost use Rattle.c_typing.specs.Functions.{declared, denoted, fits_earlier, fitting, has_type, heading, is_alike, type_of_function};
 ghost use Rattle.c_typing.specs.Functions.{tells_more, was_defined, with_function_by, with_known, with_told};
 
 use crate::parameter::type_parameters;
+use c_conversions::conversion::same_type;
 use c_declaration_rules::name::own_name;
 use c_declaration_rules::object::result_of;
-use c_expression_rules::conversion::same_type;
 use c_expression_rules::expression::type_written;
-use c_expression_rules::fault::{TypeFault, both, no_name};
-use c_expression_rules::sight::{Sight, declared_here};
-use c_expression_rules::signature::{Functions, Signature};
+use c_scopes::fault::{TypeFault, both, no_name};
+use c_scopes::sight::{Sight, declared_here};
+use c_scopes::signature::{Functions, Signature};
 use c_syntax::copy::copy_type;
 use c_syntax::{CType, Decl, Func};
 use indexmap::IndexMap;

@@ -1,13 +1,13 @@
 //! What a file declares, item by item (C99 6.2.1 p7, 6.7.2.3, 6.9).
 
 ghost use Rattle.std.specs.Prelude.{◌≡◌, IfErr, OnOk, nat_eq};
-ghost use Rattle.indexmap.specs.IndexMap.{get};
 ghost use Rattle.c_syntax.specs.Programs.{plain_enum, plain_func};
 ghost use Rattle.c_syntax.specs.Statements.{plain_decl};
 ghost use Rattle.c_model.specs.UnitTyping.{new_tag, offset_of_item, with_tag, with_type};
-ghost use Rattle.c_expression_rules.specs.Answers.{Answers, IsRefusal};
-ghost use Rattle.c_expression_rules.specs.Sights.{plain_sight};
+ghost use Rattle.c_scopes.specs.Answers.{Answers, IsRefusal};
+ghost use Rattle.c_scopes.specs.Sights.{plain_sight};
 ghost use Rattle.c_declaration_rules.specs.OpenStructs.{IsOpen};
+ghost use Rattle.indexmap.specs.IndexMap.{get};
 ghost use Rattle.c_typing.specs.Files.{defined_in_turn, enum_in_turn, global_in_turn, head_in_turn, item_in_turn, kept, plain_course};
 ghost use Rattle.c_typing.specs.Files.{plain_file_item, typedef_in_turn};
 
@@ -17,10 +17,10 @@ use c_declaration_rules::declaration::{type_global, type_typedef};
 use c_declaration_rules::enumerator::type_enumerators;
 use c_declaration_rules::member::type_member;
 use c_declaration_rules::open_struct::{OpenStructs, keep};
-use c_expression_rules::fault::{TypeFault, no_name};
-use c_expression_rules::sight::Sight;
-use c_expression_rules::tag::Tags;
-use c_expression_rules::type_name::TypeName;
+use c_scopes::fault::{TypeFault, no_name};
+use c_scopes::sight::Sight;
+use c_scopes::tag::Tags;
+use c_scopes::type_name::TypeName;
 use c_syntax::copy::copy_type;
 use c_syntax::{Decl, EnumDef, Func, Member, Place};
 use indexmap::IndexMap;

@@ -1,7 +1,6 @@
 //! Names and types of the annotations of a text (ACSL 2.2), whose C has no fault.
 
 ghost use Rattle.std.specs.Prelude.{◌≡◌, ◌+ℤ◌, IfOk, MatchResult, OnOk, map, nat_eq, option_map, pos, true};
-ghost use Rattle.indexmap.specs.IndexMap.{get};
 ghost use Rattle.c_syntax.specs.declared.types.CInt.TheVariants.{I32};
 ghost use Rattle.c_syntax.specs.Expressions.{plain_expr};
 ghost use Rattle.c_syntax.specs.Programs.{plain_enum, plain_enumerator, plain_func, plain_program};
@@ -11,8 +10,9 @@ ghost use Rattle.c_model.specs.Integers.{fits};
 ghost use Rattle.c_model.specs.DeclarationTyping.{with_enumerator};
 ghost use Rattle.c_model.specs.UnitTyping.{behind_enum, value_typed, with_enumerators};
 ghost use Rattle.c_model.specs.AnnotationTyping.{noted_function, noted_unit};
-ghost use Rattle.c_expression_rules.specs.Answers.{Answers};
-ghost use Rattle.c_expression_rules.specs.Sights.{plain_sight};
+ghost use Rattle.c_scopes.specs.Answers.{Answers};
+ghost use Rattle.c_scopes.specs.Sights.{plain_sight};
+ghost use Rattle.indexmap.specs.IndexMap.{get};
 ghost use Rattle.c_phases.specs.Answers.{IsFaultRefusal, RefusedBy};
 ghost use Rattle.c_typing.specs.Files.{plain_file_item};
 ghost use Rattle.c_typing.specs.Functions.{with_function_by};
@@ -26,10 +26,10 @@ use crate::item::{FileItem, add_tag, see_type};
 use crate::noted::note_function;
 use crate::order::take_declared;
 use c_expression_rules::constant::constant;
-use c_expression_rules::entity::{Entity, Enumerator as Constant};
-use c_expression_rules::fault::TypeFault;
-use c_expression_rules::sight::{Sight, with_object};
 use c_phases::{Noted, refuse};
+use c_scopes::entity::{Entity, Enumerator as Constant};
+use c_scopes::fault::TypeFault;
+use c_scopes::sight::{Sight, with_object};
 use c_syntax::{EnumDef, Enumerator, Expr, FrontFault, Func, Program};
 use indexmap::IndexMap;
 use std::alloc::{AllocError, Global};

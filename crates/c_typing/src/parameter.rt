@@ -5,12 +5,12 @@ ghost use Rattle.c_syntax.specs.Statements.{plain_decl};
 ghost use Rattle.c_model.specs.ExpressionTyping.{inner};
 ghost use Rattle.c_model.specs.DeclarationTyping.{typed_parameter};
 ghost use Rattle.c_model.specs.UnitTyping.{typed_parameters, with_parameter, with_parameters};
-ghost use Rattle.c_expression_rules.specs.Answers.{Answers};
-ghost use Rattle.c_expression_rules.specs.Sights.{plain_sight};
+ghost use Rattle.c_scopes.specs.Answers.{Answers};
+ghost use Rattle.c_scopes.specs.Sights.{plain_sight};
 
 use c_declaration_rules::declaration::type_parameter;
-use c_expression_rules::fault::TypeFault;
-use c_expression_rules::sight::{Sight, enter, leave, with_object};
+use c_scopes::fault::TypeFault;
+use c_scopes::sight::{Sight, enter, leave, with_object};
 use c_syntax::Decl;
 use std::alloc::{AllocError, Global};
 

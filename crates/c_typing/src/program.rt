@@ -6,16 +6,16 @@ ghost use Rattle.c_syntax.specs.Programs.{plain_func, plain_program};
 ghost use Rattle.c_syntax.specs.Tokens.{plain_tokens};
 ghost use Rattle.c_model.specs.ExpressionTyping.{same_type};
 ghost use Rattle.c_model.specs.UnitTyping.{has_no_parameters, main_fault};
-ghost use Rattle.c_expression_rules.specs.Answers.{plain_fault};
+ghost use Rattle.c_scopes.specs.Answers.{plain_fault};
 ghost use Rattle.c_phases.specs.Answers.{RefusedBy};
 ghost use Rattle.c_typing.specs.Answers.{ChecksProgram, IsTypedAs, IsTypingRefusal, RefusesProgram};
 
 use crate::checked::{ProgramFault, Typed};
 use crate::file::type_unit;
 use crate::room::room_fault;
-use c_expression_rules::fault::{Fault, TypeFault};
-use c_expression_rules::sight::name_at;
 use c_phases::{Parsed, refused_in, refused_main};
+use c_scopes::fault::{Fault, TypeFault};
+use c_scopes::sight::name_at;
 use c_syntax::{CInt, CType, FrontFault, Func, Name, Place, Program, Tokens, code};
 use std::alloc::Global;
 

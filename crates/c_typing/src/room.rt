@@ -9,13 +9,13 @@ ghost use Rattle.c_model.specs.Limits.{globals_bytes};
 ghost use Rattle.c_model.specs.ObjectsLeft.{plain_object};
 ghost use Rattle.c_model.specs.StaticObjects.{place_of_object, size_of_object};
 ghost use Rattle.c_model.specs.UnitTyping.{room_fault};
-ghost use Rattle.c_expression_rules.specs.Answers.{plain_fault};
+ghost use Rattle.c_scopes.specs.Answers.{plain_fault};
 ghost use Rattle.c_typing.specs.Rooms.{room_with};
 
-use c_expression_rules::fault::Fault;
-use c_expression_rules::limits::small_size;
 use c_model::limits::GLOBALS_BYTES;
 use c_model::objects::{Object, Objects, next};
+use c_scopes::fault::Fault;
+use c_scopes::limits::small_size;
 use c_syntax::{Decl, Layout, Place, Program, code};
 
 /// What is taken with one more block of a size, where the segment has the room.

@@ -9,19 +9,19 @@ ghost use Rattle.c_model.specs.Checked.{Good, one_part, where_so};
 ghost use Rattle.c_model.specs.ExpressionTyping.{decayed_of, inner, no_type, typed, typed_type, with_objects};
 ghost use Rattle.c_model.specs.StatementTyping.{behind, behind_first, condition, in_loop, returned, typed_condition, typed_declarations};
 ghost use Rattle.c_model.specs.StatementTyping.{typed_else, typed_first, typed_item, typed_items, typed_maybe, typed_statement};
-ghost use Rattle.c_expression_rules.specs.Answers.{Answers, IsRefusal};
+ghost use Rattle.c_scopes.specs.Answers.{Answers, IsRefusal};
+ghost use Rattle.c_scopes.specs.Sights.{plain_sight};
 ghost use Rattle.c_expression_rules.specs.Constants.{has_small_sizes};
-ghost use Rattle.c_expression_rules.specs.Sights.{plain_sight};
 ghost use Rattle.c_typing.specs.Blocks.{behind_items};
 ghost use Rattle.c_typing.specs.Trees.{plain_around, plain_for_first};
 
+use c_conversions::conversion::{is_scalar, is_void};
 use c_declaration_rules::declaration::type_variable;
 use c_expression_rules::assignment::is_assigned;
-use c_expression_rules::conversion::{is_scalar, is_void};
 use c_expression_rules::expression::{type_expr, type_value, type_written};
-use c_expression_rules::fault::{TypeFault, no_type};
 use c_expression_rules::operator::in_type;
-use c_expression_rules::sight::{Sight, enter, leave};
+use c_scopes::fault::{TypeFault, no_type};
+use c_scopes::sight::{Sight, enter, leave};
 use c_syntax::{CType, Decl, Expr, Item, Place, Stmt, StmtKind};
 use std::alloc::Global;
 

@@ -1,8 +1,8 @@
 //! Sizes of types, and offsets of members.
 
 use crate::same::same_number;
-use c_expression_rules::sight::name_at;
 use c_reader::read_text;
+use c_scopes::sight::name_at;
 use c_syntax::layout::{checked_size, offset_of, size_of};
 use c_syntax::{CInt, CType, Program};
 use std::process::Abort;

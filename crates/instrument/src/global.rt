@@ -14,9 +14,9 @@ ghost use Rattle.instrument.specs.Translation.{all_global_temporaries, global_te
 use crate::block::one_more;
 use crate::name::{global_name, text_name};
 use c_effects::part::then;
-use c_expression_rules::sight::name_at;
 use c_initialisers::initialiser::initialise;
 use c_model::objects::{Object, Objects, next};
+use c_scopes::sight::name_at;
 use c_syntax::{Decl, Name, Program};
 use mon_syntax::{
     GlobalContent, MonExpr, MonExprKind, MonGlobal, MonStmt, MonStmtKind, MonType, Registers,

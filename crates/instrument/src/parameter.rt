@@ -15,7 +15,7 @@ use crate::name::register_name;
 use c_effects::conversion::value_type;
 use c_effects::operator::register;
 use c_effects::part::then;
-use c_expression_rules::sight::name_at;
+use c_scopes::sight::name_at;
 use c_syntax::{Decl, Name};
 use mon_syntax::{MonStmt, MonStmtKind, Register, Registers};
 use std::alloc::{AllocError, Global};

@@ -29,7 +29,7 @@ use crate::parameter::{arguments, enter_parameters, make_arguments};
 use crate::spot::Spot;
 use crate::statement::statement;
 use c_effects::conversion::register_type;
-use c_expression_rules::sight::name_at;
+use c_scopes::sight::name_at;
 use c_syntax::{CType, Func, Name, Program, Stmt};
 use mon_syntax::{MonFunc, MonProgram, MonStmt, MonType, Register, Registers};
 use std::alloc::{AllocError, Global};

@@ -12,10 +12,10 @@ use Rattle.c_syntax.specs.Programs.{Function, plain_func}
 use Rattle.c_syntax.proofs.Rows.{block_is}
 use Rattle.c_model.specs.Checked.{Checked, Good}
 use Rattle.c_model.specs.AnnotationRanges.{ranged_statement, ranged_item, ranged_items, ranged_function, ranged_functions}
-use Rattle.c_expression_rules.specs.declared.fault.TypeFault.{TypeFault}
-use Rattle.c_expression_rules.specs.Answers.{Answers}
-use Rattle.c_expression_rules.proofs.Lists.{behind_parts, all_parts, list_more, made_of}
-use Rattle.c_expression_rules.proofs.BlockItems.{behind_block, all_items, items_more}
+use Rattle.c_scopes.specs.declared.fault.TypeFault.{TypeFault}
+use Rattle.c_scopes.specs.Answers.{Answers}
+use Rattle.c_scopes.proofs.Lists.{behind_parts, all_parts, list_more, made_of}
+use Rattle.c_scopes.proofs.BlockItems.{behind_block, all_items, items_more}
 
 -- a block in its place
 pub block_in_place : (at : Place) (k : StmtKind) (v w : Vec Item Global) (result : Result (Unit {0}) TypeFault) → k ≡ code.Block v → Answers (λ (u : Unit {0}). plain_items w.items) (ranged_items (plain_items v.items)) result

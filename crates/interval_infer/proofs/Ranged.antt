@@ -23,10 +23,10 @@ use Rattle.c_model.specs.Checked.{Checked, Good, one_part, both_parts, pair_of, 
 use Rattle.c_model.specs.TermRanges.{place_range, unary_range, binary_range, cast_range, hull, no_range, ranged_term, ranged_links, ranged_pred}
 use Rattle.c_model.specs.Ranges.{IsRange}
 use Rattle.c_model.proofs.RangedTrees.{ranging_keeps_terms}
-use Rattle.c_expression_rules.specs.declared.fault.TypeFault.{TypeFault}
-use Rattle.c_expression_rules.specs.declared.fault.TypeFault.TheVariants.{Refused, Memory}
-use Rattle.c_expression_rules.specs.Answers.{Answers, both}
-use Rattle.c_expression_rules.proofs.Least.{both_answers, both_made, both_refused, one_then}
+use Rattle.c_scopes.specs.declared.fault.TypeFault.{TypeFault}
+use Rattle.c_scopes.specs.declared.fault.TypeFault.TheVariants.{Refused, Memory}
+use Rattle.c_scopes.specs.Answers.{Answers, both}
+use Rattle.c_scopes.proofs.Least.{both_answers, both_made, both_refused, one_then}
 use Rattle.interval_infer.specs.Answers.{or_no_range}
 use Rattle.interval_infer.proofs.Sound.{ranges_are_ordered}
 

@@ -5,9 +5,9 @@ use Rattle.c_syntax.specs.declared.logic.Body.{Body}
 use Rattle.c_syntax.specs.Logic.{ClauseBody, Annotation, plain_body, plain_annot}
 use Rattle.c_model.specs.Checked.{Checked, Good, Bad, both_parts}
 use Rattle.c_model.specs.TermRanges.{ranged_clause, ranged_annotations}
-use Rattle.c_expression_rules.specs.declared.fault.TypeFault.{TypeFault}
-use Rattle.c_expression_rules.specs.Answers.{Answers, both}
-use Rattle.c_expression_rules.proofs.Least.{both_made}
+use Rattle.c_scopes.specs.declared.fault.TypeFault.{TypeFault}
+use Rattle.c_scopes.specs.Answers.{Answers, both}
+use Rattle.c_scopes.proofs.Least.{both_made}
 
 -- one more annotation after others
 abbrev then_annotation : Annotation → List Annotation → ClauseBody → List Annotation

@@ -12,7 +12,6 @@ use Rattle.c_syntax.specs.Logic.{LogicTerm}
 use Rattle.c_syntax.specs.Logic.{Binder, Predicate, Guards, NoGuard, Guarded, Zone, Object, Elements, range_of}
 use Rattle.c_model.specs.Integers.{fits}
 use Rattle.c_model.specs.Memory.{Value, Pointer, Integer, Points, Block, Store, block_at, load}
-use Rattle.c_model.specs.MemoryQuestions.{address_of, address_farther}
 use Rattle.c_model.specs.MemoryQuestions as question
 use Rattle.c_syntax.specs.Programs.{TranslationUnit}
 use Rattle.c_model.specs.SoundStates.{IsNear, IsSoundState}

@@ -7,10 +7,10 @@ ghost use Rattle.c_syntax.specs.Ctypes.{plain_type};
 ghost use Rattle.c_syntax.specs.Logic.{plain_annot, plain_body, plain_links, plain_pred, plain_pred_kind, plain_term, plain_term_kind};
 ghost use Rattle.c_model.specs.Ranges.{IsRange};
 ghost use Rattle.c_model.specs.TermRanges.{ranged_annotations, ranged_clause, ranged_links, ranged_pred, ranged_term};
-ghost use Rattle.c_expression_rules.specs.Answers.{Answers, IsRefusal};
+ghost use Rattle.c_scopes.specs.Answers.{Answers, IsRefusal};
 
 use crate::form::{binary_range, cast_range, hull, or_no_range, place_range, unary_range};
-use c_expression_rules::fault::{TypeFault, both};
+use c_scopes::fault::{TypeFault, both};
 use c_syntax::logic::{Annot, Body, Links, Pred, PredKind, Term, TermKind};
 use c_syntax::{CType, Place, Range};
 

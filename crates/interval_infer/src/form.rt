@@ -5,10 +5,10 @@ ghost use Rattle.c_syntax.specs.Ctypes.{plain_type};
 ghost use Rattle.c_syntax.specs.Formulas.{OfC, plain_cast_type};
 ghost use Rattle.c_model.specs.Ranges.{IsRange};
 ghost use Rattle.c_model.specs.TermRanges.{binary_range, cast_range, held_range, hull, is_inside, offset_range, place_range, unary_range};
-ghost use Rattle.c_expression_rules.specs.Answers.{IsRefusal};
+ghost use Rattle.c_scopes.specs.Answers.{IsRefusal};
 ghost use Rattle.interval_infer.specs.Answers.{or_no_range};
 
-use c_expression_rules::fault::{Fault, TypeFault};
+use c_scopes::fault::{Fault, TypeFault};
 use c_syntax::logic::LogicType;
 use c_syntax::{BinOp, CType, Place, Range, UnOp, code};
 use ea_num::{

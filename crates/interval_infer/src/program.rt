@@ -5,12 +5,12 @@ ghost use Rattle.c_syntax.specs.Programs.{plain_func, plain_program};
 ghost use Rattle.c_syntax.specs.Tokens.{plain_tokens};
 ghost use Rattle.c_model.specs.Checked.{Good};
 ghost use Rattle.c_model.specs.AnnotationRanges.{ranged_function, ranged_functions, ranged_unit};
-ghost use Rattle.c_expression_rules.specs.Answers.{Answers, IsRefusal};
+ghost use Rattle.c_scopes.specs.Answers.{Answers, IsRefusal};
 ghost use Rattle.c_phases.specs.Answers.{IsFaultRefusal, RefusedBy};
 
 use crate::statement::range_body;
-use c_expression_rules::fault::TypeFault;
 use c_phases::{Noted, Ranged, refuse};
+use c_scopes::fault::TypeFault;
 use c_syntax::{FrontFault, Func, Program};
 use std::alloc::Global;
 

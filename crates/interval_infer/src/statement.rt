@@ -4,10 +4,10 @@ ghost use Rattle.std.specs.Prelude.{IfErr, option_map};
 ghost use Rattle.c_syntax.specs.declared.place.Place.{Place};
 ghost use Rattle.c_syntax.specs.Statements.{plain_else_part, plain_item, plain_items, plain_stmt, plain_stmt_kind};
 ghost use Rattle.c_model.specs.AnnotationRanges.{ranged_body, ranged_else, ranged_item, ranged_items, ranged_statement};
-ghost use Rattle.c_expression_rules.specs.Answers.{Answers, IsRefusal};
+ghost use Rattle.c_scopes.specs.Answers.{Answers, IsRefusal};
 
 use crate::annotation::clause_ranges;
-use c_expression_rules::fault::TypeFault;
+use c_scopes::fault::TypeFault;
 use c_syntax::{Item, Stmt, StmtKind};
 
 /// Sets the ranges of the annotations in a statement.

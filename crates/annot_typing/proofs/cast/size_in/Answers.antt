@@ -2,8 +2,8 @@ use Rattle.std.proofs.Common.{◌≡◌, None, rules}
 use Rattle.c_syntax.specs.Ctypes.{plain_type}
 use Rattle.c_syntax.specs.Layouts.{size_of}
 use Rattle.c_model.specs.Checked.{Good}
-use Rattle.c_expression_rules.specs.Limits.{small}
-use Rattle.c_expression_rules.specs.Sights.{plain_sight}
+use Rattle.c_scopes.specs.Limits.{small}
+use Rattle.c_scopes.specs.Sights.{plain_sight}
 use Rattle.annot_typing.specs.Limits.{has_small_size}
 use Rattle.annot_typing.proofs.Sizes.{none_too_large}
 use Rattle.annot_typing.proofs.cast.size_in.Goals as goal

@@ -2,8 +2,8 @@ use Rattle.std.proofs.Common.{◌≡◌, rules, subst}
 use Rattle.c_syntax.specs.Ctypes.{plain_type}
 use Rattle.c_model.specs.ExpressionTyping.{known_type, typed_type}
 use Rattle.c_model.specs.PredicateTyping.{size_in}
-use Rattle.c_expression_rules.specs.Answers.{Answers}
-use Rattle.c_expression_rules.specs.Sights.{plain_sight}
+use Rattle.c_scopes.specs.Answers.{Answers}
+use Rattle.c_scopes.specs.Sights.{plain_sight}
 use Rattle.annot_typing.specs.Limits.{written_size}
 use Rattle.annot_typing.specs.Sorts.{plain_sorted}
 use Rattle.annot_typing.proofs.Casts.{size_refused}

@@ -1,8 +1,8 @@
 use Rattle.std.proofs.Common.{◌+◌, ◌<◌, rules, arith, drop, length, map, slice_set, take}
 use Rattle.c_syntax.specs.Logic.{plain_annot}
-use Rattle.c_expression_rules.specs.Sights.{plain_sight}
+use Rattle.c_scopes.specs.Sights.{plain_sight}
 use Rattle.annot_typing.proofs.Clauses.{annotations_more}
-use Rattle.c_expression_rules.proofs.InPlace.{done, left, unvisited_step, within_step}
+use Rattle.c_scopes.proofs.InPlace.{done, left, unvisited_step, within_step}
 use Rattle.annot_typing.proofs.clause.type_clauses.Goals as goal
 
 pub loop-i-preserved : goal.loop-i-preserved

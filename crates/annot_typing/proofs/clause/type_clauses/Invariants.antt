@@ -1,9 +1,9 @@
 use Rattle.std.proofs.Common.{◌≡◌, ◌≤◌, drop, length, map, take}
 use Rattle.c_syntax.specs.Logic.{plain_annot}
 use Rattle.c_model.specs.PredicateTyping.{typed_annotations}
-use Rattle.c_expression_rules.specs.Sights.{plain_sight}
-use Rattle.c_expression_rules.proofs.InPlace.{Unvisited}
-use Rattle.c_expression_rules.proofs.Lists.{behind_parts}
+use Rattle.c_scopes.specs.Sights.{plain_sight}
+use Rattle.c_scopes.proofs.InPlace.{Unvisited}
+use Rattle.c_scopes.proofs.Lists.{behind_parts}
 use Rattle.annot_typing.proofs.clause.type_clauses.Given as goal
 
 abbrev pub invariant-loop-i : goal.invariant-loop-i

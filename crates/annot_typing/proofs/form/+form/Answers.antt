@@ -6,8 +6,8 @@ use Rattle.c_model.specs.Checked.{one_part, pair_of}
 use Rattle.c_model.specs.ExpressionTyping.{known_type, typed_type}
 use Rattle.c_model.specs.PredicateTyping as typing
 use Rattle.c_model.specs.PredicateTyping.{cast, typed_form, typed_links}
-use Rattle.c_expression_rules.specs.Answers.{Answers}
-use Rattle.c_expression_rules.specs.Sights.{plain_sight}
+use Rattle.c_scopes.specs.Answers.{Answers}
+use Rattle.c_scopes.specs.Sights.{plain_sight}
 use Rattle.annot_typing.specs.Joined.{both_answered}
 use Rattle.annot_typing.specs.Relations.{right_side, plain_chain, plain_link}
 use Rattle.annot_typing.specs.Sorts.{plain_sorted}

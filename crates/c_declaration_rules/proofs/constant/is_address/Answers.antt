@@ -2,7 +2,7 @@ use Rattle.std.proofs.Common.{◌≡◌, ◌∙◌, rules, true, None}
 use Rattle.c_syntax.specs.Expressions.{plain_expr, type_of}
 use Rattle.c_model.specs.Library.{is_there}
 use Rattle.c_model.specs.Meaning.{is_pointer}
-use Rattle.c_expression_rules.specs.Sights.{plain_sight}
+use Rattle.c_scopes.specs.Sights.{plain_sight}
 use Rattle.c_declaration_rules.specs.Statics.{address_spot, object_size}
 use Rattle.c_declaration_rules.proofs.Statics.{spot_is}
 use Rattle.c_declaration_rules.proofs.constant.is_address.Goals as goal

@@ -1,6 +1,6 @@
 use Rattle.std.proofs.Common.{◌≡◌, length, map}
 use Rattle.c_syntax.specs.Programs.{plain_layout}
-use Rattle.c_expression_rules.specs.Newest.{entities_of}
+use Rattle.c_scopes.specs.Newest.{entities_of}
 use Rattle.c_declaration_rules.specs.Statics.{object_size}
 use Rattle.c_declaration_rules.proofs.constant.object_size.Given as goal
 

@@ -1,8 +1,8 @@
 use Rattle.std.proofs.Common.{◌≡◌, rules, Err}
 use Rattle.c_syntax.specs.Statements.{plain_decl}
-use Rattle.c_expression_rules.specs.Answers.{Answers}
-use Rattle.c_expression_rules.specs.Sights.{plain_sight}
-use Rattle.c_expression_rules.proofs.Least.{one_refused}
+use Rattle.c_scopes.specs.Answers.{Answers}
+use Rattle.c_scopes.specs.Sights.{plain_sight}
+use Rattle.c_scopes.proofs.Least.{one_refused}
 use Rattle.c_declaration_rules.specs.Declarations.{declarator_typed, initialised}
 use Rattle.c_declaration_rules.proofs.declaration.type_declaration.Goals as goal
 

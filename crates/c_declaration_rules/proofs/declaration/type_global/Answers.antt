@@ -1,8 +1,8 @@
 use Rattle.std.proofs.Common.{rules, subst, sym, true}
 use Rattle.c_syntax.specs.Statements.{plain_decl}
 use Rattle.c_model.specs.DeclarationTyping.{is_declared_in_file}
-use Rattle.c_expression_rules.specs.Answers.{Answers}
-use Rattle.c_expression_rules.specs.Sights.{plain_sight}
+use Rattle.c_scopes.specs.Answers.{Answers}
+use Rattle.c_scopes.specs.Sights.{plain_sight}
 use Rattle.c_declaration_rules.specs.Declarations.{declaration_typed}
 use Rattle.c_declaration_rules.proofs.Declarations.{global_is}
 use Rattle.c_declaration_rules.proofs.declaration.type_global.Goals as goal

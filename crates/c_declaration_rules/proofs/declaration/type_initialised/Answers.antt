@@ -2,8 +2,8 @@ use Rattle.std.proofs.Common.{◌≡◌, rules}
 use Rattle.c_syntax.specs.Statements.{plain_decl}
 use Rattle.c_model.specs.ExpressionTyping.{with_object}
 use Rattle.c_model.specs.DeclarationTyping.{typed_maybe_initialiser}
-use Rattle.c_expression_rules.specs.Answers.{Answers}
-use Rattle.c_expression_rules.specs.Sights.{plain_sight}
+use Rattle.c_scopes.specs.Answers.{Answers}
+use Rattle.c_scopes.specs.Sights.{plain_sight}
 use Rattle.c_declaration_rules.specs.Initialisers.{allowed}
 use Rattle.c_declaration_rules.specs.Objects.{plain_maybe_init}
 use Rattle.c_declaration_rules.proofs.Declarations.{init_made}

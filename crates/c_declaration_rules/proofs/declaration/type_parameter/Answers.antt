@@ -2,8 +2,8 @@ use Rattle.std.proofs.Common.{rules}
 use Rattle.c_syntax.specs.Ctypes.{PlainType, Void, plain_type}
 use Rattle.c_syntax.specs.Statements.{Declaration, plain_decl}
 use Rattle.c_model.specs.DeclarationTyping.{parameter_name}
-use Rattle.c_expression_rules.specs.Answers.{Answers}
-use Rattle.c_expression_rules.specs.Sights.{plain_sight}
+use Rattle.c_scopes.specs.Answers.{Answers}
+use Rattle.c_scopes.specs.Sights.{plain_sight}
 use Rattle.c_declaration_rules.specs.Declarations.{scalar_parameter}
 use Rattle.c_declaration_rules.proofs.Parts.{behind_made}
 use Rattle.c_declaration_rules.proofs.declaration.type_parameter.Goals as goal

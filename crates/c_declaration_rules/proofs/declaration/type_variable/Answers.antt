@@ -2,8 +2,8 @@ use Rattle.std.proofs.Common.{rules, subst, sym, false}
 use Rattle.c_syntax.specs.Statements.{plain_decl}
 use Rattle.c_model.specs.Library.{is_there}
 use Rattle.c_model.specs.ExpressionTyping.{declared_here}
-use Rattle.c_expression_rules.specs.Answers.{Answers}
-use Rattle.c_expression_rules.specs.Sights.{plain_sight}
+use Rattle.c_scopes.specs.Answers.{Answers}
+use Rattle.c_scopes.specs.Sights.{plain_sight}
 use Rattle.c_declaration_rules.specs.Declarations.{declaration_typed}
 use Rattle.c_declaration_rules.proofs.Declarations.{variable_is}
 use Rattle.c_declaration_rules.proofs.declaration.type_variable.Goals as goal

@@ -2,8 +2,8 @@ use Rattle.std.proofs.Common.{ℤ, pos, rules, None, Option, option_map}
 use Rattle.c_syntax.specs.Expressions.{Expression, plain_expr}
 use Rattle.c_syntax.specs.Programs.{EnumConstant, plain_enumerator}
 use Rattle.c_model.specs.DeclarationTyping.{is_declared_in_file, own_name, typed_value}
-use Rattle.c_expression_rules.specs.Answers.{Answers}
-use Rattle.c_expression_rules.specs.Sights.{plain_sight}
+use Rattle.c_scopes.specs.Answers.{Answers}
+use Rattle.c_scopes.specs.Sights.{plain_sight}
 use Rattle.c_declaration_rules.proofs.Parts.{behind_made}
 use Rattle.c_declaration_rules.proofs.enumerator.type_enumerator.Goals as goal
 

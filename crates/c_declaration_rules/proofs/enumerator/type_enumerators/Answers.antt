@@ -1,7 +1,7 @@
 use Rattle.std.proofs.Common.{◌<◌, ◌+◌, rules, map, ◌≡◌, ℤ, Err, arith, drop, length, slice_set, take}
 use Rattle.c_syntax.specs.Programs.{plain_enumerator}
-use Rattle.c_expression_rules.specs.Sights.{plain_sight}
-use Rattle.c_expression_rules.proofs.InPlace.{done, left, unvisited_step, within_step}
+use Rattle.c_scopes.specs.Sights.{plain_sight}
+use Rattle.c_scopes.proofs.InPlace.{done, left, unvisited_step, within_step}
 use Rattle.c_declaration_rules.proofs.Enumerators.{enumerators_more, enumerators_refused}
 use Rattle.c_declaration_rules.proofs.enumerator.type_enumerators.Goals as goal
 

@@ -1,8 +1,8 @@
 use Rattle.std.proofs.Common.{◌≡◌, ◌≤◌, drop, length, map, pos, take}
 use Rattle.c_syntax.specs.Programs.{plain_enumerator}
 use Rattle.c_model.specs.DeclarationTyping.{typed_enumerators}
-use Rattle.c_expression_rules.specs.Sights.{plain_sight}
-use Rattle.c_expression_rules.proofs.InPlace.{Unvisited}
+use Rattle.c_scopes.specs.Sights.{plain_sight}
+use Rattle.c_scopes.proofs.InPlace.{Unvisited}
 use Rattle.c_declaration_rules.specs.Enumerators.{behind_enumerators}
 use Rattle.c_declaration_rules.proofs.enumerator.type_enumerators.Given as goal
 

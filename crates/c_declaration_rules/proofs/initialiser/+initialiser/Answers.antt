@@ -6,9 +6,9 @@ use Rattle.c_model.specs.DeclarationTyping.{initial_value, is_text_array, place_
 use Rattle.c_model.specs.ExpressionTyping.{is_scalar, typed}
 use Rattle.c_model.specs.Checked.{one_part}
 use Rattle.c_syntax.specs.Expressions.{Expression, place_of}
-use Rattle.c_expression_rules.specs.Answers.{Answers}
-use Rattle.c_expression_rules.specs.Sights.{plain_sight}
-use Rattle.c_expression_rules.proofs.InPlace.{done, left, seen, split, unvisited_step, within_step}
+use Rattle.c_scopes.specs.Answers.{Answers}
+use Rattle.c_scopes.specs.Sights.{plain_sight}
+use Rattle.c_scopes.proofs.InPlace.{done, left, seen, split, unvisited_step, within_step}
 use Rattle.c_declaration_rules.specs.Initialisers.{allowed, slot, without_braces}
 use Rattle.c_declaration_rules.proofs.Initialisers.{part_list, scalar_list, slot_none, slot_some, text_list}
 use Rattle.c_declaration_rules.proofs.Lists.{braces_off, same_at}

@@ -2,8 +2,8 @@ use Rattle.std.proofs.Common.{◌≤◌, length, take}
 use Rattle.c_syntax.specs.Ctypes.{plain_type}
 use Rattle.c_syntax.specs.Statements.{plain_inits}
 use Rattle.c_model.specs.DeclarationTyping.{slots_of, typed_items}
-use Rattle.c_expression_rules.specs.Answers.{Answers}
-use Rattle.c_expression_rules.specs.Sights.{plain_sight}
+use Rattle.c_scopes.specs.Answers.{Answers}
+use Rattle.c_scopes.specs.Sights.{plain_sight}
 use Rattle.c_declaration_rules.specs.Initialisers.{allowed}
 use Rattle.c_declaration_rules.proofs.Items.{SlotsBehind, slots_at}
 use Rattle.c_declaration_rules.proofs.initialiser.+initialiser.Given as goal

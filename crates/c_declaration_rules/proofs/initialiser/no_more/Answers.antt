@@ -1,6 +1,6 @@
 use Rattle.std.proofs.Common.{rules, arith, ◌≤◌, drop, length, slice_set}
 use Rattle.c_syntax.specs.Statements.{plain_inits}
-use Rattle.c_expression_rules.specs.Sights.{plain_sight}
+use Rattle.c_scopes.specs.Sights.{plain_sight}
 use Rattle.c_declaration_rules.proofs.Initialisers.{some_behind}
 use Rattle.c_declaration_rules.proofs.initialiser.no_more.Goals as goal
 

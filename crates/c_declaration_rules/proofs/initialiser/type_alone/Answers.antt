@@ -2,8 +2,8 @@ use Rattle.std.proofs.Common.{◌<◌, rules, arith, length, drop}
 use Rattle.c_syntax.specs.Ctypes.{plain_type}
 use Rattle.c_syntax.specs.Statements.{plain_init, plain_inits, Listed}
 use Rattle.c_model.specs.DeclarationTyping.{no_more, typed_alone}
-use Rattle.c_expression_rules.specs.Answers.{Answers}
-use Rattle.c_expression_rules.specs.Sights.{plain_sight}
+use Rattle.c_scopes.specs.Answers.{Answers}
+use Rattle.c_scopes.specs.Sights.{plain_sight}
 use Rattle.c_declaration_rules.specs.Initialisers.{allowed}
 use Rattle.c_declaration_rules.proofs.Initialisers.{alone_in_place}
 use Rattle.c_declaration_rules.proofs.initialiser.type_alone.Goals as goal

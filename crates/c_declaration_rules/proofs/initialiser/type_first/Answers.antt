@@ -5,9 +5,9 @@ use Rattle.c_syntax.specs.Statements.{Initialiser, One, Initialisers, Listed, pl
 use Rattle.c_model.specs.Checked.{one_part}
 use Rattle.c_model.specs.ExpressionTyping.{typed}
 use Rattle.c_model.specs.DeclarationTyping.{initial_value, no_more, typed_alone}
-use Rattle.c_expression_rules.specs.Answers.{Answers}
-use Rattle.c_expression_rules.specs.Sights.{plain_sight}
-use Rattle.c_expression_rules.proofs.Least.{both_made}
+use Rattle.c_scopes.specs.Answers.{Answers}
+use Rattle.c_scopes.specs.Sights.{plain_sight}
+use Rattle.c_scopes.proofs.Least.{both_made}
 use Rattle.c_declaration_rules.specs.Initialisers.{allowed}
 use Rattle.c_declaration_rules.proofs.initialiser.type_first.Goals as goal
 

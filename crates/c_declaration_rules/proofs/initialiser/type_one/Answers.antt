@@ -5,8 +5,8 @@ use Rattle.c_model.specs.ExpressionTyping.{decayed, typed}
 use Rattle.c_syntax.specs.Ctypes.{plain_type}
 use Rattle.c_model.specs.DeclarationTyping.{initial_value}
 use Rattle.c_expression_rules.specs.Constants.{has_small_sizes}
-use Rattle.c_expression_rules.specs.Sights.{plain_sight}
-use Rattle.c_expression_rules.proofs.Least.{one_refused}
+use Rattle.c_scopes.specs.Sights.{plain_sight}
+use Rattle.c_scopes.proofs.Least.{one_refused}
 use Rattle.c_expression_rules.proofs.Small.{small_decayed}
 use Rattle.c_declaration_rules.specs.Initialisers.{allowed}
 use Rattle.c_declaration_rules.proofs.initialiser.type_one.Goals as goal

@@ -2,7 +2,7 @@ use Rattle.std.proofs.Common.{◌≡◌, ◌∙◌, ap, rules, slice_set, suc}
 use Rattle.c_syntax.specs.Programs.{plain_layout, plain_member}
 use Rattle.c_model.specs.ExpressionTyping.{levels_of, number_at}
 use Rattle.c_model.specs.DeclarationTyping.{greater}
-use Rattle.c_expression_rules.specs.Sights.{plain_sight}
+use Rattle.c_scopes.specs.Sights.{plain_sight}
 use Rattle.c_declaration_rules.specs.Members.{ended, with_last_member}
 use Rattle.c_declaration_rules.proofs.Members.{seen_member}
 use Rattle.c_declaration_rules.proofs.member.see_member.Goals as goal

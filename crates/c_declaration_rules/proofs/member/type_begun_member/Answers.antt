@@ -1,6 +1,6 @@
 use Rattle.std.proofs.Common.{ap, map, sym, subst, rules}
 use Rattle.c_syntax.specs.Programs.{plain_layout}
-use Rattle.c_expression_rules.specs.Sights.{plain_sight}
+use Rattle.c_scopes.specs.Sights.{plain_sight}
 use Rattle.c_declaration_rules.specs.OpenStructs.{IsOpen, IsOpenAt}
 use Rattle.c_declaration_rules.proofs.OpenStructs.{one_more_open}
 use Rattle.c_declaration_rules.proofs.member.type_begun_member.Goals as goal

@@ -1,6 +1,6 @@
 use Rattle.std.proofs.Common.{sym, subst, rules, arith}
 use Rattle.c_syntax.specs.Programs.{plain_member}
-use Rattle.c_expression_rules.specs.Sights.{plain_sight}
+use Rattle.c_scopes.specs.Sights.{plain_sight}
 use Rattle.c_declaration_rules.specs.OpenStructs.{IsOpen}
 use Rattle.c_declaration_rules.proofs.Members.{no_member, no_struct}
 use Rattle.c_declaration_rules.proofs.OpenStructs.{kept_open}

@@ -2,8 +2,8 @@ use Rattle.std.proofs.Common.{◌≡◌, rules}
 use Rattle.c_syntax.specs.Ctypes.{plain_type}
 use Rattle.c_syntax.specs.Programs.{plain_layout, plain_member}
 use Rattle.c_model.specs.Checked.{Good}
-use Rattle.c_expression_rules.specs.Answers.{Answers}
-use Rattle.c_expression_rules.specs.Sights.{plain_sight}
+use Rattle.c_scopes.specs.Answers.{Answers}
+use Rattle.c_scopes.specs.Sights.{plain_sight}
 use Rattle.c_declaration_rules.specs.declared.layout.Grown.{Grown}
 use Rattle.c_declaration_rules.specs.Members.{GrowsTo, object_member, small_layout}
 use Rattle.c_declaration_rules.proofs.Members.{sized_member}

@@ -1,5 +1,5 @@
 use Rattle.std.proofs.Common.{◌≤◌, length, arith}
-use Rattle.c_expression_rules.specs.Sights.{plain_sight}
+use Rattle.c_scopes.specs.Sights.{plain_sight}
 use Rattle.c_declaration_rules.proofs.Lists.{several_bytes}
 use Rattle.c_declaration_rules.proofs.object.text_alone.Goals as goal
 

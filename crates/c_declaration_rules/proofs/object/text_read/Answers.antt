@@ -1,7 +1,7 @@
 use Rattle.std.proofs.Common.{◌∙◌, ap, sym, length, option_map}
 use Rattle.c_syntax.specs.Statements.{plain_init, plain_inits}
 use Rattle.c_model.specs.DeclarationTyping.{text_read}
-use Rattle.c_expression_rules.specs.Sights.{plain_sight}
+use Rattle.c_scopes.specs.Sights.{plain_sight}
 use Rattle.c_declaration_rules.specs.Objects.{bytes_alone}
 use Rattle.c_declaration_rules.proofs.Lists.{bytes_many}
 use Rattle.c_declaration_rules.proofs.object.text_read.Goals as goal

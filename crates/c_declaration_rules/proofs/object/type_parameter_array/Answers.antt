@@ -1,6 +1,6 @@
 use Rattle.std.proofs.Common.{◌≡◌, ◌∙◌, sym, false}
 use Rattle.c_syntax.specs.Ctypes.{plain_length, plain_type}
-use Rattle.c_expression_rules.specs.Sights.{plain_sight}
+use Rattle.c_scopes.specs.Sights.{plain_sight}
 use Rattle.c_declaration_rules.specs.Objects.{is_left}
 use Rattle.c_declaration_rules.proofs.Parts.{array_made}
 use Rattle.c_declaration_rules.proofs.object.type_parameter_array.Goals as goal

@@ -2,8 +2,8 @@ use Rattle.std.proofs.Common.{◌≡◌, rules, Err}
 use Rattle.c_syntax.specs.Ctypes.{plain_type}
 use Rattle.c_model.specs.Library.{is_there}
 use Rattle.c_model.specs.DeclarationTyping.{typed_outer}
-use Rattle.c_expression_rules.specs.Answers.{Answers}
-use Rattle.c_expression_rules.specs.Sights.{plain_sight}
+use Rattle.c_scopes.specs.Answers.{Answers}
+use Rattle.c_scopes.specs.Sights.{plain_sight}
 use Rattle.c_declaration_rules.specs.Objects.{plain_maybe_init}
 use Rattle.c_declaration_rules.proofs.Parts.{object_refused}
 use Rattle.c_declaration_rules.proofs.object.type_sized_object.Goals as goal

@@ -3,7 +3,7 @@ use Rattle.c_syntax.specs.Ctypes.{plain_type}
 use Rattle.c_syntax.specs.Expressions.{plain_expr}
 use Rattle.c_model.specs.ExpressionTyping.{is_constant, is_other, is_zero, tables_in}
 use Rattle.c_expression_rules.specs.Constants.{folded, has_small_sizes}
-use Rattle.c_expression_rules.specs.Sights.{plain_sight}
+use Rattle.c_scopes.specs.Sights.{plain_sight}
 use Rattle.c_expression_rules.proofs.Folding.{both_then, either_then, choice_then}
 use Rattle.c_expression_rules.proofs.constant.+is_constant.Goals as goal
 

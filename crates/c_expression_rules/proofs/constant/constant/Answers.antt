@@ -4,7 +4,7 @@ use Rattle.c_model.specs.Integers.{integer_type}
 use Rattle.c_model.specs.Library.{is_there}
 use Rattle.c_model.specs.ExpressionTyping.{is_constant, tables_in}
 use Rattle.c_expression_rules.specs.Constants.{has_small_sizes}
-use Rattle.c_expression_rules.specs.Sights.{plain_sight}
+use Rattle.c_scopes.specs.Sights.{plain_sight}
 use Rattle.c_expression_rules.proofs.Folding.{constant_is}
 use Rattle.c_expression_rules.proofs.constant.constant.Goals as goal
 

@@ -4,17 +4,18 @@ use Rattle.c_syntax.specs.Expressions.{Expression, Call, Cast, Node, SizeOfExpr,
 use Rattle.c_syntax.specs.declared.types.CType.{CType}
 use Rattle.c_model.specs.Checked.{Good}
 use Rattle.c_model.specs.ExpressionTyping.{argument_for, cast, constant, counted, decayed, decayed_of, first_type, known_type, limited, size_of_expression, typed, typed_length, typed_type}
-use Rattle.c_expression_rules.specs.Answers.{Answers}
+use Rattle.c_scopes.specs.Answers.{Answers}
 use Rattle.c_expression_rules.specs.Constants.{has_small_sizes}
 use Rattle.c_expression_rules.specs.Forms.{cast_parts, size_of_parts, typed_call, typed_elements, typed_kind, typed_two}
-use Rattle.c_expression_rules.specs.Sights.{plain_sight}
-use Rattle.c_expression_rules.proofs.Besides.{asked_answers, limited_told}
+use Rattle.c_scopes.specs.Sights.{plain_sight}
+use Rattle.c_expression_rules.specs.Structs.{limit_answer}
+use Rattle.c_expression_rules.proofs.Besides.{asked_answers, limit_is, limited_told}
 use Rattle.c_expression_rules.proofs.Expressions.{call_form, call_refused, arguments_step, form_is, params_step}
-use Rattle.c_expression_rules.proofs.InPlace.{done, seen, unvisited_step, within_step}
-use Rattle.c_expression_rules.proofs.Least.{both_answers, both_made, both_refused, one_refused}
+use Rattle.c_scopes.proofs.InPlace.{done, seen, unvisited_step, within_step}
+use Rattle.c_scopes.proofs.Least.{both_answers, both_made, both_refused, one_refused}
 use Rattle.c_expression_rules.proofs.Small.{small_decayed}
 use Rattle.c_expression_rules.proofs.SmallForms.{small_typed}
-use Rattle.c_expression_rules.proofs.Told.{array_known}
+use Rattle.c_scopes.proofs.Told.{array_known}
 use Rattle.c_expression_rules.proofs.expression.+expression.Goals as goal
 
 pub type_call_parts-returns-in_err-both : goal.type_call_parts-returns-in_err-both
@@ -100,8 +101,8 @@ type_cast-returns t c =
     let to = plain_type c.type_cast_parts-parts.new.to in
     let a = plain_expr c.type_cast_parts-parts.new.a in
     limited_told (λ (t : CType). Node c.args.place (plain_type t) (Cast to a)) s c.args.place (known_type s (plain_type c.args.to.now)) to
-    (cast_parts s c.args.place (plain_type c.args.to.now) (plain_expr c.args.a.now)) c.type_cast_parts-parts.result c.both.result c.within_limits.result c.type_cast_parts-parts.ensures.typed
-    c.type_cast_parts-parts.ensures.known c.within_limits.ensures.checked c.both.ensures.is
+    (cast_parts s c.args.place (plain_type c.args.to.now) (plain_expr c.args.a.now)) c.type_cast_parts-parts.result c.limited.result (limit_answer s c.args.place to) c.type_cast_parts-parts.ensures.typed
+    c.type_cast_parts-parts.ensures.known (limit_is s c.args.place to) c.limited.ensures
 
 pub type_size_of_expr-returns : goal.type_size_of_expr-returns
 type_size_of_expr-returns t c =
@@ -109,15 +110,15 @@ type_size_of_expr-returns t c =
     let a = plain_expr c.type_expr.new.e in
     let is : typed s (plain_expr c.args.a.now) ≡ Good a = search rules in
     asked_answers (λ (t : CType). Node c.args.place (plain_type t) (SizeOfExpr a)) s c.args.place (typed s (plain_expr c.args.a.now)) (size_of_expression s c.args.place) a
-    c.size_of_expression.result c.both.result c.within_limits.result is c.size_of_expression.ensures c.within_limits.ensures.checked c.both.ensures.is
+    c.size_of_expression-size.result c.limited.result (limit_answer s c.args.place (type_of a)) is c.size_of_expression-size.ensures (limit_is s c.args.place (type_of a)) c.limited.ensures
 
 pub type_size_of_type-returns : goal.type_size_of_type-returns
 type_size_of_type-returns t c =
     let s = plain_sight c.args.sight.now in
     let u = plain_type c.type_sized_type-parts.new.u in
     limited_told (λ (t : CType). Node c.args.place (plain_type t) (SizeOfType u)) s c.args.place (known_type s (plain_type c.args.u.now)) u
-    (size_of_parts s c.args.place (plain_type c.args.u.now)) c.type_sized_type-parts.result c.both.result c.within_limits.result c.type_sized_type-parts.ensures.typed
-    c.type_sized_type-parts.ensures.known c.within_limits.ensures.checked c.both.ensures.is
+    (size_of_parts s c.args.place (plain_type c.args.u.now)) c.type_sized_type-parts.result c.limited.result (limit_answer s c.args.place u) c.type_sized_type-parts.ensures.typed
+    c.type_sized_type-parts.ensures.known (limit_is s c.args.place u) c.limited.ensures
 
 pub type_expr-returns-clause-typed : goal.type_expr-returns-clause-typed
 type_expr-returns-clause-typed t c =

@@ -7,8 +7,8 @@ use Rattle.c_syntax.specs.declared.types.Length.{size-Length}
 use Rattle.c_syntax.specs.Ctypes.{plain_type}
 use Rattle.c_syntax.specs.Expressions.{plain_exprs}
 use Rattle.c_model.specs.ExpressionTyping.{typed_arguments}
-use Rattle.c_expression_rules.specs.Answers.{Answers}
-use Rattle.c_expression_rules.specs.Sights.{plain_sight}
+use Rattle.c_scopes.specs.Answers.{Answers}
+use Rattle.c_scopes.specs.Sights.{plain_sight}
 use Rattle.c_expression_rules.proofs.Expressions.{params_behind}
 use Rattle.c_expression_rules.proofs.expression.+expression.Given as goal
 

@@ -7,9 +7,9 @@ use Rattle.c_syntax.specs.declared.expression.BinOp.TheVariants.{Add}
 use Rattle.c_model.specs.Checked.{Good}
 use Rattle.c_model.specs.Integers.{integer_type}
 use Rattle.c_model.specs.Library.{is_there}
-use Rattle.c_expression_rules.specs.Answers.{Answers}
+use Rattle.c_scopes.specs.Answers.{Answers}
 use Rattle.c_expression_rules.specs.Operators.{compoundable}
-use Rattle.c_expression_rules.specs.Sights.{plain_sight}
+use Rattle.c_scopes.specs.Sights.{plain_sight}
 use Rattle.c_expression_rules.proofs.Demands.{operated_good, operated_bad}
 use Rattle.c_expression_rules.proofs.operator.bumped.Goals as goal
 

@@ -3,9 +3,9 @@ use Rattle.std.specs.Map.{lookup}
 use Rattle.indexmap.specs.IndexMap.{get}
 use Rattle.c_syntax.specs.Programs.{plain_layout, plain_text, plain_program}
 use Rattle.c_model.specs.UnitTyping.{levels_from}
-use Rattle.c_expression_rules.specs.Entities.{plain_entities}
-use Rattle.c_expression_rules.specs.Signatures.{plain_signature}
-use Rattle.c_expression_rules.specs.TypeNames.{plain_type_name}
+use Rattle.c_scopes.specs.Entities.{plain_entities}
+use Rattle.c_scopes.specs.Signatures.{plain_signature}
+use Rattle.c_scopes.specs.TypeNames.{plain_type_name}
 use Rattle.c_typing.proofs.file.first_course.Goals as goal
 
 pub returns-clause-first : goal.returns-clause-first

@@ -1,10 +1,10 @@
 use Rattle.std.proofs.Common.{◌<◌, ◌+◌, ◌≤◌, rules, map, ◌∙◌, ◌≡◌, Err, ap, arith, drop, length, nat_eq, slice_set, take}
 use Rattle.indexmap.specs.IndexMap.{get}
 use Rattle.c_model.specs.Checked.{Good}
-use Rattle.c_expression_rules.specs.Sights.{plain_sight}
+use Rattle.c_scopes.specs.Sights.{plain_sight}
 use Rattle.c_typing.specs.Files.{all_kept, items_in_turn, kept, plain_course, plain_file_item}
 use Rattle.c_typing.proofs.Turns.{items_done, items_more, items_refused}
-use Rattle.c_expression_rules.proofs.InPlace.{all_done, done, left, none_left, unvisited_step, within_step}
+use Rattle.c_scopes.proofs.InPlace.{all_done, done, left, none_left, unvisited_step, within_step}
 use Rattle.c_typing.proofs.file.type_each.Goals as goal
 
 pub loop-i-init : goal.loop-i-init

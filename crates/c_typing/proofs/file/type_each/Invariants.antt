@@ -1,7 +1,7 @@
 use Rattle.std.proofs.Common.{◌≡◌, ◌≤◌, drop, length, map, nat_eq, take}
 use Rattle.indexmap.specs.IndexMap.{get}
-use Rattle.c_expression_rules.specs.Sights.{plain_sight}
-use Rattle.c_expression_rules.proofs.InPlace.{Unvisited}
+use Rattle.c_scopes.specs.Sights.{plain_sight}
+use Rattle.c_scopes.proofs.InPlace.{Unvisited}
 use Rattle.c_declaration_rules.specs.OpenStructs.{IsOpen}
 use Rattle.c_typing.specs.Files.{all_kept, items_in_turn, plain_course, plain_file_item}
 use Rattle.c_typing.proofs.Turns.{behind_kept}

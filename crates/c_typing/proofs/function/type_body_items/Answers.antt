@@ -1,6 +1,6 @@
 use Rattle.std.proofs.Common.{ap}
 use Rattle.c_syntax.specs.Statements.{plain_items}
-use Rattle.c_expression_rules.specs.Sights.{plain_sight}
+use Rattle.c_scopes.specs.Sights.{plain_sight}
 use Rattle.c_typing.proofs.Bodies.{body_left}
 use Rattle.c_typing.proofs.function.type_body_items.Goals as goal
 

@@ -3,8 +3,8 @@ use Rattle.c_syntax.specs.Ctypes.{plain_type}
 use Rattle.c_syntax.specs.Statements.{plain_items}
 use Rattle.c_model.specs.StatementTyping.{typed_items}
 use Rattle.c_model.specs.TypedTrees.{around_body}
-use Rattle.c_expression_rules.specs.Answers.{Answers}
-use Rattle.c_expression_rules.specs.Sights.{plain_sight}
+use Rattle.c_scopes.specs.Answers.{Answers}
+use Rattle.c_scopes.specs.Sights.{plain_sight}
 use Rattle.c_typing.proofs.Bodies.{body_in_place}
 use Rattle.c_typing.proofs.function.type_body_kind.Goals as goal
 

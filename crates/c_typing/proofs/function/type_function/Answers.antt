@@ -1,9 +1,9 @@
 use Rattle.std.proofs.Common.{◌≡◌, rules, nat_eq, Err}
 use Rattle.indexmap.specs.IndexMap.{get}
 use Rattle.c_syntax.specs.Programs.{plain_func}
-use Rattle.c_expression_rules.specs.Answers.{Answers}
-use Rattle.c_expression_rules.specs.Sights.{plain_sight}
-use Rattle.c_expression_rules.proofs.Least.{one_refused}
+use Rattle.c_scopes.specs.Answers.{Answers}
+use Rattle.c_scopes.specs.Sights.{plain_sight}
+use Rattle.c_scopes.proofs.Least.{one_refused}
 use Rattle.c_typing.specs.Functions.{heading, typed_parts, with_function_by}
 use Rattle.c_typing.proofs.function.type_function.Goals as goal
 

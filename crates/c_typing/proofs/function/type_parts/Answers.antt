@@ -1,7 +1,7 @@
 use Rattle.std.proofs.Common.{◌∙◌, ap, map}
 use Rattle.c_syntax.specs.Statements.{plain_decl}
 use Rattle.c_model.specs.UnitTyping.{with_parameters}
-use Rattle.c_expression_rules.specs.Sights.{plain_sight}
+use Rattle.c_scopes.specs.Sights.{plain_sight}
 use Rattle.c_typing.proofs.Statements.{parameters_left}
 use Rattle.c_typing.proofs.function.type_parts.Goals as goal
 

@@ -2,9 +2,9 @@ use Rattle.std.proofs.Common.{sym, rules, nat_eq}
 use Rattle.c_syntax.specs.Programs.{Function, plain_func}
 use Rattle.c_model.specs.UnitTyping.{function_name}
 use Rattle.indexmap.specs.IndexMap.{get}
-use Rattle.c_expression_rules.specs.Answers.{Answers}
-use Rattle.c_expression_rules.specs.Sights.{plain_sight}
-use Rattle.c_expression_rules.proofs.Least.{both_made}
+use Rattle.c_scopes.specs.Answers.{Answers}
+use Rattle.c_scopes.specs.Sights.{plain_sight}
+use Rattle.c_scopes.proofs.Least.{both_made}
 use Rattle.c_typing.specs.Functions.{type_of_function}
 use Rattle.c_typing.proofs.heading.type_heading.Goals as goal
 

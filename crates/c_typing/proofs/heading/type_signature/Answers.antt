@@ -7,10 +7,10 @@ use Rattle.c_model.specs.ExpressionTyping.{inner, known_type, typed_type}
 use Rattle.c_model.specs.DeclarationTyping.{typed_result}
 use Rattle.c_model.specs.UnitTyping.{typed_parameters}
 use Rattle.indexmap.specs.IndexMap.{get}
-use Rattle.c_expression_rules.specs.declared.fault.TypeFault.{TypeFault}
-use Rattle.c_expression_rules.specs.Answers.{Answers, IfTold, both}
-use Rattle.c_expression_rules.specs.Sights.{plain_sight}
-use Rattle.c_expression_rules.proofs.Least.{both_made}
+use Rattle.c_scopes.specs.declared.fault.TypeFault.{TypeFault}
+use Rattle.c_scopes.specs.Answers.{Answers, IfTold, both}
+use Rattle.c_scopes.specs.Sights.{plain_sight}
+use Rattle.c_scopes.proofs.Least.{both_made}
 use Rattle.c_typing.specs.Functions.{fitting, fitting_type_by}
 use Rattle.c_typing.proofs.Functions.{fitting_by}
 use Rattle.c_typing.proofs.heading.type_signature.Goals as goal

@@ -3,7 +3,7 @@ use Rattle.c_syntax.specs.Statements.{plain_decl}
 use Rattle.c_model.specs.Checked.{Good}
 use Rattle.c_model.specs.DeclarationTyping.{typed_typedef}
 use Rattle.c_model.specs.UnitTyping.{with_type}
-use Rattle.c_expression_rules.specs.Answers.{Answers}
+use Rattle.c_scopes.specs.Answers.{Answers}
 use Rattle.c_typing.specs.Files.{plain_course}
 use Rattle.c_typing.proofs.ItemParts.{typedef_made, typedef_refused}
 use Rattle.c_typing.proofs.item.type_alias.Goals as goal

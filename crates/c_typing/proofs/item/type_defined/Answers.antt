@@ -1,7 +1,7 @@
 use Rattle.std.proofs.Common.{refl, rules, nat_eq}
 use Rattle.indexmap.specs.IndexMap.{get}
 use Rattle.c_syntax.specs.Programs.{plain_func}
-use Rattle.c_expression_rules.specs.Sights.{plain_sight}
+use Rattle.c_scopes.specs.Sights.{plain_sight}
 use Rattle.c_typing.specs.Files.{plain_course}
 use Rattle.c_typing.proofs.ItemParts.{defined_made}
 use Rattle.c_typing.proofs.item.type_defined.Goals as goal

@@ -1,6 +1,6 @@
 use Rattle.std.proofs.Common.{rules, map}
 use Rattle.c_syntax.specs.Programs.{plain_enumerator}
-use Rattle.c_expression_rules.specs.Sights.{plain_sight}
+use Rattle.c_scopes.specs.Sights.{plain_sight}
 use Rattle.c_typing.proofs.ItemParts.{enumerators_keep}
 use Rattle.c_typing.proofs.item.type_enum.Goals as goal
 

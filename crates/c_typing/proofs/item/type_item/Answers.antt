@@ -3,12 +3,12 @@ use Rattle.indexmap.specs.IndexMap.{get}
 use Rattle.c_syntax.specs.Statements.{Declaration, plain_decl}
 use Rattle.c_syntax.specs.Programs.{Function, plain_func}
 use Rattle.c_model.specs.UnitTyping.{AFunction, AGlobal, ATypedef}
-use Rattle.c_expression_rules.specs.Answers.{Answers}
-use Rattle.c_expression_rules.specs.Sights.{plain_sight}
+use Rattle.c_scopes.specs.Answers.{Answers}
+use Rattle.c_scopes.specs.Sights.{plain_sight}
 use Rattle.c_declaration_rules.specs.OpenStructs.{IsOpen}
 use Rattle.c_declaration_rules.proofs.OpenStructs.{kept_open}
 use Rattle.c_typing.specs.Files.{Course, defined_in_turn, global_in_turn, item_in_turn, plain_course, typedef_in_turn}
-use Rattle.c_expression_rules.proofs.Lists.{made_of}
+use Rattle.c_scopes.proofs.Lists.{made_of}
 use Rattle.c_typing.proofs.ItemParts.{still_open}
 use Rattle.c_typing.proofs.item.type_item.Goals as goal
 

@@ -1,6 +1,6 @@
 use Rattle.std.proofs.Common.{refl, rules}
 use Rattle.c_syntax.specs.Statements.{plain_decl}
-use Rattle.c_expression_rules.specs.Sights.{plain_sight}
+use Rattle.c_scopes.specs.Sights.{plain_sight}
 use Rattle.c_typing.specs.Files.{plain_course}
 use Rattle.c_typing.proofs.ItemParts.{global_made}
 use Rattle.c_typing.proofs.item.type_object.Goals as goal

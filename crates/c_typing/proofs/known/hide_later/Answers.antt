@@ -1,7 +1,7 @@
 use Rattle.std.proofs.Common.{◌<◌, ◌+◌, ◌≤◌, ◌≡◌, ◌∙◌, [], ◌∷◌, ◌++◌, rules, ap, sym, arith, length, map, slice_set, take}
 use Rattle.c_syntax.specs.Programs.{plain_layout}
 use Rattle.c_model.specs.AnnotationTyping.{known_before}
-use Rattle.c_expression_rules.proofs.InPlace.{all_done, done, seen, unvisited_step, within_step}
+use Rattle.c_scopes.proofs.InPlace.{all_done, done, seen, unvisited_step, within_step}
 use Rattle.c_typing.specs.KnownStructs.{sizes_of}
 use Rattle.c_typing.proofs.KnownStructs.{hidden_more, sizes_more}
 use Rattle.c_typing.proofs.known.hide_later.Goals as goal

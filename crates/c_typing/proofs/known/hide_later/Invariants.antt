@@ -1,7 +1,7 @@
 use Rattle.std.proofs.Common.{◌≡◌, ◌≤◌, length, map, take}
 use Rattle.c_syntax.specs.Programs.{plain_layout}
 use Rattle.c_model.specs.AnnotationTyping.{known_before}
-use Rattle.c_expression_rules.proofs.InPlace.{Unvisited}
+use Rattle.c_scopes.proofs.InPlace.{Unvisited}
 use Rattle.c_typing.specs.KnownStructs.{sizes_of}
 use Rattle.c_typing.proofs.known.hide_later.Given as goal
 

@@ -1,7 +1,7 @@
 use Rattle.std.proofs.Common.{◌<◌, ◌+◌, ◌≤◌, ◌≡◌, ◌∙◌, ◌++◌, rules, ap, sym, arith, drop, length, map, slice_set, take}
 use Rattle.std.proofs.lemmas.List.{append-nil}
 use Rattle.c_syntax.specs.Programs.{plain_layout}
-use Rattle.c_expression_rules.proofs.InPlace.{all_done, done, left, none_left, unvisited_step, within_step}
+use Rattle.c_scopes.proofs.InPlace.{all_done, done, left, none_left, unvisited_step, within_step}
 use Rattle.c_typing.specs.KnownStructs.{with_sizes}
 use Rattle.c_typing.proofs.KnownStructs.{no_more, shown_more}
 use Rattle.c_typing.proofs.known.show_all.Goals as goal

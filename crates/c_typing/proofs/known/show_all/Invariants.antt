@@ -1,6 +1,6 @@
 use Rattle.std.proofs.Common.{◌≡◌, ◌≤◌, ◌++◌, drop, length, map, take}
 use Rattle.c_syntax.specs.Programs.{plain_layout}
-use Rattle.c_expression_rules.proofs.InPlace.{Unvisited}
+use Rattle.c_scopes.proofs.InPlace.{Unvisited}
 use Rattle.c_typing.specs.KnownStructs.{with_sizes}
 use Rattle.c_typing.proofs.known.show_all.Given as goal
 

@@ -1,9 +1,9 @@
 use Rattle.std.proofs.Common.{◌≡◌, ◌≤◌, drop, length, take}
 use Rattle.c_syntax.specs.Statements.{plain_items}
 use Rattle.c_model.specs.AnnotationTyping.{noted_items}
-use Rattle.c_expression_rules.specs.Sights.{plain_sight}
+use Rattle.c_scopes.specs.Sights.{plain_sight}
 use Rattle.c_typing.specs.Blocks.{behind_items}
-use Rattle.c_expression_rules.proofs.BlockItems.{behind_block}
+use Rattle.c_scopes.proofs.BlockItems.{behind_block}
 use Rattle.c_typing.proofs.noted.+noted.Given as goal
 
 abbrev pub invariant-note_items-loop-i : goal.invariant-note_items-loop-i

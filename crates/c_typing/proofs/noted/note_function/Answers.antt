@@ -3,8 +3,8 @@ use Rattle.std.specs.Prelude.{OnOk}
 use Rattle.c_syntax.specs.Programs.{plain_func, plain_layout}
 use Rattle.c_model.specs.ExpressionTyping.{Sight}
 use Rattle.c_model.specs.AnnotationTyping.{known_at, known_before, noted_in}
-use Rattle.c_expression_rules.specs.Answers.{Answers}
-use Rattle.c_expression_rules.specs.Sights.{plain_sight}
+use Rattle.c_scopes.specs.Answers.{Answers}
+use Rattle.c_scopes.specs.Sights.{plain_sight}
 use Rattle.c_typing.specs.KnownStructs.{with_sizes}
 use Rattle.c_typing.proofs.KnownStructs.{on_ok, shown_again}
 use Rattle.c_typing.proofs.noted.note_function.Goals as goal

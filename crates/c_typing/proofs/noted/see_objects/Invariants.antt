@@ -1,7 +1,7 @@
 use Rattle.std.proofs.Common.{◌≡◌, length, map}
 use Rattle.c_syntax.specs.Statements.{plain_decl}
 use Rattle.c_model.specs.ExpressionTyping.{with_objects}
-use Rattle.c_expression_rules.specs.Sights.{plain_sight}
+use Rattle.c_scopes.specs.Sights.{plain_sight}
 use Rattle.c_typing.proofs.noted.see_objects.Given as goal
 
 abbrev pub invariant-turn : goal.invariant-turn

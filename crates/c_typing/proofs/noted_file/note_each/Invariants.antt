@@ -1,10 +1,10 @@
 use Rattle.std.proofs.Common.{◌≡◌, ◌≤◌, drop, length, map, nat_eq, take}
 use Rattle.indexmap.specs.IndexMap.{get}
-use Rattle.c_expression_rules.specs.Sights.{plain_sight}
-use Rattle.c_expression_rules.proofs.InPlace.{Unvisited}
+use Rattle.c_scopes.specs.Sights.{plain_sight}
+use Rattle.c_scopes.proofs.InPlace.{Unvisited}
 use Rattle.c_typing.specs.Files.{plain_file_item}
 use Rattle.c_typing.specs.NotedFiles.{all_behind, known_in_turn, notes_in_turn}
-use Rattle.c_expression_rules.proofs.Lists.{behind_parts}
+use Rattle.c_scopes.proofs.Lists.{behind_parts}
 use Rattle.c_typing.proofs.noted_file.note_each.Given as goal
 
 abbrev pub invariant-loop-i : goal.invariant-loop-i

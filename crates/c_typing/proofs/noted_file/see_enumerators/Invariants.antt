@@ -1,7 +1,7 @@
 use Rattle.std.proofs.Common.{◌≡◌, length, map, pos}
 use Rattle.c_syntax.specs.Programs.{plain_enumerator}
 use Rattle.c_model.specs.UnitTyping.{with_enumerators}
-use Rattle.c_expression_rules.specs.Sights.{plain_sight}
+use Rattle.c_scopes.specs.Sights.{plain_sight}
 use Rattle.c_typing.specs.NotedFiles.{ValuesKnown}
 use Rattle.c_typing.proofs.noted_file.see_enumerators.Given as goal
 

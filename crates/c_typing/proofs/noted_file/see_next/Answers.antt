@@ -7,7 +7,7 @@ use Rattle.c_syntax.specs.Expressions.{plain_expr}
 use Rattle.c_model.specs.Integers.{fits}
 use Rattle.c_model.specs.DeclarationTyping.{with_enumerator}
 use Rattle.c_model.specs.UnitTyping.{value_typed}
-use Rattle.c_expression_rules.specs.Sights.{plain_sight}
+use Rattle.c_scopes.specs.Sights.{plain_sight}
 use Rattle.c_typing.proofs.noted_file.see_next.Goals as goal
 
 pub see_value-requires : goal.see_value-requires

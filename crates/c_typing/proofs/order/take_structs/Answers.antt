@@ -4,7 +4,7 @@ use Rattle.c_syntax.specs.Programs.{plain_layout}
 use Rattle.c_model.specs.UnitTyping.{struct_items, unknown}
 use Rattle.c_typing.specs.Files.{bare, plain_file_item}
 use Rattle.c_typing.proofs.Items.{structs_left, structs_more}
-use Rattle.c_expression_rules.proofs.InPlace.{all_done, done, left, none_left, seen, unvisited_step, within_step}
+use Rattle.c_scopes.proofs.InPlace.{all_done, done, left, none_left, seen, unvisited_step, within_step}
 use Rattle.c_typing.proofs.order.take_structs.Goals as goal
 
 pub loop-k-preserved : goal.loop-k-preserved

@@ -1,7 +1,7 @@
 use Rattle.std.proofs.Common.{◌≡◌, ◌≤◌, ◌++◌, drop, length, map, take}
 use Rattle.c_syntax.specs.Programs.{plain_layout}
 use Rattle.c_model.specs.UnitTyping.{struct_items, unknown}
-use Rattle.c_expression_rules.proofs.InPlace.{Unvisited}
+use Rattle.c_scopes.proofs.InPlace.{Unvisited}
 use Rattle.c_typing.specs.Files.{bare, plain_file_item}
 use Rattle.c_typing.proofs.order.take_structs.Given as goal
 

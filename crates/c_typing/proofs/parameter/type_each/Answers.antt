@@ -1,8 +1,8 @@
 use Rattle.std.proofs.Common.{◌<◌, ◌+◌, rules, map, ◌≡◌, Err, arith, drop, length, slice_set, take}
 use Rattle.c_syntax.specs.Statements.{plain_decl}
-use Rattle.c_expression_rules.specs.Sights.{plain_sight}
+use Rattle.c_scopes.specs.Sights.{plain_sight}
 use Rattle.c_typing.proofs.Parameters.{parameters_more, parameters_refused, parameters_seen}
-use Rattle.c_expression_rules.proofs.InPlace.{done, left, unvisited_step, within_step}
+use Rattle.c_scopes.proofs.InPlace.{done, left, unvisited_step, within_step}
 use Rattle.c_typing.proofs.parameter.type_each.Goals as goal
 
 pub loop-i-preserved : goal.loop-i-preserved

@@ -1,6 +1,6 @@
 use Rattle.std.proofs.Common.{ap, map}
 use Rattle.c_syntax.specs.Statements.{plain_decl}
-use Rattle.c_expression_rules.specs.Sights.{plain_sight}
+use Rattle.c_scopes.specs.Sights.{plain_sight}
 use Rattle.c_typing.proofs.Statements.{parameters_left}
 use Rattle.c_typing.proofs.parameter.type_parameters.Goals as goal
 

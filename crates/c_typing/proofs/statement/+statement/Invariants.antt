@@ -1,10 +1,10 @@
 use Rattle.std.proofs.Common.{◌≡◌, ◌≤◌, drop, length, take}
 use Rattle.c_syntax.specs.Statements.{plain_items}
 use Rattle.c_model.specs.StatementTyping.{typed_items}
-use Rattle.c_expression_rules.specs.Sights.{plain_sight}
+use Rattle.c_scopes.specs.Sights.{plain_sight}
 use Rattle.c_typing.specs.Trees.{plain_around}
 use Rattle.c_typing.specs.Blocks.{behind_items}
-use Rattle.c_expression_rules.proofs.BlockItems.{behind_block}
+use Rattle.c_scopes.proofs.BlockItems.{behind_block}
 use Rattle.c_typing.proofs.statement.+statement.Given as goal
 
 abbrev pub invariant-type_items-loop-i : goal.invariant-type_items-loop-i

@@ -2,8 +2,8 @@ use Rattle.std.proofs.Common.{◌≡◌, rules, Err}
 use Rattle.c_syntax.specs.Expressions.{plain_expr}
 use Rattle.c_model.specs.ExpressionTyping.{decayed_of, typed}
 use Rattle.c_model.specs.StatementTyping.{condition}
-use Rattle.c_expression_rules.specs.Sights.{plain_sight}
-use Rattle.c_expression_rules.proofs.Least.{one_refused}
+use Rattle.c_scopes.specs.Sights.{plain_sight}
+use Rattle.c_scopes.proofs.Least.{one_refused}
 use Rattle.c_typing.proofs.statement.type_condition.Goals as goal
 
 pub returns-in_err-type_value : goal.returns-in_err-type_value

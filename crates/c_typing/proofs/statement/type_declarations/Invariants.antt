@@ -2,9 +2,9 @@ use Rattle.std.proofs.Common.{◌≡◌, ◌≤◌, drop, length, map, take}
 use Rattle.c_syntax.specs.Statements.{plain_decl}
 use Rattle.c_model.specs.ExpressionTyping.{with_objects}
 use Rattle.c_model.specs.StatementTyping.{typed_declarations}
-use Rattle.c_expression_rules.specs.Sights.{plain_sight}
-use Rattle.c_expression_rules.proofs.InPlace.{Unvisited}
-use Rattle.c_expression_rules.proofs.Lists.{behind_parts}
+use Rattle.c_scopes.specs.Sights.{plain_sight}
+use Rattle.c_scopes.proofs.InPlace.{Unvisited}
+use Rattle.c_scopes.proofs.Lists.{behind_parts}
 use Rattle.c_typing.proofs.statement.type_declarations.Given as goal
 
 abbrev pub invariant-loop-i : goal.invariant-loop-i

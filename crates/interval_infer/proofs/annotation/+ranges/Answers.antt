@@ -5,7 +5,7 @@ use Rattle.c_syntax.specs.declared.logic.TermKind as term
 use Rattle.c_syntax.specs.Ctypes.{plain_type}
 use Rattle.c_syntax.specs.Logic.{plain_links, plain_pred_kind, plain_term_kind}
 use Rattle.c_model.specs.TermRanges.{ranged_links, ranged_pred, ranged_term}
-use Rattle.c_expression_rules.specs.Answers.{Answers, both}
+use Rattle.c_scopes.specs.Answers.{Answers, both}
 use Rattle.interval_infer.specs.Answers.{or_no_range}
 use Rattle.interval_infer.proofs.Ranged.{Is, IsPred, variable_in_place, unary_in_place, cast_in_place, binary_in_place, binary_refused, choice_in_place, choice_refused}
 use Rattle.interval_infer.proofs.Ranged.{chain_in_place, connected_in_place, branch_in_place, links_in_place, in_order, refused_too}

@@ -1,5 +1,5 @@
 use Rattle.std.proofs.Common.{◌+◌, ◌<◌, rules, arith, length, slice_set, take}
-use Rattle.c_expression_rules.proofs.InPlace.{done, seen, unvisited_step, within_step}
+use Rattle.c_scopes.proofs.InPlace.{done, seen, unvisited_step, within_step}
 use Rattle.interval_infer.proofs.Rows.{rows_step}
 use Rattle.interval_infer.proofs.annotation.clause_ranges.Goals as goal
 

@@ -1,8 +1,8 @@
 use Rattle.std.proofs.Common.{◌≤◌, IfErr, length, map, take}
 use Rattle.c_syntax.specs.Logic.{plain_annot}
 use Rattle.c_model.specs.TermRanges.{ranged_annotations}
-use Rattle.c_expression_rules.specs.Answers.{Answers, IsRefusal}
-use Rattle.c_expression_rules.proofs.InPlace.{Unvisited}
+use Rattle.c_scopes.specs.Answers.{Answers, IsRefusal}
+use Rattle.c_scopes.proofs.InPlace.{Unvisited}
 use Rattle.interval_infer.proofs.annotation.clause_ranges.Given as goal
 
 abbrev pub invariant-loop-i : goal.invariant-loop-i

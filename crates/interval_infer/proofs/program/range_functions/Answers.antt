@@ -2,7 +2,7 @@ use Rattle.std.proofs.Common.{◌≡◌, ◌+◌, ◌<◌, ◌≤◌, rules, ap,
 use Rattle.c_syntax.specs.Programs.{plain_func}
 use Rattle.c_model.specs.Checked.{Good}
 use Rattle.c_model.specs.AnnotationRanges.{ranged_functions}
-use Rattle.c_expression_rules.proofs.InPlace.{all_done, done, left, none_left, unvisited_step, within_step}
+use Rattle.c_scopes.proofs.InPlace.{all_done, done, left, none_left, unvisited_step, within_step}
 use Rattle.interval_infer.proofs.Blocks.{functions_done, functions_more}
 use Rattle.interval_infer.proofs.program.range_functions.Goals as goal
 

@@ -1,8 +1,8 @@
 use Rattle.std.proofs.Common.{◌≡◌, ◌≤◌, drop, length, map, take}
 use Rattle.c_syntax.specs.Programs.{plain_func}
 use Rattle.c_model.specs.AnnotationRanges.{ranged_functions}
-use Rattle.c_expression_rules.proofs.InPlace.{Unvisited}
-use Rattle.c_expression_rules.proofs.Lists.{behind_parts}
+use Rattle.c_scopes.proofs.InPlace.{Unvisited}
+use Rattle.c_scopes.proofs.Lists.{behind_parts}
 use Rattle.interval_infer.proofs.program.range_functions.Given as goal
 
 abbrev pub invariant-loop-i : goal.invariant-loop-i

@@ -2,8 +2,8 @@ use Rattle.std.proofs.Common.{◌≡◌, ◌+◌, ◌<◌, ◌≤◌, rules, ap,
 use Rattle.c_syntax.specs.Statements.{plain_items}
 use Rattle.c_model.specs.Checked.{Good}
 use Rattle.c_model.specs.AnnotationRanges.{ranged_items}
-use Rattle.c_expression_rules.specs.Answers.{Answers}
-use Rattle.c_expression_rules.proofs.InPlace.{all_done, done, left, none_left, unvisited_step, within_step}
+use Rattle.c_scopes.specs.Answers.{Answers}
+use Rattle.c_scopes.proofs.InPlace.{all_done, done, left, none_left, unvisited_step, within_step}
 use Rattle.interval_infer.proofs.Blocks.{block_done, block_in_place, block_more}
 use Rattle.interval_infer.proofs.statement.+statements.Goals as goal
 

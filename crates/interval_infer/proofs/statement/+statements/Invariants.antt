@@ -1,7 +1,7 @@
 use Rattle.std.proofs.Common.{◌≡◌, ◌≤◌, drop, length, take}
 use Rattle.c_syntax.specs.Statements.{plain_items}
 use Rattle.c_model.specs.AnnotationRanges.{ranged_items}
-use Rattle.c_expression_rules.proofs.BlockItems.{behind_block}
+use Rattle.c_scopes.proofs.BlockItems.{behind_block}
 use Rattle.interval_infer.proofs.statement.+statements.Given as goal
 
 abbrev pub invariant-range_items-loop-i : goal.invariant-range_items-loop-i

@@ -1,9 +1,0 @@
-use Rattle.std.proofs.Common.{◌≡◌, length, take}
-use Rattle.c_expression_rules.specs.Newest.{entities_of}
-use Rattle.c_expression_rules.proofs.entities.Entities.truncate.Given as goal
-
-abbrev pub invariant-loop-self : goal.invariant-loop-self
-invariant-loop-self l = take l.count (entities_of l.self.declared.items) ≡ take l.count (entities_of l.fn.self.declared.items)
-
-abbrev pub decreases-loop-self : goal.decreases-loop-self
-decreases-loop-self l = length (entities_of l.self.declared.items)

@@ -1,6 +1,0 @@
-use Rattle.std.proofs.Common.{ap}
-use Rattle.c_expression_rules.specs.Sights.{plain_sight}
-use Rattle.c_expression_rules.proofs.sight.leave.Goals as goal
-
-pub returns : goal.returns
-returns c = let s = plain_sight c.args.sight.now in ap (λ es. record s { entities = es; innermost = c.args.mark.innermost }) c.truncate.ensures

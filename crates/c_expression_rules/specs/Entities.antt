@@ -1,9 +1,0 @@
--- Ours: the plain form of what is in sight (C99 6.2.1).
--- Objects and enumerators, in their order.
-use Rattle.std.specs.Prelude.{List}
-use Rattle.c_model.specs.ExpressionTyping as plain
-use Rattle.c_expression_rules.specs.declared.entities.Entities.{Entities}
-use Rattle.c_expression_rules.specs.Newest.{entities_of}
-
-abbrev pub plain_entities : Entities → List plain.Entity
-plain_entities s = entities_of s.declared.items

@@ -1,0 +1,9 @@
+pub mod InPlace
+pub mod Least
+pub mod Lists
+pub mod BlockItems
+pub mod Newest
+pub mod Firsts
+pub mod Named
+pub mod Tags
+pub mod Told

@@ -1,0 +1,12 @@
+pub mod Answers
+pub mod Entities
+pub mod Entity
+pub mod Firsts
+pub mod Library
+pub mod Limits
+pub mod Literals
+pub mod Newest
+pub mod Sights
+pub mod Signatures
+pub mod Tags
+pub mod TypeNames

@@ -1,0 +1,119 @@
+//! The objects and enumerators in sight (C99 6.2.1). Each is found by its name without a look at all of them.
+
+ghost use Rattle.std.specs.Prelude.{◌≡◌, [], ◌∷◌, ◌++◌, ◌-◌, cond, drop, is_ok, length, option_map, take};
+ghost use Rattle.c_model.specs.ExpressionTyping.{entity_named};
+ghost use Rattle.c_scopes.specs.Entity.{plain_entity};
+ghost use Rattle.c_scopes.specs.Newest.{AreHidden, AreNewest, entities_of};
+
+use crate::entity::{Entity, name_of};
+use indexmap::IndexMap;
+use std::alloc::{AllocError, Global};
+
+/// An object or an enumerator, and the number of the newest before it that has its name.
+#[derive(Drop)]
+pub struct Declared {
+    pub entity: Entity,
+    pub hidden: Option<usize>,
+}
+
+/// Objects and enumerators, the newest last.
+#[derive(Drop)]
+pub struct Entities {
+    pub declared: Vec<Declared>,
+    /// The number of the newest of each name.
+    pub newest: IndexMap<u32, usize>,
+    ghost hidden: { AreHidden declared.items },
+    ghost found: { AreNewest (entities_of declared.items) newest.entries },
+}
+
+impl Entities {
+    /// None.
+    pub fn new(alloc: Global) -> Self
+        ensures { result.declared.items ≡ [] }
+    {
+        Entities {
+            declared: Vec::new(alloc),
+            newest: IndexMap::new(alloc),
+        }
+    }
+
+    /// How many there are.
+    pub fn len(&self) -> usize
+        ensures { result ≡ length (entities_of self.now.declared.items) }
+    {
+        self.declared.len()
+    }
+
+    /// The newest of a name.
+    pub fn named(&self, name: u32) -> Option<&Entity>
+        ensures { option_map (λ e. plain_entity e.now) result ≡ entity_named name (entities_of self.now.declared.items) }
+    {
+        match self.newest.get(&name) {
+            Some(number) => Some(&self.declared[*number].entity),
+            None => None,
+        }
+    }
+
+    /// The newest of a name among those from a number on.
+    pub fn named_from(&self, from: usize, name: u32) -> Option<&Entity>
+        ensures { option_map (λ e. plain_entity e.now) result ≡ entity_named name (drop from (entities_of self.now.declared.items)) }
+    {
+        match self.newest.get(&name) {
+            Some(number) => {
+                if from <= *number {
+                    Some(&self.declared[*number].entity)
+                } else {
+                    None
+                }
+            }
+            None => None,
+        }
+    }
+
+    /// One more.
+    pub fn push(&mut self, entity: Entity) -> Result<(), AllocError>
+        ensures { entities_of self.new.declared.items
+            ≡ cond (is_ok result) (entities_of self.old.declared.items ++ plain_entity entity ∷ []) (entities_of self.old.declared.items) }
+    {
+        let name = name_of(&entity);
+        let number = self.declared.len();
+        let hidden = self.newest.get(&name).copied();
+        self.declared.push(Declared { entity, hidden })?;
+        match self.newest.insert(name, number) {
+            Ok(_) => Ok(()),
+            Err(e) => {
+                self.declared.truncate(number);
+                Err(e.into())
+            }
+        }
+    }
+
+    /// Takes the newest away, so that what it hides is found again.
+    fn pop(&mut self)
+        ensures { entities_of self.new.declared.items ≡ take (length (entities_of self.old.declared.items) - 1) (entities_of self.old.declared.items) }
+    {
+        if let Some(last) = self.declared.pop() {
+            let name = name_of(&last.entity);
+            let hidden = last.hidden;
+            drop(last);
+            match hidden {
+                Some(number) => match self.newest.insert(name, number) {
+                    Ok(_) => (),
+                    Err(_) => (),
+                },
+                None => {
+                    self.newest.swap_remove(&name);
+                }
+            }
+        }
+    }
+
+    /// Keeps the first so many.
+    pub fn truncate(&mut self, count: usize)
+        ensures { entities_of self.new.declared.items ≡ take count (entities_of self.old.declared.items) }
+    {
+        while self.declared.len() > count {
+            self.pop();
+        }
+    }
+}
