@@ -3,6 +3,8 @@ pub mod Layouts
 pub mod Sizes
 pub mod Trees
 pub mod FullTrees
+pub mod Pures
+pub mod FullForms
 pub mod Objects
 pub mod Depths
 pub mod ScalarTrees

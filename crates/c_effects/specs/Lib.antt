@@ -1,5 +1,7 @@
 pub mod Expressions
 pub mod Effects
+pub mod Full
+pub mod FullLaws
 pub mod Letters
 pub mod Parts
 pub mod Named

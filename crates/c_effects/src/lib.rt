@@ -19,3 +19,6 @@ pub mod effect;
 pub mod expression;
 pub mod full;
 pub mod object;
+
+// laws
+pub mod laws;
