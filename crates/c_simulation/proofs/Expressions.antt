@@ -98,14 +98,14 @@ module _ (w : Setting) (n : ℕ) (s : State) (target : Target) where
   makes at k P e (Some v) f h = MakesValue (Integer v) (v, refl, f v refl) refl (h v refl)
 
   -- `+`, `-` and `~` of a type
-  unary_makes : (at : Place) (op : UnOp) (k : CInt) (e : MonExpression) (v : Value) (high : ℕ) (after : List Value) → ((k : CInt) (z v : ℤ) → fits k z ≡ true → operate_one (Int k) op z ≡ Some v → fits k v ≡ true) → IsOf (IntegerType k) v
+  pub unary_makes : (at : Place) (op : UnOp) (k : CInt) (e : MonExpression) (v : Value) (high : ℕ) (after : List Value) → ((k : CInt) (z v : ℤ) → fits k z ≡ true → operate_one (Int k) op z ≡ Some v → fits k v ≡ true) → IsOf (IntegerType k) v
       → Makes w n target s (IntegerType k) (defined at (operate_value (Int k) op v) s) (λ later. Same high after later × Has w e later target.mem v) (unary op (register_type k) e)
   unary_makes at op k e v high after kept i =
       of_integer k (λ v. Makes w n target s (IntegerType k) (defined at (operate_value (Int k) op v) s) (λ later. Same high after later × Has w e later target.mem v) (unary op (register_type k) e)) v i (λ z f.
       makes at k (λ later. Same high after later × Has w e later target.mem (Integer z)) (unary op (register_type k) e) (operate_one (Int k) op z)
       (λ v d. kept k z v f d) (λ v d later p. unary_is w later target.mem k op e z v f d p.1))
 
-  binary_makes : (at : Place) (unit : ℕ) (op : BinOp) (t u v : PlainType) (x y : MonExpression) (i j : Value) (m : BinaryAt op t u v) → IsOf (IntegerType m.left) i → IsOf (IntegerType m.right) j
+  pub binary_makes : (at : Place) (unit : ℕ) (op : BinOp) (t u v : PlainType) (x y : MonExpression) (i j : Value) (m : BinaryAt op t u v) → IsOf (IntegerType m.left) i → IsOf (IntegerType m.right) j
       → Makes w n target s (IntegerType (type_of_result op m.left)) (computed at (λ store. operate_values unit t op store i j) s) (λ later. Has w x later target.mem i × Has w y later target.mem j)
       (binary op (register_type m.left) (register_type m.right) x y)
   binary_makes at unit op t u v x y i j m f g =
@@ -117,13 +117,13 @@ module _ (w : Setting) (n : ℕ) (s : State) (target : Target) where
       (λ z d. fits-operate_in m.left op a b z fa (λ sh. subst (λ l. fits l b ≡ true) (m.alike sh) fb) (sym (m.same a b) ∙ d))
       (λ z d later p. binary_is w later target.mem m.left m.right op x y a b z fa fb m.alike (sym (m.same a b) ∙ d) p.0 p.1)))
 
-plus_fits : (k : CInt) (z v : ℤ) → fits k z ≡ true → operate_one (Int k) prefix.Plus z ≡ Some v → fits k v ≡ true
+pub plus_fits : (k : CInt) (z v : ℤ) → fits k z ≡ true → operate_one (Int k) prefix.Plus z ≡ Some v → fits k v ≡ true
 plus_fits k z v f d = fits-operate_one_in k prefix.Plus z v f d
 
-minus_fits : (k : CInt) (z v : ℤ) → fits k z ≡ true → operate_one (Int k) prefix.Minus z ≡ Some v → fits k v ≡ true
+pub minus_fits : (k : CInt) (z v : ℤ) → fits k z ≡ true → operate_one (Int k) prefix.Minus z ≡ Some v → fits k v ≡ true
 minus_fits k z v f d = fits-operate_one_in k prefix.Minus z v f d
 
-flip_fits : (k : CInt) (z v : ℤ) → fits k z ≡ true → operate_one (Int k) prefix.Flip z ≡ Some v → fits k v ≡ true
+pub flip_fits : (k : CInt) (z v : ℤ) → fits k z ≡ true → operate_one (Int k) prefix.Flip z ≡ Some v → fits k v ≡ true
 flip_fits k z v f d = fits-operate_one_in k prefix.Flip z v f d
 
 pointer_type : (t : PlainType) (k : Scalar) → source.is_pointer t ≡ true → scalar_of t ≡ Some k → PointerType ≡ k

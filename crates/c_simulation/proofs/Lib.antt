@@ -24,3 +24,19 @@ pub mod Compounds
 pub mod Stores
 pub mod Bases
 pub mod Copies
+-- expressions with effects anywhere
+pub mod Settled
+pub mod Unchanged
+pub mod Members
+pub mod Operands
+pub mod Conditions
+pub mod Designated
+pub mod Arguments
+pub mod AssignedObjects
+pub mod StoredValues
+pub mod Assignments
+pub mod Changes
+pub mod Dropped
+pub mod Casts
+pub mod EffectForms
+pub mod EffectLaws

@@ -35,7 +35,7 @@ pub data Quiet {A : Type 0} (P : A → Type 0) (s : State) (r : Outcome A) : Typ
   Gives : (a : A) → P a → r ≡ Normal a s → Quiet P s r
   IsUndefined : (at : Place) → r ≡ Stop (Over (Undefined at)) s → Quiet P s r
 
-quiet_then : {A B : Type 0} (P : A → Type 0) (Q : B → Type 0) (s : State) (r : Outcome A) (f : A → Evaluation B) → Quiet P s r → ((a : A) → P a → Quiet Q s (f a s)) → Quiet Q s (on_outcome r f)
+pub quiet_then : {A B : Type 0} (P : A → Type 0) (Q : B → Type 0) (s : State) (r : Outcome A) (f : A → Evaluation B) → Quiet P s r → ((a : A) → P a → Quiet Q s (f a s)) → Quiet Q s (on_outcome r f)
 quiet_then P Q s r f (IsUndefined at e) h = IsUndefined at (ap (λ r. on_outcome r f) e)
 quiet_then P Q s r f (Gives a p e) h = by (h a p)
   where
@@ -43,22 +43,22 @@ quiet_then P Q s r f (Gives a p e) h = by (h a p)
     by (Gives b q g) = Gives b q (ap (λ r. on_outcome r f) e ∙ g)
     by (IsUndefined at g) = IsUndefined at (ap (λ r. on_outcome r f) e ∙ g)
 
-quiet_defined : {A : Type 0} (P : A → Type 0) (at : Place) (o : Option A) (s : State) → ((a : A) → o ≡ Some a → P a) → Quiet P s (defined at o s)
+pub quiet_defined : {A : Type 0} (P : A → Type 0) (at : Place) (o : Option A) (s : State) → ((a : A) → o ≡ Some a → P a) → Quiet P s (defined at o s)
 quiet_defined P at None s h = IsUndefined at refl
 quiet_defined P at (Some a) s h = Gives a (h a refl) refl
 
 -- ---- kinds of values
 
-integers : (t : PlainType) (k : CInt) (v : Value) (z : ℤ) → t ≡ Int k → v ≡ Integer z → HasKind (scalar_of t) v
+pub integers : (t : PlainType) (k : CInt) (v : Value) (z : ℤ) → t ≡ Int k → v ≡ Integer z → HasKind (scalar_of t) v
 integers t k v z is e = subst (λ u. HasKind (scalar_of u) v) (sym is) (z, e)
 
-pointers : (t u : PlainType) (v : Value) (p : Pointer) → t ≡ Ptr u → v ≡ Points p → HasKind (scalar_of t) v
+pub pointers : (t u : PlainType) (v : Value) (p : Pointer) → t ≡ Ptr u → v ≡ Points p → HasKind (scalar_of t) v
 pointers t u v p is e = subst (λ u. HasKind (scalar_of u) v) (sym is) (p, e)
 
-integer_of : (t : PlainType) (k : CInt) (v : Value) → t ≡ Int k → HasKind (scalar_of t) v → (z : ℤ) × (v ≡ Integer z)
+pub integer_of : (t : PlainType) (k : CInt) (v : Value) → t ≡ Int k → HasKind (scalar_of t) v → (z : ℤ) × (v ≡ Integer z)
 integer_of t k v is h = subst (λ u. HasKind (scalar_of u) v) is h
 
-pointer_in : (t u : PlainType) (v : Value) → t ≡ Ptr u → HasKind (scalar_of t) v → (p : Pointer) × (v ≡ Points p)
+pub pointer_in : (t u : PlainType) (v : Value) → t ≡ Ptr u → HasKind (scalar_of t) v → (p : Pointer) × (v ≡ Points p)
 pointer_in t u v is h = subst (λ u. HasKind (scalar_of u) v) is h
 
 mapped_integer : (o : Option ℤ) (v : Value) → option_map Integer o ≡ Some v → (z : ℤ) × (v ≡ Integer z)
@@ -81,7 +81,7 @@ from_kind (IntegerType k) bytes v e = by (number_of bytes) e
     by None e = absurd cc
     by (Some n) e = (value_of_bits k n, cc)
 
-load_kind : (store : Store) (p : Pointer) (k : Scalar) (v : Value) → load store p k ≡ Some v → HasKind (Some k) v
+pub load_kind : (store : Store) (p : Pointer) (k : Scalar) (v : Value) → load store p k ≡ Some v → HasKind (Some k) v
 load_kind store p k v e = by (load_bytes store p (scalar_size k)) refl
   where
     by : (o : Option (List Byte)) → load_bytes store p (scalar_size k) ≡ o → HasKind (Some k) v
@@ -114,7 +114,7 @@ two_kind unit operator.Ge store p q v e = mapped_truth _ (distance store p q) v 
 two_kind unit _ store p q v e = absurd cc
 
 -- an operator gives a value of its type
-binary_kind : (s : Sight) (unit : ℕ) (t u v : PlainType) (op : BinOp) (store : Store) (x y z : Value) → BinaryTypes s op t u v → HasKind (scalar_of u) x → HasKind (scalar_of v) y
+pub binary_kind : (s : Sight) (unit : ℕ) (t u v : PlainType) (op : BinOp) (store : Store) (x y z : Value) → BinaryTypes s op t u v → HasKind (scalar_of u) x → HasKind (scalar_of v) y
     → operate_values unit t op store x y ≡ Some z → HasKind (scalar_of t) z
 binary_kind s unit t u v op store x y z (OfIntegers i) hx hy e =
     let a = integer_of u _ x i.left.is hx in
@@ -146,7 +146,7 @@ binary_kind s unit t u v op store x y z (OfPointers relation p q is) hx hy e =
     let made = two_kind unit op store a.0 b.0 z (sym (λ j. operate_values unit t op store (a.1 j) (b.1 j)) ∙ e) in
     integers t I32 z made.0 is made.1
 
-one_kind : (t u : PlainType) (k : CInt) (op : UnOp) (x z : Value) → u ≡ Int k → t ≡ u → HasKind (scalar_of u) x → operate_value t op x ≡ Some z → HasKind (scalar_of t) z
+pub one_kind : (t u : PlainType) (k : CInt) (op : UnOp) (x z : Value) → u ≡ Int k → t ≡ u → HasKind (scalar_of u) x → operate_value t op x ≡ Some z → HasKind (scalar_of t) z
 one_kind t u k op x z is same h e =
     let a = integer_of u k x is h in
     let made = mapped_integer (operate_one t op a.0) z (sym (ap (operate_value t op) a.1) ∙ e) in
@@ -163,11 +163,11 @@ left_true false b e = absurd cc
 
 -- ---- quiet parts
 
-quiet_read : (at : Place) (p : Pointer) (k : Option Scalar) (s : State) → Quiet (HasKind k) s (read_any at p k s)
+pub quiet_read : (at : Place) (p : Pointer) (k : Option Scalar) (s : State) → Quiet (HasKind k) s (read_any at p k s)
 quiet_read at p None s = Gives NoValue tt refl
 quiet_read at p (Some k) s = quiet_defined (HasKind (Some k)) at (load s.store p k) s (load_kind s.store p k)
 
-quiet_named : (at : Place) (t : PlainType) (x : Use) (o : Option ℕ) (s : State) → Quiet (HasKind (scalar_of t)) s (named at t x o s)
+pub quiet_named : (at : Place) (t : PlainType) (x : Use) (o : Option ℕ) (s : State) → Quiet (HasKind (scalar_of t)) s (named at t x o s)
 quiet_named at t x (Some n) s = quiet_read at (Into n 0) (scalar_of t) s
 quiet_named at t x None s = by (is_pointer t && is_of_library x) refl
   where
@@ -175,34 +175,34 @@ quiet_named at t x None s = by (is_pointer t && is_of_library x) refl
     by true e = Gives (Points Null) (pointer_kind t (left_true (is_pointer t) (is_of_library x) e)) refl
     by false e = IsUndefined at refl
 
-quiet_tested : (at : Place) (P : Value → Type 0) (s : State) (r : Outcome Value) → Quiet P s r → Quiet Any s (on_outcome r (tested at))
+pub quiet_tested : (at : Place) (P : Value → Type 0) (s : State) (r : Outcome Value) → Quiet P s r → Quiet Any s (on_outcome r (tested at))
 quiet_tested at P s r h = quiet_then P Any s r (tested at) h (λ v p. quiet_defined Any at (tested_value s.store v) s (λ a e. tt))
 
-abbrev IsPointed : Value → Type 0
+abbrev pub IsPointed : Value → Type 0
 IsPointed v = (p : Pointer) × (v ≡ Points p)
 
-quiet_pointed : (s : State) (r : Outcome Value) → Quiet IsPointed s r → Quiet Any s (on_outcome r pointed_to)
+pub quiet_pointed : (s : State) (r : Outcome Value) → Quiet IsPointed s r → Quiet Any s (on_outcome r pointed_to)
 quiet_pointed s r h = quiet_then IsPointed Any s r pointed_to h (λ v p. Gives p.0 tt (ap (λ v. pointed_to v s) p.1))
 
-quiet_address : (e : Expression) (p : Pointer) (s : State) → Quiet IsPointed s (address e p s)
+pub quiet_address : (e : Expression) (p : Pointer) (s : State) → Quiet IsPointed s (address e p s)
 quiet_address e p s = by (is_member e)
   where
     by : (b : Bool) → Quiet IsPointed s ((if b then computed (place_of e) (λ store. option_map Points (moved store p (pos 0))) else give (Points p)) s)
     by true = quiet_defined IsPointed (place_of e) (option_map Points (moved s.store p (pos 0))) s (mapped_pointer (moved s.store p (pos 0)))
     by false = Gives (Points p) (p, refl) refl
 
-quiet_choice : {A : Type 0} (P : A → Type 0) (s : State) (v : Value) (a b : Evaluation A) → Quiet P s (a s) → Quiet P s (b s) → Quiet P s (choose v a b s)
+pub quiet_choice : {A : Type 0} (P : A → Type 0) (s : State) (v : Value) (a b : Evaluation A) → Quiet P s (a s) → Quiet P s (b s) → Quiet P s (choose v a b s)
 quiet_choice P s v a b h g = by (is_zero v)
   where
     by : (t : Bool) → Quiet P s (cond t b a s)
     by true = g
     by false = h
 
-as_kind : (P Q : Value → Type 0) (s : State) (r : Outcome Value) → ((v : Value) → P v → Q v) → Quiet P s r → Quiet Q s r
+pub as_kind : (P Q : Value → Type 0) (s : State) (r : Outcome Value) → ((v : Value) → P v → Q v) → Quiet P s r → Quiet Q s r
 as_kind P Q s r f (Gives v p e) = Gives v (f v p) e
 as_kind P Q s r f (IsUndefined at e) = IsUndefined at e
 
-not_array : (t : PlainType) (k : Scalar) → scalar_of t ≡ Some k → is_array t ≡ false
+pub not_array : (t : PlainType) (k : Scalar) → scalar_of t ≡ Some k → is_array t ≡ false
 not_array (Array t n) k e = absurd cc
 not_array _ k e = refl
 

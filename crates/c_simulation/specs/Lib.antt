@@ -4,4 +4,7 @@ pub mod Keeping
 pub mod Standing
 pub mod Following
 pub mod Reaching
+pub mod Calls
+pub mod EffectLetters
 pub mod Laws
+pub mod EffectLaws

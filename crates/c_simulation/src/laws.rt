@@ -1,5 +1,12 @@
 //! What the translation of expressions does. It has nothing to do itself.
 
+ghost use Rattle.c_simulation.specs.EffectLaws.{
+  EffectConditionsReach,
+  EffectOriginsReach,
+  EffectPlacesReach,
+  EffectValuesReach,
+  EffectsReach,
+};
 ghost use Rattle.c_simulation.specs.Laws.{
   ConditionsFollow,
   ConditionsReach,
@@ -19,4 +26,15 @@ pub fn expressions()
     ensures values_reach { ValuesReach }
     ensures places_reach { PlacesReach }
     ensures conditions_reach { ConditionsReach }
+{}
+
+/// The translation of any expression, with effects and calls anywhere in it, reaches what the source's evaluation comes to: its
+/// statements and then its value, its place, the object in which it is a member, or its test; and the statements that stand for
+/// its effects alone. The functions that it calls are taken to do what the source's calls do.
+pub fn effects()
+    ensures values { EffectValuesReach }
+    ensures conditions { EffectConditionsReach }
+    ensures places { EffectPlacesReach }
+    ensures origins { EffectOriginsReach }
+    ensures alone { EffectsReach }
 {}

@@ -1,35 +1,31 @@
 -- Full expressions: one without effects, or a call with its arguments, whose value a temporary register takes, perhaps in a cast.
-use Rattle.std.proofs.Common.{◌≡◌, ℕ, suc, ◌≤◌, ◌<◌, pos, true, false, cond, List, [], ◌∷◌, ◌++◌, length, Option, Some, None, slice_set, refl, sym, ap, ◌∙◌, subst, arith}
+use Rattle.std.proofs.Common.{◌≡◌, ℕ, suc, ◌≤◌, ◌<◌, true, false, cond, List, [], ◌∷◌, ◌++◌, length, Option, Some, None, slice_set, refl, sym, ap, ◌∙◌, subst, arith}
 use Rattle.std.proofs.lemmas.List.{append-nil, length-append}
 use Rattle.c_syntax.specs.declared.place.Place.{Place}
-use Rattle.c_syntax.specs.declared.types.CInt.{CInt}
 use Rattle.c_syntax.specs.declared.expression.Use.{Use}
 use Rattle.c_syntax.specs.Ctypes.{PlainType, Int, Ptr}
 use Rattle.c_syntax.specs.Expressions.{Expression, Node, Call, Cast, Expressions, NoExpression, Following, type_of}
 use Rattle.c_syntax.specs.Layouts.{Scalar, IntegerType, PointerType, scalar_of}
-use Rattle.c_model.specs.Integers.{convert}
-use Rattle.c_model.specs.Memory.{Null, Value}
+use Rattle.c_model.specs.Memory.{Value}
 use Rattle.c_model.specs.State.{State, Outcome, Normal, Stop, Over, Undefined, Evaluation, on_outcome, ◌>>=◌, give}
-use Rattle.c_model.specs.Meaning.{Tables, tables_of, eval_with, evals_with, place_with, address, converted, is_array}
+use Rattle.c_model.specs.Meaning.{Tables, tables_of, eval_with, evals_with, place_with, address, converted}
 use Rattle.c_model.specs.ExpressionTyping.{Sight}
 use Rattle.c_model.specs.ExpressionTyping.{has_object}
 use Rattle.c_model.specs.TypedTrees.{HaveTypes, Calls, WellTyped, AreWellTyped, CastTypes, ToVoid, OfInteger, OfPointer, OfNullConstant, OfArray}
 use Rattle.c_model.proofs.Agreement.{extends_trans}
-use Rattle.c_model.proofs.Conversions.{fits-convert}
 use Rattle.mon_syntax.specs.declared.tree.MonType.{MonType}
-use Rattle.mon_syntax.specs.declared.tree.MonType.TheVariants as kind
 use Rattle.mon_syntax.specs.Registers.{Bindings}
 use Rattle.mon_syntax.specs.Meaning.{Done, Next, then_do, eval_all}
 use Rattle.mon_syntax.specs.Meaning.{◌>>=◌ as bind}
-use Rattle.mon_syntax.specs.BlockMemory.{Blocks, over_blocks}
-use Rattle.mon_syntax.specs.Trees.{MonExpression, Register, Constant, MonStatements}
+use Rattle.mon_syntax.specs.BlockMemory.{over_blocks}
+use Rattle.mon_syntax.specs.Trees.{MonExpression, Register, MonStatements}
 use Rattle.c_model.specs.Pure.{ArePure, IsPureOrCall}
 use Rattle.c_effects.specs.Letters.{ArgumentsHaveLetters, FullHasLetters}
 use Rattle.c_effects.specs.Expressions.{register_type, value_type, in_type, temporaries, value, before, setup}
 use Rattle.c_effects.specs.Expressions as spec
 use Rattle.c_effects.specs.Effects.{arguments_temporaries, full_temporaries, arguments_setup, arguments, full_value, call, called, full_setup}
 use Rattle.c_simulation.proofs.Results.{written_then}
-use Rattle.c_simulation.specs.Standing.{Setting, Target, Did, runs, Has, IsOf, Bounded, Anchored, Knows, Here, Standing, Beside}
+use Rattle.c_simulation.specs.Standing.{Setting, Target, Did, runs, Has, Bounded, Anchored, Knows, Here, Standing, Beside}
 use Rattle.c_simulation.proofs.Registers.{same_all, same_less, same_trans, same_set, get-set_same, longer}
 use Rattle.c_simulation.proofs.Following.{later_same, anchored_same}
 use Rattle.c_simulation.proofs.Reaching.{MadeValue, reaches_before, reaches_made, undefined_now, value_reaches}
@@ -39,50 +35,15 @@ use Rattle.c_simulation.specs.Following as following
 use Rattle.c_model.specs.AcceptedPrograms.{AreScalar}
 use Rattle.c_simulation.specs.SameRegisters.{Same}
 use Rattle.c_simulation.proofs.Calls.{value_of, Called, Gives, EndsRun, HasNoMeaning, AreOf, HaveAll, takes, CallDoes, DoesCall, CallsNothing, IsCalled, even, beside_even}
-use Rattle.c_simulation.proofs.Values.{in_type_converts}
+use Rattle.c_simulation.proofs.Casts.{CastMade, integer_made, null_made, pointer_made}
 use Rattle.c_simulation.proofs.Evaluating.{behind_setup}
 use Rattle.c_simulation.proofs.ExpressionTypes.{one_scalar}
-use Rattle.c_simulation.proofs.Places.{of_integer, of_pointer}
 use Rattle.c_simulation.proofs.Expressions.{evaluates}
 use Rattle.instrument.proofs.Scenes.{Scene}
 
 -- ---- casts
 
--- a cast of a value that stands in no object
-pub record CastMade (w : Setting) (v to : PlainType) (k : Scalar) : Type 0 where
-  pub from : Scalar
-  pub from_is : scalar_of v ≡ Some from
-  pub no_array : is_array v ≡ false
-  pub fits : (x : Value) → IsOf from x → IsOf k (converted to x)
-  pub has : (e : MonExpression) (regs : List Value) (mem : Blocks) (x : Value) → IsOf from x → Has w e regs mem x → Has w (spec.converted v to e) regs mem (converted to x)
-
-integer_made : (w : Setting) (i j : CInt) → CastMade w (Int i) (Int j) (IntegerType j)
-integer_made w i j = record {
-  from = IntegerType i;
-  from_is = refl;
-  no_array = refl;
-  fits = λ x f. of_integer i (λ x. IsOf (IntegerType j) (converted (Int j) x)) x f (λ z g. (convert j z, refl, fits-convert j z));
-  has = λ e regs mem x f h. of_integer i (λ x. Has w e regs mem x → Has w (in_type (register_type i) (register_type j) e) regs mem (converted (Int j) x)) x f (λ z g h. in_type_converts w regs mem i j e z g h) h;
-}
-
-pointer_made : (w : Setting) (u v : PlainType) → CastMade w (Ptr u) (Ptr v) PointerType
-pointer_made w u v = record {
-  from = PointerType;
-  from_is = refl;
-  no_array = refl;
-  fits = λ x f. of_pointer (λ x. IsOf PointerType (converted (Ptr v) x)) x f (λ p small. (p, refl, small));
-  has = λ e regs mem x f h. of_pointer (λ x. Has w e regs mem x → Has w e regs mem (converted (Ptr v) x)) x f (λ p small h. h) h;
-}
-
-null_made : (w : Setting) (i : CInt) (v : PlainType) → CastMade w (Int i) (Ptr v) PointerType
-null_made w i v = record {
-  from = IntegerType i;
-  from_is = refl;
-  no_array = refl;
-  fits = λ x f. of_integer i (λ x. IsOf PointerType (converted (Ptr v) x)) x f (λ z g. (Null, refl, tt));
-  has = λ e regs mem x f h. of_integer i (λ x. Has w (Constant kind.Ptr (pos 0)) regs mem (converted (Ptr v) x)) x f (λ z g. refl);
-}
-
+-- of a value that stands in no object
 pub cast_made : (w : Setting) (sight : Sight) (to : PlainType) (a : Expression) (k : Scalar) → scalar_of to ≡ Some k → CastTypes sight to a → has_object a ≡ false → CastMade w (type_of a) to k
 cast_made w sight to a k is (ToVoid v) o = let none : None ≡ Some k = sym (ap scalar_of v) ∙ is in absurd cc
 cast_made w sight to a k is (OfInteger p q) o =

@@ -2,20 +2,15 @@
 use Rattle.std.proofs.Common.{◌≡◌, ℕ, Bool, true, false, cond, nat_eq, List, [], ◌∷◌, ◌++◌, Option, Some, None, refl, subst, sym}
 use Rattle.c_syntax.specs.declared.expression.Use.{Use}
 use Rattle.c_syntax.specs.Ctypes.{PlainType}
-use Rattle.c_syntax.specs.Expressions.{Expressions}
 use Rattle.c_syntax.specs.Statements.{Declaration, ForFirst, NoFirst, First, BlockItem, Declare, Specify, Run, Asserts}
 use Rattle.c_model.specs.State.{Scope, find}
 use Rattle.c_model.specs.Formed.{number_of}
 use Rattle.c_model.specs.ExpressionTyping.{Sight, Entity, AnObject, AnEnumerator, has_name, or_else, entity_named, inner, with_object, with_objects}
 use Rattle.c_model.specs.StatementTyping.{behind, behind_first}
-use Rattle.c_model.specs.TypedTrees.{Calls, Denotes}
+use Rattle.c_model.specs.TypedTrees.{Denotes}
 use Rattle.c_model.specs.UnitTyping.{with_parameter, with_parameters}
 use Rattle.c_simulation.specs.Standing.{Setting, Knows}
-use Rattle.c_simulation.proofs.Calls.{IsCalled}
-
-pub record Scene (w : Setting) (n : ℕ) (sight : Sight) : Type 0 where
-  pub knows : Knows w sight
-  pub calls : (f : Use) (t : PlainType) (es : Expressions) → Calls sight f t es → IsCalled w n f t es
+pub use Rattle.c_simulation.specs.Calls.{Scene}
 
 -- objects that come into sight change nothing of it
 pub knows_with : (w : Setting) (sight : Sight) (d : Declaration) → Knows w sight → Knows w (with_object sight d)

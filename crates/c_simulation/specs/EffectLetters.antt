@@ -1,0 +1,61 @@
+-- Letters of what is evaluated, in expressions with effects anywhere: each is a value of `char`. Of what stands for its effects alone nothing is asked
+-- where nothing is left of it.
+use Rattle.std.specs.Prelude.{Bool, true, false, ◌&&◌}
+use Rattle.c_syntax.specs.Expressions as source
+use Rattle.c_syntax.specs.Expressions.{Expression, Node, Expressions, NoExpression, Following}
+use Rattle.c_effects.specs.Letters.{IsLetter}
+use Rattle.c_effects.specs.Full.{is_pure}
+
+-- the first one if it is so, else the second one
+abbrev pub Where : Bool → Type 0 → Type 0 → Type 0
+Where true P Q = P
+Where false P Q = Q
+
+abbrev mutual
+  pub ValueHasLetters : Expression → Type 0
+  ValueHasLetters (Node at t (source.Number n k)) = Unit {0}
+  ValueHasLetters (Node at t (source.Letter n)) = IsLetter n
+  ValueHasLetters (Node at t (source.Text n)) = Unit {0}
+  ValueHasLetters (Node at t (source.Variable x)) = Unit {0}
+  ValueHasLetters (Node at t (source.Unary op a)) = ValueHasLetters a
+  ValueHasLetters (Node at t (source.Binary op a b)) = ValueHasLetters a × ValueHasLetters b
+  ValueHasLetters (Node at t (source.Both a b)) = ValueHasLetters a × ValueHasLetters b
+  ValueHasLetters (Node at t (source.Either a b)) = ValueHasLetters a × ValueHasLetters b
+  ValueHasLetters (Node at t (source.Choice a b c)) = ValueHasLetters a × ValueHasLetters b × ValueHasLetters c
+  ValueHasLetters (Node at t (source.Assign op a b)) = ValueHasLetters a × ValueHasLetters b
+  ValueHasLetters (Node at t (source.Bump op a)) = ValueHasLetters a
+  ValueHasLetters (Node at t (source.Call f es)) = ValuesHaveLetters es
+  ValueHasLetters (Node at t (source.Cast to a)) = ValueHasLetters a
+  ValueHasLetters (Node at t (source.SizeOfType u)) = Unit {0}
+  ValueHasLetters (Node at t (source.SizeOfExpr a)) = Unit {0}
+  ValueHasLetters (Node at t (source.Index a b)) = ValueHasLetters a × ValueHasLetters b
+  ValueHasLetters (Node at t (source.Dot a m)) = ValueHasLetters a
+  ValueHasLetters (Node at t (source.Arrow a m)) = ValueHasLetters a
+  ValueHasLetters (Node at t (source.Comma a b)) = ActHasLetters a × ValueHasLetters b
+
+  pub ValuesHaveLetters : Expressions → Type 0
+  ValuesHaveLetters NoExpression = Unit {0}
+  ValuesHaveLetters (Following e es) = ValueHasLetters e × ValuesHaveLetters es
+
+  -- of what is left of one that stands for its effects
+  pub ActHasLetters : Expression → Type 0
+  ActHasLetters (Node at t (source.Number n k)) = Unit {0}
+  ActHasLetters (Node at t (source.Letter n)) = Unit {0}
+  ActHasLetters (Node at t (source.Text n)) = Unit {0}
+  ActHasLetters (Node at t (source.Variable x)) = Unit {0}
+  ActHasLetters (Node at t (source.Unary op a)) = ActHasLetters a
+  ActHasLetters (Node at t (source.Binary op a b)) = ActHasLetters a × ActHasLetters b
+  ActHasLetters (Node at t (source.Both a b)) = Where (is_pure b) (ActHasLetters a) (ValueHasLetters a × ActHasLetters b)
+  ActHasLetters (Node at t (source.Either a b)) = Where (is_pure b) (ActHasLetters a) (ValueHasLetters a × ActHasLetters b)
+  ActHasLetters (Node at t (source.Choice a b c)) =
+      Where (is_pure b && is_pure c) (ActHasLetters a) (ValueHasLetters a × ActHasLetters b × ActHasLetters c)
+  ActHasLetters (Node at t (source.Assign op a b)) = ValueHasLetters a × ValueHasLetters b
+  ActHasLetters (Node at t (source.Bump op a)) = ValueHasLetters a
+  ActHasLetters (Node at t (source.Call f es)) = ValuesHaveLetters es
+  ActHasLetters (Node at t (source.Cast to a)) = ActHasLetters a
+  ActHasLetters (Node at t (source.SizeOfType u)) = Unit {0}
+  ActHasLetters (Node at t (source.SizeOfExpr a)) = Unit {0}
+  ActHasLetters (Node at t (source.Index a b)) = ActHasLetters a × ActHasLetters b
+  ActHasLetters (Node at t (source.Dot a m)) = ActHasLetters a
+  ActHasLetters (Node at t (source.Arrow a m)) = ActHasLetters a
+  ActHasLetters (Node at t (source.Comma a b)) = ActHasLetters a × ActHasLetters b
