@@ -96,6 +96,11 @@ pub mod NeverStuckExpressions
 pub mod NeverStuckStatements
 pub mod NeverStuckItems
 pub mod NeverStuck
+pub mod SoundJudgements
+pub mod FittingValues
+pub mod FittingExpressions
+pub mod FittingResults
+pub mod JudgedPrograms
 -- tokens of monitored texts
 pub mod Spelling
 pub mod BrokenPieces

@@ -35,7 +35,7 @@ data IsCalled (p : TranslationUnit) (f : Use) (t : PlainType) : Type 0 where
   CallsLibrary : is_of_library f ≡ true → ((at : Place) (vs : List Value) → Gives (IsValueOf t) NoJump (library_call at (slice_get p.names f.name) vs)) → IsCalled p f t
 
 -- functions of the library have its number
-library_number : (x : ℕ) (w : List ℕ) (g : Signature) → library_function x w ≡ Some g → nat_eq g.decl 4294967295 ≡ true
+pub library_number : (x : ℕ) (w : List ℕ) (g : Signature) → library_function x w ≡ Some g → nat_eq g.decl 4294967295 ≡ true
 library_number x w g e = each_of_library (λ (h : Signature). nat_eq h.decl 4294967295 ≡ true) g x w refl refl refl refl refl refl e
 
 -- what a call of a function of the library gives, by its name among those of the text
@@ -114,7 +114,7 @@ module _ (p : TranslationUnit) where
         Gives (IsValueOf t) NoJump (if b then library_call at (slice_get p.names f.name) vs else call_with (tables_of p) (global_scope p) o (call_of p n) n at vs)
 
     -- calls so deep
-    calls_give : (n : ℕ) → CallsGive p (call_of p n)
+    pub calls_give : (n : ℕ) → CallsGive p (call_of p n)
     calls_give zero s see f t es c at vs = by (called p s see f t es c)
       where
         by : IsCalled p f t → Gives (IsValueOf t) NoJump (call_of p zero at f vs)
@@ -145,10 +145,10 @@ module _ (p : TranslationUnit) where
 -- ---- `main`
 
 -- the definition of `main`, which gives an `int`
-record IsMain (p : TranslationUnit) (fs : List Function) : Type 0 where
-  function : Function
-  found : function_named p (codes "main") fs ≡ Some function
-  result : function.result ≡ int_type
+pub record IsMain (p : TranslationUnit) (fs : List Function) : Type 0 where
+  pub function : Function
+  pub found : function_named p (codes "main") fs ≡ Some function
+  pub result : function.result ≡ int_type
 
 has_bytes : (names : List (List ℕ)) (x : ℕ) → has_name (slice_get names x) (codes "main") ≡ bytes_eq (name_at names x) (codes "main")
 has_bytes names x = by (slice_get names x)
@@ -157,7 +157,7 @@ has_bytes names x = by (slice_get names x)
     by None = refl
     by (Some w) = refl
 
-main_is : (p : TranslationUnit) (fs : List Function) → main_fault p.names fs ≡ None → IsMain p fs
+pub main_is : (p : TranslationUnit) (fs : List Function) → main_fault p.names fs ≡ None → IsMain p fs
 main_is p [] e = absurd cc
 main_is p (f ∷ fs) e = by (λ h. main_is p fs h) (is_definition f && bytes_eq (name_at p.names f.name) (codes "main")) refl e
   where

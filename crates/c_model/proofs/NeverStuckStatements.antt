@@ -37,13 +37,13 @@ module _ (p : TranslationUnit) where
   pub sees_inner : (s : Sight) → Sees p s → Sees p (inner s)
   sees_inner s see = record { names = see.names; structs = see.structs; defined = see.defined }
 
-  sees_behind : (i : BlockItem) (s : Sight) → Sees p s → Sees p (behind s i)
+  pub sees_behind : (i : BlockItem) (s : Sight) → Sees p s → Sees p (behind s i)
   sees_behind (Declare ds) s see = sees_objects ds s see
   sees_behind (Specify at t) s see = see
   sees_behind (Run a) s see = see
   sees_behind (Asserts annots) s see = see
 
-  sees_first : (first : ForFirst) (s : Sight) → Sees p s → Sees p (behind_first s first)
+  pub sees_first : (first : ForFirst) (s : Sight) → Sees p s → Sees p (behind_first s first)
   sees_first NoFirst s see = see
   sees_first (First i) s see = sees_behind i s see
 

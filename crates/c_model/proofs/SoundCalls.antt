@@ -158,7 +158,7 @@ keeps_at_close {source = source} close t = by (scalar_of t)
     by None = λ s st. after_give Placed s NoValue st tt
     by (Some k) = keeps_undefined Placed close
 
-after_returned : {source : TranslationUnit} (f : Function) (s : State) (o : Outcome (Unit {0})) → After source Any s o → After source Placed s (returned_by f o)
+pub after_returned : {source : TranslationUnit} (f : Function) (s : State) (o : Outcome (Unit {0})) → After source Any s o → After source Placed s (returned_by f o)
 after_returned f s (Normal u t) h = let r = keeps_at_close f.close f.result t h.sound in record { stay = stay_onward s.store t.store _ h.stay r.stay; sound = r.sound; gives = r.gives }
 after_returned f s (Stop (Leaves Breaks) t) h = record { stay = h.stay; sound = h.sound; gives = tt }
 after_returned f s (Stop (Leaves Continues) t) h = record { stay = h.stay; sound = h.sound; gives = tt }
@@ -191,7 +191,7 @@ module _ {source : TranslationUnit} (call : Callee) (c : CallsKeepSound source c
   abbrev T : Tables
   T = tables_of source
 
-  after_parameters : (at : Place) (ds : List Declaration) (vs : List Value) → Declares source ds
+  pub after_parameters : (at : Place) (ds : List Declaration) (vs : List Value) → Declares source ds
       → (s : State) → IsSoundState source s → AllPlaced vs s → After source Any s (parameters T at ds vs s)
   after_parameters at [] [] own s st h = after_give Any s tt st tt
   after_parameters at [] (v ∷ vs) own s st h = after_over Any s (Undefined at) st
@@ -256,7 +256,7 @@ either_own : (p : TranslationUnit) (t : Bool) (f g : Option Function) → WhereA
 either_own p true f g h k = h
 either_own p false f g h k = k
 
-own_at : (p : TranslationUnit) (n : ℕ) (fs : List Function) → BodiesDirect fs → Declares p (declared_by fs) → WhereAny (IsOwn p) (definition_at n fs)
+pub own_at : (p : TranslationUnit) (n : ℕ) (fs : List Function) → BodiesDirect fs → Declares p (declared_by fs) → WhereAny (IsOwn p) (definition_at n fs)
 own_at p n [] h own = tt
 own_at p n (f ∷ fs) h own =
     either_own p (is_definition f && nat_eq f.place.offset n) (Some f) (definition_at n fs) (own_function p f fs h.0 own) (own_at p n fs h.1 (behind_function p f fs own))
@@ -266,7 +266,7 @@ own_indexed p i f [] h own e = absurd cc
 own_indexed p zero f (g ∷ fs) h own e = let same : g ≡ f = cc in subst (IsOwn p) same (own_function p g fs h.0 own)
 own_indexed p (suc i) f (g ∷ fs) h own e = own_indexed p i f fs h.1 (behind_function p g fs own) e
 
-own_named : (p : TranslationUnit) (name : List ℕ) (fs : List Function) → BodiesDirect fs → Declares p (declared_by fs) → WhereAny (IsOwn p) (function_named p name fs)
+pub own_named : (p : TranslationUnit) (name : List ℕ) (fs : List Function) → BodiesDirect fs → Declares p (declared_by fs) → WhereAny (IsOwn p) (function_named p name fs)
 own_named p name [] h own = tt
 own_named p name (f ∷ fs) h own =
     either_own p (is_definition f && has_name (slice_get p.names f.name) name) (Some f) (function_named p name fs) (own_function p f fs h.0 own) (own_named p name fs h.1 (behind_function p f fs own))

@@ -221,7 +221,7 @@ convert_placed : (store : Store) (t : PlainType) (o : Option Value) (v : Value) 
 convert_placed store t None v h e = absurd cc
 convert_placed store t (Some w) v h e = let same : converted t w ≡ v = cc in subst (IsPlacedValue store) same (converted_placed store t w (h w refl))
 
-compound_placed : (structs : List StructType) (t : PlainType) (op : BinOp) (store : Store) (x : Value) (u : PlainType) (y v : Value) → compound structs t op store x u y ≡ Some v → IsPlacedValue store v
+pub compound_placed : (structs : List StructType) (t : PlainType) (op : BinOp) (store : Store) (x : Value) (u : PlainType) (y v : Value) → compound structs t op store x u y ≡ Some v → IsPlacedValue store v
 compound_placed structs t op store x u y v e = by (integer_type t) e
   where
     two : (k : CInt) (o : Option CInt) → elim o [ None ↦ None | Some l ↦ compound_integers k op store x l y ] ≡ Some v → IsPlacedValue store v

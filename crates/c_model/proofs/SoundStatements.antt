@@ -35,7 +35,7 @@ use Rattle.c_model.proofs.SoundMemory.{among_left, among_right}
 use Rattle.c_model.proofs.SoundSteps.{Keeps, keeps_bind, keeps_then, keeps_done, keeps_checks, keeps_invariants, keeps_within, keeps_mark, keeps_births}
 use Rattle.c_model.proofs.SoundSteps.{keeps_choose, after_switch_any, keeps_turn, keeps_turns, keeps_do_turns, ArePlain, no_bytes, one_more, zeros_plain, after_plain}
 
-object_any : {source : TranslationUnit} (at : Place) (x : ℕ) → Keeps source Any (object at x)
+pub object_any : {source : TranslationUnit} (at : Place) (x : ℕ) → Keeps source Any (object at x)
 object_any at x s st = after_defined Any s at (start_of (find x s.scope)) st (λ p e. tt)
 
 -- bytes one by one
@@ -61,10 +61,10 @@ keeps_zero_parts : {source : TranslationUnit} (structs : List StructType) (at : 
 keeps_zero_parts structs at p [] = keeps_done
 keeps_zero_parts structs at p (d ∷ cs) = keeps_then Any Any _ (zero_parts structs at p cs) (keeps_zero_scalars at _ _) (keeps_zero_parts structs at p cs)
 
-declares_left : (p : TranslationUnit) (a b : List Declaration) → Declares p (a ++ b) → Declares p a
+pub declares_left : (p : TranslationUnit) (a b : List Declaration) → Declares p (a ++ b) → Declares p a
 declares_left p a b h d among = h d (among_left d a b among)
 
-declares_right : (p : TranslationUnit) (a b : List Declaration) → Declares p (a ++ b) → Declares p b
+pub declares_right : (p : TranslationUnit) (a b : List Declaration) → Declares p (a ++ b) → Declares p b
 declares_right p a b h d among = h d (among_right d a b among)
 
 -- those that stand directly in a block are among those within it
@@ -73,14 +73,14 @@ among_longer d [] a b f h = f h
 among_longer d (e ∷ ds) a b f (inl same) = inl same
 among_longer d (e ∷ ds) a b f (inr h) = inr (among_longer d ds a b f h)
 
-directly_in : (items : BlockItems) (d : Declaration) → IsAmong d (declared_in items) → IsAmong d (declared_in_items items)
+pub directly_in : (items : BlockItems) (d : Declaration) → IsAmong d (declared_in items) → IsAmong d (declared_in_items items)
 directly_in NoItem d h = h
 directly_in (Then (Declare ds) rest) d h = among_longer d ds (declared_in rest) (declared_in_items rest) (directly_in rest d) h
 directly_in (Then (Specify at t) rest) d h = directly_in rest d h
 directly_in (Then (Run a) rest) d h = among_right d (declared_within a) (declared_in_items rest) (directly_in rest d h)
 directly_in (Then (Asserts annots) rest) d h = directly_in rest d h
 
-directly_first : (first : ForFirst) (d : Declaration) → IsAmong d (declared_first first) → IsAmong d (declared_in_first first)
+pub directly_first : (first : ForFirst) (d : Declaration) → IsAmong d (declared_first first) → IsAmong d (declared_in_first first)
 directly_first NoFirst d h = h
 directly_first (First (Declare ds)) d h = h
 directly_first (First (Specify at t)) d h = h
@@ -97,7 +97,7 @@ module _ {source : TranslationUnit} (call : Callee) (c : CallsKeepSound source c
   keeps_eval_done : (e : Expression) → AreDirect e → Keeps source Any (eval_with T e call >> done)
   keeps_eval_done e h = keeps_then Placed Any (eval_with T e call) done (keeps_eval e h) keeps_done
 
-  keeps_condition_of : (e : Expression) → AreDirect e → Keeps source Any (condition_of T e call)
+  pub keeps_condition_of : (e : Expression) → AreDirect e → Keeps source Any (condition_of T e call)
   keeps_condition_of e h s st = after_tested s (place_of e) (eval_with T e call s) (sound_eval call c e h s st)
 
   keeps_fill_one : (at : Place) (t : PlainType) (p : Pointer) (o : Option ℕ) (v : Evaluation Value) → Keeps source Placed v → Keeps source Any (fill_one T at t p o v)
@@ -106,7 +106,7 @@ module _ {source : TranslationUnit} (call : Callee) (c : CallsKeepSound source c
       keeps_bind Placed Any v (λ x. as_scalar (scalar_of t) (λ k. write at p k x)) h (λ x u su g. after_scalar Any u (scalar_of t) (λ k. write at p k x) su (λ k. after_write u at p k x su g))
 
   mutual
-    keeps_fill : (at : Place) (t : PlainType) (p : Pointer) (i : Initialiser) → EachInitial AreDirect i → Keeps source Any (fill T at t p i call)
+    pub keeps_fill : (at : Place) (t : PlainType) (p : Pointer) (i : Initialiser) → EachInitial AreDirect i → Keeps source Any (fill T at t p i call)
     keeps_fill at t p (One e) h = keeps_fill_one at t p (string_in e) (eval_with T e call) (keeps_eval e h)
     keeps_fill at t p (Many brace is) h = keeps_fill_parts at (parts_or_itself T t) p is h
 
@@ -115,7 +115,7 @@ module _ {source : TranslationUnit} (call : Callee) (c : CallsKeepSound source c
     keeps_fill_parts at [] p (Listed i is) h = keeps_done
     keeps_fill_parts at (d ∷ cs) p (Listed i is) h = keeps_then Any Any (fill T at d.1 (shifted p d.0) i call) (fill_parts T at cs p is call) (keeps_fill at d.1 (shifted p d.0) i h.0) (keeps_fill_parts at cs p is h.1)
 
-  keeps_initialise : (d : Declaration) (i : Option (Place × Initialiser)) → WhereAny (λ (i : Place × Initialiser). EachInitial AreDirect i.1) i → Keeps source Any (initialise T d i call)
+  pub keeps_initialise : (d : Declaration) (i : Option (Place × Initialiser)) → WhereAny (λ (i : Place × Initialiser). EachInitial AreDirect i.1) i → Keeps source Any (initialise T d i call)
   keeps_initialise d None h = keeps_done
   keeps_initialise d (Some (at, i)) h = keeps_bind Any Any (object at d.place.offset) (λ p. fill T at d.ctype p i call) (object_any at d.place.offset) (λ p t su _. keeps_fill at d.ctype p i h t su)
 
@@ -123,11 +123,11 @@ module _ {source : TranslationUnit} (call : Callee) (c : CallsKeepSound source c
   keeps_initialise_all [] h = keeps_done
   keeps_initialise_all (d ∷ ds) h = keeps_then Any Any (initialise T d d.init call) (initialise_all T ds call) (keeps_initialise d d.init h.0) (keeps_initialise_all ds h.1)
 
-  keeps_condition : (e : Option Expression) → WhereAny AreDirect e → Keeps source Any (condition_with T e call)
+  pub keeps_condition : (e : Option Expression) → WhereAny AreDirect e → Keeps source Any (condition_with T e call)
   keeps_condition None h s st = after_give Any s (Integer (pos 1)) st tt
   keeps_condition (Some e) h s st = keeps_condition_of e h s st
 
-  keeps_effect : (e : Option Expression) → WhereAny AreDirect e → Keeps source Any (effect_with T e call)
+  pub keeps_effect : (e : Option Expression) → WhereAny AreDirect e → Keeps source Any (effect_with T e call)
   keeps_effect None h = keeps_done
   keeps_effect (Some e) h = keeps_eval_done e h
 
@@ -176,11 +176,11 @@ module _ {source : TranslationUnit} (call : Callee) (c : CallsKeepSound source c
     keeps_else NoElse h q n = keeps_done
     keeps_else (Else a) h q n = keeps_exec a h q n
 
-    keeps_first : (first : ForFirst) → EachInFirst AreDirect first → Declares source (declared_in_first first) → (n : ℕ) → Keeps source Any (first_with T first call n)
+    pub keeps_first : (first : ForFirst) → EachInFirst AreDirect first → Declares source (declared_in_first first) → (n : ℕ) → Keeps source Any (first_with T first call n)
     keeps_first NoFirst h q n = keeps_done
     keeps_first (First i) h q n = keeps_item i h q n
 
-    keeps_item : (i : BlockItem) → EachInItem AreDirect i → Declares source (declared_in_item i) → (n : ℕ) → Keeps source Any (item_with T i call n)
+    pub keeps_item : (i : BlockItem) → EachInItem AreDirect i → Declares source (declared_in_item i) → (n : ℕ) → Keeps source Any (item_with T i call n)
     keeps_item (Declare ds) h q n = keeps_initialise_all ds h
     keeps_item (Specify at t) h q n = keeps_done
     keeps_item (Run a) h q n = keeps_exec a h q n

@@ -77,14 +77,14 @@ after_judged a (Says false n) s st = over_steps s n _ st
 after_judged a (SaysNothing n) s st = over_steps s n _ st
 after_judged a OutOfSteps s st = over_steps s 0 _ st
 
-keeps_check : {source : TranslationUnit} (e : Environment) (a : Annotation) → Keeps source Any (check_in e a)
+pub keeps_check : {source : TranslationUnit} (e : Environment) (a : Annotation) → Keeps source Any (check_in e a)
 keeps_check e a s st = after_judged a (clause a.body s e s.steps) s st
 
 pub keeps_checks : {source : TranslationUnit} (e : Environment) (annots : List Annotation) → Keeps source Any (checks_in e annots)
 keeps_checks e [] = keeps_done
 keeps_checks e (a ∷ rest) = keeps_then Any Any (check_in e a) (checks_in e rest) (keeps_check e a) (keeps_checks e rest)
 
-keeps_invariant : {source : TranslationUnit} (a : Annotation) (b : ClauseBody) → Keeps source Any (invariant a b)
+pub keeps_invariant : {source : TranslationUnit} (a : Annotation) (b : ClauseBody) → Keeps source Any (invariant a b)
 keeps_invariant a (Raw f) = keeps_check [] a
 keeps_invariant a (Holds p) = keeps_check [] a
 keeps_invariant a (logic.Value t) = keeps_done
@@ -99,10 +99,10 @@ after_valued a None s st = after_over Any s _ st
 after_valued a (Some (Addressed x)) s st = after_over Any s _ st
 after_valued a (Some (Mathematical z)) s st = after_give Any s z st tt
 
-keeps_value : {source : TranslationUnit} (a : Annotation) (t : LogicTerm) → Keeps source Any (value_of a t)
+pub keeps_value : {source : TranslationUnit} (a : Annotation) (t : LogicTerm) → Keeps source Any (value_of a t)
 keeps_value a t s st = after_valued a (term t s []) s st
 
-keeps_compared : {source : TranslationUnit} (a : Annotation) (old new : ℤ) → Keeps source Any (compared a old new)
+pub keeps_compared : {source : TranslationUnit} (a : Annotation) (old new : ℤ) → Keeps source Any (compared a old new)
 keeps_compared a old new s st = after_judged a (Says (is_smaller old new) s.steps) s st
 
 after_assumed : {source : TranslationUnit} (a : Annotation) (k : ℕ) (hs : List Bool) (answer : Answer) (s : State) → IsSoundState source s → After source Any s (assumed a k hs answer s)
@@ -124,7 +124,7 @@ keeps_of_behavior : {source : TranslationUnit} (bs : List NamedBehavior) (e : En
 keeps_of_behavior bs e a k hs true = λ s st. after_assumed a k hs (clause a.body s [] s.steps) s st
 keeps_of_behavior bs e a k hs false = keeps_then Any Any (demand bs e a a.body hs) (give hs) (keeps_demand bs e a a.body hs) (keeps_hs hs)
 
-keeps_checked : {source : TranslationUnit} (bs : List NamedBehavior) (e : Environment) (a : Annotation) (o : Option ℕ) (hs : List Bool) → Keeps source Any (checked bs e a o hs)
+pub keeps_checked : {source : TranslationUnit} (bs : List NamedBehavior) (e : Environment) (a : Annotation) (o : Option ℕ) (hs : List Bool) → Keeps source Any (checked bs e a o hs)
 keeps_checked bs e a None hs = keeps_then Any Any (demand bs e a a.body hs) (give hs) (keeps_demand bs e a a.body hs) (keeps_hs hs)
 keeps_checked bs e a (Some k) hs = λ s st.
     after_cond Any s (holds_at k hs) (of_behavior bs e a k hs (is_assumes a.kind)) (give hs) (keeps_of_behavior bs e a k hs (is_assumes a.kind) s st) (keeps_hs hs s st)

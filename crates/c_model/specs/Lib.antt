@@ -47,6 +47,8 @@ pub mod ReadTree
 pub mod SmallTypes
 pub mod AcceptedPrograms
 pub mod SoundStates
+pub mod JudgedStates
+pub mod SoundJudgements
 pub mod AnnotationTyping
 pub mod TypedAnnotations
 pub mod TypedReadings

@@ -10,6 +10,7 @@ ghost use Rattle.c_model.specs.HeapLaws.{HeapPlacesFit, HeapPlacesAreLeast, Full
 ghost use Rattle.c_model.specs.HeapLaws.{AllocatedBlocksAreNew, NoBytesGiveNull, FreedBlocksDie, LiveBlocksCanBeFreed, FreeLetsNullBe, DeadBlocksHaveNoUse};
 ghost use Rattle.c_model.specs.HeapLaws.{StatementsKeepBlocks, StatementsKeepPlaces, ScalarsStandInOrder, AssignedStructsAreCopies, AssignedStructsKeepTheRest};
 ghost use Rattle.c_model.specs.Laws.{FuelIsEnough, StepsFall, LoopsTurn, DoLoopsTurn, ForLoopsTurn, RunsNeedNoFuel, RunsSpendSteps, OutputGrows};
+ghost use Rattle.c_model.specs.SoundJudgements.{GivenResultsFit, JudgedStatesAreSound, JudgementsAreSound};
 ghost use Rattle.c_model.specs.SoundStates.{BirthsKeepSound, BodiesKeepSound, CopiesKeepSound, DeathsKeepSound, ExpressionsKeepSound, FreesKeepSound};
 ghost use Rattle.c_model.specs.SoundStates.{ItemsKeepSound, NumbersAreOne, PlacedAreNear, ProgramCallsKeepSound, ProgramsAreDirect, RunsAreSound};
 ghost use Rattle.c_model.specs.SoundStates.{RunsKeepSound, SavesKeepSound, SoundStoresAreWhole, SoundStoresRead, StartsAreSettled, StartsAreSound};
@@ -149,4 +150,12 @@ pub fn sound_states()
     ensures calls { ProgramCallsKeepSound }
     ensures runs { RunsKeepSound }
     ensures left { RunsAreSound }
+{}
+
+/// States in which annotations are judged: each one along each run of a program of an accepted text, from its start on, is sound. So it is in each run that
+/// begins in a sound state, whatever contracts and annotations of loops the program has; and what a function gives is a value of its type.
+pub fn judged_states()
+    ensures sound { JudgedStatesAreSound }
+    ensures judgements { JudgementsAreSound }
+    ensures results { GivenResultsFit }
 {}
