@@ -1,4 +1,4 @@
--- How deep the code of predicates stands: twice as deep as they have forms, at most.
+-- How deep the code of predicates stands: twice as deep as they have tokens, at most.
 use Rattle.std.proofs.Common.{◌≡◌, ℕ, suc, ◌+◌, ◌-◌, ◌≤◌, Bool, true, false, if◌then◌else◌, max, List, ◌++◌, length, Option, Some, None, arith}
 use Rattle.std.proofs.Math.Nat.{max-le, le-max_left, le-max_right}
 use Rattle.c_syntax.specs.declared.annotation.Relation.{Relation}
@@ -8,7 +8,7 @@ use Rattle.c_syntax.specs.declared.logic.Connective.TheVariants.{And, Xor, Or, I
 use Rattle.c_syntax.specs.Logic.{LogicTerm, Links, NoLink, Linked, Predicate, range_of}
 use Rattle.c_syntax.specs.Logic as logic
 use Rattle.c_syntax.specs.Programs.{TranslationUnit}
-use Rattle.c_model.specs.Formed.{nodes_of_term, nodes_of_links, nodes_of_predicate}
+use Rattle.c_model.specs.Formed.{tokens_of_term, tokens_of_links, tokens_of_predicate}
 use Rattle.c_model.specs.Ranges.{width_of_range}
 use Rattle.mon_syntax.specs.declared.tree.MonType.{MonType}
 use Rattle.mon_syntax.specs.declared.tree.MonType.TheVariants.{I32}
@@ -41,7 +41,7 @@ deep_take (Some a) e r = omega arith
 
 -- ---- counts
 
-pub some_term : (t : LogicTerm) → 1 ≤ nodes_of_term t
+pub some_term : (t : LogicTerm) → 1 ≤ tokens_of_term t
 some_term (logic.Number at t r n) = omega arith
 some_term (logic.Letter at t r n) = omega arith
 some_term (logic.Variable at t r x) = omega arith
@@ -52,14 +52,14 @@ some_term (logic.Choice at t r c a b) = omega arith
 some_term (logic.At at t r l a) = some_term a
 some_term _ = omega arith
 
-pub some_nodes : (p : Predicate) → 1 ≤ nodes_of_predicate p
-some_nodes (logic.Truth at b) = omega arith
-some_nodes (logic.NonZero at t) = some_term t
-some_nodes (logic.Chain at t links) = omega (arith, some_term t)
-some_nodes (logic.Not at p) = omega arith
-some_nodes (logic.Connected at c p q) = omega arith
-some_nodes (logic.Branch at c p q) = omega arith
-some_nodes _ = omega arith
+pub some_tokens : (p : Predicate) → 1 ≤ tokens_of_predicate p
+some_tokens (logic.Truth at b) = omega arith
+some_tokens (logic.NonZero at t) = some_term t
+some_tokens (logic.Chain at t links) = omega (arith, some_term t)
+some_tokens (logic.Not at p) = omega arith
+some_tokens (logic.Connected at c p q) = omega arith
+some_tokens (logic.Branch at c p q) = omega arith
+some_tokens _ = omega arith
 
 -- ---- parts
 
@@ -134,7 +134,7 @@ module _ (p : TranslationUnit) (bound : Bindings) where
   variable_deep false w x rs = omega arith
 
   mutual
-    term_deep : (t : LogicTerm) (known : List Reading) (rs : List MonType) → depth_of_all (term_code p bound t known rs).stmts ≤ nodes_of_term t + nodes_of_term t
+    term_deep : (t : LogicTerm) (known : List Reading) (rs : List MonType) → depth_of_all (term_code p bound t known rs).stmts ≤ tokens_of_term t + tokens_of_term t
     term_deep (logic.Number at t r n) known rs = omega arith
     term_deep (logic.Letter at t r n) known rs = omega arith
     term_deep (logic.Variable at t r x) known rs = variable_deep (is_known known (record { decl = x.decl; kind = term_type t })) (type_of_width (width_of_range r)) (record { decl = x.decl; kind = term_type t }) rs
@@ -144,8 +144,9 @@ module _ (p : TranslationUnit) (bound : Bindings) where
         let y = term_code p bound b known x.used in
         let w = type_of_width (width_of_range r) in
         let k = type_of_width (working op (width_of_range r) (width_of a) (width_of b)) in
-        operated_deep (is_total op (range_of b)) op w k (type_of b) x y (binary_value op w k (type_of a) (type_of b) (range_of b) x.value y.value) (nodes_of_term a) (nodes_of_term b)
-        (term_deep a known rs) (term_deep b known x.used) (some_term a) (some_term b)
+        let d = operated_deep (is_total op (range_of b)) op w k (type_of b) x y (binary_value op w k (type_of a) (type_of b) (range_of b) x.value y.value) (tokens_of_term a) (tokens_of_term b)
+        (term_deep a known rs) (term_deep b known x.used) (some_term a) (some_term b) in
+        omega (arith, d)
     term_deep (logic.Cast at t r to a) known rs = let d = term_deep a known rs in omega (arith, d)
     term_deep (logic.Choice at t r c a b) known rs =
         let more = known ++ sure_readings c in
@@ -153,40 +154,40 @@ module _ (p : TranslationUnit) (bound : Bindings) where
         let z = pred_code p bound c known rs in
         let x = term_code p bound a more z.used in
         let y = term_code p bound b more x.used in
-        branch_deep w z (with_value (in_type (type_of a) w x.value) x) (with_value (in_type (type_of b) w y.value) y) (nodes_of_predicate c) (nodes_of_term a) (nodes_of_term b)
-        (suc (nodes_of_predicate c + nodes_of_term a + nodes_of_term b)) (pred_deep c known rs) (term_deep a more z.used) (term_deep b more x.used) (omega (arith, some_term a)) (omega arith) (omega arith) (some_term a)
+        branch_deep w z (with_value (in_type (type_of a) w x.value) x) (with_value (in_type (type_of b) w y.value) y) (tokens_of_predicate c) (tokens_of_term a) (tokens_of_term b)
+        (suc (tokens_of_predicate c + tokens_of_term a + tokens_of_term b)) (pred_deep c known rs) (term_deep a more z.used) (term_deep b more x.used) (omega (arith, some_term a)) (omega arith) (omega arith) (some_term a)
     term_deep _ known rs = omega arith
 
     chain_deep : (t : LogicTerm) (x : Code) (l : Links) (m : ℕ) (known : List Reading) → 1 ≤ m → depth_of_all x.stmts ≤ m + m
-        → depth_of_all (chain_code p bound t x l known).stmts ≤ (m + nodes_of_links l) + (m + nodes_of_links l)
+        → depth_of_all (chain_code p bound t x l known).stmts ≤ (m + tokens_of_links l) + (m + tokens_of_links l)
     chain_deep t x NoLink m known some d = omega (arith, d)
-    chain_deep t x (Linked at r u NoLink) m known some d = relation_deep t r u x (term_code p bound u known x.used) m (nodes_of_term u) (m + suc (nodes_of_term u + 0)) d (term_deep u known x.used) (omega arith) (omega arith)
+    chain_deep t x (Linked at r u NoLink) m known some d = relation_deep t r u x (term_code p bound u known x.used) m (tokens_of_term u) (m + suc (tokens_of_term u + 0)) d (term_deep u known x.used) (omega arith) (omega arith)
     chain_deep t x (Linked at r u (Linked at2 r2 v rest)) m known some d =
         let y = term_code p bound u known x.used in
         let more = known ++ (sure_readings_of_term t ++ sure_readings_of_term u) in
         let start = sure_code y.value y.used in
-        let n = nodes_of_term u in
+        let n = tokens_of_term u in
         let z = relation_code r t u x y in
         let e = chain_code p bound u start (Linked at2 r2 v rest) more in
-        let l = nodes_of_links (Linked at2 r2 v rest) in
+        let l = tokens_of_links (Linked at2 r2 v rest) in
         connected_deep And z e (m + suc n) (n + l) (m + suc (n + l)) (relation_deep t r u x y m n (m + suc n) d (term_deep u known x.used) (omega arith) (omega arith))
         (chain_deep u start (Linked at2 r2 v rest) n more (some_term u) (omega arith)) (omega (arith, some_term v)) (omega (arith, some)) (omega (arith, some_term u))
 
-    pub pred_deep : (q : Predicate) (known : List Reading) (rs : List MonType) → depth_of_all (pred_code p bound q known rs).stmts ≤ nodes_of_predicate q + nodes_of_predicate q
+    pub pred_deep : (q : Predicate) (known : List Reading) (rs : List MonType) → depth_of_all (pred_code p bound q known rs).stmts ≤ tokens_of_predicate q + tokens_of_predicate q
     pred_deep (logic.Truth at b) known rs = truth_deep b rs
     pred_deep (logic.NonZero at t) known rs = term_deep t known rs
-    pred_deep (logic.Chain at t links) known rs = chain_deep t (term_code p bound t known rs) links (nodes_of_term t) known (some_term t) (term_deep t known rs)
+    pred_deep (logic.Chain at t links) known rs = chain_deep t (term_code p bound t known rs) links (tokens_of_term t) known (some_term t) (term_deep t known rs)
     pred_deep (logic.Not at a) known rs = let d = pred_deep a known rs in omega (arith, d)
     pred_deep (logic.Connected at c a b) known rs =
         let x = pred_code p bound a known rs in
         let ks = known_at_right c known a in
-        connected_deep c x (pred_code p bound b ks x.used) (nodes_of_predicate a) (nodes_of_predicate b) (suc (nodes_of_predicate a + nodes_of_predicate b)) (pred_deep a known rs) (pred_deep b ks x.used)
-        (omega arith) (omega arith) (some_nodes b)
+        connected_deep c x (pred_code p bound b ks x.used) (tokens_of_predicate a) (tokens_of_predicate b) (suc (tokens_of_predicate a + tokens_of_predicate b)) (pred_deep a known rs) (pred_deep b ks x.used)
+        (omega arith) (omega arith) (some_tokens b)
     pred_deep (logic.Branch at c a b) known rs =
         let more = known ++ sure_readings c in
         let z = pred_code p bound c known rs in
         let x = pred_code p bound a more z.used in
         let y = pred_code p bound b more x.used in
-        branch_deep I32 z x y (nodes_of_predicate c) (nodes_of_predicate a) (nodes_of_predicate b) (suc (nodes_of_predicate c + nodes_of_predicate a + nodes_of_predicate b)) (pred_deep c known rs)
-        (pred_deep a more z.used) (pred_deep b more x.used) (omega (arith, some_nodes a)) (omega arith) (omega arith) (some_nodes a)
+        branch_deep I32 z x y (tokens_of_predicate c) (tokens_of_predicate a) (tokens_of_predicate b) (suc (tokens_of_predicate c + tokens_of_predicate a + tokens_of_predicate b)) (pred_deep c known rs)
+        (pred_deep a more z.used) (pred_deep b more x.used) (omega (arith, some_tokens a)) (omega arith) (omega arith) (some_tokens a)
     pred_deep _ known rs = omega arith

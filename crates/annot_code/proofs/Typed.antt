@@ -1,6 +1,6 @@
 -- Types of expressions and registers, and how many parentheses are open in them.
 use Rattle.std.proofs.Common.{◌≡◌, ℕ, zero, suc, ◌+◌, ◌≤◌, ℤ, pos, Bool, true, false, not, ◌&&◌, if◌then◌else◌, int_le, max, [], ◌∷◌, ◌++◌, length, Some, slice_get, refl, sym, ap, ◌∙◌, subst, arith, append_assoc}
-use Rattle.std.proofs.Math.Nat.{max-le, le-max_left, le-max_right}
+use Rattle.std.proofs.Math.Nat.{max-le}
 use Rattle.std.specs.Ordering.{int_eq}
 use Rattle.c_syntax.specs.declared.annotation.Range.{Range}
 use Rattle.c_syntax.specs.declared.annotation.Relation.{Relation}
@@ -274,7 +274,12 @@ count_parens b e n le h = by (int_le b.hi (pos 127))
         le_to _ (suc (3 + n)) (4 + n) (omega arith)
         (binary_parens mon.Or I128 e (Minus I128 (Cast I128 (Binary mon.Lt I128 (Constant I128 (pos 127)) e))) (3 + n) (omega (arith, h)) (omega (arith, m)))
 
-second_parens : (op : BinOp) (b : Range) (e : MonExpression) (n : ℕ) → 1 ≤ n → open_parens e ≤ n → open_parens (second_operand op b e) ≤ 4 + n
+-- how many parentheses more stand around a second operand: a count may be above 127
+abbrev pub counted_in : BinOp → ℕ
+counted_in operator.Shr = 4
+counted_in _ = 0
+
+second_parens : (op : BinOp) (b : Range) (e : MonExpression) (n : ℕ) → 1 ≤ n → open_parens e ≤ n → open_parens (second_operand op b e) ≤ counted_in op + n
 second_parens operator.Shr b e n le h = count_parens b e n le h
 second_parens operator.Div b e n le h = omega (arith, h)
 second_parens operator.Rem b e n le h = omega (arith, h)
@@ -292,31 +297,62 @@ second_parens operator.Le b e n le h = omega (arith, h)
 second_parens operator.Gt b e n le h = omega (arith, h)
 second_parens operator.Ge b e n le h = omega (arith, h)
 
-pub value_parens : (op : BinOp) (w k ta tb : MonType) (r : Range) (x y : MonExpression) (m n : ℕ) → 1 ≤ m → 1 ≤ n → open_parens x ≤ m → open_parens y ≤ n → open_parens (binary_value op w k ta tb r x y) ≤ max (3 + m) (7 + n)
-value_parens op w k ta tb r x y m n lm ln hx hy = by (max (3 + m) (7 + n)) (le-max_left (3 + m) (7 + n)) (le-max_right (3 + m) (7 + n))
-  where
-    by : (l : ℕ) → 3 + m ≤ l → 7 + n ≤ l → open_parens (binary_value op w k ta tb r x y) ≤ l
-    by (suc (suc l)) p q =
-        let a = in_type_parens ta k x m lm hx in
-        let b = second_parens op r (in_type tb k y) (suc n) (omega arith) (in_type_parens tb k y n ln hy) in
-        in_type_parens k w (Binary (operator_of op) k (in_type ta k x) (second_operand op r (in_type tb k y))) (suc l) (omega arith)
-        (binary_parens (operator_of op) k (in_type ta k x) (second_operand op r (in_type tb k y)) l (omega (arith, a, p)) (omega (arith, b, q)))
-    by (suc zero) p q = absurd (omega (arith, p))
-    by zero p q = absurd (omega (arith, p))
+pub value_parens : (op : BinOp) (w k ta tb : MonType) (r : Range) (x y : MonExpression) (m n l : ℕ) → 1 ≤ m → 1 ≤ n → open_parens x ≤ m → open_parens y ≤ n → 3 + m ≤ l → 3 + (counted_in op + n) ≤ l
+    → open_parens (binary_value op w k ta tb r x y) ≤ l
+value_parens op w k ta tb r x y m n (suc (suc l)) lm ln hx hy p q =
+    let a = in_type_parens ta k x m lm hx in
+    let b = second_parens op r (in_type tb k y) (suc n) (omega arith) (in_type_parens tb k y n ln hy) in
+    in_type_parens k w (Binary (operator_of op) k (in_type ta k x) (second_operand op r (in_type tb k y))) (suc l) (omega arith)
+    (binary_parens (operator_of op) k (in_type ta k x) (second_operand op r (in_type tb k y)) l (omega (arith, a, p)) (omega (arith, b, q)))
+value_parens op w k ta tb r x y m n (suc zero) lm ln hx hy p q = absurd (omega (arith, p))
+value_parens op w k ta tb r x y m n zero lm ln hx hy p q = absurd (omega (arith, p))
 
-pub unary_parens : (op : UnOp) (a r : Range) (w k ta : MonType) (x : MonExpression) (n : ℕ) → unary_range op a ≡ Some r → 1 ≤ n → open_parens x ≤ n → open_parens (unary_value op w k ta x) ≤ 3 + n
-unary_parens op a r w k ta x n e le h = by op e
-  where
-    inner : open_parens (in_type ta k x) ≤ suc n
-    inner = in_type_parens ta k x n le h
+-- of two conversions to the wider one of two widths and back, at most one changes the type
+data OneIsNone (a k r : MonType) : Type 0 where
+  First : same_type a k ≡ true → OneIsNone a k r
+  Last : same_type k r ≡ true → OneIsNone a k r
 
-    by : (o : UnOp) → unary_range o a ≡ Some r → open_parens (unary_value o w k ta x) ≤ 3 + n
-    by prefix.Plus q = le_to _ (suc (2 + n)) (3 + n) (omega arith) (in_type_parens k w (in_type ta k x) (2 + n) (omega arith) (omega (arith, inner)))
-    by prefix.Minus q = le_to _ (suc (2 + n)) (3 + n) (omega arith) (in_type_parens k w (Minus k (in_type ta k x)) (2 + n) (omega arith) (omega (arith, inner)))
-    by prefix.Flip q = le_to _ (suc (2 + n)) (3 + n) (omega arith) (in_type_parens k w (Flip k (in_type ta k x)) (2 + n) (omega arith) (omega (arith, inner)))
-    by prefix.Not q = absurd cc
-    by prefix.Deref q = absurd cc
-    by prefix.Address q = absurd cc
+one_is_none : (wr wa : Width) → OneIsNone (type_of_width wa) (type_of_width (wider wr wa)) (type_of_width wr)
+one_is_none W32 W32 = First refl
+one_is_none W32 W64 = First refl
+one_is_none W32 W128 = First refl
+one_is_none W64 W32 = Last refl
+one_is_none W64 W64 = First refl
+one_is_none W64 W128 = First refl
+one_is_none W128 W32 = Last refl
+one_is_none W128 W64 = Last refl
+one_is_none W128 W128 = First refl
+
+same_parens : (from to : MonType) (e : MonExpression) (n : ℕ) → same_type from to ≡ true → open_parens e ≤ n → open_parens (in_type from to e) ≤ n
+same_parens from to e n same h = subst (λ (b : Bool). open_parens (if b then e else Cast to e) ≤ n) (sym same) h
+
+pub unary_parens : (op : UnOp) (a r : Range) (wr wa : Width) (x : MonExpression) (n : ℕ) → unary_range op a ≡ Some r → 1 ≤ n → open_parens x ≤ n
+    → open_parens (unary_value op (type_of_width wr) (type_of_width (wider wr wa)) (type_of_width wa) x) ≤ suc (suc n)
+unary_parens op a r wr wa x n e le h = by (one_is_none wr wa) op e
+  where
+    w : MonType
+    w = type_of_width wr
+
+    k : MonType
+    k = type_of_width (wider wr wa)
+
+    inner : MonExpression
+    inner = in_type (type_of_width wa) (type_of_width (wider wr wa)) x
+
+    less : open_parens inner ≤ suc n
+    less = in_type_parens (type_of_width wa) (type_of_width (wider wr wa)) x n le h
+
+    outer : OneIsNone (type_of_width wa) k w → (y : MonExpression) → (open_parens inner ≤ n → open_parens y ≤ suc n) → open_parens y ≤ suc (suc n) → open_parens (in_type k w y) ≤ suc (suc n)
+    outer (First same) y one two = in_type_parens k w y (suc n) (omega arith) (one (same_parens (type_of_width wa) (type_of_width (wider wr wa)) x n same h))
+    outer (Last same) y one two = same_parens k w y (suc (suc n)) same two
+
+    by : OneIsNone (type_of_width wa) k w → (o : UnOp) → unary_range o a ≡ Some r → open_parens (unary_value o w k (type_of_width wa) x) ≤ suc (suc n)
+    by s prefix.Plus q = outer s inner (λ i. omega (arith, i)) (omega (arith, less))
+    by s prefix.Minus q = outer s (Minus k inner) (λ i. omega (arith, i)) (omega (arith, less))
+    by s prefix.Flip q = outer s (Flip k inner) (λ i. omega (arith, i)) (omega (arith, less))
+    by s prefix.Not q = absurd cc
+    by s prefix.Deref q = absurd cc
+    by s prefix.Address q = absurd cc
 
 pub related_parens : (r : Relation) (k ta tb : MonType) (x y : MonExpression) (n : ℕ) → 1 ≤ n → open_parens x ≤ n → open_parens y ≤ n → open_parens (relation_value r k ta tb x y) ≤ 2 + n
 related_parens r k ta tb x y n le hx hy =

@@ -1,11 +1,12 @@
 -- The code of every predicate is valid.
-use Rattle.std.proofs.Common.{◌≡◌, ℕ, suc, ◌+◌, ◌-◌, ◌*◌, ◌≤◌, ℤ, pos, Bool, true, false, if◌then◌else◌, max, List, [], ◌∷◌, ◌++◌, length, Option, Some, None, slice_get, refl, sym, ap, ◌∙◌, subst, arith}
+use Rattle.std.proofs.Common.{◌≡◌, ℕ, zero, suc, ◌+◌, ◌*◌, ◌≤◌, ℤ, pos, Bool, true, false, if◌then◌else◌, max, List, [], ◌∷◌, ◌++◌, length, Option, Some, None, slice_get, refl, sym, ap, ◌∙◌, subst, arith}
 use Rattle.std.proofs.lemmas.Int.{ints}
 use Rattle.std.proofs.Math.Nat.{max-le}
 use Rattle.std.specs.Ordering.{int_eq}
 use Rattle.c_syntax.specs.declared.annotation.Range.{Range}
 use Rattle.c_syntax.specs.declared.annotation.Relation.{Relation}
 use Rattle.c_syntax.specs.declared.expression.BinOp.{BinOp}
+use Rattle.c_syntax.specs.declared.expression.BinOp.TheVariants.{Shl, Shr, Add, Sub, Mul, Div, Rem, BitAnd, BitOr, BitXor, Lt, Le, Gt, Ge, Eq, Ne}
 use Rattle.c_syntax.specs.declared.expression.UnOp.{UnOp}
 use Rattle.c_syntax.specs.declared.expression.Use.{Use}
 use Rattle.c_syntax.specs.declared.logic.Connective.TheVariants.{And}
@@ -20,7 +21,8 @@ use Rattle.c_syntax.specs.Programs.{TranslationUnit}
 use Rattle.c_model.specs.Integers.{integer_type}
 use Rattle.c_model.specs.Ranges.{LiesIn, IsWithin128, width_of_range, from_to, bounded, range_in_bits, least_i128}
 use Rattle.c_model.specs.TermRanges.{TermRanged, LinksRanged, PredicateRanged, type_range, is_inside}
-use Rattle.c_model.specs.Formed.{nodes_of_term, nodes_of_links, nodes_of_predicate}
+use Rattle.c_model.specs.Formed.{level_of, parentheses_around, operator_of_term, tokens_of_term, tokens_of_links, tokens_of_predicate}
+use Rattle.c_model.proofs.OperandParentheses.{around_two}
 use Rattle.ea_num.proofs.Bounded.{in_bits_from_test}
 use Rattle.ea_num.proofs.Converted.{widths_fit}
 use Rattle.c_model.specs.TypedPredicates.{IsCastType}
@@ -42,10 +44,10 @@ use Rattle.annot_code.proofs.Exact.{Fits, signed_within}
 use Rattle.annot_code.proofs.Terms.{CastTo, cast_to}
 use Rattle.annot_code.proofs.Variables.{IsInteger, integer_of_range, some_same}
 use Rattle.annot_code.proofs.Typed.{begins_front, type_at, first_type, second_type_at, whole_width, whole_register, width_constant, zero_constant, in_type_typed, to_width, relation_typed, guard_typed, binary_typed, unary_typed, related_typed}
-use Rattle.annot_code.proofs.Typed.{in_type_parens, guard_parens, value_parens, unary_parens, related_parens, binary_less}
+use Rattle.annot_code.proofs.Typed.{in_type_parens, guard_parens, counted_in, value_parens, unary_parens, related_parens, binary_less}
 use Rattle.annot_code.specs.Inside.{open_in_all}
 use Rattle.annot_code.proofs.Opens.{open_before, open_one, open_if, open_guarded, open_take, open_none}
-use Rattle.annot_code.proofs.Depths.{deep_before, deep_if, deep_guarded, deep_take, some_term, some_nodes}
+use Rattle.annot_code.proofs.Depths.{deep_before, deep_if, deep_guarded, deep_take, some_term, some_tokens}
 use Rattle.annot_code.proofs.Prefixes.{operated_begins, connected_begins, term_begins, chain_begins, pred_begins, judged_begins}
 use Rattle.annot_code.proofs.ValidParts.{flag_open, before_valid, expression, set_valid, number_valid, register_valid, FlagValid, Valid, flag_both, guarded_valid, take_valid, take_none_valid, two_valid}
 use Rattle.annot_code.proofs.ValidParts.{changed_valid, branch_valid, truth_valid, connected_valid}
@@ -86,7 +88,7 @@ module _ (p : TranslationUnit) (bound : Bindings) (g : ℕ) (gs : List Signature
 
   -- ---- leaves
 
-  number_code : (r : Range) (z : ℤ) (rs : Types) → bounded (from_to z z) ≡ Some r → int_eq z least_i128 ≡ false → IsCode (sure_code (Constant (type_of_width (width_of_range r)) z) rs) (type_of_width (width_of_range r)) 1 1
+  number_code : (r : Range) (z : ℤ) (rs : Types) → bounded (from_to z z) ≡ Some r → int_eq z least_i128 ≡ false → IsCode (sure_code (Constant (type_of_width (width_of_range r)) z) rs) (type_of_width (width_of_range r)) 1 0
   number_code r z rs e least =
       let one = one_range r z e in record {
         statements = tt;
@@ -99,7 +101,7 @@ module _ (p : TranslationUnit) (bound : Bindings) (g : ℕ) (gs : List Signature
 
   variable_is_code : (b : Bool) (r : Range) (t : Option PlainType) (x : Use) (rs : Types) → IsInteger t r → HasType g ts (pointer_to p bound x.decl) Ptr
       → Begins (variable_code p bound b (type_of_width (width_of_range r)) (record { decl = x.decl; kind = term_type t }) rs).used ts
-      → IsCode (variable_code p bound b (type_of_width (width_of_range r)) (record { decl = x.decl; kind = term_type t }) rs) (type_of_width (width_of_range r)) 1 1
+      → IsCode (variable_code p bound b (type_of_width (width_of_range r)) (record { decl = x.decl; kind = term_type t }) rs) (type_of_width (width_of_range r)) 1 0
   variable_is_code b r t x rs i pointer = by b
     where
       w : MonType
@@ -121,7 +123,7 @@ module _ (p : TranslationUnit) (bound : Bindings) (g : ℕ) (gs : List Signature
       parens = in_type_parens (term_type t) (type_of_width (width_of_range r)) (Load (term_type t) (pointer_to p bound x.decl)) 2 (omega arith) (omega (arith, less))
 
       by : (b : Bool) → Begins (variable_code p bound b (type_of_width (width_of_range r)) (record { decl = x.decl; kind = term_type t }) rs).used ts
-          → IsCode (variable_code p bound b (type_of_width (width_of_range r)) (record { decl = x.decl; kind = term_type t }) rs) (type_of_width (width_of_range r)) 1 1
+          → IsCode (variable_code p bound b (type_of_width (width_of_range r)) (record { decl = x.decl; kind = term_type t }) rs) (type_of_width (width_of_range r)) 1 0
       by true h = record { statements = tt; deep = omega arith; opened = omega arith; flag = tt; typed = typed; parens = omega (arith, parens) }
       by false h =
           let at = type_at rs ts I32 h in
@@ -136,24 +138,25 @@ module _ (p : TranslationUnit) (bound : Bindings) (g : ℕ) (gs : List Signature
 
   -- ---- operators
 
-  unary_is_code : (at : Place) (t : Option PlainType) (r : Range) (op : UnOp) (a : LogicTerm) → TermRanged [] (logic.Unary at t r op a) → (c : Code) → IsCode c (type_of a) (nodes_of_term a) 1
-      → IsCode (with_value (unary_value op (type_of_width (width_of_range r)) (type_of_width (wider (width_of_range r) (width_of a))) (type_of a) c.value) c) (type_of_width (width_of_range r)) (suc (nodes_of_term a)) 1
+  unary_is_code : (at : Place) (t : Option PlainType) (r : Range) (op : UnOp) (a : LogicTerm) → TermRanged [] (logic.Unary at t r op a) → (c : Code) → IsCode c (type_of a) (tokens_of_term a) 2
+      → IsCode (with_value (unary_value op (type_of_width (width_of_range r)) (type_of_width (wider (width_of_range r) (width_of a))) (type_of a) c.value) c) (type_of_width (width_of_range r)) (suc (tokens_of_term a)) 0
   unary_is_code at t r op a q c v =
       let e = unary_value op (type_of_width (width_of_range r)) (type_of_width (wider (width_of_range r) (width_of a))) (type_of a) c.value in
-      let few = unary_parens op (range_of a) r (type_of_width (width_of_range r)) (type_of_width (wider (width_of_range r) (width_of a))) (type_of a) c.value (4 * nodes_of_term a) q.0 (omega (arith, some_term a)) (omega (arith, v.parens)) in
-      changed_valid g gs ts result ls c e (type_of a) (type_of_width (width_of_range r)) (nodes_of_term a) 1 (suc (nodes_of_term a)) 1 v (omega arith)
+      let few = unary_parens op (range_of a) r (width_of_range r) (width_of a) c.value (3 * tokens_of_term a + 1) q.0 (omega arith) (omega (arith, v.parens)) in
+      changed_valid g gs ts result ls c e (type_of a) (type_of_width (width_of_range r)) (tokens_of_term a) 2 (suc (tokens_of_term a)) 0 v (omega arith)
       (unary_typed g ts op (width_of_range r) (width_of a) (range_of a) r c.value q.0 v.typed) (omega (arith, few))
 
-  cast_is_code : (at : Place) (t : Option PlainType) (r : Range) (to : CastType) (a : LogicTerm) → TermRanged [] (logic.Cast at t r to a) → IsCastType to → (c : Code) → IsCode c (type_of a) (nodes_of_term a) 1
-      → IsCode (with_value (cast_value to (range_of a) (type_of_width (width_of_range r)) (type_of a) c.value) c) (type_of_width (width_of_range r)) (suc (nodes_of_term a)) 1
+  cast_is_code : (at : Place) (t : Option PlainType) (r : Range) (to : CastType) (a : LogicTerm) → TermRanged [] (logic.Cast at t r to a) → IsCastType to → (c : Code) → IsCode c (type_of a) (tokens_of_term a) 2
+      → IsCode (with_value (cast_value to (range_of a) (type_of_width (width_of_range r)) (type_of a) c.value) c) (type_of_width (width_of_range r)) (suc (tokens_of_term a)) 0
   cast_is_code at t r Integers a q int c v =
       let same : range_of a ≡ r = some_same (range_of a) r q.0 in
-      changed_valid g gs ts result ls c c.value (type_of a) (type_of_width (width_of_range r)) (nodes_of_term a) 1 (suc (nodes_of_term a)) 1 v (omega arith)
+      changed_valid g gs ts result ls c c.value (type_of a) (type_of_width (width_of_range r)) (tokens_of_term a) 2 (suc (tokens_of_term a)) 0 v (omega arith)
       (subst (λ r. HasType g ts c.value (type_of_width (width_of_range r))) same v.typed) (omega (arith, v.parens))
   cast_is_code at t r (OfC to) a q int c v =
-      changed_valid g gs ts result ls c (converted_to (integer_type to) (range_of a) (type_of_width (width_of_range r)) (type_of a) c.value) (type_of a) (type_of_width (width_of_range r)) (nodes_of_term a) 1 (suc (nodes_of_term a)) 1 v (omega arith)
+      changed_valid g gs ts result ls c (converted_to (integer_type to) (range_of a) (type_of_width (width_of_range r)) (type_of a) c.value) (type_of a) (type_of_width (width_of_range r)) (tokens_of_term a) 2 (suc (tokens_of_term a)) 0 v
+      (omega arith)
       (subst (λ i. HasType g ts (converted_to i (range_of a) (type_of_width (width_of_range r)) (type_of a) c.value) (type_of_width (width_of_range r))) (sym i.is) (typed (is_inside (range_of a) (type_range i.int)) i.range_is))
-      (subst (λ i. open_parens (converted_to i (range_of a) (type_of_width (width_of_range r)) (type_of a) c.value) + 1 ≤ 4 * suc (nodes_of_term a)) (sym i.is) (parens (is_inside (range_of a) (type_range i.int))))
+      (subst (λ i. 2 * open_parens (converted_to i (range_of a) (type_of_width (width_of_range r)) (type_of a) c.value) ≤ 6 * suc (tokens_of_term a) + 0) (sym i.is) (parens (is_inside (range_of a) (type_range i.int))))
     where
       i : CastTo to (range_of a) r
       i = cast_to to (range_of a) r int q.0
@@ -166,15 +169,16 @@ module _ (p : TranslationUnit) (bound : Bindings) (g : ℕ) (gs : List Signature
       typed true e = subst (λ r. HasType g ts c.value (type_of_width (width_of_range r))) e v.typed
       typed false e = in_type_typed g ts (register_type i.int) (type_of_width (width_of_range r)) (Cast (register_type i.int) c.value) (whole_register i.int) (whole_width (width_of_range r)) whole
 
-      parens : (s : Bool) → open_parens (if s then c.value else in_type (register_type i.int) (type_of_width (width_of_range r)) (Cast (register_type i.int) c.value)) + 1 ≤ 4 * suc (nodes_of_term a)
+      parens : (s : Bool) → 2 * open_parens (if s then c.value else in_type (register_type i.int) (type_of_width (width_of_range r)) (Cast (register_type i.int) c.value)) ≤ 6 * suc (tokens_of_term a) + 0
       parens true = omega (arith, v.parens)
       parens false =
-          let m : max 1 (open_parens c.value) ≤ 4 * nodes_of_term a = max-le (omega (arith, some_term a)) (omega (arith, v.parens)) in
-          let l = in_type_parens (register_type i.int) (type_of_width (width_of_range r)) (Cast (register_type i.int) c.value) (suc (4 * nodes_of_term a)) (omega arith) (omega (arith, m)) in
+          let m : max 1 (open_parens c.value) ≤ 3 * tokens_of_term a + 1 = max-le (omega arith) (omega (arith, v.parens)) in
+          let l = in_type_parens (register_type i.int) (type_of_width (width_of_range r)) (Cast (register_type i.int) c.value) (suc (3 * tokens_of_term a + 1)) (omega arith) (omega (arith, m)) in
           omega (arith, l)
 
-  module _ (at : Place) (t : Option PlainType) (r : Range) (op : BinOp) (a b : LogicTerm) (q : TermRanged [] (logic.Binary at t r op a b)) (x y : Code) (vx : IsCode x (type_of a) (nodes_of_term a) 1)
-      (vy : IsCode y (type_of b) (nodes_of_term b) 1) where
+  -- the right operand of a shift to the right opens four parentheses more, but where it is a shift itself it stands in parentheses
+  module _ (at : Place) (t : Option PlainType) (r : Range) (op : BinOp) (a b : LogicTerm) (q : TermRanged [] (logic.Binary at t r op a b)) (x y : Code) (vx : IsCode x (type_of a) (tokens_of_term a) 2)
+      (vy : IsCode y (type_of b) (tokens_of_term b) (parentheses_around 2 (operator_of_term b))) where
     abbrev wr : MonType
     wr = type_of_width (width_of_range r)
 
@@ -184,26 +188,75 @@ module _ (p : TranslationUnit) (bound : Bindings) (g : ℕ) (gs : List Signature
     abbrev made : MonExpression
     made = binary_value op wr k (type_of a) (type_of b) (range_of b) x.value y.value
 
+    abbrev around : ℕ
+    around = parentheses_around (level_of op) (operator_of_term b)
+
     abbrev all : ℕ
-    all = suc (nodes_of_term a + nodes_of_term b)
+    all = suc (tokens_of_term a + tokens_of_term b + around)
 
     made_typed : HasType g ts made wr
     made_typed = binary_typed g ts op (width_of_range r) (width_of a) (width_of b) (range_of a) (range_of b) r x.value y.value q.0 vx.typed vy.typed
 
-    made_parens : open_parens made + 1 ≤ 4 * all
-    made_parens =
-        let l = value_parens op wr k (type_of a) (type_of b) (range_of b) x.value y.value (4 * nodes_of_term a) (4 * nodes_of_term b) (omega (arith, some_term a)) (omega (arith, some_term b)) (omega (arith, vx.parens)) (omega (arith, vy.parens)) in
-        let m : max (3 + 4 * nodes_of_term a) (7 + 4 * nodes_of_term b) + 1 ≤ 4 * all = most (max-le (omega (arith, some_term b)) (omega (arith, some_term a))) in
-        omega (arith, l, m)
-      where
-        most : max (3 + 4 * nodes_of_term a) (7 + 4 * nodes_of_term b) ≤ 3 + 4 * (nodes_of_term a + nodes_of_term b) → max (3 + 4 * nodes_of_term a) (7 + 4 * nodes_of_term b) + 1 ≤ 4 * all
-        most h = omega (arith, h)
+    right_parens : open_parens y.value ≤ 3 * tokens_of_term b + 1
+    right_parens = let two = around_two 2 (operator_of_term b) in omega (arith, vy.parens, two)
 
-    binary_is_code : all ≤ 400 → Begins (operated (is_total op (range_of b)) op wr k (type_of b) x y made).used ts → IsCode (operated (is_total op (range_of b)) op wr k (type_of b) x y made) wr all 1
+    plain_parens : (o : BinOp) (n : ℕ) → counted_in o ≡ 0 → 2 * open_parens (binary_value o wr k (type_of a) (type_of b) (range_of b) x.value y.value) ≤ 6 * suc (tokens_of_term a + tokens_of_term b + n)
+    plain_parens o n none =
+        let l = value_parens o wr k (type_of a) (type_of b) (range_of b) x.value y.value (3 * tokens_of_term a + 1) (3 * tokens_of_term b + 1) (3 * tokens_of_term a + 3 * tokens_of_term b + 3) (omega arith) (omega arith)
+        (omega (arith, vx.parens)) right_parens (omega (arith, some_term b)) (omega (arith, none, some_term a)) in
+        omega (arith, l)
+
+    shift_by : (n m : ℕ) → open_parens y.value ≤ m → 1 ≤ m → 2 * m ≤ 6 * tokens_of_term b + n
+        → 2 * open_parens (binary_value Shr wr k (type_of a) (type_of b) (range_of b) x.value y.value) ≤ 6 * suc (tokens_of_term a + tokens_of_term b + n) + 2
+    shift_by n m h some le =
+        let l = value_parens Shr wr k (type_of a) (type_of b) (range_of b) x.value y.value (3 * tokens_of_term a + 1) m (3 * (tokens_of_term a + tokens_of_term b + n) + 4) (omega arith) some
+        (omega (arith, vx.parens)) h (omega (arith, some_term b)) (omega (arith, le, some_term a)) in
+        omega (arith, l)
+
+    shift_parens : (n : ℕ) → 2 * open_parens y.value ≤ 6 * tokens_of_term b + n
+        → 2 * open_parens (binary_value Shr wr k (type_of a) (type_of b) (range_of b) x.value y.value) ≤ 6 * suc (tokens_of_term a + tokens_of_term b + n) + 2
+    shift_parens n h = by (open_parens y.value) refl
+      where
+        by : (m : ℕ) → open_parens y.value ≡ m → 2 * open_parens (binary_value Shr wr k (type_of a) (type_of b) (range_of b) x.value y.value) ≤ 6 * suc (tokens_of_term a + tokens_of_term b + n) + 2
+        by zero e = shift_by n 1 (omega (arith, e)) (omega arith) (omega (arith, some_term b))
+        by (suc m) e = shift_by n (suc m) (omega (arith, e)) (omega arith) (omega (arith, e, h))
+
+    made_parens : 2 * open_parens made ≤ 6 * all + parentheses_around 2 (Some op)
+    made_parens = by op
+      where
+        more : (o : BinOp) → counted_in o ≡ 0 → 2 * open_parens (binary_value o wr k (type_of a) (type_of b) (range_of b) x.value y.value)
+            ≤ 6 * suc (tokens_of_term a + tokens_of_term b + parentheses_around (level_of o) (operator_of_term b)) + parentheses_around 2 (Some o)
+        more o none = let l = plain_parens o (parentheses_around (level_of o) (operator_of_term b)) none in omega (arith, l)
+
+        by : (o : BinOp) → 2 * open_parens (binary_value o wr k (type_of a) (type_of b) (range_of b) x.value y.value)
+            ≤ 6 * suc (tokens_of_term a + tokens_of_term b + parentheses_around (level_of o) (operator_of_term b)) + parentheses_around 2 (Some o)
+        by Shr = shift_parens (parentheses_around 2 (operator_of_term b)) vy.parens
+        by Shl = more Shl refl
+        by Add = more Add refl
+        by Sub = more Sub refl
+        by Mul = more Mul refl
+        by Div = more Div refl
+        by Rem = more Rem refl
+        by BitAnd = more BitAnd refl
+        by BitOr = more BitOr refl
+        by BitXor = more BitXor refl
+        by Lt = more Lt refl
+        by Le = more Le refl
+        by Gt = more Gt refl
+        by Ge = more Ge refl
+        by Eq = more Eq refl
+        by Ne = more Ne refl
+
+    made_few : open_parens made ≤ 3 * all + 1
+    made_few = let two = around_two 2 (Some op) in omega (arith, made_parens, two)
+
+    binary_is_code : all ≤ 400 → Begins (operated (is_total op (range_of b)) op wr k (type_of b) x y made).used ts → IsCode (operated (is_total op (range_of b)) op wr k (type_of b) x y made) wr all (parentheses_around 2 (Some op))
     binary_is_code few = by (is_total op (range_of b))
       where
-        total : IsCode (two_code x y made) wr all 1
-        total = two_valid g gs ts result ls x y made (type_of a) (type_of b) wr (nodes_of_term a) (nodes_of_term b) 1 1 all 1 vx vy (omega (arith, some_term b)) (omega (arith, some_term a)) made_typed made_parens
+        total : IsCode (two_code x y made) wr all (parentheses_around 2 (Some op))
+        total =
+            two_valid g gs ts result ls x y made (type_of a) (type_of b) wr (tokens_of_term a) (tokens_of_term b) 2 (parentheses_around 2 (operator_of_term b)) all (parentheses_around 2 (Some op)) vx vy (omega (arith, some_term b))
+            (omega (arith, some_term a)) made_typed made_parens
 
         test : MonExpression
         test = guard k op (in_type (type_of b) k y.value)
@@ -211,10 +264,10 @@ module _ (p : TranslationUnit) (bound : Bindings) (g : ℕ) (gs : List Signature
         operand_typed : HasType g ts (in_type (type_of b) k y.value) k
         operand_typed = in_type_typed g ts (type_of b) k y.value (whole_width (width_of b)) (whole_width (working op (width_of_range r) (width_of a) (width_of b))) vy.typed
 
-        test_parens : open_parens (guard k op (in_type (type_of b) k y.value)) ≤ suc (suc (4 * nodes_of_term b))
-        test_parens = guard_parens op k (in_type (type_of b) k y.value) (suc (4 * nodes_of_term b)) (omega arith) (in_type_parens (type_of b) k y.value (4 * nodes_of_term b) (omega (arith, some_term b)) (omega (arith, vy.parens)))
+        test_parens : open_parens (guard k op (in_type (type_of b) k y.value)) ≤ suc (suc (3 * tokens_of_term b + 1))
+        test_parens = guard_parens op k (in_type (type_of b) k y.value) (suc (3 * tokens_of_term b + 1)) (omega arith) (in_type_parens (type_of b) k y.value (3 * tokens_of_term b + 1) (omega arith) right_parens)
 
-        partial : Begins (y.used ++ I32 ∷ wr ∷ []) ts → IsCode (operated false op wr k (type_of b) x y made) wr all 1
+        partial : Begins (y.used ++ I32 ∷ wr ∷ []) ts → IsCode (operated false op wr k (type_of b) x y made) wr all (parentheses_around 2 (Some op))
         partial h =
             let reg = length y.used in
             let at1 = first_type y.used ts I32 wr h in
@@ -226,76 +279,82 @@ module _ (p : TranslationUnit) (bound : Bindings) (g : ℕ) (gs : List Signature
               statements =
                   before_valid g gs ts result ls both (guarded flag inner (take_none reg)) (before_valid g gs ts result ls x.stmts y.stmts vx.statements vy.statements)
                   (guarded_valid g gs ts result ls flag inner (take_none reg) all (omega (arith, few))
-                  (flag_both g gs ts result ls x.flag y.flag (nodes_of_term a) (nodes_of_term b) all (omega (arith, some_term b)) (omega (arith, some_term a)) vx.flag vy.flag)
-                  (take_valid g gs ts result ls (Some test) made wr reg (4 * all) (omega (arith, few))
+                  (flag_both g gs ts result ls x.flag y.flag (tokens_of_term a) (tokens_of_term b) all (omega (arith, some_term b)) (omega (arith, some_term a)) vx.flag vy.flag)
+                  (take_valid g gs ts result ls (Some test) made wr reg (3 * all + 2) (omega (arith, few))
                   (guard_typed g ts op (working op (width_of_range r) (width_of a) (width_of b)) (in_type (type_of b) k y.value) operand_typed, omega (arith, test_parens))
-                  (expression g gs ts result ls made wr (4 * all) made_typed (omega (arith, made_parens)) (omega (arith, few))) at1 at2)
+                  (expression g gs ts result ls made wr (3 * all + 2) made_typed (omega (arith, made_few)) (omega (arith, few))) at1 at2)
                   (take_none_valid g gs ts result ls reg at1));
               deep =
                   deep_before both (guarded flag inner (take_none reg)) (all + all)
                   (deep_before x.stmts y.stmts (all + all) (omega (arith, vx.deep)) (omega (arith, vy.deep)))
                   (let d = deep_guarded flag inner (take_none reg) 2 (deep_take (Some test) made reg) (omega arith) in omega (arith, d, some_term a, some_term b));
               opened =
-                  open_before both (guarded flag inner (take_none reg)) (4 * all) (open_before x.stmts y.stmts (4 * all) (omega (arith, vx.opened)) (omega (arith, vy.opened)))
-                  (open_guarded flag inner (take_none reg) (4 * all)
+                  open_before both (guarded flag inner (take_none reg)) (3 * all + 2) (open_before x.stmts y.stmts (3 * all + 2) (omega (arith, vx.opened)) (omega (arith, vy.opened)))
+                  (open_guarded flag inner (take_none reg) (3 * all + 2)
                   (let both_open = flag_open g gs ts result ls flag all
-                  (flag_both g gs ts result ls x.flag y.flag (nodes_of_term a) (nodes_of_term b) all (omega (arith, some_term b)) (omega (arith, some_term a)) vx.flag vy.flag) in omega (arith, both_open))
-                  (open_take (Some test) made reg (4 * all) (omega arith) (omega (arith, test_parens)) (omega (arith, made_parens))) (open_none reg (4 * all) (omega arith)));
+                  (flag_both g gs ts result ls x.flag y.flag (tokens_of_term a) (tokens_of_term b) all (omega (arith, some_term b)) (omega (arith, some_term a)) vx.flag vy.flag) in omega (arith, both_open))
+                  (open_take (Some test) made reg (3 * all + 2) (omega arith) (omega (arith, test_parens)) (omega (arith, made_few))) (open_none reg (3 * all + 2) (omega arith)));
               flag = (at1, omega arith);
               typed = at2;
               parens = omega arith;
             }
 
-        by : (s : Bool) → Begins (operated s op wr k (type_of b) x y made).used ts → IsCode (operated s op wr k (type_of b) x y made) wr all 1
+        by : (s : Bool) → Begins (operated s op wr k (type_of b) x y made).used ts → IsCode (operated s op wr k (type_of b) x y made) wr all (parentheses_around 2 (Some op))
         by true h = total
         by false h = partial h
 
-  relation_is_code : (r : Relation) (t u : LogicTerm) (x y : Code) (m n k : ℕ) → IsCode x (type_of t) m 1 → IsCode y (type_of u) n 1 → 1 ≤ m → 1 ≤ n → m + suc n ≤ k → IsCode (relation_code r t u x y) I32 k 0
+  relation_is_code : (r : Relation) (t u : LogicTerm) (x y : Code) (m n k : ℕ) → IsCode x (type_of t) m 2 → IsCode y (type_of u) n 2 → 1 ≤ m → 1 ≤ n → m + suc n ≤ k → IsCode (relation_code r t u x y) I32 k 4
   relation_is_code r t u x y m n k vx vy lm ln le =
       let e = relation_value r (type_of_width (wider (width_of t) (width_of u))) (type_of t) (type_of u) x.value y.value in
-      let l = related_parens r (type_of_width (wider (width_of t) (width_of u))) (type_of t) (type_of u) x.value y.value (4 * m + 4 * n) (omega (arith, lm)) (omega (arith, vx.parens)) (omega (arith, vy.parens)) in
-      two_valid g gs ts result ls x y e (type_of t) (type_of u) I32 m n 1 1 k 0 vx vy (omega (arith, ln, le)) (omega (arith, lm, le)) (related_typed g ts r (width_of t) (width_of u) x.value y.value vx.typed vy.typed) (omega (arith, l, le))
+      let l = related_parens r (type_of_width (wider (width_of t) (width_of u))) (type_of t) (type_of u) x.value y.value (3 * m + 3 * n) (omega (arith, lm)) (omega (arith, vx.parens, ln)) (omega (arith, vy.parens, lm)) in
+      two_valid g gs ts result ls x y e (type_of t) (type_of u) I32 m n 2 2 k 4 vx vy (omega (arith, ln, le)) (omega (arith, lm, le)) (related_typed g ts r (width_of t) (width_of u) x.value y.value vx.typed vy.typed) (omega (arith, l, le))
 
   -- a side of a choice in the type of the whole
-  side_is_code : (a : LogicTerm) (r : Range) (c : Code) (n : ℕ) → 1 ≤ n → IsCode c (type_of a) n 1 → IsCode (with_value (in_type (type_of a) (type_of_width (width_of_range r)) c.value) c) (type_of_width (width_of_range r)) n 0
-  side_is_code a r c n some v =
-      let l = in_type_parens (type_of a) (type_of_width (width_of_range r)) c.value (4 * n - 1) (omega (arith, some)) (omega (arith, v.parens)) in
-      changed_valid g gs ts result ls c (in_type (type_of a) (type_of_width (width_of_range r)) c.value) (type_of a) (type_of_width (width_of_range r)) n 1 n 0 v (omega arith) (to_width g ts (width_of a) (width_of_range r) c.value v.typed)
-      (omega (arith, l, some))
+  side_is_code : (a : LogicTerm) (r : Range) (c : Code) (n : ℕ) → IsCode c (type_of a) n 2 → IsCode (with_value (in_type (type_of a) (type_of_width (width_of_range r)) c.value) c) (type_of_width (width_of_range r)) n 4
+  side_is_code a r c n v =
+      let l = in_type_parens (type_of a) (type_of_width (width_of_range r)) c.value (3 * n + 1) (omega arith) (omega (arith, v.parens)) in
+      changed_valid g gs ts result ls c (in_type (type_of a) (type_of_width (width_of_range r)) c.value) (type_of a) (type_of_width (width_of_range r)) n 2 n 4 v (omega arith) (to_width g ts (width_of a) (width_of_range r) c.value v.typed)
+      (omega (arith, l))
 
-  nonzero_is_code : (t : LogicTerm) (c : Code) → IsCode c (type_of t) (nodes_of_term t) 1 → IsCode (with_value (Binary mon.Ne (type_of t) c.value (Constant (type_of t) (pos 0))) c) I32 (nodes_of_term t) 0
+  nonzero_is_code : (t : LogicTerm) (c : Code) → IsCode c (type_of t) (tokens_of_term t) 2 → IsCode (with_value (Binary mon.Ne (type_of t) c.value (Constant (type_of t) (pos 0))) c) I32 (tokens_of_term t) 4
   nonzero_is_code t c v =
-      let l = binary_less mon.Ne (type_of t) c.value (Constant (type_of t) (pos 0)) (4 * nodes_of_term t) (omega (arith, v.parens)) (omega (arith, some_term t)) in
-      changed_valid g gs ts result ls c (Binary mon.Ne (type_of t) c.value (Constant (type_of t) (pos 0))) (type_of t) I32 (nodes_of_term t) 1 (nodes_of_term t) 0 v (omega arith)
+      let l = binary_less mon.Ne (type_of t) c.value (Constant (type_of t) (pos 0)) (3 * tokens_of_term t + 2) (omega (arith, v.parens)) (omega arith) in
+      changed_valid g gs ts result ls c (Binary mon.Ne (type_of t) c.value (Constant (type_of t) (pos 0))) (type_of t) I32 (tokens_of_term t) 2 (tokens_of_term t) 4 v (omega arith)
       (relation_typed g ts mon.Ne (width_of t) c.value (Constant (type_of t) (pos 0)) refl v.typed (refl, zero_constant (width_of t))) (omega (arith, l))
 
-  not_is_code : (c : Code) (n : ℕ) → IsCode c I32 n 0 → IsCode (with_value (Binary mon.Eq I32 c.value (Constant I32 (pos 0))) c) I32 (suc n) 0
+  not_is_code : (c : Code) (n : ℕ) → IsCode c I32 n 4 → IsCode (with_value (Binary mon.Eq I32 c.value (Constant I32 (pos 0))) c) I32 (suc n) 4
   not_is_code c n v =
-      let l = binary_less mon.Eq I32 c.value (Constant I32 (pos 0)) (4 * suc n) (omega (arith, v.parens)) (omega arith) in
-      changed_valid g gs ts result ls c (Binary mon.Eq I32 c.value (Constant I32 (pos 0))) I32 I32 n 0 (suc n) 0 v (omega arith)
+      let l = binary_less mon.Eq I32 c.value (Constant I32 (pos 0)) (3 * suc n + 2) (omega (arith, v.parens)) (omega arith) in
+      changed_valid g gs ts result ls c (Binary mon.Eq I32 c.value (Constant I32 (pos 0))) I32 I32 n 4 (suc n) 4 v (omega arith)
       (relation_typed g ts mon.Eq W32 c.value (Constant I32 (pos 0)) refl v.typed (refl, refl)) (omega (arith, l))
 
   -- a term that was computed already
-  again_is_code : (u : LogicTerm) (y : Code) → IsCode y (type_of u) (nodes_of_term u) 1 → IsCode (sure_code y.value y.used) (type_of u) (nodes_of_term u) 1
+  again_is_code : (u : LogicTerm) (y : Code) → IsCode y (type_of u) (tokens_of_term u) 2 → IsCode (sure_code y.value y.used) (type_of u) (tokens_of_term u) 2
   again_is_code u y v = record { statements = tt; deep = omega arith; opened = omega arith; flag = tt; typed = v.typed; parens = v.parens }
+
+  -- wherever a term stands, but right of a shift to the right
+  anywhere : (t : LogicTerm) (c : Code) → IsCode c (type_of t) (tokens_of_term t) (parentheses_around 2 (operator_of_term t)) → IsCode c (type_of t) (tokens_of_term t) 2
+  anywhere t c v =
+      let two = around_two 2 (operator_of_term t) in
+      record { statements = v.statements; deep = v.deep; opened = v.opened; flag = v.flag; typed = v.typed; parens = omega (arith, v.parens, two) }
 
   -- ---- everything
 
   mutual
-    term_valid : (t : LogicTerm) → TermRanged [] t → TermWritable p bound g ts t → (known : List Reading) (rs : Types) → nodes_of_term t ≤ 400 → Begins (term_code p bound t known rs).used ts
-        → IsCode (term_code p bound t known rs) (type_of t) (nodes_of_term t) 1
+    term_valid : (t : LogicTerm) → TermRanged [] t → TermWritable p bound g ts t → (known : List Reading) (rs : Types) → tokens_of_term t ≤ 400 → Begins (term_code p bound t known rs).used ts
+        → IsCode (term_code p bound t known rs) (type_of t) (tokens_of_term t) (parentheses_around 2 (operator_of_term t))
     term_valid (logic.Number at t r n) q f known rs few h = number_code r n rs q f
     term_valid (logic.Letter at t r n) q f known rs few h = number_code r n rs q f
     term_valid (logic.Variable at t r x) q f known rs few h = variable_is_code (is_known known (record { decl = x.decl; kind = term_type t })) r t x rs (integer_of_range t r f.0 q) f.1 h
-    term_valid (logic.Unary at t r op a) q f known rs few h = unary_is_code at t r op a q (term_code p bound a known rs) (term_valid a q.1 f known rs (omega (arith, few)) h)
+    term_valid (logic.Unary at t r op a) q f known rs few h = unary_is_code at t r op a q (term_code p bound a known rs) (anywhere a (term_code p bound a known rs) (term_valid a q.1 f known rs (omega (arith, few)) h))
     term_valid (logic.Binary at t r op a b) q f known rs few h =
         let x = term_code p bound a known rs in
         let y = term_code p bound b known x.used in
         let k = type_of_width (working op (width_of_range r) (width_of a) (width_of b)) in
         let hy = operated_begins ts (is_total op (range_of b)) op (type_of_width (width_of_range r)) k (type_of b) x y (binary_value op (type_of_width (width_of_range r)) k (type_of a) (type_of b) (range_of b) x.value y.value) h in
         let hx = term_begins ts p bound b known x.used hy in
-        binary_is_code at t r op a b q x y (term_valid a q.1 f.0 known rs (omega (arith, few)) hx) (term_valid b q.2 f.1 known x.used (omega (arith, few)) hy) few h
-    term_valid (logic.Cast at t r to a) q f known rs few h = cast_is_code at t r to a q f.0 (term_code p bound a known rs) (term_valid a q.1 f.1 known rs (omega (arith, few)) h)
+        binary_is_code at t r op a b q x y (anywhere a (term_code p bound a known rs) (term_valid a q.1 f.0 known rs (omega (arith, few)) hx)) (term_valid b q.2 f.1 known x.used (omega (arith, few)) hy) few h
+    term_valid (logic.Cast at t r to a) q f known rs few h = cast_is_code at t r to a q f.0 (term_code p bound a known rs) (anywhere a (term_code p bound a known rs) (term_valid a q.1 f.1 known rs (omega (arith, few)) h))
     term_valid (logic.Choice at t r c a b) q f known rs few h =
         let more = known ++ sure_readings c in
         let w = type_of_width (width_of_range r) in
@@ -306,49 +365,51 @@ module _ (p : TranslationUnit) (bound : Bindings) (g : ℕ) (gs : List Signature
         let hx = term_begins ts p bound b more x.used hy in
         let hz = term_begins ts p bound a more z.used hx in
         branch_valid g gs ts result ls w z (with_value (in_type (type_of a) w x.value) x) (with_value (in_type (type_of b) w y.value) y)
-        (nodes_of_predicate c) (nodes_of_term a) (nodes_of_term b) 0 0 0 (suc (nodes_of_predicate c + nodes_of_term a + nodes_of_term b)) 1
-        (pred_valid c q.1 f.0 known rs (omega (arith, few)) hz) (side_is_code a r x (nodes_of_term a) (some_term a) (term_valid a q.2 f.1 more z.used (omega (arith, few)) hx))
-        (side_is_code b r y (nodes_of_term b) (some_term b) (term_valid b q.3 f.2 more x.used (omega (arith, few)) hy)) (omega (arith, some_term a)) (omega arith) (omega arith) (some_term a) few (omega arith) h
+        (tokens_of_predicate c) (tokens_of_term a) (tokens_of_term b) (suc (tokens_of_predicate c + tokens_of_term a + tokens_of_term b)) 0
+        (pred_valid c q.1 f.0 known rs (omega (arith, few)) hz) (side_is_code a r x (tokens_of_term a) (anywhere a (term_code p bound a more z.used) (term_valid a q.2 f.1 more z.used (omega (arith, few)) hx)))
+        (side_is_code b r y (tokens_of_term b) (anywhere b (term_code p bound b more x.used) (term_valid b q.3 f.2 more x.used (omega (arith, few)) hy))) (omega (arith, some_term a)) (omega arith) (omega arith) (some_term a) few h
     term_valid _ q f known rs few h = absurd f
 
-    chain_valid : (t : LogicTerm) (x : Code) (l : Links) (m : ℕ) → LinksRanged [] l → LinksWritable p bound g ts l → (known : List Reading) → 1 ≤ m → m + nodes_of_links l ≤ 400 → IsCode x (type_of t) m 1
+    chain_valid : (t : LogicTerm) (x : Code) (l : Links) (m : ℕ) → LinksRanged [] l → LinksWritable p bound g ts l → (known : List Reading) → 1 ≤ m → m + tokens_of_links l ≤ 400 → IsCode x (type_of t) m 2
         → Begins (chain_code p bound t x l known).used ts
-        → IsCode (chain_code p bound t x l known) I32 (m + nodes_of_links l) 0
+        → IsCode (chain_code p bound t x l known) I32 (m + tokens_of_links l) 4
     chain_valid t x NoLink m q f known some few v h =
-        record { statements = v.statements; deep = omega (arith, v.deep); opened = omega (arith, v.opened); flag = tt; typed = (refl, refl); parens = omega (arith, some) }
+        record { statements = v.statements; deep = omega (arith, v.deep); opened = omega (arith, v.opened); flag = tt; typed = (refl, refl); parens = omega arith }
     chain_valid t x (Linked at r u NoLink) m q f known some few v h =
-        relation_is_code r t u x (term_code p bound u known x.used) m (nodes_of_term u) (m + suc (nodes_of_term u + 0)) v (term_valid u q.0 f.0 known x.used (omega (arith, few)) h) some (some_term u) (omega arith)
+        let y = term_code p bound u known x.used in
+        let vy = anywhere u y (term_valid u q.0 f.0 known x.used (omega (arith, few)) h) in
+        relation_is_code r t u x y m (tokens_of_term u) (m + suc (tokens_of_term u + 0)) v vy some (some_term u) (omega arith)
     chain_valid t x (Linked at r u (Linked at2 r2 v rest)) m q f known some few vx h =
         let y = term_code p bound u known x.used in
         let more = known ++ (sure_readings_of_term t ++ sure_readings_of_term u) in
         let start = sure_code y.value y.used in
-        let n = nodes_of_term u in
+        let n = tokens_of_term u in
         let z = relation_code r t u x y in
         let d = chain_code p bound u start (Linked at2 r2 v rest) more in
         let hd = connected_begins ts And z d h in
         let hy = chain_begins ts p bound u start (Linked at2 r2 v rest) more hd in
-        let vy = term_valid u q.0 f.0 known x.used (omega (arith, few)) hy in
-        let l = nodes_of_links (Linked at2 r2 v rest) in
+        let vy = anywhere u (term_code p bound u known x.used) (term_valid u q.0 f.0 known x.used (omega (arith, few)) hy) in
+        let l = tokens_of_links (Linked at2 r2 v rest) in
         connected_valid g gs ts result ls And z d (m + suc n) (n + l) (m + suc (n + l)) (relation_is_code r t u x y m n (m + suc n) vx vy some (some_term u) (omega arith))
         (chain_valid u start (Linked at2 r2 v rest) n q.1 f.1 more (some_term u) (omega (arith, few)) (again_is_code u y vy) hd) (omega (arith, some_term v)) (omega (arith, some)) (omega (arith, some_term u)) few h
 
-    pred_valid : (q : Predicate) → PredicateRanged [] q → PredicateWritable p bound g ts q → (known : List Reading) (rs : Types) → nodes_of_predicate q ≤ 400 → Begins (pred_code p bound q known rs).used ts
-        → IsCode (pred_code p bound q known rs) I32 (nodes_of_predicate q) 0
-    pred_valid (logic.Truth at b) q f known rs few h = truth_valid g gs ts result ls b rs 0 (omega arith)
-    pred_valid (logic.NonZero at t) q f known rs few h = nonzero_is_code t (term_code p bound t known rs) (term_valid t q f known rs few h)
+    pred_valid : (q : Predicate) → PredicateRanged [] q → PredicateWritable p bound g ts q → (known : List Reading) (rs : Types) → tokens_of_predicate q ≤ 400 → Begins (pred_code p bound q known rs).used ts
+        → IsCode (pred_code p bound q known rs) I32 (tokens_of_predicate q) 4
+    pred_valid (logic.Truth at b) q f known rs few h = truth_valid g gs ts result ls b rs 4
+    pred_valid (logic.NonZero at t) q f known rs few h = nonzero_is_code t (term_code p bound t known rs) (anywhere t (term_code p bound t known rs) (term_valid t q f known rs few h))
     pred_valid (logic.Chain at t links) q f known rs few h =
         let x = term_code p bound t known rs in
-        chain_valid t x links (nodes_of_term t) q.1 f.1 known (some_term t) few (term_valid t q.0 f.0 known rs (omega (arith, few)) (chain_begins ts p bound t x links known h)) h
-    pred_valid (logic.Not at a) q f known rs few h = not_is_code (pred_code p bound a known rs) (nodes_of_predicate a) (pred_valid a q f known rs (omega (arith, few)) h)
+        chain_valid t x links (tokens_of_term t) q.1 f.1 known (some_term t) few (anywhere t (term_code p bound t known rs) (term_valid t q.0 f.0 known rs (omega (arith, few)) (chain_begins ts p bound t x links known h))) h
+    pred_valid (logic.Not at a) q f known rs few h = not_is_code (pred_code p bound a known rs) (tokens_of_predicate a) (pred_valid a q f known rs (omega (arith, few)) h)
     pred_valid (logic.Connected at c a b) q f known rs few h =
         let x = pred_code p bound a known rs in
         let ks = known_at_right c known a in
         let y = pred_code p bound b ks x.used in
         let hy = connected_begins ts c x y h in
         let hx = pred_begins ts p bound b ks x.used hy in
-        connected_valid g gs ts result ls c x y (nodes_of_predicate a) (nodes_of_predicate b) (suc (nodes_of_predicate a + nodes_of_predicate b))
+        connected_valid g gs ts result ls c x y (tokens_of_predicate a) (tokens_of_predicate b) (suc (tokens_of_predicate a + tokens_of_predicate b))
         (pred_valid a q.0 f.0 known rs (omega (arith, few)) hx) (pred_valid b q.1 f.1 ks x.used (omega (arith, few)) hy) (omega arith) (omega arith)
-        (some_nodes b) few h
+        (some_tokens b) few h
     pred_valid (logic.Branch at c a b) q f known rs few h =
         let more = known ++ sure_readings c in
         let z = pred_code p bound c known rs in
@@ -357,14 +418,14 @@ module _ (p : TranslationUnit) (bound : Bindings) (g : ℕ) (gs : List Signature
         let hy = begins_front y.used (I32 ∷ I32 ∷ []) ts h in
         let hx = pred_begins ts p bound b more x.used hy in
         let hz = pred_begins ts p bound a more z.used hx in
-        branch_valid g gs ts result ls I32 z x y (nodes_of_predicate c) (nodes_of_predicate a) (nodes_of_predicate b) 0 0 0 (suc (nodes_of_predicate c + nodes_of_predicate a + nodes_of_predicate b)) 0
+        branch_valid g gs ts result ls I32 z x y (tokens_of_predicate c) (tokens_of_predicate a) (tokens_of_predicate b) (suc (tokens_of_predicate c + tokens_of_predicate a + tokens_of_predicate b)) 4
         (pred_valid c q.0 f.0 known rs (omega (arith, few)) hz) (pred_valid a q.1 f.1 more z.used (omega (arith, few)) hx)
-        (pred_valid b q.2 f.2 more x.used (omega (arith, few)) hy) (omega (arith, some_nodes a)) (omega arith) (omega arith) (some_nodes a) few (omega arith) h
+        (pred_valid b q.2 f.2 more x.used (omega (arith, few)) hy) (omega (arith, some_tokens a)) (omega arith) (omega arith) (some_tokens a) few h
     pred_valid _ q f known rs few h = absurd f
 
   -- ---- the flag and the truth in registers
 
-  by_valid : (a : MonStatements) (f : ℕ) (e : MonExpression) (rs : Types) (n : ℕ) → n ≤ 1600 → AreStatements g gs ts result ls a → depth_of_all a ≤ 1300 → open_in_all a ≤ 1600 → slice_get ts f ≡ Some I32 → HasType g ts e I32
+  by_valid : (a : MonStatements) (f : ℕ) (e : MonExpression) (rs : Types) (n : ℕ) → n ≤ 1300 → AreStatements g gs ts result ls a → depth_of_all a ≤ 1300 → open_in_all a ≤ 1300 → slice_get ts f ≡ Some I32 → HasType g ts e I32
       → open_parens e ≤ n → Begins (rs ++ I32 ∷ []) ts
       → IsValidCode g gs ts result ls (judged_by a f e rs)
   by_valid a f e rs n few h d o at typed parens b =
@@ -382,25 +443,25 @@ module _ (p : TranslationUnit) (bound : Bindings) (g : ℕ) (gs : List Signature
             );
         deep = deep_before a (one (If (Register f) on off)) 1300 d (let l = deep_if (Register f) on off 1 (omega arith) (omega arith) in omega (arith, l));
         parens =
-            open_before a (one (If (Register f) on off)) 1600 o
-            (open_if (Register f) on off 1600 (omega arith) (open_one e (length rs) 1600 (omega (arith, parens, few))) (open_one (Constant I32 (pos 0)) (length rs) 1600 (omega arith)));
+            open_before a (one (If (Register f) on off)) 1300 o
+            (open_if (Register f) on off 1300 (omega arith) (open_one e (length rs) 1300 (omega (arith, parens, few))) (open_one (Constant I32 (pos 0)) (length rs) 1300 (omega arith)));
         flag_type = at;
         truth_type = at2;
       }
 
-  module _ (c : Code) (n : ℕ) (few : n ≤ 400) (v : IsCode c I32 n 0) where
-    anew_valid : (e : MonExpression) → HasType g ts e I32 → open_parens e ≤ 1600 → Begins ((c.used ++ I32 ∷ []) ++ I32 ∷ []) ts → IsValidCode g gs ts result ls (judged_anew e c)
+  module _ (c : Code) (n : ℕ) (few : n ≤ 400) (v : IsCode c I32 n 4) where
+    anew_valid : (e : MonExpression) → HasType g ts e I32 → open_parens e ≤ 1300 → Begins ((c.used ++ I32 ∷ []) ++ I32 ∷ []) ts → IsValidCode g gs ts result ls (judged_anew e c)
     anew_valid e typed parens b =
         let first = begins_front (c.used ++ I32 ∷ []) (I32 ∷ []) ts b in
         let at = type_at c.used ts I32 first in
-        by_valid (before c.stmts (set (length c.used) e)) (length c.used) c.value (c.used ++ I32 ∷ []) (4 * n) (omega (arith, few))
-        (before_valid g gs ts result ls c.stmts (set (length c.used) e) v.statements (set_valid g gs ts result ls (length c.used) e I32 at (expression g gs ts result ls e I32 1600 typed parens (omega arith))))
+        by_valid (before c.stmts (set (length c.used) e)) (length c.used) c.value (c.used ++ I32 ∷ []) (3 * n + 2) (omega (arith, few))
+        (before_valid g gs ts result ls c.stmts (set (length c.used) e) v.statements (set_valid g gs ts result ls (length c.used) e I32 at (expression g gs ts result ls e I32 1300 typed parens (omega arith))))
         (deep_before c.stmts (set (length c.used) e) 1300 (omega (arith, v.deep, few)) (omega arith))
-        (open_before c.stmts (set (length c.used) e) 1600 (omega (arith, v.opened, few)) (open_one e (length c.used) 1600 parens)) at v.typed (omega (arith, v.parens)) b
+        (open_before c.stmts (set (length c.used) e) 1300 (omega (arith, v.opened, few)) (open_one e (length c.used) 1300 parens)) at v.typed (omega (arith, v.parens)) b
 
     flagged : (f : Option MonExpression) → FlagValid g gs ts result ls f n → Begins (judged_with f c).used ts → IsValidCode g gs ts result ls (judged_with f c)
     flagged None h b = anew_valid (Constant I32 (pos 1)) (refl, refl) (omega arith) b
-    flagged (Some (Register f)) h b = by_valid c.stmts f c.value c.used (4 * n) (omega (arith, few)) v.statements (omega (arith, v.deep, few)) (omega (arith, v.opened, few)) h.0 v.typed (omega (arith, v.parens)) b
+    flagged (Some (Register f)) h b = by_valid c.stmts f c.value c.used (3 * n + 2) (omega (arith, few)) v.statements (omega (arith, v.deep, few)) (omega (arith, v.opened, few)) h.0 v.typed (omega (arith, v.parens)) b
     flagged (Some (Global x)) h b = let l = h.1 in anew_valid (Global x) h.0 (omega (arith, few, l)) b
     flagged (Some (Constant t z)) h b = let l = h.1 in anew_valid (Constant t z) h.0 (omega (arith, few, l)) b
     flagged (Some (Binary op t x y)) h b = let l = h.1 in anew_valid (Binary op t x y) h.0 (omega (arith, few, l)) b
@@ -413,4 +474,4 @@ pub code_is_valid : CodeIsValid
 code_is_valid p bound g gs ts result ls q rs ranged writable few b =
     let c = pred_code p bound q [] rs in
     let v = pred_valid p bound g gs ts result ls q ranged writable [] rs few (judged_begins ts c.flag c b) in
-    flagged p bound g gs ts result ls c (nodes_of_predicate q) few v c.flag v.flag b
+    flagged p bound g gs ts result ls c (tokens_of_predicate q) few v c.flag v.flag b

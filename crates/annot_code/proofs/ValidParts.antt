@@ -42,14 +42,14 @@ module _ (g : ℕ) (gs : List Signature) (ts : Types) (result : Option MonType) 
   FlagValid None n = Unit {0}
   FlagValid (Some e) n = HasType g ts e I32 × (open_parens e ≤ n)
 
-  -- the code of so many nodes, with a value of a type
+  -- the code of n tokens, with a value of a type: three parentheses for each token are open at most, and two more in the statements, s / 2 in the value
   pub record Valid (c : Code) (t : MonType) (n s : ℕ) : Type 0 where
     pub statements : Stmts c.stmts
     pub deep : depth_of_all c.stmts ≤ n + n
-    pub opened : open_in_all c.stmts ≤ 4 * n
+    pub opened : open_in_all c.stmts ≤ 3 * n + 2
     pub flag : FlagValid c.flag n
     pub typed : HasType g ts c.value t
-    pub parens : open_parens c.value + s ≤ 4 * n
+    pub parens : 2 * open_parens c.value ≤ 6 * n + s
 
   pub flag_open : (f : Option MonExpression) (n : ℕ) → FlagValid f n → open_if_any f ≤ n
   flag_open None n h = omega arith
@@ -80,17 +80,17 @@ module _ (g : ℕ) (gs : List Signature) (ts : Types) (result : Option MonType) 
 
   -- ---- parts
 
-  pub two_valid : (a b : Code) (e : MonExpression) (ta tb t : MonType) (m n sa sb k s : ℕ) → Valid a ta m sa → Valid b tb n sb → suc m ≤ k → suc n ≤ k → HasType g ts e t → open_parens e + s ≤ 4 * k → Valid (two_code a b e) t k s
+  pub two_valid : (a b : Code) (e : MonExpression) (ta tb t : MonType) (m n sa sb k s : ℕ) → Valid a ta m sa → Valid b tb n sb → suc m ≤ k → suc n ≤ k → HasType g ts e t → 2 * open_parens e ≤ 6 * k + s → Valid (two_code a b e) t k s
   two_valid a b e ta tb t m n sa sb k s p q lm ln h l = record {
     statements = before_valid a.stmts b.stmts p.statements q.statements;
     deep = deep_before a.stmts b.stmts (k + k) (omega (arith, p.deep, lm)) (omega (arith, q.deep, ln));
-    opened = open_before a.stmts b.stmts (4 * k) (omega (arith, p.opened, lm)) (omega (arith, q.opened, ln));
+    opened = open_before a.stmts b.stmts (3 * k + 2) (omega (arith, p.opened, lm)) (omega (arith, q.opened, ln));
     flag = flag_both a.flag b.flag m n k lm ln p.flag q.flag;
     typed = h;
     parens = l;
   }
 
-  pub changed_valid : (c : Code) (e : MonExpression) (ta t : MonType) (n sa k s : ℕ) → Valid c ta n sa → n ≤ k → HasType g ts e t → open_parens e + s ≤ 4 * k → Valid (with_value e c) t k s
+  pub changed_valid : (c : Code) (e : MonExpression) (ta t : MonType) (n sa k s : ℕ) → Valid c ta n sa → n ≤ k → HasType g ts e t → 2 * open_parens e ≤ 6 * k + s → Valid (with_value e c) t k s
   changed_valid c e ta t n sa k s p le h l = record {
     statements = p.statements;
     deep = omega (arith, p.deep, le);
@@ -100,12 +100,12 @@ module _ (g : ℕ) (gs : List Signature) (ts : Types) (result : Option MonType) 
     parens = l;
   }
 
-  pub branch_valid : (t : MonType) (c a b : Code) (m na nb sc sa sb k s : ℕ) → Valid c I32 m sc → Valid a t na sa → Valid b t nb sb → suc m ≤ k → suc na ≤ k → suc nb ≤ k → 1 ≤ na → k ≤ 400 → s ≤ 1 → Begins (b.used ++ I32 ∷ t ∷ []) ts
+  pub branch_valid : (t : MonType) (c a b : Code) (m na nb k s : ℕ) → Valid c I32 m 4 → Valid a t na 4 → Valid b t nb 4 → suc m ≤ k → suc na ≤ k → suc nb ≤ k → 1 ≤ na → k ≤ 400 → Begins (b.used ++ I32 ∷ t ∷ []) ts
       → Valid (branch t c a b) t k s
-  branch_valid t c a b m na nb sc sa sb k s vc va vb lm la lb some few small begins = record {
+  branch_valid t c a b m na nb k s vc va vb lm la lb some few begins = record {
     statements =
         before_valid c.stmts (guarded c.flag inner (take_none r)) vc.statements
-        (guarded_valid c.flag inner (take_none r) m (omega (arith, lm, few)) vc.flag ((expression c.value I32 (4 * m) vc.typed (omega (arith, vc.parens)) (omega (arith, lm, few)), side a na sa va la, side b nb sb vb lb), tt)
+        (guarded_valid c.flag inner (take_none r) m (omega (arith, lm, few)) vc.flag ((expression c.value I32 (3 * m + 2) vc.typed (omega (arith, vc.parens)) (omega (arith, lm, few)), side a na va la, side b nb vb lb), tt)
         (take_none_valid r at));
     deep =
         deep_before c.stmts (guarded c.flag inner (take_none r)) (k + k) (omega (arith, vc.deep, lm))
@@ -113,12 +113,12 @@ module _ (g : ℕ) (gs : List Signature) (ts : Types) (result : Option MonType) 
         (deep_before a.stmts (take a.flag a.value r) l (omega (arith, va.deep, ll, la)) (omega (arith, deep_take a.flag a.value r, ll, la, some)))
         (deep_before b.stmts (take b.flag b.value r) l (omega (arith, vb.deep, ll, lb)) (omega (arith, deep_take b.flag b.value r, ll, la, some)))) (omega arith)));
     opened =
-        open_before c.stmts (guarded c.flag inner (take_none r)) (4 * k) (omega (arith, vc.opened, lm))
-        (open_guarded c.flag inner (take_none r) (4 * k) (let l = flag_open c.flag m vc.flag in omega (arith, l, lm))
-        (open_if c.value (before a.stmts (take a.flag a.value r)) (before b.stmts (take b.flag b.value r)) (4 * k) (omega (arith, vc.parens, lm)) (side_open a na sa va la) (side_open b nb sb vb lb)) (open_none r (4 * k) (omega (arith, lm))));
+        open_before c.stmts (guarded c.flag inner (take_none r)) (3 * k + 2) (omega (arith, vc.opened, lm))
+        (open_guarded c.flag inner (take_none r) (3 * k + 2) (let l = flag_open c.flag m vc.flag in omega (arith, l, lm))
+        (open_if c.value (before a.stmts (take a.flag a.value r)) (before b.stmts (take b.flag b.value r)) (3 * k + 2) (omega (arith, vc.parens, lm)) (side_open a na va la) (side_open b nb vb lb)) (open_none r (3 * k + 2) (omega (arith, lm))));
     flag = (at, omega arith);
     typed = at2;
-    parens = omega (arith, la, small);
+    parens = omega arith;
   }
     where
       r : ℕ
@@ -133,15 +133,15 @@ module _ (g : ℕ) (gs : List Signature) (ts : Types) (result : Option MonType) 
       at2 : slice_get ts (suc r) ≡ Some t
       at2 = second_type_at b.used ts I32 t begins
 
-      side : (d : Code) (n sd : ℕ) → Valid d t n sd → suc n ≤ k → Stmts (before d.stmts (take d.flag d.value r))
-      side d n sd v le =
+      side : (d : Code) (n : ℕ) → Valid d t n 4 → suc n ≤ k → Stmts (before d.stmts (take d.flag d.value r))
+      side d n v le =
           before_valid d.stmts (take d.flag d.value r) v.statements
-          (take_valid d.flag d.value t r n (omega (arith, le, few)) v.flag (expression d.value t (4 * n) v.typed (omega (arith, v.parens)) (omega (arith, le, few))) at at2)
+          (take_valid d.flag d.value t r n (omega (arith, le, few)) v.flag (expression d.value t (3 * n + 2) v.typed (omega (arith, v.parens)) (omega (arith, le, few))) at at2)
 
-      side_open : (d : Code) (n sd : ℕ) → Valid d t n sd → suc n ≤ k → open_in_all (before d.stmts (take d.flag d.value r)) ≤ 4 * k
-      side_open d n sd v le =
-          open_before d.stmts (take d.flag d.value r) (4 * k) (omega (arith, v.opened, le))
-          (open_take d.flag d.value r (4 * k) (omega (arith, le)) (let l = flag_open d.flag n v.flag in omega (arith, l, le)) (omega (arith, v.parens, le)))
+      side_open : (d : Code) (n : ℕ) → Valid d t n 4 → suc n ≤ k → open_in_all (before d.stmts (take d.flag d.value r)) ≤ 3 * k + 2
+      side_open d n v le =
+          open_before d.stmts (take d.flag d.value r) (3 * k + 2) (omega (arith, v.opened, le))
+          (open_take d.flag d.value r (3 * k + 2) (omega (arith, le)) (let l = flag_open d.flag n v.flag in omega (arith, l, le)) (omega (arith, v.parens, le)))
 
       l : ℕ
       l = k + k - 2
@@ -154,9 +154,9 @@ module _ (g : ℕ) (gs : List Signature) (ts : Types) (result : Option MonType) 
 
   -- ---- connectives
 
-  pub truth_valid : (b : Bool) (rs : Types) (s : ℕ) → s ≤ 1 → Valid (truth_code b rs) I32 1 s
-  truth_valid true rs s le = record { statements = tt; deep = omega arith; opened = omega arith; flag = tt; typed = (refl, refl); parens = omega (arith, le) }
-  truth_valid false rs s le = record { statements = tt; deep = omega arith; opened = omega arith; flag = tt; typed = (refl, refl); parens = omega (arith, le) }
+  pub truth_valid : (b : Bool) (rs : Types) (s : ℕ) → Valid (truth_code b rs) I32 1 s
+  truth_valid true rs s = record { statements = tt; deep = omega arith; opened = omega arith; flag = tt; typed = (refl, refl); parens = omega arith }
+  truth_valid false rs s = record { statements = tt; deep = omega arith; opened = omega arith; flag = tt; typed = (refl, refl); parens = omega arith }
 
   connective_typed : (c : Connective) (x y : MonExpression) → HasType g ts x I32 → HasType g ts y I32 → HasType g ts (Binary (connective_operator c) I32 x y) I32
   connective_typed And x y p q = arithmetic_typed g ts mon.And W32 x y refl p q
@@ -165,21 +165,21 @@ module _ (g : ℕ) (gs : List Signature) (ts : Types) (result : Option MonType) 
   connective_typed Iff x y p q = relation_typed g ts mon.Eq W32 x y refl p q
   connective_typed Xor x y p q = relation_typed g ts mon.Ne W32 x y refl p q
 
-  pub connected_valid : (c : Connective) (p q : Code) (m n k : ℕ) → Valid p I32 m 0 → Valid q I32 n 0 → suc m ≤ k → suc n ≤ k → 1 ≤ n → k ≤ 400 → Begins (connected c p q).used ts → Valid (connected c p q) I32 k 0
+  pub connected_valid : (c : Connective) (p q : Code) (m n k : ℕ) → Valid p I32 m 4 → Valid q I32 n 4 → suc m ≤ k → suc n ≤ k → 1 ≤ n → k ≤ 400 → Begins (connected c p q).used ts → Valid (connected c p q) I32 k 4
   connected_valid c p q m n k vp vq lm ln some few = by (is_sure q)
     where
-      asked : (o : Connective) → Valid (both_asked o p q) I32 k 0
+      asked : (o : Connective) → Valid (both_asked o p q) I32 k 4
       asked o =
-          let less : open_parens (Binary (connective_operator o) I32 p.value q.value) ≤ 4 * k = binary_less (connective_operator o) I32 p.value q.value (4 * k) (omega (arith, vp.parens, lm)) (omega (arith, vq.parens, ln)) in
-          two_valid p q (Binary (connective_operator o) I32 p.value q.value) I32 I32 I32 m n 0 0 k 0 vp vq lm ln (connective_typed o p.value q.value vp.typed vq.typed) (omega (arith, less))
+          let less : open_parens (Binary (connective_operator o) I32 p.value q.value) ≤ 3 * k + 2 = binary_less (connective_operator o) I32 p.value q.value (3 * k + 2) (omega (arith, vp.parens, lm)) (omega (arith, vq.parens, ln)) in
+          two_valid p q (Binary (connective_operator o) I32 p.value q.value) I32 I32 I32 m n 4 4 k 4 vp vq lm ln (connective_typed o p.value q.value vp.typed vq.typed) (omega (arith, less))
 
-      first : (o : Connective) → Begins (left_first o p q).used ts → Valid (left_first o p q) I32 k 0
-      first And b = branch_valid I32 p q (truth_code false q.used) m n 1 0 0 0 k 0 vp vq (truth_valid false q.used 0 (omega arith)) lm ln (omega (arith, some, ln)) some few (omega arith) b
-      first Or b = branch_valid I32 p (truth_code true q.used) q m 1 n 0 0 0 k 0 vp (truth_valid true q.used 0 (omega arith)) vq lm (omega (arith, some, ln)) ln (omega arith) few (omega arith) b
-      first Implies b = branch_valid I32 p q (truth_code true q.used) m n 1 0 0 0 k 0 vp vq (truth_valid true q.used 0 (omega arith)) lm ln (omega (arith, some, ln)) some few (omega arith) b
+      first : (o : Connective) → Begins (left_first o p q).used ts → Valid (left_first o p q) I32 k 4
+      first And b = branch_valid I32 p q (truth_code false q.used) m n 1 k 4 vp vq (truth_valid false q.used 4) lm ln (omega (arith, some, ln)) some few b
+      first Or b = branch_valid I32 p (truth_code true q.used) q m 1 n k 4 vp (truth_valid true q.used 4) vq lm (omega (arith, some, ln)) ln (omega arith) few b
+      first Implies b = branch_valid I32 p q (truth_code true q.used) m n 1 k 4 vp vq (truth_valid true q.used 4) lm ln (omega (arith, some, ln)) some few b
       first Iff b = asked Iff
       first Xor b = asked Xor
 
-      by : (t : Bool) → Begins (if t then both_asked c p q else left_first c p q).used ts → Valid (if t then both_asked c p q else left_first c p q) I32 k 0
+      by : (t : Bool) → Begins (if t then both_asked c p q else left_first c p q).used ts → Valid (if t then both_asked c p q else left_first c p q) I32 k 4
       by true b = asked c
       by false b = first c b

@@ -1,7 +1,7 @@
 -- What the code that judges a predicate does, and that it is valid, where it is made after these names.
 use Rattle.std.specs.Prelude.{◌≡◌, ℕ, ◌≤◌, length, List, [], Option}
 use Rattle.c_syntax.specs.Logic.{Predicate}
-use Rattle.c_model.specs.Formed.{nodes_of_predicate}
+use Rattle.c_model.specs.Formed.{tokens_of_predicate}
 use Rattle.c_model.specs.Predicates.{pred}
 use Rattle.c_model.specs.TermRanges.{PredicateRanged}
 use Rattle.mon_syntax.specs.declared.tree.MonType.{MonType}
@@ -23,5 +23,5 @@ JudgesIn n q j =
 abbrev pub IsValidIn : Names → Predicate → Judgement → Type 0
 IsValidIn n q j =
     (globals : ℕ) (gs : List Signature) (ts : Types) (result : Option MonType) (ls : Labels)
-    → PredicateRanged [] q → PredicateWritable (unit_of n) n.table.bound globals ts q → nodes_of_predicate q ≤ 400 → Begins j.used ts
+    → PredicateRanged [] q → PredicateWritable (unit_of n) n.table.bound globals ts q → tokens_of_predicate q ≤ 400 → Begins j.used ts
     → IsValidCode globals gs ts result ls j

@@ -4,7 +4,7 @@ use Rattle.std.specs.Ordering.{int_eq}
 use Rattle.c_syntax.specs.Logic.{LogicTerm, Links, NoLink, Linked, Predicate}
 use Rattle.c_syntax.specs.Logic as logic
 use Rattle.c_syntax.specs.Programs.{TranslationUnit}
-use Rattle.c_model.specs.Formed.{nodes_of_predicate}
+use Rattle.c_model.specs.Formed.{tokens_of_predicate}
 use Rattle.c_model.specs.Ranges.{least_i128}
 use Rattle.c_model.specs.TermRanges.{PredicateRanged}
 use Rattle.c_model.specs.TypedPredicates.{IsCastType}
@@ -53,9 +53,9 @@ pub record Begins (rs ts : Types) : Type 0 where
 abbrev pub most_deep : ℕ
 most_deep = 1300
 
--- how many parentheses are open in them at once, at most: four for each term, relation and connective
+-- how many parentheses are open in them at once, at most: three for each token of the annotation, and two
 abbrev pub most_open : ℕ
-most_open = 1600
+most_open = 1300
 
 -- among functions of these signatures, in a function of the result with registers of these types, inside bodies of these labels
 pub record IsValidCode (globals : ℕ) (gs : List Signature) (ts : Types) (result : Option MonType) (ls : Labels) (j : Judgement) : Type 0 where
@@ -69,5 +69,5 @@ abbrev pub CodeIsValid : Type 0
 CodeIsValid =
     (p : TranslationUnit) (bound : Bindings) (globals : ℕ) (gs : List Signature) (ts : Types) (result : Option MonType) (ls : Labels) (q : Predicate)
     (rs : List MonType)
-    → PredicateRanged [] q → PredicateWritable p bound globals ts q → nodes_of_predicate q ≤ 400 → Begins (judgement p bound q rs).used ts
+    → PredicateRanged [] q → PredicateWritable p bound globals ts q → tokens_of_predicate q ≤ 400 → Begins (judgement p bound q rs).used ts
     → IsValidCode globals gs ts result ls (judgement p bound q rs)

@@ -54,6 +54,7 @@ pub mod CompatibleFunctions
 pub mod SignaturesInSight
 pub mod ResolvedCalls
 pub mod NotedFiles
+pub mod OperandParentheses
 pub mod NotedTerms
 pub mod NotedForms
 pub mod NotedPrograms

@@ -13,8 +13,8 @@ use Rattle.c_model.specs.Predicates.{compared}
 use Rattle.c_model.specs.Meaning.{after_body, turn_with}
 use Rattle.c_model.specs.ExpressionTyping.{Sight}
 use Rattle.c_model.specs.TypedPredicates.{IsOnInteger, IsCastType, TermTyped, LinksTyped, PredicateTyped, ClauseTyped, AnnotationsTyped}
-use Rattle.c_model.specs.Formed.{nodes_of_term, nodes_of_links, nodes_of_predicate, nodes_of_guards, TermNumbered, LinksNumbered, PredicateNumbered}
-use Rattle.c_model.specs.Formed.{GuardsNumbered, IsShortPredicate, IsShortClause, IsAssert, AreAsserts, nodes_of_zone, nodes_of_zones, ZoneNumbered}
+use Rattle.c_model.specs.Formed.{level_of, parentheses_around, operator_of_term, tokens_of_term, tokens_of_links, tokens_of_predicate, tokens_of_guards, TermNumbered, LinksNumbered, PredicateNumbered}
+use Rattle.c_model.specs.Formed.{GuardsNumbered, IsShortPredicate, IsShortClause, IsAssert, AreAsserts, tokens_of_zone, tokens_of_zones, ZoneNumbered}
 use Rattle.c_model.specs.Formed.{ZonesNumbered}
 use Rattle.c_model.specs.Unranged.{unranged_term, unranged_links, unranged_pred, unranged_guards, unranged_clause, unranged_annotations, unranged_zone}
 use Rattle.c_model.specs.Unranged.{unranged_zones}
@@ -83,51 +83,69 @@ annotations_typed s (a ∷ rest) = λ i. clause_typed s a.body i × annotations_
 
 -- ---- sizes and numbers
 
+term_operator : (t : LogicTerm) → operator_of_term (unranged_term t) ≡ operator_of_term t
+term_operator (Number at c r n) = refl
+term_operator (Letter at c r n) = refl
+term_operator (Variable at c r x) = refl
+term_operator (Unary at c r op a) = refl
+term_operator (Binary at c r op a b) = refl
+term_operator (Cast at c r to a) = refl
+term_operator (Choice at c r p a b) = refl
+term_operator (Named at c r x) = refl
+term_operator (At at c r l a) = refl
+term_operator (Null at c r) = refl
+term_operator (Deref at c r a) = refl
+term_operator (Member at c r d a) = refl
+term_operator (Address at c r a) = refl
+term_operator (Moved at c r op n a b) = refl
+term_operator (Difference at c r n a b) = refl
+term_operator (Told at c r f a) = refl
+
 mutual
-  term_nodes : (t : LogicTerm) → nodes_of_term (unranged_term t) ≡ nodes_of_term t
-  term_nodes (Number at c r n) = refl
-  term_nodes (Letter at c r n) = refl
-  term_nodes (Variable at c r x) = refl
-  term_nodes (Unary at c r op a) = ap suc (term_nodes a)
-  term_nodes (Binary at c r op a b) = λ i. suc (term_nodes a i + term_nodes b i)
-  term_nodes (Cast at c r to a) = ap suc (term_nodes a)
-  term_nodes (Choice at c r p a b) = λ i. suc (predicate_nodes p i + term_nodes a i + term_nodes b i)
-  term_nodes (Named at c r x) = refl
-  term_nodes (At at c r l a) = term_nodes a
-  term_nodes (Null at c r) = refl
-  term_nodes (Deref at c r a) = ap suc (term_nodes a)
-  term_nodes (Member at c r d a) = ap suc (term_nodes a)
-  term_nodes (Address at c r a) = ap suc (term_nodes a)
-  term_nodes (Moved at c r op n a b) = λ i. suc (term_nodes a i + term_nodes b i)
-  term_nodes (Difference at c r n a b) = λ i. suc (term_nodes a i + term_nodes b i)
-  term_nodes (Told at c r f a) = ap suc (term_nodes a)
+  term_tokens : (t : LogicTerm) → tokens_of_term (unranged_term t) ≡ tokens_of_term t
+  term_tokens (Number at c r n) = refl
+  term_tokens (Letter at c r n) = refl
+  term_tokens (Variable at c r x) = refl
+  term_tokens (Unary at c r op a) = ap suc (term_tokens a)
+  term_tokens (Binary at c r op a b) = λ i. suc (term_tokens a i + term_tokens b i + parentheses_around (level_of op) (term_operator b i))
+  term_tokens (Cast at c r to a) = ap suc (term_tokens a)
+  term_tokens (Choice at c r p a b) = λ i. suc (predicate_tokens p i + term_tokens a i + term_tokens b i)
+  term_tokens (Named at c r x) = refl
+  term_tokens (At at c r l a) = term_tokens a
+  term_tokens (Null at c r) = refl
+  term_tokens (Deref at c r a) = ap suc (term_tokens a)
+  term_tokens (Member at c r d a) = ap suc (term_tokens a)
+  term_tokens (Address at c r a) = ap suc (term_tokens a)
+  term_tokens (Moved at c r op n a b) = λ i. suc (term_tokens a i + term_tokens b i)
+  term_tokens (Difference at c r n a b) = λ i. suc (term_tokens a i + term_tokens b i)
+  term_tokens (Told at c r f a) = ap suc (term_tokens a)
 
-  zone_nodes : (z : Zone) → nodes_of_zone (unranged_zone z) ≡ nodes_of_zone z
-  zone_nodes (Object at n m a) = term_nodes a
-  zone_nodes (Elements at n m a lo hi) = λ i. suc (term_nodes a i + term_nodes lo i + term_nodes hi i)
+  zone_tokens : (z : Zone) → tokens_of_zone (unranged_zone z) ≡ tokens_of_zone z
+  zone_tokens (Object at n m a) = term_tokens a
+  zone_tokens (Elements at n m a lo hi) = λ i. suc (term_tokens a i + term_tokens lo i + term_tokens hi i)
 
-  zones_nodes : (zs : Zones) → nodes_of_zones (unranged_zones zs) ≡ nodes_of_zones zs
-  zones_nodes NoZone = refl
-  zones_nodes (Another z rest) = λ i. suc (zone_nodes z i + zones_nodes rest i)
+  zones_tokens : (zs : Zones) → tokens_of_zones (unranged_zones zs) ≡ tokens_of_zones zs
+  zones_tokens NoZone = refl
+  zones_tokens (Another z rest) = λ i. suc (zone_tokens z i + zones_tokens rest i)
 
-  links_nodes : (l : Links) → nodes_of_links (unranged_links l) ≡ nodes_of_links l
-  links_nodes NoLink = refl
-  links_nodes (Linked at r t rest) = λ i. suc (term_nodes t i + links_nodes rest i)
+  links_tokens : (l : Links) → tokens_of_links (unranged_links l) ≡ tokens_of_links l
+  links_tokens NoLink = refl
+  links_tokens (Linked at r t rest) = λ i. suc (term_tokens t i + links_tokens rest i)
 
-  predicate_nodes : (p : Predicate) → nodes_of_predicate (unranged_pred p) ≡ nodes_of_predicate p
-  predicate_nodes (Truth at b) = refl
-  predicate_nodes (NonZero at t) = term_nodes t
-  predicate_nodes (Chain at t links) = λ i. term_nodes t i + links_nodes links i
-  predicate_nodes (Not at p) = ap suc (predicate_nodes p)
-  predicate_nodes (Connected at c p q) = λ i. suc (predicate_nodes p i + predicate_nodes q i)
-  predicate_nodes (Branch at c p q) = λ i. suc (predicate_nodes c i + predicate_nodes p i + predicate_nodes q i)
-  predicate_nodes (Quantified at q gs p) = λ i. suc (guards_nodes gs i + predicate_nodes p i)
-  predicate_nodes (Asks at f z) = ap suc (zone_nodes z)
-  predicate_nodes (Separated at zs) = ap suc (zones_nodes zs)
+  predicate_tokens : (p : Predicate) → tokens_of_predicate (unranged_pred p) ≡ tokens_of_predicate p
+  predicate_tokens (Truth at b) = refl
+  predicate_tokens (NonZero at t) = term_tokens t
+  predicate_tokens (Chain at t links) = λ i. term_tokens t i + links_tokens links i
+  predicate_tokens (Not at p) = ap suc (predicate_tokens p)
+  predicate_tokens (Connected at c p q) = λ i. suc (predicate_tokens p i + predicate_tokens q i)
+  predicate_tokens (Branch at c p q) = λ i. suc (predicate_tokens c i + predicate_tokens p i + predicate_tokens q i)
+  predicate_tokens (Quantified at q gs p) = λ i. suc (guards_tokens gs i + predicate_tokens p i)
+  predicate_tokens (Asks at f z) = ap suc (zone_tokens z)
+  predicate_tokens (Separated at zs) = ap suc (zones_tokens zs)
 
-  guards_nodes : (gs : Guards) → nodes_of_guards (unranged_guards gs) ≡ nodes_of_guards gs
-  guards_nodes NoGuard = refl
-  guards_nodes (Guarded a bs below b rest) = λ i. length bs + term_nodes a i + term_nodes b i + guards_nodes rest i
+  guards_tokens : (gs : Guards) → tokens_of_guards (unranged_guards gs) ≡ tokens_of_guards gs
+  guards_tokens NoGuard = refl
+  guards_tokens (Guarded a bs below b rest) = λ i. length bs + term_tokens a i + term_tokens b i + guards_tokens rest i
 
 mutual
   term_numbered : (t : LogicTerm) → TermNumbered (unranged_term t) ≡ TermNumbered t
@@ -177,16 +195,16 @@ mutual
 
 predicate_short : (p : Predicate) → Alike (IsShortPredicate (unranged_pred p)) (IsShortPredicate p)
 predicate_short p = record {
-  to = λ h. record { numbered = (alike (predicate_numbered p)).to h.numbered; short = subst (λ n. n ≤ 400) (predicate_nodes p) h.short };
-  from = λ h. record { numbered = (alike (predicate_numbered p)).from h.numbered; short = subst (λ n. n ≤ 400) (sym (predicate_nodes p)) h.short };
+  to = λ h. record { numbered = (alike (predicate_numbered p)).to h.numbered; short = subst (λ n. n ≤ 400) (predicate_tokens p) h.short };
+  from = λ h. record { numbered = (alike (predicate_numbered p)).from h.numbered; short = subst (λ n. n ≤ 400) (sym (predicate_tokens p)) h.short };
 }
 
 clause_short : (b : ClauseBody) → Alike (IsShortClause (unranged_clause b)) (IsShortClause b)
 clause_short (Raw f) = itself
 clause_short (Holds p) = predicate_short p
 clause_short (Value t) = record {
-  to = λ h. ((alike (term_numbered t)).to h.0, subst (λ n. n ≤ 400) (term_nodes t) h.1);
-  from = λ h. ((alike (term_numbered t)).from h.0, subst (λ n. n ≤ 400) (sym (term_nodes t)) h.1);
+  to = λ h. ((alike (term_numbered t)).to h.0, subst (λ n. n ≤ 400) (term_tokens t) h.1);
+  from = λ h. ((alike (term_numbered t)).from h.0, subst (λ n. n ≤ 400) (sym (term_tokens t)) h.1);
 }
 clause_short (Behaviors names) = itself
 

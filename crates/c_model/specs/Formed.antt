@@ -1,8 +1,11 @@
--- Parts of programs: names, the depth of statements, how many forms expressions have, the asserts that are built, what a function declares, and
--- the numbers of declarations.
+-- Parts of programs: names, the depth of statements, how many forms expressions and how many tokens annotations have, the asserts that are built,
+-- what a function declares, and the numbers of declarations.
 use Rattle.std.specs.List.{AllByRecursion}
-use Rattle.std.specs.Prelude.{◌≡◌, true, ℕ, suc, max, ◌<◌, length, ◌+◌, ◌++◌, ◌^◌, ◌-◌, ◌≤◌, ℤ, negsuc, ◌≤ℤ◌, List, [], ◌∷◌, map, Option, Some, None}
+use Rattle.std.specs.Prelude.{◌≡◌, true, ℕ, suc, max, ◌<◌, nat_lt, length, ◌+◌, ◌++◌, ◌^◌, ◌-◌, ◌≤◌, ℤ, negsuc, ◌≤ℤ◌, List, [], ◌∷◌, map, Option, Some, None}
+use Rattle.std.specs.Prelude.{if◌then◌else◌}
 use Rattle.c_syntax.specs.declared.annotation.Kind.TheVariants.{Assert}
+use Rattle.c_syntax.specs.declared.expression.BinOp.{BinOp}
+use Rattle.c_syntax.specs.declared.expression.BinOp.TheVariants as operator
 use Rattle.c_syntax.specs.Expressions.{Expression, Node, Number, Letter, Variable, Unary, Binary, Both, Either, Choice, Assign, Bump, Call, Cast, SizeOfType}
 use Rattle.c_syntax.specs.Expressions.{SizeOfExpr, Text, Index, Dot, Arrow, Comma, Expressions, NoExpression, Following}
 use Rattle.c_syntax.specs.Formulas as formula
@@ -88,56 +91,86 @@ abbrev mutual
   nodes_of_all NoExpression = 0
   nodes_of_all (Following e es) = nodes_of e + nodes_of_all es
 
--- ---- annotations
+-- ---- tokens of annotations
 
--- how many forms a term or a predicate has, itself included; that a term is a predicate where it isn't 0 is no form of its own
+-- the levels of the operators of terms: those of the lowest bind closest (C99 6.5.5 to 6.5.12)
+abbrev pub level_of : BinOp → ℕ
+level_of operator.Mul = 0
+level_of operator.Div = 0
+level_of operator.Rem = 0
+level_of operator.Add = 1
+level_of operator.Sub = 1
+level_of operator.Shl = 2
+level_of operator.Shr = 2
+level_of operator.Lt = 3
+level_of operator.Le = 3
+level_of operator.Gt = 3
+level_of operator.Ge = 3
+level_of operator.Eq = 4
+level_of operator.Ne = 4
+level_of operator.BitAnd = 5
+level_of operator.BitXor = 6
+level_of operator.BitOr = 7
+
+-- the operator of a term that has two operands
+abbrev pub operator_of_term : LogicTerm → Option BinOp
+operator_of_term (logic.Binary at t r op a b) = Some op
+operator_of_term _ = None
+
+-- the tokens of the parentheses around an operand: none where it has no operator, or one below this level
+abbrev pub parentheses_around : ℕ → Option BinOp → ℕ
+parentheses_around level None = 0
+parentheses_around level (Some op) = if nat_lt (level_of op) level then 0 else 2
+
+-- how many tokens a term or a predicate has at least: one for each form, itself included, and those of the parentheses around right operands whose
+-- operators bind no closer; that a term is a predicate where it isn't 0 is no form of its own
 abbrev mutual
-  pub nodes_of_term : LogicTerm → ℕ
-  nodes_of_term (logic.Number at t r n) = 1
-  nodes_of_term (logic.Letter at t r n) = 1
-  nodes_of_term (logic.Variable at t r x) = 1
-  nodes_of_term (logic.Unary at t r op a) = suc (nodes_of_term a)
-  nodes_of_term (logic.Binary at t r op a b) = suc (nodes_of_term a + nodes_of_term b)
-  nodes_of_term (logic.Cast at t r to a) = suc (nodes_of_term a)
-  nodes_of_term (logic.Choice at t r c a b) = suc (nodes_of_predicate c + nodes_of_term a + nodes_of_term b)
-  nodes_of_term (logic.Named at t r x) = 1
+  pub tokens_of_term : LogicTerm → ℕ
+  tokens_of_term (logic.Number at t r n) = 1
+  tokens_of_term (logic.Letter at t r n) = 1
+  tokens_of_term (logic.Variable at t r x) = 1
+  tokens_of_term (logic.Unary at t r op a) = suc (tokens_of_term a)
+  tokens_of_term (logic.Binary at t r op a b) = suc (tokens_of_term a + tokens_of_term b + parentheses_around (level_of op) (operator_of_term b))
+  tokens_of_term (logic.Cast at t r to a) = suc (tokens_of_term a)
+  tokens_of_term (logic.Choice at t r c a b) = suc (tokens_of_predicate c + tokens_of_term a + tokens_of_term b)
+  tokens_of_term (logic.Named at t r x) = 1
   -- a parameter in an `ensures` is one token
-  nodes_of_term (logic.At at t r l a) = nodes_of_term a
-  nodes_of_term (logic.Null at t r) = 1
-  nodes_of_term (logic.Deref at t r a) = suc (nodes_of_term a)
-  nodes_of_term (logic.Member at t r d a) = suc (nodes_of_term a)
-  nodes_of_term (logic.Address at t r a) = suc (nodes_of_term a)
-  nodes_of_term (logic.Moved at t r op n a b) = suc (nodes_of_term a + nodes_of_term b)
-  nodes_of_term (logic.Difference at t r n a b) = suc (nodes_of_term a + nodes_of_term b)
-  nodes_of_term (logic.Told at t r f a) = suc (nodes_of_term a)
+  tokens_of_term (logic.At at t r l a) = tokens_of_term a
+  tokens_of_term (logic.Null at t r) = 1
+  tokens_of_term (logic.Deref at t r a) = suc (tokens_of_term a)
+  tokens_of_term (logic.Member at t r d a) = suc (tokens_of_term a)
+  tokens_of_term (logic.Address at t r a) = suc (tokens_of_term a)
+  tokens_of_term (logic.Moved at t r op n a b) = suc (tokens_of_term a + tokens_of_term b)
+  tokens_of_term (logic.Difference at t r n a b) = suc (tokens_of_term a + tokens_of_term b)
+  tokens_of_term (logic.Told at t r f a) = suc (tokens_of_term a)
 
-  pub nodes_of_zone : Zone → ℕ
-  nodes_of_zone (logic.Object at n m a) = nodes_of_term a
-  nodes_of_zone (logic.Elements at n m a lo hi) = suc (nodes_of_term a + nodes_of_term lo + nodes_of_term hi)
+  pub tokens_of_zone : Zone → ℕ
+  tokens_of_zone (logic.Object at n m a) = tokens_of_term a
+  tokens_of_zone (logic.Elements at n m a lo hi) = suc (tokens_of_term a + tokens_of_term lo + tokens_of_term hi)
 
-  pub nodes_of_zones : Zones → ℕ
-  nodes_of_zones logic.NoZone = 0
-  nodes_of_zones (logic.Another z rest) = suc (nodes_of_zone z + nodes_of_zones rest)
+  pub tokens_of_zones : Zones → ℕ
+  tokens_of_zones logic.NoZone = 0
+  tokens_of_zones (logic.Another z rest) = suc (tokens_of_zone z + tokens_of_zones rest)
 
-  pub nodes_of_links : Links → ℕ
-  nodes_of_links NoLink = 0
-  nodes_of_links (Linked at r t rest) = suc (nodes_of_term t + nodes_of_links rest)
+  pub tokens_of_links : Links → ℕ
+  tokens_of_links NoLink = 0
+  tokens_of_links (Linked at r t rest) = suc (tokens_of_term t + tokens_of_links rest)
 
-  pub nodes_of_predicate : Predicate → ℕ
-  nodes_of_predicate (logic.Truth at b) = 1
-  nodes_of_predicate (logic.NonZero at t) = nodes_of_term t
-  nodes_of_predicate (logic.Chain at t links) = nodes_of_term t + nodes_of_links links
-  nodes_of_predicate (logic.Not at p) = suc (nodes_of_predicate p)
-  nodes_of_predicate (logic.Connected at c p q) = suc (nodes_of_predicate p + nodes_of_predicate q)
-  nodes_of_predicate (logic.Branch at c p q) = suc (nodes_of_predicate c + nodes_of_predicate p + nodes_of_predicate q)
-  nodes_of_predicate (logic.Quantified at q gs p) = suc (nodes_of_guards gs + nodes_of_predicate p)
-  nodes_of_predicate (logic.Asks at f z) = suc (nodes_of_zone z)
-  nodes_of_predicate (logic.Separated at zs) = suc (nodes_of_zones zs)
+  pub tokens_of_predicate : Predicate → ℕ
+  tokens_of_predicate (logic.Truth at b) = 1
+  tokens_of_predicate (logic.NonZero at t) = tokens_of_term t
+  tokens_of_predicate (logic.Chain at t links) = tokens_of_term t + tokens_of_links links
+  tokens_of_predicate (logic.Not at p) = suc (tokens_of_predicate p)
+  tokens_of_predicate (logic.Connected at c p q) = suc (tokens_of_predicate p + tokens_of_predicate q)
+  tokens_of_predicate (logic.Branch at c p q) = suc (tokens_of_predicate c + tokens_of_predicate p + tokens_of_predicate q)
+  tokens_of_predicate (logic.Quantified at q gs p) = suc (tokens_of_guards gs + tokens_of_predicate p)
+  tokens_of_predicate (logic.Asks at f z) = suc (tokens_of_zone z)
+  tokens_of_predicate (logic.Separated at zs) = suc (tokens_of_zones zs)
 
   -- each binder is one
-  pub nodes_of_guards : Guards → ℕ
-  nodes_of_guards NoGuard = 0
-  nodes_of_guards (Guarded a bs below b rest) = length bs + nodes_of_term a + nodes_of_term b + nodes_of_guards rest
+  pub tokens_of_guards : Guards → ℕ
+  tokens_of_guards NoGuard = 0
+  tokens_of_guards (Guarded a bs below b rest) = length bs + tokens_of_term a + tokens_of_term b + tokens_of_guards rest
 
 -- a literal, an enumerator or a constant of the library: not below the least value of 64 bits
 pub record IsLogicNumber (z : ℤ) : Type 0 where
@@ -192,12 +225,12 @@ abbrev mutual
 -- a predicate that a clause of at most 400 tokens says
 pub record IsShortPredicate (p : Predicate) : Type 0 where
   pub numbered : PredicateNumbered p
-  pub short : nodes_of_predicate p ≤ 400
+  pub short : tokens_of_predicate p ≤ 400
 
 abbrev pub IsShortClause : ClauseBody → Type 0
 IsShortClause (Raw f) = ⊥
 IsShortClause (Holds p) = IsShortPredicate p
-IsShortClause (logic.Value t) = TermNumbered t × (nodes_of_term t ≤ 400)
+IsShortClause (logic.Value t) = TermNumbered t × (tokens_of_term t ≤ 400)
 IsShortClause (Behaviors names) = ⊥
 
 pub record IsAssert (a : Annotation) : Type 0 where
@@ -210,24 +243,29 @@ AreAsserts (a ∷ rest) = IsAssert a × AreAsserts rest
 
 -- ---- annotations as they are read, before they are typed
 
--- how many forms one has, itself included; typing keeps the number
-abbrev mutual
-  pub nodes_of_form : Form → ℕ
-  nodes_of_form (formula.Number at n) = 1
-  nodes_of_form (formula.Letter at n) = 1
-  nodes_of_form (formula.Truth at b) = 1
-  nodes_of_form (formula.Name at x) = 1
-  nodes_of_form (formula.Unary at op a) = suc (nodes_of_form a)
-  nodes_of_form (formula.Binary at op a b) = suc (nodes_of_form a + nodes_of_form b)
-  nodes_of_form (formula.Cast at to a) = suc (nodes_of_form a)
-  nodes_of_form (formula.SizeOf at t) = 1
-  nodes_of_form (formula.Chain at a links) = nodes_of_form a + nodes_of_form_links links
-  nodes_of_form (formula.Connected at c a b) = suc (nodes_of_form a + nodes_of_form b)
-  nodes_of_form (formula.Choice at c a b) = suc (nodes_of_form c + nodes_of_form a + nodes_of_form b)
+-- the operator of a form that has two operands
+abbrev pub operator_of_form : Form → Option BinOp
+operator_of_form (formula.Binary at op a b) = Some op
+operator_of_form _ = None
 
-  pub nodes_of_form_links : FormLinks → ℕ
-  nodes_of_form_links formula.NoLink = 0
-  nodes_of_form_links (formula.Linked at r a rest) = suc (nodes_of_form a + nodes_of_form_links rest)
+-- how many tokens one has at least, as above; typing keeps the number
+abbrev mutual
+  pub tokens_of_form : Form → ℕ
+  tokens_of_form (formula.Number at n) = 1
+  tokens_of_form (formula.Letter at n) = 1
+  tokens_of_form (formula.Truth at b) = 1
+  tokens_of_form (formula.Name at x) = 1
+  tokens_of_form (formula.Unary at op a) = suc (tokens_of_form a)
+  tokens_of_form (formula.Binary at op a b) = suc (tokens_of_form a + tokens_of_form b + parentheses_around (level_of op) (operator_of_form b))
+  tokens_of_form (formula.Cast at to a) = suc (tokens_of_form a)
+  tokens_of_form (formula.SizeOf at t) = 1
+  tokens_of_form (formula.Chain at a links) = tokens_of_form a + tokens_of_form_links links
+  tokens_of_form (formula.Connected at c a b) = suc (tokens_of_form a + tokens_of_form b)
+  tokens_of_form (formula.Choice at c a b) = suc (tokens_of_form c + tokens_of_form a + tokens_of_form b)
+
+  pub tokens_of_form_links : FormLinks → ℕ
+  tokens_of_form_links formula.NoLink = 0
+  tokens_of_form_links (formula.Linked at r a rest) = suc (tokens_of_form a + tokens_of_form_links rest)
 
 abbrev mutual
   pub FormNumbered : Form → Type 0
@@ -250,7 +288,7 @@ abbrev mutual
 -- what a clause of at most 400 tokens is read as
 pub record IsShortForm (f : Form) : Type 0 where
   pub numbered : FormNumbered f
-  pub short : nodes_of_form f ≤ 400
+  pub short : tokens_of_form f ≤ 400
 
 abbrev pub IsShortReading : ClauseBody → Type 0
 IsShortReading (Raw f) = IsShortForm f
