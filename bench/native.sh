@@ -1,9 +1,9 @@
 #!/bin/bash
-# Prints what native programs take beside gcc -O0 of the same text without its annotations, and beside `run`, in milliseconds of user time: a loop of
-# 5,000,000 turns with a sum and an assert, 1,000 elements that are summed 20,000 times, a loop of 5,000,000 turns with an assert of three parts, fib(30), a
-# bubble sort of 2,000 elements that stand backwards, and 1,200,000 blocks of the heap; with their ratios. Each is the least of five runs. Then the seconds of
-# user time that the first launch takes, which compiles, of 4,000 lines in functions of 20, of 4,000 lines in one, and of 8 lines, and the KiB of a run of
-# those 8.
+# Prints what native programs take beside gcc -O0, or clang++ -O0 where there is no gcc, of the same text without its annotations, and beside `run`,
+# in milliseconds of user time: a loop of 5,000,000 turns with a sum and an assert, 1,000 elements that are summed 20,000 times, a loop of 5,000,000
+# turns with an assert of three parts, fib(30), a bubble sort of 2,000 elements that stand backwards, and 1,200,000 blocks of the heap; with their
+# ratios. Each is the least of five runs. Then the seconds of user time that the first launch takes, which compiles, of 4,000 lines in functions of 20,
+# of 4,000 lines in one, and of 8 lines, and the KiB of a run of those 8.
 set -euo pipefail
 
 top=$(cd -- "$(dirname -- "${BASH_SOURCE[0]}")/.." && pwd)
@@ -11,7 +11,15 @@ scratch=$(mktemp -d)
 trap 'rm -rf "$scratch"' EXIT
 export EACSL_QUIET=1
 
-command -v g++ >/dev/null || command -v clang++ >/dev/null || { echo 'skipped, no C++ compiler is there'; exit; }
+# what compiles C, as it stands beside the compiler of C++
+if command -v gcc >/dev/null; then
+  c_compiler=(gcc)
+elif command -v clang++ >/dev/null; then
+  c_compiler=(clang++ -x c)
+else
+  echo 'skipped, no compiler is there'
+  exit
+fi
 
 # shellcheck source=bench/workloads
 . "$top/bench/workloads"
@@ -76,7 +84,7 @@ line() {
   local name=$1 size=$2 what=$3 by_run by_gcc by_native
   "${name}_of" "$size" >"$scratch/$name.c"
   launch "$name"
-  gcc -O0 -w -o "$scratch/$name" "$scratch/$name.c"
+  "${c_compiler[@]}" -O0 -w -o "$scratch/$name" "$scratch/$name.c"
   by_native=$(measured "$native" --steps 1000000000)
   by_gcc=$(measured "$scratch/$name")
   by_run=$(measured "$top/eacsl" run "$scratch/$name.c" --steps 1000000000)
@@ -94,7 +102,7 @@ first_line() {
 # builds the proved program where that is due, so that no figure is of an unproved one
 "$top/eacsl" --build >&2
 
-printf '%-34s %8s %8s %8s %8s %8s\n' 'user milliseconds' native 'gcc -O0' run 'to gcc' 'to run'
+printf '%-34s %8s %8s %8s %8s %8s\n' 'user milliseconds' native "${c_compiler[0]} -O0" run "to ${c_compiler[0]}" 'to run'
 line loop 5000000 'a loop with a sum and an assert'
 line sum 20000 'sums of 1,000 elements'
 line assert 5000000 'an assert of three parts'

@@ -3,7 +3,8 @@
 # A register begins as 0, a function with a line that takes a step and a frame, and a body that comes to its end returns 0. A global or literal becomes its
 # pointer and a row of a table, by which it is born.
 #
-# The last line says how long the longest function is. With `space` all but the head stands in a namespace of this name, and no C++ `main` is written.
+# A function of more than `most_lines` lines is shortened by parts.awk. The last line says how long the longest function is then. With `space` all but the head
+# stands in a namespace of this name, and no C++ `main` is written.
 
 BEGIN {
     split("i8 u8 i16 u16 i32 u32 i64 u64 i128 ptr", list, " ")
@@ -22,14 +23,19 @@ BEGIN {
     function_of[">>"] = "shifted_down"
 }
 
-# ---- output: what stands in front of the functions is written at once, and the functions wait until all are declared
+# ---- output: what stands in front of the functions is written at once, and the functions wait until all are declared. The lines of one wait until it ends
 
 function write_first(line) {
     print line
 }
 
-function write(line) {
+function emit(line) {
     functions[++function_lines] = line
+}
+
+# a line of the function that is read
+function write(line) {
+    lines[++line_count] = line
 }
 
 # ---- pieces of a statement, a head or a global
@@ -71,16 +77,18 @@ function end_global(    name, size, bytes) {
 function begin_function(    head) {
     head = "static " joined()
     write_first(head ";")
+    line_count = 0
     write(head " {")
-    function_begin = function_lines
     is_void = pieces[1] == "void"
     if (pieces[2] != "function_main") write("Call call;")
 }
 
-function end_function() {
+function end_function(    i) {
     if (!is_void) write("return {};")
     write("}")
-    if (function_lines - function_begin > longest) longest = function_lines - function_begin
+    if (line_count > most_lines) shorten()
+    for (i = 1; i <= line_count; i++) emit(lines[i])
+    if (line_count > longest) longest = line_count
 }
 
 # Ends what was put so far, by `;`, `{` or `}`.
