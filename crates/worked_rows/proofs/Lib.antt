@@ -52,6 +52,7 @@ pub mod WorkedContracts
 mod WorkedBehaviors
 mod WorkedLabels
 mod WorkedLoops
+mod WorkedJudgements
 mod WorkedSearch
 mod WorkedObjectAsserts
 mod WorkedReports
