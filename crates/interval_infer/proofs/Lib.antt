@@ -7,3 +7,4 @@ mod Rows
 pub mod Blocks
 -- examples, by computation
 mod WorkedRanges
+pub mod Judged

@@ -2,3 +2,4 @@ pub mod Answers
 pub mod Laws
 pub mod Terms
 pub mod Bases
+pub mod Judged

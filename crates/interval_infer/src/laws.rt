@@ -3,6 +3,7 @@
 ghost use Rattle.interval_infer.specs.Laws.{RangesAreOrdered, RangesAreWithin128, SoundStoresLoad, ValuesLieInRanges};
 ghost use Rattle.interval_infer.specs.Terms.{PlacesLieInRanges, ReturnedValuesFit, SoundStatesFit, SoundTermsLieInRanges, TermsLieInRanges, ZonesLieInRanges};
 ghost use Rattle.interval_infer.specs.Terms.{BindersFit, BindersReach, GuardedReaches, GuardsFit};
+ghost use Rattle.interval_infer.specs.Judged.{JudgedTermsLieInRanges, SoundJudgementsFit};
 ghost use Rattle.interval_infer.specs.Bases.{BasedOffsetsLie, BasedPlacesLie, BasesAddUp};
 
 /// Each value of a term over integers and variables lies in the range of the term, in each state whose integers are values of
@@ -40,4 +41,11 @@ pub fn bases()
     ensures sums { BasesAddUp }
     ensures lie { BasedOffsetsLie }
     ensures places { BasedPlacesLie }
+{}
+
+/// Wherever a run of a program of an accepted text judges an annotation, from its start on, each value of a term lies in the range of the term: the judgement
+/// is sound, so that loads fit there, and `\result` does, where it is in sight.
+pub fn judgements()
+    ensures fit { SoundJudgementsFit }
+    ensures lie { JudgedTermsLieInRanges }
 {}
