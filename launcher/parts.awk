@@ -8,8 +8,8 @@
 BEGIN {
     least_uses = 8
     most_part_lines = 60
-    split("I8 U8 I16 U16 I32 U32 I64 U64 I128", list, " ")
-    for (i in list) number_type[list[i]] = tolower(list[i])
+    # of the types of native.awk
+    for (type in is_type) if (type != "ptr") number_type[toupper(type)] = type
 }
 
 # ---- the parts of a function, by their lines
