@@ -1,6 +1,6 @@
 -- Annotations that are read are asserts of forms that are counted by no more tokens than they have, and no number in them is below the least value of 64
 -- bits. An operand whose operator binds no closer than the one beside it stands in parentheses, which are two tokens.
-use Rattle.std.proofs.Common.{◌≡◌, ℕ, suc, ◌+◌, ◌≤◌, ℤ, pos, negsuc, ◌≤ℤ◌, Bool, true, false, cond, eqb, List, [], ◌∷◌, ◌++◌, Option, Some, refl, subst, arith}
+use Rattle.std.proofs.Common.{◌≡◌, ℕ, suc, ◌+◌, ◌≤◌, ℤ, pos, ◌≤ℤ◌, Bool, true, false, cond, eqb, List, [], ◌∷◌, ◌++◌, Option, Some, refl, subst, arith}
 use Rattle.std.proofs.lemmas.Int.{ints}
 use Rattle.std.specs.List.{AllByRecursion}
 use Rattle.grammar.specs.Syntax.{Syntax, one}
@@ -26,7 +26,8 @@ use Rattle.c_model.specs.AnnotationGrammar.{parenthesised, behind_parenthesis, p
 use Rattle.c_model.specs.AnnotationGrammar.{first_clause, product, sum, shift, chain, bit_or, choice_behind, disjunction, implication, form_of, form, assert_clause, full_clause, next_assert, asserts, annotations}
 use Rattle.c_model.specs.Formed.{level_of, parentheses_around, operator_of_form, IsLogicNumber, tokens_of_form, tokens_of_form_links, FormNumbered, FormLinksNumbered, IsReadAssert, AreReadAsserts}
 use Rattle.c_model.proofs.OperandParentheses.{around_two, around_fewer, around_own}
-use Rattle.c_reader.proofs.TokenForms.{IsLexedKind, Each, each_token, each_any, placed_is}
+use Rattle.c_model.specs.SoundJudgements.{IsCharacter}
+use Rattle.c_reader.proofs.TokenForms.{IsLexedKind, Each, each_token, each_letter, each_any, placed_is}
 use Rattle.c_reader.proofs.ExpressionForms.{each_fixed, closed_each}
 
 -- ---- forms of so many tokens at most
@@ -101,8 +102,8 @@ mark_joins n table (token.Head k w) o h e = absurd cc
 not_negative : (z : ℤ) → pos 0 ≤ℤ z → IsLogicNumber z
 not_negative z h = record { low = omega (arith, ints, h) }
 
-character : (z : ℤ) → negsuc 255 ≤ℤ z → IsLogicNumber z
-character z h = record { low = omega (arith, ints, h) }
+character : (z : ℤ) → IsCharacter z → IsLogicNumber z
+character z h = record { low = omega (arith, ints, h.low) }
 
 is_number : (size : ℕ) (t : PlainTokenKind) (y : ℤ × Option CInt) → IsLexedKind size t → number_of t ≡ Some y → IsLogicNumber y.0
 is_number size (token.Number z c) y h e = let same : (z, c) ≡ y = cc in subst (λ (w : ℤ × Option CInt). IsLogicNumber w.0) same (not_negative z h)
@@ -114,22 +115,12 @@ is_number size token.AnnotOpen y h e = absurd cc
 is_number size token.AnnotClose y h e = absurd cc
 is_number size (token.Head k n) y h e = absurd cc
 
-is_letter : (size : ℕ) (t : PlainTokenKind) (y : ℤ) → IsLexedKind size t → letter_of t ≡ Some y → IsLogicNumber y
-is_letter size (token.Letter z) y h e = let same : z ≡ y = cc in subst IsLogicNumber same (character z h)
-is_letter size (token.Number z c) y h e = absurd cc
-is_letter size (token.Word n) y h e = absurd cc
-is_letter size (token.Chars bytes) y h e = absurd cc
-is_letter size (token.Mark m) y h e = absurd cc
-is_letter size token.AnnotOpen y h e = absurd cc
-is_letter size token.AnnotClose y h e = absurd cc
-is_letter size (token.Head k n) y h e = absurd cc
-
 module _ (size : ℕ) (ws : Vocabulary) where
   number_each : Each size (one (placed number_of)) (λ k x. (k ≡ 1) × IsLogicNumber x.0.0)
   number_each = each_one _ (λ t x h e. (refl, is_number size t.kind x.0 h (placed_is number_of t x e)))
 
   letter_each : Each size (one (placed letter_of)) (λ k x. (k ≡ 1) × IsLogicNumber x.0)
-  letter_each = each_one _ (λ t x h e. (refl, is_letter size t.kind x.0 h (placed_is letter_of t x e)))
+  letter_each = each_more (λ k x h. (h.0, character x.0 h.1)) each_letter
 
   -- ---- primary and prefix forms
 

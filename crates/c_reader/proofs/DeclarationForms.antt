@@ -25,7 +25,7 @@ use Rattle.c_model.specs.FullExpressions.{EachInitial, EachPart, EachDeclared, E
 use Rattle.c_model.specs.EffectPlaces.{ArePlaced, FirstPlaced, ItemPlaced}
 use Rattle.c_model.specs.ReadTree.{Between, AreInitialisers}
 use Rattle.c_reader.proofs.TokenForms.{IsLexedKind, placed_is, placed_at}
-use Rattle.c_reader.proofs.ExpressionForms.{IsShortAndBare, full_each, full_value_each}
+use Rattle.c_reader.proofs.ExpressionForms.{IsFormed, full_each, full_value_each}
 use Rattle.c_reader.proofs.PlacedReadings.{From, from_none, from_more, from_gives, from_one, from_then, from_choice, from_cond, from_at_most, from_deep, from_any, from_each, from_many}
 use Rattle.c_reader.proofs.PlacedReadings.{between_lower, between_higher, between_joined}
 
@@ -36,7 +36,7 @@ all_joined P (x ∷ xs) ys h g = (h.0, all_joined P xs ys h.1 g)
 -- what the initialisers of declarations are, at file scope and in functions
 pub record AreInitialised (ds : List Declaration) : Type 0 where
   pub are : AreInitialisers ds
-  pub short : EachDeclared IsShortAndBare ds
+  pub short : EachDeclared IsFormed ds
 
 pub initialised_joined : (ds es : List Declaration) → AreInitialised ds → AreInitialised es → AreInitialised (ds ++ es)
 initialised_joined [] es h g = g
@@ -51,15 +51,15 @@ initialised_placed (d ∷ ds) h = (h.0, initialised_placed ds h.1)
 -- an initialiser, whose list has no calls
 record IsRead (i : Initialiser) : Type 0 where
   is : (at : Place) → IsInitialiser (Some (at, i))
-  short : EachInitial IsShortAndBare i
+  short : EachInitial IsFormed i
 
 record IsItemOfList (i : Initialiser) : Type 0 where
   is : IsPureInitialiser i
-  short : EachInitial IsShortAndBare i
+  short : EachInitial IsFormed i
 
 record AreItemsOfList (is : List Initialiser) : Type 0 where
   are : ArePureInitialisers (initialisers is)
-  short : EachPart IsShortAndBare (initialisers is)
+  short : EachPart IsFormed (initialisers is)
 
 items_behind : (is : List Initialiser) (i : Initialiser) → AreItemsOfList is → IsItemOfList i → AreItemsOfList (is ++ i ∷ [])
 items_behind [] i h p = record { are = (p.is, tt); short = (p.short, tt) }
@@ -159,7 +159,7 @@ module _ (size : ℕ) (old : Vocabulary) where
   pub record IsDeclaration (l n : ℕ) (i : BlockItem) : Type 0 where
     pub is : ItemPlaced AreReadAsserts i
     pub first : FirstPlaced (First i)
-    pub short : EachInItem IsShortAndBare i
+    pub short : EachInItem IsFormed i
     pub flat : depth_of_item i ≡ 0
     pub declares : Declares l (declared_in_item i) n
 

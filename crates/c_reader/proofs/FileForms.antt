@@ -20,7 +20,7 @@ use Rattle.c_model.specs.FullExpressions.{EachInBody}
 use Rattle.c_model.specs.UnitTyping.{AFunction}
 use Rattle.c_model.specs.ReadTree.{Between, FunctionRead}
 use Rattle.c_reader.proofs.PlacedReadings.{From, from_gives, from_then, from_choice, from_cond, from_any, from_many, between_lower, between_higher, between_joined, IsPlaceWithin, fixed_from}
-use Rattle.c_reader.proofs.ExpressionForms.{IsShortAndBare}
+use Rattle.c_reader.proofs.ExpressionForms.{IsFormed}
 use Rattle.c_reader.proofs.Covers.{held, IsApart, apart_held, apart_higher, apart_more, apart_same}
 use Rattle.c_reader.proofs.ItemOrder.{behind_between, between_on, end_of_item}
 use Rattle.c_reader.proofs.DeclarationForms.{IsLater, later_typedef, IsNewName, IsNameWithin, name_wider, dtor_from, all_joined, declares_none, AreDeclarators, declarators_joined, declarators_higher, AreMore, initialised_from, more_from}
@@ -75,7 +75,7 @@ module _ (size : ℕ) (old : Vocabulary) where
 
   pub record IsFunction (n : ℕ) (f : Function) : Type 0 where
     pub read : FunctionRead AreReadAsserts f
-    pub short : EachInBody IsShortAndBare f.body
+    pub short : EachInBody IsFormed f.body
     pub declares : DeclaresNames f
     pub bare : AllByRecursion HasNoInitialiser f.params
     pub numbers : Between f.place.offset (numbers_of f) n

@@ -18,8 +18,12 @@ pub mod FileOrder
 pub mod StringBytes
 pub mod TextTokens
 pub mod ReadTrees
+-- what typing keeps of each expression
+pub mod TypedEach
 -- texts
 pub mod AcceptedTexts
+pub mod Letters
+pub mod Judgements
 pub mod Phases
 pub mod Texts
 -- examples, by computation

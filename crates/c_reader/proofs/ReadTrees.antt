@@ -1,5 +1,5 @@
 -- The tree that is read of a text of bytes has its places in the order of the text, effects and calls where the grammar puts them, short expressions,
--- and names of C.
+-- letters that are values of `char`, and names of C.
 use Rattle.std.proofs.Common.{◌≡◌, ℕ, suc, ◌+◌, ◌<◌, ◌≤◌, ◌^◌, List, [], ◌∷◌, length, map, None, Ok, refl, sym, subst, arith}
 use Rattle.std.proofs.lemmas.List.{length-map}
 use Rattle.std.specs.List.{AllByRecursion}
@@ -12,12 +12,14 @@ use Rattle.c_model.specs.CTokens.{tokens_of}
 use Rattle.c_model.specs.Vocabulary.{Vocabulary, word_of}
 use Rattle.c_model.specs.ProgramGrammar.{FileParts, texts_of, unit_with}
 use Rattle.c_model.specs.Phases.{vocabulary, IsRead}
+use Rattle.c_model.specs.AcceptedPrograms.{EachExpression}
 use Rattle.c_model.specs.Pure.{HasBareCall}
 use Rattle.c_model.specs.FullExpressions.{EachInFunctions}
 use Rattle.c_model.specs.Formed.{AreReadAsserts, AreNamed, AreNamedParameters, FunctionsNamed, declared_in_body}
 use Rattle.c_model.specs.ReadTree.{Between, IsShort, FunctionsRead, AreBytes, TextsAreBytes, ReadTree}
+use Rattle.c_model.specs.SoundJudgements.{LettersFit}
 use Rattle.c_reader.proofs.TokenForms.{IsLexed}
-use Rattle.c_reader.proofs.ExpressionForms.{IsShortAndBare}
+use Rattle.c_reader.proofs.ExpressionForms.{IsFormed}
 use Rattle.c_reader.proofs.EachForms.{declared_follow, functions_follow}
 use Rattle.c_reader.proofs.DeclarationForms.{IsNewName}
 use Rattle.c_reader.proofs.ParameterForms.{IsNamed}
@@ -54,7 +56,7 @@ module _ (size : ℕ) (old : Vocabulary) where
   functions_read n [] h = tt
   functions_read n (f ∷ fs) h = (h.0.read, functions_read n fs h.1)
 
-  functions_short : (n : ℕ) (fs : List Function) → AllByRecursion (IsFunction size old n) fs → EachInFunctions IsShortAndBare fs
+  functions_short : (n : ℕ) (fs : List Function) → AllByRecursion (IsFunction size old n) fs → EachInFunctions IsFormed fs
   functions_short n [] h = tt
   functions_short n (f ∷ fs) h = (h.0.short, functions_short n fs h.1)
 
@@ -97,11 +99,11 @@ file_is_read ts n x le words list h =
     record {
       order = file_in_order size ws n x h ts.names (texts_of ts.list) le;
       functions = functions_read size ws n x.functions h.functions;
-      functions_short = functions_follow IsShortAndBare IsShort (λ e p. p.short) x.functions short;
-      functions_bare = functions_follow IsShortAndBare HasBareCall (λ e p. p.bare) x.functions short;
+      functions_short = functions_follow IsFormed IsShort (λ e p. p.short) x.functions short;
+      functions_bare = functions_follow IsFormed HasBareCall (λ e p. p.bare) x.functions short;
       globals = initialised.are;
-      globals_short = declared_follow IsShortAndBare IsShort (λ e p. p.short) x.globals initialised.short;
-      globals_bare = declared_follow IsShortAndBare HasBareCall (λ e p. p.bare) x.globals initialised.short;
+      globals_short = declared_follow IsFormed IsShort (λ e p. p.short) x.globals initialised.short;
+      globals_bare = declared_follow IsFormed HasBareCall (λ e p. p.bare) x.globals initialised.short;
       functions_named = functions_named ts.names words n x.functions h.functions;
       globals_named = named ts.names words x.globals h.globals.declares.names;
       texts = texts_are_bytes size ts.list list;
@@ -115,3 +117,18 @@ tree_is_read text ts p bytes few has read =
     let u = (unit_from (length ts.names) (vocabulary ts) ts.names (texts_of ts.list)).holds ts.list (p, None) lex.end lex.list lex.reach read.reading in
     let below : lex.end ≤ 4294967295 = omega (arith, few, lex.below) in
     subst ReadTree (sym u.is) (file_is_read ts lex.end u.parts below lex.names lex.list u.file)
+
+-- ---- letters
+
+file_has_letters : (ts : PlainTokens) (n : ℕ) (x : FileParts) → IsFile (length ts.names) (vocabulary ts) n x → EachExpression LettersFit (unit_with ts.names (texts_of ts.list) x)
+file_has_letters ts n x h = record {
+  globals = declared_follow IsFormed LettersFit (λ e p. p.letters) x.globals h.globals.initialised.short;
+  funcs = functions_follow IsFormed LettersFit (λ e p. p.letters) x.functions (functions_short (length ts.names) (vocabulary ts) n x.functions h.functions);
+}
+
+-- those in the tree that is read are values of `char`
+pub tree_has_letters : (text : List ℕ) (ts : PlainTokens) (p : TranslationUnit) → AreBytes text → length text < 4294967295 → tokens_of text ≡ Ok ts → IsRead ts p → EachExpression LettersFit p
+tree_has_letters text ts p bytes few has read =
+    let lex = lexed text ts bytes has in
+    let u = (unit_from (length ts.names) (vocabulary ts) ts.names (texts_of ts.list)).holds ts.list (p, None) lex.end lex.list lex.reach read.reading in
+    subst (EachExpression LettersFit) (sym u.is) (file_has_letters ts lex.end u.parts u.file)

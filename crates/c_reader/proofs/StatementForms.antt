@@ -16,7 +16,7 @@ use Rattle.c_model.specs.Formed.{AreReadAsserts, depth, depth_of_item, depth_of_
 use Rattle.c_model.specs.Pure.{IsPure, IsPureOrCall, IsEffect}
 use Rattle.c_model.specs.FullExpressions.{EachIn, EachInFirst, EachInItem, EachInItems}
 use Rattle.c_model.specs.EffectPlaces.{FirstPlaced, StatementPlaced, ItemPlaced, ItemsPlaced}
-use Rattle.c_reader.proofs.ExpressionForms.{IsShortAndBare, IsFull, full_each, full_value_each, full_effect_each, full_call_each}
+use Rattle.c_reader.proofs.ExpressionForms.{IsFormed, IsFull, full_each, full_value_each, full_effect_each, full_call_each}
 use Rattle.c_model.specs.DeclarationGrammar.{ended}
 use Rattle.c_reader.proofs.AnnotationForms.{annotations_each}
 use Rattle.c_reader.proofs.PlacedReadings.{From, from_none, from_more, from_gives, from_then, from_choice, from_cond, from_any, from_each, from_many}
@@ -27,7 +27,7 @@ use Rattle.c_reader.proofs.DeclarationForms.{IsLater, Declares, declares_none, d
 -- an item in which statements stand at most d deep
 pub record IsItem (d : ℕ) (i : BlockItem) : Type 0 where
   pub is : ItemPlaced AreReadAsserts i
-  pub short : EachInItem IsShortAndBare i
+  pub short : EachInItem IsFormed i
   pub deep : depth_of_item i ≤ d
 
 pub all_behind : {A : Type 0} (P : A → Type 0) (xs : List A) (y : A) → AllByRecursion P xs → P y → AllByRecursion P (xs ++ (y ∷ []))
@@ -38,7 +38,7 @@ pub items_placed : (d : ℕ) (l : List BlockItem) → AllByRecursion (IsItem d) 
 items_placed d [] h = tt
 items_placed d (i ∷ l) h = (h.0.is, items_placed d l h.1)
 
-pub items_short : (d : ℕ) (l : List BlockItem) → AllByRecursion (IsItem d) l → EachInItems IsShortAndBare (block_items l)
+pub items_short : (d : ℕ) (l : List BlockItem) → AllByRecursion (IsItem d) l → EachInItems IsFormed (block_items l)
 items_short d [] h = tt
 items_short d (i ∷ l) h = (h.0.short, items_short d l h.1)
 
@@ -54,7 +54,7 @@ module _ (size : ℕ) (old : Vocabulary) where
   -- a statement d deep at most, after the offset l
   pub record IsWithin (d l n : ℕ) (x : Statement × AnnotationState) : Type 0 where
     pub is : StatementPlaced AreReadAsserts x.0
-    pub short : EachIn IsShortAndBare x.0
+    pub short : EachIn IsFormed x.0
     pub deep : depth x.0 ≤ d
     pub declares : Declares size old l (declared_within x.0) n
 
@@ -74,12 +74,12 @@ module _ (size : ℕ) (old : Vocabulary) where
   -- the same, where it may be left out
   record IsOptional (P : Expression → Type 0) (l n : ℕ) (e : Option Expression) : Type 0 where
     is : WhereAny P e
-    short : WhereAny IsShortAndBare e
+    short : WhereAny IsFormed e
     on : l ≤ n
 
   record IsFirst (l n : ℕ) (x : ForFirst × AnnotationState) : Type 0 where
     is : FirstPlaced x.0
-    short : EachInFirst IsShortAndBare x.0
+    short : EachInFirst IsFormed x.0
     declares : Declares size old l (declared_in_first x.0) n
 
   lower : (d k l n : ℕ) (x : Statement × AnnotationState) → k ≤ l → IsWithin d l n x → IsWithin d k n x

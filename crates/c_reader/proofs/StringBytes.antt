@@ -1,10 +1,11 @@
--- The bytes that a string literal of a text of bytes stands for are bytes.
-use Rattle.std.proofs.Common.{◌≡◌, ℕ, zero, suc, ◌+◌, ◌<◌, Bool, true, false, if◌then◌else◌, nat_eq, List, [], ◌∷◌, ◌++◌, take, drop, Option, Some, None, option_map, ◌||◌, refl, arith}
+-- The bytes that a string literal or a character constant of a text of bytes stands for are bytes.
+use Rattle.std.proofs.Common.{◌≡◌, ℕ, zero, suc, ◌+◌, ◌<◌, Bool, true, false, if◌then◌else◌, nat_eq, List, [], ◌∷◌, ◌++◌, take, drop, Option, Some, None, option_map, ◌||◌, refl, subst, arith}
 use Rattle.std.specs.Prelude.{nat_le, nat_lt}
 use Rattle.std.specs.Str.Parse.{digits_value}
 use Rattle.std.proofs.lemmas.Bool.{leb-true}
 use Rattle.c_model.specs.MonitoredTokens.{is_octal}
 use Rattle.c_model.specs.Literals.{digits_len, value_within, digits_at, simple_escape, escape_at, unit_at, string_bytes}
+use Rattle.c_model.specs.CTokenLaws.{IsLetter}
 use Rattle.c_model.specs.ReadTree.{AreBytes}
 
 pub bytes_joined : (cs bs : List ℕ) → AreBytes cs → AreBytes bs → AreBytes (cs ++ bs)
@@ -86,6 +87,17 @@ escape_is_byte (c ∷ cs) h =
 unit_is_byte : (b : ℕ) (bs : List ℕ) → AreBytes (b ∷ bs) → IsByteAt (unit_at (b ∷ bs))
 unfolding unit_at
 unit_is_byte b bs h = byte_at_either (nat_eq b 10) None _ tt (byte_at_either (nat_eq b 92) (escape_at bs) (Some (b, 0)) (escape_is_byte bs h.1) h.0)
+
+first_is_byte : (bs : List ℕ) → AreBytes bs → IsByteAt (unit_at bs)
+unfolding unit_at
+first_is_byte [] h = tt
+first_is_byte (b ∷ bs) h = unit_is_byte b bs h
+
+-- so is a character constant (C99 6.4.4.4)
+pub letter_is_byte : (c : ℕ) (bytes behind : List ℕ) → IsLetter c bytes behind → AreBytes bytes → AreBytes behind → c < 256
+letter_is_byte c bytes behind x h g =
+    let quoted : AreBytes (39 ∷ x.unit ++ 39 ∷ []) = subst AreBytes x.quoted h in
+    subst IsByteAt x.one (first_is_byte (x.unit ++ 39 ∷ behind) (bytes_joined x.unit (39 ∷ behind) (bytes_before x.unit (39 ∷ []) quoted.1) (omega arith, g)))
 
 string_from : (bs : List ℕ) (t : Bool) (o : Option (ℕ × ℕ)) → IsByteAt o → ((k : ℕ) → AreBytes (string_bytes k bs)) → AreBytes (if t then [] else elim o [ None ↦ [] | Some u ↦ u.0 ∷ string_bytes u.1 bs ])
 string_from bs true o h rest = tt

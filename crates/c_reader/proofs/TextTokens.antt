@@ -2,7 +2,7 @@
 -- those of bytes, and strings are of bytes.
 use Rattle.std.proofs.Common.{◌≡◌, ℕ, zero, suc, ◌<◌, ◌≤◌, ◌-◌, pos, negsuc, ◌≤ℤ◌, nat_lt, Bool, true, false, cond, if◌then◌else◌, ◌&&◌, ◌||◌, nat_eq, ltb, List, [], ◌∷◌, ◌++◌, length, length-append, drop, map}
 use Rattle.std.proofs.Common.{Some, Result, Ok, Err, ◌⊎◌, inl, inr, bytes_eq, refl, sym, ap, subst, ◌∙◌, arith}
-use Rattle.std.proofs.lemmas.Bool.{eqb-true}
+use Rattle.std.proofs.lemmas.Bool.{eqb-true, ltb-true, ltb-false}
 use Rattle.std.proofs.lemmas.Int.{ints}
 use Rattle.std.specs.Prelude.{slice_get}
 use Rattle.std.specs.List.{list_any, list_all, AllByRecursion}
@@ -33,10 +33,11 @@ use Rattle.c_model.proofs.CNameLaws.{names_in_order}
 use Rattle.c_model.proofs.CPieceLaws.{pieces_joined, pieces_spelled}
 use Rattle.c_model.proofs.CListLaws.{AllBelow, tokens_ascend, tokens_below}
 use Rattle.c_model.specs.ReadTree.{AreBytes}
+use Rattle.c_model.specs.SoundJudgements.{IsCharacter}
 use Rattle.c_reader.proofs.TokenForms.{IsLexed, IsLexedKind}
 use Rattle.c_reader.proofs.PlacedReadings.{Reach}
 use Rattle.c_reader.proofs.DeclarationForms.{IsNewName}
-use Rattle.c_reader.proofs.StringBytes.{bytes_joined, bytes_before, bytes_behind, bytes_dropped, string_is_bytes}
+use Rattle.c_reader.proofs.StringBytes.{bytes_joined, bytes_before, bytes_behind, bytes_dropped, letter_is_byte, string_is_bytes}
 
 -- ---- words
 
@@ -170,24 +171,51 @@ grows names w = by (list_any (bytes_eq w) names)
 abbrev IsRead : Read → Type 0
 IsRead r = AreLexed (length r.names) r.list
 
--- a character is no number below those of bytes
-is_character : (c : ℕ) → negsuc 255 ≤ℤ signed_char c
-is_character c = by (nat_lt c 128)
+-- a byte is a value of `char`, as a signed one
+is_character : (c : ℕ) → c < 256 → IsCharacter (signed_char c)
+is_character c lt = by (nat_lt c 128) refl
   where
-    by : (b : Bool) → negsuc 255 ≤ℤ (if b then pos c else negsuc (255 - c))
-    by true = omega (arith, ints)
-    by false = omega (arith, ints)
+    by : (b : Bool) → nat_lt c 128 ≡ b → IsCharacter (if b then pos c else negsuc (255 - c))
+    by true e = let less = ltb-true c 128 e in record { low = omega (arith, ints); high = omega (arith, ints, less) }
+    by false e = let least = ltb-false c 128 e in record { low = omega (arith, ints, lt, least); high = omega (arith, ints) }
 
-add_lexed : (r : Read) (at : Place) (p : Piece) (bs : List ℕ) → AreBytes bs → IsRead r → IsRead (add r at p bs)
+-- the piece is no character constant, or that of a byte
+abbrev IsByteLetter : Piece → Type 0
+IsByteLetter (piece.Letter c) = c < 256
+IsByteLetter _ = Unit {0}
+
+abbrev LettersAreBytes : Pieces → Type 0
+LettersAreBytes (Ended at n) = Unit {0}
+LettersAreBytes (Broken at f rest) = Unit {0}
+LettersAreBytes (Cut at p bytes more) = IsByteLetter p × LettersAreBytes more
+
+spelled_letter : (before : List ℕ) (m : Mode) (p : Piece) (bytes behind : List ℕ) → Spells before m p bytes behind → AreBytes bytes → AreBytes behind → IsByteLetter p
+spelled_letter before m piece.Blank bytes behind s h g = tt
+spelled_letter before m (piece.Open n) bytes behind s h g = tt
+spelled_letter before m piece.Close bytes behind s h g = tt
+spelled_letter before m piece.Word bytes behind s h g = tt
+spelled_letter before m (piece.Number v t) bytes behind s h g = tt
+spelled_letter before m (piece.Letter c) bytes behind s h g = letter_is_byte c bytes behind s h g
+spelled_letter before m piece.Chars bytes behind s h g = tt
+spelled_letter before m (piece.Mark k) bytes behind s h g = tt
+
+letters_are_bytes : (before : List ℕ) (m : Mode) (ps : Pieces) → AreSpelled before m ps → AreBytes (bytes_of ps) → LettersAreBytes ps
+letters_are_bytes before m (Ended at n) s are = tt
+letters_are_bytes before m (Broken at f rest) s are = tt
+letters_are_bytes before m (Cut at p bytes more) s are =
+    let behind = bytes_behind bytes (bytes_of more) are in
+    (spelled_letter before m p bytes (bytes_of more) s.0 (bytes_before bytes (bytes_of more) are) behind, letters_are_bytes (before ++ bytes) (mode_after m p) more s.1 behind)
+
+add_lexed : (r : Read) (at : Place) (p : Piece) (bs : List ℕ) → AreBytes bs → IsByteLetter p → IsRead r → IsRead (add r at p bs)
 unfolding add
-add_lexed r at piece.Blank bs are h = h
-add_lexed r at (piece.Open m) bs are h = behind (length r.names) r.list _ h tt
-add_lexed r at piece.Close bs are h = behind (length r.names) r.list _ h tt
-add_lexed r at piece.Word bs are h = behind (length (with_name r.names bs)) r.list _ (all_more (length r.names) (length (with_name r.names bs)) r.list (grows r.names bs) h) (number_within r.names bs)
-add_lexed r at (piece.Number v t) bs are h = behind (length r.names) r.list _ h (let zero_below : pos 0 ≤ℤ pos v = omega (arith, ints) in zero_below)
-add_lexed r at (piece.Letter c) bs are h = behind (length r.names) r.list _ h (is_character c)
-add_lexed r at piece.Chars bs are h = string_lexed (length r.names) r.list at _ h (string_is_bytes (drop 1 bs) 0 (bytes_dropped 1 bs are))
-add_lexed r at (piece.Mark k) bs are h = behind (length r.names) r.list _ h tt
+add_lexed r at piece.Blank bs are l h = h
+add_lexed r at (piece.Open m) bs are l h = behind (length r.names) r.list _ h tt
+add_lexed r at piece.Close bs are l h = behind (length r.names) r.list _ h tt
+add_lexed r at piece.Word bs are l h = behind (length (with_name r.names bs)) r.list _ (all_more (length r.names) (length (with_name r.names bs)) r.list (grows r.names bs) h) (number_within r.names bs)
+add_lexed r at (piece.Number v t) bs are l h = behind (length r.names) r.list _ h (let zero_below : pos 0 ≤ℤ pos v = omega (arith, ints) in zero_below)
+add_lexed r at (piece.Letter c) bs are l h = behind (length r.names) r.list _ h (is_character c l)
+add_lexed r at piece.Chars bs are l h = string_lexed (length r.names) r.list at _ h (string_is_bytes (drop 1 bs) 0 (bytes_dropped 1 bs are))
+add_lexed r at (piece.Mark k) bs are l h = behind (length r.names) r.list _ h tt
 
 closed_lexed : (r : Read) (at : Place) (m : Mode) → IsRead r → IsRead (closed r at m)
 closed_lexed r at Code h = h
@@ -197,21 +225,24 @@ closed_lexed r at Line h = behind (length r.names) r.list _ h tt
 same_tokens : (x y : PlainTokens) → (let r : Result PlainTokens PlainRefusal = Ok x in r) ≡ Ok y → x ≡ y
 same_tokens x y e = cc
 
-build_lexed : (r : Read) (ps : Pieces) (tokens : PlainTokens) → AreBytes (bytes_of ps) → IsRead r → build r ps ≡ Ok tokens → AreLexed (length tokens.names) tokens.list
+build_lexed : (r : Read) (ps : Pieces) (tokens : PlainTokens) → AreBytes (bytes_of ps) → LettersAreBytes ps → IsRead r → build r ps ≡ Ok tokens → AreLexed (length tokens.names) tokens.list
 unfolding build
-build_lexed r (Ended at m) tokens are h e = elim (chosen (ltb most_tokens (length (closed r at m).list)) (Err (refused at fault.Limit [])) (Ok (whole (closed r at m) at)) (Ok tokens) e) [
+build_lexed r (Ended at m) tokens are l h e = elim (chosen (ltb most_tokens (length (closed r at m).list)) (Err (refused at fault.Limit [])) (Ok (whole (closed r at m) at)) (Ok tokens) e) [
   | inl f ↦ absurd (let g = f.1 in cc)
   | inr f ↦ subst (λ (x : PlainTokens). AreLexed (length x.names) x.list) (same_tokens (whole (closed r at m) at) tokens f.1) (closed_lexed r at m h)
 ]
-build_lexed r (Broken at f rest) tokens are h e = absurd cc
-build_lexed r (Cut at p bytes more) tokens are h e = elim (chosen (ltb most_tokens (length (add r at p bytes).list)) (Err (refused at fault.Limit [])) (build (add r at p bytes) more) (Ok tokens) e) [
+build_lexed r (Broken at f rest) tokens are l h e = absurd cc
+build_lexed r (Cut at p bytes more) tokens are l h e = elim (chosen (ltb most_tokens (length (add r at p bytes).list)) (Err (refused at fault.Limit [])) (build (add r at p bytes) more) (Ok tokens) e) [
   | inl f ↦ absurd (let g = f.1 in cc)
-  | inr f ↦ build_lexed (add r at p bytes) more tokens (bytes_behind bytes (bytes_of more) are) (add_lexed r at p bytes (bytes_before bytes (bytes_of more) are) h) f.1
+  | inr f ↦ build_lexed (add r at p bytes) more tokens (bytes_behind bytes (bytes_of more) are) l.1 (add_lexed r at p bytes (bytes_before bytes (bytes_of more) are) l.0 h) f.1
 ]
 
 tokens_lexed : (text : List ℕ) (tokens : PlainTokens) → AreBytes text → tokens_of text ≡ Ok tokens → AreLexed (length tokens.names) tokens.list
 unfolding tokens_of
-tokens_lexed text tokens are e = build_lexed nothing_read (pieces_of text) tokens (subst AreBytes (sym (pieces_joined text)) are) tt e
+tokens_lexed text tokens are e =
+    let pieces = pieces_of text in
+    let bytes = subst AreBytes (sym (pieces_joined text)) are in
+    build_lexed nothing_read pieces tokens bytes (letters_are_bytes [] Code pieces (pieces_spelled text) bytes) tt e
 
 -- ---- places
 

@@ -1,19 +1,21 @@
 -- The tokens of a text, and what holds of each reading of a production over them, by the number of its tokens.
-use Rattle.std.proofs.Common.{◌≡◌, ℕ, ◌<◌, pos, negsuc, ◌≤ℤ◌, Option, Some, None, refl, ap, ◌∙◌}
+use Rattle.std.proofs.Common.{◌≡◌, ℕ, ◌<◌, ℤ, pos, ◌≤ℤ◌, Option, Some, None, refl, ap, ◌∙◌, subst}
 use Rattle.grammar.specs.Syntax.{Syntax, one}
 use Rattle.grammar.proofs.Readings.{EachOf, each_one}
 use Rattle.c_syntax.specs.declared.place.Place.{Place}
 use Rattle.c_syntax.specs.Tokens as token
 use Rattle.c_syntax.specs.Tokens.{PlainTokenKind, PlainToken}
+use Rattle.c_model.specs.ExpressionGrammar.{letter_of}
+use Rattle.c_model.specs.SoundJudgements.{IsCharacter}
 use Rattle.c_model.specs.Terminals.{placed}
 use Rattle.c_model.specs.ReadTree.{AreBytes}
 
--- a token of a text with so many names: a word has one of their numbers, a literal is never negative, a character is a byte's, and a string is of
--- bytes
+-- a token of a text with so many names: a word has one of their numbers, a literal is never negative, a character is a value of `char`, and a
+-- string is of bytes
 abbrev pub IsLexedKind : ℕ → PlainTokenKind → Type 0
 IsLexedKind size (token.Word n) = n < size
 IsLexedKind size (token.Number z t) = pos 0 ≤ℤ z
-IsLexedKind size (token.Letter z) = negsuc 255 ≤ℤ z
+IsLexedKind size (token.Letter z) = IsCharacter z
 IsLexedKind size (token.Chars bytes) = AreBytes bytes
 IsLexedKind size _ = Unit {0}
 
@@ -45,3 +47,18 @@ placed_at {A} f t y e = by (f t.kind) e
     by : (o : Option A) → elim o [ Some x ↦ Some (x, t.place) | None ↦ None ] ≡ Some y → t.place ≡ y.1
     by (Some x) e = let same : (x, t.place) ≡ y = cc in ap (λ (w : A × Place). w.1) same
     by None e = absurd cc
+
+-- ---- characters
+
+letter_is : (size : ℕ) (t : PlainTokenKind) (y : ℤ) → IsLexedKind size t → letter_of t ≡ Some y → IsCharacter y
+letter_is size (token.Letter z) y h e = let same : z ≡ y = cc in subst IsCharacter same h
+letter_is size (token.Number z c) y h e = absurd cc
+letter_is size (token.Word n) y h e = absurd cc
+letter_is size (token.Chars bytes) y h e = absurd cc
+letter_is size (token.Mark m) y h e = absurd cc
+letter_is size token.AnnotOpen y h e = absurd cc
+letter_is size token.AnnotClose y h e = absurd cc
+letter_is size (token.Head k n) y h e = absurd cc
+
+pub each_letter : {size : ℕ} → Each size (one (placed letter_of)) (λ k x. (k ≡ 1) × IsCharacter x.0)
+each_letter {size} = each_one _ (λ t x h e. (refl, letter_is size t.kind x.0 h (placed_is letter_of t x e)))

@@ -7,4 +7,4 @@
 
 mod read;
 
-pub use read::{about_texts, read_text};
+pub use read::{about_programs, about_texts, read_text};
