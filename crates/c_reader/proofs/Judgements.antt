@@ -1,20 +1,28 @@
--- What the functions of the program of an accepted text give are values of their types, and each judgement of each run is sound.
+-- Asserts stand in typed trees where they stood; what the functions of the program of an accepted text give are values of their types, and each judgement of
+-- each run is sound.
 use Rattle.std.proofs.Common.{◌≡◌, ℕ, List, Some, sym, ◌∙◌, subst}
 use Rattle.std.specs.Prelude.{codes}
 use Rattle.c_syntax.specs.Ctypes.{int_type}
 use Rattle.c_syntax.specs.Programs.{Function, TranslationUnit}
 use Rattle.c_model.specs.AcceptedPrograms.{IsProgram}
+use Rattle.c_model.specs.Formed.{AreReadAsserts}
 use Rattle.c_model.specs.Meaning.{function_named}
 use Rattle.c_model.specs.Phases.{AcceptedText}
+use Rattle.c_model.specs.ReadTree.{FunctionsRead}
 use Rattle.c_model.specs.SoundJudgements.{HasResults}
 use Rattle.c_model.specs.TypedTrees.{IsInteger}
 use Rattle.c_model.proofs.JudgedPrograms.{judged_states_are_sound, results_are_fit}
+use Rattle.c_model.proofs.KeptForms.{forms_kept}
 use Rattle.c_model.proofs.NeverStuck.{main_is}
 use Rattle.c_model.proofs.SoundJudgements.{judgements_are_sound}
 use Rattle.c_model.proofs.SoundPrograms.{programs_are_direct}
-use Rattle.c_reader.specs.Programs.{LettersAreCharacters, ResultsFit, RunsJudgeSoundly, JudgementsAreSound}
+use Rattle.c_model.proofs.TypedNumbers.{typed_in_order}
+use Rattle.c_reader.specs.Programs.{TypedTreesKeepAsserts, LettersAreCharacters, ResultsFit, RunsJudgeSoundly, JudgementsAreSound}
 use Rattle.c_reader.proofs.AcceptedTexts.{accepted_program}
 use Rattle.c_reader.proofs.Letters.{accepted_letters}
+
+pub typed_trees_keep_asserts : TypedTreesKeepAsserts
+typed_trees_keep_asserts tree typed t is = subst (FunctionsRead AreReadAsserts) (sym (typed_in_order tree typed t.order is).functions) (forms_kept tree typed t is).functions
 
 pub letters_are_characters : LettersAreCharacters
 letters_are_characters text p a = accepted_letters text p a

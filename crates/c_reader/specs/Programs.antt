@@ -5,12 +5,15 @@ use Rattle.c_syntax.specs.Programs.{Function, TranslationUnit}
 use Rattle.c_syntax.specs.Tokens.{PlainTokens}
 use Rattle.c_model.specs.AcceptedPrograms.{EachExpression}
 use Rattle.c_model.specs.CTokens.{tokens_of}
+use Rattle.c_model.specs.Checked.{Good}
+use Rattle.c_model.specs.Formed.{AreReadAsserts}
 use Rattle.c_model.specs.JudgedStates.{judged, judged_whole}
 use Rattle.c_model.specs.Phases.{AcceptedText, IsRead}
-use Rattle.c_model.specs.ReadTree.{AreBytes, ReadTree}
+use Rattle.c_model.specs.ReadTree.{AreBytes, FunctionsRead, ReadTree, functions_among}
 use Rattle.c_model.specs.SoundJudgements.{GivesResult, IsSoundJudgement, LettersFit}
 use Rattle.c_model.specs.SoundStates.{IsSoundState}
 use Rattle.c_model.specs.State.{Input, State}
+use Rattle.c_model.specs.UnitTyping.{items_of_file, typed_unit}
 
 -- ---- trees
 
@@ -18,6 +21,11 @@ use Rattle.c_model.specs.State.{Input, State}
 abbrev pub TreesAreRead : Type 0
 TreesAreRead = (text : List ℕ) (ts : PlainTokens) (tree : TranslationUnit) → AreBytes text → length text < 4294967295 → tokens_of text ≡ Ok ts
     → IsRead ts tree → ReadTree tree
+
+-- and what it is typed as has its asserts where the laws of their typing ask for them
+abbrev pub TypedTreesKeepAsserts : Type 0
+TypedTreesKeepAsserts = (tree typed : TranslationUnit) → ReadTree tree → typed_unit tree ≡ Good typed
+    → FunctionsRead AreReadAsserts (functions_among (items_of_file typed))
 
 -- ---- programs
 

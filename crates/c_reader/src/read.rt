@@ -9,7 +9,7 @@ ghost use Rattle.c_model.specs.ReadTree.{AreBytes};
 ghost use Rattle.c_model.specs.Phases.{AcceptedText, RefusedText};
 ghost use Rattle.c_model.specs.UnrangedPrograms.{FunctionsRanged};
 ghost use Rattle.c_reader.specs.Answers.{Refuses, HasTree, IsRangedAs, HasFault};
-ghost use Rattle.c_reader.specs.Programs.{JudgementsAreSound, LettersAreCharacters, ResultsFit, RunsJudgeSoundly, TreesAreRead};
+ghost use Rattle.c_reader.specs.Programs.{JudgementsAreSound, LettersAreCharacters, ResultsFit, RunsJudgeSoundly, TreesAreRead, TypedTreesKeepAsserts};
 
 use c_lexer::tokens;
 use c_parser::read_program;
@@ -95,10 +95,12 @@ pub fn about_texts()
     ensures never_stuck { (text : List ℕ) (p : TranslationUnit) → AcceptedText text p → NeverStuck p }
 {}
 
-/// The tree of a text is what typing asks for, and the letters in an accepted program are values of `char`. So what its functions give are values of their
-/// types; and wherever a run of it judges an annotation, from its start or from any sound state on, the state is sound and `\result` is a value of its type.
+/// The tree of a text and its asserts are what typing asks for, and the letters in an accepted program are values of `char`. So what its functions give are
+/// values of their types; and wherever a run of it judges an annotation, from its start or from any sound state on, the state is sound and `\result` is a value
+/// of its type.
 pub fn about_programs()
     ensures trees { TreesAreRead }
+    ensures asserts { TypedTreesKeepAsserts }
     ensures letters { LettersAreCharacters }
     ensures results { ResultsFit }
     ensures judged { RunsJudgeSoundly }
