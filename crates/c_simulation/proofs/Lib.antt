@@ -40,3 +40,4 @@ pub mod Dropped
 pub mod Casts
 pub mod EffectForms
 pub mod EffectLaws
+pub mod EffectLetters

@@ -6,6 +6,7 @@ use Rattle.c_syntax.specs.Layouts.{Scalar, scalar_of}
 use Rattle.c_model.specs.ExpressionTyping.{Sight, has_object}
 use Rattle.c_model.specs.Meaning.{condition_of, eval_with, place_with, tables_of}
 use Rattle.c_model.specs.Memory.{Pointer, Points, Value, shifted}
+use Rattle.c_model.specs.SoundJudgements.{LettersFit}
 use Rattle.c_model.specs.State.{State}
 use Rattle.c_model.specs.TypedTrees.{WellTyped}
 use Rattle.c_syntax.specs.Programs.{StructType}
@@ -80,3 +81,12 @@ EffectsReach =
     (w : Setting) (n : ℕ) (h : Here) (sight : Sight) (low : ℕ) (bound : Bindings) (rs : List MonType) (e : Expression) (now : State)
     (target : Target) (regs : List Value) → ActHasLetters e → IsSet w n h sight low bound rs (act_takes w.unit e) e now target regs
     → Reaches w Anything (length rs) regs now (eval_with (tables_of w.unit) e w.call now) (runs w n target (act w.unit bound rs e) regs)
+
+-- ---- letters
+
+-- where the letters of an expression are values of `char`, as in the program of an accepted text, those of what is evaluated of it are so
+abbrev pub LettersOfValues : Type 0
+LettersOfValues = (e : Expression) → LettersFit e → ValueHasLetters e
+
+abbrev pub LettersOfActs : Type 0
+LettersOfActs = (e : Expression) → LettersFit e → ActHasLetters e

@@ -6,6 +6,8 @@ ghost use Rattle.c_simulation.specs.EffectLaws.{
   EffectPlacesReach,
   EffectValuesReach,
   EffectsReach,
+  LettersOfActs,
+  LettersOfValues,
 };
 ghost use Rattle.c_simulation.specs.Laws.{
   ConditionsFollow,
@@ -37,4 +39,10 @@ pub fn effects()
     ensures places { EffectPlacesReach }
     ensures origins { EffectOriginsReach }
     ensures alone { EffectsReach }
+{}
+
+/// Where the letters of an expression are values of `char`, those of what is evaluated of it are so, as the laws of effects ask.
+pub fn letters()
+    ensures values { LettersOfValues }
+    ensures alone { LettersOfActs }
 {}
