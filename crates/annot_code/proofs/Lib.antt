@@ -20,3 +20,4 @@ pub mod Forms
 pub mod Judged
 pub mod Inside
 pub mod Asserted
+pub mod Beside

@@ -5,3 +5,4 @@ pub mod Validity
 pub mod Plain
 pub mod Judged
 pub mod Numbered
+pub mod Beside

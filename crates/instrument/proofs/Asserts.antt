@@ -26,9 +26,11 @@ use Rattle.mon_syntax.specs.Trees.{MonExpression, Register, Assert}
 use Rattle.c_effects.specs.Expressions.{one}
 use Rattle.annot_code.specs.Code.{Judgement, judgement, clause_judgement, asserted, assertion, behind_assertion, assertions, behind_assertions}
 use Rattle.annot_code.specs.Does as code
-use Rattle.annot_code.specs.Does.{Stands, Finishes, IsJudged, Judges, is_true}
+use Rattle.annot_code.specs.Does.{Finishes, IsJudged, Judges, is_true}
+use Rattle.annot_code.specs.Beside.{AreFound, judging}
 use Rattle.c_simulation.specs.SameRegisters.{Same}
 use Rattle.annot_code.proofs.Asserted.{assertion_grows, behind_grows}
+use Rattle.annot_code.proofs.Beside.{stands_anchored, ranges_hold, predicate_found}
 use Rattle.annot_code.proofs.Theorem.{code_judges}
 use Rattle.instrument.proofs.RangedTrees.{AreRangedAsserts}
 use Rattle.c_simulation.proofs.Results.{one_is, before_is, writes_none}
@@ -37,20 +39,11 @@ use Rattle.c_simulation.proofs.Registers.{same_less, stays_same}
 use Rattle.c_simulation.proofs.Following.{kept_same, stays, follows_then, standing_after}
 use Rattle.c_simulation.specs.Following.{Follows, GoesOn, IsOver, Later}
 use Rattle.c_simulation.proofs.Values.{HasNumber}
-use Rattle.c_simulation.proofs.Anchors.{pointer_has}
-use Rattle.instrument.proofs.Scenes.{AreFound}
-use Rattle.instrument.proofs.Terms.{ranges_hold, predicate_found}
 
 module _ (w : Setting) (n : ℕ) (low : ℕ) (bound : Bindings) (s : State) (t : Target) where
   -- where the code of a predicate runs
-  abbrev judging : List Value → code.Setting
-  judging regs = record { unit = w.unit; bound = bound; low = low; globals = w.globals; calls = w.calls; turns = n; now = s; names = []; seen = []; target = t; regs = regs }
-
-  stands : (regs : List Value) → t.mem.store ≡ s.store → Anchored w low bound regs s.scope → Stands (judging regs)
-  stands regs store_is h = record {
-    store_is = store_is;
-    points = λ x number found later same. pointer_has w low low bound regs later t.mem s.scope x number (omega arith) same h found;
-  }
+  abbrev asked : List Value → code.Setting
+  asked regs = judging w n low bound [] [] s t regs
 
   -- with so many steps left
   abbrev stepped : Target → ℕ → Target
@@ -88,14 +81,14 @@ module _ (w : Setting) (n : ℕ) (low : ℕ) (bound : Bindings) (s : State) (t :
         IsOver (Broken a.number a.place.line a.kind how.Undefined) (machine.Broken a.number a.place.line a.kind how.Undefined) (record s { steps = k }) [] refl refl (sym (append-nil s.output)) refl
 
     -- what is asked after the statements of a judgement
-    asked_runs : (a : Annotation) (j : Judgement) (rs : List MonType) (k : ℕ) (says : Option Bool) (regs : List Value) → (f : Finishes (judging regs) j.stmts (length rs) k (IsJudged j.flag j.truth says))
+    asked_runs : (a : Annotation) (j : Judgement) (rs : List MonType) (k : ℕ) (says : Option Bool) (regs : List Value) → (f : Finishes (asked regs) j.stmts (length rs) k (IsJudged j.flag j.truth says))
         → runs w n t (asserted a j) regs ≡ judged_later a k (truth (is_some says)) (truth (is_true says)) f.after
     asked_runs a j rs k says regs f =
         let ask = one (Assert (Register j.flag) (Register j.truth) a.number a.place.line a.kind) in
         before_is w.globals j.stmts ask w.calls n regs t ∙ ap (λ q. then_do q (at_next (λ r u. runs w n u ask r))) f.is ∙ writes_none (runs w n (stepped t k) ask f.after)
         ∙ assert_runs a (stepped t k) (Register j.flag) (Register j.truth) (truth (is_some says)) (truth (is_true says)) f.after f.holds.flag_is f.holds.truth_is
 
-    answer_follows : (a : Annotation) (j : Judgement) (rs : List MonType) (regs : List Value) (q : Answer) → low ≤ length rs → IsKept w low s.marks regs → steps_of q ≤ s.steps → Judges (judging regs) rs j q
+    answer_follows : (a : Annotation) (j : Judgement) (rs : List MonType) (regs : List Value) (q : Answer) → low ≤ length rs → IsKept w low s.marks regs → steps_of q ≤ s.steps → Judges (asked regs) rs j q
         → Follows w h low regs Next s (source.judged a q s) (runs w n t (asserted a j) regs)
     answer_follows a j rs regs (Says says k) behind kept le f =
         subst (Follows w h low regs Next s (source.judged a (Says says k) s)) (sym (asked_runs a j rs k (Some says) regs f)) (says_follows a regs f.after says k le kept (same_less low (length rs) regs f.after behind f.same))
@@ -115,7 +108,7 @@ module _ (w : Setting) (n : ℕ) (low : ℕ) (bound : Bindings) (s : State) (t :
         let j = judgement w.unit bound c rs in
         subst (λ i. Follows w h low regs Next s (source.judged a (pred c s [] i) s) (runs w n t (asserted a j) regs)) b.steps
         (answer_follows a j rs regs (pred c s [] t.steps) behind kept (subst (λ i. steps_of (pred c s [] t.steps) ≤ i) b.steps (steps_pred c s [] t.steps))
-        (code_judges (judging regs) c rs (stands regs b.store_is anchored) (ranges_hold s bounded) r (predicate_found sight s.scope found c q) behind room))
+        (code_judges (asked regs) c rs (stands_anchored w n low bound s t regs b.store_is anchored) (ranges_hold s bounded) r (predicate_found sight s.scope found c q) behind room))
 
     assertion_follows : (sight : Sight) → AreFound sight.entities s.scope → (a : Annotation) → IsAssert a → ClauseTyped sight a.body → ClauseRanged a.body → (rs : List MonType) → low ≤ length rs
         → (regs : List Value) → length (behind_assertion w.unit bound rs a) ≤ length regs → IsKept w low s.marks regs → Anchored w low bound regs s.scope → Follows w h low regs Next s (check a s) (runs w n t (assertion w.unit bound rs a) regs)

@@ -10,7 +10,6 @@ pub mod RangedTrees
 pub mod Scenes
 pub mod FullExpressions
 pub mod FullForms
-pub mod Terms
 pub mod Asserts
 -- effects and initialisers
 pub mod Aims

@@ -1,16 +1,14 @@
 -- What is known of the functions that are called where a part of the program stands, and of its sizes, types and literals.
-use Rattle.std.proofs.Common.{◌≡◌, ℕ, Bool, true, false, cond, nat_eq, List, [], ◌∷◌, ◌++◌, Option, Some, None, refl, subst, sym}
-use Rattle.c_syntax.specs.declared.expression.Use.{Use}
-use Rattle.c_syntax.specs.Ctypes.{PlainType}
+use Rattle.std.proofs.Common.{◌≡◌, ℕ, Bool, true, false, cond, nat_eq, List, [], ◌∷◌, ◌++◌, Some, refl}
 use Rattle.c_syntax.specs.Statements.{Declaration, ForFirst, NoFirst, First, BlockItem, Declare, Specify, Run, Asserts}
 use Rattle.c_model.specs.State.{Scope, find}
 use Rattle.c_model.specs.Formed.{number_of}
-use Rattle.c_model.specs.ExpressionTyping.{Sight, Entity, AnObject, AnEnumerator, has_name, or_else, entity_named, inner, with_object, with_objects}
+use Rattle.c_model.specs.ExpressionTyping.{Sight, Entity, AnObject, AnEnumerator, inner, with_object, with_objects}
 use Rattle.c_model.specs.StatementTyping.{behind, behind_first}
-use Rattle.c_model.specs.TypedTrees.{Denotes}
 use Rattle.c_model.specs.UnitTyping.{with_parameter, with_parameters}
 use Rattle.c_simulation.specs.Standing.{Setting, Knows}
 pub use Rattle.c_simulation.specs.Calls.{Scene}
+pub use Rattle.annot_code.specs.Beside.{IsFound, EntityFound, AreFound}
 
 -- objects that come into sight change nothing of it
 pub knows_with : (w : Setting) (sight : Sight) (d : Declaration) → Knows w sight → Knows w (with_object sight d)
@@ -79,34 +77,10 @@ module _ (w : Setting) (n : ℕ) where
 
 -- ---- names in sight are found in the state's scope
 
-abbrev pub IsFound : Scope → ℕ → Type 0
-IsFound scope x = (number : ℕ) × (find x scope ≡ Some number)
-
-abbrev pub EntityFound : Scope → Entity → Type 0
-EntityFound scope (AnObject b) = IsFound scope b.decl
-EntityFound scope (AnEnumerator c) = Unit {0}
-
-abbrev pub AreFound : List Entity → Scope → Type 0
-AreFound [] scope = Unit {0}
-AreFound (b ∷ bs) scope = EntityFound scope b × AreFound bs scope
-
--- the same of what is declared
+-- objects that are declared have blocks
 abbrev pub DeclarationsFound : List Declaration → Scope → Type 0
 DeclarationsFound [] scope = Unit {0}
 DeclarationsFound (d ∷ ds) scope = IsFound scope (number_of d) × DeclarationsFound ds scope
-
-pub found_named : (x : ℕ) (entities : List Entity) (b : Entity) (scope : Scope) → AreFound entities scope → entity_named x entities ≡ Some b → EntityFound scope b
-found_named x [] b scope h e = absurd cc
-found_named x (o ∷ entities) b scope h e = by (entity_named x entities) (λ f. found_named x entities b scope h.1 f) (has_name x o) e
-  where
-    by : (r : Option Entity) → (r ≡ Some b → EntityFound scope b) → (t : Bool) → or_else r (cond t (Some o) None) ≡ Some b → EntityFound scope b
-    by (Some c) go t f = go f
-    by None go true f = let same : o ≡ b = cc in subst (EntityFound scope) same h.0
-    by None go false f = absurd cc
-
--- a name that is denoted
-pub denoted_found : (s : Sight) (scope : Scope) (x : Use) (t : PlainType) → AreFound s.entities scope → Denotes s x t → IsFound scope x.decl
-denoted_found s scope x t h d = subst (IsFound scope) (sym d.decl) (found_named x.name s.entities (AnObject d.object) scope h d.found)
 
 pub found_end : (entities : List Entity) (b : Entity) (scope : Scope) → AreFound entities scope → EntityFound scope b → AreFound (entities ++ b ∷ []) scope
 found_end [] b scope h i = (i, tt)

@@ -1,0 +1,66 @@
+-- Ours: what the code of a predicate asks for (`Does`) holds where monitored C stands beside a state of the source, as it does all along a translation.
+use Rattle.std.specs.Prelude.{◌≡◌, ℕ, List, [], ◌∷◌, Some}
+use Rattle.c_syntax.specs.Logic.{Predicate}
+use Rattle.c_syntax.specs.Programs.{TranslationUnit}
+use Rattle.c_model.specs.ExpressionTyping.{Entity, AnObject, AnEnumerator, Sight}
+use Rattle.c_model.specs.JudgedStates.{Judgement, names_with}
+use Rattle.c_model.specs.Logic.{Environment}
+use Rattle.c_model.specs.Memory.{Value}
+use Rattle.c_model.specs.SoundJudgements.{IsSoundJudgement}
+use Rattle.c_model.specs.State.{Scope, State, find}
+use Rattle.c_model.specs.TermRanges.{Seen}
+use Rattle.c_model.specs.TypedPredicates.{PredicateTyped}
+use Rattle.mon_syntax.specs.Registers.{Bindings}
+use Rattle.interval_infer.specs.Judged.{seen_with}
+use Rattle.c_simulation.specs.Standing as call
+use Rattle.c_simulation.specs.Standing.{Beside, Here, Standing}
+use Rattle.annot_code.specs.Does.{PredicateFound, RangesHold, Setting, Stands, Target}
+
+-- where code judges in a call: in this state of the source and of monitored C, with what names of annotations stand for and the ranges that they keep
+abbrev pub judging : call.Setting → ℕ → ℕ → Bindings → Environment → Seen → State → Target → List Value → Setting
+judging w turns low bound names seen now target regs = record {
+  unit = w.unit;
+  bound = bound;
+  low = low;
+  globals = w.globals;
+  calls = w.calls;
+  turns = turns;
+  now = now;
+  names = names;
+  seen = seen;
+  target = target;
+  regs = regs;
+}
+
+-- monitored C stands there as the code asks
+abbrev pub StandingStands : Type 0
+StandingStands = (w : call.Setting) (h : Here) (turns low : ℕ) (bound : Bindings) (names : Environment) (seen : Seen) (now : State) (target : Target)
+    (regs : List Value) → Standing w h low bound regs now → Beside w now.store now target → Stands (judging w turns low bound names seen now target regs)
+
+-- terms have values of their ranges there, without names of annotations
+abbrev pub StandingKeepsRanges : Type 0
+StandingKeepsRanges = (w : call.Setting) (h : Here) (low : ℕ) (bound : Bindings) (now : State) (regs : List Value) → Standing w h low bound regs now
+    → RangesHold [] now []
+
+-- and so they have wherever an annotation is judged soundly, with `\result` where there is one: in each run of a program of an accepted text
+abbrev pub SoundJudgementsKeepRanges : Type 0
+SoundJudgementsKeepRanges = (p : TranslationUnit) (j : Judgement) → IsSoundJudgement p j → RangesHold (seen_with j.result) j.state (names_with j.result)
+
+-- ---- variables
+
+-- an object has a block
+abbrev pub IsFound : Scope → ℕ → Type 0
+IsFound scope x = (number : ℕ) × (find x scope ≡ Some number)
+
+abbrev pub EntityFound : Scope → Entity → Type 0
+EntityFound scope (AnObject b) = IsFound scope b.decl
+EntityFound scope (AnEnumerator c) = Unit {0}
+
+-- so has each one in sight
+abbrev pub AreFound : List Entity → Scope → Type 0
+AreFound [] scope = Unit {0}
+AreFound (b ∷ bs) scope = EntityFound scope b × AreFound bs scope
+
+-- then a predicate that is typed where they are in sight reads variables of integers alone, each of which has a block
+abbrev pub TypedPredicatesAreFound : Type 0
+TypedPredicatesAreFound = (s : Sight) (scope : Scope) → AreFound s.entities scope → (p : Predicate) → PredicateTyped s p → PredicateFound scope p
