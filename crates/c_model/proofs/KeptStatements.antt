@@ -1,29 +1,33 @@
 -- Typing keeps the forms of declarations, statements and functions: effects stay where they may stand, and statements are as deep.
-use Rattle.std.proofs.Common.{◌≡◌, suc, ◌+◌, ◌≤◌, max, List, [], ◌∷◌, Option, Some, None, Bool, true, false, not, ◌&&◌, if◌then◌else◌, cond, refl, sym, ap, ◌∙◌, subst}
+use Rattle.std.proofs.Common.{◌≡◌, ℤ, suc, ◌+◌, ◌≤◌, max, List, [], ◌∷◌, Option, Some, None, Bool, true, false, not, ◌&&◌, if◌then◌else◌, cond, refl, sym, ap, ◌∙◌, subst}
 use Rattle.c_syntax.specs.declared.place.Place.{Place}
-use Rattle.c_syntax.specs.Ctypes.{PlainType}
-use Rattle.c_syntax.specs.Expressions.{Expression, type_of}
+use Rattle.c_syntax.specs.declared.types.CInt.{CInt}
+use Rattle.c_syntax.specs.Ctypes.{PlainType, Int}
+use Rattle.c_syntax.specs.Expressions.{Expression, place_of, type_of}
 use Rattle.c_syntax.specs.Statements.{Initialiser, One, Many, Initialisers, NoInitialiser, Listed, Declaration, Statement, Empty, Eval, Block, If, While, Do}
-use Rattle.c_syntax.specs.Statements.{For, Break, Continue, Return, Labelled, Switch}
+use Rattle.c_syntax.specs.Statements.{For, Break, Continue, Return, Labelled, Switch, Cases, NoCase, AnotherCase}
 use Rattle.c_syntax.specs.Statements.{ElsePart, NoElse, Else, ForFirst, NoFirst, First, BlockItem, Declare, Specify, Run, Asserts, BlockItems, NoItem, Then}
 use Rattle.c_syntax.specs.Programs.{Function, TranslationUnit}
+use Rattle.c_model.specs.Conversions.{promoted}
+use Rattle.c_model.specs.Integers.{integer_type}
 use Rattle.c_model.specs.Meaning.{string_in, is_definition}
 use Rattle.c_model.specs.Library.{is_there}
 use Rattle.c_model.specs.Checked.{Checked, Good, Bad, one_part, both_parts, where_so}
 use Rattle.c_model.specs.ExpressionGrammar.{most_nested}
-use Rattle.c_model.specs.ExpressionTyping.{no_type, Sight, with_object, with_objects, inner, is_void, is_scalar, decayed, in_type, is_assigned, decayed_of, typed, typed_type, declared_here}
+use Rattle.c_model.specs.ExpressionTyping.{no_type, Sight, with_object, with_objects, inner, is_void, is_scalar, decayed, in_int, in_type, is_assigned, decayed_of, typed, typed_type, declared_here}
 use Rattle.c_model.specs.DeclarationTyping.{takes_text, initial_value, typed_initialiser, typed_maybe_initialiser, is_anything, is_static, own_name, typed_object_type, typed_variable, typed_global, is_declared_in_file}
-use Rattle.c_model.specs.StatementTyping.{Around, in_loop, behind, behind_first, condition, typed_condition, typed_maybe, returned, typed_declarations, typed_statement, typed_else, typed_first, typed_item, typed_items}
+use Rattle.c_model.specs.StatementTyping.{Around, in_loop, in_switch, controlling, case_value, case_number, typed_cases, behind, behind_first, condition, typed_condition, typed_maybe, returned, typed_declarations, typed_statement}
+use Rattle.c_model.specs.StatementTyping.{typed_else, typed_first, typed_item, typed_items}
 use Rattle.c_model.specs.UnitTyping.{with_function, with_parameter, with_parameters, function_name, typed_parameters, typed_heading, typed_body, typed_function}
 use Rattle.c_model.specs.TypedTrees.{WhereAny, IsResult}
 use Rattle.c_model.specs.TypedReadings.{InBraces, WithoutBraces, InitialiserTypedAs, InitialisersTypedAs, AloneTypedAs, MaybeInitialiserTypedAs}
 use Rattle.c_model.specs.TextTypingLaws.{IsWholeSight}
-use Rattle.c_model.specs.Formed.{AreReadAsserts, depth, depth_of_else, depth_of_item, depth_of_items}
+use Rattle.c_model.specs.Formed.{AreReadAsserts, depth, depth_of_cases, depth_of_else, depth_of_item, depth_of_items}
 use Rattle.c_model.specs.Pure.{IsPure, IsPureOrCall, IsEffect, IsEffectOrCall, IsPureInitialiser, ArePureInitialisers, IsInitialiser, HasBareCall}
-use Rattle.c_model.specs.FullExpressions.{EachInitial, EachInDeclaration, EachDeclared, EachIn, EachInElse, EachInFirst, EachInItem, EachInItems, EachInBody}
-use Rattle.c_model.specs.EffectPlaces.{ArePlaced, FirstPlaced, StatementPlaced, ElsePlaced, ItemPlaced, ItemsPlaced}
+use Rattle.c_model.specs.FullExpressions.{EachInitial, EachInDeclaration, EachDeclared, EachIn, EachInCases, EachInElse, EachInFirst, EachInItem, EachInItems, EachInBody}
+use Rattle.c_model.specs.EffectPlaces.{ArePlaced, FirstPlaced, IsNoDeclaration, DeclareNothing, StatementPlaced, CasesPlaced, ElsePlaced, ItemPlaced, ItemsPlaced}
 use Rattle.c_model.specs.ReadTree.{BodyRead, FunctionRead}
-use Rattle.c_model.proofs.TypedParts.{Gives, gives_one, gives_where}
+use Rattle.c_model.proofs.TypedParts.{Gives, gives_given, gives_one, gives_where}
 use Rattle.c_model.proofs.TypedDeclarations.{anything}
 use Rattle.c_model.proofs.TypedHeadings.{gives_heading}
 use Rattle.c_model.proofs.TypedFunctions.{result_is, after_function}
@@ -135,6 +139,11 @@ returned_kept : (s : Sight) (at : Place) (t : PlainType) (o : Option Expression)
 returned_kept s at t None h = gives_where (λ a. StatementPlaced AreReadAsserts a × (depth a ≡ 1)) (is_void t) _ _ (λ e. (tt, refl))
 returned_kept s at t (Some e) h = gives_where (λ a. StatementPlaced AreReadAsserts a × (depth a ≡ 1)) (not (is_void t) && is_assigned s e t) _ _ (λ c. (bare_in_type t e h, refl))
 
+controlling_kept : (s : Sight) → SeesResults s → (e : Expression) → IsPureOrCall e → HasBareCall e → Gives (λ (x : CInt × Expression). IsPureOrCall x.1) (one_part (decayed_of (typed s e)) controlling)
+controlling_kept s known e p h =
+    gives_one IsBare (λ (x : CInt × Expression). IsPureOrCall x.1) (decayed_of (typed s e)) controlling (value_bare s known e (bare_read e p h)) (λ x f.
+    gives_given (λ (x : CInt × Expression). IsPureOrCall x.1) (integer_type (type_of x)) (no_type (place_of x)) (λ k. Good (promoted k, in_int (promoted k) x)) (λ k is. bare_in_type (Int (promoted k)) x f))
+
 -- ---- statements
 
 -- b has the form of a
@@ -149,10 +158,16 @@ record IsElseKept (a b : ElsePart) : Type 0 where
 record IsItemKept (a b : BlockItem) : Type 0 where
   placed : ItemPlaced AreReadAsserts b
   deep : depth_of_item b ≡ depth_of_item a
+  none : IsNoDeclaration a → IsNoDeclaration b
 
 record AreKept (a b : BlockItems) : Type 0 where
   placed : ItemsPlaced AreReadAsserts b
   deep : depth_of_items b ≡ depth_of_items a
+  none : DeclareNothing a → DeclareNothing b
+
+record AreCasesKept (a b : Cases) : Type 0 where
+  placed : CasesPlaced AreReadAsserts b
+  deep : depth_of_cases b ≡ depth_of_cases a
 
 first_kept : (s : Sight) → SeesResults s → (r : Around) (first : ForFirst) → FirstPlaced first → EachInFirst HasBareCall first → Gives FirstPlaced (typed_first s r first)
 first_kept s known r NoFirst p h = tt
@@ -202,7 +217,11 @@ mutual
   statement_kept s known r (Break at) p h = gives_where (IsKept (Break at)) r.breaks (no_type at) (Good (Break at)) (λ e. record { placed = tt; deep = refl })
   statement_kept s known r (Continue at) p h = gives_where (IsKept (Continue at)) r.loops (no_type at) (Good (Continue at)) (λ e. record { placed = tt; deep = refl })
   statement_kept s known r (Labelled at l a) p h = absurd p
-  statement_kept s known r (Switch at e cases) p h = absurd p
+  statement_kept s known r (Switch at e cases) p h =
+      gives_one (λ (x : CInt × Expression). IsPureOrCall x.1) (IsKept (Switch at e cases)) (one_part (decayed_of (typed s e)) controlling)
+      (λ x. one_part (typed_cases s (in_switch r) x.0 [] false cases) (λ cases. Good (Switch at x.1 cases))) (controlling_kept s known e p.0 h.0) (λ x f.
+      gives_one (AreCasesKept cases) (IsKept (Switch at e cases)) (typed_cases s (in_switch r) x.0 [] false cases) (λ cases. Good (Switch at x.1 cases)) (cases_kept s known (in_switch r) x.0 [] false cases p.1 h.1) (λ y g.
+      record { placed = (f, g.placed); deep = ap (λ n. 1 + n) g.deep }))
   statement_kept s known r (Return at e) p h =
       gives_one (WhereAny IsBare) (IsKept (Return at e)) (typed_maybe (λ e. decayed_of (typed s e)) e) (returned s at r.result)
       (maybe_kept IsPureOrCall HasBareCall IsBare (λ e. decayed_of (typed s e)) (λ x q b. value_bare s known x (bare_read x q b)) e p h) (λ o f. by (returned s at r.result o) (returned_kept s at r.result o f))
@@ -211,22 +230,39 @@ mutual
       by (Good a) k = record { placed = k.0; deep = k.1 }
       by (Bad f fs) k = tt
 
+  cases_kept : (s : Sight) → SeesResults s → (r : Around) (k : CInt) (used : List ℤ) (has_default : Bool) (cs : Cases) → CasesPlaced AreReadAsserts cs → EachInCases HasBareCall cs → Gives (AreCasesKept cs) (typed_cases s r k used has_default cs)
+  cases_kept s known r k used has_default NoCase p h = record { placed = tt; deep = refl }
+  cases_kept s known r k used has_default (AnotherCase at None items rest) p h =
+      gives_where (AreCasesKept (AnotherCase at None items rest)) (not has_default) _ _ (λ t.
+      gives_one (AreKept items) (AreCasesKept (AnotherCase at None items rest)) (typed_items s r items)
+      (λ items. one_part (typed_cases s r k used true rest) (λ rest. Good (AnotherCase at None items rest))) (items_kept s known r items p.1 h.0) (λ x f.
+      gives_one (AreCasesKept rest) (AreCasesKept (AnotherCase at None items rest)) (typed_cases s r k used true rest) (λ rest. Good (AnotherCase at None x rest)) (cases_kept s known r k used true rest p.2 h.1) (λ y g.
+      record { placed = (f.none p.0, f.placed, g.placed); deep = λ i. max (f.deep i) (g.deep i) })))
+  cases_kept s known r k used has_default (AnotherCase at (Some e) items rest) p h =
+      gives_one (λ z. Unit {0}) (AreCasesKept (AnotherCase at (Some e) items rest)) (case_value s k used e)
+      (λ z. one_part (typed_items s r items) (λ items. one_part (typed_cases s r k (z ∷ used) has_default rest) (λ rest. Good (AnotherCase at (Some (case_number k (place_of e) z)) items rest)))) (anything (case_value s k used e)) (λ z u.
+      gives_one (AreKept items) (AreCasesKept (AnotherCase at (Some e) items rest)) (typed_items s r items)
+      (λ items. one_part (typed_cases s r k (z ∷ used) has_default rest) (λ rest. Good (AnotherCase at (Some (case_number k (place_of e) z)) items rest))) (items_kept s known r items p.1 h.0) (λ x f.
+      gives_one (AreCasesKept rest) (AreCasesKept (AnotherCase at (Some e) items rest)) (typed_cases s r k (z ∷ used) has_default rest) (λ rest. Good (AnotherCase at (Some (case_number k (place_of e) z)) x rest))
+      (cases_kept s known r k (z ∷ used) has_default rest p.2 h.1) (λ y g.
+      record { placed = (f.none p.0, f.placed, g.placed); deep = λ i. max (f.deep i) (g.deep i) })))
+
   else_kept : (s : Sight) → SeesResults s → (r : Around) (b : ElsePart) → ElsePlaced AreReadAsserts b → EachInElse HasBareCall b → Gives (IsElseKept b) (typed_else s r b)
   else_kept s known r NoElse p h = record { placed = tt; deep = refl }
   else_kept s known r (Else a) p h = gives_one (IsKept a) (IsElseKept (Else a)) (typed_statement s r a) (λ a. Good (Else a)) (statement_kept s known r a p h) (λ x k. record { placed = k.placed; deep = k.deep })
 
   item_kept : (s : Sight) → SeesResults s → (r : Around) (i : BlockItem) → ItemPlaced AreReadAsserts i → EachInItem HasBareCall i → Gives (IsItemKept i) (typed_item s r i)
-  item_kept s known r (Declare ds) p h = gives_one ArePlaced (IsItemKept (Declare ds)) (typed_declarations s ds) (λ ds. Good (Declare ds)) (declarations_kept s known ds p h) (λ xs k. record { placed = k; deep = refl })
-  item_kept s known r (Specify at t) p h = gives_one (λ u. Unit {0}) (IsItemKept (Specify at t)) (typed_type s at t) (λ u. Good (Specify at u)) (anything (typed_type s at t)) (λ u v. record { placed = tt; deep = refl })
-  item_kept s known r (Run a) p h = gives_one (IsKept a) (IsItemKept (Run a)) (typed_statement s r a) (λ a. Good (Run a)) (statement_kept s known r a p h) (λ x k. record { placed = k.placed; deep = k.deep })
-  item_kept s known r (Asserts annots) p h = record { placed = p; deep = refl }
+  item_kept s known r (Declare ds) p h = gives_one ArePlaced (IsItemKept (Declare ds)) (typed_declarations s ds) (λ ds. Good (Declare ds)) (declarations_kept s known ds p h) (λ xs k. record { placed = k; deep = refl; none = λ h. h })
+  item_kept s known r (Specify at t) p h = gives_one (λ u. Unit {0}) (IsItemKept (Specify at t)) (typed_type s at t) (λ u. Good (Specify at u)) (anything (typed_type s at t)) (λ u v. record { placed = tt; deep = refl; none = λ h. h })
+  item_kept s known r (Run a) p h = gives_one (IsKept a) (IsItemKept (Run a)) (typed_statement s r a) (λ a. Good (Run a)) (statement_kept s known r a p h) (λ x k. record { placed = k.placed; deep = k.deep; none = λ h. h })
+  item_kept s known r (Asserts annots) p h = record { placed = p; deep = refl; none = λ h. h }
 
   items_kept : (s : Sight) → SeesResults s → (r : Around) (is : BlockItems) → ItemsPlaced AreReadAsserts is → EachInItems HasBareCall is → Gives (AreKept is) (typed_items s r is)
-  items_kept s known r NoItem p h = record { placed = tt; deep = refl }
+  items_kept s known r NoItem p h = record { placed = tt; deep = refl; none = λ h. h }
   items_kept s known r (Then i rest) p h =
       gives_one (IsItemKept i) (AreKept (Then i rest)) (typed_item s r i) (λ i. one_part (typed_items (behind s i) r rest) (λ rest. Good (Then i rest))) (item_kept s known r i p.0 h.0) (λ x f.
       gives_one (AreKept rest) (AreKept (Then i rest)) (typed_items (behind s x) r rest) (λ rest. Good (Then x rest)) (items_kept (behind s x) (results_behind s x known) r rest p.1 h.1) (λ y g.
-      record { placed = (f.placed, g.placed); deep = λ i. max (f.deep i) (g.deep i) }))
+      record { placed = (f.placed, g.placed); deep = λ i. max (f.deep i) (g.deep i); none = λ h. (f.none h.0, g.none h.1) }))
 
 -- ---- functions
 

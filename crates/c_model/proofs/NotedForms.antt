@@ -17,7 +17,7 @@ use Rattle.c_model.specs.PredicateTyping.{typed_annotations}
 use Rattle.c_model.specs.AnnotationTyping.{noted_statement, noted_else, noted_item, noted_items, noted_body}
 use Rattle.c_model.specs.Formed.{AreAsserts, AreReadAsserts, depth, depth_of_else, depth_of_item, depth_of_items, declared_within, declared_in_else, declared_in_first, declared_in_item, declared_in_items, declared_in_body}
 use Rattle.c_model.specs.FullExpressions.{EachIn, EachInElse, EachInItem, EachInItems, EachInBody}
-use Rattle.c_model.specs.EffectPlaces.{StatementPlaced, ElsePlaced, ItemPlaced, ItemsPlaced}
+use Rattle.c_model.specs.EffectPlaces.{IsNoDeclaration, DeclareNothing, StatementPlaced, CasesPlaced, ElsePlaced, ItemPlaced, ItemsPlaced}
 use Rattle.c_model.specs.ExpressionGrammar.{most_nested}
 use Rattle.c_model.specs.ReadTree.{BodyRead}
 use Rattle.c_model.specs.FileItems.{SeesValues}
@@ -81,17 +81,20 @@ module _ (P : Expression → Type 0) where
     each : EachInItem P a → EachInItem P b
     placed : SeesValues s → ItemPlaced AreReadAsserts a → ItemPlaced AreAsserts b
     sight : behind s b ≡ behind s a
+    none : IsNoDeclaration a → IsNoDeclaration b
 
   record AreKept (s : Sight) (a b : BlockItems) : Type 0 where
     deep : depth_of_items b ≡ depth_of_items a
     declares : declared_in_items b ≡ declared_in_items a
     each : EachInItems P a → EachInItems P b
     placed : SeesValues s → ItemsPlaced AreReadAsserts a → ItemsPlaced AreAsserts b
+    none : DeclareNothing a → DeclareNothing b
 
   record AreCasesKept (s : Sight) (a b : Cases) : Type 0 where
     deep : depth_of_cases b ≡ depth_of_cases a
     declares : declared_in_cases b ≡ declared_in_cases a
     each : EachInCases P a → EachInCases P b
+    placed : SeesValues s → CasesPlaced AreReadAsserts a → CasesPlaced AreAsserts b
 
   mutual
     statement_kept : (s : Sight) (a : Statement) → Gives (IsKept s a) (noted_statement s a)
@@ -134,16 +137,17 @@ module _ (P : Expression → Type 0) where
         (λ x p. record { deep = ap (λ n. 1 + n) p.deep; declares = p.declares; each = p.each; placed = λ k h. absurd h })
     statement_kept s (Switch at e cases) =
         gives_one (AreCasesKept s cases) (IsKept s (Switch at e cases)) (noted_cases s cases) (λ x. Good (Switch at e x)) (cases_kept s cases)
-        (λ x p. record { deep = ap (λ n. 1 + n) p.deep; declares = p.declares; each = λ h. (h.0, p.each h.1); placed = λ k h. absurd h })
+        (λ x p. record { deep = ap (λ n. 1 + n) p.deep; declares = p.declares; each = λ h. (h.0, p.each h.1); placed = λ k h. (h.0, p.placed k h.1) })
 
     cases_kept : (s : Sight) (cases : Cases) → Gives (AreCasesKept s cases) (noted_cases s cases)
-    cases_kept s NoCase = record { deep = refl; declares = refl; each = λ h. h }
+    cases_kept s NoCase = record { deep = refl; declares = refl; each = λ h. h; placed = λ k h. h }
     cases_kept s (AnotherCase at v items rest) =
         gives_one (AreKept s items) (AreCasesKept s (AnotherCase at v items rest)) (noted_items s items) (λ x. one_part (noted_cases s rest) (λ y. Good (AnotherCase at v x y))) (items_kept s items) (λ x p.
         gives_one (AreCasesKept s rest) (AreCasesKept s (AnotherCase at v items rest)) (noted_cases s rest) (λ y. Good (AnotherCase at v x y)) (cases_kept s rest) (λ y q. record {
           deep = λ k. max (p.deep k) (q.deep k);
           declares = λ k. p.declares k ++ q.declares k;
           each = λ h. (p.each h.0, q.each h.1);
+          placed = λ k h. (p.none h.0, p.placed k h.1, q.placed k h.2);
         }))
 
     else_kept : (s : Sight) (b : ElsePart) → Gives (IsElseKept s b) (noted_else s b)
@@ -151,15 +155,15 @@ module _ (P : Expression → Type 0) where
     else_kept s (Else a) = gives_one (IsKept s a) (IsElseKept s (Else a)) (noted_statement s a) (λ x. Good (Else x)) (statement_kept s a) (λ x p. record { deep = p.deep; declares = p.declares; each = p.each; placed = p.placed })
 
     item_kept : (s : Sight) (i : BlockItem) → Gives (IsItemKept s i) (noted_item s i)
-    item_kept s (Declare ds) = record { deep = refl; declares = refl; each = λ h. h; placed = λ k h. h; sight = refl }
+    item_kept s (Declare ds) = record { deep = refl; declares = refl; each = λ h. h; placed = λ k h. h; sight = refl; none = λ h. h }
     item_kept s (Run a) =
-        gives_one (IsKept s a) (IsItemKept s (Run a)) (noted_statement s a) (λ x. Good (Run x)) (statement_kept s a) (λ x p. record { deep = p.deep; declares = p.declares; each = p.each; placed = p.placed; sight = refl })
-    item_kept s (Specify at t) = record { deep = refl; declares = refl; each = λ h. h; placed = λ k h. h; sight = refl }
+        gives_one (IsKept s a) (IsItemKept s (Run a)) (noted_statement s a) (λ x. Good (Run x)) (statement_kept s a) (λ x p. record { deep = p.deep; declares = p.declares; each = p.each; placed = p.placed; sight = refl; none = λ h. h })
+    item_kept s (Specify at t) = record { deep = refl; declares = refl; each = λ h. h; placed = λ k h. h; sight = refl; none = λ h. h }
     item_kept s (Asserts annots) = gives_one (AreSameNotes s annots) (IsItemKept s (Asserts annots)) (typed_annotations s annots) (λ x. Good (Asserts x)) (annotations_kept s annots)
-        (λ x p. record { deep = refl; declares = refl; each = λ h. h; placed = p.asserts; sight = refl })
+        (λ x p. record { deep = refl; declares = refl; each = λ h. h; placed = p.asserts; sight = refl; none = λ h. h })
 
     items_kept : (s : Sight) (is : BlockItems) → Gives (AreKept s is) (noted_items s is)
-    items_kept s NoItem = record { deep = refl; declares = refl; each = λ h. h; placed = λ k h. h }
+    items_kept s NoItem = record { deep = refl; declares = refl; each = λ h. h; placed = λ k h. h; none = λ h. h }
     items_kept s (Then i rest) =
         gives_one (IsItemKept s i) (AreKept s (Then i rest)) (noted_item s i) (λ x. one_part (noted_items (behind s x) rest) (λ xs. Good (Then x xs))) (item_kept s i) (λ x p.
         gives_one (AreKept (behind s x) rest) (AreKept s (Then i rest)) (noted_items (behind s x) rest) (λ xs. Good (Then x xs)) (items_kept (behind s x) rest) (λ xs q. record {
@@ -167,6 +171,7 @@ module _ (P : Expression → Type 0) where
           declares = λ k. p.declares k ++ q.declares k;
           each = λ h. (p.each h.0, q.each h.1);
           placed = λ k h. (p.placed k h.0, q.placed (subst SeesValues (sym p.sight) (values_behind s i k)) h.1);
+          none = λ h. (p.none h.0, q.none h.1);
         }))
 
   -- ---- bodies

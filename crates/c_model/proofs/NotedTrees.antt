@@ -19,9 +19,9 @@ use Rattle.c_model.specs.PredicateTyping.{typed_annotations}
 use Rattle.c_model.specs.AnnotationTyping.{noted_statement, noted_else, noted_item, noted_items, noted_body, known_before, known_at, noted_function, noted_functions, noted_unit}
 use Rattle.c_model.specs.TypedTrees.{StatementTyped, ElseTyped, ItemTyped, ItemsTyped, around_body, BodyTyped, FunctionTyped}
 use Rattle.c_model.specs.TypedPredicates.{AnnotationsTyped, IsRead, AreRead}
-use Rattle.c_model.specs.TypedAnnotations.{StatementNoted, ElseNoted, ItemNoted, ItemsNoted, BodyNoted, FunctionNoted, FunctionsNoted}
+use Rattle.c_model.specs.TypedAnnotations.{StatementNoted, CasesNoted, ElseNoted, ItemNoted, ItemsNoted, BodyNoted, FunctionNoted, FunctionsNoted}
 use Rattle.c_model.specs.Formed.{IsShortReading, AreReadAsserts}
-use Rattle.c_model.specs.EffectPlaces.{StatementPlaced, ElsePlaced, ItemPlaced, ItemsPlaced}
+use Rattle.c_model.specs.EffectPlaces.{StatementPlaced, CasesPlaced, ElsePlaced, ItemPlaced, ItemsPlaced}
 use Rattle.c_model.specs.ReadTree.{BodyRead, FunctionRead, FunctionsRead, functions_among}
 use Rattle.c_model.proofs.TypedParts.{Gives, gives_of, gives_one, gives_if}
 use Rattle.c_model.proofs.PredicateTrees.{annotations_well}
@@ -70,6 +70,7 @@ record AreNoted (s : Sight) (a b : BlockItems) : Type 0 where
   kept : (u : Sight) (r : Around) → ItemsTyped u r a → ItemsTyped u r b
 
 record AreCasesNoted (s : Sight) (a b : Cases) : Type 0 where
+  noted : CasesPlaced AreReadAsserts a → CasesNoted s b
   kept : (u : Sight) (r : Around) (k : CInt) → CasesTyped u r k a → CasesTyped u r k b
 
 mutual
@@ -101,14 +102,14 @@ mutual
       gives_one (IsNoted s a) (IsNoted s (Labelled at l a)) (noted_statement s a) (λ a. Good (Labelled at l a)) (statement_noted s a) (λ c w. record { noted = λ p. absurd p; kept = w.kept })
   statement_noted s (Switch at e cases) =
       gives_one (AreCasesNoted s cases) (IsNoted s (Switch at e cases)) (noted_cases s cases) (λ x. Good (Switch at e x)) (cases_noted s cases) (λ x w.
-      record { noted = λ p. absurd p; kept = λ u r h. (h.0, h.1, h.2, w.kept u (in_switch r) (promoted h.0) h.3) })
+      record { noted = λ p. w.noted p.1; kept = λ u r h. (h.0, h.1, h.2, w.kept u (in_switch r) (promoted h.0) h.3) })
 
   cases_noted : (s : Sight) (cases : Cases) → Gives (AreCasesNoted s cases) (noted_cases s cases)
-  cases_noted s NoCase = record { kept = λ u r k w. w }
+  cases_noted s NoCase = record { noted = λ p. tt; kept = λ u r k w. w }
   cases_noted s (AnotherCase at v items rest) =
       gives_one (AreNoted s items) (AreCasesNoted s (AnotherCase at v items rest)) (noted_items s items) (λ x. one_part (noted_cases s rest) (λ y. Good (AnotherCase at v x y))) (items_noted s items) (λ x p.
       gives_one (AreCasesNoted s rest) (AreCasesNoted s (AnotherCase at v items rest)) (noted_cases s rest) (λ y. Good (AnotherCase at v x y)) (cases_noted s rest) (λ y q.
-      record { kept = λ u r k h. (h.0, p.kept u r h.1, q.kept u r k h.2) }))
+      record { noted = λ h. (p.noted h.1, q.noted h.2); kept = λ u r k h. (h.0, p.kept u r h.1, q.kept u r k h.2) }))
 
   else_noted : (s : Sight) (b : ElsePart) → Gives (IsElseNoted s b) (noted_else s b)
   else_noted s NoElse = record { noted = λ p. tt; kept = λ u r w. w }

@@ -26,7 +26,7 @@ use Rattle.c_model.specs.TypedTrees.{WellTyped, WhereAny, IsCondition, FirstType
 use Rattle.c_model.specs.TypedAnnotations.{StatementNoted, ElseNoted, ItemNoted, ItemsNoted}
 use Rattle.c_model.specs.Formed.{AreAsserts, depth, depth_of_else, depth_of_item, depth_of_items, declared_within, declared_in_else, declared_in_first, declared_in_item, declared_in_items}
 use Rattle.c_model.specs.FullExpressions.{EachIn, EachInElse, EachInFirst, EachInItem, EachInItems}
-use Rattle.c_model.specs.EffectPlaces.{StatementPlaced, ElsePlaced, ItemPlaced, ItemsPlaced}
+use Rattle.c_model.specs.EffectPlaces.{DeclareNothing, StatementPlaced, CasesPlaced, ElsePlaced, ItemPlaced, ItemsPlaced}
 use Rattle.c_model.specs.UnrangedPrograms.{unranged_statement, unranged_else, unranged_item, unranged_items}
 use Rattle.c_model.proofs.UnrangedTerms.{Alike, itself, beside, annotations_typed, are_asserts, are_none, same_checks, same_invariants, same_turn}
 
@@ -210,6 +210,13 @@ mutual
 
 -- ---- places of effects
 
+no_declaration : (xs : BlockItems) → Alike (DeclareNothing (unranged_items xs)) (DeclareNothing xs)
+no_declaration NoItem = itself
+no_declaration (Then (Declare ds) rest) = beside itself (no_declaration rest)
+no_declaration (Then (Specify at t) rest) = beside itself (no_declaration rest)
+no_declaration (Then (Run a) rest) = beside itself (no_declaration rest)
+no_declaration (Then (Asserts annots) rest) = beside itself (no_declaration rest)
+
 mutual
   statement_placed : (a : Statement) → Alike (StatementPlaced AreAsserts (unranged_statement a)) (StatementPlaced AreAsserts a)
   statement_placed (Empty at) = itself
@@ -232,7 +239,14 @@ mutual
   statement_placed (Continue at) = itself
   statement_placed (Return at e) = itself
   statement_placed (Labelled at l a) = itself
-  statement_placed (Switch at e cases) = itself
+  statement_placed (Switch at e cases) = record { to = λ h. (h.0, (cases_placed cases).to h.1); from = λ h. (h.0, (cases_placed cases).from h.1) }
+
+  cases_placed : (cs : Cases) → Alike (CasesPlaced AreAsserts (unranged_cases cs)) (CasesPlaced AreAsserts cs)
+  cases_placed NoCase = itself
+  cases_placed (AnotherCase at v items rest) = record {
+    to = λ h. ((no_declaration items).to h.0, (items_placed items).to h.1, (cases_placed rest).to h.2);
+    from = λ h. ((no_declaration items).from h.0, (items_placed items).from h.1, (cases_placed rest).from h.2);
+  }
 
   else_placed : (b : ElsePart) → Alike (ElsePlaced AreAsserts (unranged_else b)) (ElsePlaced AreAsserts b)
   else_placed NoElse = itself

@@ -2,7 +2,7 @@
 use Rattle.std.specs.Prelude.{◌≡◌, List, [], ◌∷◌}
 use Rattle.c_syntax.specs.Logic.{Annotation}
 use Rattle.c_syntax.specs.Statements.{Declaration, Statement, Empty, Eval, Block, If, While, Do, For, Break, Continue, Return, Labelled, ElsePart, NoElse}
-use Rattle.c_syntax.specs.Statements.{Else, Switch}
+use Rattle.c_syntax.specs.Statements.{Else, Switch, Cases, NoCase, AnotherCase}
 use Rattle.c_syntax.specs.Statements.{ForFirst, NoFirst, First, BlockItem, Declare, Specify, Run, Asserts, BlockItems, NoItem, Then}
 use Rattle.c_model.specs.Pure.{IsPure, IsPureOrCall, IsEffect, IsEffectOrCall, IsInitialiser}
 use Rattle.c_model.specs.TypedTrees.{WhereAny}
@@ -17,6 +17,16 @@ FirstPlaced (First (Run (Eval at e))) = IsEffectOrCall e
 FirstPlaced (First (Declare ds)) = ArePlaced ds
 FirstPlaced (First (Specify at t)) = Unit {0}
 FirstPlaced _ = ⊥
+
+abbrev pub IsNoDeclaration : BlockItem → Type 0
+IsNoDeclaration (Declare ds) = ⊥
+IsNoDeclaration (Specify at t) = ⊥
+IsNoDeclaration (Run a) = Unit {0}
+IsNoDeclaration (Asserts annots) = Unit {0}
+
+abbrev pub DeclareNothing : BlockItems → Type 0
+DeclareNothing NoItem = Unit {0}
+DeclareNothing (Then i rest) = IsNoDeclaration i × DeclareNothing rest
 
 -- the annotations of a tree being so, those that are read or those that are typed
 module _ (AreSo : List Annotation → Type 0) where
@@ -33,9 +43,14 @@ module _ (AreSo : List Annotation → Type 0) where
     StatementPlaced (Break at) = Unit {0}
     StatementPlaced (Continue at) = Unit {0}
     StatementPlaced (Return at e) = WhereAny IsPureOrCall e
-    -- labels and `switch` are not translated yet
+    -- labels are not translated yet
     StatementPlaced (Labelled at l a) = ⊥
-    StatementPlaced (Switch at e cases) = ⊥
+    StatementPlaced (Switch at e cases) = IsPureOrCall e × CasesPlaced cases
+
+    -- nothing is declared directly in a `switch`
+    pub CasesPlaced : Cases → Type 0
+    CasesPlaced NoCase = Unit {0}
+    CasesPlaced (AnotherCase at v items rest) = DeclareNothing items × ItemsPlaced items × CasesPlaced rest
 
     pub ElsePlaced : ElsePart → Type 0
     ElsePlaced NoElse = Unit {0}

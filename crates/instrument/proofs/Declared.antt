@@ -3,17 +3,18 @@ use Rattle.std.proofs.Common.{◌≡◌, ℕ, ◌≤◌, Bool, true, false, cond
 use Rattle.std.proofs.lemmas.Bool.Decides.{nat_tests}
 use Rattle.c_syntax.specs.Programs.{TranslationUnit}
 use Rattle.c_syntax.specs.Statements.{Declaration, Statement, Empty, Eval, Block, If, While, Do, For, Break, Continue, Return, ElsePart, NoElse, Else, ForFirst, NoFirst, First, BlockItem, Declare, Specify, Run, Asserts, BlockItems, NoItem, Then}
+use Rattle.c_syntax.specs.Statements.{Labelled, Switch, Cases, NoCase, AnotherCase}
 use Rattle.c_model.specs.Memory.{Value}
 use Rattle.c_model.specs.State.{State, Scope, find}
 use Rattle.c_model.specs.Meaning.{declared_in, declared_first}
-use Rattle.c_model.specs.Formed.{number_of, declared_within, declared_in_else, declared_in_first, declared_in_item, declared_in_items}
+use Rattle.c_model.specs.Formed.{number_of, declared_within, declared_in_cases, declared_in_else, declared_in_first, declared_in_item, declared_in_items}
 use Rattle.mon_syntax.specs.declared.tree.MonType.{MonType}
-use Rattle.mon_syntax.specs.Registers.{RegisterTable, register_of, with_kinds, next_register}
+use Rattle.mon_syntax.specs.Registers.{Bindings, RegisterTable, register_of, with_kinds, next_register}
 use Rattle.c_effects.specs.Expressions.{temporaries}
 use Rattle.annot_code.proofs.Asserted.{behind_grows}
 use Rattle.c_effects.specs.Effects.{any_temporaries, effect_temporaries, declaration_temporaries}
 use Rattle.track_scopes.specs.Blocks.{AreSmall, with_pointer, entered}
-use Rattle.instrument.specs.Translation.{Spot, after_statement, after_else, after_first, after_item, after_items, returned_temporaries}
+use Rattle.instrument.specs.Translation.{Spot, after_statement, after_cases, after_else, after_first, after_item, after_items, returned_temporaries, switch_temporaries}
 use Rattle.instrument.proofs.DeclarationCode.{next-entered}
 use Rattle.c_simulation.specs.Standing.{Target, Setting, Here, IsAnchored, InRegister, AtGlobal, Anchored}
 use Rattle.c_simulation.proofs.Following.{standing_as}
@@ -47,7 +48,12 @@ abbrev mutual
   CanDeclare p living (Do at a e) = AreAbsent living (declared_within a) × CanDeclare p living a
   CanDeclare p living (For at annots first e step a) =
       AreBorn p (declared_first first) × AreAbsent (with_numbers (declared_first first) living) (declared_within a) × CanDeclare p (with_numbers (declared_first first) living) a
+  CanDeclare p living (Switch at e cases) = CasesCanDeclare p living cases
   CanDeclare p living _ = Unit {0}
+
+  pub CasesCanDeclare : TranslationUnit → List ℕ → Cases → Type 0
+  CasesCanDeclare p living NoCase = Unit {0}
+  CasesCanDeclare p living (AnotherCase at v body rest) = AreAbsent living (declared_in_items body) × ItemsCanDeclare p living body × CasesCanDeclare p living rest
 
   pub ElseCanDeclare : TranslationUnit → List ℕ → ElsePart → Type 0
   ElseCanDeclare p living NoElse = Unit {0}
@@ -117,7 +123,13 @@ mutual
   statement_other p x (Break at) r h = refl
   statement_other p x (Continue at) r h = refl
   statement_other p x (Return at e) r h = refl
-  statement_other p x _ r h = refl
+  statement_other p x (Labelled at l a) r h = refl
+  statement_other p x (Switch at e cases) r h = cases_other p x cases (with_kinds (switch_temporaries e) r) h
+
+  cases_other : (p : TranslationUnit) (x : ℕ) (cs : Cases) (r : RegisterTable) → NotIn x (declared_in_cases cs) → register_of (after_cases p cs r).bound x ≡ register_of r.bound x
+  cases_other p x NoCase r h = refl
+  cases_other p x (AnotherCase at v body rest) r h =
+      cases_other p x rest (after_items p body r) (not_back x (declared_in_items body) (declared_in_cases rest) h) ∙ items_other p x body r (not_front x (declared_in_items body) (declared_in_cases rest) h)
 
   else_other : (p : TranslationUnit) (x : ℕ) (b : ElsePart) (r : RegisterTable) → NotIn x (declared_in_else b) → register_of (after_else p b r).bound x ≡ register_of r.bound x
   else_other p x NoElse r h = refl
@@ -151,29 +163,40 @@ not_in_sight : (y number : ℕ) (scope : Scope) (ds : List Declaration) → AreA
 not_in_sight y number scope [] h e = tt
 not_in_sight y number scope (d ∷ ds) h e = (differs (number_of d) y number scope h.0 e, not_in_sight y number scope ds h.1 e)
 
-pub anchored_behind : (w : Setting) (a : Statement) (r : RegisterTable) (low : ℕ) (regs : List Value) (scope : Scope) → AreAbsent (names_of scope) (declared_within a) → Anchored w low r.bound regs scope
-    → Anchored w low (after_statement w.unit a r).bound regs scope
-anchored_behind w a r low regs scope absent h x number e =
+-- where these declarations alone are bound further
+anchored_other : (w : Setting) (low : ℕ) (bound later : Bindings) (regs : List Value) (scope : Scope) (ds : List Declaration) → ((x : ℕ) → NotIn x ds → register_of later x ≡ register_of bound x) → AreAbsent (names_of scope) ds
+    → Anchored w low bound regs scope → Anchored w low later regs scope
+anchored_other w low bound later regs scope ds others absent h x number e =
     let i = h x number e in record { own = i.own; anchor = of_anchor i.anchor }
   where
-    same : register_of (after_statement w.unit a r).bound x ≡ register_of r.bound x
-    same = statement_other w.unit x a r (not_in_sight x number scope (declared_within a) absent e)
+    same : register_of later x ≡ register_of bound x
+    same = others x (not_in_sight x number scope ds absent e)
 
-    of_anchor : IsAnchored w low r.bound regs x number → IsAnchored w low (after_statement w.unit a r).bound regs x number
+    of_anchor : IsAnchored w low bound regs x number → IsAnchored w low later regs x number
     of_anchor (InRegister k is_bound below behind points) = InRegister k (same ∙ is_bound) below behind points
     of_anchor (AtGlobal free is_global points) = AtGlobal (same ∙ free) is_global points
 
-pub meets_behind : (w : Setting) (h : Here) (spot : Spot) (low : ℕ) (a : Statement) (r : RegisterTable) (living : List ℕ) (regs : List Value) (s : State) (t : Target) → AreAbsent living (declared_within a)
-    → Meets w h spot low r.bound living regs s t → Meets w h spot low (after_statement w.unit a r).bound living regs s t
-meets_behind w h spot low a r living regs s t absent m = record {
-  standing = standing_as w h low low r.bound (after_statement w.unit a r).bound regs regs s s h.breaks h.looped m.standing
-      (anchored_behind w a r low regs s.scope (subst (λ l. AreAbsent l (declared_within a)) (sym m.names) absent) m.standing.anchored) refl refl (omega arith) m.standing.bounded refl m.standing.kept;
+meets_other : (w : Setting) (h : Here) (spot : Spot) (low : ℕ) (bound later : Bindings) (living : List ℕ) (regs : List Value) (s : State) (t : Target) (ds : List Declaration)
+    → ((x : ℕ) → NotIn x ds → register_of later x ≡ register_of bound x) → AreAbsent living ds → Meets w h spot low bound living regs s t → Meets w h spot low later living regs s t
+meets_other w h spot low bound later living regs s t ds others absent m = record {
+  standing = standing_as w h low low bound later regs regs s s h.breaks h.looped m.standing
+      (anchored_other w low bound later regs s.scope ds others (subst (λ l. AreAbsent l ds) (sym m.names) absent) m.standing.anchored) refl refl (omega arith) m.standing.bounded refl m.standing.kept;
   beside = m.beside;
   inside = m.inside;
   between = m.between;
   outside = m.outside;
   names = m.names;
 }
+
+pub meets_behind : (w : Setting) (h : Here) (spot : Spot) (low : ℕ) (a : Statement) (r : RegisterTable) (living : List ℕ) (regs : List Value) (s : State) (t : Target) → AreAbsent living (declared_within a)
+    → Meets w h spot low r.bound living regs s t → Meets w h spot low (after_statement w.unit a r).bound living regs s t
+meets_behind w h spot low a r living regs s t absent m =
+    meets_other w h spot low r.bound (after_statement w.unit a r).bound living regs s t (declared_within a) (λ x apart. statement_other w.unit x a r apart) absent m
+
+pub meets_behind_items : (w : Setting) (h : Here) (spot : Spot) (low : ℕ) (is : BlockItems) (r : RegisterTable) (living : List ℕ) (regs : List Value) (s : State) (t : Target) → AreAbsent living (declared_in_items is)
+    → Meets w h spot low r.bound living regs s t → Meets w h spot low (after_items w.unit is r).bound living regs s t
+meets_behind_items w h spot low is r living regs s t absent m =
+    meets_other w h spot low r.bound (after_items w.unit is r).bound living regs s t (declared_in_items is) (λ x apart. items_other w.unit x is r apart) absent m
 
 -- ---- how many registers there are
 
@@ -205,7 +228,12 @@ mutual
   statement_grows p (Break at) r = omega arith
   statement_grows p (Continue at) r = omega arith
   statement_grows p (Return at e) r = more_kinds (any_temporaries returned_temporaries e) r
-  statement_grows p _ r = omega arith
+  statement_grows p (Labelled at l a) r = omega arith
+  statement_grows p (Switch at e cases) r = omega (arith, more_kinds (switch_temporaries e) r, cases_grow p cases (with_kinds (switch_temporaries e) r))
+
+  pub cases_grow : (p : TranslationUnit) (cs : Cases) (r : RegisterTable) → next_register r ≤ next_register (after_cases p cs r)
+  cases_grow p NoCase r = omega arith
+  cases_grow p (AnotherCase at v body rest) r = omega (arith, items_grow p body r, cases_grow p rest (after_items p body r))
 
   pub else_grows : (p : TranslationUnit) (b : ElsePart) (r : RegisterTable) → next_register r ≤ next_register (after_else p b r)
   else_grows p NoElse r = omega arith

@@ -1,24 +1,29 @@
 -- How deep translated statements stand in one another, and that no step stands in them outside their loops.
-use Rattle.std.proofs.Common.{◌≡◌, ℕ, suc, ◌+◌, ◌*◌, ◌≤◌, Bool, true, false, if◌then◌else◌, List, [], ◌∷◌, ◌++◌, length, Option, Some, None, max, refl, arith}
+use Rattle.std.proofs.Common.{◌≡◌, ℕ, zero, suc, pos, ◌+◌, ◌*◌, ◌≤◌, Bool, true, false, if◌then◌else◌, List, [], ◌∷◌, ◌++◌, length, Option, Some, None, max, refl, arith}
 use Rattle.std.proofs.Math.Nat.{max-le, le-max_left, le-max_right}
-use Rattle.c_syntax.specs.Expressions.{Expression}
+use Rattle.c_syntax.specs.Expressions.{Expression, Node, Number, type_of}
 use Rattle.c_syntax.specs.Statements.{Declaration, Statement, Empty, Eval, Block, If, While, Do, For, Break, Continue, Return, ElsePart, NoElse, Else, ForFirst, NoFirst, First, BlockItem, Declare, Specify, Run, Asserts, BlockItems, NoItem, Then}
+use Rattle.c_syntax.specs.Statements.{Labelled, Switch, Cases, NoCase, AnotherCase}
 use Rattle.c_syntax.specs.Programs.{TranslationUnit}
 use Rattle.c_syntax.specs.Layouts.{size_of}
 use Rattle.c_model.specs.Formed as form
 use Rattle.c_model.specs.Formed.{number_of}
 use Rattle.c_model.specs.TypedTrees.{WhereAny}
-use Rattle.instrument.proofs.FormedTrees.{IsFull, IsFullOrCall, IsFullEffect, AreInitialised, FirstFormed, StatementFormed, ElseFormed, ItemFormed, ItemsFormed}
+use Rattle.instrument.proofs.FormedTrees.{IsFull, IsFullOrCall, IsFullEffect, AreInitialised, FirstFormed, StatementFormed, CasesFormed, ElseFormed, ItemFormed, ItemsFormed}
 use Rattle.c_model.specs.Sizes.{forms_of, most_forms}
-use Rattle.c_model.specs.Meaning.{declared_in, declared_first}
+use Rattle.c_model.specs.Meaning.{declared_in, declared_first, default_of}
+use Rattle.mon_syntax.specs.declared.tree.MonType.{MonType}
+use Rattle.mon_syntax.specs.declared.tree.MonType.TheVariants.{U64}
 use Rattle.mon_syntax.specs.Registers.{Bindings, RegisterTable, with_kinds, next_register}
 use Rattle.mon_syntax.specs.Trees.{MonStatements, NoStatement}
 use Rattle.mon_syntax.specs.Trees as tree
 use Rattle.mon_syntax.specs.Valid.{Types, has_no_step, depth_of_all}
 use Rattle.track_scopes.specs.Blocks.{entered, deaths}
-use Rattle.c_effects.specs.Expressions.{before, one, set, setup, temporaries, condition_of}
+use Rattle.c_effects.specs.Expressions.{value_type, before, one, set, setup, temporaries, condition_of}
 use Rattle.c_effects.specs.Effects.{block_of, any_temporaries, full_temporaries, full_setup, full_value, effect_if_any, initialise, initialise_all, initialise_local, may_be_born, initial_temporaries}
-use Rattle.instrument.specs.Translation.{all_live, Spot, in_loop, with_variables, leave_where_zero, test, test_if_any, loop, for_turns, returned, after_statement, after_first, after_item, statement, else_part, first_part, item, items}
+use Rattle.instrument.specs.Translation.{all_live, Spot, in_loop, in_switch, with_variables, leave_where_zero, test, test_if_any, loop, for_turns, returned, returned_temporaries, switch_temporaries, after_statement, after_first}
+use Rattle.instrument.specs.Translation.{after_item, after_items}
+use Rattle.instrument.specs.Translation.{case_label, test_case, tests_of_cases, search, where_reached, others_in_block, statement, next_cases, blocks_of_cases, else_part, first_part, item, items}
 use Rattle.c_simulation.specs.Labels.{end_label, next_label}
 use Rattle.instrument.proofs.ValidSetups.{no_step_before, no_step_setup, deep_one, deep_set, deep_setup, deep_behind}
 use Rattle.annot_code.proofs.Asserted.{assertions_deep}
@@ -59,6 +64,26 @@ deep_loop loops front body behind n f b h =
     let whole : max 1 (max (depth_of_all front) (max (suc (depth_of_all body)) (depth_of_all behind))) ≤ suc n = max-le (omega arith) both in
     let turns : max (suc (max 1 (max (depth_of_all front) (max (suc (depth_of_all body)) (depth_of_all behind))))) 0 ≤ n + 2 = max-le (omega (arith, whole)) (omega arith) in
     max-le (omega (arith, turns)) (omega arith)
+
+-- what is done behind a test of the index
+deep_reached : (j i : ℕ) (a rest : MonStatements) (n : ℕ) → depth_of_all a ≤ n → depth_of_all rest ≤ n + 1 → depth_of_all (tree.Then (where_reached j i a) rest) ≤ n + 1
+deep_reached j i a rest n le h = let inner : max (depth_of_all a) 0 ≤ n = max-le le (omega arith) in max-le (omega (arith, inner)) h
+
+deep_test_case : (levels : ℕ) (t : MonType) (v j i : ℕ) (value : Option Expression) → depth_of_all (test_case levels t v j i value) ≤ 2
+deep_test_case levels t v j i (Some (Node at u (Number n k))) = omega arith
+deep_test_case levels t v j i _ = omega arith
+
+deep_tests : (levels : ℕ) (t : MonType) (v j i : ℕ) (cs : Cases) → depth_of_all (tests_of_cases levels t v j i cs) ≤ 2
+deep_tests levels t v j i NoCase = omega arith
+deep_tests levels t v j i (AnotherCase at value body rest) =
+    deep_before (test_case levels t v j i value) (tests_of_cases levels t v j (suc i) rest) 2 (deep_test_case levels t v j i value) (deep_tests levels t v j (suc i) rest)
+
+deep_search : (levels : ℕ) (t : MonType) (v j : ℕ) (cs : Cases) (n : ℕ) → 3 ≤ n → depth_of_all (search levels t v j cs) ≤ n
+deep_search levels t v j cs n le =
+    let d = deep_tests levels t v j 0 cs in
+    let first = tree.Constant U64 (pos (default_of cs)) in
+    let whole = tree.Labelled (tests_of_cases levels t v j 0 cs) (case_label levels) in
+    deep_before (set j first) (one whole) n (deep_set j first n (omega (arith, le))) (deep_one whole n (omega (arith, d, le)))
 
 module _ (p : TranslationUnit) where
   deep_test : (bound : Bindings) (rs : Types) (loops : ℕ) (e : Expression) → forms_of e ≤ most_forms → depth_of_all (test p bound rs loops e) ≤ most_deep
@@ -163,7 +188,50 @@ module _ (p : TranslationUnit) where
     deep spot r (Break at) f = deep_jump spot.inside (end_label spot.levels) (4 * 1 + most_deep) (omega arith)
     deep spot r (Continue at) f = deep_jump (spot.inside ++ spot.between) (next_label spot.innermost) (4 * 1 + most_deep) (omega arith)
     deep spot r (Return at e) f = let d = deep_returned spot r e f in omega (arith, d)
-    deep spot r _ f = absurd f
+    deep spot r (Labelled at l a) f = absurd f
+    deep spot r (Switch at e cases) f =
+        let v = length (r.kinds ++ full_temporaries e) in
+        let j = length (r.kinds ++ returned_temporaries e) in
+        let levels = spot.levels + 1 in
+        let x = deep_full p r.bound r.kinds e in
+        let s = f.0.small.few in
+        let n = 4 * (1 + form.depth_of_cases cases) + most_deep in
+        let inside = deep_blocks (in_switch spot) (with_kinds (switch_temporaries e) r) j 0 0 cases f.1 in
+        let whole = tree.Labelled (blocks_of_cases p (in_switch spot) (with_kinds (switch_temporaries e) r) j 0 0 cases) (end_label levels) in
+        deep_before (full_setup p r.bound r.kinds e) (before (set v (full_value p r.bound r.kinds e)) (before (search levels (value_type (type_of e)) v j cases) (one whole))) n (omega (arith, x, s))
+        (deep_before (set v (full_value p r.bound r.kinds e)) (before (search levels (value_type (type_of e)) v j cases) (one whole)) n (deep_set v (full_value p r.bound r.kinds e) n (omega arith))
+        (deep_before (search levels (value_type (type_of e)) v j cases) (one whole) n (deep_search levels (value_type (type_of e)) v j cases n (omega arith)) (deep_one whole n (omega (arith, inside)))))
+
+    -- the items of cases stand in one test, and in blocks in two
+    deep_next : (spot : Spot) (r : RegisterTable) (j i k : ℕ) (cs : Cases) → CasesFormed p.structs cs → depth_of_all (next_cases p spot r j i k cs) ≤ 4 * form.depth_of_cases cs + most_deep + 1
+    deep_next spot r j i k NoCase f = omega arith
+    deep_next spot r j i zero (AnotherCase at v body rest) f = omega arith
+    deep_next spot r j i (suc k) (AnotherCase at v body rest) f =
+        let x = deep_items spot r body f.1 in
+        let y = deep_next spot (after_items p body r) j (suc i) k rest f.2 in
+        let left = le-max_left (form.depth_of_items body) (form.depth_of_cases rest) in
+        let right = le-max_right (form.depth_of_items body) (form.depth_of_cases rest) in
+        deep_reached j i (items p spot r body) (next_cases p spot (after_items p body r) j (suc i) k rest) (4 * max (form.depth_of_items body) (form.depth_of_cases rest) + most_deep) (omega (arith, x, left)) (omega (arith, y, right))
+
+    deep_blocks : (spot : Spot) (r : RegisterTable) (j i k : ℕ) (cs : Cases) → CasesFormed p.structs cs → depth_of_all (blocks_of_cases p spot r j i k cs) ≤ 4 * form.depth_of_cases cs + most_deep + 2
+    deep_blocks spot r j i k NoCase f = omega arith
+    deep_blocks spot r j i zero (AnotherCase at v body rest) f =
+        let later = after_items p body r in
+        let x = deep_items spot r body f.1 in
+        let y = deep_next spot later j (suc i) others_in_block rest f.2 in
+        let z = deep_blocks spot later j (suc i) others_in_block rest f.2 in
+        let left = le-max_left (form.depth_of_items body) (form.depth_of_cases rest) in
+        let right = le-max_right (form.depth_of_items body) (form.depth_of_cases rest) in
+        let n = 4 * max (form.depth_of_items body) (form.depth_of_cases rest) + most_deep in
+        let block = tree.Then (where_reached j i (items p spot r body)) (next_cases p spot later j (suc i) others_in_block rest) in
+        let whole =
+        deep_reached j (i + others_in_block) block (blocks_of_cases p spot later j (suc i) others_in_block rest) (n + 1)
+        (deep_reached j i (items p spot r body) (next_cases p spot later j (suc i) others_in_block rest) n (omega (arith, x, left)) (omega (arith, y, right))) (omega (arith, z, right)) in
+        omega (arith, whole)
+    deep_blocks spot r j i (suc k) (AnotherCase at v body rest) f =
+        let z = deep_blocks spot (after_items p body r) j (suc i) k rest f.2 in
+        let right = le-max_right (form.depth_of_items body) (form.depth_of_cases rest) in
+        omega (arith, z, right)
 
     deep_else : (spot : Spot) (r : RegisterTable) (b : ElsePart) → ElseFormed p.structs b → depth_of_all (else_part p spot r b) ≤ 4 * form.depth_of_else b + most_deep
     deep_else spot r NoElse f = omega arith

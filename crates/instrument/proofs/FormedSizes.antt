@@ -3,16 +3,16 @@ use Rattle.std.proofs.Common.{List, [], ◌∷◌, Option, Some, None}
 use Rattle.c_syntax.specs.declared.place.Place.{Place}
 use Rattle.c_syntax.specs.Expressions.{Expression}
 use Rattle.c_syntax.specs.Statements.{Initialiser, Declaration, Statement, Empty, Eval, Block, If, While, Do}
-use Rattle.c_syntax.specs.Statements.{For, Break, Continue, Return, ElsePart, NoElse, Else, ForFirst, NoFirst, First, BlockItem, Declare, Specify, Run, Asserts, BlockItems, NoItem, Then}
+use Rattle.c_syntax.specs.Statements.{For, Break, Continue, Return, Labelled, Switch, Cases, NoCase, AnotherCase, ElsePart, NoElse, Else, ForFirst, NoFirst, First, BlockItem, Declare, Specify, Run, Asserts, BlockItems, NoItem, Then}
 use Rattle.c_syntax.specs.Programs.{StructType}
 use Rattle.c_model.specs.TypedTrees.{WhereAny}
 use Rattle.c_model.specs.Pure.{IsPure, IsPureOrCall, IsEffect, IsInitialiser}
 use Rattle.c_model.specs.Sizes.{IsSmall}
 use Rattle.c_model.specs.SmallTypes.{TypesSmall}
-use Rattle.c_model.specs.FullExpressions.{EachInitial, EachDeclared, EachIn, EachInElse, EachInFirst, EachInItem, EachInItems}
-use Rattle.c_model.specs.EffectPlaces.{ArePlaced, FirstPlaced, StatementPlaced, ElsePlaced, ItemsPlaced, ItemPlaced}
-use Rattle.instrument.proofs.RangedTrees.{AreRangedAsserts}
-use Rattle.instrument.proofs.FormedTrees.{IsFullAs, InitialFormed, AreInitialised, FirstFormed, StatementFormed, ElseFormed, ItemFormed, ItemsFormed}
+use Rattle.c_model.specs.FullExpressions.{EachInitial, EachDeclared, EachIn, EachInCases, EachInElse, EachInFirst, EachInItem, EachInItems}
+use Rattle.c_model.specs.EffectPlaces.{ArePlaced, FirstPlaced, StatementPlaced, CasesPlaced, ElsePlaced, ItemsPlaced, ItemPlaced}
+use Rattle.instrument.proofs.RangedTrees.{AreRangedAsserts, nothing_declared}
+use Rattle.instrument.proofs.FormedTrees.{IsFullAs, InitialFormed, AreInitialised, FirstFormed, StatementFormed, CasesFormed, ElseFormed, ItemFormed, ItemsFormed}
 
 module _ (structs : List StructType) where
   abbrev Few : Expression → Type 0
@@ -49,7 +49,12 @@ module _ (structs : List StructType) where
     statement_formed (Break at) p h t = tt
     statement_formed (Continue at) p h t = tt
     statement_formed (Return at e) p h t = any_full IsPureOrCall e p h t
-    statement_formed _ p h t = absurd p
+    statement_formed (Labelled at l a) p h t = absurd p
+    statement_formed (Switch at e cases) p h t = (record { is = p.0; small = h.0; types = t.0 }, cases_formed cases p.1 h.1 t.1)
+
+    cases_formed : (cs : Cases) → CasesPlaced AreRangedAsserts cs → EachInCases IsSmall cs → EachInCases Few cs → CasesFormed structs cs
+    cases_formed NoCase p h t = tt
+    cases_formed (AnotherCase at v items rest) p h t = (nothing_declared items p.0, items_formed items p.1 h.0 t.0, cases_formed rest p.2 h.1 t.1)
 
     else_formed : (b : ElsePart) → ElsePlaced AreRangedAsserts b → EachInElse IsSmall b → EachInElse Few b → ElseFormed structs b
     else_formed NoElse p h t = tt

@@ -3,8 +3,9 @@ use Rattle.std.proofs.Common.{◌≡◌, List, [], ◌∷◌, Option}
 use Rattle.c_syntax.specs.declared.place.Place.{Place}
 use Rattle.c_syntax.specs.Expressions.{Expression}
 use Rattle.c_syntax.specs.Statements.{Initialiser, Declaration, Statement, Empty, Eval, Block, If, While, Do, For}
-use Rattle.c_syntax.specs.Statements.{Break, Continue, Return, ElsePart, NoElse, Else, ForFirst, NoFirst, First, BlockItem, Declare, Specify, Run, Asserts, BlockItems, NoItem, Then}
+use Rattle.c_syntax.specs.Statements.{Break, Continue, Return, Labelled, Switch, Cases, NoCase, AnotherCase, ElsePart, NoElse, Else, ForFirst, NoFirst, First, BlockItem, Declare, Specify, Run, Asserts, BlockItems, NoItem, Then}
 use Rattle.c_syntax.specs.Programs.{StructType}
+use Rattle.c_model.specs.Meaning.{declared_in}
 use Rattle.c_model.specs.TypedTrees.{WhereAny}
 use Rattle.c_model.specs.Pure.{IsPure, IsPureOrCall, IsEffect, IsEffectOrCall, IsInitialiser}
 use Rattle.c_model.specs.Sizes.{IsSmall}
@@ -63,7 +64,12 @@ module _ (structs : List StructType) where
     StatementFormed (Break at) = Unit {0}
     StatementFormed (Continue at) = Unit {0}
     StatementFormed (Return at e) = WhereAny IsFullOrCall e
-    StatementFormed _ = ⊥
+    StatementFormed (Labelled at l a) = ⊥
+    StatementFormed (Switch at e cases) = IsFullOrCall e × CasesFormed cases
+
+    pub CasesFormed : Cases → Type 0
+    CasesFormed NoCase = Unit {0}
+    CasesFormed (AnotherCase at v items rest) = (declared_in items ≡ []) × ItemsFormed items × CasesFormed rest
 
     pub ElseFormed : ElsePart → Type 0
     ElseFormed NoElse = Unit {0}

@@ -37,6 +37,7 @@ pub mod Deaths
 pub mod Births
 pub mod Blocks
 pub mod Loops
+pub mod Switches
 pub mod Declared
 pub mod Sight
 pub mod Statements

@@ -35,7 +35,7 @@ use Rattle.instrument.proofs.Births.{pointed_append, all_apart}
 use Rattle.instrument.proofs.Blocks.{Meets, meets_after, meets_later}
 
 -- a label catches its own jump
-same_label : (l : List ℕ) → bytes_eq l l ≡ true
+pub same_label : (l : List ℕ) → bytes_eq l l ≡ true
 same_label l = (bytes_eq-Decides l l).1 refl
 
 -- ---- what follows a choice is asked for in each case

@@ -14,7 +14,7 @@ use Rattle.mon_syntax.specs.declared.tree.MonType.{MonType}
 use Rattle.mon_syntax.specs.declared.tree.MonType.TheVariants.{I8, U8, I16, U16, I32, U32, I64, U64, I128, Ptr}
 use Rattle.mon_syntax.specs.Names.{IsFreeName, is_reserved}
 use Rattle.mon_syntax.specs.Names as words
-use Rattle.instrument.specs.Translation.{register_name, pointer_name, temporary_name, function_name, name_of_register, global_name, text_name}
+use Rattle.instrument.specs.Translation.{case_label, register_name, pointer_name, temporary_name, function_name, name_of_register, global_name, text_name}
 use Rattle.c_simulation.specs.Labels.{end_label, next_label}
 
 -- ---- decimal numbers
@@ -88,6 +88,17 @@ end_is_free n le =
 pub next_is_free : (n : ℕ) → IsNumber n → IsFreeName (next_label n)
 unfolding words.reserved_words
 next_is_free n le =
+    let short = decimal_short n le in
+    record {
+      begins = refl;
+      parts = (refl, (refl, (refl, (refl, (refl, digits_parts (decimal n) (decimal_digits n le))))));
+      short = omega (arith, short);
+      free = refl;
+    }
+
+pub case_is_free : (n : ℕ) → IsNumber n → IsFreeName (case_label n)
+unfolding words.reserved_words
+case_is_free n le =
     let short = decimal_short n le in
     record {
       begins = refl;

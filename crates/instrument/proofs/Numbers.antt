@@ -3,19 +3,22 @@ use Rattle.std.proofs.Common.{◌≡◌, ℕ, suc, ◌^◌, ◌<◌, ◌≤◌, 
 use Rattle.std.proofs.lemmas.List.{map-append}
 use Rattle.std.proofs.lemmas.Bool.{leb-true}
 use Rattle.std.proofs.lemmas.Bool.Decides.{nat_tests}
+use Rattle.c_syntax.specs.declared.types.CInt.{CInt}
 use Rattle.c_syntax.specs.Ctypes.{PlainType}
 use Rattle.c_syntax.specs.Programs.{StructType, TranslationUnit}
 use Rattle.c_syntax.specs.Statements.{Declaration, Statement, Empty, Eval, Block, If, While, Do, For, Break, Continue, Return, ElsePart, NoElse, Else, ForFirst, NoFirst, First, Declare, Specify, Run, Asserts, BlockItems, NoItem, Then}
+use Rattle.c_syntax.specs.Statements.{Labelled, Switch, Cases, NoCase, AnotherCase}
 use Rattle.c_syntax.specs.Layouts.{size_of}
+use Rattle.c_model.specs.Conversions.{promoted}
 use Rattle.c_model.specs.Meaning.{declared_in, declared_first}
-use Rattle.c_model.specs.Formed.{number_of, declared_within, declared_in_else, declared_in_first, declared_in_items}
+use Rattle.c_model.specs.Formed.{number_of, declared_within, declared_in_cases, declared_in_else, declared_in_first, declared_in_items}
 use Rattle.c_model.specs.ExpressionTyping.{Sight, inner, with_object, with_objects}
-use Rattle.c_model.specs.StatementTyping.{Around, in_loop, behind_first}
-use Rattle.c_model.specs.TypedTrees.{HasKnownSize, AreDeclared, StatementTyped, ElseTyped, ItemsTyped, FirstTyped}
+use Rattle.c_model.specs.StatementTyping.{Around, in_loop, in_switch, behind_first}
+use Rattle.c_model.specs.TypedTrees.{HasKnownSize, AreDeclared, StatementTyped, CasesTyped, ElseTyped, ItemsTyped, FirstTyped}
 use Rattle.track_scopes.specs.Blocks.{AreSmall}
 use Rattle.c_effects.specs.Expressions.{global_index}
 use Rattle.instrument.proofs.Births.{with_numbers}
-use Rattle.instrument.proofs.Declared.{Absent, AreAbsent, AreBorn, CanDeclare, ElseCanDeclare, ItemsCanDeclare}
+use Rattle.instrument.proofs.Declared.{Absent, AreAbsent, AreBorn, CanDeclare, CasesCanDeclare, ElseCanDeclare, ItemsCanDeclare}
 use Rattle.instrument.proofs.Own.{AreOwn, AreLocal}
 use Rattle.c_model.specs.TextOrder.{Between}
 
@@ -304,7 +307,21 @@ module _ (p : TranslationUnit) where
     can_declare (Break at) s r low high living same free q b o = tt
     can_declare (Continue at) s r low high living same free q b o = tt
     can_declare (Return at e) s r low high living same free q b o = tt
-    can_declare _ s r low high living same free q b o = tt
+    can_declare (Labelled at l x) s r low high living same free q b o = tt
+    can_declare (Switch at e cases) s r low high living same free q b o = cases_can_declare cases s (in_switch r) (promoted q.0) low high living same free q.3 b o
+
+    cases_can_declare : (cs : Cases) (s : Sight) (r : Around) (k : CInt) (low high : ℕ) (living : List ℕ) → s.structs ≡ p.structs → AllFree p low high → CasesTyped s r k cs → Between low (numbers_in (declared_in_cases cs)) high
+        → AllOutside low high living → CasesCanDeclare p living cs
+    cases_can_declare NoCase s r k low high living same free q b o = tt
+    cases_can_declare (AnotherCase at v body rest) s r k low high living same free q b o =
+        let cut = parted_in low high (declared_in_items body) (declared_in_cases rest) b in
+        let le = in_bounds low cut.middle (numbers_in (declared_in_items body)) cut.front in
+        let le2 = in_bounds cut.middle high (numbers_in (declared_in_cases rest)) cut.back in
+        let front = all_narrower low low high cut.middle living (omega arith) le2 o in (
+          outside_absent_all (declared_in_items body) low cut.middle living cut.front front,
+          items_can_declare body s r low cut.middle living same (λ n from to. free n from (omega (arith, to, le2))) q.1 cut.front (outside_live low cut.middle (declared_in body) living front),
+          cases_can_declare rest s r k cut.middle high living same (λ n from to. free n (omega (arith, from, le)) to) q.2 cut.back (all_narrower low cut.middle high high living le (omega arith) o),
+        )
 
     pub else_can_declare : (b : ElsePart) (s : Sight) (r : Around) (low high : ℕ) (living : List ℕ) → s.structs ≡ p.structs → AllFree p low high → ElseTyped s r b → Between low (numbers_in (declared_in_else b)) high
         → AllOutside low high living → ElseCanDeclare p living b

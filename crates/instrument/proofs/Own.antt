@@ -1,9 +1,9 @@
 -- Declarations whose numbers are offsets of the text, and none of the library.
 use Rattle.std.proofs.Common.{◌≡◌, ◌≤◌, ℕ, suc, true, false, nat_eq, List, [], ◌∷◌, ◌++◌, map, length, arith}
 use Rattle.std.proofs.lemmas.Bool.Decides.{nat_tests}
-use Rattle.c_syntax.specs.Statements.{Declaration, Statement, Empty, Eval, Block, If, While, Do, For, Break, Continue, Return, ElsePart, NoElse, Else, ForFirst, NoFirst, First}
+use Rattle.c_syntax.specs.Statements.{Declaration, Statement, Empty, Eval, Block, If, While, Do, For, Break, Continue, Return, Labelled, Switch, Cases, NoCase, AnotherCase, ElsePart, NoElse, Else, ForFirst, NoFirst, First}
 use Rattle.c_syntax.specs.Statements.{BlockItem, Declare, Specify, Run, Asserts, BlockItems, NoItem, Then}
-use Rattle.c_model.specs.Formed.{number_of, declared_within, declared_in_else, declared_in_first, declared_in_item, declared_in_items}
+use Rattle.c_model.specs.Formed.{number_of, declared_within, declared_in_cases, declared_in_else, declared_in_first, declared_in_item, declared_in_items}
 use Rattle.c_model.specs.Meaning.{declared_first}
 use Rattle.c_model.specs.TextOrder.{Between}
 use Rattle.c_syntax.specs.Programs.{TranslationUnit}
@@ -71,7 +71,12 @@ abbrev mutual
   StatementOwn (Break at) = Unit {0}
   StatementOwn (Continue at) = Unit {0}
   StatementOwn (Return at e) = Unit {0}
-  StatementOwn _ = Unit {0}
+  StatementOwn (Labelled at l a) = Unit {0}
+  StatementOwn (Switch at e cases) = CasesOwn cases
+
+  pub CasesOwn : Cases → Type 0
+  CasesOwn NoCase = Unit {0}
+  CasesOwn (AnotherCase at v items rest) = ItemsOwn items × CasesOwn rest
 
   pub ElseOwn : ElsePart → Type 0
   ElseOwn NoElse = Unit {0}
@@ -106,7 +111,12 @@ mutual
   statement_own (Break at) h = tt
   statement_own (Continue at) h = tt
   statement_own (Return at e) h = tt
-  statement_own _ h = tt
+  statement_own (Labelled at l a) h = tt
+  statement_own (Switch at e cases) h = cases_own cases h
+
+  cases_own : (cs : Cases) → AreOwn (declared_in_cases cs) → CasesOwn cs
+  cases_own NoCase h = tt
+  cases_own (AnotherCase at v items rest) h = let parts = own_parts (declared_in_items items) (declared_in_cases rest) h in (items_own items parts.0, cases_own rest parts.1)
 
   else_own : (b : ElsePart) → AreOwn (declared_in_else b) → ElseOwn b
   else_own NoElse h = tt

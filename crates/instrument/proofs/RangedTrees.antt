@@ -1,13 +1,22 @@
 -- Asserts whose terms keep their ranges, in trees whose annotations are asserts and are ranged.
-use Rattle.std.proofs.Common.{List, [], ◌∷◌, Option, Some, None}
+use Rattle.std.proofs.Common.{◌≡◌, refl, List, [], ◌∷◌, Option, Some, None}
 use Rattle.c_syntax.specs.Logic.{Annotation}
 use Rattle.c_syntax.specs.Statements.{Statement, Empty, Eval, Block, If, While, Do, For, Break, Continue, Return, ElsePart, NoElse, Else, BlockItem, Declare, Specify, Run, Asserts, BlockItems, NoItem, Then}
+use Rattle.c_syntax.specs.Statements.{Labelled, Switch, Cases, NoCase, AnotherCase}
 use Rattle.c_syntax.specs.Programs.{Function}
 use Rattle.c_model.specs.Formed.{AreAsserts}
-use Rattle.c_model.specs.EffectPlaces.{StatementPlaced, ElsePlaced, ItemsPlaced, ItemPlaced}
+use Rattle.c_model.specs.Meaning.{declared_in}
+use Rattle.c_model.specs.EffectPlaces.{DeclareNothing, StatementPlaced, CasesPlaced, ElsePlaced, ItemsPlaced, ItemPlaced}
 use Rattle.c_model.specs.ReadTree.{BodyRead, FunctionsRead}
 use Rattle.c_model.specs.Unranged.{AnnotationsRanged}
-use Rattle.c_model.specs.UnrangedPrograms.{StatementRanged, ElseRanged, ItemRanged, ItemsRanged, BodyRanged, FunctionsRanged}
+use Rattle.c_model.specs.UnrangedPrograms.{StatementRanged, CasesRanged, ElseRanged, ItemRanged, ItemsRanged, BodyRanged, FunctionsRanged}
+
+pub nothing_declared : (is : BlockItems) → DeclareNothing is → declared_in is ≡ []
+nothing_declared NoItem h = refl
+nothing_declared (Then (Declare ds) rest) h = absurd h.0
+nothing_declared (Then (Specify at t) rest) h = absurd h.0
+nothing_declared (Then (Run a) rest) h = nothing_declared rest h.1
+nothing_declared (Then (Asserts annots) rest) h = nothing_declared rest h.1
 
 pub record AreRangedAsserts (annots : List Annotation) : Type 0 where
   pub are : AreAsserts annots
@@ -25,7 +34,12 @@ mutual
   statement_ranged (Break at) p r = tt
   statement_ranged (Continue at) p r = tt
   statement_ranged (Return at e) p r = p
-  statement_ranged _ p r = absurd p
+  statement_ranged (Labelled at l a) p r = absurd p
+  statement_ranged (Switch at e cases) p r = (p.0, cases_ranged cases p.1 r)
+
+  cases_ranged : (cs : Cases) → CasesPlaced AreAsserts cs → CasesRanged cs → CasesPlaced AreRangedAsserts cs
+  cases_ranged NoCase p r = tt
+  cases_ranged (AnotherCase at v items rest) p r = (p.0, items_ranged items p.1 r.0, cases_ranged rest p.2 r.1)
 
   else_ranged : (b : ElsePart) → ElsePlaced AreAsserts b → ElseRanged b → ElsePlaced AreRangedAsserts b
   else_ranged NoElse p r = tt

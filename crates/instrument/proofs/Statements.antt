@@ -1,22 +1,27 @@
 -- Statements: the target does what the source does.
-use Rattle.std.proofs.Common.{◌≡◌, ℕ, suc, ◌+◌, ◌≤◌, true, List, [], ◌∷◌, ◌++◌, length, Option, Some, None, slice_get, slice_set, refl, sym, ap, ◌∙◌, subst, arith, append_assoc}
+use Rattle.std.proofs.Common.{◌≡◌, ℕ, zero, suc, ◌+◌, ◌<◌, ◌≤◌, true, List, [], ◌∷◌, ◌++◌, length, Option, Some, None, slice_get, slice_set, refl, sym, ap, ◌∙◌, subst, arith, append_assoc}
 use Rattle.std.proofs.lemmas.List.{length-append}
 use Rattle.c_syntax.specs.declared.place.Place.{Place}
+use Rattle.c_syntax.specs.declared.types.CInt.{CInt}
+use Rattle.c_syntax.specs.Ctypes.{Int}
 use Rattle.c_syntax.specs.Expressions.{Expression, type_of}
 use Rattle.c_syntax.specs.Statements.{Declaration, Statement, Empty, Eval, Block, If, While, Do, For, Break, Continue, Return, ElsePart, NoElse, Else, ForFirst, NoFirst, First, Declare, Specify, Run, Asserts, BlockItems, NoItem, Then}
+use Rattle.c_syntax.specs.Statements.{Labelled, Switch, Cases, NoCase, AnotherCase}
 use Rattle.c_syntax.specs.Programs.{TranslationUnit}
-use Rattle.c_syntax.specs.Layouts.{Scalar, scalar_of}
+use Rattle.c_syntax.specs.Layouts.{Scalar, IntegerType, scalar_of}
+use Rattle.c_model.specs.Conversions.{promoted}
 use Rattle.c_model.specs.Memory.{Value, kill_from}
 use Rattle.c_model.specs.State.{State, Leaves, Returns, Stop, Evaluation, on_outcome, ◌>>◌, stop, births, within, restored}
 use Rattle.c_model.specs.State as state
-use Rattle.c_model.specs.Meaning.{Tables, tables_of, eval_with, exec_with, else_with, first_with, items_with, condition_with, effect_with, initialise_all, declared_in, declared_first, turns, turn_with}
+use Rattle.c_model.specs.Meaning.{Tables, tables_of, eval_with, exec_with, cases_with, else_with, first_with, items_with, condition_with, effect_with, initialise_all, declared_in, declared_first, turns, turn_with}
 use Rattle.c_model.specs.Meaning as source
 use Rattle.c_model.specs.Predicates.{checks}
 use Rattle.c_model.specs.ExpressionTyping.{Sight, inner, with_objects}
-use Rattle.c_model.specs.StatementTyping.{Around, in_loop, behind_first}
-use Rattle.c_model.specs.TypedTrees.{WellTyped, IsCondition, WhereAny, Returned, StatementTyped, ElseTyped, FirstTyped, ItemsTyped}
+use Rattle.c_model.specs.StatementTyping.{Around, in_loop, in_switch, behind_first}
+use Rattle.c_model.specs.TypedTrees.{WellTyped, IsCondition, WhereAny, Returned, StatementTyped, CasesTyped, ElseTyped, FirstTyped, ItemsTyped}
 use Rattle.c_model.specs.Formed.{declared_within}
 use Rattle.mon_syntax.specs.declared.tree.MonType.{MonType}
+use Rattle.mon_syntax.specs.declared.tree.MonType.TheVariants.{U64}
 use Rattle.mon_syntax.specs.Registers.{Bindings, RegisterTable, with_kinds, next_register}
 use Rattle.mon_syntax.specs.Meaning.{Next, Goes, Done, then_do, at_next, with_value, exec_all}
 use Rattle.mon_syntax.specs.Meaning as monitored
@@ -26,9 +31,9 @@ use Rattle.mon_syntax.specs.Trees.{MonExpression, MonStatements, NoStatement}
 use Rattle.mon_syntax.specs.Trees as tree
 use Rattle.c_effects.specs.Letters.{Any, HasLetters, FullHasLetters, EffectHasLetters}
 use Rattle.c_model.specs.Pure.{IsPure, IsPureOrCall, IsEffect, IsEffectOrCall}
-use Rattle.c_model.specs.EffectPlaces.{FirstPlaced, StatementPlaced, ElsePlaced, ItemsPlaced}
-use Rattle.instrument.proofs.RangedTrees.{AreRangedAsserts}
-use Rattle.instrument.specs.Limits.{HasNumbers, ElseHasNumbers, FirstHasNumbers, HaveNumbers}
+use Rattle.c_model.specs.EffectPlaces.{FirstPlaced, StatementPlaced, CasesPlaced, ElsePlaced, ItemsPlaced}
+use Rattle.instrument.proofs.RangedTrees.{AreRangedAsserts, nothing_declared}
+use Rattle.instrument.specs.Limits.{HasNumbers, CasesHaveNumbers, ElseHasNumbers, FirstHasNumbers, HaveNumbers}
 use Rattle.c_effects.specs.Expressions.{value_type, temporaries, setup, condition_of, before, one, set}
 use Rattle.annot_code.specs.Code.{assertions}
 use Rattle.annot_code.proofs.Asserted.{behind_grows}
@@ -36,7 +41,8 @@ use Rattle.c_effects.specs.Effects.{full_temporaries, full_setup, full_value, ef
 use Rattle.c_effects.specs.Effects as effects
 use Rattle.track_scopes.specs.Blocks.{entered, deaths, with_born}
 use Rattle.track_scopes.specs.Lives.{with_store}
-use Rattle.instrument.specs.Translation.{Spot, returned_temporaries, after_statement, after_else, after_first, after_item, after_items, with_variables, test, test_if_any, statement, else_part, first_part, items, loop}
+use Rattle.instrument.specs.Translation.{Spot, returned_temporaries, switch_temporaries, after_statement, after_cases, after_else, after_first, after_item, after_items, with_variables, test, test_if_any, search, others_in_block, statement}
+use Rattle.instrument.specs.Translation.{next_cases, blocks_of_cases, else_part, first_part, items, loop}
 use Rattle.c_simulation.specs.Labels.{end_label, next_label}
 use Rattle.instrument.specs.Translation as target
 use Rattle.instrument.proofs.DeclarationCode.{next-entered}
@@ -53,10 +59,11 @@ use Rattle.c_simulation.specs.Following.{IsResult, IsResultOf, Follows, Breaks, 
 use Rattle.instrument.proofs.Births.{with_numbers, pointed_point, pointed_append, all_apart, behind_births}
 use Rattle.instrument.proofs.Blocks.{Meets, meets_after, meets_later, block_follows}
 use Rattle.instrument.proofs.Loops as loops
-use Rattle.instrument.proofs.Declared.{AreBorn, CanDeclare, ElseCanDeclare, ItemsCanDeclare, AreAbsent, meets_behind, more_kinds, statement_grows, else_grows, first_grows, items_grow}
+use Rattle.instrument.proofs.Switches as switches
+use Rattle.instrument.proofs.Declared.{AreBorn, CanDeclare, CasesCanDeclare, ElseCanDeclare, ItemsCanDeclare, AreAbsent, meets_behind, meets_behind_items, more_kinds, statement_grows, cases_grow, else_grows, first_grows, items_grow}
 use Rattle.c_simulation.proofs.Expressions as expressions
 use Rattle.c_simulation.proofs.Expressions.{handed_on}
-use Rattle.c_model.specs.TypedAnnotations.{StatementNoted, ElseNoted, ItemsNoted}
+use Rattle.c_model.specs.TypedAnnotations.{StatementNoted, CasesNoted, ElseNoted, ItemsNoted}
 use Rattle.c_simulation.specs.SameRegisters.{Same, Stays}
 use Rattle.instrument.proofs.InitialisedVariables.{initials_reach}
 use Rattle.instrument.proofs.Scenes.{Scene, scene_inner, scene_with_all, scene_behind_first, AreFound, DeclarationsFound, found_with_all, declarations_found-append}
@@ -255,6 +262,34 @@ module _ (w : Setting) (n : ℕ) where
       rest : MonStatements
       rest = before (set last v_code) leaves
 
+  -- ---- `switch`
+
+  -- what is behind the word is computed, the case is searched, and the items are done by this code
+  switch_does : (h : Here) (spot : Spot) (low : ℕ) (living : List ℕ) (s : Sight) (g : Scene w n s) (r : RegisterTable) (e : Expression) (cs : Cases) (k : CInt) → IsPureOrCall e → WellTyped s e → type_of e ≡ Int k → FullHasLetters e
+      → low ≤ next_register r → length (r.kinds ++ returned_temporaries e) ≡ suc (length (r.kinds ++ full_temporaries e)) → suc (suc (length (r.kinds ++ full_temporaries e))) ≤ w.registers → (a : MonStatements)
+      → ((base c : ℕ) → switches.CasesDo w n (switches.in_items w h base (spot.levels + 1)) (target.in_switch spot) (suc (suc (length (r.kinds ++ full_temporaries e)))) living (length (r.kinds ++ returned_temporaries e)) c r.bound
+      (cases_with T cs w.call (suc n) c) a)
+      → (at_place : Place) → DoSame h spot low r.bound living (exec_with T (Switch at_place e cs) w.call (suc n))
+      (before (full_setup w.unit r.bound r.kinds e) (before (set (length (r.kinds ++ full_temporaries e)) (full_value w.unit r.bound r.kinds e))
+      (before (search (spot.levels + 1) (value_type (type_of e)) (length (r.kinds ++ full_temporaries e)) (length (r.kinds ++ returned_temporaries e)) cs) (one (tree.Labelled a (end_label (spot.levels + 1)))))))
+  switch_does h spot low living s g r e cs k pure q type l behind long enough a does place =
+      let v = length (r.kinds ++ full_temporaries e) in
+      let setup_code = full_setup w.unit r.bound r.kinds e in
+      let code = full_value w.unit r.bound r.kinds e in
+      let levels = spot.levels + 1 in
+      let f2 = longer r.kinds (full_temporaries e) in
+      subst (λ j. ((base c : ℕ) → switches.CasesDo w n (switches.in_items w h base levels) (target.in_switch spot) (suc (suc v)) living j c r.bound (cases_with T cs w.call (suc n) c) a)
+      → DoSame h spot low r.bound living (exec_with T (Switch place e cs) w.call (suc n)) (before setup_code (before (set v code) (before (search levels (value_type (type_of e)) v j cs) (one (tree.Labelled a (end_label levels)))))))
+      (sym long)
+      (subst (λ t. ((base c : ℕ) → switches.CasesDo w n (switches.in_items w h base levels) (target.in_switch spot) (suc (suc v)) living (suc v) c r.bound (cases_with T cs w.call (suc n) c) a)
+      → DoSame h spot low r.bound living (exec_with T (Switch place e cs) w.call (suc n)) (before setup_code (before (set v code) (before (search levels (value_type t) v (suc v) cs) (one (tree.Labelled a (end_label levels)))))))
+      (sym type)
+      (switches.switch_follows w n h spot low r.bound living k (eval_with T e w.call) setup_code code v
+      (λ regs from t m le. reached_lower w (Valued w (IntegerType k) v code) low (length r.kinds) regs from (eval_with T e w.call from) (runs w n t setup_code regs) behind
+      (full_reaches w n h s g low r.bound from t le r.kinds behind regs m.standing m.beside e (IntegerType k) (ap scalar_of type) pure q l (omega (arith, enough, m.standing.registers))))
+      cs (cases_with T cs w.call (suc n)) a (omega (arith, behind, f2)) enough))
+      does
+
   -- ---- blocks
 
   -- variables are born, and live while this is done
@@ -435,7 +470,61 @@ module _ (w : Setting) (n : ℕ) where
     statement_follows (Break at) s around h spot low r living stands g sees result looped c f q m l behind enough = λ regs from t x le. break_follows w n h spot low r.bound living from regs t x stands.0 (sym looped.1 ∙ q)
     statement_follows (Continue at) s around h spot low r living stands g sees result looped c f q m l behind enough = λ regs from t x le. continue_follows w n h spot low r.bound living from regs t x stands.1 (sym looped.0 ∙ q)
     statement_follows (Return at e) s around h spot low r living stands g sees result looped c f q m l behind enough = returned_does h spot low living s g r e f (subst (λ k. Returned s k e) result q) l behind enough at
-    statement_follows _ s around h spot low r living stands g sees result looped c f q m l behind enough = absurd f
+    statement_follows (Labelled at x a) s around h spot low r living stands g sees result looped c f q m l behind enough = absurd f
+    statement_follows (Switch at e cases) s around h spot low r living stands g sees result looped c f q m l behind enough =
+        let taken = with_kinds (switch_temporaries e) r in
+        let v = length (r.kinds ++ full_temporaries e) in
+        let f1 = cases_grow w.unit cases taken in
+        let long1 = length-append (r.kinds ++ full_temporaries e) (value_type (type_of e) ∷ []) in
+        let long2 = length-append (r.kinds ++ returned_temporaries e) (U64 ∷ []) in
+        let long3 : length (r.kinds ++ returned_temporaries e) ≡ suc v = ap length (sym (append_assoc r.kinds (full_temporaries e) (value_type (type_of e) ∷ []))) ∙ long1 ∙ omega arith in
+        let long4 : next_register taken ≡ suc (suc v) = ap length (sym (append_assoc r.kinds (returned_temporaries e) (U64 ∷ []))) ∙ long2 ∙ omega (arith, long3) in
+        let f2 = longer r.kinds (full_temporaries e) in
+        switch_does h spot low living s g r e cases (promoted q.0) f.0 q.1 q.2 l.0 behind long3 (omega (arith, enough, long4, f1))
+        (blocks_of_cases w.unit (target.in_switch spot) taken (length (r.kinds ++ returned_temporaries e)) 0 0 cases)
+        (λ base chosen.
+        let inside = switches.in_items w h base (spot.levels + 1) in
+        let j = length (r.kinds ++ returned_temporaries e) in
+        subst (λ b. switches.CasesDo w n inside (target.in_switch spot) (suc (suc v)) living j chosen r.bound (cases_with T cases w.call (suc n) chosen) (before b (blocks_of_cases w.unit (target.in_switch spot) taken j 0 0 cases)))
+        (switches.none_begun w.unit (target.in_switch spot) taken j 0 cases)
+        (cases_follow cases s (in_switch around) inside (target.in_switch spot) (suc (suc v)) taken living j chosen (omega (arith, long3)) (promoted q.0) 0 0 chosen
+        (switches.all_left chosen) (refl, stands.1) g sees result (looped.0, refl) c f.1 q.3 m l.1 (omega (arith, long4)) enough))
+        at
+
+    -- the cases of a switch from the index i on, of which the first k2 stand in a block that was begun; the first m2 are in front of the chosen one
+    cases_follow : (cs : Cases) (s : Sight) (around : Around) (h : Here) (spot : Spot) (low : ℕ) (r : RegisterTable) (living : List ℕ) (j chosen : ℕ) → j < low → (k : CInt) (i k2 m2 : ℕ) → switches.Left chosen i m2
+        → (spot.levels ≡ h.levels) × (spot.innermost ≡ h.innermost) → Scene w n s → AreFound s.entities (scope_for living)
+        → around.result ≡ h.result → (around.loops ≡ h.looped) × (around.breaks ≡ h.breaks)
+        → CasesCanDeclare w.unit living cs → CasesPlaced AreRangedAsserts cs → CasesTyped s around k cs → CasesNoted s cs → CasesHaveNumbers i cs → low ≤ next_register r → next_register (after_cases w.unit cs r) ≤ w.registers
+        → switches.CasesDo w n h spot low living j chosen r.bound (cases_with T cs w.call (suc n) m2) (before (next_cases w.unit spot r j i k2 cs) (blocks_of_cases w.unit spot r j i k2 cs))
+    cases_follow NoCase s around h spot low r living j chosen lt k i k2 m2 left stands g sees result looped c f q m l behind enough = λ regs from t x le has plan. nothing_does h spot low r.bound living regs from t x le
+    cases_follow (AnotherCase at v body rest) s around h spot low r living j chosen lt k i zero m2 left stands g sees result looped c f q m l behind enough = λ regs from t x le has plan.
+        let later = after_items w.unit body r in
+        let f1 = items_grow w.unit body r in
+        let f2 = cases_grow w.unit rest later in
+        let code = items w.unit spot r body in
+        let others = blocks_of_cases w.unit spot later j (suc i) others_in_block rest in
+        let in_block = before (next_cases w.unit spot later j (suc i) others_in_block rest) others in
+        subst (λ a. Follows w h low regs Next from (cases_with T (AnotherCase at v body rest) w.call (suc n) m2 from) a) (sym (switches.block_is w n t j chosen regs has spot r later i code others rest))
+        (switches.case_follows w n h spot low living j chosen lt r.bound later.bound i (cases_with T (AnotherCase at v body rest) w.call (suc n))
+        (items_with T body w.call (suc n)) (cases_with T rest w.call (suc n)) code in_block refl (λ m3. refl)
+        (items_follow body s around h spot low r living stands g sees
+        (subst (λ ds. DeclarationsFound ds (scope_for living)) (sym (nothing_declared body f.0)) tt) (subst (AreThere w.unit) (sym (nothing_declared body f.0)) tt) result looped c.1 f.1 q.1 m.0 l.0 behind (omega (arith, enough, f2)))
+        (λ regs2 s2 t2 x2. meets_behind_items w h spot low body r living regs2 s2 t2 c.0 x2)
+        (λ m3 left3. cases_follow rest s around h spot low later living j chosen lt k (suc i) others_in_block m3 left3 stands g sees result looped c.2 f.2 q.2 m.1 l.1 (omega (arith, behind, f1)) enough)
+        m2 left regs from t x le has plan)
+    cases_follow (AnotherCase at v body rest) s around h spot low r living j chosen lt k i (suc k2) m2 left stands g sees result looped c f q m l behind enough =
+        let later = after_items w.unit body r in
+        let f1 = items_grow w.unit body r in
+        let f2 = cases_grow w.unit rest later in
+        let others = before (next_cases w.unit spot later j (suc i) k2 rest) (blocks_of_cases w.unit spot later j (suc i) k2 rest) in
+        switches.case_follows w n h spot low living j chosen lt r.bound later.bound i (cases_with T (AnotherCase at v body rest) w.call (suc n))
+        (items_with T body w.call (suc n)) (cases_with T rest w.call (suc n)) (items w.unit spot r body) others refl (λ m3. refl)
+        (items_follow body s around h spot low r living stands g sees
+        (subst (λ ds. DeclarationsFound ds (scope_for living)) (sym (nothing_declared body f.0)) tt) (subst (AreThere w.unit) (sym (nothing_declared body f.0)) tt) result looped c.1 f.1 q.1 m.0 l.0 behind (omega (arith, enough, f2)))
+        (λ regs2 s2 t2 x2. meets_behind_items w h spot low body r living regs2 s2 t2 c.0 x2)
+        (λ m3 left3. cases_follow rest s around h spot low later living j chosen lt k (suc i) k2 m3 left3 stands g sees result looped c.2 f.2 q.2 m.1 l.1 (omega (arith, behind, f1)) enough)
+        m2 left
 
     pub else_follows : (b : ElsePart) (s : Sight) (around : Around) (h : Here) (spot : Spot) (low : ℕ) (r : RegisterTable) (living : List ℕ)
         → (spot.levels ≡ h.levels) × (spot.innermost ≡ h.innermost) → Scene w n s → AreFound s.entities (scope_for living)

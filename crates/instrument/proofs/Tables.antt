@@ -3,6 +3,7 @@ use Rattle.std.proofs.Common.{◌≡◌, ℕ, suc, Bool, true, false, nat_eq, Li
 use Rattle.std.proofs.lemmas.List.{append-nil, length-append}
 use Rattle.std.proofs.lemmas.Bool.Decides.{nat_tests}
 use Rattle.c_syntax.specs.Statements.{Declaration, Statement, Empty, Eval, Block, If, While, Do, For, Break, Continue, Return, ElsePart, NoElse, Else, ForFirst, NoFirst, First, BlockItem, Declare, Specify, Run, Asserts, BlockItems, NoItem, Then}
+use Rattle.c_syntax.specs.Statements.{Labelled, Switch, Cases, NoCase, AnotherCase}
 use Rattle.c_syntax.specs.Logic.{Annotation}
 use Rattle.c_syntax.specs.Programs.{TranslationUnit}
 use Rattle.c_model.specs.Meaning.{declared_in, declared_first}
@@ -15,7 +16,7 @@ use Rattle.c_effects.specs.Effects.{any_temporaries, declaration_temporaries, ef
 use Rattle.c_effects.specs.Expressions.{temporaries}
 use Rattle.annot_code.specs.Code.{behind_assertions}
 use Rattle.annot_code.proofs.Asserted.{behind_begins}
-use Rattle.instrument.specs.Translation.{returned_temporaries, after_statement, after_else, after_first, after_item, after_items}
+use Rattle.instrument.specs.Translation.{returned_temporaries, switch_temporaries, after_statement, after_cases, after_else, after_first, after_item, after_items}
 use Rattle.mon_syntax.specs.Registers.{register_of}
 use Rattle.annot_code.specs.Validity.{Begins}
 use Rattle.instrument.proofs.Typed.{begins_front, register_at, HasPointer, Aim, has_aim, aim_has}
@@ -70,7 +71,16 @@ mutual
   statement_begins p (Break at) r = begins_itself r.kinds
   statement_begins p (Continue at) r = begins_itself r.kinds
   statement_begins p (Return at e) r = begins_added r.kinds (any_temporaries returned_temporaries e)
-  statement_begins p _ r = begins_itself r.kinds
+  statement_begins p (Labelled at l a) r = begins_itself r.kinds
+  statement_begins p (Switch at e cases) r =
+      let x = with_kinds (switch_temporaries e) r in
+      begins_then r.kinds x.kinds (after_cases p cases x).kinds (begins_added r.kinds (switch_temporaries e)) (cases_begin p cases x)
+
+  pub cases_begin : (p : TranslationUnit) (cs : Cases) (r : RegisterTable) → Begins r.kinds (after_cases p cs r).kinds
+  cases_begin p NoCase r = begins_itself r.kinds
+  cases_begin p (AnotherCase at v body rest) r =
+      let x = after_items p body r in
+      begins_then r.kinds x.kinds (after_cases p rest x).kinds (items_begin p body r) (cases_begin p rest x)
 
   pub else_begins : (p : TranslationUnit) (b : ElsePart) (r : RegisterTable) → Begins r.kinds (after_else p b r).kinds
   else_begins p NoElse r = begins_itself r.kinds
@@ -169,7 +179,14 @@ module _ (ts : Types) where
     statement_keeps p (Break at) r b x g h = h
     statement_keeps p (Continue at) r b x g h = h
     statement_keeps p (Return at e) r b x g h = h
-    statement_keeps p _ r b x g h = h
+    statement_keeps p (Labelled at l a) r b x g h = h
+    statement_keeps p (Switch at e cases) r b x g h = cases_keep p cases (with_kinds (switch_temporaries e) r) b x g h
+
+    pub cases_keep : (p : TranslationUnit) (cs : Cases) (r : RegisterTable) → Begins (after_cases p cs r).kinds ts → Keeps r (after_cases p cs r)
+    cases_keep p NoCase r b x g h = h
+    cases_keep p (AnotherCase at v body rest) r b x g h =
+        let y = after_items p body r in
+        cases_keep p rest y b x g (items_keep p body r (begins_then y.kinds (after_cases p rest y).kinds ts (cases_begin p rest y) b) x g h)
 
     pub else_keeps : (p : TranslationUnit) (c : ElsePart) (r : RegisterTable) → Begins (after_else p c r).kinds ts → Keeps r (after_else p c r)
     else_keeps p NoElse r b x g h = h

@@ -3,7 +3,7 @@ pub use Rattle.instrument.proofs.Parentheses.{few_parens, few_parens_of_pointer,
 pub use Rattle.instrument.proofs.Parentheses.{parens_cast, parens_compared, parens_compound, parens_compound_of, parens_condition, parens_converted}
 pub use Rattle.instrument.proofs.Parentheses.{parens_element, parens_farther, parens_in_type, parens_indexed, parens_loaded, parens_operated, parens_scaled, parens_step, parens_two, parens_unary, some_weight}
 pub use Rattle.instrument.proofs.TypedDefinitions.{is_global}
-use Rattle.std.proofs.Common.{◌≡◌, ℕ, ◌+◌, ◌≤◌, ℤ, pos, negsuc, Bool, true, false, not, List, [], ◌∷◌, ◌++◌, length, Option, Some, None, slice_get, nat_lt, nat_eq, if◌then◌else◌, cond, refl, sym, ap, ◌∙◌, subst, arith, append_assoc}
+use Rattle.std.proofs.Common.{◌≡◌, ℕ, ◌+◌, ◌^◌, ◌<◌, ◌≤◌, ℤ, pos, negsuc, Bool, true, false, not, List, [], ◌∷◌, ◌++◌, length, Option, Some, None, slice_get, nat_lt, nat_eq, if◌then◌else◌, cond, refl, sym, ap, ◌∙◌, subst, arith, append_assoc}
 use Rattle.std.proofs.lemmas.Bool.{ltb-true, leb-true}
 use Rattle.std.proofs.lemmas.Bool.Decides.{nat_tests}
 use Rattle.std.proofs.lemmas.Int.{ints}
@@ -55,7 +55,7 @@ use Rattle.instrument.proofs.Objects.{global_inside, literal_is}
 
 -- ---- constants
 
-small_constant : (k : CInt) (z : ℤ) → fits k z ≡ true → has_constant (register_type k) z ≡ true
+pub small_constant : (k : CInt) (z : ℤ) → fits k z ≡ true → has_constant (register_type k) z ≡ true
 small_constant c.I8 (pos n) e = let l = ltb-true n 128 e in grind (arith, nat_tests, ints)
 small_constant c.I8 (negsuc n) e = let l = ltb-true n 128 e in grind (arith, nat_tests, ints)
 small_constant c.U8 (pos n) e = let l = ltb-true n 256 e in grind (arith, nat_tests, ints)
@@ -76,6 +76,9 @@ small_constant c.U64 (negsuc n) e = absurd cc
 -- numbers of bytes
 pub bytes_constant : (n : ℕ) → n ≤ 2147483647 → has_constant I64 (pos n) ≡ true
 bytes_constant n h = grind (arith, nat_tests, ints)
+
+pub index_constant : (n : ℕ) → n < 2 ^ 63 + 16 → has_constant U64 (pos n) ≡ true
+index_constant n h = grind (arith, nat_tests, ints)
 
 pub size_constant : (n : ℕ) → n ≤ 2147483647 → has_constant U64 (pos n) ≡ true
 size_constant n h = grind (arith, nat_tests, ints)

@@ -50,7 +50,7 @@ use Rattle.instrument.proofs.ValidCalls.{signatures, calls_valid}
 use Rattle.instrument.proofs.ValidInitialisers.{initialise_valid, deep_initialise}
 use Rattle.instrument.proofs.ValidBlocks.{Sees, AreSmall, sees_one, sees_later, deep_deaths, birth_valid, deaths_valid, alive_valid}
 use Rattle.instrument.proofs.Depths.{deep}
-use Rattle.instrument.proofs.ValidStatements.{items_small, items_valid}
+use Rattle.instrument.proofs.ValidStatements.{items_small, items_valid, outside_all}
 use Rattle.instrument.proofs.ValidRegisters.{AllOf, all_of, not_among, kinds, front_begins, values_begin, function_types, registers_valid, all_globals_valid, room_is}
 use Rattle.instrument.proofs.Starts.{monitored_long}
 use Rattle.instrument.proofs.Own.{AreOwn}
@@ -252,9 +252,9 @@ module _ (p : TranslationUnit) (q : IsTypedProgram p) where
         alive_valid (count_of_globals p) gs ts (result_of f.result) [] p (next_register r) own (items p deeper inside part.items)
         (items_small p gs ts f.result part.sight.functions (λ s names seen. calls_valid p ts s names (subst (AreDefined p) (sym seen) part.file.functions)) (structs_fit p.structs q.structs) q.texts part.items sight
         (around_body f.result) sees.knows.structs_are part.typed) (entered_from ts own r born)
-        (items_valid p gs ts f.result part.sight.functions (λ s names seen. calls_valid p ts s names (subst (AreDefined p) (sym seen) part.file.functions)) (structs_fit p.structs q.structs) q.texts part.items sight (around_body f.result) deeper
+        (items_valid p gs ts f.result part.sight.functions (λ s names seen. calls_valid p ts s names (subst (AreDefined p) (sym seen) part.file.functions)) (structs_fit p.structs q.structs) q.texts part.items sight (around_body f.result) [] deeper
         (record { inside = point_born ts (next_register r) own live (entered_from ts own r born) live_point; between = tt; outside = tt })
-        inside (sees_later p ts part.sight.functions r inside sight (λ x g h. entered_keep ts x g own r born h) sees) refl (λ e. absurd cc, λ e. absurd cc) (entered_have ts own r born) part.formed part.typed part.noted part.numbers part.letters
+        inside (sees_later p ts part.sight.functions r inside sight (λ x g h. entered_keep ts x g own r born h) sees) refl (outside_all 0) (entered_have ts own r born) part.formed part.typed part.noted part.numbers part.letters
         (omega (arith, shallow)) within_items)
 
     code_valid : Are (code_of p fr f)

@@ -1,40 +1,47 @@
 -- Translated statements are valid: their labels, their loops, and the types of what stands in them.
-use Rattle.instrument.proofs.Own.{AreOwn, ElseOwn, ItemsOwn, StatementOwn}
-use Rattle.std.proofs.Common.{◌≡◌, ℕ, zero, suc, ◌+◌, ◌<◌, ◌≤◌, Bool, true, false, if◌then◌else◌, ◌||◌, List, [], ◌∷◌, ◌++◌, length, nat_eq, Option, Some, None, slice_get, refl, sym, ap, ◌∙◌, subst, arith}
+use Rattle.instrument.proofs.Own.{AreOwn, CasesOwn, ElseOwn, ItemsOwn, StatementOwn}
+use Rattle.std.proofs.Common.{◌≡◌, ℕ, zero, suc, ◌+◌, ◌^◌, ◌<◌, ◌≤◌, pos, Bool, true, false, if◌then◌else◌, ◌||◌, List, [], ◌∷◌, ◌++◌, length, Option, Some, None, slice_get, refl, sym, ap, ◌∙◌, subst, arith}
 use Rattle.std.proofs.Math.Nat.{le-max_left, le-max_right}
 use Rattle.std.specs.Prelude.{bytes_eq}
-use Rattle.std.proofs.lemmas.Bool.Decides.{nat_tests}
-use Rattle.c_syntax.specs.Ctypes.{PlainType}
-use Rattle.c_syntax.specs.Expressions.{Expression, type_of}
+use Rattle.c_syntax.specs.declared.types.CInt.{CInt}
+use Rattle.c_syntax.specs.declared.types.CInt.TheVariants as c
+use Rattle.c_syntax.specs.Ctypes.{PlainType, Int}
+use Rattle.c_syntax.specs.Expressions.{Expression, Node, Number, type_of}
 use Rattle.c_syntax.specs.Statements.{Declaration, Statement, Empty, Eval, Block, If, While, Do, For, Break, Continue, Return, ElsePart, NoElse, Else, ForFirst, NoFirst, First, Declare, Specify, Run, Asserts, BlockItems, NoItem, Then}
+use Rattle.c_syntax.specs.Statements.{Labelled, Switch, Cases, NoCase, AnotherCase}
 use Rattle.c_syntax.specs.Programs.{TranslationUnit}
-use Rattle.c_syntax.specs.Layouts.{size_of}
+use Rattle.c_syntax.specs.Layouts.{IntegerType, scalar_of, size_of}
+use Rattle.c_model.specs.Conversions.{promoted}
 use Rattle.c_model.specs.Formed as form
 use Rattle.c_model.specs.Formed.{number_of}
-use Rattle.c_model.specs.Meaning.{declared_in, declared_first}
+use Rattle.c_model.specs.Meaning.{declared_in, declared_first, default_of}
 use Rattle.c_model.specs.ExpressionTyping.{Signature as Known, Sight, inner, with_object, with_objects}
-use Rattle.c_model.specs.StatementTyping.{Around, in_loop, behind_first}
+use Rattle.c_model.specs.StatementTyping.{Around, in_loop, in_switch, behind_first}
 use Rattle.mon_syntax.specs.Registers.{Bindings, RegisterTable, with_kinds, next_register}
 use Rattle.mon_syntax.specs.Trees.{MonStatements, NoStatement}
 use Rattle.mon_syntax.specs.Trees as tree
-use Rattle.mon_syntax.specs.Valid.{Types, Labels, Signature, IsExpression, AreStatements, ReturnsResult, has_label, has_no_step}
-use Rattle.instrument.proofs.FormedTrees.{IsFull, IsFullOrCall, IsFullEffect, IsFullEffectOrCall, AreInitialised, FirstFormed, StatementFormed, ElseFormed, ItemsFormed}
-use Rattle.c_model.specs.TypedTrees.{WhereAny, IsScalar, WellTyped, IsCondition, AreDeclared, Returned, StatementTyped, ElseTyped, ItemsTyped, FirstTyped}
-use Rattle.c_model.specs.TypedAnnotations.{StatementNoted, ElseNoted, ItemsNoted}
+use Rattle.mon_syntax.specs.declared.tree.MonOp.TheVariants.{Eq}
+use Rattle.mon_syntax.specs.declared.tree.MonType.TheVariants.{U64}
+use Rattle.mon_syntax.specs.Valid.{Types, Labels, Signature, IsExpression, IsStatement, AreStatements, ReturnsResult, has_constant, has_operator, second_type, has_label, has_no_step}
+use Rattle.instrument.proofs.FormedTrees.{IsFull, IsFullOrCall, IsFullEffect, IsFullEffectOrCall, AreInitialised, FirstFormed, StatementFormed, CasesFormed, ElseFormed, ItemsFormed}
+use Rattle.c_model.specs.TypedTrees.{WhereAny, IsScalar, WellTyped, IsCondition, AreDeclared, Returned, StatementTyped, CasesTyped, ElseTyped, ItemsTyped, FirstTyped, IsCaseValue}
+use Rattle.c_model.specs.TypedAnnotations.{StatementNoted, CasesNoted, ElseNoted, ItemsNoted}
 use Rattle.track_scopes.specs.Blocks.{entered, deaths}
 use Rattle.c_effects.specs.Letters.{Any, HasLetters, FullHasLetters, EffectHasLetters, InitialsHaveLetters}
-use Rattle.instrument.specs.Limits.{HasNumbers, ElseHasNumbers, FirstHasNumbers, HaveNumbers}
-use Rattle.c_effects.specs.Expressions.{value_type, before, one, set, setup, temporaries, condition_of}
+use Rattle.instrument.specs.Limits.{HasNumbers, CasesHaveNumbers, ElseHasNumbers, FirstHasNumbers, HaveNumbers}
+use Rattle.c_effects.specs.Expressions.{register_type, value_type, before, one, set, setup, temporaries, condition_of}
 use Rattle.annot_code.specs.Code.{assertions}
 use Rattle.c_effects.specs.Effects.{block_of, any_temporaries, full_temporaries, effect_temporaries, initial_temporaries, declaration_temporaries, full_setup, full_value, effect, effect_if_any}
 use Rattle.c_effects.specs.Effects.{initialise, initialise_all, initialise_local, may_be_born}
-use Rattle.instrument.specs.Translation.{Spot, leave_where_zero, test, test_if_any, returned_temporaries, returned, loop, with_variables, after_statement, after_else, after_first, after_item, after_items, statement}
+use Rattle.instrument.specs.Translation.{Spot, leave_where_zero, test, test_if_any, returned_temporaries, switch_temporaries, returned, loop, with_variables, after_statement, after_cases, after_else, after_first, after_item, after_items, statement}
+use Rattle.instrument.specs.Translation.{case_label, test_case, tests_of_cases, search, where_reached, others_in_block, next_cases, blocks_of_cases}
 use Rattle.c_simulation.specs.Labels.{end_label, next_label}
 use Rattle.instrument.specs.Translation.{else_part, first_part, items, result_of}
 use Rattle.instrument.specs.Translation as target
-use Rattle.instrument.proofs.Names.{IsNumber, end_is_free, next_is_free, ends_differ, nexts_differ, same_bytes}
-use Rattle.instrument.proofs.Typed.{begins_left, begins_right, begins_front, register_at, count_of_globals, block_points, known_small, condition_valid}
-use Rattle.instrument.proofs.Tables.{begins_then, statement_begins, else_begins, first_begins, items_begin, HavePointers, pointers_front, pointers_back, pointers_kept, entered_keep, entered_have, statement_keeps, first_keeps, AllPoint, point_both}
+use Rattle.instrument.proofs.Names.{IsNumber, end_is_free, next_is_free, case_is_free, ends_differ, nexts_differ, same_bytes}
+use Rattle.instrument.proofs.Typed.{small_constant, index_constant, begins_left, begins_right, begins_front, register_at, count_of_globals, block_points, known_small, condition_valid}
+use Rattle.instrument.proofs.Tables.{begins_then, statement_begins, cases_begin, else_begins, first_begins, items_begin, HavePointers, pointers_front, pointers_back, pointers_kept, entered_keep, entered_have, statement_keeps, items_keep}
+use Rattle.instrument.proofs.Tables.{first_keeps, AllPoint, point_both}
 use Rattle.instrument.proofs.Tables.{entered_from, point_born}
 use Rattle.instrument.proofs.ValidSetups.{HasValue, setup_valid}
 use Rattle.instrument.proofs.ValidAsserts.{assertions_valid}
@@ -51,55 +58,57 @@ use Rattle.instrument.proofs.Numbers.{structs_behind}
 
 -- ---- labels
 
--- the labels of the bodies of so many loops
-abbrev pub labels : ℕ → Labels
-labels zero = []
-labels (suc k) = next_label (suc k) ∷ end_label (suc k) ∷ labels k
-
 neither : (a b : Bool) → a ≡ false → b ≡ false → (a || b) ≡ false
 neither a b h k = ap (λ x. x || b) h ∙ k
 
-fresh_end : (k m : ℕ) → k < m → IsNumber m → has_label (labels k) (end_label m) ≡ false
-fresh_end zero m lt le = refl
-fresh_end (suc k) m lt le =
-    neither (bytes_eq (end_label m) (end_label (suc k))) (has_label (labels k) (end_label m)) (ends_differ m (suc k) le (omega arith) (λ e. omega (arith, e))) (fresh_end k m (omega arith) le)
+-- The labels of the bodies around a statement, as many loops and switches stand around it, of which the innermost loop has this number: those farther
+-- inside have others, and a `break` and a `continue` find theirs, where they may stand.
+pub record AreAround (ls : Labels) (levels innermost : ℕ) (breaks loops : Bool) : Type 0 where
+  pub new_end : (m : ℕ) → levels < m → IsNumber m → has_label ls (end_label m) ≡ false
+  pub new_next : (m : ℕ) → levels < m → IsNumber m → has_label ls (next_label m) ≡ false
+  pub no_case : (m : ℕ) → has_label ls (case_label m) ≡ false
+  pub end_among : breaks ≡ true → has_label ls (end_label levels) ≡ true
+  pub next_among : loops ≡ true → has_label ls (next_label innermost) ≡ true
 
-fresh_next : (k m : ℕ) → k < m → IsNumber m → has_label (labels k) (next_label m) ≡ false
-fresh_next zero m lt le = refl
-fresh_next (suc k) m lt le =
-    neither (bytes_eq (next_label m) (next_label (suc k))) (bytes_eq (next_label m) (end_label (suc k)) || has_label (labels k) (next_label m)) (nexts_differ m (suc k) le (omega arith) (λ e. omega (arith, e))) (fresh_next k m (omega arith) le)
+pub outside_all : (innermost : ℕ) → AreAround [] 0 innermost false false
+outside_all innermost = record {
+  new_end = λ m lt le. refl;
+  new_next = λ m lt le. refl;
+  no_case = λ m. refl;
+  end_among = λ e. absurd cc;
+  next_among = λ e. absurd cc;
+}
 
--- the labels of the innermost loop are among them
-end_among : (k : ℕ) → has_label (labels (suc k)) (end_label (suc k)) ≡ true
-end_among k = ap (λ b. b || has_label (labels k) (end_label (suc k))) (same_bytes (end_label (suc k)))
+module _ (ls : Labels) (levels innermost : ℕ) (breaks loops : Bool) (h : AreAround ls levels innermost breaks loops) where
+  abbrev inner_level : ℕ
+  inner_level = levels + 1
 
-next_among : (k : ℕ) → has_label (labels (suc k)) (next_label (suc k)) ≡ true
-next_among k = ap (λ b. b || has_label (end_label (suc k) ∷ labels k) (next_label (suc k))) (same_bytes (next_label (suc k)))
+  -- behind the step of a loop, and in a switch
+  abbrev pub ended : Labels
+  ended = end_label inner_level ∷ ls
 
-inside_end : (loops : ℕ) → 0 < loops → has_label (labels loops) (end_label loops) ≡ true
-inside_end zero lt = absurd (omega arith)
-inside_end (suc k) lt = end_among k
+  -- in its body
+  abbrev pub in_body : Labels
+  in_body = next_label inner_level ∷ ended
 
-either_way : (a b : Bool) → b ≡ true → (a || b) ≡ true
-either_way true b e = refl
-either_way false b e = e
+  own_end : has_label ended (end_label inner_level) ≡ true
+  own_end = ap (λ b. b || has_label ls (end_label inner_level)) (same_bytes (end_label inner_level))
 
--- of a loop that stands farther out
-inside_next : (k loops : ℕ) → 0 < k → k ≤ loops → has_label (labels loops) (next_label k) ≡ true
-inside_next k zero lt le = absurd (omega (arith, lt, le))
-inside_next k (suc n) lt le = by (λ less. inside_next k n lt less) (nat_eq k (suc n)) refl
-  where
-    by : (k ≤ n → has_label (labels n) (next_label k) ≡ true) → (t : Bool) → nat_eq k (suc n) ≡ t → has_label (labels (suc n)) (next_label k) ≡ true
-    by go true e = let same : k ≡ suc n = grind (arith, nat_tests) in subst (λ j. has_label (labels (suc n)) (next_label j) ≡ true) (sym same) (next_among n)
-    by go false e =
-        let less : k ≤ n = grind (arith, nat_tests) in
-        either_way (bytes_eq (next_label k) (next_label (suc n))) (has_label (end_label (suc n) ∷ labels n) (next_label k))
-        (either_way (bytes_eq (next_label k) (end_label (suc n))) (has_label (labels n) (next_label k)) (go less))
+  later_end : (m : ℕ) → inner_level < m → IsNumber m → has_label ended (end_label m) ≡ false
+  later_end m lt le = neither (bytes_eq (end_label m) (end_label inner_level)) (has_label ls (end_label m)) (ends_differ m inner_level le (omega (arith, lt, le)) (λ e. omega (arith, e, lt))) (h.new_end m (omega (arith, lt)) le)
 
-one_more_loop : (loops : ℕ) → labels (loops + 1) ≡ next_label (loops + 1) ∷ end_label (loops + 1) ∷ labels loops
-one_more_loop loops =
-    let next : loops + 1 ≡ suc loops = omega arith in
-    ap labels next ∙ ap (λ j. next_label j ∷ end_label j ∷ labels loops) (sym next)
+  around_body : AreAround in_body inner_level inner_level true true
+  around_body = record {
+    new_end = later_end;
+    new_next = λ m lt le.
+        neither (bytes_eq (next_label m) (next_label inner_level)) (has_label ended (next_label m)) (nexts_differ m inner_level le (omega (arith, lt, le)) (λ e. omega (arith, e, lt))) (h.new_next m (omega (arith, lt)) le);
+    no_case = h.no_case;
+    end_among = λ t. own_end;
+    next_among = λ t. ap (λ b. b || has_label ended (next_label inner_level)) (same_bytes (next_label inner_level));
+  }
+
+  around_items : AreAround ended inner_level innermost true loops
+  around_items = record { new_end = later_end; new_next = λ m lt le. h.new_next m (omega (arith, lt)) le; no_case = h.no_case; end_among = λ t. own_end; next_among = h.next_among }
 
 -- ---- statements
 
@@ -174,24 +183,17 @@ module _ (p : TranslationUnit) (gs : List Signature) (ts : Types) (result : Plai
 
   -- ---- loops
 
-  -- the labels after a loop's step, and those of its body
-  abbrev ended : ℕ → Labels
-  ended loops = end_label (loops + 1) ∷ labels loops
-
-  loop_valid : (loops : ℕ) (front body behind : MonStatements) → IsNumber (loops + 1) → has_no_step front ≡ true → has_no_step behind ≡ true → Are (ended loops) front → Are (labels (loops + 1)) body → Are (ended loops) behind
-      → Are (labels loops) (one (loop (loops + 1) front body behind))
-  loop_valid loops front body behind le f g front_valid body_valid behind_valid =
-      let inside = subst (λ ls. Are ls body) (one_more_loop loops) body_valid in (
-        (
-          end_is_free (loops + 1) le,
-          fresh_end loops (loops + 1) (omega arith) le,
-          ((f, g, front_valid, ((next_is_free (loops + 1) le, fresh_next loops (loops + 1) (omega arith) le, inside), behind_valid)), tt),
-        ),
-        tt,
-      )
-
-  own_end : (loops : ℕ) → has_label (ended loops) (end_label (loops + 1)) ≡ true
-  own_end loops = ap (λ b. b || has_label (labels loops) (end_label (loops + 1))) (same_bytes (end_label (loops + 1)))
+  module _ (ls : Labels) (levels innermost : ℕ) (breaks loops : Bool) (h : AreAround ls levels innermost breaks loops) where
+    loop_valid : (front body behind : MonStatements) → IsNumber (levels + 1) → has_no_step front ≡ true → has_no_step behind ≡ true → Are (ended ls levels innermost breaks loops h) front
+        → Are (in_body ls levels innermost breaks loops h) body → Are (ended ls levels innermost breaks loops h) behind → Are ls (one (loop (levels + 1) front body behind))
+    loop_valid front body behind le f g front_valid body_valid behind_valid = (
+      (
+        end_is_free (levels + 1) le,
+        h.new_end (levels + 1) (omega arith) le,
+        ((f, g, front_valid, ((next_is_free (levels + 1) le, h.new_next (levels + 1) (omega arith) le, body_valid), behind_valid)), tt),
+      ),
+      tt,
+    )
 
   -- ---- what stands in which variables' lives
 
@@ -249,6 +251,96 @@ module _ (p : TranslationUnit) (gs : List Signature) (ts : Types) (result : Plai
   sees_first (First (Declare ds)) s r v around h own f q = sees_behind p ts functions r.bound s ds own h v
   sees_first (First (Asserts annots)) s r v around h own f q = v
 
+  -- ---- `switch`
+
+  points_switch : (spot : Spot) → Points ts spot → Points ts (target.in_switch spot)
+  points_switch spot k = record { inside = tt; between = point_both ts spot.inside spot.between k.inside k.between; outside = k.outside }
+
+  -- what is behind the word, in a register
+  pub record IsSwitchValue (ls : Labels) (r : RegisterTable) (e : Expression) : Type 0 where
+    pub setup : Are ls (full_setup p r.bound r.kinds e)
+    pub set : Are ls (set (length (r.kinds ++ full_temporaries e)) (full_value p r.bound r.kinds e))
+    pub register : slice_get ts (length (r.kinds ++ full_temporaries e)) ≡ Some (value_type (type_of e))
+
+  switch_value_valid : (s : Sight) (r : RegisterTable) (v : See r s) (ls : Labels) (e : Expression) (k : CInt) → IsFullOrCall p.structs e → WellTyped s e → type_of e ≡ Int k → FullHasLetters e → Begins (r.kinds ++ returned_temporaries e) ts
+      → IsSwitchValue ls r e
+  switch_value_valid s r v ls e k f q type l b =
+      let te = full_temporaries e in
+      let t = value_type (type_of e) in
+      let scalar : IsScalar (type_of e) = record { scalar = IntegerType k; is = ap scalar_of type } in
+      let x = full_valid p gs ts (result_of result) r.bound s v.knows (calls s v.names_are v.functions_are) ls e r.kinds scalar f.is q f.types l f.small.light (begins_left r.kinds te (t ∷ []) ts b) in
+      let register : slice_get ts (length (r.kinds ++ te)) ≡ Some t = register_at (r.kinds ++ te) ts t (begins_right r.kinds te (t ∷ []) ts b) in
+      record { setup = x.0; set = ((t, register, x.1), tt); register = register }
+
+  index_small : (i : ℕ) (cs : Cases) → CasesHaveNumbers i cs → i < 2 ^ 63
+  index_small i NoCase l = l
+  index_small i (AnotherCase at v body rest) l = let small = index_small (suc i) rest l.1 in omega (arith, small)
+
+  default_small : (i : ℕ) (cs : Cases) → CasesHaveNumbers i cs → i + default_of cs < 2 ^ 63
+  default_small i NoCase l = omega (arith, l)
+  default_small i (AnotherCase at None body rest) l = let small = index_small (suc i) rest l.1 in omega (arith, small)
+  default_small i (AnotherCase at (Some e) body rest) l = let small = default_small (suc i) rest l.1 in omega (arith, small)
+
+  index_valid : (i : ℕ) → i < 2 ^ 63 + 16 → IsExpression (count_of_globals p) ts (tree.Constant U64 (pos i)) U64
+  index_valid i small = record { typed = (refl, index_constant i small); within = omega arith }
+
+  where_valid : (ls : Labels) (j : ℕ) → slice_get ts j ≡ Some U64 → (i : ℕ) → i < 2 ^ 63 + 16 → (a : MonStatements) → Are ls a → IsStatement (count_of_globals p) gs ts (result_of result) ls (where_reached j i a)
+  where_valid ls j has i small a h = (record { typed = (refl, refl, has, (refl, index_constant i small)); within = omega arith }, h, tt)
+
+  -- values of a promoted type are compared in it
+  compared_in : (k : CInt) → has_operator Eq (register_type (promoted k)) ≡ true
+  compared_in c.I8 = refl
+  compared_in c.U8 = refl
+  compared_in c.I16 = refl
+  compared_in c.U16 = refl
+  compared_in c.I32 = refl
+  compared_in c.U32 = refl
+  compared_in c.I64 = refl
+  compared_in c.U64 = refl
+
+  same_second : (k : CInt) → second_type Eq (register_type k) ≡ register_type k
+  same_second c.I8 = refl
+  same_second c.U8 = refl
+  same_second c.I16 = refl
+  same_second c.U16 = refl
+  same_second c.I32 = refl
+  same_second c.U32 = refl
+  same_second c.I64 = refl
+  same_second c.U64 = refl
+
+  module _ (levels v j : ℕ) (k : CInt) (value_there : slice_get ts v ≡ Some (register_type (promoted k))) (index_there : slice_get ts j ≡ Some U64) where
+    found_valid : (ls : Labels) (i : ℕ) → i < 2 ^ 63 → has_label ls (case_label levels) ≡ true → Are ls (before (set j (tree.Constant U64 (pos i))) (one (tree.Goto (case_label levels))))
+    found_valid ls i small among = ((U64, index_there, index_valid i (omega (arith, small))), (among, tt))
+
+    test_case_valid : (ls : Labels) (i : ℕ) → i < 2 ^ 63 → has_label ls (case_label levels) ≡ true → (x : Option Expression) → WhereAny (IsCaseValue (promoted k)) x → Are ls (test_case levels (register_type (promoted k)) v j i x)
+    test_case_valid ls i small among (Some (Node at u (Number z (Some l)))) q =
+        let t = register_type (promoted k) in
+        let constant : has_constant t z ≡ true = small_constant (promoted k) z q.2 in (
+          (
+            record { typed = (refl, compared_in k, value_there, (sym (same_second (promoted k)), constant)); within = omega arith },
+            found_valid ls i small among,
+            tt,
+          ),
+          tt,
+        )
+    test_case_valid ls i small among (Some (Node at u (Number z None))) q = absurd q
+    test_case_valid ls i small among _ q = tt
+
+    tests_valid : (ls : Labels) (i : ℕ) (cs : Cases) (s : Sight) (around : Around) → has_label ls (case_label levels) ≡ true → CasesTyped s around (promoted k) cs → CasesHaveNumbers i cs
+        → Are ls (tests_of_cases levels (register_type (promoted k)) v j i cs)
+    tests_valid ls i NoCase s around among q l = tt
+    tests_valid ls i (AnotherCase at x body rest) s around among q l =
+        let small = index_small (suc i) rest l.1 in
+        and_then ls (test_case levels (register_type (promoted k)) v j i x) (tests_of_cases levels (register_type (promoted k)) v j (suc i) rest)
+        (test_case_valid ls i (omega (arith, small)) among x q.0) (tests_valid ls (suc i) rest s around among q.2 l.1)
+
+    search_valid : (cs : Cases) (s : Sight) (around : Around) (ls : Labels) → IsNumber levels → has_label ls (case_label levels) ≡ false → CasesTyped s around (promoted k) cs → CasesHaveNumbers 0 cs
+        → Are ls (search levels (register_type (promoted k)) v j cs)
+    search_valid cs s around ls le fresh q l =
+        let small = default_small 0 cs l in
+        let among : has_label (case_label levels ∷ ls) (case_label levels) ≡ true = ap (λ b. b || has_label ls (case_label levels)) (same_bytes (case_label levels)) in
+        ((U64, index_there, index_valid (default_of cs) (omega (arith, small))), ((case_is_free levels le, fresh, tests_valid (case_label levels ∷ ls) 0 cs s around among q l), tt))
+
   -- ---- all statements
 
   -- the declarations of a block are of limited sizes
@@ -267,50 +359,52 @@ module _ (p : TranslationUnit) (gs : List Signature) (ts : Types) (result : Plai
   first_small (First (Asserts annots)) s around e q = tt
 
   mutual
-    statement_valid : (a : Statement) (s : Sight) (around : Around) (spot : Spot) (k : Points ts spot) (r : RegisterTable) (v : See r s) → around.result ≡ result
-        → (around.loops ≡ true → (0 < spot.innermost) × (spot.innermost ≤ spot.levels)) × (around.breaks ≡ true → 0 < spot.levels) → StatementFormed p.structs a
-        → StatementTyped s around a → StatementNoted s a → StatementOwn a → HasNumbers a → spot.levels + form.depth a ≤ 1000 → Within (after_statement p a r) → Are (labels spot.levels) (statement p spot r a)
-    statement_valid (Empty at) s around spot k r v same o f q m w l d b = tt
-    statement_valid (Eval at e) s around spot k r v same o f q m w l d b = effect_at s r v (labels spot.levels) e f q l b
-    statement_valid (Block at body) s around spot k r v same o f q m w l d b =
+    statement_valid : (a : Statement) (s : Sight) (around : Around) (ls : Labels) (spot : Spot) (k : Points ts spot) (r : RegisterTable) (v : See r s) → around.result ≡ result
+        → AreAround ls spot.levels spot.innermost around.breaks around.loops → StatementFormed p.structs a
+        → StatementTyped s around a → StatementNoted s a → StatementOwn a → HasNumbers a → spot.levels + form.depth a ≤ 1000 → Within (after_statement p a r) → Are ls (statement p spot r a)
+    statement_valid (Empty at) s around ls spot k r v same o f q m w l d b = tt
+    statement_valid (Eval at e) s around ls spot k r v same o f q m w l d b = effect_at s r v ls e f q l b
+    statement_valid (Block at body) s around ls spot k r v same o f q m w l d b =
         let own = declared_in body in
         let inside = entered own r in
         let born = begins_then inside.kinds (after_items p body inside).kinds ts (items_begin p body inside) b in
         let z2 = sees_later p ts functions r inside s (λ x g h. entered_keep ts x g own r born h) v in
-        alive_valid (count_of_globals p) gs ts (result_of result) (labels spot.levels) p (next_register r) own (items p (with_variables (next_register r) own spot) inside body) (items_small body (inner s) around v.knows.structs_are q)
+        alive_valid (count_of_globals p) gs ts (result_of result) ls p (next_register r) own (items p (with_variables (next_register r) own spot) inside body) (items_small body (inner s) around v.knows.structs_are q)
         (entered_from ts own r born)
-        (items_valid body (inner s) around (with_variables (next_register r) own spot) (points_with spot r own born k) inside (sees_inner p ts functions inside.bound s z2) same o (entered_have ts own r born) f q m w l (omega (arith, d)) b)
-    statement_valid (If at e x y) s around spot k r v same o f q m w l d b =
+        (items_valid body (inner s) around ls (with_variables (next_register r) own spot) (points_with spot r own born k) inside (sees_inner p ts functions inside.bound s z2) same o (entered_have ts own r born) f q m w l (omega (arith, d)) b)
+    statement_valid (If at e x y) s around ls spot k r v same o f q m w l d b =
         let z = with_kinds (temporaries e) r in
         let z2 = after_statement p x z in
         let second = begins_then z2.kinds (after_else p y z2).kinds ts (else_begins p y z2) b in
         let first = begins_then z.kinds z2.kinds ts (statement_begins p x z) second in
         let left = le-max_left (form.depth x) (form.depth_of_else y) in
         let right = le-max_right (form.depth x) (form.depth_of_else y) in
-        and_then (labels spot.levels) (setup p r.bound r.kinds e) (one (tree.If (condition_of p r.bound r.kinds e) (statement p spot z x) (else_part p spot z2 y)))
-        (setup_valid p gs ts (result_of result) r.bound s v.knows (labels spot.levels) e r.kinds (HasValue q.0.scalar) f.0.is q.0.typed f.0.types l.0 f.0.small.light first) (
+        and_then ls (setup p r.bound r.kinds e) (one (tree.If (condition_of p r.bound r.kinds e) (statement p spot z x) (else_part p spot z2 y)))
+        (setup_valid p gs ts (result_of result) r.bound s v.knows ls e r.kinds (HasValue q.0.scalar) f.0.is q.0.typed f.0.types l.0 f.0.small.light first) (
           (
             condition_valid p ts r.bound s v.knows e r.kinds q.0.scalar f.0.is q.0.typed f.0.types l.0 f.0.small.light first,
-            statement_valid x s around spot k z v same o f.1 q.1 m.0 w.0 l.1 (omega (arith, d, left)) second,
-            else_valid y s around spot k z2 (sees_later p ts functions z z2 s (statement_keeps ts p x z second) v) same o f.2 q.2 m.1 w.1 l.2 (omega (arith, d, right)) b,
+            statement_valid x s around ls spot k z v same o f.1 q.1 m.0 w.0 l.1 (omega (arith, d, left)) second,
+            else_valid y s around ls spot k z2 (sees_later p ts functions z z2 s (statement_keeps ts p x z second) v) same o f.2 q.2 m.1 w.1 l.2 (omega (arith, d, right)) b,
           ),
           tt,
         )
-    statement_valid (While at annots e a) s around spot k r v same o f q m w l d b =
+    statement_valid (While at annots e a) s around ls spot k r v same o f q m w l d b =
         let loops = spot.levels + 1 in
         let z = with_kinds (temporaries e) r in
         let first = begins_then z.kinds (after_statement p a z).kinds ts (statement_begins p a z) b in
-        loop_valid spot.levels (test p r.bound r.kinds loops e) (statement p (target.in_loop spot) z a) NoStatement (omega (arith, d)) (no_step_test p r.bound r.kinds loops e) refl
-        (test_at s r v (ended spot.levels) loops e (own_end spot.levels) f.1 q.0 l.0 first)
-        (statement_valid a s (in_loop around) (target.in_loop spot) (points_loop spot k) z v same (λ t. (omega arith, omega arith), λ t. omega arith) f.2 q.1 m.1 w l.1 (omega (arith, d)) b) tt
-    statement_valid (Do at a e) s around spot k r v same o f q m w l d b =
+        loop_valid ls spot.levels spot.innermost around.breaks around.loops o (test p r.bound r.kinds loops e) (statement p (target.in_loop spot) z a) NoStatement (omega (arith, d)) (no_step_test p r.bound r.kinds loops e) refl
+        (test_at s r v (ended ls spot.levels spot.innermost around.breaks around.loops o) loops e (own_end ls spot.levels spot.innermost around.breaks around.loops o) f.1 q.0 l.0 first)
+        (statement_valid a s (in_loop around) (in_body ls spot.levels spot.innermost around.breaks around.loops o)
+        (target.in_loop spot) (points_loop spot k) z v same (around_body ls spot.levels spot.innermost around.breaks around.loops o) f.2 q.1 m.1 w l.1 (omega (arith, d)) b) tt
+    statement_valid (Do at a e) s around ls spot k r v same o f q m w l d b =
         let loops = spot.levels + 1 in
         let z = after_statement p a r in
         let first = begins_front z.kinds (temporaries e) ts b in
-        loop_valid spot.levels NoStatement (statement p (target.in_loop spot) r a) (test p z.bound z.kinds loops e) (omega (arith, d)) refl (no_step_test p z.bound z.kinds loops e) tt
-        (statement_valid a s (in_loop around) (target.in_loop spot) (points_loop spot k) r v same (λ t. (omega arith, omega arith), λ t. omega arith) f.0 q.0 m w l.0 (omega (arith, d)) first)
-        (test_at s z (sees_later p ts functions r z s (statement_keeps ts p a r first) v) (ended spot.levels) loops e (own_end spot.levels) f.1 q.1 l.1 b)
-    statement_valid (For at annots first e step a) s around spot k r v same o f q m w l d b =
+        loop_valid ls spot.levels spot.innermost around.breaks around.loops o NoStatement (statement p (target.in_loop spot) r a) (test p z.bound z.kinds loops e) (omega (arith, d)) refl (no_step_test p z.bound z.kinds loops e) tt
+        (statement_valid a s (in_loop around) (in_body ls spot.levels spot.innermost around.breaks around.loops o)
+        (target.in_loop spot) (points_loop spot k) r v same (around_body ls spot.levels spot.innermost around.breaks around.loops o) f.0 q.0 m w l.0 (omega (arith, d)) first)
+        (test_at s z (sees_later p ts functions r z s (statement_keeps ts p a r first) v) (ended ls spot.levels spot.innermost around.breaks around.loops o) loops e (own_end ls spot.levels spot.innermost around.breaks around.loops o) f.1 q.1 l.1 b)
+    statement_valid (For at annots first e step a) s around ls spot k r v same o f q m w l d b =
         let own = declared_first first in
         let loops = spot.levels + 1 in
         let inside = with_variables (next_register r) own spot in
@@ -333,53 +427,115 @@ module _ (p : TranslationUnit) (gs : List Signature) (ts : Types) (result : Plai
         let tested = test_if_any p z.bound z.kinds loops e in
         let body = statement p (target.in_loop inside) u a in
         let last = effect_if_any p z2.bound z2.kinds step in
-        alive_valid (count_of_globals p) gs ts (result_of result) (labels spot.levels) p (next_register r) own (before front (one (loop loops tested body last))) (first_small first t around v.knows.structs_are q.0) (entered_from ts own r born)
-        (and_then (labels spot.levels) front (one (loop loops tested body last))
-        (first_valid first t y in_born around inside (labels spot.levels) have w.0 f.1 q.0 l.0 second)
-        (loop_valid spot.levels tested body last (omega (arith, d)) (no_step_test_if_any p z.bound z.kinds loops e) (no_step_effect_if_any p z2.bound z2.kinds step)
-        (test_if_any_at after z in_turns (ended spot.levels) loops e (own_end spot.levels) f.2 q.1 l.1 third)
-        (statement_valid a after (in_loop around) (target.in_loop inside) (points_loop inside points) u in_turns same (λ t. (omega arith, omega arith), λ t. omega arith) f.4 q.3 m.1 w.1 l.2 (omega (arith, d)) fourth)
-        (effect_if_any_at after z2 behind (ended spot.levels) step f.3 q.2 l.3 b)))
-    statement_valid (Break at) s around spot k r v same o f q m w l d b = jump_valid spot.inside (labels spot.levels) (end_label spot.levels) k.inside (inside_end spot.levels (o.1 q))
-    statement_valid (Continue at) s around spot k r v same o f q m w l d b =
-        let loop = o.0 q in
-        jump_valid (spot.inside ++ spot.between) (labels spot.levels) (next_label spot.innermost) (point_both ts spot.inside spot.between k.inside k.between) (inside_next spot.innermost spot.levels loop.0 loop.1)
-    statement_valid (Return at e) s around spot k r v same o f q m w l d b = returned_valid spot s r v (labels spot.levels) e k f (subst (λ t. Returned s t e) same q) l b
-    statement_valid _ s around spot k r v same o f q m w l d b = absurd f
+        alive_valid (count_of_globals p) gs ts (result_of result) ls p (next_register r) own (before front (one (loop loops tested body last))) (first_small first t around v.knows.structs_are q.0) (entered_from ts own r born)
+        (and_then ls front (one (loop loops tested body last))
+        (first_valid first t y in_born around inside ls have w.0 f.1 q.0 l.0 second)
+        (loop_valid ls spot.levels spot.innermost around.breaks around.loops o tested body last (omega (arith, d)) (no_step_test_if_any p z.bound z.kinds loops e) (no_step_effect_if_any p z2.bound z2.kinds step)
+        (test_if_any_at after z in_turns (ended ls spot.levels spot.innermost around.breaks around.loops o) loops e (own_end ls spot.levels spot.innermost around.breaks around.loops o) f.2 q.1 l.1 third)
+        (statement_valid a after (in_loop around) (in_body ls spot.levels spot.innermost around.breaks around.loops o)
+        (target.in_loop inside) (points_loop inside points) u in_turns same (around_body ls spot.levels spot.innermost around.breaks around.loops o) f.4 q.3 m.1 w.1 l.2 (omega (arith, d)) fourth)
+        (effect_if_any_at after z2 behind (ended ls spot.levels spot.innermost around.breaks around.loops o) step f.3 q.2 l.3 b)))
+    statement_valid (Break at) s around ls spot k r v same o f q m w l d b = jump_valid spot.inside ls (end_label spot.levels) k.inside (o.end_among q)
+    statement_valid (Continue at) s around ls spot k r v same o f q m w l d b =
+        jump_valid (spot.inside ++ spot.between) ls (next_label spot.innermost) (point_both ts spot.inside spot.between k.inside k.between) (o.next_among q)
+    statement_valid (Return at e) s around ls spot k r v same o f q m w l d b = returned_valid spot s r v ls e k f (subst (λ t. Returned s t e) same q) l b
+    statement_valid (Labelled at x a) s around ls spot k r v same o f q m w l d b = absurd f
+    statement_valid (Switch at e cases) s around ls spot k r v same o f q m w l d b =
+        let levels = spot.levels + 1 in
+        let taken = returned_temporaries e in
+        let z = with_kinds (switch_temporaries e) r in
+        let first = begins_then z.kinds (after_cases p cases z).kinds ts (cases_begin p cases z) b in
+        let chosen : slice_get ts (length (r.kinds ++ taken)) ≡ Some U64 = register_at (r.kinds ++ taken) ts U64 (begins_right r.kinds taken (U64 ∷ []) ts first) in
+        let is = (switch_value_valid s r v ls e (promoted q.0) f.0 q.1 q.2 l.0 (begins_left r.kinds taken (U64 ∷ []) ts first)) in
+        let search_code = search levels (value_type (type_of e)) (length (r.kinds ++ full_temporaries e)) (length (r.kinds ++ taken)) cases in
+        let items_code = blocks_of_cases p (target.in_switch spot) z (length (r.kinds ++ taken)) 0 0 cases in
+        and_then ls (full_setup p r.bound r.kinds e) (before (set (length (r.kinds ++ full_temporaries e)) (full_value p r.bound r.kinds e)) (before search_code (one (tree.Labelled items_code (end_label levels))))) is.setup
+        (and_then ls (set (length (r.kinds ++ full_temporaries e)) (full_value p r.bound r.kinds e)) (before search_code (one (tree.Labelled items_code (end_label levels)))) is.set
+        (and_then ls search_code (one (tree.Labelled items_code (end_label levels)))
+        (subst (λ t. Are ls (search levels (value_type t) (length (r.kinds ++ full_temporaries e)) (length (r.kinds ++ taken)) cases)) (sym q.2)
+        (search_valid levels (length (r.kinds ++ full_temporaries e)) (length (r.kinds ++ taken)) q.0 (subst (λ t. slice_get ts (length (r.kinds ++ full_temporaries e)) ≡ Some (value_type t)) q.2 is.register) chosen
+        cases s (in_switch around) ls (omega (arith, d)) (o.no_case levels) q.3 l.1)) (
+          (
+            end_is_free levels (omega (arith, d)),
+            o.new_end levels (omega arith) (omega (arith, d)),
+            blocks_valid cases s (in_switch around) (promoted q.0) (ended ls spot.levels spot.innermost around.breaks around.loops o) (target.in_switch spot) (points_switch spot k) (length (r.kinds ++ taken)) chosen 0 0 z v same
+                (around_items ls spot.levels spot.innermost around.breaks around.loops o) f.1 q.3 m w l.1 (omega (arith, d)) b,
+          ),
+          tt,
+        )))
 
-    else_valid : (y : ElsePart) (s : Sight) (around : Around) (spot : Spot) (k : Points ts spot) (r : RegisterTable) (v : See r s) → around.result ≡ result
-        → (around.loops ≡ true → (0 < spot.innermost) × (spot.innermost ≤ spot.levels)) × (around.breaks ≡ true → 0 < spot.levels) → ElseFormed p.structs y → ElseTyped s around y
-        → ElseNoted s y → ElseOwn y → ElseHasNumbers y → spot.levels + form.depth_of_else y ≤ 1000 → Within (after_else p y r) → Are (labels spot.levels) (else_part p spot r y)
-    else_valid NoElse s around spot k r v same o f q m w l d b = tt
-    else_valid (Else a) s around spot k r v same o f q m w l d b = statement_valid a s around spot k r v same o f q m w l d b
+    -- the items of the next cases, and those of all others
+    next_valid : (cs : Cases) (s : Sight) (around : Around) (c : CInt) (ls : Labels) (spot : Spot) (k : Points ts spot) (j : ℕ) (has : slice_get ts j ≡ Some U64) (i n : ℕ) (r : RegisterTable) (v : See r s) → around.result ≡ result
+        → AreAround ls spot.levels spot.innermost around.breaks around.loops → CasesFormed p.structs cs → CasesTyped s around c cs
+        → CasesNoted s cs → CasesOwn cs → CasesHaveNumbers i cs → spot.levels + form.depth_of_cases cs ≤ 1000 → Within (after_cases p cs r) → Are ls (next_cases p spot r j i n cs)
+    next_valid NoCase s around c ls spot k j has i n r v same o f q m w l d b = tt
+    next_valid (AnotherCase at x body rest) s around c ls spot k j has i zero r v same o f q m w l d b = tt
+    next_valid (AnotherCase at x body rest) s around c ls spot k j has i (suc n) r v same o f q m w l d b =
+        let z = after_items p body r in
+        let first = begins_then z.kinds (after_cases p rest z).kinds ts (cases_begin p rest z) b in
+        let left = le-max_left (form.depth_of_items body) (form.depth_of_cases rest) in
+        let right = le-max_right (form.depth_of_items body) (form.depth_of_cases rest) in
+        let small = index_small (suc i) rest l.1 in (
+          where_valid ls j has i (omega (arith, small)) (items p spot r body) (items_valid body s around ls spot k r v same o (subst (HavePointers ts r.bound) (sym f.0) tt) f.1 q.1 m.0 w.0 l.0 (omega (arith, d, left)) first),
+          next_valid rest s around c ls spot k j has (suc i) n z (sees_later p ts functions r z s (items_keep ts p body r first) v) same o f.2 q.2 m.1 w.1 l.1 (omega (arith, d, right)) b,
+        )
 
-    pub items_valid : (is : BlockItems) (s : Sight) (around : Around) (spot : Spot) (k : Points ts spot) (r : RegisterTable) (v : See r s) → around.result ≡ result
-        → (around.loops ≡ true → (0 < spot.innermost) × (spot.innermost ≤ spot.levels)) × (around.breaks ≡ true → 0 < spot.levels) → Have r (declared_in is)
-        → ItemsFormed p.structs is → ItemsTyped s around is → ItemsNoted s is → ItemsOwn is → HaveNumbers is → spot.levels + form.depth_of_items is ≤ 1000 → Within (after_items p is r) → Are (labels spot.levels) (items p spot r is)
-    items_valid NoItem s around spot k r v same o h f q m w l d b = tt
-    items_valid (Then (Declare ds) rest) s around spot k r v same o h f q m w l d b =
+    blocks_valid : (cs : Cases) (s : Sight) (around : Around) (c : CInt) (ls : Labels) (spot : Spot) (k : Points ts spot) (j : ℕ) (has : slice_get ts j ≡ Some U64) (i n : ℕ) (r : RegisterTable) (v : See r s) → around.result ≡ result
+        → AreAround ls spot.levels spot.innermost around.breaks around.loops → CasesFormed p.structs cs → CasesTyped s around c cs
+        → CasesNoted s cs → CasesOwn cs → CasesHaveNumbers i cs → spot.levels + form.depth_of_cases cs ≤ 1000 → Within (after_cases p cs r) → Are ls (blocks_of_cases p spot r j i n cs)
+    blocks_valid NoCase s around c ls spot k j has i n r v same o f q m w l d b = tt
+    blocks_valid (AnotherCase at x body rest) s around c ls spot k j has i zero r v same o f q m w l d b =
+        let z = after_items p body r in
+        let first = begins_then z.kinds (after_cases p rest z).kinds ts (cases_begin p rest z) b in
+        let later = sees_later p ts functions r z s (items_keep ts p body r first) v in
+        let left = le-max_left (form.depth_of_items body) (form.depth_of_cases rest) in
+        let right = le-max_right (form.depth_of_items body) (form.depth_of_cases rest) in
+        let small = index_small (suc i) rest l.1 in (
+          where_valid ls j has (i + others_in_block) (omega (arith, small)) (tree.Then (where_reached j i (items p spot r body)) (next_cases p spot z j (suc i) others_in_block rest)) (
+            where_valid ls j has i (omega (arith, small)) (items p spot r body) (items_valid body s around ls spot k r v same o (subst (HavePointers ts r.bound) (sym f.0) tt) f.1 q.1 m.0 w.0 l.0 (omega (arith, d, left)) first),
+            next_valid rest s around c ls spot k j has (suc i) others_in_block z later same o f.2 q.2 m.1 w.1 l.1 (omega (arith, d, right)) b,
+          ),
+          blocks_valid rest s around c ls spot k j has (suc i) others_in_block z later same o f.2 q.2 m.1 w.1 l.1 (omega (arith, d, right)) b,
+        )
+    blocks_valid (AnotherCase at x body rest) s around c ls spot k j has i (suc n) r v same o f q m w l d b =
+        let z = after_items p body r in
+        let first = begins_then z.kinds (after_cases p rest z).kinds ts (cases_begin p rest z) b in
+        let right = le-max_right (form.depth_of_items body) (form.depth_of_cases rest) in
+        blocks_valid rest s around c ls spot k j has (suc i) n z (sees_later p ts functions r z s (items_keep ts p body r first) v) same o f.2 q.2 m.1 w.1 l.1 (omega (arith, d, right)) b
+
+    else_valid : (y : ElsePart) (s : Sight) (around : Around) (ls : Labels) (spot : Spot) (k : Points ts spot) (r : RegisterTable) (v : See r s) → around.result ≡ result
+        → AreAround ls spot.levels spot.innermost around.breaks around.loops → ElseFormed p.structs y → ElseTyped s around y
+        → ElseNoted s y → ElseOwn y → ElseHasNumbers y → spot.levels + form.depth_of_else y ≤ 1000 → Within (after_else p y r) → Are ls (else_part p spot r y)
+    else_valid NoElse s around ls spot k r v same o f q m w l d b = tt
+    else_valid (Else a) s around ls spot k r v same o f q m w l d b = statement_valid a s around ls spot k r v same o f q m w l d b
+
+    pub items_valid : (is : BlockItems) (s : Sight) (around : Around) (ls : Labels) (spot : Spot) (k : Points ts spot) (r : RegisterTable) (v : See r s) → around.result ≡ result
+        → AreAround ls spot.levels spot.innermost around.breaks around.loops → Have r (declared_in is)
+        → ItemsFormed p.structs is → ItemsTyped s around is → ItemsNoted s is → ItemsOwn is → HaveNumbers is → spot.levels + form.depth_of_items is ≤ 1000 → Within (after_items p is r) → Are ls (items p spot r is)
+    items_valid NoItem s around ls spot k r v same o h f q m w l d b = tt
+    items_valid (Then (Declare ds) rest) s around ls spot k r v same o h f q m w l d b =
         let z = with_kinds (declaration_temporaries ds) r in
         let first = begins_then z.kinds (after_items p rest z).kinds ts (items_begin p rest z) b in
         let own = pointers_front ts r.bound ds (declared_in rest) h in
         let right = le-max_right 0 (form.depth_of_items rest) in
-        and_then (labels spot.levels) (initialise_all p r.bound r.kinds ds) (items p spot z rest)
-        (initials_valid ds s r.bound v (labels spot.levels) r.kinds own w.0 f.0 q.0 l.0 first)
-        (items_valid rest (with_objects s ds) around spot k z (sees_behind p ts functions r.bound s ds w.0 own v) same o (pointers_back ts r.bound ds (declared_in rest) h) f.1 q.1 m.1 w.1 l.1 (omega (arith, d, right)) b)
-    items_valid (Then (Specify at t) rest) s around spot k r v same o h f q m w l d b =
-        let right = le-max_right 0 (form.depth_of_items rest) in items_valid rest s around spot k r v same o h f.1 q.1 m.1 w.1 l.1 (omega (arith, d, right)) b
-    items_valid (Then (Run a) rest) s around spot k r v same o h f q m w l d b =
+        and_then ls (initialise_all p r.bound r.kinds ds) (items p spot z rest)
+        (initials_valid ds s r.bound v ls r.kinds own w.0 f.0 q.0 l.0 first)
+        (items_valid rest (with_objects s ds) around ls spot k z (sees_behind p ts functions r.bound s ds w.0 own v) same o (pointers_back ts r.bound ds (declared_in rest) h) f.1 q.1 m.1 w.1 l.1 (omega (arith, d, right)) b)
+    items_valid (Then (Specify at t) rest) s around ls spot k r v same o h f q m w l d b =
+        let right = le-max_right 0 (form.depth_of_items rest) in items_valid rest s around ls spot k r v same o h f.1 q.1 m.1 w.1 l.1 (omega (arith, d, right)) b
+    items_valid (Then (Run a) rest) s around ls spot k r v same o h f q m w l d b =
         let z = after_statement p a r in
         let first = begins_then z.kinds (after_items p rest z).kinds ts (items_begin p rest z) b in
         let keeps = statement_keeps ts p a r first in
         let left = le-max_left (form.depth a) (form.depth_of_items rest) in
         let right = le-max_right (form.depth a) (form.depth_of_items rest) in
-        and_then (labels spot.levels) (statement p spot r a) (items p spot z rest)
-        (statement_valid a s around spot k r v same o f.0 q.0 m.0 w.0 l.0 (omega (arith, d, left)) first)
-        (items_valid rest s around spot k z (sees_later p ts functions r z s keeps v) same o (pointers_kept ts r z (declared_in rest) keeps h) f.1 q.1 m.1 w.1 l.1 (omega (arith, d, right)) b)
-    items_valid (Then (Asserts annots) rest) s around spot k r v same o h f q m w l d b =
+        and_then ls (statement p spot r a) (items p spot z rest)
+        (statement_valid a s around ls spot k r v same o f.0 q.0 m.0 w.0 l.0 (omega (arith, d, left)) first)
+        (items_valid rest s around ls spot k z (sees_later p ts functions r z s keeps v) same o (pointers_kept ts r z (declared_in rest) keeps h) f.1 q.1 m.1 w.1 l.1 (omega (arith, d, right)) b)
+    items_valid (Then (Asserts annots) rest) s around ls spot k r v same o h f q m w l d b =
         let z = after_item p (Asserts annots) r in
         let first = begins_then z.kinds (after_items p rest z).kinds ts (items_begin p rest z) b in
         let right = le-max_right 0 (form.depth_of_items rest) in
-        and_then (labels spot.levels) (assertions p r.bound r.kinds annots) (items p spot z rest)
-        (assertions_valid p ts r.bound s v.knows gs (result_of result) (labels spot.levels) r.kinds annots f.0 m.0 l.0 first)
-        (items_valid rest s around spot k z v same o h f.1 q.1 m.1 w.1 l.1 (omega (arith, d, right)) b)
+        and_then ls (assertions p r.bound r.kinds annots) (items p spot z rest)
+        (assertions_valid p ts r.bound s v.knows gs (result_of result) ls r.kinds annots f.0 m.0 l.0 first)
+        (items_valid rest s around ls spot k z v same o h f.1 q.1 m.1 w.1 l.1 (omega (arith, d, right)) b)

@@ -7,17 +7,20 @@ use Rattle.c_syntax.specs.declared.expression.BinOp.TheVariants as operator
 use Rattle.c_syntax.specs.Ctypes.{PlainType, Void, Int, Ptr, Array, Count, int_type}
 use Rattle.c_syntax.specs.Expressions as source
 use Rattle.c_syntax.specs.Expressions.{Expression, Node}
-use Rattle.c_syntax.specs.Statements.{Declaration}
+use Rattle.c_syntax.specs.Statements as statement
+use Rattle.c_syntax.specs.Statements.{Declaration, Cases, NoCase, AnotherCase, BlockItems, NoItem, Run}
 use Rattle.c_syntax.specs.Programs.{TranslationUnit}
 use Rattle.std.specs.Prelude.{codes}
 use Rattle.mon_syntax.specs.declared.tree.MemoryCall.TheVariants.{Malloc, Free}
 use Rattle.mon_syntax.specs.declared.tree.MonOp.TheVariants as mon
 use Rattle.mon_syntax.specs.declared.tree.MonType.TheVariants as kind
-use Rattle.mon_syntax.specs.Registers.{Bindings}
-use Rattle.mon_syntax.specs.Trees.{Register, Global, Constant, Binary, Minus, Cast, Load, Store, Act, Then, NoStatement, Zeros, Literal}
+use Rattle.mon_syntax.specs.Registers.{Bindings, RegisterTable}
+use Rattle.mon_syntax.specs.Trees.{Register, Global, Constant, Binary, Minus, Cast, Load, Set, Store, Act, If, Labelled, Goto, Return, MonStatement, MonStatements, Then, NoStatement, Zeros, Literal}
 use Rattle.mon_syntax.specs.Valid.{open_parens}
-use Rattle.c_effects.specs.Expressions.{value, literal, pointer_to}
-use Rattle.instrument.specs.Translation.{text_name, global_name, monitored_globals}
+use Rattle.c_effects.specs.Expressions.{value, literal, pointer_to, one}
+use Rattle.c_simulation.specs.Labels.{end_label}
+use Rattle.instrument.specs.Translation as target
+use Rattle.instrument.specs.Translation.{outermost, case_label, text_name, global_name, monitored_globals}
 use Rattle.c_effects.specs.Effects.{effect}
 use Rattle.c_model.specs.Sizes.{weight_of}
 
@@ -122,3 +125,34 @@ pointer_to-global = refl
 
 literal-last : literal with_literals 1 ≡ Global 2
 literal-last = refl
+
+-- ---- `switch (n) { case 3: break; default: case 7: return; }`, in a function that isn't in a loop
+
+abbrev number : ℕ → Expression
+number n = Node here int_type (source.Number (pos n) (Some c.I32))
+
+abbrev run : statement.Statement → BlockItems
+run a = statement.Then (Run a) NoItem
+
+abbrev three_cases : Cases
+three_cases = AnotherCase here (Some (number 3)) (run (statement.Break here)) (AnotherCase here None NoItem (AnotherCase here (Some (number 7)) (run (statement.Return here None)) NoCase))
+
+-- after the registers of two variables
+abbrev two : RegisterTable
+two = record { kinds = kind.Ptr ∷ kind.Ptr ∷ []; bound = bound }
+
+-- the test of a case
+abbrev found : ℕ → ℕ → MonStatement
+found n i = If (Binary mon.Eq kind.I32 (Register 2) (Constant kind.I32 (pos n))) (Then (Set 3 (Constant kind.U64 (pos i))) (one (Goto (case_label 1)))) NoStatement
+
+-- what is done where the case that is chosen is this one or stands in front of it
+abbrev reached : ℕ → MonStatements → MonStatement
+reached i a = If (Binary mon.Le kind.U64 (Register 3) (Constant kind.U64 (pos i))) a NoStatement
+
+switch_is : target.statement program (outermost []) two (statement.Switch here (int 2) three_cases)
+    ≡ Then (Set 2 (Load kind.I32 (Register 1))) (Then (Set 3 (Constant kind.U64 (pos 1))) (Then (Labelled (Then (found 3 0) (one (found 7 2))) (case_label 1))
+    (one (Labelled (one (reached 15 (Then (reached 0 (one (Goto (end_label 1)))) (Then (reached 1 NoStatement) (one (reached 2 (one (Return None)))))))) (end_label 1)))))
+switch_is = refl
+
+switch_registers : (target.after_statement program (statement.Switch here (int 2) three_cases) two).kinds ≡ kind.Ptr ∷ kind.Ptr ∷ kind.I32 ∷ kind.U64 ∷ []
+switch_registers = refl

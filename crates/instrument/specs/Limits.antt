@@ -4,6 +4,7 @@
 use Rattle.std.specs.Prelude.{◌≡◌, true, ℕ, suc, ◌<◌, ◌^◌, if◌then◌else◌, nat_eq, length, List, [], ◌∷◌, Option, Some, None}
 use Rattle.c_syntax.specs.Statements.{Statement, Empty, Eval, Block, If, While, Do, For, Break, Continue, Return, Labelled, Switch}
 use Rattle.c_syntax.specs.Statements.{ElsePart, NoElse, Else, ForFirst, NoFirst, First, BlockItem, Declare, Specify, Run, Asserts, BlockItems, NoItem, Then}
+use Rattle.c_syntax.specs.Statements.{Cases, NoCase, AnotherCase}
 use Rattle.c_syntax.specs.Programs.{Function, TranslationUnit}
 use Rattle.c_model.specs.Meaning.{is_definition}
 use Rattle.c_effects.specs.Letters.{Any, HasLetters, FullHasLetters, EffectHasLetters, InitialsHaveLetters}
@@ -26,7 +27,12 @@ abbrev mutual
   HasNumbers (Continue at) = Unit {0}
   HasNumbers (Return at e) = Any FullHasLetters e
   HasNumbers (Labelled at l a) = ⊥
-  HasNumbers (Switch at e cases) = ⊥
+  HasNumbers (Switch at e cases) = FullHasLetters e × CasesHaveNumbers 0 cases
+
+  -- cases, of which the first one has this index
+  pub CasesHaveNumbers : ℕ → Cases → Type 0
+  CasesHaveNumbers i NoCase = i < 2 ^ 63
+  CasesHaveNumbers i (AnotherCase at v body rest) = HaveNumbers body × CasesHaveNumbers (suc i) rest
 
   pub ElseHasNumbers : ElsePart → Type 0
   ElseHasNumbers NoElse = Unit {0}

@@ -1,25 +1,27 @@
 -- Ours: a choice of code; what it has to do is C99 6.8 and 6.9, by the theorem of this crate.
 -- The program in monitored C that an annotated program becomes. A variable's value stands in its block of memory, which is born and dies where
 -- the variable does, and a register points to the block.
-use Rattle.std.specs.Prelude.{ℕ, suc, ◌+◌, Bool, List, [], ◌∷◌, ◌++◌, length, take, drop, map, Option, Some, None, if◌then◌else◌, nat_eq, codes, bytes_eq}
+use Rattle.std.specs.Prelude.{ℕ, zero, suc, ◌+◌, pos, Bool, List, [], ◌∷◌, ◌++◌, length, take, drop, map, Option, Some, None, if◌then◌else◌, nat_eq}
+use Rattle.std.specs.Prelude.{codes, bytes_eq}
 use Rattle.std.specs.Fmt.{decimal}
 use Rattle.c_syntax.specs.declared.place.Place.{Place}
 use Rattle.c_syntax.specs.Ctypes as source_type
 use Rattle.c_syntax.specs.Ctypes.{PlainType, Int}
-use Rattle.c_syntax.specs.Expressions.{Expression, type_of}
+use Rattle.c_syntax.specs.Expressions.{Expression, Node, Number, type_of}
 use Rattle.c_syntax.specs.Statements as source_statement
 use Rattle.c_syntax.specs.Statements.{Declaration, Statement, ElsePart, NoElse, Else, ForFirst, NoFirst, First, BlockItem, Declare, Specify, Run, Asserts}
 use Rattle.c_syntax.specs.Statements.{BlockItems}
-use Rattle.c_syntax.specs.Statements.{NoItem, Initialiser}
+use Rattle.c_syntax.specs.Statements.{NoItem, Initialiser, Cases, NoCase, AnotherCase}
 use Rattle.c_syntax.specs.Programs.{Function, TranslationUnit}
 use Rattle.c_syntax.specs.Layouts.{size_of}
-use Rattle.c_model.specs.Meaning.{declared_in, declared_first, is_definition}
+use Rattle.c_model.specs.Meaning.{declared_in, declared_first, default_of, is_definition}
 use Rattle.c_model.specs.ExpressionTyping.{name_at}
 use Rattle.c_model.specs.Formed.{number_of}
 use Rattle.c_model.specs.StaticObjects.{StaticObject, OfGlobal, OfLiteral, static_objects}
 use Rattle.mon_syntax.specs.declared.tree.MonType.{MonType}
-use Rattle.mon_syntax.specs.declared.tree.MonType.TheVariants.{Ptr}
-use Rattle.mon_syntax.specs.Trees.{MonExpression, MonStatement, Register, Global, Store, If, Loop, Labelled, Goto, Return}
+use Rattle.mon_syntax.specs.declared.tree.MonOp.TheVariants.{Eq, Le}
+use Rattle.mon_syntax.specs.declared.tree.MonType.TheVariants.{U64, Ptr}
+use Rattle.mon_syntax.specs.Trees.{MonExpression, MonStatement, Register, Global, Constant, Binary, Store, If, Loop, Labelled, Goto, Return}
 use Rattle.mon_syntax.specs.Trees.{MonStatements, NoStatement, Then, MonRegister}
 use Rattle.mon_syntax.specs.Trees.{Zeros, Literal, MonitoredGlobal, MonFunction, MonitoredProgram}
 use Rattle.mon_syntax.specs.Registers.{Bindings, RegisterTable, no_registers, with_kinds, next_register}
@@ -62,6 +64,10 @@ index_of_main names (f ∷ fs) =
 abbrev pub returned_temporaries : Expression → List MonType
 returned_temporaries e = full_temporaries e ++ value_type (type_of e) ∷ []
 
+-- those that take the value of what is behind `switch`, and the index of the case that is chosen
+abbrev pub switch_temporaries : Expression → List MonType
+switch_temporaries e = returned_temporaries e ++ U64 ∷ []
+
 abbrev mutual
   pub after_statement : TranslationUnit → Statement → RegisterTable → RegisterTable
   after_statement p (source_statement.Empty at) r = r
@@ -77,7 +83,11 @@ abbrev mutual
   after_statement p (source_statement.Continue at) r = r
   after_statement p (source_statement.Return at e) r = with_kinds (any_temporaries returned_temporaries e) r
   after_statement p (source_statement.Labelled at l a) r = r
-  after_statement p (source_statement.Switch at e cases) r = r
+  after_statement p (source_statement.Switch at e cases) r = after_cases p cases (with_kinds (switch_temporaries e) r)
+
+  pub after_cases : TranslationUnit → Cases → RegisterTable → RegisterTable
+  after_cases p NoCase r = r
+  after_cases p (AnotherCase at v body rest) r = after_cases p rest (after_items p body r)
 
   pub after_else : TranslationUnit → ElsePart → RegisterTable → RegisterTable
   after_else p NoElse r = r
@@ -147,9 +157,43 @@ all_live spot = spot.inside ++ (spot.between ++ spot.outside)
 abbrev pub in_loop : Spot → Spot
 in_loop spot = record { levels = spot.levels + 1; innermost = spot.levels + 1; inside = []; between = []; outside = all_live spot }
 
+-- the items of a `switch`
+abbrev pub in_switch : Spot → Spot
+in_switch spot = record { levels = spot.levels + 1; innermost = spot.innermost; inside = []; between = spot.inside ++ spot.between; outside = spot.outside }
+
 -- after the births of these variables, to which the registers from p on point
 abbrev pub with_variables : ℕ → List Declaration → Spot → Spot
 with_variables p ds spot = record spot { inside = with_born p ds spot.inside }
+
+-- ---- `switch`, around whose items stand so many loops and switches
+
+-- `case_3`: the end of the search for a case
+abbrev pub case_label : ℕ → List ℕ
+case_label levels = codes "case_" ++ decimal levels
+
+-- where the value in the register v, of the type, is that of a case, its index goes into the register j, and the search ends
+abbrev pub test_case : ℕ → MonType → ℕ → ℕ → ℕ → Option Expression → MonStatements
+test_case levels t v j i (Some (Node at u (Number n k))) =
+    one (If (Binary Eq t (Register v) (Constant t n)) (before (set j (Constant U64 (pos i))) (one (Goto (case_label levels)))) NoStatement)
+test_case levels t v j i _ = NoStatement
+
+-- the tests of these cases, of which the first one has the index i
+abbrev pub tests_of_cases : ℕ → MonType → ℕ → ℕ → ℕ → Cases → MonStatements
+tests_of_cases levels t v j i NoCase = NoStatement
+tests_of_cases levels t v j i (AnotherCase at value body rest) = before (test_case levels t v j i value) (tests_of_cases levels t v j (suc i) rest)
+
+-- the search: it begins with the index of the default, or else the number of cases
+abbrev pub search : ℕ → MonType → ℕ → ℕ → Cases → MonStatements
+search levels t v j cases =
+    before (set j (Constant U64 (pos (default_of cases)))) (one (Labelled (tests_of_cases levels t v j 0 cases) (case_label levels)))
+
+-- what is done where the index of the chosen case, in the register j, is at most i
+abbrev pub where_reached : ℕ → ℕ → MonStatements → MonStatement
+where_reached j i a = If (Binary Le U64 (Register j) (Constant U64 (pos i))) a NoStatement
+
+-- how many cases stand behind the first one in a block, whose items are passed over by one test
+abbrev pub others_in_block : ℕ
+others_in_block = 15
 
 -- ---- a function of the program
 
@@ -188,7 +232,27 @@ module _ (p : TranslationUnit) where
     statement spot r (source_statement.Continue at) = before (deaths (spot.inside ++ spot.between)) (one (Goto (next_label spot.innermost)))
     statement spot r (source_statement.Return at e) = returned spot r e
     statement spot r (source_statement.Labelled at l a) = NoStatement
-    statement spot r (source_statement.Switch at e cases) = NoStatement
+    statement spot r (source_statement.Switch at e cases) =
+        before (full_setup p r.bound r.kinds e) (before (set (length (r.kinds ++ full_temporaries e)) (full_value p r.bound r.kinds e))
+        (before (search (spot.levels + 1) (value_type (type_of e)) (length (r.kinds ++ full_temporaries e)) (length (r.kinds ++ returned_temporaries e)) cases)
+        (one (Labelled (blocks_of_cases (in_switch spot) (with_kinds (switch_temporaries e) r) (length (r.kinds ++ returned_temporaries e)) 0 0 cases)
+        (end_label (spot.levels + 1))))))
+
+    -- the items of the next k cases, of which the first one has the index i: those of the chosen case, whose index is in the register j, and of all behind it
+    pub next_cases : Spot → RegisterTable → ℕ → ℕ → ℕ → Cases → MonStatements
+    next_cases spot r j i k NoCase = NoStatement
+    next_cases spot r j i zero (AnotherCase at v body rest) = NoStatement
+    next_cases spot r j i (suc k) (AnotherCase at v body rest) =
+        Then (where_reached j i (items spot r body)) (next_cases spot (after_items p body r) j (suc i) k rest)
+
+    -- those of all cases but the next k, in blocks
+    pub blocks_of_cases : Spot → RegisterTable → ℕ → ℕ → ℕ → Cases → MonStatements
+    blocks_of_cases spot r j i k NoCase = NoStatement
+    blocks_of_cases spot r j i zero (AnotherCase at v body rest) =
+        Then (where_reached j (i + others_in_block)
+        (Then (where_reached j i (items spot r body)) (next_cases spot (after_items p body r) j (suc i) others_in_block rest)))
+        (blocks_of_cases spot (after_items p body r) j (suc i) others_in_block rest)
+    blocks_of_cases spot r j i (suc k) (AnotherCase at v body rest) = blocks_of_cases spot (after_items p body r) j (suc i) k rest
 
     pub else_part : Spot → RegisterTable → ElsePart → MonStatements
     else_part spot r NoElse = NoStatement
