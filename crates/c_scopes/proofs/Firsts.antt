@@ -3,7 +3,7 @@ use Rattle.std.proofs.Common.{◌≡◌, ℕ, zero, suc, ◌+◌, ◌<◌, List,
 use Rattle.std.proofs.lemmas.Bool.Decides.{nat_tests}
 use Rattle.std.specs.Map.{lookup}
 use Rattle.c_model.specs.ExpressionTyping.{or_else}
-use Rattle.c_scopes.specs.Firsts.{AreFirst, Notes, first_number}
+use Rattle.c_scopes.specs.Firsts.{AreFirst, IsNoted, Notes, first_number}
 
 -- ---- what is found
 
@@ -86,32 +86,34 @@ first_last x (k ∷ ks) y = by (nat_eq x k) (first_number x ks) (nat_eq x y) (fi
     by false (Some n) b e = ap (option_map suc) e
 
 -- a key that is known keeps its first
-pub first_kept : (firsts : List (ℕ × ℕ)) (y n : ℕ) → is_some (lookup (nat_eq y) firsts) ≡ true → Notes firsts y n firsts
-first_kept firsts y n known ks count first x =
-    by (lookup (nat_eq x) firsts) (nat_eq x y) refl refl ∙ ap (λ o. or_else o (cond (nat_eq x y) (Some (length ks)) None)) (first x) ∙ sym (first_last x ks y)
+pub first_kept : (firsts : List (ℕ × ℕ)) (y n : ℕ) → is_some (lookup (nat_eq y) firsts) ≡ true → IsNoted firsts y n firsts
+first_kept firsts y n known x = by (lookup (nat_eq x) firsts) (nat_eq y x) refl refl
   where
-    by : (o : Option ℕ) (b : Bool) → lookup (nat_eq x) firsts ≡ o → nat_eq x y ≡ b → o ≡ or_else o (cond b (Some (length ks)) None)
-    by (Some n) b eo eb = refl
+    by : (o : Option ℕ) (b : Bool) → lookup (nat_eq x) firsts ≡ o → nat_eq y x ≡ b → o ≡ or_else o (cond b (Some n) None)
+    by (Some m) b eo eb = refl
     by None false eo eb = refl
     by None true eo eb =
-        let same : x ≡ y = grind (arith, nat_tests, eb) in
-        let there : is_some (lookup (nat_eq x) firsts) ≡ true = subst (λ z. is_some (lookup (nat_eq z) firsts) ≡ true) (sym same) known in
+        let same : y ≡ x = grind (arith, nat_tests, eb) in
+        let there : is_some (lookup (nat_eq x) firsts) ≡ true = subst (λ z. is_some (lookup (nat_eq z) firsts) ≡ true) same known in
         let z : false ≡ true = ap is_some (sym eo) ∙ there in absurd cc
 
 -- a new key has the number after all
-pub first_new : (firsts more : List (ℕ × ℕ)) (y n : ℕ) → is_some (lookup (nat_eq y) firsts) ≡ false → ((x : ℕ) → lookup (nat_eq x) more ≡ cond (nat_eq y x) (Some n) (lookup (nat_eq x) firsts)) → Notes firsts y n more
-first_new firsts more y n fresh with_it ks count first x =
-    with_it x ∙ by (nat_eq y x) refl (first_number x ks) (sym (first x)) ∙ sym (first_last x ks y)
+pub first_new : (firsts more : List (ℕ × ℕ)) (y n : ℕ) → is_some (lookup (nat_eq y) firsts) ≡ false → ((x : ℕ) → lookup (nat_eq x) more ≡ cond (nat_eq y x) (Some n) (lookup (nat_eq x) firsts)) → IsNoted firsts y n more
+first_new firsts more y n fresh with_it x = with_it x ∙ by (nat_eq y x) refl (lookup (nat_eq x) firsts) refl
   where
-    by : (b : Bool) → nat_eq y x ≡ b → (o : Option ℕ) → o ≡ lookup (nat_eq x) firsts → cond b (Some n) (lookup (nat_eq x) firsts) ≡ or_else o (cond (nat_eq x y) (Some (length ks)) None)
-    by true eb None eo =
-        let z : y ≡ x = grind (arith, nat_tests, eb) in
-        let t : nat_eq x y ≡ true = grind (arith, nat_tests, z) in
-        ap Some count ∙ ap (λ b. cond b (Some (length ks)) None) (sym t)
+    by : (b : Bool) → nat_eq y x ≡ b → (o : Option ℕ) → lookup (nat_eq x) firsts ≡ o → cond b (Some n) o ≡ or_else o (cond b (Some n) None)
+    by true eb None eo = refl
     by true eb (Some m) eo =
         let z : y ≡ x = grind (arith, nat_tests, eb) in
-        let y : true ≡ false = ap is_some eo ∙ ap (λ k. is_some (lookup (nat_eq k) firsts)) (sym z) ∙ fresh in absurd cc
-    by false eb None eo =
-        let t : nat_eq x y ≡ false = grind (arith, nat_tests, eb) in
-        sym eo ∙ ap (λ b. cond b (Some (length ks)) None) (sym t)
-    by false eb (Some m) eo = sym eo
+        let there : true ≡ false = ap is_some (sym eo) ∙ ap (λ k. is_some (lookup (nat_eq k) firsts)) (sym z) ∙ fresh in absurd cc
+    by false eb None eo = refl
+    by false eb (Some m) eo = refl
+
+-- behind the keys that there were
+pub first_noted : (firsts more : List (ℕ × ℕ)) (y n : ℕ) → IsNoted firsts y n more → Notes firsts y n more
+first_noted firsts more y n is ks count first x =
+    is x ∙ (λ i. or_else (first x i) (cond (turned (nat_eq x y) refl i) (Some (count i)) None)) ∙ sym (first_last x ks y)
+  where
+    turned : (b : Bool) → nat_eq x y ≡ b → nat_eq y x ≡ b
+    turned true e = let same : x ≡ y = grind (arith, nat_tests, e) in grind (arith, nat_tests, same)
+    turned false e = grind (arith, nat_tests, e)

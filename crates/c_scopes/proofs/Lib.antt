@@ -3,6 +3,7 @@ pub mod Least
 pub mod Lists
 pub mod BlockItems
 pub mod Newest
+pub mod Objects
 pub mod Firsts
 pub mod Named
 pub mod Tags

@@ -105,7 +105,7 @@ pub count_is : (ds : List Declared) → length (entities_of ds) ≡ length ds
 count_is [] = refl
 count_is (d ∷ ds) = ap suc (count_is ds)
 
-entity_at : (ds : List Declared) (n : ℕ) (d : Declared) → get_or (entities_of ds) n (entity_of d) ≡ entity_of (get_or ds n d)
+pub entity_at : (ds : List Declared) (n : ℕ) (d : Declared) → get_or (entities_of ds) n (entity_of d) ≡ entity_of (get_or ds n d)
 entity_at [] n d = refl
 entity_at (c ∷ ds) zero d = refl
 entity_at (c ∷ ds) (suc n) d = entity_at ds n d

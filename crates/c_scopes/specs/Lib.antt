@@ -6,6 +6,7 @@ pub mod Library
 pub mod Limits
 pub mod Literals
 pub mod Newest
+pub mod Objects
 pub mod Sights
 pub mod Signatures
 pub mod Tags

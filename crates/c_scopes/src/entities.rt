@@ -1,11 +1,14 @@
-//! The objects and enumerators in sight (C99 6.2.1). Each is found by its name without a look at all of them.
+//! The objects and enumerators in sight (C99 6.2.1). Each is found by its name, and an object by the number of its declaration, without a
+//! look at all of them.
 
 ghost use Rattle.std.specs.Prelude.{◌≡◌, [], ◌∷◌, ◌++◌, ◌-◌, cond, drop, is_ok, length, option_map, take};
 ghost use Rattle.c_model.specs.ExpressionTyping.{entity_named};
-ghost use Rattle.c_scopes.specs.Entity.{plain_entity};
+ghost use Rattle.c_scopes.specs.Entity.{plain_entity, plain_object};
 ghost use Rattle.c_scopes.specs.Newest.{AreHidden, AreNewest, entities_of};
+ghost use Rattle.c_scopes.specs.Objects.{AreFirstObjects, object_with};
 
-use crate::entity::{Entity, name_of};
+use crate::entity::{Entity, Object, decl_of, name_of, object_in};
+use crate::object::{forget_object, note_object};
 use indexmap::IndexMap;
 use std::alloc::{AllocError, Global};
 
@@ -22,8 +25,11 @@ pub struct Entities {
     pub declared: Vec<Declared>,
     /// The number of the newest of each name.
     pub newest: IndexMap<u32, usize>,
+    /// The number of the first object with each declaration.
+    pub firsts: IndexMap<u32, usize>,
     ghost hidden: { AreHidden declared.items },
     ghost found: { AreNewest (entities_of declared.items) newest.entries },
+    ghost first: { AreFirstObjects (entities_of declared.items) firsts.entries },
 }
 
 impl Entities {
@@ -34,6 +40,7 @@ impl Entities {
         Entities {
             declared: Vec::new(alloc),
             newest: IndexMap::new(alloc),
+            firsts: IndexMap::new(alloc),
         }
     }
 
@@ -70,20 +77,38 @@ impl Entities {
         }
     }
 
+    /// The first object with the number of a declaration.
+    pub fn object_with(&self, decl: u32) -> Option<&Object>
+        ensures { option_map (λ b. plain_object b.now) result ≡ object_with decl (entities_of self.now.declared.items) }
+    {
+        match self.firsts.get(&decl) {
+            Some(number) => object_in(&self.declared[*number].entity),
+            None => None,
+        }
+    }
+
     /// One more.
     pub fn push(&mut self, entity: Entity) -> Result<(), AllocError>
         ensures { entities_of self.new.declared.items
             ≡ cond (is_ok result) (entities_of self.old.declared.items ++ plain_entity entity ∷ []) (entities_of self.old.declared.items) }
     {
         let name = name_of(&entity);
+        let decl = decl_of(&entity);
         let number = self.declared.len();
         let hidden = self.newest.get(&name).copied();
         self.declared.push(Declared { entity, hidden })?;
-        match self.newest.insert(name, number) {
-            Ok(_) => Ok(()),
+        match note_object(&mut self.firsts, decl, number) {
+            Ok(()) => match self.newest.insert(name, number) {
+                Ok(_) => Ok(()),
+                Err(e) => {
+                    forget_object(&mut self.firsts, decl, number);
+                    self.declared.truncate(number);
+                    Err(e.into())
+                }
+            },
             Err(e) => {
                 self.declared.truncate(number);
-                Err(e.into())
+                Err(e)
             }
         }
     }
@@ -94,8 +119,10 @@ impl Entities {
     {
         if let Some(last) = self.declared.pop() {
             let name = name_of(&last.entity);
+            let decl = decl_of(&last.entity);
             let hidden = last.hidden;
             drop(last);
+            forget_object(&mut self.firsts, decl, self.declared.len());
             match hidden {
                 Some(number) => match self.newest.insert(name, number) {
                     Ok(_) => (),

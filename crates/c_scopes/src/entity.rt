@@ -1,8 +1,9 @@
 //! What an ordinary name stands for that has a value: an object, or an enumerator (C99 6.2.3).
 
-ghost use Rattle.std.specs.Prelude.{◌≡◌};
-ghost use Rattle.c_scopes.specs.Entity.{plain_entity};
+ghost use Rattle.std.specs.Prelude.{◌≡◌, option_map};
+ghost use Rattle.c_scopes.specs.Entity.{plain_entity, plain_object};
 ghost use Rattle.c_scopes.specs.Newest.{plain_name};
+ghost use Rattle.c_scopes.specs.Objects.{object_in, decl_in};
 
 use c_syntax::CType;
 
@@ -35,5 +36,25 @@ pub fn name_of(entity: &Entity) -> u32
     match entity {
         Entity::AnObject(object) => object.name,
         Entity::AnEnumerator(enumerator) => enumerator.name,
+    }
+}
+
+/// The object, if it is one.
+pub fn object_in(entity: &Entity) -> Option<&Object>
+    ensures { option_map (λ b. plain_object b.now) result ≡ object_in (plain_entity entity.now) }
+{
+    match entity {
+        Entity::AnObject(object) => Some(object),
+        Entity::AnEnumerator(_) => None,
+    }
+}
+
+/// The number of the declaration, if it is an object.
+pub fn decl_of(entity: &Entity) -> Option<u32>
+    ensures { result ≡ decl_in (plain_entity entity.now) }
+{
+    match entity {
+        Entity::AnObject(object) => Some(object.decl),
+        Entity::AnEnumerator(_) => None,
     }
 }

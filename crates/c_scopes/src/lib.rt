@@ -13,6 +13,7 @@ pub mod entity;
 pub mod first;
 pub mod library;
 pub mod literal;
+pub mod object;
 pub mod signature;
 pub mod tag;
 pub mod type_name;
