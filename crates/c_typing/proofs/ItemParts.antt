@@ -14,8 +14,8 @@ use Rattle.c_scopes.specs.Answers.{Answers}
 use Rattle.c_scopes.proofs.Least.{one_refused}
 use Rattle.c_declaration_rules.specs.declared.open_struct.OpenStructs.{OpenStructs}
 use Rattle.c_declaration_rules.specs.OpenStructs.{IsOpen}
-use Rattle.c_typing.specs.declared.heading.Callee.{Callee}
-use Rattle.c_typing.specs.Functions.{function_in_turn, names_behind, with_function_by}
+use Rattle.c_function_rules.specs.declared.heading.Callee.{Callee}
+use Rattle.c_function_rules.specs.Functions.{function_in_turn, names_behind, with_function_by}
 use Rattle.c_typing.specs.Files.{Course, defined_in_turn, global_in_turn, typedef_in_turn}
 
 -- structs stay as they are where enumerators are typed

@@ -13,11 +13,11 @@ use Rattle.c_scopes.specs.declared.fault.TypeFault.{TypeFault}
 use Rattle.c_scopes.specs.Answers.{Answers}
 use Rattle.c_expression_rules.proofs.Gives.{Gives, gives_of}
 use Rattle.c_scopes.proofs.Least.{one_refused}
-use Rattle.c_typing.specs.declared.heading.Callee.{Callee}
-use Rattle.c_typing.specs.Functions.{denoted, with_function_by}
+use Rattle.c_function_rules.specs.declared.heading.Callee.{Callee}
+use Rattle.c_function_rules.specs.Functions.{denoted, with_function_by}
 use Rattle.c_typing.specs.Files.{among, enum_of, typedef_of, global_of, function_of, kinds, without_sight, without_kinds, Finished}
 use Rattle.c_typing.specs.NotedFiles.{EnumsKnown, IsOrdered, is_ordinary, all_behind, known_in_turn, notes_in_turn}
-use Rattle.c_typing.proofs.Functions.{with_is}
+use Rattle.c_function_rules.proofs.Functions.{with_is}
 use Rattle.c_typing.proofs.Orders.{ins, by_insertion, tested_insertion}
 use Rattle.c_typing.proofs.Turns.{among_append}
 

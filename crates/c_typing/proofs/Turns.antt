@@ -17,11 +17,11 @@ use Rattle.c_scopes.specs.declared.fault.TypeFault.{TypeFault}
 use Rattle.c_scopes.specs.Answers.{Answers}
 use Rattle.c_expression_rules.proofs.Gives.{Gives, gives_of}
 use Rattle.c_scopes.proofs.Least.{one_refused}
-use Rattle.c_typing.specs.declared.heading.Callee.{Callee}
+use Rattle.c_function_rules.specs.declared.heading.Callee.{Callee}
 use Rattle.c_typing.specs.declared.item.FileItem as code
-use Rattle.c_typing.specs.Functions.{denoted, with_function_by, names_behind, function_in_turn}
+use Rattle.c_function_rules.specs.Functions.{denoted, with_function_by, names_behind, function_in_turn}
 use Rattle.c_typing.specs.Files.{Course, bare, course_at, item_in_turn, items_in_turn, kept, all_kept, among, enum_of, typedef_of, global_of, function_of, plain_file_item, emptied, with_items, with_sight, without_sight, Finished}
-use Rattle.c_typing.proofs.Functions.{Behind, with_is, function_is, behind_more}
+use Rattle.c_function_rules.proofs.Functions.{Behind, with_is, function_is, behind_more}
 
 -- ---- items are what they keep
 

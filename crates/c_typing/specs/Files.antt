@@ -12,12 +12,12 @@ use Rattle.c_declaration_rules.specs.Members.{member_typed}
 use Rattle.c_scopes.specs.declared.fault.TypeFault.{TypeFault}
 use Rattle.c_scopes.specs.declared.fault.TypeFault.TheVariants.{Memory}
 use Rattle.c_scopes.specs.Sights.{plain_sight}
-use Rattle.c_typing.specs.declared.heading.Callee.{Callee}
-use Rattle.c_typing.specs.declared.heading.Noted.{Noted}
+use Rattle.c_function_rules.specs.declared.heading.Callee.{Callee}
+use Rattle.c_function_rules.specs.declared.heading.Noted.{Noted}
 use Rattle.c_typing.specs.declared.item.FileItem as code
 use Rattle.c_typing.specs.declared.item.FileItem.TheVariants as item
 use Rattle.c_typing.specs.declared.item.Course as code_course
-use Rattle.c_typing.specs.Functions.{function_in_turn, names_behind, with_function_by}
+use Rattle.c_function_rules.specs.Functions.{function_in_turn, names_behind, with_function_by}
 
 -- ---- items, without what the head of a struct holds besides its place and its tag
 

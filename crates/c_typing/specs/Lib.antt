@@ -1,9 +1,6 @@
 pub mod Answers
-pub mod Blocks
 pub mod Files
-pub mod Functions
 pub mod KnownStructs
 pub mod NotedFiles
 pub mod Rooms
 pub mod Standing
-pub mod Trees

@@ -11,8 +11,8 @@ use Rattle.c_model.specs.UnitTyping.{FileItem, StructHead, Member, AnEnum, AType
 use Rattle.c_model.specs.UnitTyping.{behind_enum, behind_item}
 use Rattle.c_model.specs.AnnotationTyping.{noted_function}
 use Rattle.c_expression_rules.specs.Constants.{has_small_sizes}
-use Rattle.c_typing.specs.declared.heading.Callee.{Callee}
-use Rattle.c_typing.specs.Functions.{with_function_by}
+use Rattle.c_function_rules.specs.declared.heading.Callee.{Callee}
+use Rattle.c_function_rules.specs.Functions.{with_function_by}
 use Rattle.c_typing.specs.Files.{among, enum_of, typedef_of, global_of}
 
 -- ---- what is asked of a typed file

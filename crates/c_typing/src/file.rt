@@ -8,11 +8,11 @@ ghost use Rattle.c_scopes.specs.Sights.{plain_sight};
 ghost use Rattle.indexmap.specs.IndexMap.{get};
 ghost use Rattle.c_typing.specs.Files.{Finished, all_kept, course_at, first_in, items_in_turn, plain_course, plain_file_item, with_sight, without_sight};
 
-use crate::heading::{Callee, denoted};
 use crate::item::{Course, FileItem, add_tag, type_item};
 use crate::order::{put_items, take_items};
 use c_declaration_rules::layout::{greater, levels_of, more};
 use c_declaration_rules::open_struct::OpenStructs;
+use c_function_rules::heading::{Callee, denoted};
 use c_scopes::entities::Entities;
 use c_scopes::fault::TypeFault;
 use c_scopes::literal::{Literals, firsts_of};

@@ -11,12 +11,12 @@ ghost use Rattle.indexmap.specs.IndexMap.{get};
 ghost use Rattle.c_typing.specs.Files.{defined_in_turn, enum_in_turn, global_in_turn, head_in_turn, item_in_turn, kept, plain_course};
 ghost use Rattle.c_typing.specs.Files.{plain_file_item, typedef_in_turn};
 
-use crate::function::type_function;
-use crate::heading::{Callee, Noted};
 use c_declaration_rules::declaration::{type_global, type_typedef};
 use c_declaration_rules::enumerator::type_enumerators;
 use c_declaration_rules::member::type_member;
 use c_declaration_rules::open_struct::{OpenStructs, keep};
+use c_function_rules::function::type_function;
+use c_function_rules::heading::{Callee, Noted};
 use c_scopes::fault::{TypeFault, no_name};
 use c_scopes::sight::Sight;
 use c_scopes::tag::Tags;

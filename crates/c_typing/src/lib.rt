@@ -9,14 +9,10 @@ pub mod checked;
 
 // names and types
 pub mod file;
-pub mod function;
-pub mod heading;
 pub mod item;
 pub mod order;
-pub mod parameter;
 pub mod program;
 pub mod room;
-pub mod statement;
 
 // annotations
 pub mod known;

@@ -9,12 +9,12 @@ ghost use Rattle.c_model.specs.StatementTyping.{behind, behind_first};
 ghost use Rattle.c_model.specs.AnnotationTyping.{noted_body, noted_else, noted_function, noted_in, noted_item, noted_items, noted_statement};
 ghost use Rattle.c_scopes.specs.Answers.{Answers};
 ghost use Rattle.c_scopes.specs.Sights.{plain_sight};
-ghost use Rattle.c_typing.specs.Blocks.{behind_items};
-ghost use Rattle.c_typing.specs.Trees.{plain_for_first};
+ghost use Rattle.c_function_rules.specs.Blocks.{behind_items};
+ghost use Rattle.c_function_rules.specs.Trees.{plain_for_first};
 
 use crate::known::{hide_later, show_all};
-use crate::parameter::see_parameters;
 use annot_typing::type_clauses;
+use c_function_rules::parameter::see_parameters;
 use c_scopes::fault::TypeFault;
 use c_scopes::sight::{Sight, enter, leave, mark_here, with_object};
 use c_syntax::{Decl, Func, Item, Stmt, StmtKind};

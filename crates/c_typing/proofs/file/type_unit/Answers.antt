@@ -2,7 +2,7 @@ use Rattle.std.proofs.Common.{◌≡◌, ◌∙◌, ℕ, ap, map, nat_eq}
 use Rattle.indexmap.specs.IndexMap.{get}
 use Rattle.c_syntax.specs.Programs.{plain_enum, plain_func, plain_program}
 use Rattle.c_model.specs.UnitTyping.{first_sight, items_of_file, tags_of}
-use Rattle.c_typing.specs.Functions.{denoted}
+use Rattle.c_function_rules.specs.Functions.{denoted}
 use Rattle.c_typing.specs.Files.{bare, course_at, emptied, first_in, plain_course, plain_file_item, without_sight}
 use Rattle.c_typing.proofs.Turns.{unit_found}
 use Rattle.c_typing.proofs.file.type_unit.Goals as goal

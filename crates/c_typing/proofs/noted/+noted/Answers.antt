@@ -4,13 +4,13 @@ use Rattle.c_model.specs.ExpressionTyping.{inner}
 use Rattle.c_model.specs.StatementTyping.{behind_first}
 use Rattle.c_model.specs.AnnotationTyping.{noted_items}
 use Rattle.c_scopes.specs.Answers.{Answers}
-use Rattle.c_typing.specs.Trees.{plain_for_first}
+use Rattle.c_function_rules.specs.Trees.{plain_for_first}
 use Rattle.c_syntax.specs.Statements.{plain_items}
 use Rattle.c_scopes.specs.Sights.{plain_sight}
-use Rattle.c_typing.proofs.Blocks.{sight_more}
+use Rattle.c_function_rules.proofs.Blocks.{sight_more}
 use Rattle.c_scopes.proofs.InPlace.{all_done, done, left, none_left, unvisited_step, within_step}
 use Rattle.c_typing.proofs.NotedStatements.{block_done, block_in_place, block_more}
-use Rattle.c_typing.proofs.Statements.{block_left, for_left}
+use Rattle.c_function_rules.proofs.Statements.{block_left, for_left}
 use Rattle.c_typing.proofs.noted.+noted.Goals as goal
 
 pub note_block-returns-clause-same : goal.note_block-returns-clause-same

@@ -2,7 +2,7 @@ use Rattle.std.proofs.Common.{◌≡◌, ◌≤◌, drop, length, take}
 use Rattle.c_syntax.specs.Statements.{plain_items}
 use Rattle.c_model.specs.AnnotationTyping.{noted_items}
 use Rattle.c_scopes.specs.Sights.{plain_sight}
-use Rattle.c_typing.specs.Blocks.{behind_items}
+use Rattle.c_function_rules.specs.Blocks.{behind_items}
 use Rattle.c_scopes.proofs.BlockItems.{behind_block}
 use Rattle.c_typing.proofs.noted.+noted.Given as goal
 

@@ -1,7 +1,7 @@
 use Rattle.std.proofs.Common.{ap}
 use Rattle.c_syntax.specs.Statements.{plain_items}
 use Rattle.c_scopes.specs.Sights.{plain_sight}
-use Rattle.c_typing.proofs.Bodies.{body_left}
+use Rattle.c_function_rules.proofs.Bodies.{body_left}
 use Rattle.c_typing.proofs.noted.note_body_items.Goals as goal
 
 pub returns-clause-same : goal.returns-clause-same

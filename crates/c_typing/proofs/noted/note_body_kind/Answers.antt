@@ -3,7 +3,7 @@ use Rattle.c_syntax.specs.Statements.{plain_items}
 use Rattle.c_model.specs.AnnotationTyping.{noted_items}
 use Rattle.c_scopes.specs.Answers.{Answers}
 use Rattle.c_scopes.specs.Sights.{plain_sight}
-use Rattle.c_typing.proofs.Bodies.{body_noted_in_place}
+use Rattle.c_function_rules.proofs.Bodies.{body_noted_in_place}
 use Rattle.c_typing.proofs.noted.note_body_kind.Goals as goal
 
 pub returns-in-Block-clause-noted : goal.returns-in-Block-clause-noted

@@ -2,7 +2,7 @@ use Rattle.std.proofs.Common.{◌∙◌, ap, map}
 use Rattle.c_syntax.specs.Statements.{plain_decl}
 use Rattle.c_model.specs.UnitTyping.{with_parameters}
 use Rattle.c_scopes.specs.Sights.{plain_sight}
-use Rattle.c_typing.proofs.Statements.{parameters_left}
+use Rattle.c_function_rules.proofs.Statements.{parameters_left}
 use Rattle.c_typing.proofs.noted.note_within.Goals as goal
 
 pub returns-clause-same : goal.returns-clause-same

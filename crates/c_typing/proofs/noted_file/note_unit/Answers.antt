@@ -3,7 +3,7 @@ use Rattle.indexmap.specs.IndexMap.{get}
 use Rattle.c_syntax.specs.Programs.{plain_enum, plain_func, plain_program}
 use Rattle.c_model.specs.UnitTyping.{sight_with, tags_of}
 use Rattle.c_scopes.specs.Sights.{plain_sight}
-use Rattle.c_typing.specs.Functions.{denoted}
+use Rattle.c_function_rules.specs.Functions.{denoted}
 use Rattle.c_typing.specs.Files.{first_in, plain_file_item, without_kinds, without_sight}
 use Rattle.c_typing.proofs.NotedFiles.{known_start, noted_found}
 use Rattle.c_typing.proofs.noted_file.note_unit.Goals as goal

@@ -1,0 +1,7 @@
+pub mod Declarations
+pub mod Blocks
+pub mod Statements
+pub mod Bodies
+pub mod Parameters
+pub mod Headings
+pub mod Functions

@@ -1,0 +1,10 @@
+use Rattle.std.proofs.Common.{ap}
+use Rattle.c_syntax.specs.Statements.{plain_items}
+use Rattle.c_scopes.specs.Sights.{plain_sight}
+use Rattle.c_function_rules.proofs.Bodies.{body_left}
+use Rattle.c_function_rules.proofs.function.type_body_items.Goals as goal
+
+pub returns-clause-same : goal.returns-clause-same
+returns-clause-same c =
+    body_left (plain_sight c.args.sight.now) (plain_sight c.type_items.new.sight) (plain_sight c.leave.new.sight) c.mark_here-mark.result.count c.mark_here-mark.result.innermost
+    (plain_items c.type_items.new.items.items) (ap (λ m. m.count) c.mark_here-mark.ensures) (ap (λ m. m.innermost) c.mark_here-mark.ensures) c.in_ok-type_items.ensures.behind c.leave.ensures

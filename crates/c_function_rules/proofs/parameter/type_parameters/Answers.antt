@@ -1,0 +1,11 @@
+use Rattle.std.proofs.Common.{ap, map}
+use Rattle.c_syntax.specs.Statements.{plain_decl}
+use Rattle.c_scopes.specs.Sights.{plain_sight}
+use Rattle.c_function_rules.proofs.Statements.{parameters_left}
+use Rattle.c_function_rules.proofs.parameter.type_parameters.Goals as goal
+
+pub returns-clause-same : goal.returns-clause-same
+returns-clause-same c =
+    parameters_left (plain_sight c.args.sight.now) (plain_sight c.enter-mark.new.sight) (plain_sight c.type_each.new.sight) (plain_sight c.leave.new.sight) c.enter-mark.result.count
+    c.enter-mark.result.innermost c.enter-mark.ensures.inner (ap (λ m. m.count) c.enter-mark.ensures.mark) (ap (λ m. m.innermost) c.enter-mark.ensures.mark) c.leave.ensures
+    (map plain_decl c.type_each.new.params.items) c.in_ok-type_each.ensures.behind
