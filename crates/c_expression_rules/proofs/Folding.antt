@@ -10,7 +10,7 @@ use Rattle.c_model.specs.Library.{is_there}
 use Rattle.c_model.specs.Memory.{Value, Integer}
 use Rattle.c_model.specs.State.{End, Outcome, Normal, Stop, Evaluation, ◌>>=◌, on_outcome, give, defined, tested}
 use Rattle.c_model.specs.Meaning.{Tables, address, choose, converted, eval_with, is_array, place_with, truth_value}
-use Rattle.c_model.specs.ExpressionTyping.{Sight, constant, tables_in, no_callee, nowhere, integer_at, integer_value, is_constant, is_other, is_zero, most_bytes}
+use Rattle.c_model.specs.ExpressionTyping.{no_callee, nowhere, integer_at, integer_value, is_constant, is_other, is_zero, most_bytes}
 use Rattle.c_scopes.specs.Limits.{small}
 use Rattle.c_expression_rules.specs.Constants.{from, is_nought, untrue, true_of, converted_to, folded, has_small_sizes}
 
@@ -179,27 +179,3 @@ module _ (T : Tables)
     -- the value of a constant expression, by its forms
     pub value_by_forms : (e : Expression) → is_constant T true e ≡ true → has_small_sizes T.structs e ≡ true → integer_value T e ≡ folded T.structs e
     value_by_forms e c w = value_is (here e) (folded T.structs e) (agrees e c w)
-
-    -- what comes after a condition that is a constant expression
-    module _ (evaluated : Bool) (a : Expression) (small : has_small_sizes T.structs a ≡ true) (first : is_constant T evaluated a ≡ true)
-      where
-        after : (test : Option ℤ → Bool) (b : Expression) (v r : Bool) → v ≡ (evaluated && test (folded T.structs a)) → r ≡ is_constant T v b → r ≡ is_constant T (evaluated && test (integer_value T a)) b
-        after test b v r ev er = er ∙ ap (λ v. is_constant T v b) (ev ∙ by evaluated first)
-          where
-            by : (e : Bool) → is_constant T e a ≡ true → (e && test (folded T.structs a)) ≡ (e && test (integer_value T a))
-            by false c = refl
-            by true c = ap test (sym (value_by_forms a c small))
-
-        pub both_then : (at : Place) (t : PlainType) (b : Expression) (v r : Bool) → v ≡ (evaluated && is_other (folded T.structs a)) → r ≡ is_constant T v b → r ≡ is_constant T evaluated (Node at t (Both a b))
-        both_then at t b v r ev er = rw first (after is_other b v r ev er)
-
-        pub either_then : (at : Place) (t : PlainType) (b : Expression) (v r : Bool) → v ≡ (evaluated && is_zero (folded T.structs a)) → r ≡ is_constant T v b → r ≡ is_constant T evaluated (Node at t (Either a b))
-        either_then at t b v r ev er = rw first (after is_zero b v r ev er)
-
-        pub choice_then : (at : Place) (t : PlainType) (b d : Expression) (v w r q p : Bool) → v ≡ (evaluated && is_other (folded T.structs a)) → r ≡ is_constant T v b
-            → w ≡ (evaluated && is_zero (folded T.structs a)) → q ≡ is_constant T w d → p ≡ (r && q) → p ≡ is_constant T evaluated (Node at t (Choice a b d))
-        choice_then at t b d v w r q p ev er ew eq ep = rw first (ep ∙ ap (λ x. x && q) (after is_other b v r ev er) ∙ ap (λ x. is_constant T (evaluated && is_other (integer_value T a)) b && x) (after is_zero d w q ew eq))
-
--- the value of a constant expression, where the code found that it is one
-pub constant_is : (s : Sight) (e : Expression) → is_constant (tables_in s) true e ≡ true → is_there (integer_type (type_of e)) ≡ true → has_small_sizes s.structs e ≡ true → constant s e ≡ folded s.structs e
-constant_is s e c i w = rw (c, i) (value_by_forms (tables_in s) e c w)

@@ -5,7 +5,8 @@ ghost use Rattle.c_syntax.specs.Ctypes.{plain_type};
 ghost use Rattle.c_syntax.specs.Expressions.{plain_expr};
 ghost use Rattle.c_syntax.specs.Programs.{plain_layout};
 ghost use Rattle.c_model.specs.Integers.{operate};
-ghost use Rattle.c_model.specs.ExpressionTyping.{constant, is_constant, is_constant_operator, is_null, is_null_name, is_other, is_zero, tables_in};
+ghost use Rattle.c_model.specs.ExpressionTyping.{constant, integer_value, is_constant, is_constant_operator};
+ghost use Rattle.c_model.specs.ExpressionTyping.{is_null, is_null_name, is_other, is_zero, tables_in};
 ghost use Rattle.c_scopes.specs.Sights.{plain_sight};
 ghost use Rattle.c_expression_rules.specs.Constants.{converted_to, folded, from, has_small_sizes, is_nought, one, size_number, true_of};
 
@@ -154,23 +155,29 @@ fn are_both(p: bool, q: bool) -> bool
     p && q
 }
 
-/// The same among the structs in sight.
+/// The value of an expression that is constant among the structs in sight.
 fn value_in(sight: &Sight, e: &Expr) -> Option<i128>
-    ensures { result ≡ folded (plain_sight sight.now).structs (plain_expr e.now) }
+    requires sizes { has_small_sizes (map plain_layout sight.now.structs.items) (plain_expr e.now) ≡ true }
+    requires constant { is_constant (tables_in (plain_sight sight.now)) true (plain_expr e.now) ≡ true }
+    ensures { result ≡ integer_value (tables_in (plain_sight sight.now)) (plain_expr e.now) }
 {
     value_of(&sight.structs, e)
 }
 
 /// Whether what comes after a condition that is evaluated is evaluated: where the condition isn't 0.
 fn is_after_other(sight: &Sight, evaluated: bool, a: &Expr) -> bool
-    ensures { result ≡ (evaluated && is_other (folded (plain_sight sight.now).structs (plain_expr a.now))) }
+    requires sizes { has_small_sizes (map plain_layout sight.now.structs.items) (plain_expr a.now) ≡ true }
+    requires constant { is_constant (tables_in (plain_sight sight.now)) evaluated (plain_expr a.now) ≡ true }
+    ensures { result ≡ (evaluated && is_other (integer_value (tables_in (plain_sight sight.now)) (plain_expr a.now))) }
 {
     evaluated && is_other(value_in(sight, a))
 }
 
 /// The same where the condition is 0.
 fn is_after_zero(sight: &Sight, evaluated: bool, a: &Expr) -> bool
-    ensures { result ≡ (evaluated && is_zero (folded (plain_sight sight.now).structs (plain_expr a.now))) }
+    requires sizes { has_small_sizes (map plain_layout sight.now.structs.items) (plain_expr a.now) ≡ true }
+    requires constant { is_constant (tables_in (plain_sight sight.now)) evaluated (plain_expr a.now) ≡ true }
+    ensures { result ≡ (evaluated && is_zero (integer_value (tables_in (plain_sight sight.now)) (plain_expr a.now))) }
 {
     evaluated && is_zero(value_in(sight, a))
 }
