@@ -16,8 +16,9 @@ use Rattle.c_model.specs.Memory as memory
 use Rattle.c_model.specs.Memory.{Pointer, Into, Value, Integer, Points, Block, block_at, live_size, moved, shifted}
 use Rattle.c_model.specs.State.{End, State, Outcome, Normal, Stop, Evaluation, ◌>>=◌, on_outcome, give, defined, computed, find, start_of, stop, Over, Undefined}
 use Rattle.c_model.specs.Meaning.{address, converted, eval_with, indexed, is_array, is_member, is_of_library, is_pointer, named, operate_values, place_with, pointed_to, unit_of, zeros}
-use Rattle.c_model.specs.ExpressionTyping.{Sight, Entity, AnObject, AnEnumerator, constant, is_constant, no_callee, tables_in}
+use Rattle.c_model.specs.ExpressionTyping.{Sight, Entity, Object, AnObject, AnEnumerator, constant, is_constant, no_callee, tables_in}
 use Rattle.c_model.specs.DeclarationTyping.{blocks_of, has_value, is_address, is_static_address, is_static_place, numbers_from, with_globals}
+use Rattle.c_scopes.specs.Objects.{object_with}
 use Rattle.c_declaration_rules.specs.declared.constant.Spot.{Spot}
 use Rattle.c_declaration_rules.specs.declared.constant.Spot.TheVariants.{Null, Within}
 use Rattle.c_declaration_rules.specs.Statics.{address_spot, difference_spot, element_spot, member_spot, moved_spot, null_or, object_size, place_spot, spot_in, start_spot, stepped, taken_spot}
@@ -34,12 +35,15 @@ module _ (structs : List StructType) (x : ℕ)
       pub at : slice_get (blocks_of structs es) index ≡ Some block
       pub live : live_size (Some block) ≡ Some z
 
+    abbrev size_in : Option Object → Option ℕ
+    size_in o = option_map (λ (b : Object). size_of structs b.ctype) o
+
     pub found : (k : ℕ) (es : List Entity) (z : ℕ) → object_size structs x es ≡ Some z → FoundAt k es z
     found k [] z h = absurd cc
     found k (AnEnumerator c ∷ es) z h = let r = found k es z h in record { index = r.index; number = r.number; block = r.block; at = r.at; live = r.live }
     found k (AnObject b ∷ es) z h = by (found (suc k) es z) (nat_eq b.decl x) refl h
       where
-        by : (object_size structs x es ≡ Some z → FoundAt (suc k) es z) → (t : Bool) → nat_eq b.decl x ≡ t → cond t (Some (size_of structs b.ctype)) (object_size structs x es) ≡ Some z → FoundAt k (AnObject b ∷ es) z
+        by : (object_size structs x es ≡ Some z → FoundAt (suc k) es z) → (t : Bool) → nat_eq b.decl x ≡ t → size_in (cond t (Some b) (object_with x es)) ≡ Some z → FoundAt k (AnObject b ∷ es) z
         by more true e h =
             let size : size_of structs b.ctype ≡ z = cc in
             record {
@@ -59,14 +63,21 @@ module _ (structs : List StructType) (x : ℕ)
               live = r.live;
             }
 
-    pub not_found : (k : ℕ) (es : List Entity) → object_size structs x es ≡ None → find x (numbers_from k es) ≡ None
+    pub not_found : (k : ℕ) (es : List Entity) → object_with x es ≡ None → find x (numbers_from k es) ≡ None
     not_found k [] h = refl
     not_found k (AnEnumerator c ∷ es) h = not_found k es h
     not_found k (AnObject b ∷ es) h = by (not_found (suc k) es) (nat_eq b.decl x) refl h
       where
-        by : (object_size structs x es ≡ None → find x (numbers_from (suc k) es) ≡ None) → (t : Bool) → nat_eq b.decl x ≡ t → cond t (Some (size_of structs b.ctype)) (object_size structs x es) ≡ None → find x (numbers_from k (AnObject b ∷ es)) ≡ None
+        by : (object_with x es ≡ None → find x (numbers_from (suc k) es) ≡ None) → (t : Bool) → nat_eq b.decl x ≡ t → cond t (Some b) (object_with x es) ≡ None → find x (numbers_from k (AnObject b ∷ es)) ≡ None
         by more true e h = absurd cc
         by more false e h = ap (λ t. cond t (Some k) (find x (numbers_from (suc k) es))) e ∙ more h
+
+    pub no_size : (es : List Entity) → object_size structs x es ≡ None → object_with x es ≡ None
+    no_size es h = by (object_with x es) h
+      where
+        by : (o : Option Object) → size_in o ≡ None → o ≡ None
+        by None h = refl
+        by (Some b) h = absurd cc
 
 -- ---- sums
 
@@ -94,7 +105,7 @@ module _ (unit : ℕ) (p q : Option Spot) (sb : Bool)
 
 -- ---- addresses and places
 
-module _ (s : Sight) (free : object_size s.structs 4294967295 s.entities ≡ None)
+module _ (s : Sight) (free : object_with 4294967295 s.entities ≡ None)
   where
     abbrev S : State
     S = with_globals s
@@ -370,7 +381,7 @@ module _ (s : Sight) (free : object_size s.structs 4294967295 s.entities ≡ Non
     of_library false e = absurd cc
 
     object_is : (at : Place) (x : ℕ) (o : Option ℕ) → object_size s.structs x s.entities ≡ o → PlaceAgrees (start_spot o) (defined at (start_of (find x S.scope)) S)
-    object_is at x None e = subst (λ o. PlaceAgrees None (defined at (start_of o) S)) (sym (not_found s.structs x 1 s.entities e)) (_, refl)
+    object_is at x None e = subst (λ o. PlaceAgrees None (defined at (start_of o) S)) (sym (not_found s.structs x 1 s.entities (no_size s.structs x s.entities e))) (_, refl)
     object_is at x (Some z) e =
         let r = found s.structs x 1 s.entities z e in
         let one : 1 + r.index ≡ suc r.index = omega arith in

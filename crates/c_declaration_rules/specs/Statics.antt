@@ -1,6 +1,6 @@
 -- Ours: the addresses that initialise globals (C99 6.6 p9) as the code finds them, without a run: null, or so many bytes behind the start of
 -- an object of so many bytes. Their meaning is in c_model/specs/DeclarationTyping.
-use Rattle.std.specs.Prelude.{ℕ, ◌+◌, ℤ, pos, negsuc, ◌+ℤ◌, ◌-ℤ◌, ◌*ℤ◌, List, [], ◌∷◌, ◌&&◌, cond, if◌then◌else◌, nat_eq, nat_le, Option, Some, None}
+use Rattle.std.specs.Prelude.{ℕ, ◌+◌, ℤ, pos, negsuc, ◌+ℤ◌, ◌-ℤ◌, ◌*ℤ◌, List, ◌&&◌, cond, if◌then◌else◌, nat_le, Option, Some, None}
 use Rattle.std.specs.Prelude.{option_map}
 use Rattle.c_syntax.specs.declared.expression.UnOp.TheVariants as unary
 use Rattle.c_syntax.specs.declared.expression.BinOp.TheVariants as operator
@@ -8,15 +8,14 @@ use Rattle.c_syntax.specs.Expressions.{Expression, Node, Variable, Unary, Binary
 use Rattle.c_syntax.specs.Programs.{StructType}
 use Rattle.c_syntax.specs.Layouts.{offset_of, size_of, target_of}
 use Rattle.c_model.specs.Meaning.{is_array, is_member, is_of_library, is_pointer, unit_of}
-use Rattle.c_model.specs.ExpressionTyping.{Sight, Entity, AnObject, AnEnumerator, constant}
+use Rattle.c_model.specs.ExpressionTyping.{Sight, Entity, Object, constant}
+use Rattle.c_scopes.specs.Objects.{object_with}
 use Rattle.c_declaration_rules.specs.declared.constant.Spot.{Spot}
 use Rattle.c_declaration_rules.specs.declared.constant.Spot.TheVariants.{Null, Within}
 
 -- the size of the first object with the number of a declaration
 abbrev pub object_size : List StructType → ℕ → List Entity → Option ℕ
-object_size structs x [] = None
-object_size structs x (AnObject b ∷ es) = cond (nat_eq b.decl x) (Some (size_of structs b.ctype)) (object_size structs x es)
-object_size structs x (AnEnumerator c ∷ es) = object_size structs x es
+object_size structs x es = option_map (λ (b : Object). size_of structs b.ctype) (object_with x es)
 
 abbrev pub start_spot : Option ℕ → Option Spot
 start_spot o = option_map (Within 0) o

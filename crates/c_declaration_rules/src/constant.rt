@@ -7,7 +7,6 @@ ghost use Rattle.c_syntax.specs.Programs.{plain_layout};
 ghost use Rattle.c_model.specs.Meaning.{is_member, unit_of};
 ghost use Rattle.c_model.specs.ExpressionTyping.{constant};
 ghost use Rattle.c_model.specs.DeclarationTyping.{is_address};
-ghost use Rattle.c_scopes.specs.Newest.{entities_of};
 ghost use Rattle.c_scopes.specs.Sights.{plain_sight};
 ghost use Rattle.c_expression_rules.specs.Constants.{has_small_sizes};
 ghost use Rattle.c_declaration_rules.specs.Initialisers.{allowed_where};
@@ -17,8 +16,6 @@ ghost use Rattle.c_declaration_rules.specs.Statics.{pointer_of, stepped, taken_s
 use crate::layout::size_of;
 use c_conversions::conversion::{is_array, is_pointer, pointed};
 use c_expression_rules::constant::constant;
-use c_scopes::entities::Declared;
-use c_scopes::entity::Entity;
 use c_scopes::limits::small_size;
 use c_scopes::sight::Sight;
 use c_syntax::layout::{offset_in_target, offset_of_member};
@@ -63,25 +60,17 @@ fn number(sight: &Sight, e: &Expr) -> Result<Option<i128>, AllocError>
     }
 }
 
-/// The size of the first of these objects with the number of a declaration.
-fn object_size(
-    structs: &[Layout],
-    entities: &[Declared],
-    decl: u32,
-) -> Result<Option<u32>, AllocError>
-    ensures { IfOk result (λ n. n ≡ object_size (map plain_layout structs.now) decl (entities_of entities.now)) }
+/// The size of the first object with the number of a declaration.
+fn object_size(sight: &Sight, decl: u32) -> Result<Option<u32>, AllocError>
+    ensures { IfOk result (λ n. n ≡ object_size (plain_sight sight.now).structs decl (plain_sight sight.now).entities) }
 {
-    let mut rest = entities;
-    'turn: while let [entity, after @ ..] = rest {
-        if let Entity::AnObject(object) = &entity.entity {
-            if object.decl == decl {
-                let size = size_of(structs, &object.ctype)?;
-                return Ok(Some(size));
-            }
+    match sight.entities.object_with(decl) {
+        Some(object) => {
+            let size = size_of(&sight.structs, &object.ctype)?;
+            Ok(Some(size))
         }
-        rest = after;
+        None => Ok(None),
     }
-    Ok(None)
 }
 
 /// So many elements of a size farther, within the object or one after its end (C99 6.5.6 p8). A sum past the numbers that there are wants
@@ -238,7 +227,7 @@ fn place(sight: &Sight, e: &Expr) -> Result<Option<Spot>, AllocError>
             if x.decl == Use::LIBRARY {
                 return Ok(None);
             }
-            match object_size(&sight.structs, &sight.entities.declared, x.decl)? {
+            match object_size(sight, x.decl)? {
                 None => Ok(None),
                 Some(size) => Ok(Some(Spot::Within(0, size))),
             }
@@ -265,7 +254,7 @@ fn is_address(sight: &Sight, e: &Expr) -> Result<bool, AllocError>
     if !is_pointer(&e.ctype) {
         return Ok(false);
     }
-    if object_size(&sight.structs, &sight.entities.declared, Use::LIBRARY)?.is_some() {
+    if sight.entities.object_with(Use::LIBRARY).is_some() {
         return Err(AllocError);
     }
     Ok(address(sight, e)?.is_some())
