@@ -567,6 +567,17 @@ inline void print(const Decimal &decimal) {
 inline void __e_acsl_print_i64(eacsl::i64 number) { eacsl::print(eacsl::decimal_of(number)); }
 inline void __e_acsl_print_u64(eacsl::u64 number) { eacsl::print(eacsl::Decimal(number, false)); }
 
+// The bytes up to the first 0. Where they leave their segment before it, they come first and then the fault.
+inline void __e_acsl_print_str(eacsl::ptr p) {
+  using namespace eacsl;
+  for (u32 address = p.address; is_accessible<1>(address); address++) {
+    const u8 byte = *byte_at(address);
+    if (byte == 0) return;
+    emit(static_cast<char>(byte));
+  }
+  stop_at_fault();
+}
+
 #define putchar __e_acsl_putchar
 #define getchar __e_acsl_getchar
 #define exit __e_acsl_exit

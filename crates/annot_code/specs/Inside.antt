@@ -2,7 +2,7 @@
 -- How many parentheses are open at once in statements, and that control stays in them.
 use Rattle.std.specs.Prelude.{◌≡◌, ℕ, max, true, List, [], ◌∷◌, Option, Some, None}
 use Rattle.mon_syntax.specs.Trees.{MonExpression, MonStatement, Set, Store, Step, Assert, PutChar, GetChar, Exit, PrintText, PrintSigned, PrintUnsigned}
-use Rattle.mon_syntax.specs.Trees.{Act, Call, If, Loop, Labelled, Goto, Return, MonStatements, NoStatement, Then}
+use Rattle.mon_syntax.specs.Trees.{PrintString, Act, Call, If, Loop, Labelled, Goto, Return, MonStatements, NoStatement, Then}
 use Rattle.mon_syntax.specs.Valid.{Labels, has_label, has_no_step, open_parens}
 
 -- ---- parentheses that are open at once in an expression of statements, at most
@@ -27,6 +27,7 @@ abbrev mutual
   open_in (PrintText bytes) = 0
   open_in (PrintSigned e) = open_parens e
   open_in (PrintUnsigned e) = open_parens e
+  open_in (PrintString e) = open_parens e
   open_in (Act r f args) = open_in_each args
   open_in (Call r f args) = open_in_each args
   open_in (If e a b) = max (open_parens e) (max (open_in_all a) (open_in_all b))
@@ -59,6 +60,7 @@ abbrev mutual
   StaysInside ls (PrintText bytes) = Unit {0}
   StaysInside ls (PrintSigned e) = Unit {0}
   StaysInside ls (PrintUnsigned e) = Unit {0}
+  StaysInside ls (PrintString e) = Unit {0}
   StaysInside ls (Act r f args) = Unit {0}
   StaysInside ls (Call r f args) = Unit {0}
 

@@ -3,7 +3,7 @@
 ghost use Rattle.std.specs.Prelude.{◌≡◌, None, Some, IfSome, MatchBool, false, true};
 ghost use Rattle.std.specs.Bool.{OnTrue};
 ghost use Rattle.raw_seg.specs.Bytes.{IsWidth};
-ghost use Rattle.mon_syntax.specs.Flat.{flat_load, flat_store, flat_copy, flat_byte, spot_of};
+ghost use Rattle.mon_syntax.specs.Flat.{flat_load, flat_store, flat_copy, flat_byte, region_length, spot_of};
 ghost use Rattle.flat_mem.specs.Stack.{stack_load, stack_store};
 ghost use Rattle.block_runtime.specs.Replies.{Changes, Finds};
 
@@ -80,6 +80,13 @@ impl Runtime {
         } else {
             Err(RunFault::Fault)
         }
+    }
+
+    /// How many bytes the region of a pointer has.
+    pub fn region_length(&self, p: u64) -> u32
+        ensures { result ≡ region_length self.now p }
+    {
+        self.memory.region_length(address_of(p))
     }
 
     /// `__e_acsl_print_str(P)` takes the byte that lies so many bytes after P.

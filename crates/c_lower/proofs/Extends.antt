@@ -8,7 +8,7 @@ use Rattle.mon_syntax.specs.declared.tree.MonOp.{MonOp}
 use Rattle.mon_syntax.specs.declared.tree.MonType.{MonType}
 use Rattle.mon_syntax.specs.Arithmetic.{is_pointer}
 use Rattle.mon_syntax.specs.Trees.{MonExpression, Register, Global, Constant, Binary, Minus, Flip, Cast, Load, MonStatement, Set, Store, Step, Assert, PutChar, GetChar, Exit}
-use Rattle.mon_syntax.specs.Trees.{PrintText, PrintSigned, PrintUnsigned, Act, Call, If, Loop, Labelled, Goto, Return}
+use Rattle.mon_syntax.specs.Trees.{PrintText, PrintSigned, PrintUnsigned, PrintString, Act, Call, If, Loop, Labelled, Goto, Return}
 use Rattle.mon_syntax.specs.Trees.{MonStatements, NoStatement, Then, MonFunction}
 use Rattle.c_lower.specs.declared.code.Instr.{Instr}
 use Rattle.c_lower.specs.declared.code.Instr.TheVariants as instr
@@ -92,6 +92,7 @@ mutual
   statement_free (PrintText bytes) behind ls = text_free bytes
   statement_free (PrintSigned e) behind ls = free_on (expression_code e) (instr.PutNumber ∷ []) (expression_free e) (λ q. (tt, tt))
   statement_free (PrintUnsigned e) behind ls = free_on (expression_code e) (instr.PutNumber ∷ []) (expression_free e) (λ q. (tt, tt))
+  statement_free (PrintString e) behind ls = free_on (expression_code e) (instr.PutString ∷ []) (expression_free e) (λ q. (tt, tt))
   statement_free (Act r f args) behind ls = free_on (arguments_code args) _ (arguments_free args) (λ q. (tt, result_free r (Some (instr.Act f (length args)))))
   statement_free (Call r f args) behind ls = free_on (arguments_code args) _ (arguments_free args) (λ q. (tt, result_free r (Some (instr.Call f (length args)))))
   statement_free (If e a b) behind ls =

@@ -10,7 +10,7 @@ use Rattle.mon_syntax.specs.declared.tree.MonOp.{MonOp}
 use Rattle.mon_syntax.specs.declared.tree.MonType.{MonType}
 use Rattle.mon_syntax.specs.Arithmetic.{is_pointer}
 use Rattle.mon_syntax.specs.Trees.{MonExpression, Register, Global, Constant, Binary, Minus, Flip, Cast, Load, MonStatement, Set, Store, Step, Assert, PutChar, GetChar, Exit}
-use Rattle.mon_syntax.specs.Trees.{PrintText, PrintSigned, PrintUnsigned, Act, Call, If, Loop, Labelled, Goto, Return}
+use Rattle.mon_syntax.specs.Trees.{PrintText, PrintSigned, PrintUnsigned, PrintString, Act, Call, If, Loop, Labelled, Goto, Return}
 use Rattle.mon_syntax.specs.Trees.{MonStatements, NoStatement, Then, MonFunction}
 use Rattle.c_lower.specs.declared.code.Entry.{Entry}
 use Rattle.c_lower.specs.declared.code.Instr.{Instr}
@@ -331,6 +331,8 @@ module _ (code : List Instr) where
         stays_fit p _ (stay_then (expression_code e) instr.PutNumber (expression_stays e) (λ q. (refl, refl)))
     statement_fits (PrintUnsigned e) p behind ls em two w n has =
         stays_fit p _ (stay_then (expression_code e) instr.PutNumber (expression_stays e) (λ q. (refl, refl)))
+    statement_fits (PrintString e) p behind ls em two w n has =
+        stays_fit p _ (stay_then (expression_code e) instr.PutString (expression_stays e) (λ q. (refl, refl)))
     statement_fits (Act r f args) p behind ls em two w n has = called_fits p args (instr.Act f (length args)) r (λ q. refl) refl refl em has
     statement_fits (Call r f args) p behind ls em two w n has = called_fits p args (instr.Call f (length args)) r (λ q. refl) refl refl em has
     statement_fits (If e a b) p behind ls em two w n has =

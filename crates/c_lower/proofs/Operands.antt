@@ -8,7 +8,7 @@ use Rattle.mon_syntax.specs.declared.tree.MonOp.{MonOp}
 use Rattle.mon_syntax.specs.declared.tree.MonType.{MonType}
 use Rattle.mon_syntax.specs.Arithmetic.{is_pointer}
 use Rattle.mon_syntax.specs.Trees.{MonExpression, Register, Global, Constant, Binary, Minus, Flip, Cast, Load, MonStatement, Set, Store, Step, Assert, PutChar, GetChar, Exit}
-use Rattle.mon_syntax.specs.Trees.{PrintText, PrintSigned, PrintUnsigned, Act, Call, If, Loop, Labelled, Goto, Return}
+use Rattle.mon_syntax.specs.Trees.{PrintText, PrintSigned, PrintUnsigned, PrintString, Act, Call, If, Loop, Labelled, Goto, Return}
 use Rattle.mon_syntax.specs.Trees.{MonStatements, NoStatement, Then, MonFunction}
 use Rattle.mon_syntax.specs.Meaning.{◌>>=◌}
 use Rattle.c_lower.specs.declared.code.Instr.{Instr}
@@ -142,6 +142,7 @@ mutual
   statement_leads (PrintText bytes) behind ls = text_leads bytes
   statement_leads (PrintSigned e) behind ls = taking e instr.PutNumber refl refl
   statement_leads (PrintUnsigned e) behind ls = taking e instr.PutNumber refl refl
+  statement_leads (PrintString e) behind ls = taking e instr.PutString refl refl
   statement_leads (Act r f args) behind ls = called_leads args (instr.Act f (length args)) r refl refl
   statement_leads (Call r f args) behind ls = called_leads args (instr.Call f (length args)) r refl refl
   statement_leads (If e a b) behind ls =

@@ -14,17 +14,17 @@ use Rattle.c_model.specs.MonitoredRuns.{Final, Exits, Broken, Fault, Spent, Full
 use Rattle.mon_syntax.specs.declared.tree.MonOp.{MonOp}
 use Rattle.mon_syntax.specs.declared.tree.MonType.{MonType}
 use Rattle.mon_syntax.specs.Trees.{MonExpression, Register, Global, Constant, Binary, Minus, Flip, Cast, Load, MonStatement, Set, Store, Step, Assert, PutChar, GetChar, Exit}
-use Rattle.mon_syntax.specs.Trees.{PrintText, PrintSigned, PrintUnsigned, Act, Call, If, Loop, Labelled, Goto, Return}
+use Rattle.mon_syntax.specs.Trees.{PrintText, PrintSigned, PrintUnsigned, PrintString, Act, Call, If, Loop, Labelled, Goto, Return}
 use Rattle.mon_syntax.specs.Trees.{MonStatements, NoStatement, Then}
 use Rattle.mon_syntax.specs.Arithmetic.{is_pointer, wrap, operate, minus, flipped}
 use Rattle.mon_syntax.specs.Memory.{Memory, Reply, Gives, IsFull, Faults}
 use Rattle.mon_syntax.specs.Meaning.{State, Result, Done, Stops, Flow, Next, Goes, Returns, writes, then_do, at_next, at_label, ◌>>=◌, with_value, choose, step_from, given_to, got, with_read, number_or_none}
-use Rattle.mon_syntax.specs.Meaning.{on_numbers, eval, eval_all, eval_number, replied, Calls, Does, turns, exec, exec_all}
+use Rattle.mon_syntax.specs.Meaning.{on_numbers, eval, eval_all, eval_number, replied, printed, Calls, Does, turns, exec, exec_all}
 use Rattle.c_lower.specs.declared.code.Entry.{Entry}
 use Rattle.c_lower.specs.declared.code.Instr.{Instr}
 use Rattle.c_lower.specs.declared.code.Instr.TheVariants as instr
 use Rattle.c_lower.specs.Code.{is_short, operator_code, expression_code, arguments_code, OpenLabel, behind_label, goto_code, result_code, returned_code, choice_code, statement_code, statements_code}
-use Rattle.c_lower.specs.Machine.{Machine, Course, Over, puts, with_some, on_read, stepped, on_with, at_with, changed, act, runs}
+use Rattle.c_lower.specs.Machine.{Machine, Course, Over, puts, with_some, on_read, on_string, stepped, on_with, at_with, changed, act, runs}
 use Rattle.c_lower.specs.Lowered.{KeepsNumbers}
 use Rattle.c_lower.proofs.Taken.{some_then, two_then, puts-puts, puts-nil, writes-nil, onto, all_taken}
 use Rattle.c_lower.proofs.Registers.{constant_is}
@@ -377,6 +377,29 @@ module _ (M : Memory) (gs : List M.Val) (es : List Entry) (code : List Instr) wh
       (λ z next. puts (signed_decimal z) (next (at_with M c (c.place + length ce + 1) c.stack))) at (λ next v. refl)
       (expression_runs keeps e c (has_front code c.place ce _ has)) (λ z q. (q, omega arith)))
 
+  -- a string at a pointer
+  string_done : (c d : Moment) (p : ℕ) (ls : List OpenLabel) (total : ℕ) (string : List ℕ × Bool) → slice_get code d.place ≡ Some instr.PutString
+      → ((next : Moment → Course) → act M gs es (Some instr.PutString) next d ≡ on_string string c.steps (next (at_with M c p c.stack))) → Quiet c d
+      → Performs c p ls total (printed M string c.registers (state_of c))
+  string_done c d p ls total string at op q = by string.1 op
+    where
+      by : (b : Bool) → ((next : Moment → Course) → act M gs es (Some instr.PutString) next d ≡ (if b then puts string.0 (next (at_with M c p c.stack)) else Over Fault c.steps string.0))
+          → Performs c p ls total (if b then Done (Next c.registers) (state_of c) string.0 else Stops Fault c.steps string.0)
+      by true f = ((λ k. let a = q (suc k) in (a.0, a.1 ∙ step d instr.PutString at k ∙ f (runs M gs es code k))), omega arith)
+      by false f = quiet_reach c d (Over Fault c.steps string.0) q (reach_step d instr.PutString (Over Fault c.steps string.0) at f)
+
+  string_run : (c : Moment) (e : MonExpression) (ls : List OpenLabel) (total : ℕ) → KeepsNumbers M
+      → HasAt code c.place (expression_code e ++ instr.PutString ∷ [])
+      → Performs c (c.place + length (expression_code e ++ instr.PutString ∷ [])) ls total
+      (with_value (eval M gs e c.registers c.mem) c.steps (λ p. printed M (M.string p c.mem) c.registers (state_of c)))
+  string_run c e ls total keeps has =
+      let ce = expression_code e in
+      let at = (has_back code c.place ce _ has).0 in
+      let len : c.place + length ce + 1 ≡ c.place + length (ce ++ instr.PutString ∷ []) = omega (arith, length-append ce (instr.PutString ∷ [])) in
+      ends_at c _ _ ls total _ len (value_run c ce (c.place + length ce + 1) ls total (eval M gs e c.registers c.mem) _
+      (expression_runs keeps e c (has_front code c.place ce _ has))
+      (λ p q. string_done c (at_with M c (c.place + length ce) (p ∷ c.stack)) (c.place + length ce + 1) ls total (M.string p c.mem) at (λ next. refl) q))
+
   -- a text
   text_run : (bytes : List ℕ) (c : Moment) → HasAt code c.place (map instr.PutByte bytes)
       → Comes c bytes (at_with M c (c.place + length (map instr.PutByte bytes)) c.stack)
@@ -695,6 +718,7 @@ module _ (M : Memory) (gs : List M.Val) (es : List Entry) (code : List Instr) wh
       statement_runs (PrintText bytes) c behind ls total les w eN has = (text_run bytes c has, omega arith)
       statement_runs (PrintSigned e) c behind ls total les w eN has = print_run c e ls total keeps has
       statement_runs (PrintUnsigned e) c behind ls total les w eN has = print_run c e ls total keeps has
+      statement_runs (PrintString e) c behind ls total les w eN has = string_run c e ls total keeps has
       statement_runs (Act r f args) c behind ls total les w eN has =
           call_run keeps r args (instr.Act f (length args)) (λ vs. replied M (M.act f vs c.mem) (state_of c)) c ls total has (λ vs e at.
           change_run c _ vs (instr.Act f (length args)) (M.act f vs c.mem) at (λ next. all_taken (length args) vs c.stack c.steps _ e))

@@ -44,6 +44,8 @@ pub enum Instr {
     PutByte(u8),
     /// The topmost number is written in decimal, and taken off the stack.
     PutNumber,
+    /// The bytes from the topmost value on, a pointer, are written up to the first 0, and it is taken off the stack.
+    PutString,
     /// The run ends with the topmost number.
     Exit,
     /// Passes so many instructions where the topmost number is 0; it is taken off the stack.
@@ -91,7 +93,7 @@ pub fn operands_of(instr: &Instr) -> Operands
         Instr::Push(_) | Instr::Global(_) | Instr::Get(_) | Instr::GetChar => counts(0, 1),
         Instr::Extend(_) | Instr::Minus(_) | Instr::Flip(_) | Instr::Cast(_) => counts(1, 1),
         Instr::Load(_) | Instr::PutChar => counts(1, 1),
-        Instr::Put(_) | Instr::Drop | Instr::PutNumber => counts(1, 0),
+        Instr::Put(_) | Instr::Drop | Instr::PutNumber | Instr::PutString => counts(1, 0),
         Instr::Exit | Instr::SkipIfZero(_) | Instr::Return => counts(1, 0),
         Instr::Binary(_, _) | Instr::Pointed(_) => counts(2, 1),
         Instr::Store(_) | Instr::Assert(_, _, _) => counts(2, 0),

@@ -119,6 +119,7 @@ fn emit_statement(code: &mut Backward, s: &MonStmt, labels: &Labels<'_>) -> Resu
         MonStmtKind::PrintSigned(e) | MonStmtKind::PrintUnsigned(e) => {
             emit_operand(code, e, Instr::PutNumber)
         }
+        MonStmtKind::PrintString(e) => emit_operand(code, e, Instr::PutString),
         MonStmtKind::Act(r, f, args) => emit_act(code, *r, *f, args),
         MonStmtKind::Call(r, f, args) => emit_call(code, *r, *f, args),
         MonStmtKind::If(e, a, b) => emit_choice(code, e, a, b, labels),

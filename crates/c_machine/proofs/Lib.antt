@@ -9,6 +9,7 @@ pub mod Taken
 -- instructions
 pub mod Moves
 pub mod Writes
+pub mod Strings
 pub mod Acted
 pub mod Beginnings
 pub mod Pointing

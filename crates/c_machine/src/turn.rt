@@ -54,6 +54,7 @@ impl Cursor {
             Instr::PutChar => self.put_char(machine, waiting, out, stop),
             Instr::PutByte(byte) => self.put_byte(*byte, machine, waiting, out, stop),
             Instr::PutNumber => self.put_number(machine, waiting, out, stop),
+            Instr::PutString => self.put_string(machine, waiting, out, stop),
             Instr::GetChar => self.get_char(machine, reader, input, stop),
             Instr::Act(f, count) => self.act(*f, *count, machine, stop),
             Instr::Exit => self.exit(machine, stop),

@@ -244,6 +244,7 @@ fn statement<O: Sink>(
         MonStmtKind::PrintText(bytes) => print_text(bytes.bytes(), to, out),
         MonStmtKind::PrintSigned(e) => call(b"__e_acsl_print_i64", e, named, to, out),
         MonStmtKind::PrintUnsigned(e) => call(b"__e_acsl_print_u64", e, named, to, out),
+        MonStmtKind::PrintString(e) => call(b"__e_acsl_print_str", e, named, to, out),
         MonStmtKind::Act(r, f, list) => memory_call(*r, *f, list, named, to, out),
         MonStmtKind::Call(r, f, list) => call_with(*r, callee(named, *f), list, named, to, out),
         MonStmtKind::If(e, a, b) => choice(e, a, b, depth, named, to, out),

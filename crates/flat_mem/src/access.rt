@@ -1,6 +1,6 @@
 // Loads, stores and copies.
 
-ghost use Rattle.std.specs.Prelude.{◌≡◌, ◌≢◌, ◌+◌, None, Some, IfSome, MatchBool, true, false};
+ghost use Rattle.std.specs.Prelude.{◌≡◌, ◌≢◌, ◌+◌, length, None, Some, IfSome, MatchBool, true, false};
 ghost use Rattle.std.specs.Bool.{OnTrue};
 ghost use Rattle.raw_seg.specs.Bytes.{IsWidth};
 ghost use Rattle.mon_syntax.specs.declared.spot.Spot.TheVariants.{In};
@@ -102,6 +102,16 @@ impl FlatMem {
                 }
             }
             _ => false,
+        }
+    }
+
+    /// How many bytes the region of an address has.
+    pub fn region_length(&self, addr: u32) -> u32
+        ensures { result ≡ ask self.now (spot_at addr) 0 (λ r at. length r.bytes) }
+    {
+        match spot_at(addr) {
+            Spot::Nowhere => 0,
+            Spot::In(name, _) => self.region(name).len(),
         }
     }
 

@@ -105,7 +105,7 @@ fn runtime_word(bytes: &[u8], other: Word) -> Word
             (b"__e_acsl_malloc", Word::Runtime(Runtime::Malloc)),
             (b"__e_acsl_calloc", Word::Runtime(Runtime::Calloc)),
             (b"__e_acsl_free", Word::Runtime(Runtime::Free)),
-            (b"__e_acsl_print_str", Word::Runtime(Runtime::Kept)),
+            (b"__e_acsl_print_str", Word::Runtime(Runtime::PrintString)),
             (b"getchar", Word::Runtime(Runtime::GetChar)),
         ],
         bytes,

@@ -11,13 +11,14 @@ use Rattle.c_model.specs.Reports.{Extends, AgreesToFault}
 use Rattle.mon_syntax.specs.declared.tree.MonType.{MonType}
 use Rattle.mon_syntax.specs.declared.tree.MonOp.{MonOp}
 use Rattle.mon_syntax.specs.Trees.{MonExpression, Register, Global, Constant, Binary, Minus, Flip, Cast, Load, MonStatement, Set, Store, Step, Assert, PutChar, GetChar, Exit}
-use Rattle.mon_syntax.specs.Trees.{PrintText, PrintSigned, PrintUnsigned, Act, Call, If, Loop, Labelled, Goto, Return, MonStatements, NoStatement, Then, MonRegister, MonFunction, MonitoredProgram}
+use Rattle.mon_syntax.specs.Trees.{PrintText, PrintSigned, PrintUnsigned, PrintString, Act, Call, If, Loop, Labelled, Goto, Return, MonStatements, NoStatement, Then, MonRegister, MonFunction, MonitoredProgram}
 use Rattle.mon_syntax.specs.Arithmetic.{is_pointer, wrap, operate, minus, flipped}
 use Rattle.mon_syntax.specs.Memory.{Memory, Reply, Gives, IsFull, Faults}
 use Rattle.mon_syntax.specs.Meaning.{State, Result, Done, Stops, Flow, Next, Goes, Returns, writes, then_do, at_next, at_label, ◌>>=◌, with_value, choose, step_from, given_to, got, with_read}
 use Rattle.mon_syntax.specs.Meaning.{number_or_none, constant, zeros, zero_result, registers, on_numbers, replied, Calls, Does, turns, left_frame, at_return, exit_of, ran, function_named, eval, eval_all, eval_number, exec, exec_all, body_runs}
-use Rattle.mon_syntax.specs.Meaning.{level, run}
+use Rattle.mon_syntax.specs.Meaning.{printed, level, run}
 use Rattle.mon_syntax.specs.Following.{Kept, AllKept, Replied, Follows}
+use Rattle.mon_syntax.specs.Strings.{GoesWith}
 
 -- ---- what is written
 
@@ -346,6 +347,22 @@ module _ (L F : Memory) (S : Follows L F) (gsL : List L.Val) (gsF : List F.Val) 
   wrote_alike : (f : ℤ → List ℕ) (w : S.World) (i j : ℤ) (xs : List L.Val) (ys : List F.Val) (s : State L.Mem) (t : State F.Mem) → i ≡ j → Values w xs ys → Alike w s t → Related w SameFlow (Done (Next xs) s (f i)) (Done (Next ys) t (f j))
   wrote_alike f w i j xs ys s t e k l = (w, S.later_refl w, l, k, ap f (sym e))
 
+  output-printed : (string : List ℕ × Bool) (ys : List F.Val) (t : State F.Mem) → output_of (printed F string ys t) ≡ string.0
+  output-printed string ys t = by string.1
+    where
+      by : (b : Bool) → output_of (if b then Done (Next ys) t string.0 else Stops Fault t.steps string.0) ≡ string.0
+      by true = refl
+      by false = refl
+
+  -- the bytes of a string are written; where it breaks off over the first memory more may follow over the second
+  printed_alike : (w : S.World) (u v : List ℕ × Bool) (xs : List L.Val) (ys : List F.Val) (s : State L.Mem) (t : State F.Mem) → GoesWith u.1 u.0 v → Values w xs ys → Alike w s t
+      → Related w SameFlow (printed L u xs s) (printed F v ys t)
+  printed_alike w u v xs ys s t g k l = by u.1 g
+    where
+      by : (b : Bool) → GoesWith b u.0 v → Related w SameFlow (if b then Done (Next xs) s u.0 else Stops Fault s.steps u.0) (printed F v ys t)
+      by true e = subst (λ z. Related w SameFlow (Done (Next xs) s u.0) (printed F z ys t)) (sym e) (related_done w SameFlow (Next xs) (Next ys) s t u.0 l k)
+      by false e = subst (Extends u.0) (sym (output-printed v ys t)) e
+
   mutual
     exec_alike : (a : MonStatement) (c : Calls L) (d : Calls F) (n : ℕ) → CallsAlike c d → DoAlike (exec L gsL a c n) (exec F gsF a d n)
     exec_alike (Set x e) c d n h w xs ys s t k l =
@@ -378,6 +395,9 @@ module _ (L F : Memory) (S : Follows L F) (gsL : List L.Val) (gsF : List F.Val) 
         related_value w (λ i j. i ≡ j) SameFlow _ _ s.steps t.steps _ _ (kept_eval_number e w xs ys s t k l) (λ i j q. wrote_alike signed_decimal w i j xs ys s t q k l)
     exec_alike (PrintUnsigned e) c d n h w xs ys s t k l =
         related_value w (λ i j. i ≡ j) SameFlow _ _ s.steps t.steps _ _ (kept_eval_number e w xs ys s t k l) (λ i j q. wrote_alike signed_decimal w i j xs ys s t q k l)
+    exec_alike (PrintString e) c d n h w xs ys s t k l =
+        related_value w (S.Same w) SameFlow _ _ s.steps t.steps _ _ (kept_eval e w xs ys s t k l) (λ p q same.
+        printed_alike w (L.string p s.mem) (F.string q t.mem) xs ys s t (S.string w p q s.mem t.mem same l.0) k l)
     exec_alike (Act x f args) c d n h w xs ys s t k l =
         related_value w (Values w) SameFlow _ _ s.steps t.steps _ _ (kept_eval_all args w xs ys s t k l) (λ us vs q.
         value_alike x w xs ys _ _ k (replied_alike w _ _ s t l (S.act w f us vs s.mem t.mem q l.0)))

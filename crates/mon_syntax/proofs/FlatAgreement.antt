@@ -27,6 +27,7 @@ use Rattle.mon_syntax.proofs.FlatStack.{store_block_alike, delete_block_alike}
 use Rattle.mon_syntax.proofs.FlatHeap.{malloc_alike, calloc_alike, free_alike}
 use Rattle.mon_syntax.proofs.FlatCopies.{copy_alike}
 use Rattle.mon_syntax.proofs.FlatStart.{both_start}
+use Rattle.mon_syntax.proofs.FlatStrings.{string_alike}
 
 pub act_alike : (w : World) (f : MemoryCall) (xs : List Value) (ys : List ℤ) (m : Blocks) (n : Flat) → AllKept (Same w) xs ys → Holds w m n
     → Answers w (act_on_blocks f xs m) (act_on_flat f ys n)
@@ -54,6 +55,7 @@ flat_follows_blocks = record {
   store = store_alike;
   pointed = pointed_alike;
   act = act_alike;
+  string = string_alike;
   enter = enter_alike;
   leave = leave_alike;
 }

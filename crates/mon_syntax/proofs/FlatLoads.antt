@@ -42,7 +42,7 @@ pub part_at : {A : Type 0} (xs : List A) (at n i : ℕ) (d : A) → i < n → ge
 part_at xs at n i d lt = get_or-take n (drop at xs) i d lt ∙ get_or-drop at xs i d
 
 -- those of a live block
-held_bytes : (w : World) (f : Flat) (b : Block) (p : Place) (off n : ℕ) → Held w p b f → Accessed f b p off n
+pub held_bytes : (w : World) (f : Flat) (b : Block) (p : Place) (off n : ℕ) → Held w p b f → Accessed f b p off n
     → ReadBytes w n (take n (drop off b.bytes)) (raw.number_of (raw.bytes_at (relation.bytes_in f p.name) (16 * p.unit + off) n))
 held_bytes w f b p off n h a =
     let room = a.room in

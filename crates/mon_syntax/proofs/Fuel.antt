@@ -3,10 +3,10 @@ use Rattle.std.proofs.Common.{◌≡◌, ℕ, zero, suc, ◌≤◌, ◌<◌, ℤ
 use Rattle.std.specs.Ordering.{int_eq}
 use Rattle.c_model.specs.State.{Input}
 use Rattle.c_model.specs.MonitoredRuns.{Spent}
-use Rattle.mon_syntax.specs.Trees.{MonStatement, Set, Store, Step, Assert, PutChar, GetChar, Exit, PrintText, PrintSigned, PrintUnsigned, Act, Call, If, Loop, Labelled, Goto, Return, MonStatements, NoStatement, Then}
+use Rattle.mon_syntax.specs.Trees.{MonStatement, Set, Store, Step, Assert, PutChar, GetChar, Exit, PrintText, PrintSigned, PrintUnsigned, PrintString, Act, Call, If, Loop, Labelled, Goto, Return, MonStatements, NoStatement, Then}
 use Rattle.mon_syntax.specs.Trees.{MonFunction, MonitoredProgram}
 use Rattle.mon_syntax.specs.Memory.{Memory, Reply, Gives, IsFull, Faults}
-use Rattle.mon_syntax.specs.Meaning.{State, Result, Done, Stops, Flow, Next, Goes, Returns, writes, then_do, at_next, at_label, with_value, choose, step_from, got, with_read, replied, Calls, Does, turns}
+use Rattle.mon_syntax.specs.Meaning.{State, Result, Done, Stops, Flow, Next, Goes, Returns, writes, then_do, at_next, at_label, with_value, choose, step_from, got, with_read, replied, printed, Calls, Does, turns}
 use Rattle.mon_syntax.specs.Meaning.{at_return, exit_of, ran, function_named, eval, eval_all, eval_number, exec, exec_all, body_runs, level, run}
 use Rattle.mon_syntax.specs.Steps.{steps_after}
 
@@ -127,6 +127,9 @@ module _ (M : Memory) (gs : List M.Val) where
   steps-replied (IsFull g) s = omega arith
   steps-replied Faults s = omega arith
 
+  fit_printed : (string : List ℕ × Bool) (regs : List M.Val) (s : State M.Mem) → Fit s.steps (printed M string regs s) (printed M string regs s)
+  fit_printed string regs s = fit_if s.steps string.1 _ _ _ _ (refl, omega arith) (refl, omega arith)
+
   mutual
     fit_exec : (a : MonStatement) (k m n : ℕ) (c d : Calls M) → k ≤ m → k ≤ n → CallsFit k c d → FitDoes k (exec M gs a c m) (exec M gs a d n)
     fit_exec (Set x e) k m n c d lm ln h regs s l = fit_value (eval M gs e regs s.mem) s.steps _ _ (λ v. (refl, omega arith))
@@ -142,6 +145,7 @@ module _ (M : Memory) (gs : List M.Val) where
     fit_exec (PrintText bytes) k m n c d lm ln h regs s l = (refl, omega arith)
     fit_exec (PrintSigned e) k m n c d lm ln h regs s l = fit_value (eval_number M gs e regs s.mem) s.steps _ _ (λ i. (refl, omega arith))
     fit_exec (PrintUnsigned e) k m n c d lm ln h regs s l = fit_value (eval_number M gs e regs s.mem) s.steps _ _ (λ i. (refl, omega arith))
+    fit_exec (PrintString e) k m n c d lm ln h regs s l = fit_value (eval M gs e regs s.mem) s.steps _ _ (λ p. fit_printed (M.string p s.mem) regs s)
     fit_exec (Act r f args) k m n c d lm ln h regs s l =
         fit_value (eval_all M gs args regs s.mem) s.steps _ _
         (λ vs. fit_behind s.steps (replied M (M.act f vs s.mem) s) _ _ (steps-replied (M.act f vs s.mem) s) (λ v t lt. (refl, omega arith)))

@@ -27,6 +27,8 @@ pub mod FlatLoads
 pub mod FlatValues
 pub mod FlatFinds
 pub mod FlatNumbers
+pub mod Strings
+pub mod FlatStrings
 pub mod FlatPlaces
 pub mod FlatHeap
 pub mod FlatCopies

@@ -31,6 +31,7 @@ use Rattle.mon_syntax.specs.declared.tree.MonOp.TheVariants.{Add, Sub, Mul, Div,
 use Rattle.mon_syntax.specs.Names.{type_word, constant_word, IsFreeName}
 use Rattle.mon_syntax.specs.Arithmetic.{least, greatest, fits, is_pointer, byte_count, access_bytes, copy_bytes}
 use Rattle.mon_syntax.specs.Trees.{MonExpression, Register, Global, Constant, Binary, Minus, Flip, Cast, Load, MonStatement, Set, Store, Step, Assert, PutChar, GetChar, Exit, PrintText, PrintSigned, PrintUnsigned, Act, Call, If, Loop, Labelled, Goto}
+use Rattle.mon_syntax.specs.Trees.{PrintString}
 use Rattle.mon_syntax.specs.Trees.{Return}
 use Rattle.mon_syntax.specs.Trees.{MonStatements, NoStatement, Then, MonRegister, MonFunction, PlainContent, Zeros, Literal, MonitoredGlobal, MonitoredProgram}
 use Rattle.mon_syntax.specs.Text.{Word, Number, Quoted, Mark, spelled, blank, new_line, left_paren, right_paren, semicolon, operator_mark, Registers, InSight, name_or_none, name_of, global_or_none, global_name, pointed_type, mark_pieces, set_pieces}
@@ -531,6 +532,7 @@ module _ (ts : Types) (rs : InSight) (named : AreNamed ts rs) where
       statement_alone (PrintText bytes) result ls depth more labels h m = call_alone (codes "__e_acsl_print_text") (Quoted bytes ∷ []) more refl (h, (alone_right_paren _, (alone_semicolon _, m)))
       statement_alone (PrintSigned e) result ls depth more labels h m = value_alone (codes "__e_acsl_print_i64") e I64 more refl h m
       statement_alone (PrintUnsigned e) result ls depth more labels h m = value_alone (codes "__e_acsl_print_u64") e U64 more refl h m
+      statement_alone (PrintString e) result ls depth more labels h m = value_alone (codes "__e_acsl_print_str") e Ptr more refl h m
       statement_alone (Act r f es) result ls depth more labels h m = act_alone r f es more h.1 h.0 m
       statement_alone (Call r f es) result ls depth more labels h m =
           called_alone r h.callee.result (function_name called f) es h.callee.parameters more (callees f h.callee h.has) h.takes h.arguments m

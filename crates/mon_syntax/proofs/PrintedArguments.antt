@@ -81,6 +81,10 @@ pub unsigned_word : word_of (codes "__e_acsl_print_u64") ≡ word.Runtime runtim
 unfolding word_of
 unsigned_word = refl
 
+pub string_word : word_of (codes "__e_acsl_print_str") ≡ word.Runtime runtime.PrintString
+unfolding word_of
+string_word = refl
+
 pub get_word : word_of (codes "getchar") ≡ word.Runtime runtime.GetChar
 unfolding word_of
 get_word = refl

@@ -11,7 +11,7 @@ use Rattle.c_model.specs.Names.{name_number}
 use Rattle.c_model.specs.MonitoredTokens as made
 use Rattle.c_model.specs.Punctuators.{left_brace, right_brace}
 use Rattle.mon_syntax.specs.declared.tree.MonType.{MonType}
-use Rattle.mon_syntax.specs.declared.tree.MonType.TheVariants.{I32, I64, U64}
+use Rattle.mon_syntax.specs.declared.tree.MonType.TheVariants.{I32, I64, U64, Ptr}
 use Rattle.mon_syntax.specs.declared.tree.MemoryCall.{MemoryCall}
 use Rattle.mon_syntax.specs.declared.tree.MemoryCall.TheVariants as memory_call
 use Rattle.mon_syntax.specs.declared.word.Runtime.{Runtime}
@@ -20,7 +20,7 @@ use Rattle.mon_syntax.specs.declared.word.Word.{Word}
 use Rattle.mon_syntax.specs.declared.word.Word.TheVariants as word
 use Rattle.mon_syntax.specs.Names.{IsFreeName}
 use Rattle.mon_syntax.specs.Words.{word_of}
-use Rattle.mon_syntax.specs.Trees.{MonExpression, MonStatement, Set, Store, Step, Assert, PutChar, GetChar, Exit, PrintText, PrintSigned, PrintUnsigned, Act, Call, If, Loop, Labelled, Goto, Return, MonStatements, NoStatement, Then}
+use Rattle.mon_syntax.specs.Trees.{MonExpression, MonStatement, Set, Store, Step, Assert, PutChar, GetChar, Exit, PrintText, PrintSigned, PrintUnsigned, PrintString, Act, Call, If, Loop, Labelled, Goto, Return, MonStatements, NoStatement, Then}
 use Rattle.mon_syntax.specs.Text as text
 use Rattle.mon_syntax.specs.Text.{InSight, expression_pieces, arguments_pieces, size_argument, call_pieces, memory_word, FunctionNames, function_name, body_pieces, statement_pieces, statements_pieces}
 use Rattle.mon_syntax.specs.Valid as valid
@@ -36,7 +36,7 @@ use Rattle.mon_syntax.proofs.PrintedAlone.{same_bytes}
 use Rattle.mon_syntax.proofs.PrintedSteps.{free_is_name, sees_mark, sees_word}
 use Rattle.mon_syntax.proofs.PrintedExpressions.{AreWords, AreFound}
 use Rattle.mon_syntax.proofs.PrintedArguments as call_form
-use Rattle.mon_syntax.proofs.PrintedArguments.{step_word, assert_word, put_word, get_word, exit_word, text_word, signed_word, unsigned_word, memory_runtime, memory_word_is}
+use Rattle.mon_syntax.proofs.PrintedArguments.{step_word, assert_word, put_word, get_word, exit_word, text_word, signed_word, unsigned_word, string_word, memory_runtime, memory_word_is}
 use Rattle.mon_syntax.proofs.PrintedBodies.{AreRead, AreNoSteps, selection_read, iteration_read, labelled_read}
 use Rattle.mon_syntax.proofs.PrintedSimple as simple
 
@@ -71,6 +71,7 @@ depth_some (Exit e) = omega arith
 depth_some (PrintText bytes) = omega arith
 depth_some (PrintSigned e) = omega arith
 depth_some (PrintUnsigned e) = omega arith
+depth_some (PrintString e) = omega arith
 depth_some (Act r f es) = omega arith
 depth_some (Call r f es) = omega arith
 depth_some (If e a b) = omega arith
@@ -401,6 +402,7 @@ module _ (names : List (List ℕ)) (ws : Vocabulary) (words : AreWords names ws)
         (call_form.text_call names ws words functions globals types rs regs found (codes "__e_acsl_print_text") bytes more a.1.1 a.1.3)
     statement_as (PrintSigned e) n depth ls more ts le labels h a = value_as n (codes "__e_acsl_print_i64") runtime.PrintSigned I64 e PrintSigned ls more ts signed_word refl refl (λ u at xs. refl) h a
     statement_as (PrintUnsigned e) n depth ls more ts le labels h a = value_as n (codes "__e_acsl_print_u64") runtime.PrintUnsigned U64 e PrintUnsigned ls more ts unsigned_word refl refl (λ u at xs. refl) h a
+    statement_as (PrintString e) n depth ls more ts le labels h a = value_as n (codes "__e_acsl_print_str") runtime.PrintString Ptr e PrintString ls more ts string_word refl refl (λ u at xs. refl) h a
     statement_as (Act r f es) n depth ls more ts le labels h a = act_as n r f es ls more ts h a
     statement_as (Call r f es) n depth ls more ts le labels h a = call_as n r f es ls more ts h a
     statement_as (If e a b) n depth ls more ts le labels h g =

@@ -10,7 +10,7 @@ use Rattle.mon_syntax.specs.declared.tree.MonOp.TheVariants.{Add, Sub, Shr, Eq, 
 use Rattle.mon_syntax.specs.declared.tree.AccessSize.{AccessSize}
 use Rattle.mon_syntax.specs.declared.tree.AccessSize.TheVariants.{One, Two, Four, Eight, Sixteen}
 use Rattle.mon_syntax.specs.declared.tree.MemoryCall.TheVariants.{Number}
-use Rattle.mon_syntax.specs.Trees.{MonExpression, Register, Global, Constant, Binary, Cast, Load, MonStatement, Set, Store, Assert, PutChar, PrintSigned, Act, Call, Return, Zeros, Literal, MonRegister, MonitoredGlobal, MonitoredProgram}
+use Rattle.mon_syntax.specs.Trees.{MonExpression, Register, Global, Constant, Binary, Cast, Load, MonStatement, Set, Store, Assert, PutChar, PrintSigned, PrintString, Act, Call, Return, Zeros, Literal, MonRegister, MonitoredGlobal, MonitoredProgram}
 use Rattle.mon_syntax.specs.BlockMemory.{block_run}
 use Rattle.mon_syntax.specs.Names.{IsFreeName, reserved_words}
 use Rattle.mon_syntax.specs.Text.{text_of}
@@ -508,6 +508,41 @@ block_run-number_after = refl
 small_run-number_after : small_run (with_globals two_globals (born 0 8 ∷ Store 0 Ptr p ∷ PrintSigned (Load I64 p) ∷ [])) no_input 5 ≡ ends (Exits (pos 0)) (codes "13958643712") 5
 unfolding digits
 small_run-number_after = refl
+
+-- ---- strings
+
+-- a literal is written up to its 0
+abbrev writes_strings : MonitoredProgram
+writes_strings = with_globals two_globals (PrintString (Global 1) ∷ PrintString (farther (Global 1) (pos 1)) ∷ PrintString (farther (Global 1) (pos 2)) ∷ PrintString (Global 0) ∷ [])
+
+block_run-writes_strings : block_run writes_strings no_input 5 ≡ ends (Exits (pos 0)) (codes "hii") 5
+block_run-writes_strings = refl
+
+small_run-writes_strings : small_run writes_strings no_input 5 ≡ ends (Exits (pos 0)) (codes "hii") 5
+small_run-writes_strings = refl
+
+-- a string without a 0 breaks off over blocks at an unwritten byte and at the block's end, and flat memory goes on
+abbrev writes_part : ℕ → MonitoredProgram
+writes_part size = with_memory (born 0 size ∷ Store 0 U8 (Constant U8 (pos 72)) ∷ PrintString p ∷ [])
+
+block_run-unwritten_string : block_run (writes_part 2) no_input 5 ≡ ends Fault (codes "H") 5
+block_run-unwritten_string = refl
+
+small_run-unwritten_string : small_run (writes_part 2) no_input 5 ≡ ends (Exits (pos 0)) (codes "H") 5
+small_run-unwritten_string = refl
+
+block_run-unended_string : block_run (writes_part 1) no_input 5 ≡ ends Fault (codes "H") 5
+block_run-unended_string = refl
+
+small_run-unended_string : small_run (writes_part 1) no_input 5 ≡ ends (Exits (pos 0)) (codes "H") 5
+small_run-unended_string = refl
+
+-- there is none at null
+block_run-no_string : block_run (with_memory (PrintString null ∷ [])) no_input 5 ≡ ends Fault [] 5
+block_run-no_string = refl
+
+small_run-no_string : small_run (with_memory (PrintString null ∷ [])) no_input 5 ≡ ends Fault [] 5
+small_run-no_string = refl
 
 -- ---- validity
 

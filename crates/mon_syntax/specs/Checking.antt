@@ -286,6 +286,7 @@ runtime_call s f at xs runtime.Exit = one_value s at I32 xs tree.Exit
 runtime_call s f at xs runtime.PrintText = next s at (string s) xs (λ w more. no_more s at more (tree.PrintText w.0))
 runtime_call s f at xs runtime.PrintSigned = one_value s at I64 xs tree.PrintSigned
 runtime_call s f at xs runtime.PrintUnsigned = one_value s at U64 xs tree.PrintUnsigned
+runtime_call s f at xs runtime.PrintString = one_value s at Ptr xs tree.PrintString
 runtime_call s f at xs runtime.StoreBlock = simple_call s at xs memory_call.StoreBlock
 runtime_call s f at xs runtime.DeleteBlock = simple_call s at xs memory_call.DeleteBlock
 runtime_call s f at xs runtime.Copy = copy_call s at xs

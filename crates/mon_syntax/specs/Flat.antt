@@ -12,6 +12,7 @@ use Rattle.mon_syntax.specs.declared.spot.RegionName.TheVariants.{Globals, Stack
 use Rattle.mon_syntax.specs.declared.spot.Spot.{Spot}
 use Rattle.mon_syntax.specs.declared.spot.Spot.TheVariants.{Nowhere, In}
 use Rattle.mon_syntax.specs.Memory.{Reply, Gives, IsFull, Faults}
+use Rattle.mon_syntax.specs.Strings.{string_from}
 use Rattle.mon_syntax.specs.Regions.{Region, empty_region, region_load, region_store, region_copy, filled_with, with_birth, with_death}
 use Rattle.mon_syntax.specs.Questions.{live_at, plus, minus, region_valid, region_valid_read, region_initialized, region_number}
 use Rattle.mon_syntax.specs.Questions.{region_pointer, region_inside, region_offset}
@@ -286,6 +287,16 @@ abbrev pub flat_separated : ℕ → ℤ → ℤ → ℕ → ℤ → ℤ → Bool
 flat_separated p o n q u m =
     not (nat_lt 0 (plus n) && (nat_lt 0 (plus m) && (nat_eq (number_in p) (number_in q) && ranges_meet (p % 2 ^ 32) o n (q % 2 ^ 32) u m)))
 
--- `__e_acsl_print_str`: the byte that lies so many bytes after P, in the same region
+-- ---- strings
+
+-- the byte that lies so many bytes after P, in the same region
 abbrev pub flat_byte : Flat → ℕ → ℕ → Option ℕ
 flat_byte f p i = ask f (spot_of p) None (λ r at. region_load r (at + i) 1)
+
+-- how many bytes the region of an address has
+abbrev pub region_length : Flat → ℕ → ℕ
+region_length f p = ask f (spot_of p) 0 (λ r at. length r.bytes)
+
+-- `__e_acsl_print_str(P)`: a string ends in its region, or breaks off at the region's end; which bytes were written isn't asked, nor whose they are
+abbrev pub flat_string : Flat → ℕ → List ℕ × Bool
+flat_string f p = string_from (flat_byte f p) (region_length f p) 0

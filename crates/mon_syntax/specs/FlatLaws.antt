@@ -16,9 +16,10 @@ use Rattle.mon_syntax.specs.Trees.{MonitoredGlobal}
 use Rattle.mon_syntax.specs.Globals.{globals_taken}
 use Rattle.mon_syntax.specs.Valid.{AreGlobals}
 use Rattle.mon_syntax.specs.Memory.{Reply}
-use Rattle.mon_syntax.specs.Flat.{Flat, number_in, spot_of, flat_enter, flat_leave}
-use Rattle.mon_syntax.specs.BlockMemory.{Blocks, load_block, store_value, pointed_block, act_on_blocks, enter_blocks, over_blocks, blocks_start}
-use Rattle.mon_syntax.specs.FlatMemory.{load_flat, store_flat, pointed_flat, act_on_flat, valued, over_flat, flat_start}
+use Rattle.mon_syntax.specs.Strings.{GoesWith}
+use Rattle.mon_syntax.specs.Flat.{Flat, number_in, spot_of, flat_enter, flat_leave, flat_string}
+use Rattle.mon_syntax.specs.BlockMemory.{Blocks, load_block, store_value, pointed_block, act_on_blocks, string_in, enter_blocks, over_blocks, blocks_start}
+use Rattle.mon_syntax.specs.FlatMemory.{load_flat, store_flat, pointed_flat, act_on_flat, pointer_in, valued, over_flat, flat_start}
 use Rattle.mon_syntax.specs.Following.{Kept, AllKept, Replied}
 use Rattle.mon_syntax.specs.FlatRelation.{World, Later, Place, PointsTo, SamePointer, Same, byte_at, notes_in, marks_in, bytes_in, Holds}
 
@@ -42,6 +43,12 @@ abbrev pub CallsKeep : Type 0
 CallsKeep =
     (w : World) (f : MemoryCall) (xs : List Value) (ys : List ℤ) (m : Blocks) (n : Flat) → AllKept (Same w) xs ys → Holds w m n
     → AnswerAlike w (act_on_blocks f xs m) (act_on_flat f ys n)
+
+-- a string over blocks that ends is the one of flat memory; one that breaks off is a beginning of it
+abbrev pub StringsKeep : Type 0
+StringsKeep =
+    (w : World) (a : Value) (b : ℤ) (m : Blocks) (n : Flat) → Same w a b → Holds w m n
+    → GoesWith (string_in a m).1 (string_in a m).0 (flat_string n (pointer_in b))
 
 abbrev pub FramesKeep : Type 0
 FramesKeep = (w : World) (m : Blocks) (n : Flat) → Holds w m n → AnswerAlike w (enter_blocks m) (valued (flat_enter n))

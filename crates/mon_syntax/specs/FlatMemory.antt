@@ -18,7 +18,7 @@ use Rattle.mon_syntax.specs.Trees.{MonitoredGlobal, MonitoredProgram}
 use Rattle.mon_syntax.specs.Globals.{kind_of_content, size_of_content, first_bytes, size_of_global}
 use Rattle.mon_syntax.specs.Memory.{Memory, Reply, Gives, IsFull, Faults}
 use Rattle.mon_syntax.specs.Flat.{Flat, flat_empty, flat_load, flat_store, flat_enter, flat_leave, flat_store_block, flat_delete_block, flat_begin, flat_number}
-use Rattle.mon_syntax.specs.Flat.{flat_copy, flat_malloc, flat_calloc, flat_free, number_in, pointer_to}
+use Rattle.mon_syntax.specs.Flat.{flat_copy, flat_malloc, flat_calloc, flat_free, flat_string, number_in, pointer_to}
 use Rattle.mon_syntax.specs.Meaning.{run}
 
 -- a value as a pointer: its lowest 64 bits
@@ -116,6 +116,7 @@ over_flat = record {
   store = store_flat;
   pointed = pointed_flat;
   act = act_on_flat;
+  string = λ p f. flat_string f (pointer_in p);
   enter = λ f. valued (flat_enter f);
   leave = flat_leave;
   starts = pointers_from 1 0;

@@ -5,6 +5,7 @@ use Rattle.mon_syntax.specs.declared.tree.MonType.{MonType}
 use Rattle.mon_syntax.specs.declared.tree.MonOp.{MonOp}
 use Rattle.mon_syntax.specs.declared.tree.MemoryCall.{MemoryCall}
 use Rattle.mon_syntax.specs.Memory.{Memory, Reply, Gives, IsFull, Faults}
+use Rattle.mon_syntax.specs.Strings.{GoesWith}
 
 -- where there is a first value, there is a second that is related to it
 abbrev pub Kept : {A B : Type 0} → (A → B → Type 0) → Option A → Option B → Type 0
@@ -55,5 +56,7 @@ pub record Follows (L F : Memory) : Type 1 where
       → Kept (Same w) (L.pointed op a x m) (F.pointed op b y n)
   pub act : (w : World) (f : MemoryCall) (xs : List L.Val) (ys : List F.Val) (m : L.Mem) (n : F.Mem) → AllKept (Same w) xs ys → Holds w m n
       → Replied World Later Same Holds w (L.act f xs m) (F.act f ys n)
+  pub string : (w : World) (a : L.Val) (b : F.Val) (m : L.Mem) (n : F.Mem) → Same w a b → Holds w m n
+      → GoesWith (L.string a m).1 (L.string a m).0 (F.string b n)
   pub enter : (w : World) (m : L.Mem) (n : F.Mem) → Holds w m n → Replied World Later Same Holds w (L.enter m) (F.enter n)
   pub leave : (w : World) (m : L.Mem) (n : F.Mem) → Holds w m n → Holds w (L.leave m) (F.leave n)

@@ -2,6 +2,7 @@
 -- Laws that the definitions meet: of arithmetic, of runs over one memory, of runs over two, and of the heap.
 use Rattle.std.specs.Prelude.{◌≡◌, ℕ, ◌*◌, ◌/◌, ◌^◌, ◌≤◌, ℤ, pos, ◌+ℤ◌, true, List, [], get_or, Some, None, codes}
 use Rattle.c_syntax.specs.Programs.{TranslationUnit}
+use Rattle.c_model.specs.Memory.{Pointer, Points}
 use Rattle.c_model.specs.State.{Input}
 use Rattle.c_model.specs.Meaning as source
 use Rattle.c_model.specs.Reports.{Agrees, AgreesToFault}
@@ -13,9 +14,10 @@ use Rattle.mon_syntax.specs.Trees.{MonStatement, Loop, MonStatements, MonFunctio
 use Rattle.mon_syntax.specs.declared.tree.MonType.{MonType}
 use Rattle.mon_syntax.specs.Arithmetic.{bit_count, fits, wrap}
 use Rattle.mon_syntax.specs.Memory.{Memory}
+use Rattle.mon_syntax.specs.Strings.{IsString}
 use Rattle.mon_syntax.specs.Meaning.{State, then_do, at_next, step_from, exec, exec_all, body_runs, level, ran, function_named, run}
-use Rattle.mon_syntax.specs.BlockMemory.{block_run}
-use Rattle.mon_syntax.specs.Flat.{Flat, number_in, spot_of, flat_free}
+use Rattle.mon_syntax.specs.BlockMemory.{Blocks, byte_after, string_in, block_run}
+use Rattle.mon_syntax.specs.Flat.{Flat, number_in, spot_of, flat_free, flat_byte, flat_string}
 use Rattle.mon_syntax.specs.FlatMemory.{flat_run}
 use Rattle.mon_syntax.specs.Valid.{IsValid}
 use Rattle.mon_syntax.specs.Text.{text_of}
@@ -96,6 +98,15 @@ pub record IsFreed (f g : Flat) (p : ℕ) : Type 0 where
 -- what is freed is in no record, where each record stands at the units of its block alone
 abbrev pub FreedBlocksHaveNoRecord : Type 0
 FreedBlocksHaveNoRecord = (f g : Flat) (p : ℕ) → AreWhole f.heap.shadow.notes → (p ≡ 0 → ⊥) → flat_free f p ≡ Some g → IsFreed f g p
+
+-- ---- strings
+
+-- what is looked for in a block and in a region is the string: no bound cuts it off
+abbrev pub BlockStrings : Type 0
+BlockStrings = (p : Pointer) (b : Blocks) → IsString (byte_after b.store p) (string_in (Points p) b)
+
+abbrev pub FlatStrings : Type 0
+FlatStrings = (f : Flat) (p : ℕ) → IsString (flat_byte f p) (flat_string f p)
 
 -- ---- texts
 

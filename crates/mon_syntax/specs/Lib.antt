@@ -5,6 +5,7 @@ pub mod Registers
 pub mod Indices
 pub mod ObjectIndices
 pub mod Memory
+pub mod Strings
 pub mod Meaning
 pub mod BlockMemory
 pub mod Regions

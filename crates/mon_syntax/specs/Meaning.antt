@@ -1,7 +1,7 @@
 -- Ours: the meaning of monitored C.
 -- What a program in monitored C does, over any memory.
 use Rattle.std.specs.Prelude.{ℕ, zero, suc, ◌%◌, ℤ, pos, negsuc, List, [], ◌∷◌, ◌++◌, length, map, drop, ◌&&◌, Option, Some, None, if◌then◌else◌, slice_get}
-use Rattle.std.specs.Prelude.{slice_set, bytes_eq, codes}
+use Rattle.std.specs.Prelude.{slice_set, bytes_eq, codes, Bool}
 use Rattle.std.specs.Ordering.{int_eq}
 use Rattle.std.specs.Fmt.{signed_decimal}
 use Rattle.c_syntax.specs.declared.types.How.TheVariants as how
@@ -11,7 +11,7 @@ use Rattle.c_model.specs.MonitoredRuns.{Final, Exits, Broken, Fault, Spent, Full
 use Rattle.mon_syntax.specs.declared.tree.MonType.{MonType}
 use Rattle.mon_syntax.specs.declared.tree.MonOp.{MonOp}
 use Rattle.mon_syntax.specs.Trees.{MonExpression, Register, Global, Constant, Binary, Minus, Flip, Cast, Load, MonStatement, Set, Store, Step, Assert}
-use Rattle.mon_syntax.specs.Trees.{PutChar, GetChar, Exit, MonRegister}
+use Rattle.mon_syntax.specs.Trees.{PutChar, GetChar, Exit, MonRegister, PrintString}
 use Rattle.mon_syntax.specs.Trees.{PrintText, PrintSigned, PrintUnsigned, Act, Call, If, Loop, Labelled, Goto, Return, MonStatements, NoStatement, Then}
 use Rattle.mon_syntax.specs.Trees.{MonFunction, MonitoredProgram}
 use Rattle.mon_syntax.specs.Arithmetic.{is_pointer, wrap, operate, minus, flipped}
@@ -132,6 +132,10 @@ module _ (M : Memory) where
   abbrev pub Calls : Type 0
   Calls = ℕ → List M.Val → State M.Mem → Result (State M.Mem) M.Val
 
+  -- the bytes of a string are written; where no 0 ends them the machine faults
+  abbrev pub printed : List ℕ × Bool → List M.Val → State M.Mem → Result (State M.Mem) (Flow M.Val)
+  printed string regs s = if string.1 then Done (Next regs) s string.0 else Stops Fault s.steps string.0
+
   -- what statements do
   abbrev pub Does : Type 0
   Does = List M.Val → State M.Mem → Result (State M.Mem) (Flow M.Val)
@@ -214,6 +218,7 @@ module _ (M : Memory) (gs : List M.Val) where
     exec (PrintText bytes) calls n regs s = Done (Next regs) s bytes
     exec (PrintSigned e) calls n regs s = with_value (eval_number e regs s.mem) s.steps (λ i. Done (Next regs) s (signed_decimal i))
     exec (PrintUnsigned e) calls n regs s = with_value (eval_number e regs s.mem) s.steps (λ i. Done (Next regs) s (signed_decimal i))
+    exec (PrintString e) calls n regs s = with_value (eval e regs s.mem) s.steps (λ p. printed M (M.string p s.mem) regs s)
     exec (If e a b) calls n regs s = with_value (eval_number e regs s.mem) s.steps (λ i. choose i (exec_all a calls n regs s) (exec_all b calls n regs s))
     exec (Loop a b) calls n regs s = turns M n (exec_all a calls n) (exec_all b calls n) regs s
     exec (Labelled a l) calls n regs s = then_do (exec_all a calls n regs s) (at_label l)

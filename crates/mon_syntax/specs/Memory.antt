@@ -1,7 +1,7 @@
 -- Ours: what both memories have.
 -- What a memory is to a monitored program: its values, its numbers and the null pointer, loads and stores, operators on pointers, the calls of the
--- runtime that work on it, the frames of calls, and where globals stand.
-use Rattle.std.specs.Prelude.{ℤ, List, Option}
+-- runtime that work on it, strings, the frames of calls, and where globals stand.
+use Rattle.std.specs.Prelude.{ℕ, ℤ, Bool, List, Option}
 use Rattle.c_syntax.specs.declared.types.Segment.{Segment}
 use Rattle.mon_syntax.specs.declared.tree.MonType.{MonType}
 use Rattle.mon_syntax.specs.declared.tree.MonOp.{MonOp}
@@ -31,6 +31,8 @@ pub record Memory : Type 1 where
   pub pointed : MonOp → Val → Val → Mem → Option Val
   -- what a call of the runtime does to it
   pub act : MemoryCall → List Val → Mem → Reply Mem Val
+  -- the bytes at a pointer up to the first 0, as far as they can be read, and whether a 0 ends them
+  pub string : Val → Mem → List ℕ × Bool
   -- the frame of a call, and its end
   pub enter : Mem → Reply Mem Val
   pub leave : Mem → Mem

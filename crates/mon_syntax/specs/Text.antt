@@ -11,7 +11,7 @@ use Rattle.mon_syntax.specs.declared.tree.MonOp.TheVariants.{Add, Sub, Mul, Div,
 use Rattle.mon_syntax.specs.declared.tree.MemoryCall.{MemoryCall}
 use Rattle.mon_syntax.specs.declared.tree.MemoryCall.TheVariants as memory_call
 use Rattle.mon_syntax.specs.Trees.{MonExpression, Register, Global, Constant, Binary, Minus, Flip, Cast, Load, MonStatement, Set, Store, Step, Assert}
-use Rattle.mon_syntax.specs.Trees.{PutChar, GetChar, Exit, PlainContent, Zeros, Literal, MonitoredGlobal}
+use Rattle.mon_syntax.specs.Trees.{PutChar, GetChar, Exit, PlainContent, Zeros, Literal, MonitoredGlobal, PrintString}
 use Rattle.mon_syntax.specs.Trees.{PrintText, PrintSigned, PrintUnsigned, Act, Call, If, Loop, Labelled, Goto, Return, MonStatements, NoStatement, Then}
 use Rattle.mon_syntax.specs.Trees.{MonRegister, MonFunction, MonitoredProgram}
 use Rattle.mon_syntax.specs.Arithmetic.{access_bytes, copy_bytes, byte_count, is_pointer}
@@ -215,6 +215,7 @@ abbrev mutual
   statement_pieces gs rs depth (PrintText bytes) = call_pieces (codes "__e_acsl_print_text") (Quoted bytes ∷ [])
   statement_pieces gs rs depth (PrintSigned e) = call_pieces (codes "__e_acsl_print_i64") (expression_pieces rs e)
   statement_pieces gs rs depth (PrintUnsigned e) = call_pieces (codes "__e_acsl_print_u64") (expression_pieces rs e)
+  statement_pieces gs rs depth (PrintString e) = call_pieces (codes "__e_acsl_print_str") (expression_pieces rs e)
   statement_pieces gs rs depth (Act r f args) = set_or_none rs r ++ call_pieces (memory_word f) (arguments_pieces rs args ++ size_argument f)
   statement_pieces gs rs depth (Call r f args) = set_or_none rs r ++ call_pieces (function_name gs f) (arguments_pieces rs args)
   statement_pieces gs rs depth (If e a b) =

@@ -42,6 +42,7 @@ mutual
     PrintText : List ℕ → MonStatement
     PrintSigned : MonExpression → MonStatement
     PrintUnsigned : MonExpression → MonStatement
+    PrintString : MonExpression → MonStatement
     -- a call of the runtime on the memory, and the register that takes its value
     Act : Option ℕ → MemoryCall → List MonExpression → MonStatement
     -- a call of the function with this number
@@ -107,6 +108,7 @@ abbrev mutual
   plain_stmt_kind (stmt.PrintText bytes) = PrintText bytes
   plain_stmt_kind (stmt.PrintSigned e) = PrintSigned (plain_expr e)
   plain_stmt_kind (stmt.PrintUnsigned e) = PrintUnsigned (plain_expr e)
+  plain_stmt_kind (stmt.PrintString e) = PrintString (plain_expr e)
   plain_stmt_kind (stmt.Act r f args) = Act r f (map plain_expr args.items)
   plain_stmt_kind (stmt.Call r f args) = Call r f (map plain_expr args.items)
   plain_stmt_kind (stmt.If' e p a q b) = If (plain_expr e) (plain_stmt_row a) (plain_stmt_row b)

@@ -12,7 +12,7 @@ use Rattle.mon_syntax.specs.declared.tree.MonOp.TheVariants.{Add, Sub, Mul, Div,
 use Rattle.mon_syntax.specs.declared.tree.MemoryCall.{MemoryCall}
 use Rattle.mon_syntax.specs.declared.tree.MemoryCall.TheVariants.{StoreBlock, DeleteBlock, Copy, Number, Malloc, Calloc, Free}
 use Rattle.mon_syntax.specs.Trees.{MonExpression, Register, Global, Constant, Binary, Minus, Flip, Cast, Load, MonStatement, Set, Store, Step, Assert}
-use Rattle.mon_syntax.specs.Trees.{PutChar, GetChar, Exit, PlainContent, Zeros, Literal, MonitoredGlobal}
+use Rattle.mon_syntax.specs.Trees.{PutChar, GetChar, Exit, PlainContent, Zeros, Literal, MonitoredGlobal, PrintString}
 use Rattle.mon_syntax.specs.Trees.{PrintText, PrintSigned, PrintUnsigned, Act, Call, If, Loop, Labelled, Goto, Return, MonStatements, NoStatement, Then}
 use Rattle.mon_syntax.specs.Trees.{MonRegister, MonFunction, MonitoredProgram}
 use Rattle.c_model.specs.Limits.{globals_bytes}
@@ -195,6 +195,7 @@ is_step (Exit e) = false
 is_step (PrintText bytes) = false
 is_step (PrintSigned e) = false
 is_step (PrintUnsigned e) = false
+is_step (PrintString e) = false
 is_step (Act r f args) = false
 is_step (Call r f args) = false
 is_step (If e a b) = false
@@ -262,6 +263,7 @@ module _ (globals : ℕ) where
     IsStatement gs ts result ls (PrintText bytes) = AllByRecursion (λ b. b < 256) bytes
     IsStatement gs ts result ls (PrintSigned e) = IsExpression ts e I64
     IsStatement gs ts result ls (PrintUnsigned e) = IsExpression ts e U64
+    IsStatement gs ts result ls (PrintString e) = IsExpression ts e Ptr
     IsStatement gs ts result ls (Act r f args) = AreArguments ts args (memory_parameters f) × TakesValue ts r (memory_result f)
     IsStatement gs ts result ls (Call r f args) = IsCall gs ts r f args
     IsStatement gs ts result ls (If e a b) = IsExpression ts e I32 × AreStatements gs ts result ls a × AreStatements gs ts result ls b
@@ -287,6 +289,7 @@ abbrev mutual
   depth (PrintText bytes) = 1
   depth (PrintSigned e) = 1
   depth (PrintUnsigned e) = 1
+  depth (PrintString e) = 1
   depth (Act r f args) = 1
   depth (Call r f args) = 1
   depth (If e a b) = suc (max (depth_of_all a) (depth_of_all b))

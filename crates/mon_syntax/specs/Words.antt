@@ -41,7 +41,7 @@ runtime_words =
     ∷ (codes "__e_acsl_block_length", Runtime runtime.Kept) ∷ (codes "__e_acsl_offset", Runtime runtime.Kept)
     ∷ (codes "__e_acsl_separated", Runtime runtime.Kept) ∷ (codes "__e_acsl_malloc", Runtime runtime.Malloc)
     ∷ (codes "__e_acsl_calloc", Runtime runtime.Calloc) ∷ (codes "__e_acsl_free", Runtime runtime.Free)
-    ∷ (codes "__e_acsl_print_str", Runtime runtime.Kept) ∷ (codes "getchar", Runtime runtime.GetChar) ∷ []
+    ∷ (codes "__e_acsl_print_str", Runtime runtime.PrintString) ∷ (codes "getchar", Runtime runtime.GetChar) ∷ []
 
 -- what a word is: one of these, or a name
 unfoldable pub word_of : List ℕ → Word

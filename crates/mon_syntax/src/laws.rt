@@ -5,8 +5,8 @@ ghost use Rattle.mon_syntax.specs.FlatMemory.{over_flat};
 ghost use Rattle.mon_syntax.specs.Laws.{WrappedValuesFit, WrappedValuesAreCongruent, FittingValuesStand};
 ghost use Rattle.mon_syntax.specs.Laws.{FuelIsEnough, StepsFall, LoopsTurn, RunsNeedNoFuel, RunsSpendSteps};
 ghost use Rattle.mon_syntax.specs.Laws.{BlocksAgreeWithFlat, AgreementTranslates};
-ghost use Rattle.mon_syntax.specs.Laws.{FreedBlocksHaveNoRecord};
-ghost use Rattle.mon_syntax.specs.FlatLaws.{RunsStartAlike, CallsKeep, FramesKeep, FrameEndsKeep, LoadsKeep, StoresKeep, OperatorsKeep};
+ghost use Rattle.mon_syntax.specs.Laws.{FreedBlocksHaveNoRecord, BlockStrings, FlatStrings};
+ghost use Rattle.mon_syntax.specs.FlatLaws.{RunsStartAlike, CallsKeep, FramesKeep, FrameEndsKeep, LoadsKeep, StoresKeep, OperatorsKeep, StringsKeep};
 ghost use Rattle.mon_syntax.specs.FlatLaws.{PlacesStay, ValuesStay, DeadHaveNoRecord, PointersLieInUnits, PiecesHaveTheirBytes, PiecesAreOfOne};
 ghost use Rattle.mon_syntax.specs.Laws.{PrintedProgramsAreRead};
 
@@ -43,7 +43,7 @@ pub fn agreement()
 {}
 
 /// Flat memory stands for numbered blocks: a run begins so, and calls of the runtime, frames, loads, stores and operators keep
-/// it so, up to the first of them that has no meaning over blocks.
+/// it so, up to the first of them that has no meaning over blocks. A string has the same bytes, up to the first that has none there.
 pub fn flat_relation()
     ensures start { RunsStartAlike }
     ensures calls { CallsKeep }
@@ -52,6 +52,7 @@ pub fn flat_relation()
     ensures loads { LoadsKeep }
     ensures stores { StoresKeep }
     ensures operators { OperatorsKeep }
+    ensures strings { StringsKeep }
 {}
 
 /// Where it does, a block keeps its place when it is dead, and no record has its number any more; a pointer lies in the units of
@@ -68,6 +69,12 @@ pub fn flat_places()
 /// The heap: after the death of a block no unit has its record.
 pub fn freed_blocks()
     ensures { FreedBlocksHaveNoRecord }
+{}
+
+/// Strings: over both memories the bytes at a pointer up to the first 0, or up to the first byte that can't be read.
+pub fn strings()
+    ensures blocks { BlockStrings }
+    ensures flat { FlatStrings }
 {}
 
 /// Texts: the text of a valid program spells that program.

@@ -148,6 +148,8 @@ pub enum MonStmtKind {
     PrintSigned(MonExpr),
     /// `__e_acsl_print_u64(e);`
     PrintUnsigned(MonExpr),
+    /// `__e_acsl_print_str(e);`
+    PrintString(MonExpr),
     /// `f(..);`, or `R = f(..);`: a call of the runtime on the memory.
     Act(Option<u32>, MemoryCall, Vec<MonExpr>),
     /// `f(..);`, or `R = f(..);`: a call of the function with this number in the program.

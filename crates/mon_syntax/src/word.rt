@@ -17,6 +17,7 @@ pub enum Runtime {
     PrintText,
     PrintSigned,
     PrintUnsigned,
+    PrintString,
     StoreBlock,
     DeleteBlock,
     Copy,

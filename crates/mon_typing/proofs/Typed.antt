@@ -291,6 +291,7 @@ module _ (s : Scope) where
         (λ v more p u. more_valid (IsCall false) at more (tree.PrintText v.0) (p, refl, refl))
     runtime_valid f at xs runtime.PrintSigned w = one_valid at I64 xs tree.PrintSigned w (λ e p. (p, refl, refl))
     runtime_valid f at xs runtime.PrintUnsigned w = one_valid at U64 xs tree.PrintUnsigned w (λ e p. (p, refl, refl))
+    runtime_valid f at xs runtime.PrintString w = one_valid at Ptr xs tree.PrintString w (λ e p. (p, refl, refl))
     runtime_valid f at xs runtime.StoreBlock w = simple_valid at xs memory_call.StoreBlock w
     runtime_valid f at xs runtime.DeleteBlock w = simple_valid at xs memory_call.DeleteBlock w
     runtime_valid f at xs runtime.Copy w = copy_call_valid at xs w

@@ -3,7 +3,7 @@
 ghost use Rattle.std.specs.Prelude.{◌≡◌, [], ◌∷◌, map, None, IfOk};
 ghost use Rattle.mon_syntax.specs.Trees as tree;
 ghost use Rattle.mon_syntax.specs.Trees.{plain_expr, plain_stmt};
-ghost use Rattle.mon_syntax.specs.declared.tree.MonType.TheVariants.{I32, I64, U64};
+ghost use Rattle.mon_syntax.specs.declared.tree.MonType.TheVariants.{I32, I64, U64, Ptr};
 ghost use Rattle.mon_syntax.specs.Valid.{memory_parameters};
 ghost use Rattle.mon_syntax.specs.Checking.{no_more, string, next, one_value, assert_call, simple_call, number_call, copy_call};
 ghost use Rattle.mon_syntax.specs.Checking.{runtime_call, named_call, call_of_word};
@@ -269,6 +269,19 @@ fn print_unsigned(
     Ok(MonStmt::new(alloc, MonStmtKind::PrintUnsigned(value))?)
 }
 
+/// `__e_acsl_print_str(e);`
+fn print_string(
+    alloc: Global,
+    scope: &Scope,
+    place: Place,
+    arguments: &[ParsedArg],
+) -> Result<MonStmt, CheckFault>
+    ensures { Gives plain_stmt result (one_value (plain_scope scope.now) place Ptr (map read.plain_arg arguments.now) tree.PrintString) }
+{
+    let value = only_value(alloc, scope, place, MonType::Ptr, arguments)?;
+    Ok(MonStmt::new(alloc, MonStmtKind::PrintString(value))?)
+}
+
 /// `__e_acsl_print_text("..");`
 fn print_text(
     alloc: Global,
@@ -304,6 +317,7 @@ fn runtime_call(
         Runtime::PrintText => print_text(alloc, scope, place, arguments),
         Runtime::PrintSigned => print_signed(alloc, scope, place, arguments),
         Runtime::PrintUnsigned => print_unsigned(alloc, scope, place, arguments),
+        Runtime::PrintString => print_string(alloc, scope, place, arguments),
         Runtime::StoreBlock => {
             simple_call(alloc, scope, place, arguments, MemoryCall::StoreBlock)
         }

@@ -50,6 +50,9 @@ statement-returns-in-PrintSigned g t c = shown (ap (statement_text (functions_of
 pub statement-returns-in-PrintUnsigned : goal.statement-returns-in-PrintUnsigned
 statement-returns-in-PrintUnsigned g t c = shown (ap (statement_text (functions_of c.args.named.now) (in_sight c.args.named.now) (depth_of c.args.depth.now)) (sym c.deref.ensures ∙ c.in-PrintUnsigned.is)) c.call-in-PrintUnsigned.ensures
 
+pub statement-returns-in-PrintString : goal.statement-returns-in-PrintString
+statement-returns-in-PrintString g t c = shown (ap (statement_text (functions_of c.args.named.now) (in_sight c.args.named.now) (depth_of c.args.depth.now)) (sym c.deref.ensures ∙ c.in-PrintString.is)) c.call-in-PrintString.ensures
+
 pub statement-returns-in-If : goal.statement-returns-in-If
 statement-returns-in-If g t c =
     shown (at_kind (functions_of c.args.named.now) (in_sight c.args.named.now) (depth_of c.args.depth.now) _ _ _ (sym c.deref.ensures ∙ c.in-If.is) (if_is c.in-If.e c.in-If.a c.in-If.b))

@@ -3,6 +3,7 @@ use Rattle.mon_syntax.proofs.FlatFrames.{enter_alike, leave_alike}
 use Rattle.mon_syntax.proofs.FlatOperators.{pointed_alike}
 use Rattle.mon_syntax.proofs.FlatStart.{both_start}
 use Rattle.mon_syntax.proofs.FlatStores.{store_alike}
+use Rattle.mon_syntax.proofs.FlatStrings.{string_alike}
 use Rattle.mon_syntax.proofs.FlatValues.{load_alike}
 use Rattle.mon_syntax.proofs.laws.flat_relation.Goals as goal
 
@@ -26,3 +27,6 @@ returns-clause-stores c = store_alike
 
 pub returns-clause-operators : goal.returns-clause-operators
 returns-clause-operators c = pointed_alike
+
+pub returns-clause-strings : goal.returns-clause-strings
+returns-clause-strings c = string_alike

@@ -82,6 +82,9 @@ returns-in-PutByte g c = rw c.in-PutByte.is (c.put_byte.ensures (links_of c.args
 pub returns-in-PutNumber : goal.returns-in-PutNumber
 returns-in-PutNumber g c = rw c.in-PutNumber.is (c.put_number.ensures (links_of c.args.globals.now c.args.entries.now) _)
 
+pub returns-in-PutString : goal.returns-in-PutString
+returns-in-PutString g c = rw c.in-PutString.is (c.put_string.ensures (links_of c.args.globals.now c.args.entries.now) _)
+
 pub returns-in-Call : goal.returns-in-Call
 returns-in-Call g c = rw c.in-Call.is (c.call.ensures c.args.globals.now _)
 

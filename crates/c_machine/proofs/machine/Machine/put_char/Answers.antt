@@ -38,3 +38,11 @@ returns-in-Err g c links feed =
     rw c.refused.ensures (cut_by links instr.PutChar m.cursor m (c.low_byte-byte.result ∷ []) feed m.cursor m
     (λ input next. next (on_with over_flat (machine_of m.cursor m input) (pos (byte_of z) ∷ below))) port port' c.in-Err.fault
     (λ input next. char_written (machine_of m.cursor m input) next links z c.low_byte-byte.result below c.in-Some.ensures.top byte) c.in-Err.ensures tt)
+
+pub returns-in-None : goal.returns-in-None
+returns-in-None g c links feed = record {
+  feed = refl;
+  bytes = [];
+  wrote = search rules;
+  run = λ input next. search rules;
+}

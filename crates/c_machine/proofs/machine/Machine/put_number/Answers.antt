@@ -1,4 +1,4 @@
-use Rattle.std.proofs.Common.{rules, FitsSigned, ◌≡◌, refl, ap, ◌∙◌}
+use Rattle.std.proofs.Common.{rules, FitsSigned, ◌≡◌, [], refl, ap, ◌∙◌}
 use Rattle.std.specs.Int.{w128}
 use Rattle.std.specs.Fmt.{signed_decimal}
 use Rattle.std.proofs.lemmas.Int.{to_z-of_z}
@@ -34,3 +34,11 @@ returns-in-Ok g c links feed =
     writes_by links instr.PutNumber m.cursor m c.as_bytes.result.now feed _ _ below _ _ refl
     (λ input next. number_written (machine_of m.cursor m input) next links z c.as_bytes.result.now below c.in-Some.ensures.top text)
     (goes_kept m.cursor m _ m below _ (drops_one m.cursor c.pop.new.self m c.in-Some.ensures.others c.in-Some.ensures.height c.requires.fit)) c.in-Ok.ensures
+
+pub returns-in-None : goal.returns-in-None
+returns-in-None g c links feed = record {
+  feed = refl;
+  bytes = [];
+  wrote = search rules;
+  run = λ input next. search rules;
+}
