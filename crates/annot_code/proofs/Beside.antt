@@ -15,9 +15,10 @@ use Rattle.c_model.specs.Memory.{Value, Integer, Store}
 use Rattle.c_model.specs.State.{State, Scope}
 use Rattle.c_model.specs.TermRanges.{Seen, place_range}
 use Rattle.c_model.specs.Ranges.{IsWithin128}
-use Rattle.c_model.specs.TypedPredicates.{TermTyped, LinksTyped, PredicateTyped}
+use Rattle.c_model.specs.TypedPredicates.{TermTyped, LinksTyped, PredicateTyped, ClauseTyped}
 use Rattle.c_model.specs.TypedTrees.{Denotes}
 use Rattle.mon_syntax.specs.Registers.{Bindings}
+use Rattle.interval_infer.specs.InSight.{IsFound, EntityFound, AreFound}
 use Rattle.interval_infer.specs.Judged.{seen_as, seen_with}
 use Rattle.interval_infer.specs.Laws.{AreSeen, LoadsFit}
 use Rattle.interval_infer.specs.Terms.{EachSeen}
@@ -28,7 +29,7 @@ use Rattle.c_simulation.specs.Standing as call
 use Rattle.c_simulation.specs.Standing.{Anchored, Bounded}
 use Rattle.c_simulation.proofs.Anchors.{pointer_has}
 use Rattle.c_simulation.proofs.Bounds.{loaded_is_of}
-use Rattle.annot_code.specs.Beside.{judging, IsFound, EntityFound, AreFound, StandingStands, StandingKeepsRanges, SoundJudgementsKeepRanges, TypedPredicatesAreFound}
+use Rattle.annot_code.specs.Beside.{judging, StandingStands, StandingKeepsRanges, SoundJudgementsKeepRanges, TypedPredicatesAreFound, JudgedPredicatesAreFound}
 use Rattle.annot_code.specs.Does.{RangesHold, Stands, Target, TermFound, LinksFound, PredicateFound}
 
 -- ---- registers and blocks
@@ -164,3 +165,6 @@ module _ (sight : Sight) (scope : Scope) (found : AreFound sight.entities scope)
 
 pub typed_predicates_are_found : TypedPredicatesAreFound
 typed_predicates_are_found s scope found p q = predicate_found s scope found p q
+
+pub judged_predicates_are_found : JudgedPredicatesAreFound
+judged_predicates_are_found j p h e = predicate_found h.sight j.state.scope h.found p (subst (ClauseTyped h.sight) e h.typed)

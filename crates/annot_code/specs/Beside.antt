@@ -1,16 +1,17 @@
 -- Ours: what the code of a predicate asks for (`Does`) holds where monitored C stands beside a state of the source, as it does all along a translation.
-use Rattle.std.specs.Prelude.{◌≡◌, ℕ, List, [], ◌∷◌, Some}
-use Rattle.c_syntax.specs.Logic.{Predicate}
+use Rattle.std.specs.Prelude.{◌≡◌, ℕ, List, []}
+use Rattle.c_syntax.specs.Logic.{Predicate, Holds}
 use Rattle.c_syntax.specs.Programs.{TranslationUnit}
-use Rattle.c_model.specs.ExpressionTyping.{Entity, AnObject, AnEnumerator, Sight}
+use Rattle.c_model.specs.ExpressionTyping.{Sight}
 use Rattle.c_model.specs.JudgedStates.{Judgement, names_with}
 use Rattle.c_model.specs.Logic.{Environment}
 use Rattle.c_model.specs.Memory.{Value}
 use Rattle.c_model.specs.SoundJudgements.{IsSoundJudgement}
-use Rattle.c_model.specs.State.{Scope, State, find}
+use Rattle.c_model.specs.State.{Scope, State}
 use Rattle.c_model.specs.TermRanges.{Seen}
 use Rattle.c_model.specs.TypedPredicates.{PredicateTyped}
 use Rattle.mon_syntax.specs.Registers.{Bindings}
+use Rattle.interval_infer.specs.InSight.{AreFound, IsInSight}
 use Rattle.interval_infer.specs.Judged.{seen_with}
 use Rattle.c_simulation.specs.Standing as call
 use Rattle.c_simulation.specs.Standing.{Beside, Here, Standing}
@@ -48,19 +49,10 @@ SoundJudgementsKeepRanges = (p : TranslationUnit) (j : Judgement) → IsSoundJud
 
 -- ---- variables
 
--- an object has a block
-abbrev pub IsFound : Scope → ℕ → Type 0
-IsFound scope x = (number : ℕ) × (find x scope ≡ Some number)
-
-abbrev pub EntityFound : Scope → Entity → Type 0
-EntityFound scope (AnObject b) = IsFound scope b.decl
-EntityFound scope (AnEnumerator c) = Unit {0}
-
--- so has each one in sight
-abbrev pub AreFound : List Entity → Scope → Type 0
-AreFound [] scope = Unit {0}
-AreFound (b ∷ bs) scope = EntityFound scope b × AreFound bs scope
-
--- then a predicate that is typed where they are in sight reads variables of integers alone, each of which has a block
+-- a predicate that is typed where each object in sight has a block reads variables of integers alone, each of which has one
 abbrev pub TypedPredicatesAreFound : Type 0
 TypedPredicatesAreFound = (s : Sight) (scope : Scope) → AreFound s.entities scope → (p : Predicate) → PredicateTyped s p → PredicateFound scope p
+
+-- so does the predicate of each annotation that is judged where this is so: in each run of a program of an accepted text
+abbrev pub JudgedPredicatesAreFound : Type 0
+JudgedPredicatesAreFound = (j : Judgement) (p : Predicate) → IsInSight j → j.annotation.body ≡ Holds p → PredicateFound j.state.scope p

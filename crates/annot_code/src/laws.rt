@@ -1,6 +1,6 @@
 //! What the code of predicates does. It has nothing to do itself.
 
-ghost use Rattle.annot_code.specs.Beside.{SoundJudgementsKeepRanges, StandingKeepsRanges, StandingStands, TypedPredicatesAreFound};
+ghost use Rattle.annot_code.specs.Beside.{JudgedPredicatesAreFound, SoundJudgementsKeepRanges, StandingKeepsRanges, StandingStands, TypedPredicatesAreFound};
 ghost use Rattle.annot_code.specs.Does.{CodeJudges, TakesNoStep};
 ghost use Rattle.annot_code.specs.Validity.{CodeIsValid};
 
@@ -16,10 +16,12 @@ pub fn validity()
 {}
 
 /// What it asks for holds wherever monitored C stands beside a state of the source: the target has the source's blocks and points to those of the variables
-/// in sight, and terms have values of their ranges. So they have in each sound judgement; and a typed predicate reads variables in sight.
+/// in sight, and terms have values of their ranges. So they have in each sound judgement; and a typed predicate reads variables in sight, as each does
+/// that a run of an accepted program judges.
 pub fn beside()
     ensures stands { StandingStands }
     ensures ranges { StandingKeepsRanges }
     ensures judged { SoundJudgementsKeepRanges }
     ensures found { TypedPredicatesAreFound }
+    ensures asked { JudgedPredicatesAreFound }
 {}

@@ -1,5 +1,5 @@
 -- Asserts stand in typed trees where they stood; what the functions of the program of an accepted text give are values of their types, and each judgement of
--- each run is sound.
+-- each run is sound, and in sight.
 use Rattle.std.proofs.Common.{◌≡◌, ℕ, List, Some, sym, ◌∙◌, subst}
 use Rattle.std.specs.Prelude.{codes}
 use Rattle.c_syntax.specs.Ctypes.{int_type}
@@ -17,7 +17,9 @@ use Rattle.c_model.proofs.NeverStuck.{main_is}
 use Rattle.c_model.proofs.SoundJudgements.{judgements_are_sound}
 use Rattle.c_model.proofs.SoundPrograms.{programs_are_direct}
 use Rattle.c_model.proofs.TypedNumbers.{typed_in_order}
+use Rattle.interval_infer.proofs.InSight.{judged_in_sight}
 use Rattle.c_reader.specs.Programs.{TypedTreesKeepAsserts, LettersAreCharacters, ResultsFit, RunsJudgeSoundly, JudgementsAreSound}
+use Rattle.c_reader.specs.Programs.{JudgementsAreInSight}
 use Rattle.c_reader.proofs.AcceptedTexts.{accepted_program}
 use Rattle.c_reader.proofs.Letters.{accepted_letters}
 
@@ -51,3 +53,6 @@ has_results text p a = record {
 
 pub judgements_sound : JudgementsAreSound
 judgements_sound text p a n s sound = judgements_are_sound p (programs_are_direct p (accepted_program text p a)) (has_results text p a) n s sound
+
+pub judgements_in_sight : JudgementsAreInSight
+judgements_in_sight text p a input n = judged_in_sight p (accepted_program text p a) input n

@@ -14,6 +14,7 @@ use Rattle.c_model.specs.SoundJudgements.{GivesResult, IsSoundJudgement, Letters
 use Rattle.c_model.specs.SoundStates.{IsSoundState}
 use Rattle.c_model.specs.State.{Input, State}
 use Rattle.c_model.specs.UnitTyping.{items_of_file, typed_unit}
+use Rattle.interval_infer.specs.InSight.{IsInSight}
 
 -- ---- trees
 
@@ -46,3 +47,9 @@ RunsJudgeSoundly = (text : List ℕ) (p : TranslationUnit) → AcceptedText text
 abbrev pub JudgementsAreSound : Type 0
 JudgementsAreSound = (text : List ℕ) (p : TranslationUnit) → AcceptedText text p → (n : ℕ) (s : State) → IsSoundState p s
     → AllByRecursion (IsSoundJudgement p) (judged_whole p n s)
+
+-- each annotation that a run of it judges is typed with what is in sight where it stands, and each object of that has a block in the state in which it is
+-- asked: from the run's start on, on each input
+abbrev pub JudgementsAreInSight : Type 0
+JudgementsAreInSight = (text : List ℕ) (p : TranslationUnit) → AcceptedText text p → (input : Input) (n : ℕ)
+    → AllByRecursion IsInSight (judged p input n)

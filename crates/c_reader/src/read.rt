@@ -9,7 +9,8 @@ ghost use Rattle.c_model.specs.ReadTree.{AreBytes};
 ghost use Rattle.c_model.specs.Phases.{AcceptedText, RefusedText};
 ghost use Rattle.c_model.specs.UnrangedPrograms.{FunctionsRanged};
 ghost use Rattle.c_reader.specs.Answers.{Refuses, HasTree, IsRangedAs, HasFault};
-ghost use Rattle.c_reader.specs.Programs.{JudgementsAreSound, LettersAreCharacters, ResultsFit, RunsJudgeSoundly, TreesAreRead, TypedTreesKeepAsserts};
+ghost use Rattle.c_reader.specs.Programs.{JudgementsAreInSight, JudgementsAreSound, LettersAreCharacters, ResultsFit, RunsJudgeSoundly};
+ghost use Rattle.c_reader.specs.Programs.{TreesAreRead, TypedTreesKeepAsserts};
 
 use c_lexer::tokens;
 use c_parser::read_program;
@@ -97,7 +98,7 @@ pub fn about_texts()
 
 /// The tree of a text and its asserts are what typing asks for, and the letters in an accepted program are values of `char`. So what its functions give are
 /// values of their types; and wherever a run of it judges an annotation, from its start or from any sound state on, the state is sound and `\result` is a value
-/// of its type.
+/// of its type. Each object that is in sight where the annotation stands has a block there.
 pub fn about_programs()
     ensures trees { TreesAreRead }
     ensures asserts { TypedTreesKeepAsserts }
@@ -105,4 +106,5 @@ pub fn about_programs()
     ensures results { ResultsFit }
     ensures judged { RunsJudgeSoundly }
     ensures judgements { JudgementsAreSound }
+    ensures seen { JudgementsAreInSight }
 {}

@@ -27,7 +27,8 @@ use Rattle.c_effects.specs.Expressions.{one}
 use Rattle.annot_code.specs.Code.{Judgement, judgement, clause_judgement, asserted, assertion, behind_assertion, assertions, behind_assertions}
 use Rattle.annot_code.specs.Does as code
 use Rattle.annot_code.specs.Does.{Finishes, IsJudged, Judges, is_true}
-use Rattle.annot_code.specs.Beside.{AreFound, judging}
+use Rattle.interval_infer.specs.InSight.{AreFound}
+use Rattle.annot_code.specs.Beside.{judging}
 use Rattle.c_simulation.specs.SameRegisters.{Same}
 use Rattle.annot_code.proofs.Asserted.{assertion_grows, behind_grows}
 use Rattle.annot_code.proofs.Beside.{stands_anchored, ranges_hold, predicate_found}

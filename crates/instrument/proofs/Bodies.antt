@@ -39,7 +39,8 @@ use Rattle.instrument.proofs.Births.{with_numbers, behind_births}
 use Rattle.instrument.proofs.Declared.{AreBorn, ItemsCanDeclare, items_grow, statement_grows}
 use Rattle.instrument.proofs.Numbers.{numbers_in, parted_in, AllOutside, all_narrower, in_bounds, born_outside, body_can_declare, are_free, all_free, known_small}
 use Rattle.c_simulation.proofs.Calls.{IsCalled}
-use Rattle.instrument.proofs.Scenes.{Scene, scene_parameters, found_parameters}
+use Rattle.interval_infer.proofs.Sights.{found_parameters}
+use Rattle.instrument.proofs.Scenes.{Scene, scene_parameters}
 use Rattle.instrument.proofs.Sight.{scope_for, sees_born, declared_born}
 use Rattle.instrument.proofs.Statements.{block_does, items_follow}
 use Rattle.instrument.proofs.Functions.{BodyFollows, MeetsBody, setting, own, how_many, at_body, spot_of_body}

@@ -16,7 +16,7 @@ use Rattle.instrument.proofs.RangedTrees.{AreRangedAsserts}
 use Rattle.instrument.specs.Limits.{BodyHasNumbers}
 use Rattle.instrument.specs.Translation.{function_of, functions_from, index_of_main}
 use Rattle.c_effects.specs.Effects.{index_of}
-use Rattle.instrument.proofs.Scenes.{AreFound}
+use Rattle.interval_infer.specs.InSight.{AreFound}
 use Rattle.instrument.proofs.Sight.{scope_for}
 use Rattle.c_model.specs.TypedAnnotations.{BodyNoted}
 use Rattle.instrument.proofs.Numbers.{numbers_in, AllOutside}

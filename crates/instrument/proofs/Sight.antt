@@ -1,13 +1,13 @@
 -- Names in sight are those that live: what typing sees is found in each scope that has their numbers.
-use Rattle.std.proofs.Common.{◌≡◌, ℕ, Bool, true, false, cond, nat_eq, List, [], ◌∷◌, Some, refl, ap, subst, sym}
-use Rattle.std.proofs.lemmas.Bool.{eq-eqb}
+use Rattle.std.proofs.Common.{◌≡◌, ℕ, Bool, true, false, cond, nat_eq, List, [], ◌∷◌, Some, refl, subst, sym}
 use Rattle.std.specs.Prelude.{map}
 use Rattle.c_syntax.specs.Statements.{Declaration}
 use Rattle.c_model.specs.State.{Scope, find}
 use Rattle.c_model.specs.Formed.{number_of}
 use Rattle.c_model.specs.ExpressionTyping.{Entity, AnObject, AnEnumerator}
 use Rattle.instrument.proofs.Births.{names_of, with_numbers}
-use Rattle.instrument.proofs.Scenes.{IsFound, AreFound, DeclarationsFound, entities_found_more}
+use Rattle.interval_infer.specs.InSight.{IsFound, AreFound}
+use Rattle.interval_infer.proofs.Sights.{DeclarationsFound, entities_found_more, newest_found}
 
 -- a scope that has these numbers
 abbrev pub scope_for : List ℕ → Scope
@@ -35,10 +35,7 @@ pub sees_born : (entities : List Entity) (ds : List Declaration) (living : List 
 sees_born entities [] living h = h
 sees_born entities (d ∷ ds) living h = sees_born entities ds (number_of d ∷ living) (entities_found_more entities (number_of d) 0 (scope_for living) h)
 
-newest : (d : Declaration) (living : List ℕ) → IsFound (scope_for (number_of d ∷ living)) (number_of d)
-newest d living = (0, ap (λ t. cond t (Some 0) (find (number_of d) (scope_for living))) (eq-eqb (number_of d) (number_of d) refl))
-
 pub declared_born : (ds : List Declaration) (living : List ℕ) → DeclarationsFound ds (scope_for (with_numbers ds living))
 declared_born [] living = tt
 declared_born (d ∷ ds) living =
-    ((sees_born (AnObject (record { name = d.name; decl = number_of d; ctype = d.ctype }) ∷ []) ds (number_of d ∷ living) (newest d living, tt)).0, declared_born ds (number_of d ∷ living))
+    ((sees_born (AnObject (record { name = d.name; decl = number_of d; ctype = d.ctype }) ∷ []) ds (number_of d ∷ living) (newest_found (number_of d) 0 (scope_for living), tt)).0, declared_born ds (number_of d ∷ living))

@@ -66,7 +66,9 @@ use Rattle.c_simulation.proofs.Expressions.{handed_on}
 use Rattle.c_model.specs.TypedAnnotations.{StatementNoted, CasesNoted, ElseNoted, ItemsNoted}
 use Rattle.c_simulation.specs.SameRegisters.{Same, Stays}
 use Rattle.instrument.proofs.InitialisedVariables.{initials_reach}
-use Rattle.instrument.proofs.Scenes.{Scene, scene_inner, scene_with_all, scene_behind_first, AreFound, DeclarationsFound, found_with_all, declarations_found-append}
+use Rattle.instrument.proofs.Scenes.{Scene, scene_inner, scene_with_all, scene_behind_first}
+use Rattle.interval_infer.specs.InSight.{AreFound}
+use Rattle.interval_infer.proofs.Sights.{DeclarationsFound, found_with_all, declarations_found-append}
 use Rattle.instrument.proofs.Sight.{scope_for, sees_found, sees_born, declared_born}
 use Rattle.instrument.proofs.Effects.{effect_reaches}
 use Rattle.instrument.proofs.Asserts.{assertions_follow}

@@ -8,3 +8,6 @@ pub mod Blocks
 -- examples, by computation
 mod WorkedRanges
 pub mod Judged
+pub mod Scopes
+pub mod Sights
+pub mod InSight

@@ -3,3 +3,4 @@ pub mod Laws
 pub mod Terms
 pub mod Bases
 pub mod Judged
+pub mod InSight

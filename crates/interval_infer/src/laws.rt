@@ -3,6 +3,7 @@
 ghost use Rattle.interval_infer.specs.Laws.{RangesAreOrdered, RangesAreWithin128, SoundStoresLoad, ValuesLieInRanges};
 ghost use Rattle.interval_infer.specs.Terms.{PlacesLieInRanges, ReturnedValuesFit, SoundStatesFit, SoundTermsLieInRanges, TermsLieInRanges, ZonesLieInRanges};
 ghost use Rattle.interval_infer.specs.Terms.{BindersFit, BindersReach, GuardedReaches, GuardsFit};
+ghost use Rattle.interval_infer.specs.InSight.{JudgedInSight};
 ghost use Rattle.interval_infer.specs.Judged.{JudgedTermsLieInRanges, SoundJudgementsFit};
 ghost use Rattle.interval_infer.specs.Bases.{BasedOffsetsLie, BasedPlacesLie, BasesAddUp};
 
@@ -44,8 +45,10 @@ pub fn bases()
 {}
 
 /// Wherever a run of a program of an accepted text judges an annotation, from its start on, each value of a term lies in the range of the term: the judgement
-/// is sound, so that loads fit there, and `\result` does, where it is in sight.
+/// is sound, so that loads fit there, and `\result` does, where it is in sight. And the annotation is typed with what is in sight where it stands, each object
+/// of which has a block in that state.
 pub fn judgements()
     ensures fit { SoundJudgementsFit }
     ensures lie { JudgedTermsLieInRanges }
+    ensures seen { JudgedInSight }
 {}

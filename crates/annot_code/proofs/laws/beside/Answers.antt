@@ -1,5 +1,12 @@
 use Rattle.annot_code.proofs.Beside.{standing_stands, standing_keeps_ranges, sound_judgements_keep_ranges, typed_predicates_are_found}
+use Rattle.annot_code.proofs.Beside.{judged_predicates_are_found}
 use Rattle.annot_code.proofs.laws.beside.Goals as goal
 
 pub returns : goal.returns
-returns c = record { stands = standing_stands; ranges = standing_keeps_ranges; judged = sound_judgements_keep_ranges; found = typed_predicates_are_found }
+returns c = record {
+  stands = standing_stands;
+  ranges = standing_keeps_ranges;
+  judged = sound_judgements_keep_ranges;
+  found = typed_predicates_are_found;
+  asked = judged_predicates_are_found;
+}

@@ -1,4 +1,5 @@
 use Rattle.c_reader.proofs.Judgements.{typed_trees_keep_asserts, letters_are_characters, results_fit, runs_judge_soundly, judgements_sound}
+use Rattle.c_reader.proofs.Judgements.{judgements_in_sight}
 use Rattle.c_reader.proofs.ReadTrees.{tree_is_read}
 use Rattle.c_reader.proofs.read.about_programs.Goals as goal
 
@@ -10,4 +11,5 @@ returns c = record {
   results = results_fit;
   judged = runs_judge_soundly;
   judgements = judgements_sound;
+  seen = judgements_in_sight;
 }
