@@ -8,10 +8,10 @@ ghost use Rattle.annot_code.specs.Code.{operated, partial_code, relation_value, 
 ghost use Rattle.term_guards.specs.Guards.{guard};
 ghost use Rattle.annot_code.specs.Plain.{branch_in, code_of, in_registers, joined, partial_in};
 
-use crate::copy::copy_of;
 use crate::piece::{Code, guarded, take, take_none, two_fresh};
 use crate::term::truth_code;
 use crate::value::{OperationTypes, binary_value, conjunction, is_total, relation_value};
+use c_effects::copy::copy_of;
 use c_effects::operator::{in_type, operation, register};
 use c_effects::part::{alone, then_all};
 use c_syntax::logic::Connective;

@@ -2,7 +2,6 @@
 #![tactic(auto)]
 
 pub mod assertion;
-mod copy;
 mod join;
 pub mod judge;
 pub mod laws;

@@ -10,7 +10,6 @@ ghost use Rattle.annot_code.specs.Code.{relation_code, sure_code, type_of, type_
 ghost use Rattle.annot_code.specs.Plain.{binary_of, branch_of, cast_of, chain_by, chain_of, choice_of, code_of, connected_of, denied_of};
 ghost use Rattle.annot_code.specs.Plain.{ended, link_of, more_links, nonzero_of, plain_readings, pred_by, term_by, types_of, unary_of};
 
-use crate::copy::copy_of;
 use crate::join::{branch, chosen, connected, operated, related};
 use crate::piece::Code;
 use crate::reading::{Reading, known_after, known_after_relation, known_at_right, term_type};
@@ -18,6 +17,7 @@ use crate::term::{
     cast_code, denied_code, nonzero_code, number_code, truth_code, unary_code, variable_code,
 };
 use crate::value::{OperationTypes, type_of_width, wider, working};
+use c_effects::copy::copy_of;
 use c_effects::operator::constant;
 use c_syntax::logic::{Connective, Links, LogicType, Pred, PredKind, Term, TermKind};
 use c_syntax::{BinOp, Range, Relation, UnOp, Width};

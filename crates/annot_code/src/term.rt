@@ -14,7 +14,7 @@ ghost use Rattle.annot_code.specs.Plain.{code_of, plain_reading, plain_readings}
 use crate::piece::Code;
 use crate::reading::{Reading, is_known};
 use crate::value::{cast_value, type_of_width, unary_value, wider};
-use c_effects::expression::pointer_to;
+use c_effects::object::pointer_to;
 use c_effects::operator::{constant, in_type, operation, register};
 use c_effects::part::alone;
 use c_syntax::logic::LogicType;

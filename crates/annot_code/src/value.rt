@@ -9,9 +9,9 @@ ghost use Rattle.mon_syntax.specs.Trees.{Binary, Cast, Constant, Minus, plain_ex
 ghost use Rattle.annot_code.specs.Code.{binary_value, cast_value, conjunction, converted_to, count_in, is_shift, is_total};
 ghost use Rattle.annot_code.specs.Code.{relation_value, second_operand, type_of_width, unary_value, wider, working};
 
-use crate::copy::copy_of;
 use c_conversions::conversion::integer_type;
 use c_effects::conversion::register_type;
+use c_effects::copy::copy_of;
 use c_effects::operator::{constant, in_type, operation, operator_of, unary};
 use c_syntax::logic::LogicType;
 use c_syntax::{BinOp, CInt, Range, Relation, UnOp, Width};

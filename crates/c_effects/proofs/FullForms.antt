@@ -8,7 +8,7 @@ use Rattle.c_syntax.specs.Ctypes.{PlainType, int_type}
 use Rattle.c_syntax.specs.Expressions.{Expression, Node, Assign, Bump, Call, Cast, Expressions, type_of}
 use Rattle.c_syntax.specs.Layouts.{Scalar, scalar_of, scalars_of}
 use Rattle.c_syntax.specs.Programs.{TranslationUnit}
-use Rattle.c_model.specs.Meaning.{bump_operator, is_array, is_member}
+use Rattle.c_model.specs.Meaning.{bump_operator, is_member}
 use Rattle.c_model.specs.Pure.{ArePure, IsEffectOrCall, IsPure, IsPureOrCall}
 use Rattle.mon_syntax.specs.declared.tree.MonType.{MonType}
 use Rattle.mon_syntax.specs.declared.tree.MonType.TheVariants.{I32, Ptr}

@@ -1,8 +1,6 @@
 pub mod Sequences
 pub mod Layouts
-pub mod Sizes
 pub mod Trees
-pub mod FullTrees
 pub mod Pures
 pub mod FullForms
 pub mod Objects

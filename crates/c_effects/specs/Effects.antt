@@ -1,26 +1,22 @@
--- What effects become: calls, assignments, increments and initialisers, the full expressions whose values they take, and the temporary
--- registers of both. Statements are put before the values that they set up. What is assigned is stored in the block of its variable.
-use Rattle.std.specs.Prelude.{ℕ, zero, suc, ◌+◌, ◌-◌, ◌%◌, pos, Bool, false, not, ◌&&◌, nat_eq, nat_le, List, [], ◌∷◌, ◌++◌, length, map, Option, Some, None}
+-- What effects become: calls, assignments and increments, the full expressions whose values they take, and the temporary registers of both; and zeros
+-- and copies in the scalars of objects. Statements are put before the values that they set up. What is assigned is stored in the block of its variable.
+use Rattle.std.specs.Prelude.{ℕ, zero, suc, ◌+◌, ◌-◌, ◌%◌, pos, Bool, false, ◌&&◌, nat_eq, nat_le, List, [], ◌∷◌, ◌++◌, length, Option, Some, None}
 use Rattle.std.specs.Prelude.{if◌then◌else◌, codes, bytes_eq}
-use Rattle.c_syntax.specs.declared.place.Place.{Place}
 use Rattle.c_syntax.specs.declared.types.CInt.{CInt}
 use Rattle.c_syntax.specs.declared.types.CInt.TheVariants as c
 use Rattle.c_syntax.specs.declared.expression.Use.{Use}
 use Rattle.c_syntax.specs.Ctypes.{PlainType, int_type}
 use Rattle.c_syntax.specs.Expressions as source
 use Rattle.c_syntax.specs.Expressions.{Expression, Node, Expressions, NoExpression, Following, type_of}
-use Rattle.c_syntax.specs.Statements.{Initialiser, One, Many, Initialisers, NoInitialiser, Listed, Declaration}
-use Rattle.c_syntax.specs.Programs.{StructType, StringLiteral, TranslationUnit}
-use Rattle.c_syntax.specs.Layouts.{Scalar, IntegerType, PointerType, int_size, scalar_size, scalar_of, size_of, offset_of, target_of, scalars_of}
-use Rattle.c_model.specs.Library.{is_there}
-use Rattle.c_model.specs.Meaning.{bump_operator, is_member, is_of_library, string_in, text_at, parts_or_itself, tables_of}
+use Rattle.c_syntax.specs.Programs.{StructType, TranslationUnit}
+use Rattle.c_syntax.specs.Layouts.{Scalar, IntegerType, PointerType, int_size, scalar_size, scalar_of, offset_of, target_of, scalars_of}
+use Rattle.c_model.specs.Meaning.{bump_operator, is_member, is_of_library}
 use Rattle.c_model.specs.ExpressionTyping.{name_at}
-use Rattle.c_model.specs.Formed.{number_of}
 use Rattle.mon_syntax.specs.declared.tree.CopySize.{CopySize}
 use Rattle.mon_syntax.specs.declared.tree.CopySize.TheVariants.{One as OneByte, Two, Four, Eight}
 use Rattle.mon_syntax.specs.declared.tree.MemoryCall.TheVariants.{Copy, Malloc, Calloc, Free}
 use Rattle.mon_syntax.specs.declared.tree.MonType.{MonType}
-use Rattle.mon_syntax.specs.declared.tree.MonType.TheVariants.{U8, I32, Ptr}
+use Rattle.mon_syntax.specs.declared.tree.MonType.TheVariants.{I32, Ptr}
 use Rattle.mon_syntax.specs.Trees.{MonExpression, Register, Constant, Load, Store, PutChar, GetChar, Exit, Act, Call, MonStatements, NoStatement, Then}
 use Rattle.mon_syntax.specs.Registers.{Bindings, register_of}
 pub use Rattle.mon_syntax.specs.Indices.{index_of}
@@ -177,40 +173,6 @@ abbrev pub any_temporaries : (Expression → List MonType) → Option Expression
 any_temporaries of_one None = []
 any_temporaries of_one (Some e) = of_one e
 
--- ---- initialisers (C99 6.7.8)
-
--- one more register, that points to the part which is stored, after those of its value
-abbrev pub part_temporaries : List MonType → List MonType
-part_temporaries ts = ts ++ Ptr ∷ []
-
-abbrev pub one_temporaries : Option ℕ → Expression → List MonType
-one_temporaries (Some n) e = Ptr ∷ []
-one_temporaries None e = part_temporaries (full_temporaries e)
-
-abbrev mutual
-  pub fill_temporaries : Initialiser → List MonType
-  fill_temporaries (One e) = one_temporaries (string_in e) e
-  fill_temporaries (Many brace is) = parts_temporaries is
-
-  -- the last one points to the parts that are left out
-  pub parts_temporaries : Initialisers → List MonType
-  parts_temporaries NoInitialiser = Ptr ∷ []
-  parts_temporaries (Listed i is) = fill_temporaries i ++ parts_temporaries is
-
--- a scalar of an object of its own is stored through the register of its block
-abbrev pub is_simple : Initialiser → Bool
-is_simple (One e) = not (is_there (string_in e))
-is_simple (Many brace is) = false
-
-abbrev pub initial_temporaries : Option (Place × Initialiser) → List MonType
-initial_temporaries None = []
-initial_temporaries (Some (at, One e)) = if is_there (string_in e) then Ptr ∷ [] else full_temporaries e
-initial_temporaries (Some (at, Many brace is)) = parts_temporaries is
-
-abbrev pub declaration_temporaries : List Declaration → List MonType
-declaration_temporaries [] = []
-declaration_temporaries (d ∷ ds) = initial_temporaries d.init ++ declaration_temporaries ds
-
 -- a value of the monitored type at an offset from where the first register points, through the second
 abbrev pub stored_at : ℕ → ℕ → ℕ → MonType → MonExpression → MonStatements
 stored_at r k d t e = before (set k (farther (Register r) d)) (one (Store k t e))
@@ -233,12 +195,6 @@ zeros_from r k d zero (suc n) =
     (zeros_from r k (suc d) (int_size (widest d (suc n)) - 1) n)
 zeros_from r k d (suc stored) (suc n) = zeros_from r k (suc d) stored n
 
--- bytes, and then zeros, in so many bytes from an offset on
-abbrev pub bytes_at : ℕ → ℕ → ℕ → ℕ → List ℕ → MonStatements
-bytes_at r k d zero bytes = NoStatement
-bytes_at r k d (suc n) [] = zeros_from r k d 0 (suc n)
-bytes_at r k d (suc n) (b ∷ bs) = before (stored_at r k d U8 (Constant U8 (pos b))) (bytes_at r k (suc d) n bs)
-
 -- zeros in the bytes of scalars, each at its offset, after so many bytes from an offset on that aren't stored yet: what stands in a row is stored as one
 abbrev pub zeros_at : ℕ → ℕ → ℕ → ℕ → List (ℕ × Scalar) → MonStatements
 zeros_at r k d n [] = zeros_from r k d 0 n
@@ -257,16 +213,6 @@ scalars_in structs d (c ∷ cs) = moved (d + c.0) (scalars_of structs c.1) ++ sc
 
 abbrev pub zero_parts : List StructType → ℕ → ℕ → ℕ → List (ℕ × PlainType) → MonStatements
 zero_parts structs r k d cs = zeros_at r k d 0 (scalars_in structs d cs)
-
--- ---- objects that have room
-
--- the longest stack that a run may have, in bytes
-abbrev pub longest_stack : ℕ
-longest_stack = 268435456
-
--- whether an object of so many bytes may be born on one
-abbrev pub may_be_born : ℕ → Bool
-may_be_born n = nat_le n longest_stack
 
 -- ---- effects, where these registers are bound to variables
 
@@ -312,40 +258,3 @@ module _ (p : TranslationUnit) (bound : Bindings) where
       (λ r. compound p.structs (bump_operator op) t int_type (current r t) (Constant I32 (pos 1))))
   effect rs (Node at t (source.Call f es)) = called rs None f es
   effect rs _ = NoStatement
-
-  abbrev pub effect_if_any : List MonType → Option Expression → MonStatements
-  effect_if_any rs None = NoStatement
-  effect_if_any rs (Some e) = effect rs e
-
-  -- the part of an object at an offset from where a register points takes its initialiser
-  abbrev pub fill_one : ℕ → ℕ → List MonType → PlainType → Option ℕ → Expression → MonStatements
-  fill_one r d rs t (Some n) e = bytes_at r (length rs) d (size_of p.structs t) (text_at (map (λ (x : StringLiteral). x.bytes) p.texts) n)
-  fill_one r d rs t None e =
-      before (full_setup rs e) (stored_at r (length (rs ++ full_temporaries e)) d (value_type t) (full_value p bound rs e))
-
-  abbrev mutual
-    pub fill : ℕ → ℕ → List MonType → PlainType → Initialiser → MonStatements
-    fill r d rs t (One e) = fill_one r d rs t (string_in e) e
-    fill r d rs t (Many brace is) = fill_parts r d rs (parts_or_itself (tables_of p) t) is
-
-    pub fill_parts : ℕ → ℕ → List MonType → List (ℕ × PlainType) → Initialisers → MonStatements
-    fill_parts r d rs cs NoInitialiser = zero_parts p.structs r (length rs) d cs
-    fill_parts r d rs [] (Listed i is) = NoStatement
-    fill_parts r d rs (c ∷ cs) (Listed i is) = before (fill r (d + c.0) rs c.1 i) (fill_parts r d (rs ++ fill_temporaries i) cs is)
-
-  -- an initialiser of the object of this type to which a register points
-  abbrev pub initialise : List MonType → ℕ → PlainType → Option (Place × Initialiser) → MonStatements
-  initialise rs r t None = NoStatement
-  initialise rs r t (Some (at, i)) = if is_simple i then simple rs r t i else fill r 0 rs t i
-    where
-      simple : List MonType → ℕ → PlainType → Initialiser → MonStatements
-      simple rs r t (One e) = before (full_setup rs e) (store r t (full_value p bound rs e))
-      simple rs r t (Many brace is) = NoStatement
-
-  -- a variable of a function; what is never born is never initialised
-  abbrev pub initialise_local : List MonType → Declaration → MonStatements
-  initialise_local rs d = if may_be_born (size_of p.structs d.ctype) then initialise rs (block_of bound (number_of d)) d.ctype d.init else NoStatement
-
-  abbrev pub initialise_all : List MonType → List Declaration → MonStatements
-  initialise_all rs [] = NoStatement
-  initialise_all rs (d ∷ ds) = before (initialise_local rs d) (initialise_all (rs ++ initial_temporaries d.init) ds)

@@ -1,6 +1,6 @@
 -- Ours: what keeps code as it is.
 -- The translation of `Full` is that of `Expressions` where an expression has no effect, and that of `Effects` where its parts have none.
-use Rattle.std.specs.Prelude.{◌≡◌, false, List, [], Option, None}
+use Rattle.std.specs.Prelude.{◌≡◌, false, List, [], None}
 use Rattle.c_syntax.specs.Expressions.{Expression, Node, Assign, Call, Cast}
 use Rattle.c_syntax.specs.Layouts.{scalar_of}
 use Rattle.c_syntax.specs.Programs.{TranslationUnit}

@@ -1,19 +1,15 @@
 //! Calls (C99 6.5.2.2).
 
 ghost use Rattle.std.specs.Prelude.{◌≡◌, IfOk, None, OnOk, map};
-ghost use Rattle.c_syntax.specs.Expressions.{plain_exprs};
 ghost use Rattle.c_syntax.specs.Programs.{plain_program};
 ghost use Rattle.mon_syntax.specs.Trees.{Exit, PutChar, plain_expr as plain_monitored, plain_stmts};
-ghost use Rattle.c_effects.specs.Letters.{ArgumentsHaveLetters};
 ghost use Rattle.c_effects.specs.Expressions.{before, one};
-ghost use Rattle.c_effects.specs.Effects.{arguments_temporaries, call, first_of, library_call};
-ghost use Rattle.c_effects.specs.Named.{arguments_by, arguments_setup_by, called_by, with_registers};
+ghost use Rattle.c_effects.specs.Effects.{call, first_of, library_call};
 
-use crate::expression::expression;
 use crate::operator::constant;
 use crate::part::then;
 use c_scopes::sight::name_at;
-use c_syntax::{Expr, Use};
+use c_syntax::Use;
 use mon_syntax::{MemoryCall, MonExpr, MonStmt, MonStmtKind, MonType, Registers, numbered};
 use std::alloc::{AllocError, Global};
 
@@ -93,42 +89,4 @@ pub fn call(
         let index = numbered(names.index_of(f.decl))?;
         then(alloc, to, MonStmtKind::Call(into, index, args))
     }
-}
-
-/// The values of arguments, from left to right.
-pub fn arguments(
-    alloc: Global,
-    args: &[Expr],
-    names: &mut Registers<'_>,
-    to: &mut Vec<MonStmt>,
-) -> Result<Vec<MonExpr>, AllocError>
-    ensures values { IfOk result (λ es. map plain_monitored es.items ≡ arguments_by names.old (plain_exprs args.now)) }
-    ensures setup { OnOk result (plain_stmts to.new.items ≡ before (plain_stmts to.old.items)
-        (arguments_setup_by names.old (plain_exprs args.now))) }
-    ensures names { OnOk result (names.new ≡ with_registers (arguments_temporaries (plain_exprs args.now)) names.old) }
-    ensures letters { OnOk result (ArgumentsHaveLetters (plain_exprs args.now)) }
-{
-    let mut values = Vec::new(alloc);
-    'expressions: for e in args {
-        values.push(expression(alloc, e, names, to)?)?;
-    }
-    Ok(values)
-}
-
-/// A call with its arguments, whose value nothing takes.
-#[tactic(auto, using(crate::proofs::Sequences::before_assoc))]
-pub fn called(
-    alloc: Global,
-    f: Use,
-    args: &[Expr],
-    names: &mut Registers<'_>,
-    to: &mut Vec<MonStmt>,
-) -> Result<(), AllocError>
-    ensures code { OnOk result (plain_stmts to.new.items ≡ before (plain_stmts to.old.items)
-        (called_by names.old None f (plain_exprs args.now))) }
-    ensures names { OnOk result (names.new ≡ with_registers (arguments_temporaries (plain_exprs args.now)) names.old) }
-    ensures letters { OnOk result (ArgumentsHaveLetters (plain_exprs args.now)) }
-{
-    let values = arguments(alloc, args, names, to)?;
-    call(alloc, names, None, f, values, to)
 }

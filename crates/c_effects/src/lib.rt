@@ -1,11 +1,12 @@
-//! Effects out of expressions, and expressions without effects, over the registers of monitored C.
+//! What expressions and their effects become over the registers of monitored C, in parts: operators, objects, calls, and
+//! what is done to each scalar of an object.
 //!
-//! What is evaluated only at times, as the right side of `&&`, stands in an `if` before its expression, which sets a
-//! temporary register. So the statements of an expression stand before a value that has no effect.
+//! The definitions say it of whole expressions.
 #![tactic(auto)]
 
 // what code is made of
 pub mod conversion;
+pub mod copy;
 pub mod layout;
 pub mod operator;
 pub mod part;
@@ -13,12 +14,14 @@ pub mod scalars;
 pub mod slot;
 pub mod zeros;
 
-// expressions and effects
+// objects and calls
 pub mod call;
-pub mod effect;
-pub mod expression;
-pub mod full;
+pub mod inner;
+pub mod leaf;
 pub mod object;
+
+// which values are kept
+pub mod settled;
 
 // laws
 pub mod laws;

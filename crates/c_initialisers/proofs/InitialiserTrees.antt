@@ -5,7 +5,7 @@ use Rattle.c_syntax.specs.declared.expression.Expr.{Expr}
 use Rattle.c_syntax.specs.declared.place.Place.{Place}
 use Rattle.c_syntax.specs.Ctypes.{PlainType}
 use Rattle.c_syntax.specs.Expressions.{Expression, plain_expr}
-use Rattle.c_syntax.specs.Programs.{StructType}
+use Rattle.c_syntax.specs.Programs.{StructType, TranslationUnit}
 use Rattle.c_syntax.specs.Statements.{Declaration, Initialiser, Many, Initialisers, NoInitialiser, Listed}
 use Rattle.c_syntax.specs.Layouts.{scalars_of, size_of}
 use Rattle.c_model.specs.Formed.{number_of}
@@ -16,10 +16,20 @@ use Rattle.mon_syntax.specs.declared.tree.MonType.TheVariants.{U8}
 use Rattle.mon_syntax.specs.Registers.{Names, next_register}
 use Rattle.mon_syntax.specs.Trees.{MonExpression, MonStatements, NoStatement, Constant}
 use Rattle.c_effects.specs.Expressions.{before, value_type}
-use Rattle.c_effects.specs.Effects.{block_of, bytes_at, fill_one, fill_temporaries, full_temporaries, may_be_born, moved, scalars_in, store, stored_at, zeros_from}
-use Rattle.c_initialisers.specs.Initialisers.{fill_by, fill_first_by, fill_one_by, fill_parts_by, first_part, initialise_object_by, initialise_one_by, next_byte, parts_in}
-use Rattle.c_effects.specs.Named.{full_setup_by, full_value_by, initialise_by, initialise_local_by, unit_of, with_registers}
-use Rattle.c_effects.proofs.Sequences.{before_assoc, nothing}
+use Rattle.c_initialisers.specs.Translation.{bytes_at, fill_one, fill_temporaries, may_be_born}
+use Rattle.c_effects.specs.Effects.{block_of, moved, scalars_in, store, stored_at, zeros_from}
+use Rattle.c_initialisers.specs.Initialisers.{fill_by, fill_first_by, fill_one_by, fill_parts_by, first_part, initialise_object_by, initialise_one_by, next_byte, parts_in, initialise_by, initialise_local_by}
+use Rattle.c_effects.specs.Named.{unit_of, with_registers}
+use Rattle.c_effects.specs.Full.{takes}
+use Rattle.c_evaluation.specs.Evaluated.{prepare_by, result_by}
+use Rattle.c_effects.proofs.Sequences.{before_assoc, nothing, registers_grown}
+
+-- ---- registers
+
+-- further registers, and what is left of those that the program of these names asks for
+pub registers_more : {n1 all : Names} {left : List MonType} (n : Names) (ts : List MonType) (rest : TranslationUnit → List MonType) → left ≡ ts ++ rest (unit_of n) → n1 ≡ with_registers ts n → with_registers left n ≡ all
+    → with_registers (rest (unit_of n1)) n1 ≡ all
+registers_more n ts rest first names kept = ap (λ (m : Names). with_registers (rest (unit_of m)) m) names ∙ registers_grown n ts (rest (unit_of n)) first refl kept
 
 -- ---- bytes
 
@@ -63,8 +73,8 @@ nothing_filled n r d (Listed i is) = refl
 
 -- one more initialiser of a list
 pub filled_more : (n : Names) (r d : ℕ) (cs : List (ℕ × PlainType)) (i : Initialiser) (is : Initialisers)
-    → fill_parts_by n r d cs (Listed i is) ≡ before (fill_first_by n r d cs i) (fill_parts_by (with_registers (fill_temporaries i) n) r d (drop 1 cs) is)
-filled_more n r d [] i is = sym (nothing_filled (with_registers (fill_temporaries i) n) r d is)
+    → fill_parts_by n r d cs (Listed i is) ≡ before (fill_first_by n r d cs i) (fill_parts_by (with_registers (fill_temporaries (unit_of n) i) n) r d (drop 1 cs) is)
+filled_more n r d [] i is = sym (nothing_filled (with_registers (fill_temporaries (unit_of n) i) n) r d is)
 filled_more n r d (c ∷ cs) i is = refl
 
 -- a part takes the value of an expression
@@ -72,29 +82,29 @@ filled_as : (n : Names) (r d : ℕ) (t : PlainType) (e : Expression) (o : Option
     → before t0 (fill_one (unit_of n) n.table.bound r d n.table.kinds t o e) ≡ before t0 (fill_one_by n r d t e)
 filled_as n r d t e o t0 is = ap (λ x. before t0 (fill_one (unit_of n) n.table.bound r d n.table.kinds t x e)) (sym is)
 
-pub filled_value : (n n1 : Names) (r d k : ℕ) (kind : MonType) (t : PlainType) (e : Expression) (v : MonExpression) (t0 t1 t2 : MonStatements) → string_in e ≡ None → v ≡ full_value_by n e → t1 ≡ before t0 (full_setup_by n e)
-    → n1 ≡ with_registers (full_temporaries e) n → k ≡ next_register n1.table → kind ≡ value_type t → t2 ≡ before t1 (stored_at r k d kind v) → t2 ≡ before t0 (fill_one_by n r d t e)
+pub filled_value : (n n1 : Names) (r d k : ℕ) (kind : MonType) (t : PlainType) (e : Expression) (v : MonExpression) (t0 t1 t2 : MonStatements) → string_in e ≡ None → v ≡ result_by n e → t1 ≡ before t0 (prepare_by n e)
+    → n1 ≡ with_registers (takes (unit_of n) e) n → k ≡ next_register n1.table → kind ≡ value_type t → t2 ≡ before t1 (stored_at r k d kind v) → t2 ≡ before t0 (fill_one_by n r d t e)
 filled_value n n1 r d k kind t e v t0 t1 t2 is v_is first names k_is kind_is last =
-    let k_at : k ≡ length (n.table.kinds ++ full_temporaries e) = k_is ∙ ap (λ (m : Names). next_register m.table) names in
+    let k_at : k ≡ length (n.table.kinds ++ takes (unit_of n) e) = k_is ∙ ap (λ (m : Names). next_register m.table) names in
     last ∙ (λ i. before (first i) (stored_at r (k_at i) d (kind_is i) (v_is i)))
-    ∙ before_assoc t0 (full_setup_by n e) (stored_at r (length (n.table.kinds ++ full_temporaries e)) d (value_type t) (full_value_by n e))
+    ∙ before_assoc t0 (prepare_by n e) (stored_at r (length (n.table.kinds ++ takes (unit_of n) e)) d (value_type t) (result_by n e))
     ∙ filled_as n r d t e None t0 is
 
 -- an object of its own
 module _ (n : Names) (r : ℕ) (t : PlainType) (e : Expr) where
   abbrev chosen : Option ℕ → MonStatements
   chosen o =
-      if not (is_there o) then before (full_setup_by n (plain_expr e)) (store r t (full_value_by n (plain_expr e)))
+      if not (is_there o) then before (prepare_by n (plain_expr e)) (store r t (result_by n (plain_expr e)))
       else fill_one (unit_of n) n.table.bound r 0 n.table.kinds t (string_in (plain_expr e)) (plain_expr e)
 
-  value_initialised : string_in (plain_expr e) ≡ None → before (full_setup_by n (plain_expr e)) (store r t (full_value_by n (plain_expr e))) ≡ initialise_one_by n r t e
+  value_initialised : string_in (plain_expr e) ≡ None → before (prepare_by n (plain_expr e)) (store r t (result_by n (plain_expr e))) ≡ initialise_one_by n r t e
   value_initialised is = ap chosen (sym is)
 
   -- from its parts
-  pub value_done : (v : MonExpression) (t0 t1 t2 : MonStatements) → string_in (plain_expr e) ≡ None → v ≡ full_value_by n (plain_expr e) → t1 ≡ before t0 (full_setup_by n (plain_expr e)) → t2 ≡ before t1 (store r t v)
+  pub value_done : (v : MonExpression) (t0 t1 t2 : MonStatements) → string_in (plain_expr e) ≡ None → v ≡ result_by n (plain_expr e) → t1 ≡ before t0 (prepare_by n (plain_expr e)) → t2 ≡ before t1 (store r t v)
       → t2 ≡ before t0 (initialise_one_by n r t e)
   value_done v t0 t1 t2 none v_is first last =
-      last ∙ (λ i. before (first i) (store r t (v_is i))) ∙ before_assoc t0 (full_setup_by n (plain_expr e)) (store r t (full_value_by n (plain_expr e))) ∙ ap (before t0) (value_initialised none)
+      last ∙ (λ i. before (first i) (store r t (v_is i))) ∙ before_assoc t0 (prepare_by n (plain_expr e)) (store r t (result_by n (plain_expr e))) ∙ ap (before t0) (value_initialised none)
 
 -- a list in braces from its parts
 module _ (n : Names) (r : ℕ) (u : PlainType) (at : Place) (is js : Initialisers) (cs : List (ℕ × PlainType)) (t0 t1 : MonStatements) (parts : cs ≡ parts_in (unit_of n).structs u) (same : is ≡ js) where

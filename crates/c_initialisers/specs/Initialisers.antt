@@ -4,8 +4,8 @@ use Rattle.c_syntax.specs.declared.expression.Expr.{Expr}
 use Rattle.c_syntax.specs.declared.place.Place.{Place}
 use Rattle.c_syntax.specs.Ctypes.{PlainType, plain_type}
 use Rattle.c_syntax.specs.Expressions.{Expression, plain_expr}
-use Rattle.c_syntax.specs.Programs.{StructType, plain_member}
-use Rattle.c_syntax.specs.Statements.{Initialiser, One, Initialisers}
+use Rattle.c_syntax.specs.Programs.{StructType, TranslationUnit, plain_member}
+use Rattle.c_syntax.specs.Statements.{Initialiser, One, Initialisers, Declaration}
 use Rattle.c_syntax.specs.Layouts.{scalar_of, parts_of, elements, member_parts}
 use Rattle.c_model.specs.Meaning.{string_in}
 use Rattle.mon_syntax.specs.declared.tree.MonType.{MonType}
@@ -14,7 +14,7 @@ use Rattle.mon_syntax.specs.Trees.{MonStatements, NoStatement}
 use Rattle.c_initialisers.specs.declared.aggregate.Parts.{Parts}
 use Rattle.c_initialisers.specs.declared.aggregate.Parts.TheVariants.{Elements, Members}
 use Rattle.c_effects.specs.declared.slot.Slot.{Slot}
-use Rattle.c_effects.specs.Effects.{bytes_at, fill, fill_one, fill_parts, initial_temporaries, initialise}
+use Rattle.c_initialisers.specs.Translation.{bytes_at, fill, fill_one, fill_parts, initial_temporaries, initialise, initialise_all, initialise_local}
 use Rattle.c_effects.specs.Named.{unit_of}
 
 -- ---- parts of objects
@@ -65,9 +65,18 @@ anywhere = record { line = 1; column = 1; offset = 0 }
 abbrev pub initialise_object_by : Names → ℕ → PlainType → Initialiser → MonStatements
 initialise_object_by n r t i = initialise (unit_of n) n.table.bound n.table.kinds r t (Some (anywhere, i))
 
-abbrev pub object_temporaries : Initialiser → List MonType
-object_temporaries i = initial_temporaries (Some (anywhere, i))
+abbrev pub object_temporaries : TranslationUnit → Initialiser → List MonType
+object_temporaries p i = initial_temporaries p (Some (anywhere, i))
 
 -- an object takes the value of an expression
 abbrev pub initialise_one_by : Names → ℕ → PlainType → Expr → MonStatements
 initialise_one_by n r t e = initialise_object_by n r t (One (plain_expr e))
+
+abbrev pub initialise_by : Names → ℕ → PlainType → Option (Place × Initialiser) → MonStatements
+initialise_by n x t init = initialise (unit_of n) n.table.bound n.table.kinds x t init
+
+abbrev pub initialise_local_by : Names → Declaration → MonStatements
+initialise_local_by n d = initialise_local (unit_of n) n.table.bound n.table.kinds d
+
+abbrev pub initialise_all_by : Names → List Declaration → MonStatements
+initialise_all_by n ds = initialise_all (unit_of n) n.table.bound n.table.kinds ds

@@ -1,1 +1,3 @@
 pub mod Initialisers
+pub mod Letters
+pub mod Translation

@@ -7,22 +7,23 @@ ghost use Rattle.c_syntax.specs.Programs.{plain_layout};
 ghost use Rattle.c_syntax.specs.Statements.{One, plain_decl, plain_init, plain_inits};
 ghost use Rattle.c_model.specs.Meaning.{string_in};
 ghost use Rattle.mon_syntax.specs.Trees.{plain_stmts};
-ghost use Rattle.c_effects.specs.Letters.{FullHasLetters, InitialHasLetters, InitialiserHasLetters, InitialisersHaveLetters, InitialsHaveLetters};
+ghost use Rattle.c_initialisers.specs.Letters.{InitialHasLetters, InitialiserHasLetters, InitialisersHaveLetters, InitialsHaveLetters};
+ghost use Rattle.c_effects.specs.Letters.{ValueHasLetters};
 ghost use Rattle.c_effects.specs.Expressions.{before};
-ghost use Rattle.c_effects.specs.Effects.{declaration_temporaries, fill_temporaries, initial_temporaries, may_be_born, one_temporaries, parts_temporaries};
+ghost use Rattle.c_initialisers.specs.Translation.{declaration_temporaries, fill_temporaries, initial_temporaries, may_be_born, one_temporaries, parts_temporaries};
 ghost use Rattle.c_effects.specs.Effects.{zero_parts};
-ghost use Rattle.c_initialisers.specs.Initialisers.{fill_by, fill_first_by, fill_one_by, fill_parts_by, plain_parts};
+ghost use Rattle.c_initialisers.specs.Initialisers.{fill_by, fill_first_by, fill_one_by, fill_parts_by, plain_parts, initialise_all_by, initialise_by, initialise_local_by};
 ghost use Rattle.c_initialisers.specs.Initialisers.{initialise_object_by, initialise_one_by, object_temporaries};
-ghost use Rattle.c_effects.specs.Named.{initialise_all_by, initialise_by, initialise_local_by, with_registers};
+ghost use Rattle.c_effects.specs.Named.{unit_of, with_registers};
 
 use crate::aggregate::{Parts, first, parts_of, rest};
 use crate::text::{bytes_in, text_at};
 use c_effects::conversion::value_type;
-use c_effects::full::full;
 use c_effects::object::{block_of, store};
 use c_effects::scalars::zero_scalars;
 use c_effects::slot::{Part, Slot, farther_by, store_in};
 use c_effects::zeros::{Row, zeros_in};
+use c_evaluation::evaluation::value;
 use c_scopes::literal::string_in;
 use c_syntax::{CType, Decl, Expr, Init, Layout};
 use mon_syntax::{MonStmt, MonType, Registers};
@@ -40,8 +41,8 @@ fn fill_one(
 ) -> Result<(), AllocError>
     ensures code { OnOk result (plain_stmts to.new.items ≡ before (plain_stmts to.old.items)
         (fill_one_by names.old part.object part.offset (plain_type t.now) (plain_expr e.now))) }
-    ensures names { OnOk result (names.new ≡ with_registers (one_temporaries (string_in (plain_expr e.now)) (plain_expr e.now)) names.old) }
-    ensures letters { OnOk result (FullHasLetters (plain_expr e.now)) }
+    ensures names { OnOk result (names.new ≡ with_registers (one_temporaries (unit_of names.old) (string_in (plain_expr e.now)) (plain_expr e.now)) names.old) }
+    ensures letters { OnOk result (ValueHasLetters (plain_expr e.now)) }
 {
     let Part { object, offset } = part;
     match string_in(e) {
@@ -56,14 +57,14 @@ fn fill_one(
             bytes_in(alloc, slot, size, text_at(names.texts(), n), to)
         }
         None => {
-            let value = full(alloc, e, names, to)?;
+            let found = value(alloc, e, names, to)?;
             let pointer = names.fresh(MonType::Ptr)?;
             let slot = Slot {
                 object,
                 pointer,
                 offset,
             };
-            store_in(alloc, slot, value_type(t), value, to)
+            store_in(alloc, slot, value_type(t), found, to)
         }
     }
 }
@@ -114,7 +115,7 @@ fn fill(
 ) -> Result<(), AllocError>
     ensures code { OnOk result (plain_stmts to.new.items ≡ before (plain_stmts to.old.items)
         (fill_by names.old part.object part.offset (plain_type t.now) (plain_init i.now))) }
-    ensures names { OnOk result (names.new ≡ with_registers (fill_temporaries (plain_init i.now)) names.old) }
+    ensures names { OnOk result (names.new ≡ with_registers (fill_temporaries (unit_of names.old) (plain_init i.now)) names.old) }
     ensures letters { OnOk result (InitialiserHasLetters (plain_init i.now)) }
 {
     match i {
@@ -138,7 +139,7 @@ fn fill_parts(
 ) -> Result<(), AllocError>
     ensures code { OnOk result (plain_stmts to.new.items ≡ before (plain_stmts to.old.items)
         (fill_parts_by names.old part.object part.offset (plain_parts parts.entry) (plain_inits inits.now))) }
-    ensures names { OnOk result (names.new ≡ with_registers (parts_temporaries (plain_inits inits.now)) names.old) }
+    ensures names { OnOk result (names.new ≡ with_registers (parts_temporaries (unit_of names.old) (plain_inits inits.now)) names.old) }
     ensures letters { OnOk result (InitialisersHaveLetters (plain_inits inits.now)) }
 {
     let mut left = parts;
@@ -167,7 +168,7 @@ fn fill_first<'a>(
     ensures code { OnOk result (plain_stmts to.new.items ≡ before (plain_stmts to.old.items)
         (fill_first_by names.old part.object part.offset (plain_parts parts.entry) (plain_init i.now))) }
     ensures rest { IfOk result (λ rest. plain_parts rest ≡ drop 1 (plain_parts parts.entry)) }
-    ensures names { OnOk result (names.new ≡ with_registers (fill_temporaries (plain_init i.now)) names.old) }
+    ensures names { OnOk result (names.new ≡ with_registers (fill_temporaries (unit_of names.old) (plain_init i.now)) names.old) }
     ensures letters { OnOk result (InitialiserHasLetters (plain_init i.now)) }
 {
     let Part { object, offset } = part;
@@ -196,8 +197,8 @@ fn initialise_one(
 ) -> Result<(), AllocError>
     ensures code { OnOk result (plain_stmts to.new.items ≡ before (plain_stmts to.old.items)
         (initialise_one_by names.old block (plain_type t.now) e.now)) }
-    ensures names { OnOk result (names.new ≡ with_registers (object_temporaries (One (plain_expr e.now))) names.old) }
-    ensures letters { OnOk result (FullHasLetters (plain_expr e.now)) }
+    ensures names { OnOk result (names.new ≡ with_registers (object_temporaries (unit_of names.old) (One (plain_expr e.now))) names.old) }
+    ensures letters { OnOk result (ValueHasLetters (plain_expr e.now)) }
 {
     match string_in(e) {
         Some(_) => {
@@ -208,8 +209,8 @@ fn initialise_one(
             fill_one(alloc, e, part, t, names, to)
         }
         None => {
-            let value = full(alloc, e, names, to)?;
-            store(alloc, block, t, value, to)
+            let found = value(alloc, e, names, to)?;
+            store(alloc, block, t, found, to)
         }
     }
 }
@@ -225,7 +226,7 @@ fn initialise_object(
 ) -> Result<(), AllocError>
     ensures code { OnOk result (plain_stmts to.new.items ≡ before (plain_stmts to.old.items)
         (initialise_object_by names.old block (plain_type t.now) (plain_init i.now))) }
-    ensures names { OnOk result (names.new ≡ with_registers (object_temporaries (plain_init i.now)) names.old) }
+    ensures names { OnOk result (names.new ≡ with_registers (object_temporaries (unit_of names.old) (plain_init i.now)) names.old) }
     ensures letters { OnOk result (InitialiserHasLetters (plain_init i.now)) }
 {
     match i {
@@ -252,7 +253,7 @@ pub fn initialise(
 ) -> Result<(), AllocError>
     ensures code { OnOk result (plain_stmts to.new.items ≡ before (plain_stmts to.old.items)
         (initialise_by names.old block (plain_type d.now.ctype) (plain_decl d.now).init)) }
-    ensures names { OnOk result (names.new ≡ with_registers (initial_temporaries (plain_decl d.now).init) names.old) }
+    ensures names { OnOk result (names.new ≡ with_registers (initial_temporaries (unit_of names.old) (plain_decl d.now).init) names.old) }
     ensures letters { OnOk result (InitialHasLetters (plain_decl d.now).init) }
 {
     match &d.init {
@@ -270,7 +271,7 @@ fn may_be_born(size: u64) -> bool
 
 // Makes the registers of an initialiser, and nothing else.
 fn take_registers(alloc: Global, d: &Decl, names: &mut Registers<'_>) -> Result<(), AllocError>
-    ensures names { OnOk result (names.new ≡ with_registers (initial_temporaries (plain_decl d.now).init) names.old) }
+    ensures names { OnOk result (names.new ≡ with_registers (initial_temporaries (unit_of names.old) (plain_decl d.now).init) names.old) }
     ensures letters { OnOk result (InitialHasLetters (plain_decl d.now).init) }
 {
     let mut unused = Vec::new(alloc);
@@ -289,7 +290,7 @@ fn initialise_local(
     to: &mut Vec<MonStmt>,
 ) -> Result<(), AllocError>
     ensures code { OnOk result (plain_stmts to.new.items ≡ before (plain_stmts to.old.items) (initialise_local_by names.old (plain_decl d.now))) }
-    ensures names { OnOk result (names.new ≡ with_registers (initial_temporaries (plain_decl d.now).init) names.old) }
+    ensures names { OnOk result (names.new ≡ with_registers (initial_temporaries (unit_of names.old) (plain_decl d.now).init) names.old) }
     ensures letters { OnOk result (InitialHasLetters (plain_decl d.now).init) }
 {
     let block = block_of(names, d.place.offset);
@@ -310,7 +311,7 @@ pub fn initialise_all(
 ) -> Result<(), AllocError>
     ensures code { OnOk result (plain_stmts to.new.items ≡ before (plain_stmts to.old.items)
         (initialise_all_by names.old (map plain_decl decls.now))) }
-    ensures names { OnOk result (names.new ≡ with_registers (declaration_temporaries (map plain_decl decls.now)) names.old) }
+    ensures names { OnOk result (names.new ≡ with_registers (declaration_temporaries (unit_of names.old) (map plain_decl decls.now)) names.old) }
     ensures letters { OnOk result (InitialsHaveLetters (map plain_decl decls.now)) }
 {
     'decls: for d in decls {

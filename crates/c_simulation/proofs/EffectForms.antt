@@ -23,14 +23,13 @@ use Rattle.c_model.specs.TypedTrees.{WellTyped, IsScalar, IsInteger, IsPromoted,
 use Rattle.mon_syntax.specs.declared.tree.MonType.{MonType}
 use Rattle.mon_syntax.specs.Registers.{Bindings}
 use Rattle.mon_syntax.specs.Trees.{NoStatement}
-use Rattle.c_effects.specs.Letters.{HasLetters}
+use Rattle.c_effects.specs.Letters.{HasLetters, Where, ValueHasLetters, ValuesHaveLetters, ActHasLetters}
 use Rattle.c_effects.specs.Expressions.{value_type, temporaries, unary}
 use Rattle.c_effects.specs.Full.{is_pure, is_inner, takes, act_takes, kept_takes, object_takes, changed_front, result, prepare, act}
 use Rattle.c_effects.proofs.Pures.{takes_pure, result_pure, prepare_pure, location_pure}
 use Rattle.c_simulation.specs.Standing.{Setting, Target, runs, Here, Standing, Beside}
 use Rattle.c_simulation.specs.Reaching.{Reaches, Anything, Valued}
 use Rattle.c_simulation.specs.Calls.{Scene}
-use Rattle.c_simulation.specs.EffectLetters.{Where, ValueHasLetters, ValuesHaveLetters, ActHasLetters}
 use Rattle.c_simulation.proofs.Registers.{longer}
 use Rattle.c_simulation.proofs.ExpressionTypes.{one_scalar, struct_no_scalar, place_has_object, bump_types}
 use Rattle.c_simulation.proofs.Expressions.{evaluates, places, plus_fits, minus_fits, flip_fits}

@@ -12,7 +12,7 @@ use Rattle.c_effects.specs.Full.{act, takes, result, prepare}
 use Rattle.c_simulation.specs.Standing.{Setting, Here, runs}
 use Rattle.c_simulation.specs.Reaching.{Reaches, Anything, Tested}
 use Rattle.c_simulation.specs.Calls.{Scene}
-use Rattle.c_simulation.specs.EffectLetters.{ValuesHaveLetters}
+use Rattle.c_effects.specs.Letters.{ValuesHaveLetters}
 use Rattle.c_simulation.specs.EffectLaws.{EffectValuesReach, EffectConditionsReach, EffectPlacesReach, EffectOriginsReach, EffectsReach}
 use Rattle.c_effects.specs.Expressions.{condition}
 use Rattle.c_simulation.proofs.PointerValues.{value_type_is}

@@ -5,7 +5,7 @@ use Rattle.c_syntax.specs.Expressions.{Expression, Node, Expressions, NoExpressi
 use Rattle.c_model.specs.SoundJudgements.{LettersFit, AllLettersFit}
 use Rattle.c_effects.specs.Full.{is_pure}
 use Rattle.c_simulation.specs.EffectLaws.{LettersOfActs, LettersOfValues}
-use Rattle.c_simulation.specs.EffectLetters.{Where, ValueHasLetters, ValuesHaveLetters, ActHasLetters}
+use Rattle.c_effects.specs.Letters.{Where, ValueHasLetters, ValuesHaveLetters, ActHasLetters}
 
 either_way : {P Q : Type 0} (b : Bool) → P → Q → Where b P Q
 either_way true p q = p

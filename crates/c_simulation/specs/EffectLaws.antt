@@ -18,7 +18,7 @@ use Rattle.c_effects.specs.Full.{act, act_takes, condition_result, inner_offset,
 use Rattle.c_simulation.specs.Standing.{Target, Setting, Here, Has, IsSmall, runs, Standing, Beside}
 use Rattle.c_simulation.specs.Reaching.{Reaches, Anything, Valued, Placed, Tested}
 use Rattle.c_simulation.specs.Calls.{Scene}
-use Rattle.c_simulation.specs.EffectLetters.{ActHasLetters, ValueHasLetters}
+use Rattle.c_effects.specs.Letters.{ActHasLetters, ValueHasLetters}
 
 -- a typed expression where the call stands, with few enough steps left, and registers of these types and of those that the expression takes
 pub record IsSet (w : Setting) (n : ℕ) (h : Here) (sight : Sight) (low : ℕ) (bound : Bindings) (rs more : List MonType) (e : Expression) (now : State)

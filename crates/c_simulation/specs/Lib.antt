@@ -5,6 +5,5 @@ pub mod Standing
 pub mod Following
 pub mod Reaching
 pub mod Calls
-pub mod EffectLetters
 pub mod Laws
 pub mod EffectLaws

@@ -54,7 +54,7 @@ use Rattle.instrument.proofs.Sights.{GlobalsInPlace}
 use Rattle.instrument.proofs.Globals.{HasGlobals, globals_at_start}
 use Rattle.instrument.proofs.Starts.{pointers, literal_points, anchored_at_start, start_blocks}
 use Rattle.c_simulation.proofs.Registers.{same_all}
-use Rattle.c_effects.specs.Letters.{InitialsHaveLetters}
+use Rattle.c_initialisers.specs.Letters.{InitialsHaveLetters}
 use Rattle.c_simulation.specs.SameRegisters.{Stays}
 use Rattle.instrument.proofs.Deaths.{all_before}
 use Rattle.c_simulation.proofs.Calls.{IsCalled}

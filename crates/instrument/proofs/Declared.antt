@@ -12,7 +12,8 @@ use Rattle.mon_syntax.specs.declared.tree.MonType.{MonType}
 use Rattle.mon_syntax.specs.Registers.{Bindings, RegisterTable, register_of, with_kinds, next_register}
 use Rattle.c_effects.specs.Expressions.{temporaries}
 use Rattle.annot_code.proofs.Asserted.{behind_grows}
-use Rattle.c_effects.specs.Effects.{any_temporaries, effect_temporaries, declaration_temporaries}
+use Rattle.c_initialisers.specs.Translation.{declaration_temporaries}
+use Rattle.c_effects.specs.Effects.{any_temporaries, effect_temporaries}
 use Rattle.track_scopes.specs.Blocks.{AreSmall, with_pointer, entered}
 use Rattle.instrument.specs.Translation.{Spot, after_statement, after_cases, after_else, after_first, after_item, after_items, returned_temporaries, switch_temporaries}
 use Rattle.instrument.proofs.DeclarationCode.{next-entered}

@@ -20,7 +20,8 @@ use Rattle.mon_syntax.specs.Trees as tree
 use Rattle.mon_syntax.specs.Valid.{Types, has_no_step, depth_of_all}
 use Rattle.track_scopes.specs.Blocks.{entered, deaths}
 use Rattle.c_effects.specs.Expressions.{value_type, before, one, set, setup, temporaries, condition_of}
-use Rattle.c_effects.specs.Effects.{block_of, any_temporaries, full_temporaries, full_setup, full_value, effect_if_any, initialise, initialise_all, initialise_local, may_be_born, initial_temporaries}
+use Rattle.c_initialisers.specs.Translation.{initialise, initialise_all, initialise_local, may_be_born, initial_temporaries}
+use Rattle.c_effects.specs.Effects.{block_of, any_temporaries, full_temporaries, full_setup, full_value, effect_if_any}
 use Rattle.instrument.specs.Translation.{all_live, Spot, in_loop, in_switch, with_variables, leave_where_zero, test, test_if_any, loop, for_turns, returned, returned_temporaries, switch_temporaries, after_statement, after_first}
 use Rattle.instrument.specs.Translation.{after_item, after_items}
 use Rattle.instrument.specs.Translation.{case_label, test_case, tests_of_cases, search, where_reached, others_in_block, statement, next_cases, blocks_of_cases, else_part, first_part, item, items}

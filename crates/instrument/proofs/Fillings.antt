@@ -17,9 +17,11 @@ use Rattle.mon_syntax.specs.declared.tree.MonType.TheVariants as kind
 use Rattle.mon_syntax.specs.Registers.{Bindings}
 use Rattle.mon_syntax.specs.Trees as tree
 use Rattle.c_model.specs.Pure.{IsPure, IsPureInitialiser, ArePureInitialisers}
-use Rattle.c_effects.specs.Letters.{FullHasLetters, InitialiserHasLetters, InitialisersHaveLetters}
+use Rattle.c_initialisers.specs.Letters.{InitialiserHasLetters, InitialisersHaveLetters}
+use Rattle.c_effects.specs.Letters.{FullHasLetters}
 use Rattle.c_effects.specs.Expressions.{before, one, setup, value, temporaries}
-use Rattle.c_effects.specs.Effects.{full_temporaries, full_setup, full_value, store, part_temporaries, one_temporaries, fill_temporaries, parts_temporaries, initial_temporaries, stored_at, bytes_at}
+use Rattle.c_initialisers.specs.Translation.{part_temporaries, one_temporaries, fill_temporaries, parts_temporaries, initial_temporaries, bytes_at}
+use Rattle.c_effects.specs.Effects.{full_temporaries, full_setup, full_value, store, stored_at}
 use Rattle.c_effects.specs.Effects as translation
 use Rattle.c_simulation.specs.SameRegisters.{Same}
 use Rattle.c_simulation.specs.Standing.{Setting, Target, runs, Anchored, Knows, Bounded, Beside}

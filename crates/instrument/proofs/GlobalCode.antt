@@ -10,7 +10,7 @@ use Rattle.mon_syntax.specs.Registers.{Bindings, Names, next_register}
 use Rattle.mon_syntax.specs.Trees.{Global, MonStatements, NoStatement}
 use Rattle.c_model.specs.Formed.{number_of}
 use Rattle.c_model.specs.StaticObjects.{static_objects}
-use Rattle.c_effects.specs.Effects.{initialise}
+use Rattle.c_initialisers.specs.Translation.{initialise}
 use Rattle.c_effects.specs.Expressions.{before, object_of_global, set}
 use Rattle.c_effects.specs.Named.{unit_of, with_registers}
 use Rattle.c_effects.proofs.Sequences.{before_assoc}

@@ -10,7 +10,7 @@ use Rattle.mon_syntax.specs.declared.tree.MonType.{MonType}
 use Rattle.mon_syntax.specs.Meaning.{Next}
 use Rattle.c_model.specs.AcceptedPrograms.{AreConstant}
 use Rattle.instrument.proofs.Sights.{GlobalsInPlace}
-use Rattle.c_effects.specs.Letters.{InitialsHaveLetters}
+use Rattle.c_initialisers.specs.Letters.{InitialsHaveLetters}
 use Rattle.instrument.specs.Translation.{monitored_globals, all_global_temporaries, initialise_globals}
 use Rattle.c_simulation.specs.Standing.{Setting, Target, runs, Here, IsKept, Beside}
 use Rattle.c_simulation.specs.Following.{Follows}

@@ -15,9 +15,10 @@ use Rattle.mon_syntax.specs.declared.tree.MonType.TheVariants as kind
 use Rattle.mon_syntax.specs.Registers.{Bindings}
 use Rattle.mon_syntax.specs.Trees.{MonStatements, NoStatement, Global}
 use Rattle.c_model.specs.Pure.{IsPureInitialiser, IsInitialiser}
-use Rattle.c_effects.specs.Letters.{InitialHasLetters, InitialsHaveLetters}
+use Rattle.c_initialisers.specs.Letters.{InitialHasLetters, InitialsHaveLetters}
 use Rattle.c_effects.specs.Expressions.{set, object_of_global}
-use Rattle.c_effects.specs.Effects.{full_temporaries, block_of, initial_temporaries, declaration_temporaries}
+use Rattle.c_initialisers.specs.Translation.{initial_temporaries, declaration_temporaries}
+use Rattle.c_effects.specs.Effects.{full_temporaries, block_of}
 use Rattle.c_effects.specs.Effects as translation
 use Rattle.instrument.specs.Translation.{global_temporaries, all_global_temporaries, initialise_global, initialise_globals}
 use Rattle.c_simulation.specs.Standing.{Setting, Target, runs, IsAnchored, InRegister, AtGlobal, Anchored, Knows, Bounded, Here, Standing, Beside}

@@ -8,7 +8,7 @@ use Rattle.c_model.specs.Meaning.{declared_first}
 use Rattle.c_model.specs.TextOrder.{Between}
 use Rattle.c_syntax.specs.Programs.{TranslationUnit}
 use Rattle.c_syntax.specs.Layouts.{size_of}
-use Rattle.c_effects.specs.Effects.{may_be_born}
+use Rattle.c_initialisers.specs.Translation.{may_be_born}
 use Rattle.c_effects.specs.Expressions.{global_index}
 
 abbrev pub AreOwn : List Declaration → Type 0

@@ -9,7 +9,7 @@ use Rattle.c_model.specs.ReadTree.{FunctionRead, FunctionsRead, AreBytes, TextsA
 use Rattle.c_model.specs.AcceptedPrograms.{AreDefined, IsProgram}
 use Rattle.c_model.specs.UnrangedPrograms.{FunctionsRanged}
 use Rattle.mon_syntax.specs.BlockMemory.{block_run}
-use Rattle.c_effects.specs.Letters.{InitialsHaveLetters}
+use Rattle.c_initialisers.specs.Letters.{InitialsHaveLetters}
 use Rattle.instrument.specs.Limits.{BodyHasNumbers, FunctionsHaveNumbers}
 use Rattle.instrument.specs.Translation.{index_of_main, translated}
 use Rattle.instrument.proofs.RangedTrees.{AreRangedAsserts, functions_ranged}

@@ -20,7 +20,7 @@ use Rattle.c_model.specs.UnrangedPrograms.{FunctionsRanged}
 use Rattle.instrument.proofs.RangedTrees.{AreRangedAsserts, functions_ranged}
 use Rattle.c_model.specs.AcceptedPrograms.{AreConstant, AreDefined, IsProgram}
 use Rattle.mon_syntax.specs.Valid.{Types, IsValid}
-use Rattle.c_effects.specs.Letters.{InitialHasLetters, InitialsHaveLetters}
+use Rattle.c_initialisers.specs.Letters.{InitialHasLetters, InitialsHaveLetters}
 use Rattle.instrument.specs.Limits.{BodyHasNumbers, FunctionHasNumbers, FunctionsHaveNumbers}
 use Rattle.c_effects.specs.Expressions.{global_index}
 use Rattle.instrument.specs.Translation.{index_of_main, front_temporaries, translated}

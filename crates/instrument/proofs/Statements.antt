@@ -37,7 +37,8 @@ use Rattle.instrument.specs.Limits.{HasNumbers, CasesHaveNumbers, ElseHasNumbers
 use Rattle.c_effects.specs.Expressions.{value_type, temporaries, setup, condition_of, before, one, set}
 use Rattle.annot_code.specs.Code.{assertions}
 use Rattle.annot_code.proofs.Asserted.{behind_grows}
-use Rattle.c_effects.specs.Effects.{full_temporaries, full_setup, full_value, effect_temporaries, any_temporaries, declaration_temporaries, effect_if_any}
+use Rattle.c_initialisers.specs.Translation.{declaration_temporaries}
+use Rattle.c_effects.specs.Effects.{full_temporaries, full_setup, full_value, effect_temporaries, any_temporaries, effect_if_any}
 use Rattle.c_effects.specs.Effects as effects
 use Rattle.track_scopes.specs.Blocks.{entered, deaths, with_born}
 use Rattle.track_scopes.specs.Lives.{with_store}

@@ -12,7 +12,8 @@ use Rattle.c_model.specs.Meaning.{write_each, padded, zero_scalars}
 use Rattle.mon_syntax.specs.declared.tree.MonType.TheVariants as kind
 use Rattle.mon_syntax.specs.Trees.{Constant}
 use Rattle.c_effects.specs.Expressions.{before}
-use Rattle.c_effects.specs.Effects.{stored_at, bytes_at, zeros_at, zeros_from}
+use Rattle.c_initialisers.specs.Translation.{bytes_at}
+use Rattle.c_effects.specs.Effects.{stored_at, zeros_at, zeros_from}
 use Rattle.c_simulation.proofs.Results.{before_is}
 use Rattle.c_simulation.specs.Standing.{Setting, Target, runs, AreOctets, Bounded, Beside}
 use Rattle.c_simulation.specs.Reaching.{Reaches, Anything}

@@ -12,7 +12,8 @@ use Rattle.mon_syntax.specs.declared.tree.MonType.TheVariants.{Ptr}
 use Rattle.mon_syntax.specs.Registers.{Bindings, RegisterTable, with_kinds, bound_with}
 use Rattle.mon_syntax.specs.Valid.{Types}
 use Rattle.track_scopes.specs.Blocks.{with_pointer, entered, with_born}
-use Rattle.c_effects.specs.Effects.{any_temporaries, declaration_temporaries, effect_temporaries}
+use Rattle.c_initialisers.specs.Translation.{declaration_temporaries}
+use Rattle.c_effects.specs.Effects.{any_temporaries, effect_temporaries}
 use Rattle.c_effects.specs.Expressions.{temporaries}
 use Rattle.annot_code.specs.Code.{behind_assertions}
 use Rattle.annot_code.proofs.Asserted.{behind_begins}

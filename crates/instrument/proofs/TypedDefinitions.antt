@@ -18,7 +18,7 @@ use Rattle.c_model.specs.TypedTrees.{WhereAny, Initialises, AreParameters, Items
 use Rattle.c_model.specs.ReadTree.{TextsAreBytes}
 use Rattle.c_model.specs.AcceptedPrograms.{AreDefined}
 use Rattle.c_model.specs.TypedAnnotations.{ItemsNoted}
-use Rattle.c_effects.specs.Letters.{InitialiserHasLetters}
+use Rattle.c_initialisers.specs.Letters.{InitialiserHasLetters}
 use Rattle.instrument.specs.Limits.{HaveNumbers}
 use Rattle.c_effects.specs.Expressions.{global_index}
 use Rattle.instrument.specs.Translation.{registers_of_body, after_body, index_of_main, front_temporaries}

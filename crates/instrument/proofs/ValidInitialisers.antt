@@ -20,7 +20,8 @@ use Rattle.mon_syntax.specs.Trees.{MonExpression, MonStatements}
 use Rattle.mon_syntax.specs.Registers.{Bindings}
 use Rattle.mon_syntax.specs.Trees as tree
 use Rattle.mon_syntax.specs.Valid.{Types, Labels, Signature, IsExpression, AreStatements, has_constant, depth_of_all}
-use Rattle.c_effects.specs.Letters.{FullHasLetters, InitialiserHasLetters, InitialisersHaveLetters, InitialHasLetters}
+use Rattle.c_initialisers.specs.Letters.{InitialiserHasLetters, InitialisersHaveLetters, InitialHasLetters}
+use Rattle.c_effects.specs.Letters.{FullHasLetters}
 use Rattle.c_model.specs.Pure.{IsPureOrCall, IsPureInitialiser, ArePureInitialisers}
 use Rattle.c_model.specs.ReadTree.{AreBytes, TextsAreBytes}
 use Rattle.c_model.specs.FullExpressions.{EachInitial, EachPart}
@@ -29,8 +30,8 @@ use Rattle.c_model.specs.Sizes.{IsSmall, weight_of, most_weight, most_forms}
 use Rattle.instrument.proofs.FormedTrees.{InitialFormed}
 use Rattle.c_model.specs.TypedTrees.{IsScalar, InitialisedBy, ByText, ByValue, Initialises, PartsInitialised, WhereAny}
 use Rattle.c_effects.specs.Expressions.{register_type, value_type, before, one, set, farther}
-use Rattle.c_effects.specs.Effects.{full_temporaries, full_setup, full_value, store, initial_temporaries, one_temporaries, fill_temporaries, parts_temporaries, stored_at, bytes_at, scalars_in, widest, zeros_at, zeros_from, zero_parts}
-use Rattle.c_effects.specs.Effects.{fill_one, fill, fill_parts, initialise}
+use Rattle.c_initialisers.specs.Translation.{initial_temporaries, one_temporaries, fill_temporaries, parts_temporaries, bytes_at, fill_one, fill, fill_parts, initialise}
+use Rattle.c_effects.specs.Effects.{full_temporaries, full_setup, full_value, store, stored_at, scalars_in, widest, zeros_at, zeros_from, zero_parts}
 use Rattle.c_effects.proofs.ZeroRuns.{zero_at}
 use Rattle.annot_code.proofs.Depths.{deep_before}
 use Rattle.annot_code.proofs.ValidParts.{before_valid, set_valid}

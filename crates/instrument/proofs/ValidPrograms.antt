@@ -31,10 +31,10 @@ use Rattle.c_model.specs.Sizes.{most_forms}
 use Rattle.instrument.proofs.FormedTrees.{InitialFormed}
 use Rattle.c_model.specs.AcceptedPrograms.{AreDefined}
 use Rattle.c_model.specs.TypedTrees.{WhereAny, IsScalar, Initialises, AreParameters, around_body}
-use Rattle.c_effects.specs.Letters.{InitialiserHasLetters}
+use Rattle.c_initialisers.specs.Letters.{InitialiserHasLetters}
 use Rattle.track_scopes.specs.Blocks.{entered, deaths, with_born}
 use Rattle.c_effects.specs.Expressions.{value_type, before, set, object_of_global, global_index}
-use Rattle.c_effects.specs.Effects.{initial_temporaries, initialise}
+use Rattle.c_initialisers.specs.Translation.{initial_temporaries, initialise}
 use Rattle.instrument.specs.Translation.{outermost, Spot, value_types, registers_of_body, registers_of, after_body, after_items, with_variables, body_part, parameters, items, code_of, function_name, arguments_from, result_of}
 use Rattle.instrument.specs.Translation.{function_of, functions_from, translated}
 use Rattle.instrument.specs.Translation.{monitored_globals, index_of_main, front, front_temporaries, global_temporaries, all_global_temporaries, initialise_global, initialise_globals}

@@ -27,12 +27,13 @@ use Rattle.instrument.proofs.FormedTrees.{IsFull, IsFullOrCall, IsFullEffect, Is
 use Rattle.c_model.specs.TypedTrees.{WhereAny, IsScalar, WellTyped, IsCondition, AreDeclared, Returned, StatementTyped, CasesTyped, ElseTyped, ItemsTyped, FirstTyped, IsCaseValue}
 use Rattle.c_model.specs.TypedAnnotations.{StatementNoted, CasesNoted, ElseNoted, ItemsNoted}
 use Rattle.track_scopes.specs.Blocks.{entered, deaths}
-use Rattle.c_effects.specs.Letters.{Any, HasLetters, FullHasLetters, EffectHasLetters, InitialsHaveLetters}
+use Rattle.c_initialisers.specs.Letters.{InitialsHaveLetters}
+use Rattle.c_effects.specs.Letters.{Any, HasLetters, FullHasLetters, EffectHasLetters}
 use Rattle.instrument.specs.Limits.{HasNumbers, CasesHaveNumbers, ElseHasNumbers, FirstHasNumbers, HaveNumbers}
 use Rattle.c_effects.specs.Expressions.{register_type, value_type, before, one, set, setup, temporaries, condition_of}
 use Rattle.annot_code.specs.Code.{assertions}
-use Rattle.c_effects.specs.Effects.{block_of, any_temporaries, full_temporaries, effect_temporaries, initial_temporaries, declaration_temporaries, full_setup, full_value, effect, effect_if_any}
-use Rattle.c_effects.specs.Effects.{initialise, initialise_all, initialise_local, may_be_born}
+use Rattle.c_initialisers.specs.Translation.{initial_temporaries, declaration_temporaries, initialise, initialise_all, initialise_local, may_be_born}
+use Rattle.c_effects.specs.Effects.{block_of, any_temporaries, full_temporaries, effect_temporaries, full_setup, full_value, effect, effect_if_any}
 use Rattle.instrument.specs.Translation.{Spot, leave_where_zero, test, test_if_any, returned_temporaries, switch_temporaries, returned, loop, with_variables, after_statement, after_cases, after_else, after_first, after_item, after_items, statement}
 use Rattle.instrument.specs.Translation.{case_label, test_case, tests_of_cases, search, where_reached, others_in_block, next_cases, blocks_of_cases}
 use Rattle.c_simulation.specs.Labels.{end_label, next_label}

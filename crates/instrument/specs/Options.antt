@@ -19,7 +19,8 @@ use Rattle.mon_syntax.specs.Trees.{MonStatements, NoStatement, Global}
 use Rattle.track_scopes.specs.Blocks.{births, entered}
 use Rattle.c_effects.specs.Effects.{any_temporaries}
 use Rattle.c_effects.specs.Expressions.{before, object_of_global, set, temporaries}
-use Rattle.c_effects.specs.Named.{initialise_by, unit_of, with_registers}
+use Rattle.c_initialisers.specs.Initialisers.{initialise_by}
+use Rattle.c_effects.specs.Named.{unit_of, with_registers}
 use Rattle.instrument.specs.declared.spot.Spot as code
 use Rattle.instrument.specs.Translation.{Spot, after_body, after_else, after_first, after_item, after_items, after_statement, else_part, first_part, for_turns}
 use Rattle.instrument.specs.Translation.{code_of, front, front_temporaries, global_temporaries, in_loop, item, items, returned, statement, test, test_if_any}

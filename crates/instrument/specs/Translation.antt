@@ -25,8 +25,9 @@ use Rattle.mon_syntax.specs.Trees.{MonExpression, MonStatement, Register, Global
 use Rattle.mon_syntax.specs.Trees.{MonStatements, NoStatement, Then, MonRegister}
 use Rattle.mon_syntax.specs.Trees.{Zeros, Literal, MonitoredGlobal, MonFunction, MonitoredProgram}
 use Rattle.mon_syntax.specs.Registers.{Bindings, RegisterTable, no_registers, with_kinds, next_register}
-use Rattle.c_effects.specs.Effects.{any_temporaries, declaration_temporaries, effect_temporaries, full_temporaries, full_setup, full_value, effect}
-use Rattle.c_effects.specs.Effects.{effect_if_any, initial_temporaries, initialise, initialise_all}
+use Rattle.c_initialisers.specs.Translation.{declaration_temporaries, initial_temporaries, initialise, initialise_all}
+use Rattle.c_effects.specs.Effects.{any_temporaries, effect_temporaries, full_temporaries, full_setup, full_value, effect}
+use Rattle.c_effects.specs.Effects.{effect_if_any}
 use Rattle.c_effects.specs.Expressions.{object_of_global, register_type, value_type, temporaries, before, one, set, condition_of, setup}
 use Rattle.c_simulation.specs.Labels.{end_label, next_label}
 use Rattle.annot_code.specs.Code.{assertions, behind_assertions}

@@ -5,7 +5,7 @@ ghost use Rattle.c_syntax.specs.Programs.{plain_program};
 ghost use Rattle.c_syntax.specs.Statements.{plain_decl};
 ghost use Rattle.c_model.specs.ObjectsLeft.{plain_object};
 ghost use Rattle.mon_syntax.specs.Trees.{plain_global, plain_stmts};
-ghost use Rattle.c_effects.specs.Letters.{InitialHasLetters, InitialsHaveLetters};
+ghost use Rattle.c_initialisers.specs.Letters.{InitialHasLetters, InitialsHaveLetters};
 ghost use Rattle.c_effects.specs.Expressions.{before};
 ghost use Rattle.c_effects.specs.Named.{unit_of, with_registers};
 ghost use Rattle.instrument.specs.Options.{global_initialised, globals_initialised};

@@ -14,7 +14,7 @@ ghost use Rattle.mon_syntax.specs.BlockMemory.{block_run};
 ghost use Rattle.mon_syntax.specs.Registers.{with_table};
 ghost use Rattle.mon_syntax.specs.Trees.{NoStatement, plain_func as plain_monitored_func, plain_program as plain_monitored, plain_register, plain_stmts};
 ghost use Rattle.mon_syntax.specs.Valid.{IsValid};
-ghost use Rattle.c_effects.specs.Letters.{InitialsHaveLetters};
+ghost use Rattle.c_initialisers.specs.Letters.{InitialsHaveLetters};
 ghost use Rattle.c_effects.specs.Expressions.{before};
 ghost use Rattle.c_effects.specs.Named.{unit_of, with_registers};
 ghost use Rattle.instrument.specs.Limits.{BodyHasNumbers, FunctionHasNumbers, FunctionsHaveNumbers};

@@ -5,14 +5,14 @@ use Rattle.c_syntax.specs.Programs.{plain_layout}
 use Rattle.c_syntax.specs.Statements.{Initialiser, plain_init, plain_inits}
 use Rattle.c_syntax.proofs.Rows.{many_is}
 use Rattle.mon_syntax.specs.Trees.{plain_stmts}
-use Rattle.c_effects.specs.Letters.{InitialiserHasLetters, InitialisersHaveLetters}
+use Rattle.c_initialisers.specs.Letters.{InitialiserHasLetters, InitialisersHaveLetters}
 use Rattle.c_effects.specs.Expressions.{before}
-use Rattle.c_effects.specs.Effects.{fill_temporaries, parts_temporaries}
+use Rattle.c_initialisers.specs.Translation.{fill_temporaries, parts_temporaries}
 use Rattle.c_initialisers.specs.Initialisers.{fill_by, fill_first_by, fill_parts_by, plain_parts, parts_in}
-use Rattle.c_effects.specs.Named.{with_registers}
-use Rattle.c_effects.proofs.Sequences.{left_at, more_behind, nothing, registers_grown}
+use Rattle.c_effects.specs.Named.{unit_of, with_registers}
+use Rattle.c_effects.proofs.Sequences.{left_at, more_behind, nothing}
 use Rattle.c_effects.proofs.Trees.{on_ok, on_ok_then}
-use Rattle.c_initialisers.proofs.InitialiserTrees.{filled_more, many_filled, none_filled}
+use Rattle.c_initialisers.proofs.InitialiserTrees.{filled_more, many_filled, none_filled, registers_more}
 use Rattle.c_initialisers.proofs.initialiser.+fill.Goals as goal
 
 pub fill-returns-in_ok-parts-in-Many-clause-code : goal.fill-returns-in_ok-parts-in-Many-clause-code
@@ -28,8 +28,8 @@ fill-returns-in_ok-parts-in-Many-clause-code t c =
 pub fill-returns-in_ok-parts-in-Many-clause-names : goal.fill-returns-in_ok-parts-in-Many-clause-names
 fill-returns-in_ok-parts-in-Many-clause-names t c =
     let n = c.args.names.now in
-    subst (λ (x : Initialiser). OnOk c.fill_parts.result (c.fill_parts.new.names ≡ with_registers (fill_temporaries x) n)) (sym (ap plain_init c.in-Many.is ∙ many_is c.in-Many.field-0 c.in-Many.inits))
-    (on_ok_then c.fill_parts.result (λ last. last ∙ ap (λ l. with_registers (parts_temporaries (plain_inits l)) n) c.deref.ensures.value) c.fill_parts.ensures.names)
+    subst (λ (x : Initialiser). OnOk c.fill_parts.result (c.fill_parts.new.names ≡ with_registers (fill_temporaries (unit_of n) x) n)) (sym (ap plain_init c.in-Many.is ∙ many_is c.in-Many.field-0 c.in-Many.inits))
+    (on_ok_then c.fill_parts.result (λ last. last ∙ ap (λ l. with_registers (parts_temporaries (unit_of n) (plain_inits l)) n) c.deref.ensures.value) c.fill_parts.ensures.names)
 
 pub fill-returns-in_ok-parts-in-Many-clause-letters : goal.fill-returns-in_ok-parts-in-Many-clause-letters
 fill-returns-in_ok-parts-in-Many-clause-letters t c =
@@ -57,8 +57,8 @@ fill_parts-inits-preserved t c =
     record {
       code =
           ap (λ l. before (plain_stmts c.fill_first.new.to.items) (fill_parts_by c.fill_first.new.names r d l rest)) c.in_ok-left.ensures.rest
-          ∙ more_behind t0 (fill_first_by n r d cs i) (with_registers (fill_temporaries i) n) (λ m. fill_parts_by m r d (drop 1 cs) rest) (ap (fill_parts_by n r d cs) left ∙ filled_more n r d cs i rest)
+          ∙ more_behind t0 (fill_first_by n r d cs i) (with_registers (fill_temporaries (unit_of n) i) n) (λ m. fill_parts_by m r d (drop 1 cs) rest) (ap (fill_parts_by n r d cs) left ∙ filled_more n r d cs i rest)
           c.in_ok-left.ensures.code c.in_ok-left.ensures.names c.inits.invariant.code;
-      names = registers_grown n (fill_temporaries i) (parts_temporaries rest) (ap parts_temporaries left) c.in_ok-left.ensures.names c.inits.invariant.names;
+      names = registers_more n (fill_temporaries (unit_of n) i) (λ p. parts_temporaries p rest) (ap (parts_temporaries (unit_of n)) left) c.in_ok-left.ensures.names c.inits.invariant.names;
       letters = λ rest. c.inits.invariant.letters (subst InitialisersHaveLetters (sym left) (c.in_ok-left.ensures.letters, rest));
     }

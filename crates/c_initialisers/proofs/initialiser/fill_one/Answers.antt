@@ -8,10 +8,10 @@ use Rattle.c_initialisers.proofs.initialiser.fill_one.Goals as goal
 
 pub returns-in_ok-pointer-in-None-clause-code : goal.returns-in_ok-pointer-in-None-clause-code
 returns-in_ok-pointer-in-None-clause-code c =
-    let value = c.in_ok-value-in-None in
+    let found = c.in_ok-found-in-None in
     let pointer = c.in_ok-pointer-in-None in
     on_ok_then c.store_in.result
-    (filled_value c.args.names.now c.full.new.names c.args.part.object c.args.part.offset pointer.pointer c.value_type.result (plain_type c.args.t.now) (plain_expr c.args.e.now) (plain_monitored value.value)
-    (plain_stmts c.args.to.now.items) (plain_stmts c.full.new.to.items) (plain_stmts c.store_in.new.to.items) (sym c.string_in.ensures ∙ c.in-None.is) value.ensures.value value.ensures.setup value.ensures.names pointer.ensures.number
+    (filled_value c.args.names.now c.value.new.names c.args.part.object c.args.part.offset pointer.pointer c.value_type.result (plain_type c.args.t.now) (plain_expr c.args.e.now) (plain_monitored found.found)
+    (plain_stmts c.args.to.now.items) (plain_stmts c.value.new.to.items) (plain_stmts c.store_in.new.to.items) (sym c.string_in.ensures ∙ c.in-None.is) found.ensures.value found.ensures.setup found.ensures.names pointer.ensures.number
     c.value_type.ensures)
     c.store_in.ensures

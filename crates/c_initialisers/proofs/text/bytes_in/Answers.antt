@@ -1,7 +1,7 @@
 use Rattle.std.proofs.Common.{◌-◌, ap, sym, ◌∙◌}
 use Rattle.mon_syntax.specs.Trees.{plain_stmts}
 use Rattle.c_effects.specs.Expressions.{before}
-use Rattle.c_effects.specs.Effects.{bytes_at}
+use Rattle.c_initialisers.specs.Translation.{bytes_at}
 use Rattle.c_effects.proofs.Sequences.{more}
 use Rattle.c_effects.proofs.Trees.{on_ok_then}
 use Rattle.c_initialisers.proofs.InitialiserTrees.{bytes_more, no_byte}

@@ -1,7 +1,7 @@
 use Rattle.std.proofs.Common.{◌≡◌}
 use Rattle.mon_syntax.specs.Trees.{plain_stmts}
 use Rattle.c_effects.specs.Expressions.{before}
-use Rattle.c_effects.specs.Effects.{bytes_at}
+use Rattle.c_initialisers.specs.Translation.{bytes_at}
 use Rattle.c_initialisers.proofs.text.bytes_in.Given as goal
 
 abbrev pub invariant-bytes : goal.invariant-bytes

@@ -1,7 +1,7 @@
 use Rattle.std.proofs.Common.{◌+◌, drop, map, refl, ap, subst, sym, ◌∙◌}
 use Rattle.c_syntax.specs.Statements.{plain_decl}
 use Rattle.mon_syntax.specs.Trees.{plain_stmts}
-use Rattle.c_effects.specs.Letters.{InitialsHaveLetters}
+use Rattle.c_initialisers.specs.Letters.{InitialsHaveLetters}
 use Rattle.c_effects.specs.Expressions.{before}
 use Rattle.c_effects.specs.Named.{with_registers}
 use Rattle.c_effects.proofs.Sequences.{left_at, none_left, all_there, more_behind, registers_grown}

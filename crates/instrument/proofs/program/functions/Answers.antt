@@ -2,7 +2,7 @@ use Rattle.std.proofs.Common.{◌≡◌, ◌<◌, ◌+◌, ℕ, drop, length, ma
 use Rattle.std.specs.Prelude.{nat_eq}
 use Rattle.c_syntax.specs.Programs.{plain_func, plain_program}
 use Rattle.mon_syntax.specs.Trees.{plain_func as plain_monitored_func}
-use Rattle.c_effects.specs.Letters.{InitialsHaveLetters}
+use Rattle.c_initialisers.specs.Letters.{InitialsHaveLetters}
 use Rattle.instrument.specs.Limits.{FunctionHasNumbers, FunctionsHaveNumbers}
 use Rattle.instrument.specs.Translation.{front_temporaries, functions_from}
 use Rattle.c_effects.proofs.Sequences.{left_at, none_left, complete}

@@ -1,7 +1,7 @@
 use Rattle.std.proofs.Common.{◌≡◌, ◌<◌, ◌++◌, length, drop, map}
 use Rattle.c_syntax.specs.Programs.{plain_func, plain_program}
 use Rattle.mon_syntax.specs.Trees.{plain_func as plain_monitored_func}
-use Rattle.c_effects.specs.Letters.{InitialsHaveLetters}
+use Rattle.c_initialisers.specs.Letters.{InitialsHaveLetters}
 use Rattle.instrument.specs.Limits.{FunctionsHaveNumbers}
 use Rattle.instrument.specs.Translation.{functions_from}
 use Rattle.instrument.proofs.program.functions.Given as goal

@@ -5,7 +5,7 @@ use Rattle.c_model.specs.Reports.{Agrees}
 use Rattle.mon_syntax.specs.BlockMemory.{block_run}
 use Rattle.mon_syntax.specs.Trees.{MonitoredProgram}
 use Rattle.mon_syntax.specs.Valid.{IsValid}
-use Rattle.c_effects.specs.Letters.{InitialsHaveLetters}
+use Rattle.c_initialisers.specs.Letters.{InitialsHaveLetters}
 use Rattle.instrument.specs.Translation.{index_of_main, translated}
 use Rattle.instrument.proofs.ProgramRuns.{GlobalsHaveLetters, program_agrees}
 use Rattle.instrument.proofs.ProgramValidity.{program_valid}
