@@ -16,9 +16,9 @@ use Rattle.mon_syntax.specs.declared.tree.MonType.TheVariants.{U8}
 use Rattle.mon_syntax.specs.Registers.{Names, next_register}
 use Rattle.mon_syntax.specs.Trees.{MonExpression, MonStatements, NoStatement, Constant}
 use Rattle.c_effects.specs.Expressions.{before, value_type}
-use Rattle.c_initialisers.specs.Translation.{bytes_at, fill_one, fill_temporaries, may_be_born}
+use Rattle.c_initialisers.specs.Translation.{bytes_at, fill_one, fill_temporaries, may_be_born, parts_temporaries}
 use Rattle.c_effects.specs.Effects.{block_of, moved, scalars_in, store, stored_at, zeros_from}
-use Rattle.c_initialisers.specs.Initialisers.{fill_by, fill_first_by, fill_one_by, fill_parts_by, first_part, initialise_object_by, initialise_one_by, next_byte, parts_in, initialise_by, initialise_local_by}
+use Rattle.c_initialisers.specs.Initialisers.{fill_by, fill_first_by, fill_one_by, fill_parts_by, first_part, initialise_object_by, initialise_one_by, next_byte, object_temporaries, parts_in, initialise_by, initialise_local_by}
 use Rattle.c_effects.specs.Named.{unit_of, with_registers}
 use Rattle.c_effects.specs.Full.{takes}
 use Rattle.c_evaluation.specs.Evaluated.{prepare_by, result_by}
@@ -113,6 +113,14 @@ module _ (n : Names) (r : ℕ) (u : PlainType) (at : Place) (is js : Initialiser
 
   pub many_initialised : t1 ≡ before t0 (fill_parts_by n r 0 cs is) → t1 ≡ before t0 (initialise_object_by n r u (Many at js))
   many_initialised last = last ∙ (λ i. before t0 (fill_parts_by n r 0 (parts i) (same i)))
+
+-- and its registers
+module _ (n n1 : Names) (at : Place) (is js : Initialisers) (same : is ≡ js) (taken : n1 ≡ with_registers (parts_temporaries (unit_of n) is) n) where
+  pub many_names : n1 ≡ with_registers (fill_temporaries (unit_of n) (Many at js)) n
+  many_names = taken ∙ ap (λ l. with_registers (parts_temporaries (unit_of n) l) n) same
+
+  pub object_names : n1 ≡ with_registers (object_temporaries (unit_of n) (Many at js)) n
+  object_names = taken ∙ ap (λ l. with_registers (parts_temporaries (unit_of n) l) n) same
 
 -- a variable of a function: one for which some stack may have room, and one for which none has
 module _ (n : Names) (d : Declaration) (size : ℕ) where

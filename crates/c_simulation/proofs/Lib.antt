@@ -22,7 +22,6 @@ pub mod ExpressionLaws
 -- stores
 pub mod Compounds
 pub mod Stores
-pub mod Bases
 pub mod Copies
 -- expressions with effects anywhere
 pub mod Settled

@@ -12,7 +12,7 @@ use Rattle.mon_syntax.specs.Meaning.{Done, Flow, Next, then_do, at_next, writes,
 use Rattle.mon_syntax.specs.Trees.{MonExpression, If, MonStatements}
 use Rattle.c_effects.specs.Expressions.{before, one}
 use Rattle.c_simulation.specs.SameRegisters.{Same}
-use Rattle.c_simulation.specs.Standing.{Setting, Target, Did, runs, Has, IsOf, Bounded, Here, IsKept, Beside}
+use Rattle.c_simulation.specs.Standing.{Setting, Target, Did, runs, Bounded, Here, IsKept, Beside}
 use Rattle.c_simulation.specs.Following.{Later, Evaluates, HasValue, HasNone, Places, HasPlace, HasNoPlace, Tests, HasTest, HasNoTest, Follows, GoesOn, written}
 use Rattle.c_simulation.specs.Following as following
 use Rattle.c_simulation.specs.Reaching.{Reaches, Arrives, IsOver, IsUndefined, Anything, Valued, Placed, Tested}
@@ -140,15 +140,6 @@ module _ (w : Setting) where
     reaches_behind Q low regs after s t r a b bounded same run h =
         subst (λ q. Reaches w Q low regs s r q) (writes_none (runs w n t b after) ∙ sym (behind_setup w n t a b regs after run))
         (reached_onward Q low regs after s s [] r (runs w n t b after) same (later_same s bounded) h)
-
-    -- the value of an expression that changes nothing, and then what follows
-    pub reaches_value : {A : Type 0} (Q : A → List Value → State → Target → Type 0) (k : Scalar) (low high : ℕ) (regs : List Value) (s : State) (t : Target) (r : Outcome Value) (a b : MonStatements) (e : MonExpression) (f : Value → Evaluation A)
-        → Bounded s.store → Evaluates w k s t r regs low high (runs w n t a regs) e
-        → ((v : Value) → IsOf k v → (after : List Value) → Same low regs after → ((later : List Value) → Same high after later → Has w e later t.mem v) → Reaches w Q low after s (f v s) (runs w n t b after))
-        → Reaches w Q low regs s (on_outcome r f) (runs w n t (before a b) regs)
-    reaches_value Q k low high regs s t r a b e f bounded (HasNone at x) go = undefined_now Q low regs s (on_outcome r f) (runs w n t (before a b) regs) at (ap (λ r. on_outcome r f) x)
-    reaches_value Q k low high regs s t r a b e f bounded (HasValue v fit x after same run has) go =
-        subst (λ r. Reaches w Q low regs s (on_outcome r f) (runs w n t (before a b) regs)) (sym x) (reaches_behind Q low regs after s t (f v s) a b bounded same run (go v fit after same has))
 
     -- what reaches something, and then statements
     pub follows_before : {A : Type 0} (h : Here) (P : A → List Value → State → Target → Type 0) (low : ℕ) (regs : List Value) (on : List Value → Flow Value) (from : State) (t : Target)

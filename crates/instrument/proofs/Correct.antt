@@ -309,10 +309,10 @@ module _ (p : TranslationUnit) (parts : Parts p p.funcs) (main_is : main_fault p
       let inner = setting p gs m m f call calls n store active in
       calls_at p parts gs anchored literals n inner.registers inner.base inner.around active f main_picked.part s names signatures u t es c
 
-  room : length (all_global_temporaries p.globals) ≤ length opens
+  room : length (all_global_temporaries p p.globals) ≤ length opens
   room =
       let a = has_room p gs m m f main_picked.part body_of_main call calls n literals calls_below in
-      let b : length mine ≡ length (all_global_temporaries p.globals) = ap (λ t. length (front_temporaries p t)) its_own in
+      let b : length mine ≡ length (all_global_temporaries p p.globals) = ap (λ t. length (front_temporaries p t)) its_own in
       let c = length-append (value_types f.params) mine in
       omega (arith, a, b, c, opens_long)
 

@@ -10,10 +10,10 @@ use Rattle.c_model.specs.Meaning.{declared_in, declared_first}
 use Rattle.c_model.specs.Formed.{number_of, declared_within, declared_in_cases, declared_in_else, declared_in_first, declared_in_item, declared_in_items}
 use Rattle.mon_syntax.specs.declared.tree.MonType.{MonType}
 use Rattle.mon_syntax.specs.Registers.{Bindings, RegisterTable, register_of, with_kinds, next_register}
-use Rattle.c_effects.specs.Expressions.{temporaries}
 use Rattle.annot_code.proofs.Asserted.{behind_grows}
 use Rattle.c_initialisers.specs.Translation.{declaration_temporaries}
-use Rattle.c_effects.specs.Effects.{any_temporaries, effect_temporaries}
+use Rattle.c_effects.specs.Effects.{any_temporaries}
+use Rattle.c_effects.specs.Full.{act_takes, takes}
 use Rattle.track_scopes.specs.Blocks.{AreSmall, with_pointer, entered}
 use Rattle.instrument.specs.Translation.{Spot, after_statement, after_cases, after_else, after_first, after_item, after_items, returned_temporaries, switch_temporaries}
 use Rattle.instrument.proofs.DeclarationCode.{next-entered}
@@ -112,20 +112,20 @@ mutual
   statement_other p x (Eval at e) r h = refl
   statement_other p x (Block at body) r h = items_other p x body (entered (declared_in body) r) h ∙ entered_other x (declared_in body) r (not_own x body h)
   statement_other p x (If at e a b) r h =
-      else_other p x b (after_statement p a (with_kinds (temporaries e) r)) (not_back x (declared_within a) (declared_in_else b) h)
-      ∙ statement_other p x a (with_kinds (temporaries e) r) (not_front x (declared_within a) (declared_in_else b) h)
-  statement_other p x (While at annots e a) r h = statement_other p x a (with_kinds (temporaries e) r) h
+      else_other p x b (after_statement p a (with_kinds (takes p e) r)) (not_back x (declared_within a) (declared_in_else b) h)
+      ∙ statement_other p x a (with_kinds (takes p e) r) (not_front x (declared_within a) (declared_in_else b) h)
+  statement_other p x (While at annots e a) r h = statement_other p x a (with_kinds (takes p e) r) h
   statement_other p x (Do at a e) r h = statement_other p x a r h
   statement_other p x (For at annots first e behind a) r h =
       let own = not_front x (declared_in_first first) (declared_within a) h in
-      statement_other p x a (with_kinds (any_temporaries temporaries e) (after_first p first (entered (declared_first first) r))) (not_back x (declared_in_first first) (declared_within a) h)
+      statement_other p x a (with_kinds (any_temporaries (takes p) e) (after_first p first (entered (declared_first first) r))) (not_back x (declared_in_first first) (declared_within a) h)
       ∙ first_other p x first (entered (declared_first first) r) own
       ∙ entered_other x (declared_first first) r (not_first x first own)
   statement_other p x (Break at) r h = refl
   statement_other p x (Continue at) r h = refl
   statement_other p x (Return at e) r h = refl
   statement_other p x (Labelled at l a) r h = refl
-  statement_other p x (Switch at e cases) r h = cases_other p x cases (with_kinds (switch_temporaries e) r) h
+  statement_other p x (Switch at e cases) r h = cases_other p x cases (with_kinds (switch_temporaries p e) r) h
 
   cases_other : (p : TranslationUnit) (x : ℕ) (cs : Cases) (r : RegisterTable) → NotIn x (declared_in_cases cs) → register_of (after_cases p cs r).bound x ≡ register_of r.bound x
   cases_other p x NoCase r h = refl
@@ -207,30 +207,30 @@ more_kinds ts r = omega (arith, length-append r.kinds ts)
 mutual
   pub statement_grows : (p : TranslationUnit) (a : Statement) (r : RegisterTable) → next_register r ≤ next_register (after_statement p a r)
   statement_grows p (Empty at) r = omega arith
-  statement_grows p (Eval at e) r = more_kinds (effect_temporaries p e) r
+  statement_grows p (Eval at e) r = more_kinds (act_takes p e) r
   statement_grows p (Block at body) r = omega (arith, next-entered (declared_in body) r, items_grow p body (entered (declared_in body) r))
   statement_grows p (If at e a b) r =
-      let one = with_kinds (temporaries e) r in
-      omega (arith, more_kinds (temporaries e) r, statement_grows p a one, else_grows p b (after_statement p a one))
-  statement_grows p (While at annots e a) r = omega (arith, more_kinds (temporaries e) r, statement_grows p a (with_kinds (temporaries e) r))
-  statement_grows p (Do at a e) r = omega (arith, statement_grows p a r, more_kinds (temporaries e) (after_statement p a r))
+      let one = with_kinds (takes p e) r in
+      omega (arith, more_kinds (takes p e) r, statement_grows p a one, else_grows p b (after_statement p a one))
+  statement_grows p (While at annots e a) r = omega (arith, more_kinds (takes p e) r, statement_grows p a (with_kinds (takes p e) r))
+  statement_grows p (Do at a e) r = omega (arith, statement_grows p a r, more_kinds (takes p e) (after_statement p a r))
   statement_grows p (For at annots first e behind a) r =
       let one = entered (declared_first first) r in
       let two = after_first p first one in
-      let three = with_kinds (any_temporaries temporaries e) two in
+      let three = with_kinds (any_temporaries (takes p) e) two in
       omega (
         arith,
         next-entered (declared_first first) r,
         first_grows p first one,
-        more_kinds (any_temporaries temporaries e) two,
+        more_kinds (any_temporaries (takes p) e) two,
         statement_grows p a three,
-        more_kinds (any_temporaries (effect_temporaries p) behind) (after_statement p a three),
+        more_kinds (any_temporaries (act_takes p) behind) (after_statement p a three),
       )
   statement_grows p (Break at) r = omega arith
   statement_grows p (Continue at) r = omega arith
-  statement_grows p (Return at e) r = more_kinds (any_temporaries returned_temporaries e) r
+  statement_grows p (Return at e) r = more_kinds (any_temporaries (returned_temporaries p) e) r
   statement_grows p (Labelled at l a) r = omega arith
-  statement_grows p (Switch at e cases) r = omega (arith, more_kinds (switch_temporaries e) r, cases_grow p cases (with_kinds (switch_temporaries e) r))
+  statement_grows p (Switch at e cases) r = omega (arith, more_kinds (switch_temporaries p e) r, cases_grow p cases (with_kinds (switch_temporaries p e) r))
 
   pub cases_grow : (p : TranslationUnit) (cs : Cases) (r : RegisterTable) → next_register r ≤ next_register (after_cases p cs r)
   cases_grow p NoCase r = omega arith
@@ -245,7 +245,7 @@ mutual
   first_grows p (First i) r = item_grows p i r
 
   pub item_grows : (p : TranslationUnit) (i : BlockItem) (r : RegisterTable) → next_register r ≤ next_register (after_item p i r)
-  item_grows p (Declare ds) r = more_kinds (declaration_temporaries ds) r
+  item_grows p (Declare ds) r = more_kinds (declaration_temporaries p ds) r
   item_grows p (Specify at t) r = omega arith
   item_grows p (Run a) r = statement_grows p a r
   item_grows p (Asserts annots) r = behind_grows p r.bound r.kinds annots

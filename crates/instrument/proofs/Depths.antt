@@ -9,7 +9,7 @@ use Rattle.c_syntax.specs.Layouts.{size_of}
 use Rattle.c_model.specs.Formed as form
 use Rattle.c_model.specs.Formed.{number_of}
 use Rattle.c_model.specs.TypedTrees.{WhereAny}
-use Rattle.instrument.proofs.FormedTrees.{IsFull, IsFullOrCall, IsFullEffect, AreInitialised, FirstFormed, StatementFormed, CasesFormed, ElseFormed, ItemFormed, ItemsFormed}
+use Rattle.instrument.proofs.FormedTrees.{IsFull, AreInitialised, FirstFormed, StatementFormed, CasesFormed, ElseFormed, ItemFormed, ItemsFormed}
 use Rattle.c_model.specs.Sizes.{forms_of, most_forms}
 use Rattle.c_model.specs.Meaning.{declared_in, declared_first, default_of}
 use Rattle.mon_syntax.specs.declared.tree.MonType.{MonType}
@@ -19,17 +19,17 @@ use Rattle.mon_syntax.specs.Trees.{MonStatements, NoStatement}
 use Rattle.mon_syntax.specs.Trees as tree
 use Rattle.mon_syntax.specs.Valid.{Types, has_no_step, depth_of_all}
 use Rattle.track_scopes.specs.Blocks.{entered, deaths}
-use Rattle.c_effects.specs.Expressions.{value_type, before, one, set, setup, temporaries, condition_of}
+use Rattle.c_effects.specs.Expressions.{value_type, before, one, set}
 use Rattle.c_initialisers.specs.Translation.{initialise, initialise_all, initialise_local, may_be_born, initial_temporaries}
-use Rattle.c_effects.specs.Effects.{block_of, any_temporaries, full_temporaries, full_setup, full_value, effect_if_any}
-use Rattle.instrument.specs.Translation.{all_live, Spot, in_loop, in_switch, with_variables, leave_where_zero, test, test_if_any, loop, for_turns, returned, returned_temporaries, switch_temporaries, after_statement, after_first}
+use Rattle.c_effects.specs.Effects.{block_of, any_temporaries}
+use Rattle.c_effects.specs.Full.{condition_result, prepare, result, takes}
+use Rattle.instrument.specs.Translation.{all_live, Spot, in_loop, in_switch, with_variables, leave_where_zero, test, test_if_any, act_if_any, loop, for_turns, returned, returned_temporaries, switch_temporaries, after_statement, after_first}
 use Rattle.instrument.specs.Translation.{after_item, after_items}
 use Rattle.instrument.specs.Translation.{case_label, test_case, tests_of_cases, search, where_reached, others_in_block, statement, next_cases, blocks_of_cases, else_part, first_part, item, items}
 use Rattle.c_simulation.specs.Labels.{end_label, next_label}
-use Rattle.instrument.proofs.ValidSetups.{no_step_before, no_step_setup, deep_one, deep_set, deep_setup, deep_behind}
+use Rattle.instrument.proofs.FullDepths.{no_step_before, no_step_act, no_step_prepare, deep_act, deep_behind, deep_one, deep_prepare, deep_set}
 use Rattle.annot_code.proofs.Asserted.{assertions_deep}
 use Rattle.annot_code.proofs.Depths.{deep_before}
-use Rattle.instrument.proofs.ValidEffects.{no_step_effect, deep_full, deep_effect}
 use Rattle.instrument.proofs.ValidInitialisers.{deep_initialise}
 use Rattle.instrument.proofs.ValidBlocks.{deep_deaths, deep_alive}
 
@@ -37,15 +37,15 @@ use Rattle.instrument.proofs.ValidBlocks.{deep_deaths, deep_alive}
 
 module _ (p : TranslationUnit) (bound : Bindings) (rs : Types) where
   pub no_step_test : (loops : ℕ) (e : Expression) → has_no_step (test p bound rs loops e) ≡ true
-  no_step_test loops e = no_step_before (setup p bound rs e) (leave_where_zero loops (condition_of p bound rs e)) (no_step_setup p bound rs e) refl
+  no_step_test loops e = no_step_before (prepare p bound rs e) (leave_where_zero loops (condition_result p bound rs e)) (no_step_prepare p bound rs e) refl
 
   pub no_step_test_if_any : (loops : ℕ) (e : Option Expression) → has_no_step (test_if_any p bound rs loops e) ≡ true
   no_step_test_if_any loops None = refl
   no_step_test_if_any loops (Some e) = no_step_test loops e
 
-  pub no_step_effect_if_any : (e : Option Expression) → has_no_step (effect_if_any p bound rs e) ≡ true
-  no_step_effect_if_any None = refl
-  no_step_effect_if_any (Some e) = no_step_effect p bound rs e
+  pub no_step_act_if_any : (e : Option Expression) → has_no_step (act_if_any p bound rs e) ≡ true
+  no_step_act_if_any None = refl
+  no_step_act_if_any (Some e) = no_step_act p bound rs e
 
 -- ---- how deep
 
@@ -89,47 +89,47 @@ deep_search levels t v j cs n le =
 module _ (p : TranslationUnit) where
   deep_test : (bound : Bindings) (rs : Types) (loops : ℕ) (e : Expression) → forms_of e ≤ most_forms → depth_of_all (test p bound rs loops e) ≤ most_deep
   deep_test bound rs loops e few =
-      let d = deep_setup p bound rs e in
-      deep_before (setup p bound rs e) (leave_where_zero loops (condition_of p bound rs e)) most_deep (omega (arith, d, few)) (omega arith)
+      let d = deep_prepare p bound rs e in
+      deep_before (prepare p bound rs e) (leave_where_zero loops (condition_result p bound rs e)) most_deep (omega (arith, d, few)) (omega arith)
 
   deep_test_if_any : (bound : Bindings) (rs : Types) (loops : ℕ) (e : Option Expression) → WhereAny (IsFull p.structs) e → depth_of_all (test_if_any p bound rs loops e) ≤ most_deep
   deep_test_if_any bound rs loops None f = omega arith
   deep_test_if_any bound rs loops (Some e) f = deep_test bound rs loops e f.small.few
 
-  deep_effect_if_any : (bound : Bindings) (rs : Types) (e : Option Expression) → WhereAny (IsFullEffect p.structs) e → depth_of_all (effect_if_any p bound rs e) ≤ most_deep
-  deep_effect_if_any bound rs None f = omega arith
-  deep_effect_if_any bound rs (Some e) f = let d = deep_effect p bound rs e in let s = f.small.few in omega (arith, d, s)
+  deep_act_if_any : (bound : Bindings) (rs : Types) (e : Option Expression) → WhereAny (IsFull p.structs) e → depth_of_all (act_if_any p bound rs e) ≤ most_deep
+  deep_act_if_any bound rs None f = omega arith
+  deep_act_if_any bound rs (Some e) f = let d = deep_act p bound rs e in let s = f.small.few in omega (arith, d, s)
 
   deep_initials : (bound : Bindings) (rs : Types) (ds : List Declaration) → AreInitialised p.structs ds → depth_of_all (initialise_all p bound rs ds) ≤ most_deep
   deep_initials bound rs [] f = omega arith
   deep_initials bound rs (d ∷ ds) f =
-      deep_before (initialise_local p bound rs d) (initialise_all p bound (rs ++ initial_temporaries d.init) ds) most_deep (by (may_be_born (size_of p.structs d.ctype)))
-      (deep_initials bound (rs ++ initial_temporaries d.init) ds f.1)
+      deep_before (initialise_local p bound rs d) (initialise_all p bound (rs ++ initial_temporaries p d.init) ds) most_deep (by (may_be_born (size_of p.structs d.ctype)))
+      (deep_initials bound (rs ++ initial_temporaries p d.init) ds f.1)
     where
       by : (t : Bool) → depth_of_all (if t then initialise p bound rs (block_of bound (number_of d)) d.ctype d.init else NoStatement) ≤ most_deep
       by true = let x = deep_initialise p bound rs (block_of bound (number_of d)) d.ctype d.init f.0 in omega (arith, x)
       by false = omega arith
 
-  deep_returned : (spot : Spot) (r : RegisterTable) (e : Option Expression) → WhereAny (IsFullOrCall p.structs) e → depth_of_all (returned p spot r e) ≤ most_deep
+  deep_returned : (spot : Spot) (r : RegisterTable) (e : Option Expression) → WhereAny (IsFull p.structs) e → depth_of_all (returned p spot r e) ≤ most_deep
   deep_returned spot r None f =
       let live = all_live spot in
       let d = deep_deaths live in
       deep_before (deaths live) (one (tree.Return None)) most_deep (omega (arith, d)) (omega arith)
   deep_returned spot r (Some e) f =
       let live = all_live spot in
-      let last = length (r.kinds ++ full_temporaries e) in
-      let value = full_value p r.bound r.kinds e in
+      let last = length (r.kinds ++ takes p e) in
+      let value = result p r.bound r.kinds e in
       let leaves = one (tree.Return (Some (tree.Register last))) in
-      let x = deep_full p r.bound r.kinds e in
+      let x = deep_prepare p r.bound r.kinds e in
       let y = deep_deaths live in
       let s = f.small.few in
-      deep_before (full_setup p r.bound r.kinds e) (before (set last value) (before (deaths live) leaves)) most_deep (omega (arith, x, s))
+      deep_before (prepare p r.bound r.kinds e) (before (set last value) (before (deaths live) leaves)) most_deep (omega (arith, x, s))
       (deep_before (set last value) (before (deaths live) leaves) most_deep (deep_set last value most_deep (omega arith))
       (deep_before (deaths live) leaves most_deep (omega (arith, y)) (omega arith)))
 
   deep_first : (spot : Spot) (r : RegisterTable) (first : ForFirst) → FirstFormed p.structs first → depth_of_all (first_part p spot r first) ≤ most_deep
   deep_first spot r NoFirst f = omega arith
-  deep_first spot r (First (Run (Eval at e))) f = let d = deep_effect p r.bound r.kinds e in let s = f.small.few in omega (arith, d, s)
+  deep_first spot r (First (Run (Eval at e))) f = let d = deep_act p r.bound r.kinds e in let s = f.small.few in omega (arith, d, s)
   deep_first spot r (First (Declare ds)) f = deep_initials r.bound r.kinds ds f
   deep_first spot r (First (Specify at t)) f = omega arith
   deep_first spot r _ f = absurd f
@@ -137,14 +137,14 @@ module _ (p : TranslationUnit) where
   mutual
     pub deep : (spot : Spot) (r : RegisterTable) (a : Statement) → StatementFormed p.structs a → depth_of_all (statement p spot r a) ≤ 4 * form.depth a + most_deep
     deep spot r (Empty at) f = omega arith
-    deep spot r (Eval at e) f = let d = deep_effect p r.bound r.kinds e in let s = f.small.few in omega (arith, d, s)
+    deep spot r (Eval at e) f = let d = deep_act p r.bound r.kinds e in let s = f.small.few in omega (arith, d, s)
     deep spot r (Block at body) f =
         let own = declared_in body in
         let inside = with_variables (next_register r) own spot in
         let d = deep_items inside (entered own r) body f in
         deep_alive p (next_register r) own (items p inside (entered own r) body) (4 * (1 + form.depth_of_items body) + most_deep) (omega (arith, d)) (omega arith)
     deep spot r (If at e a b) f =
-        let first = with_kinds (temporaries e) r in
+        let first = with_kinds (takes p e) r in
         let second = after_statement p a first in
         let x = deep spot first a f.1 in
         let y = deep_else spot second b f.2 in
@@ -153,11 +153,11 @@ module _ (p : TranslationUnit) where
         let n = 4 * max (form.depth a) (form.depth_of_else b) + most_deep in
         let m : max (depth_of_all (statement p spot first a)) (depth_of_all (else_part p spot second b)) ≤ n = max-le (omega (arith, x, left)) (omega (arith, y, right)) in
         let s = f.0.small.few in
-        deep_behind p r.bound r.kinds e (tree.If (condition_of p r.bound r.kinds e) (statement p spot first a) (else_part p spot second b))
+        deep_behind p r.bound r.kinds e (tree.If (condition_result p r.bound r.kinds e) (statement p spot first a) (else_part p spot second b))
         (4 * (1 + max (form.depth a) (form.depth_of_else b)) + most_deep) (omega (arith, s)) (omega (arith, m))
     deep spot r (While at annots e a) f =
         let loops = spot.levels + 1 in
-        let inside = with_kinds (temporaries e) r in
+        let inside = with_kinds (takes p e) r in
         let x = deep (in_loop spot) inside a f.2 in
         let y = deep_test r.bound r.kinds loops e f.1.small.few in
         let d = deep_loop loops (test p r.bound r.kinds loops e) (statement p (in_loop spot) inside a) NoStatement (4 * form.depth a + most_deep) (omega (arith, y)) x (omega arith) in
@@ -175,15 +175,15 @@ module _ (p : TranslationUnit) where
         let loops = spot.levels + 1 in
         let born = entered own r in
         let begun = after_first p first born in
-        let tested = with_kinds (any_temporaries temporaries e) begun in
+        let tested = with_kinds (any_temporaries (takes p) e) begun in
         let after = after_statement p a tested in
         let x = deep (in_loop inside) tested a f.4 in
         let y = deep_test_if_any begun.bound begun.kinds loops e f.2 in
-        let z = deep_effect_if_any after.bound after.kinds step f.3 in
+        let z = deep_act_if_any after.bound after.kinds step f.3 in
         let g = deep_first inside born first f.1 in
         let body = statement p (in_loop inside) tested a in
         let whole = for_turns p loops begun after e step body in
-        let d = deep_loop loops (test_if_any p begun.bound begun.kinds loops e) body (effect_if_any p after.bound after.kinds step) (4 * form.depth a + most_deep) (omega (arith, y)) x (omega (arith, z)) in
+        let d = deep_loop loops (test_if_any p begun.bound begun.kinds loops e) body (act_if_any p after.bound after.kinds step) (4 * form.depth a + most_deep) (omega (arith, y)) x (omega (arith, z)) in
         let n = 4 * (1 + form.depth a) + most_deep in
         deep_alive p (next_register r) own (before (first_part p inside born first) whole) n (deep_before (first_part p inside born first) whole n (omega (arith, g)) (omega (arith, d))) (omega arith)
     deep spot r (Break at) f = deep_jump spot.inside (end_label spot.levels) (4 * 1 + most_deep) (omega arith)
@@ -191,16 +191,16 @@ module _ (p : TranslationUnit) where
     deep spot r (Return at e) f = let d = deep_returned spot r e f in omega (arith, d)
     deep spot r (Labelled at l a) f = absurd f
     deep spot r (Switch at e cases) f =
-        let v = length (r.kinds ++ full_temporaries e) in
-        let j = length (r.kinds ++ returned_temporaries e) in
+        let v = length (r.kinds ++ takes p e) in
+        let j = length (r.kinds ++ returned_temporaries p e) in
         let levels = spot.levels + 1 in
-        let x = deep_full p r.bound r.kinds e in
+        let x = deep_prepare p r.bound r.kinds e in
         let s = f.0.small.few in
         let n = 4 * (1 + form.depth_of_cases cases) + most_deep in
-        let inside = deep_blocks (in_switch spot) (with_kinds (switch_temporaries e) r) j 0 0 cases f.1 in
-        let whole = tree.Labelled (blocks_of_cases p (in_switch spot) (with_kinds (switch_temporaries e) r) j 0 0 cases) (end_label levels) in
-        deep_before (full_setup p r.bound r.kinds e) (before (set v (full_value p r.bound r.kinds e)) (before (search levels (value_type (type_of e)) v j cases) (one whole))) n (omega (arith, x, s))
-        (deep_before (set v (full_value p r.bound r.kinds e)) (before (search levels (value_type (type_of e)) v j cases) (one whole)) n (deep_set v (full_value p r.bound r.kinds e) n (omega arith))
+        let inside = deep_blocks (in_switch spot) (with_kinds (switch_temporaries p e) r) j 0 0 cases f.1 in
+        let whole = tree.Labelled (blocks_of_cases p (in_switch spot) (with_kinds (switch_temporaries p e) r) j 0 0 cases) (end_label levels) in
+        deep_before (prepare p r.bound r.kinds e) (before (set v (result p r.bound r.kinds e)) (before (search levels (value_type (type_of e)) v j cases) (one whole))) n (omega (arith, x, s))
+        (deep_before (set v (result p r.bound r.kinds e)) (before (search levels (value_type (type_of e)) v j cases) (one whole)) n (deep_set v (result p r.bound r.kinds e) n (omega arith))
         (deep_before (search levels (value_type (type_of e)) v j cases) (one whole) n (deep_search levels (value_type (type_of e)) v j cases n (omega arith)) (deep_one whole n (omega (arith, inside)))))
 
     -- the items of cases stand in one test, and in blocks in two

@@ -1,4 +1,4 @@
--- Trees as the translation needs them: where effects, calls and declarations stand in them, and how large their full expressions and their types are.
+-- Trees as the translation needs them: where declarations stand in them, and how large their full expressions and their types are.
 use Rattle.std.proofs.Common.{◌≡◌, List, [], ◌∷◌, Option}
 use Rattle.c_syntax.specs.declared.place.Place.{Place}
 use Rattle.c_syntax.specs.Expressions.{Expression}
@@ -7,7 +7,6 @@ use Rattle.c_syntax.specs.Statements.{Break, Continue, Return, Labelled, Switch,
 use Rattle.c_syntax.specs.Programs.{StructType}
 use Rattle.c_model.specs.Meaning.{declared_in}
 use Rattle.c_model.specs.TypedTrees.{WhereAny}
-use Rattle.c_model.specs.Pure.{IsPure, IsPureOrCall, IsEffect, IsEffectOrCall, IsInitialiser}
 use Rattle.c_model.specs.Sizes.{IsSmall}
 use Rattle.c_model.specs.SmallTypes.{TypesSmall}
 use Rattle.c_model.specs.FullExpressions.{EachInitial}
@@ -15,28 +14,13 @@ use Rattle.instrument.proofs.RangedTrees.{AreRangedAsserts}
 
 -- among these structs
 module _ (structs : List StructType) where
-  -- expressions that stand in no other, of this form
-  pub record IsFullAs (P : Expression → Type 0) (e : Expression) : Type 0 where
-    pub is : P e
+  -- an expression that stands in no other: how large it is, and its types
+  pub record IsFull (e : Expression) : Type 0 where
     pub small : IsSmall e
     pub types : TypesSmall structs e
 
-  -- without effects, or besides as calls, with an effect, and besides as calls
-  abbrev pub IsFull : Expression → Type 0
-  IsFull e = IsFullAs IsPure e
-
-  abbrev pub IsFullOrCall : Expression → Type 0
-  IsFullOrCall e = IsFullAs IsPureOrCall e
-
-  abbrev pub IsFullEffect : Expression → Type 0
-  IsFullEffect e = IsFullAs IsEffect e
-
-  abbrev pub IsFullEffectOrCall : Expression → Type 0
-  IsFullEffectOrCall e = IsFullAs IsEffectOrCall e
-
   -- each expression of an initialiser is a full expression (C99 6.8 p4)
   pub record InitialFormed (o : Option (Place × Initialiser)) : Type 0 where
-    pub is : IsInitialiser o
     pub small : WhereAny (λ (x : Place × Initialiser). EachInitial IsSmall x.1) o
     pub types : WhereAny (λ (x : Place × Initialiser). EachInitial (TypesSmall structs) x.1) o
 
@@ -46,7 +30,7 @@ module _ (structs : List StructType) where
 
   abbrev pub FirstFormed : ForFirst → Type 0
   FirstFormed NoFirst = Unit {0}
-  FirstFormed (First (Run (Eval at e))) = IsFullEffectOrCall e
+  FirstFormed (First (Run (Eval at e))) = IsFull e
   FirstFormed (First (Declare ds)) = AreInitialised ds
   FirstFormed (First (Specify at t)) = Unit {0}
   FirstFormed _ = ⊥
@@ -54,18 +38,18 @@ module _ (structs : List StructType) where
   abbrev mutual
     pub StatementFormed : Statement → Type 0
     StatementFormed (Empty at) = Unit {0}
-    StatementFormed (Eval at e) = IsFullEffectOrCall e
+    StatementFormed (Eval at e) = IsFull e
     StatementFormed (Block at items) = ItemsFormed items
     StatementFormed (If at e a b) = IsFull e × StatementFormed a × ElseFormed b
     StatementFormed (While at annots e a) = (annots ≡ []) × IsFull e × StatementFormed a
     StatementFormed (Do at a e) = StatementFormed a × IsFull e
     StatementFormed (For at annots first e step a) =
-        (annots ≡ []) × FirstFormed first × WhereAny IsFull e × WhereAny IsFullEffect step × StatementFormed a
+        (annots ≡ []) × FirstFormed first × WhereAny IsFull e × WhereAny IsFull step × StatementFormed a
     StatementFormed (Break at) = Unit {0}
     StatementFormed (Continue at) = Unit {0}
-    StatementFormed (Return at e) = WhereAny IsFullOrCall e
+    StatementFormed (Return at e) = WhereAny IsFull e
     StatementFormed (Labelled at l a) = ⊥
-    StatementFormed (Switch at e cases) = IsFullOrCall e × CasesFormed cases
+    StatementFormed (Switch at e cases) = IsFull e × CasesFormed cases
 
     pub CasesFormed : Cases → Type 0
     CasesFormed NoCase = Unit {0}

@@ -25,7 +25,7 @@ started_is n g t (Some i) none =
 pub globals_are : (n : Names) (ds : List Declaration) → n.table.bound ≡ [] → globals_initialised n ds ≡ initialise_globals (unit_of n) n.table.kinds ds
 globals_are n [] none = refl
 globals_are n (d ∷ ds) none =
-    λ i. before (started_is n (object_of_global (number_of d) (static_objects (unit_of n))) d.ctype d.init none i) (globals_are (with_registers (global_temporaries d.init) n) ds none i)
+    λ i. before (started_is n (object_of_global (number_of d) (static_objects (unit_of n))) d.ctype d.init none i) (globals_are (with_registers (global_temporaries (unit_of n) d.init) n) ds none i)
 
 -- a global that has an initialiser, from its parts
 pub started_code : (n n1 : Names) (g pointer : ℕ) (t : PlainType) (o : Option (Place × Initialiser)) (i : Place × Initialiser) (t0 t1 t2 : MonStatements) → o ≡ Some i → pointer ≡ next_register n.table → n1 ≡ with_registers (Ptr ∷ []) n

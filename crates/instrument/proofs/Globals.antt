@@ -49,7 +49,7 @@ module _ (w : Setting) (has : HasGlobals w) where
       )
 
   -- the globals of a program take their initialisers, or keep the zeros in which they are born, before anything else is done
-  pub globals_at_start : (n : ℕ) (h : Here) (rs : List MonType) (regs : List Value) (input : Input) (steps : ℕ) (t : Target) → length (rs ++ all_global_temporaries w.unit.globals) ≤ w.registers → length regs ≡ w.registers
+  pub globals_at_start : (n : ℕ) (h : Here) (rs : List MonType) (regs : List Value) (input : Input) (steps : ℕ) (t : Target) → length (rs ++ all_global_temporaries w.unit w.unit.globals) ≤ w.registers → length regs ≡ w.registers
       → IsKept w (length rs) [] regs → Beside w (start w.unit input steps).store (start w.unit input steps) t
       → Follows w h (length rs) regs Next (start w.unit input steps) (initialise_all (tables_of w.unit) w.unit.globals w.call (start w.unit input steps)) (runs w n t (initialise_globals w.unit rs w.unit.globals) regs)
   globals_at_start n h rs regs input steps t room long kept beside =

@@ -2,24 +2,23 @@
 use Rattle.std.proofs.Common.{◌≡◌, ℕ, suc, ◌<◌, ◌≤◌, if◌then◌else◌, List, [], ◌∷◌, ◌++◌, length, Option, Some, None, slice_get, slice_set, refl, sym, ap, ◌∙◌, subst, arith}
 use Rattle.std.proofs.lemmas.List.{length-append}
 use Rattle.c_syntax.specs.declared.place.Place.{Place}
-use Rattle.c_syntax.specs.Statements.{Declaration, Initialiser, One, Many}
+use Rattle.c_syntax.specs.Statements.{Declaration, Initialiser}
 use Rattle.c_model.specs.Formed.{number_of}
-use Rattle.c_model.specs.Library.{is_there}
 use Rattle.c_model.specs.Memory.{Into, Value, Points}
 use Rattle.c_model.specs.State.{State, Scope, on_outcome, defined, start_of, find}
 use Rattle.c_model.specs.Meaning.{Tables, tables_of, fill, initialise, initialise_all}
 use Rattle.c_model.specs.ExpressionTyping.{Sight, with_object}
-use Rattle.c_model.specs.TypedTrees.{ByText, ByValue, Initialises, WhereAny, IsDeclared, AreDeclared}
+use Rattle.c_model.specs.TypedTrees.{Initialises, WhereAny, IsDeclared, AreDeclared}
 use Rattle.mon_syntax.specs.declared.tree.MonType.{MonType}
 use Rattle.mon_syntax.specs.declared.tree.MonType.TheVariants as kind
 use Rattle.mon_syntax.specs.Registers.{Bindings}
 use Rattle.mon_syntax.specs.Trees.{MonStatements, NoStatement, Global}
-use Rattle.c_model.specs.Pure.{IsPureInitialiser, IsInitialiser}
+use Rattle.c_model.specs.Pure.{IsPure, IsPureInitialiser}
 use Rattle.c_initialisers.specs.Letters.{InitialHasLetters, InitialsHaveLetters}
 use Rattle.c_effects.specs.Expressions.{set, object_of_global}
 use Rattle.c_initialisers.specs.Translation.{initial_temporaries, declaration_temporaries}
-use Rattle.c_effects.specs.Effects.{full_temporaries, block_of}
-use Rattle.c_effects.specs.Effects as translation
+use Rattle.c_initialisers.specs.Translation as translation
+use Rattle.c_effects.specs.Effects.{block_of}
 use Rattle.instrument.specs.Translation.{global_temporaries, all_global_temporaries, initialise_global, initialise_globals}
 use Rattle.c_simulation.specs.Standing.{Setting, Target, runs, IsAnchored, InRegister, AtGlobal, Anchored, Knows, Bounded, Here, Standing, Beside}
 use Rattle.c_simulation.proofs.Registers.{same_all, same_set, get-set_same, longer}
@@ -30,10 +29,9 @@ use Rattle.c_simulation.proofs.Reaching.{reached_here, reached_lower, reaches_be
 use Rattle.c_simulation.proofs.Anchors.{block_has, block_below}
 use Rattle.c_simulation.proofs.Evaluating.{set_runs}
 use Rattle.instrument.proofs.Scenes.{Scene, scene_with, knows_with}
-use Rattle.instrument.proofs.Initialisers.{initial_reaches}
-use Rattle.instrument.proofs.Fillings.{Filling, object_text, object_parts, object_reaches}
+use Rattle.instrument.proofs.Evaluations.{value_reached}
+use Rattle.instrument.proofs.Fillings.{AreEvaluated, Filling, Lasts, anchored_lasts, each_any, each_pure, object_reaches, pure_evaluated}
 use Rattle.instrument.proofs.Own.{IsLocal, AreThere}
-use Rattle.c_model.specs.EffectPlaces.{ArePlaced}
 use Rattle.c_model.specs.StaticObjects.{static_objects}
 
 module _ (w : Setting) (n : ℕ) (h : Here) (sight : Sight) (scene : Scene w n sight) (low : ℕ) (bound : Bindings) (s : State) (t : Target) (le : s.steps ≤ n) (rs : List MonType) (behind : low ≤ length rs)
@@ -44,56 +42,55 @@ module _ (w : Setting) (n : ℕ) (h : Here) (sight : Sight) (scene : Scene w n s
   abbrev Does : Declaration → Option (Place × Initialiser) → Type 0
   Does d o = Reaches w Anything low regs s (initialise T d o w.call s) (runs w n t (translation.initialise w.unit bound rs (block_of bound (number_of d)) d.ctype o) regs)
 
-  object_in_block : (d : Declaration) (at : Place) (i : Initialiser) (number : ℕ) → find (number_of d) s.scope ≡ Some number → IsLocal w.unit d → IsInitialiser (Some (at, i)) → Initialises sight d.ctype i
-      → InitialHasLetters (Some (at, i)) → length (rs ++ initial_temporaries (Some (at, i))) ≤ w.registers → Does d (Some (at, i))
-  object_in_block d at i number found local pure q l room = by i pure q l room
-    where
-      r : ℕ
-      r = block_of bound (number_of d)
+  -- what values are evaluated by
+  abbrev Ready : List Value → State → Type 0
+  Ready after to = Standing w h low bound after to × (to.steps ≤ n)
 
-      below : r < low
-      below = block_below w low bound regs s.scope (number_of d) number m.anchored found local
+  ready_lasts : Lasts low Ready
+  ready_lasts before after from to o same la k = (standing_later w h low bound before after from to o same la k.0, omega (arith, k.1, la.spent))
 
-      points : slice_get regs r ≡ Some (Points (Into number 0))
-      points = block_has w low low bound regs regs s.scope (number_of d) number (omega arith) (same_all low regs) m.anchored found local
+  all_evaluated : AreEvaluated w n sight bound low Ready (λ e. Unit {0})
+  all_evaluated e k more after to u taken ready bounded beside long is any q l few = value_reached w n h sight scene low bound to u ready.1 more taken after ready.0 beside e k is q l few
 
-      filling : Filling w bound low (Into number 0) r regs s t
-      filling = record { anchored = m.anchored; aligned = refl; bounded = m.bounded; beside = b; points = points; below = below; registers = m.registers }
-
-      from_start : (i : Initialiser) → Reaches w Anything low regs s (fill T at d.ctype (Into number 0) i w.call s) (runs w n t (translation.initialise w.unit bound rs r d.ctype (Some (at, i))) regs) → Does d (Some (at, i))
-      from_start i go =
-          subst (λ q. Reaches w Anything low regs s q (runs w n t (translation.initialise w.unit bound rs r d.ctype (Some (at, i))) regs)) (sym (ap (λ o. on_outcome (defined at (start_of o) s) (λ p. fill T at d.ctype p i w.call)) found)) go
-
-      by : (i : Initialiser) → IsInitialiser (Some (at, i)) → Initialises sight d.ctype i → InitialHasLetters (Some (at, i)) → length (rs ++ initial_temporaries (Some (at, i))) ≤ w.registers → Does d (Some (at, i))
-      by (One e) pure (ByValue v none) l room =
-          let few : length (rs ++ full_temporaries e) ≤ w.registers = subst (λ o. length (rs ++ (if is_there o then kind.Ptr ∷ [] else full_temporaries e)) ≤ w.registers) none room in
-          initial_reaches w n h sight scene low bound s t le rs behind regs m b d at e v.scalar.scalar number r v.scalar.is found points (omega (arith, below, behind)) none pure v.typed v.ctype l few
-      by (One e) pure (ByText f) l room = from_start (One e) (object_text w n sight scene.knows bound low e at d.ctype number r rs regs s t behind f room filling)
-      by (Many brace is) pure q l room = from_start (Many brace is) (object_parts w n sight scene.knows bound low brace is at d.ctype number r rs regs s t behind pure q l room filling)
+  object_in_block : (d : Declaration) (at : Place) (i : Initialiser) (number : ℕ) → find (number_of d) s.scope ≡ Some number → IsLocal w.unit d → Initialises sight d.ctype i
+      → InitialHasLetters (Some (at, i)) → length (rs ++ initial_temporaries w.unit (Some (at, i))) ≤ w.registers → Does d (Some (at, i))
+  object_in_block d at i number found local q l room =
+      let r = block_of bound (number_of d) in
+      let filling : Filling w Ready low (Into number 0) r regs s t = record {
+        ready = (m, le);
+        aligned = refl;
+        bounded = m.bounded;
+        beside = b;
+        points = block_has w low low bound regs regs s.scope (number_of d) number (omega arith) (same_all low regs) m.anchored found local;
+        below = block_below w low bound regs s.scope (number_of d) number m.anchored found local;
+        registers = m.registers;
+      } in
+      subst (λ q. Reaches w Anything low regs s q (runs w n t (translation.initialise w.unit bound rs r d.ctype (Some (at, i))) regs)) (sym (ap (λ o. on_outcome (defined at (start_of o) s) (λ p. fill T at d.ctype p i w.call)) found))
+      (object_reaches w n sight scene.knows bound low Ready ready_lasts (λ e. Unit {0}) all_evaluated i at d.ctype number r rs regs s t behind (each_any i) q l room filling)
 
   -- an object of a block
-  pub declared_reaches : (d : Declaration) (o : Option (Place × Initialiser)) → IsLocal w.unit d → IsInitialiser o → WhereAny (λ (i : Place × Initialiser). Initialises sight d.ctype i.1) o → InitialHasLetters o
-      → length (rs ++ initial_temporaries o) ≤ w.registers → Does d o
-  declared_reaches d None local pure q l room = reached_here w low regs s t m.bounded b
-  declared_reaches d (Some (at, i)) local pure q l room = by (find (number_of d) s.scope) refl
+  pub declared_reaches : (d : Declaration) (o : Option (Place × Initialiser)) → IsLocal w.unit d → WhereAny (λ (i : Place × Initialiser). Initialises sight d.ctype i.1) o → InitialHasLetters o
+      → length (rs ++ initial_temporaries w.unit o) ≤ w.registers → Does d o
+  declared_reaches d None local q l room = reached_here w low regs s t m.bounded b
+  declared_reaches d (Some (at, i)) local q l room = by (find (number_of d) s.scope) refl
     where
       by : (o : Option ℕ) → find (number_of d) s.scope ≡ o → Does d (Some (at, i))
       by None found =
           undefined_now w Anything low regs s (initialise T d (Some (at, i)) w.call s) (runs w n t (translation.initialise w.unit bound rs (block_of bound (number_of d)) d.ctype (Some (at, i))) regs) at
           (ap (λ o. on_outcome (defined at (start_of o) s) (λ p. fill T at d.ctype p i w.call)) found)
-      by (Some number) found = object_in_block d at i number found local pure q l room
+      by (Some number) found = object_in_block d at i number found local q l room
 
 -- ---- the objects of a block, in their order
 
 module _ (w : Setting) (n : ℕ) (h : Here) (low : ℕ) (bound : Bindings) where
-  pub initials_reach : (ds : List Declaration) (sight : Sight) → Scene w n sight → AreThere w.unit ds → ArePlaced ds → AreDeclared sight ds → InitialsHaveLetters ds → (rs : List MonType) → low ≤ length rs
-      → length (rs ++ declaration_temporaries ds) ≤ w.registers
+  pub initials_reach : (ds : List Declaration) (sight : Sight) → Scene w n sight → AreThere w.unit ds → AreDeclared sight ds → InitialsHaveLetters ds → (rs : List MonType) → low ≤ length rs
+      → length (rs ++ declaration_temporaries w.unit ds) ≤ w.registers
       → (regs : List Value) (s : State) (t : Target) → s.steps ≤ n → Standing w h low bound regs s → Beside w s.store s t
       → Reaches w Anything low regs s (initialise_all (tables_of w.unit) ds w.call s) (runs w n t (translation.initialise_all w.unit bound rs ds) regs)
-  initials_reach [] sight scene local f q l rs behind room regs s t le m b = reached_here w low regs s t m.bounded b
-  initials_reach (d ∷ ds) sight scene local f q l rs behind room regs s t le m b =
-      let here = initial_temporaries d.init in
-      let rest = declaration_temporaries ds in
+  initials_reach [] sight scene local q l rs behind room regs s t le m b = reached_here w low regs s t m.bounded b
+  initials_reach (d ∷ ds) sight scene local q l rs behind room regs s t le m b =
+      let here = initial_temporaries w.unit d.init in
+      let rest = declaration_temporaries w.unit ds in
       let more : length (rs ++ (here ++ rest)) ≡ length (rs ++ here ++ rest) = omega (arith, length-append (rs ++ here) rest, length-append rs here, length-append rs (here ++ rest), length-append here rest) in
       let made = translation.initialise w.unit bound rs (block_of bound (number_of d)) d.ctype d.init in
       let first = translation.initialise_local w.unit bound rs d in
@@ -101,9 +98,9 @@ module _ (w : Setting) (n : ℕ) (h : Here) (low : ℕ) (bound : Bindings) where
       subst (λ q. Reaches w Anything low regs s (initialise_all (tables_of w.unit) (d ∷ ds) w.call s) q) (sym (before_is w.globals first others w.calls n regs t))
       (reaches_then w Anything Anything low regs s (initialise (tables_of w.unit) d d.init w.call s) (runs w n t first regs) (λ _. initialise_all (tables_of w.unit) ds w.call) (λ r u. runs w n u others r)
       (subst (λ x. Reaches w Anything low regs s (initialise (tables_of w.unit) d d.init w.call s) (runs w n t (if x then made else NoStatement) regs)) (sym local.0.1)
-      (declared_reaches w n h (with_object sight d) (scene_with w n sight d scene) low bound s t le rs behind regs m b d d.init local.0.0 f.0 q.0.init l.0 (omega (arith, more, room, longer (rs ++ here) rest))))
+      (declared_reaches w n h (with_object sight d) (scene_with w n sight d scene) low bound s t le rs behind regs m b d d.init local.0.0 q.0.init l.0 (omega (arith, more, room, longer (rs ++ here) rest))))
       (λ _ to after u o same la be _.
-      initials_reach ds (with_object sight d) (scene_with w n sight d scene) local.1 f.1 q.1 l.1 (rs ++ here) (omega (arith, behind, longer rs here)) (omega (arith, more, room)) after to u (omega (arith, le, la.spent))
+      initials_reach ds (with_object sight d) (scene_with w n sight d scene) local.1 q.1 l.1 (rs ++ here) (omega (arith, behind, longer rs here)) (omega (arith, more, room)) after to u (omega (arith, le, la.spent))
       (standing_later w h low bound regs after s to o same la m) be))
 
 -- ---- globals, in their order
@@ -142,7 +139,7 @@ module _ (w : Setting) (n : ℕ) (low : ℕ) where
   -- one that has no initialiser keeps the zeros in which it is born
   global_reaches : (d : Declaration) (o : Option (Place × Initialiser)) (sight : Sight) → Knows w sight
       → WhereAny (λ (i : Place × Initialiser). IsPureInitialiser i.1) o → WhereAny (λ (i : Place × Initialiser). Initialises sight d.ctype i.1) o → InitialHasLetters o → (rs : List MonType) → low ≤ length rs
-      → length (rs ++ global_temporaries o) ≤ w.registers
+      → length (rs ++ global_temporaries w.unit o) ≤ w.registers
       → (regs : List Value) (s : State) (t : Target) → length regs ≡ w.registers → Anchored w low [] regs s.scope → Bounded s.store → Beside w s.store s t
       → Reaches w Anything low regs s (initialise tables d o w.call s) (runs w n t (initialise_global w.unit rs (object_of_global (number_of d) (static_objects w.unit)) d.ctype o) regs)
   global_reaches d None sight knows pure q l rs behind room regs s t long anchored bounded b = reached_here w low regs s t bounded b
@@ -170,11 +167,11 @@ module _ (w : Setting) (n : ℕ) (low : ℕ) where
           let same = same_set low j regs v behind in
           let points : slice_get w.globals g ≡ Some v = global_points w low regs s.scope (number_of d) number anchored found in
           let one_more : length (rs ++ kind.Ptr ∷ []) ≡ suc j = omega (arith, length-append rs (kind.Ptr ∷ [])) in
-          let more : length (rs ++ kind.Ptr ∷ [] ++ initial_temporaries (Some (at, i))) ≡ length (rs ++ global_temporaries (Some (at, i))) =
-          omega (arith, length-append (rs ++ kind.Ptr ∷ []) (initial_temporaries (Some (at, i))), one_more, length-append rs (global_temporaries (Some (at, i)))) in
-          let enough : j < length regs = omega (arith, room, long, length-append rs (global_temporaries (Some (at, i)))) in
-          let filling : Filling w [] (suc j) (Into number 0) j after s t = record {
-            anchored = anchored_anywhere w low (suc j) regs after s.scope anchored;
+          let more : length (rs ++ kind.Ptr ∷ [] ++ initial_temporaries w.unit (Some (at, i))) ≡ length (rs ++ global_temporaries w.unit (Some (at, i))) =
+          omega (arith, length-append (rs ++ kind.Ptr ∷ []) (initial_temporaries w.unit (Some (at, i))), one_more, length-append rs (global_temporaries w.unit (Some (at, i)))) in
+          let enough : j < length regs = omega (arith, room, long, length-append rs (global_temporaries w.unit (Some (at, i)))) in
+          let filling : Filling w (λ regs s. Anchored w (suc j) [] regs s.scope) (suc j) (Into number 0) j after s t = record {
+            ready = anchored_anywhere w low (suc j) regs after s.scope anchored;
             aligned = refl;
             bounded = bounded;
             beside = b;
@@ -185,15 +182,16 @@ module _ (w : Setting) (n : ℕ) (low : ℕ) where
           subst (λ o. Reaches w Anything low regs s o (runs w n t all regs)) (sym (ap (λ o. on_outcome (defined at (start_of o) s) (λ p. fill tables at d.ctype p i w.call)) found))
           (reaches_behind w n Anything low regs after s t (fill tables at d.ctype (Into number 0) i w.call s) (set j (Global g)) code bounded same (set_runs w n t j (Global g) regs v points)
           (reached_lower w Anything low (suc j) after s (fill tables at d.ctype (Into number 0) i w.call s) (runs w n t code after) (omega (arith, behind))
-          (object_reaches w n sight knows [] (suc j) i at d.ctype number j (rs ++ kind.Ptr ∷ []) after s t (omega (arith, one_more)) pure q l (omega (arith, more, room)) filling)))
+          (object_reaches w n sight knows [] (suc j) (λ regs s. Anchored w (suc j) [] regs s.scope) (anchored_lasts w n sight knows [] (suc j)) IsPure (pure_evaluated w n sight knows [] (suc j)) i at d.ctype number j (rs ++ kind.Ptr ∷ []) after s t
+          (omega (arith, one_more)) (each_pure i pure) q l (omega (arith, more, room)) filling)))
 
   -- globals, with nothing else in sight
-  pub globals_reach : (ds : List Declaration) → AreGlobals w ds → (rs : List MonType) → low ≤ length rs → length (rs ++ all_global_temporaries ds) ≤ w.registers → (regs : List Value) (s : State) (t : Target) → length regs ≡ w.registers
+  pub globals_reach : (ds : List Declaration) → AreGlobals w ds → (rs : List MonType) → low ≤ length rs → length (rs ++ all_global_temporaries w.unit ds) ≤ w.registers → (regs : List Value) (s : State) (t : Target) → length regs ≡ w.registers
       → Anchored w low [] regs s.scope → Bounded s.store → Beside w s.store s t → Reaches w Anything low regs s (initialise_all tables ds w.call s) (runs w n t (initialise_globals w.unit rs ds) regs)
   globals_reach [] q rs behind room regs s t long anchored bounded b = reached_here w low regs s t bounded b
   globals_reach (d ∷ ds) q rs behind room regs s t long anchored bounded b =
-      let here = global_temporaries d.init in
-      let rest = all_global_temporaries ds in
+      let here = global_temporaries w.unit d.init in
+      let rest = all_global_temporaries w.unit ds in
       let more : length (rs ++ (here ++ rest)) ≡ length (rs ++ here ++ rest) = omega (arith, length-append (rs ++ here) rest, length-append rs here, length-append rs (here ++ rest), length-append here rest) in
       let first = initialise_global w.unit rs (object_of_global (number_of d) (static_objects w.unit)) d.ctype d.init in
       let others = initialise_globals w.unit (rs ++ here) ds in

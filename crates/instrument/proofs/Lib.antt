@@ -8,13 +8,9 @@ pub mod Definitions
 pub mod Own
 pub mod RangedTrees
 pub mod Scenes
-pub mod FullExpressions
-pub mod FullForms
+pub mod Evaluations
 pub mod Asserts
--- effects and initialisers
-pub mod Aims
-pub mod Effects
-pub mod Initialisers
+-- initialisers
 pub mod ZeroBytes
 pub mod Zeros
 pub mod Strings
@@ -54,12 +50,14 @@ pub mod FormedTrees
 pub mod FormedSizes
 pub mod TypedDefinitions
 pub mod Parentheses
+pub mod FullParentheses
 pub mod Typed
-pub mod ValidBases
-pub mod ValidSetups
+pub mod FullShapes
+pub mod FullDepths
 pub mod Parts
 pub mod LaidOut
-pub mod ValidEffects
+pub mod FullTyped
+pub mod FullValid
 pub mod ValidInitialisers
 pub mod Tables
 pub mod ValidBlocks

@@ -1,5 +1,5 @@
--- How many parentheses are open at once in translated expressions: no more than these weigh.
-use Rattle.std.proofs.Common.{ℕ, suc, ◌+◌, ◌≤◌, pos, Bool, true, false, List, ◌++◌, Option, Some, None, max, if◌then◌else◌, arith}
+-- How many parentheses are open at once in the values that operators and conversions make, by those of their operands.
+use Rattle.std.proofs.Common.{ℕ, suc, ◌+◌, ◌≤◌, pos, Bool, true, false, List, Option, Some, None, max, if◌then◌else◌, arith}
 use Rattle.std.proofs.Math.Nat.{max-le, le-max_right}
 use Rattle.c_syntax.specs.declared.expression.UnOp.{UnOp}
 use Rattle.c_syntax.specs.declared.expression.UnOp.TheVariants as prefix
@@ -7,10 +7,10 @@ use Rattle.c_syntax.specs.declared.expression.BinOp.{BinOp}
 use Rattle.c_syntax.specs.declared.expression.BinOp.TheVariants as operator
 use Rattle.c_syntax.specs.Ctypes as source_type
 use Rattle.c_syntax.specs.Ctypes.{PlainType, Int}
-use Rattle.c_syntax.specs.Expressions.{Expression, Node, Number, Letter, Variable, Unary, Binary, Both, Either, Choice, Assign, Bump, Call, Cast, SizeOfType, SizeOfExpr, Text, Index, Dot, Arrow, Comma, type_of}
+use Rattle.c_syntax.specs.Expressions.{Expression, Node, Number, Letter, Variable, Unary, Binary, Both, Either, Choice, Assign, Bump, Call, Cast, SizeOfType, SizeOfExpr, Text, Index, Dot, Arrow, Comma}
 use Rattle.c_syntax.specs.Programs.{StructType, TranslationUnit}
-use Rattle.c_syntax.specs.Layouts.{Scalar, scalar_of, size_of, offset_of, target_of}
-use Rattle.c_model.specs.Meaning.{is_array, is_of_library, unit_of}
+use Rattle.c_syntax.specs.Layouts.{Scalar, scalar_of, size_of}
+use Rattle.c_model.specs.Meaning.{unit_of}
 use Rattle.c_model.specs.Conversions.{operation_type}
 use Rattle.mon_syntax.specs.declared.tree.MonType.{MonType}
 use Rattle.mon_syntax.specs.declared.tree.MonType.TheVariants.{I32, I64, Ptr}
@@ -23,8 +23,8 @@ use Rattle.mon_syntax.specs.Arithmetic.{is_pointer}
 use Rattle.mon_syntax.specs.Checking.{same_type}
 use Rattle.mon_syntax.specs.Valid.{result_type, open_parens}
 use Rattle.c_model.specs.Sizes.{weight_of}
-use Rattle.c_effects.specs.Expressions.{register_type, value_type, operand_type, operator_of, in_type, compared, condition, truth, unary, binary, compound_in, temporaries, scaled, farther, element, element_back, pointer_and_integer}
-use Rattle.c_effects.specs.Expressions.{two_pointers, operated, indexed, converted, compound, object_of_global, pointer_of, pointer_to, loaded, value, place}
+use Rattle.c_effects.specs.Expressions.{register_type, value_type, operand_type, operator_of, in_type, compared, condition, truth, unary, binary, compound_in, scaled, farther, element, element_back, pointer_and_integer}
+use Rattle.c_effects.specs.Expressions.{two_pointers, operated, indexed, converted, compound, object_of_global, pointer_of, pointer_to, loaded}
 use Rattle.c_model.specs.StaticObjects.{static_objects}
 
 -- ---- conversions and operators
@@ -184,84 +184,3 @@ few_parens_of_variable p bound x t false = let q = few_parens_of_pointer p bound
 pub parens_cast : (b : Bool) (d : MonExpression) (t u : PlainType) (e : MonExpression) (n : ℕ) → open_parens d ≤ n → open_parens e ≤ n → 1 ≤ n → open_parens (if b then d else converted t u e) ≤ 1 + n
 parens_cast true d t u e n ld le one = omega (arith, ld)
 parens_cast false d t u e n ld le one = let q = parens_converted t u e n le one in omega (arith, q)
-
-mutual
-  pub few_parens : (p : TranslationUnit) (bound : Bindings) (rs : List MonType) (e : Expression) → open_parens (value p bound rs e) ≤ weight_of e
-  few_parens p bound rs (Node at t (Number z k)) = omega arith
-  few_parens p bound rs (Node at t (Letter z)) = omega arith
-  few_parens p bound rs (Node at t (Text n)) = omega arith
-  few_parens p bound rs (Node at t (Variable x)) = few_parens_of_variable p bound x.decl t (is_of_library x)
-  few_parens p bound rs (Node at t (Unary prefix.Deref a)) = let q = parens_loaded t (value p bound rs a) (weight_of a) (few_parens p bound rs a) (some_weight a) in omega (arith, q)
-  few_parens p bound rs (Node at t (Unary prefix.Address a)) = let q = few_place p bound rs a in omega (arith, q)
-  few_parens p bound rs (Node at t (Unary prefix.Plus a)) = let q = parens_unary prefix.Plus (value_type (type_of a)) (value p bound rs a) (weight_of a) (few_parens p bound rs a) (some_weight a) in omega (arith, q)
-  few_parens p bound rs (Node at t (Unary prefix.Minus a)) = let q = parens_unary prefix.Minus (value_type (type_of a)) (value p bound rs a) (weight_of a) (few_parens p bound rs a) (some_weight a) in omega (arith, q)
-  few_parens p bound rs (Node at t (Unary prefix.Not a)) = let q = parens_unary prefix.Not (value_type (type_of a)) (value p bound rs a) (weight_of a) (few_parens p bound rs a) (some_weight a) in omega (arith, q)
-  few_parens p bound rs (Node at t (Unary prefix.Flip a)) = let q = parens_unary prefix.Flip (value_type (type_of a)) (value p bound rs a) (weight_of a) (few_parens p bound rs a) (some_weight a) in omega (arith, q)
-  few_parens p bound rs (Node at t (Binary op a b)) =
-      let x = few_parens p bound rs a in
-      let y = few_parens p bound (rs ++ temporaries a) b in
-      let one = some_weight a in
-      let m = parens_operated p.structs op (type_of a) (type_of b) (value p bound rs a) (value p bound (rs ++ temporaries a) b) (weight_of a + weight_of b) (omega (arith, x)) (omega (arith, y)) (omega (arith, one)) in
-      omega (arith, m)
-  few_parens p bound rs (Node at t (Both a b)) = omega arith
-  few_parens p bound rs (Node at t (Either a b)) = omega arith
-  few_parens p bound rs (Node at t (Choice a b c)) = omega arith
-  few_parens p bound rs (Node at t (Cast to a)) =
-      let q = parens_cast (is_array (type_of a)) (place p bound rs a) (type_of a) to (value p bound rs a) (weight_of a) (few_place p bound rs a) (few_parens p bound rs a) (some_weight a) in
-      omega (arith, q)
-  few_parens p bound rs (Node at t (SizeOfType u)) = omega arith
-  few_parens p bound rs (Node at t (SizeOfExpr a)) = omega arith
-  few_parens p bound rs (Node at t (Index a b)) =
-      let x = few_parens p bound rs a in
-      let y = few_parens p bound (rs ++ temporaries a) b in
-      let one = some_weight a in
-      let e = indexed p.structs (type_of a) (type_of b) (value p bound rs a) (value p bound (rs ++ temporaries a) b) in
-      let m = parens_indexed p.structs (type_of a) (type_of b) (value p bound rs a) (value p bound (rs ++ temporaries a) b) (weight_of a + weight_of b) (omega (arith, x)) (omega (arith, y)) (omega (arith, one)) in
-      let q = parens_loaded t e (3 + (weight_of a + weight_of b)) (omega (arith, m)) (omega arith) in omega (arith, q)
-  few_parens p bound rs (Node at t (Dot a m)) =
-      let one = some_weight a in
-      let q = parens_loaded t (farther (place p bound rs a) (offset_of p.structs (type_of a) m)) (suc (weight_of a)) (parens_farther (place p bound rs a) (offset_of p.structs (type_of a) m) (weight_of a) (few_place p bound rs a) one)
-      (omega arith) in omega (arith, q)
-  few_parens p bound rs (Node at t (Arrow a m)) =
-      let one = some_weight a in
-      let d = offset_of p.structs (target_of (type_of a)) m in
-      let q = parens_loaded t (farther (value p bound rs a) d) (suc (weight_of a)) (parens_farther (value p bound rs a) d (weight_of a) (few_parens p bound rs a) one) (omega arith) in omega (arith, q)
-  few_parens p bound rs (Node at t (Comma a b)) = omega arith
-  few_parens p bound rs (Node at t (Assign op a b)) = omega arith
-  few_parens p bound rs (Node at t (Bump op a)) = omega arith
-  few_parens p bound rs (Node at t (Call f es)) = omega arith
-
-  pub few_place : (p : TranslationUnit) (bound : Bindings) (rs : List MonType) (e : Expression) → open_parens (place p bound rs e) ≤ weight_of e
-  few_place p bound rs (Node at t (Text n)) = omega arith
-  few_place p bound rs (Node at t (Variable x)) = let q = few_parens_of_pointer p bound x.decl in omega (arith, q)
-  few_place p bound rs (Node at t (Unary prefix.Deref a)) = let q = few_parens p bound rs a in omega (arith, q)
-  few_place p bound rs (Node at t (Index a b)) =
-      let x = few_parens p bound rs a in
-      let y = few_parens p bound (rs ++ temporaries a) b in
-      let one = some_weight a in
-      let m = parens_indexed p.structs (type_of a) (type_of b) (value p bound rs a) (value p bound (rs ++ temporaries a) b) (weight_of a + weight_of b) (omega (arith, x)) (omega (arith, y)) (omega (arith, one)) in
-      omega (arith, m)
-  few_place p bound rs (Node at t (Dot a m)) =
-      let one = some_weight a in
-      let q = parens_farther (place p bound rs a) (offset_of p.structs (type_of a) m) (weight_of a) (few_place p bound rs a) one in omega (arith, q)
-  few_place p bound rs (Node at t (Arrow a m)) =
-      let one = some_weight a in
-      let q = parens_farther (value p bound rs a) (offset_of p.structs (target_of (type_of a)) m) (weight_of a) (few_parens p bound rs a) one in omega (arith, q)
-  few_place p bound rs (Node at t (Number z k)) = omega arith
-  few_place p bound rs (Node at t (Letter z)) = omega arith
-  few_place p bound rs (Node at t (Unary prefix.Address a)) = omega arith
-  few_place p bound rs (Node at t (Unary prefix.Plus a)) = omega arith
-  few_place p bound rs (Node at t (Unary prefix.Minus a)) = omega arith
-  few_place p bound rs (Node at t (Unary prefix.Not a)) = omega arith
-  few_place p bound rs (Node at t (Unary prefix.Flip a)) = omega arith
-  few_place p bound rs (Node at t (Binary op a b)) = omega arith
-  few_place p bound rs (Node at t (Both a b)) = omega arith
-  few_place p bound rs (Node at t (Either a b)) = omega arith
-  few_place p bound rs (Node at t (Choice a b c)) = omega arith
-  few_place p bound rs (Node at t (Cast to a)) = omega arith
-  few_place p bound rs (Node at t (SizeOfType u)) = omega arith
-  few_place p bound rs (Node at t (SizeOfExpr a)) = omega arith
-  few_place p bound rs (Node at t (Comma a b)) = omega arith
-  few_place p bound rs (Node at t (Assign op a b)) = omega arith
-  few_place p bound rs (Node at t (Bump op a)) = omega arith
-  few_place p bound rs (Node at t (Call f es)) = omega arith

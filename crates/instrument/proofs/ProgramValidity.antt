@@ -2,23 +2,22 @@
 use Rattle.std.proofs.Common.{◌≡◌, ℕ, suc, ◌<◌, Bool, true, false, cond, if◌then◌else◌, nat_eq, List, [], ◌∷◌, ◌++◌, length, Option, Some, None, append_assoc, refl, ap, ◌∙◌, subst, arith}
 use Rattle.std.proofs.lemmas.Bool.{eqb-true, lt-ltb}
 use Rattle.c_syntax.specs.declared.place.Place.{Place}
-use Rattle.c_syntax.specs.Statements.{Initialiser, One, Many, Declaration, Statement, Empty, Eval, Block, If, While, Do, For, Break, Continue, Return, BlockItems}
+use Rattle.c_syntax.specs.Statements.{Declaration, Statement, Empty, Eval, Block, If, While, Do, For, Break, Continue, Return, BlockItems}
 use Rattle.c_syntax.specs.Programs.{Function, TranslationUnit}
 use Rattle.c_model.specs.State.{find}
 use Rattle.c_model.specs.Meaning.{is_definition}
 use Rattle.c_model.specs.Formed.{number_of, FunctionNamed, FunctionsNamed, declared_in_body, declared_in_items}
 use Rattle.c_model.specs.ExpressionTyping.{Sight, AnObject, inner, with_object}
 use Rattle.c_model.specs.UnitTyping.{items_of_file, with_parameters}
-use Rattle.c_model.specs.TypedTrees.{WhereAny, BodyTyped}
+use Rattle.c_model.specs.TypedTrees.{BodyTyped}
 use Rattle.c_model.specs.TypedAnnotations.{BodyNoted}
-use Rattle.c_model.specs.Pure.{IsPureInitialiser, IsInitialiser}
 use Rattle.c_model.specs.Sizes.{IsSmall}
 use Rattle.c_model.specs.SmallTypes.{TypesSmall}
 use Rattle.c_model.specs.FullExpressions.{EachDeclared, EachInBody, EachInFunctions}
 use Rattle.c_model.specs.ReadTree.{BodyRead, FunctionsRead}
 use Rattle.c_model.specs.UnrangedPrograms.{FunctionsRanged}
 use Rattle.instrument.proofs.RangedTrees.{AreRangedAsserts, functions_ranged}
-use Rattle.c_model.specs.AcceptedPrograms.{AreConstant, AreDefined, IsProgram}
+use Rattle.c_model.specs.AcceptedPrograms.{AreDefined, IsProgram}
 use Rattle.mon_syntax.specs.Valid.{Types, IsValid}
 use Rattle.c_initialisers.specs.Letters.{InitialHasLetters, InitialsHaveLetters}
 use Rattle.instrument.specs.Limits.{BodyHasNumbers, FunctionHasNumbers, FunctionsHaveNumbers}
@@ -37,7 +36,6 @@ use Rattle.instrument.proofs.TypedDefinitions.{IsFileSight, GlobalTyped, Globals
 use Rattle.instrument.proofs.ValidPrograms.{translated_valid}
 use Rattle.instrument.proofs.Correct.{main_below}
 use Rattle.instrument.proofs.ProgramRuns.{GlobalsHaveLetters}
-use Rattle.instrument.proofs.FullForms.{pure_full}
 use Rattle.instrument.proofs.ValidInitialisers.{initial_letters}
 use Rattle.instrument.proofs.Numbers.{numbers_in}
 
@@ -72,17 +70,12 @@ file_sight p s own at defined = record {
 
 -- ---- globals
 
-constant_is : (o : Option (Place × Initialiser)) → WhereAny (λ (i : Place × Initialiser). IsPureInitialiser i.1) o → IsInitialiser o
-constant_is None h = tt
-constant_is (Some (at, One e)) h = pure_full e h
-constant_is (Some (at, Many brace is)) h = h
-
 module _ (p : TranslationUnit) (q : IsProgram p) where
   own : AreOwn p.globals
   own = globals_own p q.numbered [] p.globals refl
 
-  global_typed : (d : Declaration) → GlobalInPlace p d → AreConstant (d ∷ []) → EachDeclared IsSmall (d ∷ []) → EachDeclared (TypesSmall p.structs) (d ∷ []) → InitialHasLetters d.init → GlobalTyped p d
-  global_typed d here constant small types letters =
+  global_typed : (d : Declaration) → GlobalInPlace p d → EachDeclared IsSmall (d ∷ []) → EachDeclared (TypesSmall p.structs) (d ∷ []) → InitialHasLetters d.init → GlobalTyped p d
+  global_typed d here small types letters =
       let at : IsPlace p (own_scope p) (with_object here.sight d) =
       record { names = here.place.names; texts = here.place.texts; structs = here.place.structs; found = found_with here.sight d (own_scope p) here.place.found here.itself } in
       record {
@@ -90,15 +83,15 @@ module _ (p : TranslationUnit) (q : IsProgram p) where
         file = file_sight p (with_object here.sight d) own at here.defined;
         size = known_small p.structs here.sight d.ctype here.place.structs here.declared.size;
         init = here.declared.init;
-        formed = initial_formed p.structs d.init (constant_is d.init constant.0) small.0 types.0;
+        formed = initial_formed p.structs d.init small.0 types.0;
         letters = initial_letters d.init letters;
       }
 
-  globals_typed : (front ds : List Declaration) → front ++ ds ≡ p.globals → AreConstant ds → EachDeclared IsSmall ds → EachDeclared (TypesSmall p.structs) ds → InitialsHaveLetters ds → GlobalsTyped p ds
-  globals_typed front [] is constant small types letters = tt
-  globals_typed front (d ∷ ds) is constant small types letters = (
-    global_typed d (globals_in_place p q front ds d is) (constant.0, tt) (small.0, tt) (types.0, tt) letters.0,
-    globals_typed (front ++ d ∷ []) ds (append_assoc front (d ∷ []) ds ∙ is) constant.1 small.1 types.1 letters.1,
+  globals_typed : (front ds : List Declaration) → front ++ ds ≡ p.globals → EachDeclared IsSmall ds → EachDeclared (TypesSmall p.structs) ds → InitialsHaveLetters ds → GlobalsTyped p ds
+  globals_typed front [] is small types letters = tt
+  globals_typed front (d ∷ ds) is small types letters = (
+    global_typed d (globals_in_place p q front ds d is) (small.0, tt) (types.0, tt) letters.0,
+    globals_typed (front ++ d ∷ []) ds (append_assoc front (d ∷ []) ds ∙ is) small.1 types.1 letters.1,
   )
 
   -- ---- functions
@@ -170,7 +163,7 @@ program_valid p q ranged letters numbers = translated_valid p (record {
   texts = q.texts;
   few_functions = q.few_functions;
   globals_named = q.globals_named;
-  globals = globals_typed p q [] p.globals refl q.constant q.small.globals q.small_types.globals (letters (main_below p q.main));
+  globals = globals_typed p q [] p.globals refl q.small.globals q.small_types.globals (letters (main_below p q.main));
   room = q.room;
   definitions = definitions_typed p q (index_of_main p.names p.funcs) 0 [] p.funcs refl q.named (functions_ranged p.funcs q.effects ranged) q.small.funcs q.small_types.funcs numbers;
   main = q.main;

@@ -20,12 +20,14 @@ use Rattle.mon_syntax.specs.declared.tree.MonStmt.{MonStmt}
 use Rattle.mon_syntax.specs.Trees.{MonExpression, MonStatement, MonStatements, NoStatement, Labelled, Loop, plain_stmts}
 use Rattle.mon_syntax.specs.Trees as tree
 use Rattle.track_scopes.specs.Blocks.{deaths, with_born}
-use Rattle.c_effects.specs.Expressions.{before, one, temporaries}
-use Rattle.c_effects.specs.Effects.{any_temporaries, effect_temporaries}
-use Rattle.c_effects.specs.Named.{condition_by, effect_if_any_by, setup_by, unit_of, with_registers}
+use Rattle.c_effects.specs.Expressions.{before, one}
+use Rattle.c_effects.specs.Effects.{any_temporaries}
+use Rattle.c_effects.specs.Full.{act_takes, takes}
+use Rattle.c_effects.specs.Named.{unit_of, with_registers}
+use Rattle.c_evaluation.specs.Evaluated.{act_if_any_by, condition_result_by, prepare_by}
 use Rattle.c_effects.proofs.Sequences.{before_assoc}
 use Rattle.instrument.specs.Options.{after, behind_first, births_by, else_part_by, entering, first_part_by, items_of_first, plain_first_part, statement_by, test_by, test_if_any_by, turns_by, with_blocks}
-use Rattle.instrument.specs.Translation.{all_live, Spot, alive, in_loop, with_variables}
+use Rattle.instrument.specs.Translation.{act_if_any, all_live, Spot, alive, in_loop, with_variables}
 use Rattle.c_simulation.specs.Labels.{end_label, next_label}
 use Rattle.instrument.proofs.DeclarationCode.{born_front}
 
@@ -80,12 +82,12 @@ pub branches_code : (t t1 : MonStatements) (s : MonStatement) (c : MonExpression
 branches_code t t1 s c f g h is g_is last = last ∙ ap (λ x. before t (one x)) is ∙ ap (λ z. before t (one (tree.If c f z))) g_is
 
 pub if_code : (n n1 : Names) (spot : Spot) (t t1 t2 : MonStatements) (at : Place) (e : Expression) (a : Statement) (b : ElsePart) (c : MonExpression) (f : MonStatements)
-    → c ≡ condition_by n e → f ≡ statement_by (with_registers (temporaries e) n) spot a → t1 ≡ before t (setup_by n e) → n1 ≡ after a (with_registers (temporaries e) n)
+    → c ≡ condition_result_by n e → f ≡ statement_by (with_registers (takes (unit_of n) e) n) spot a → t1 ≡ before t (prepare_by n e) → n1 ≡ after a (with_registers (takes (unit_of n) e) n)
     → t2 ≡ before t1 (one (tree.If c f (else_part_by n1 spot b))) → t2 ≡ before t (statement_by n spot (If at e a b))
 if_code n n1 spot t t1 t2 at e a b c f c_is f_is first names last =
     last
     ∙ (λ i. before (first i) (one (tree.If (c_is i) (f_is i) (else_part_by (names i) spot b))))
-    ∙ before_assoc t (setup_by n e) (one (tree.If (condition_by n e) (statement_by (with_registers (temporaries e) n) spot a) (else_part_by (after a (with_registers (temporaries e) n)) spot b)))
+    ∙ before_assoc t (prepare_by n e) (one (tree.If (condition_result_by n e) (statement_by (with_registers (takes (unit_of n) e) n) spot a) (else_part_by (after a (with_registers (takes (unit_of n) e) n)) spot b)))
 
 -- the body of a loop, which stands inside it
 pub round_code : {E : Type 0} (r : Result (Vec MonStmt Global) E) (f : Spot → MonStatements) (spot : Spot) (inner : ℕ) (outside : List ℕ) (body : MonStatements) → inner ≡ spot.levels + 1 → outside ≡ all_live spot
@@ -96,6 +98,11 @@ round_code (Ok code) f spot inner outside body inner_is outside_is done last =
     ∙ (λ i. one (Labelled (f (record { levels = inner_is i; innermost = inner_is i; inside = []; between = []; outside = outside_is i })) (next_label (inner_is i))))
 round_code (Err e) f spot inner outside body inner_is outside_is done last = tt
 
+-- a step that may be left out
+acted_any : (n : Names) (step : Option Expression) → act_if_any_by n step ≡ act_if_any (unit_of n) n.table.bound n.table.kinds step
+acted_any n None = refl
+acted_any n (Some e) = refl
+
 module _ (n n1 n2 : Names) (spot : Spot) (t t2 : MonStatements) where
   pub do_code : (at : Place) (e : Expression) (a : Statement) (inner : ℕ) (front round behind : MonStatements) → inner ≡ spot.levels + 1 → n1 ≡ after a n → front ≡ NoStatement
       → round ≡ one (Labelled (statement_by n (in_loop spot) a) (next_label (spot.levels + 1))) → behind ≡ before round (test_by n1 inner e) → t2 ≡ before t (one (Labelled (one (Loop front behind)) (end_label inner)))
@@ -104,14 +111,16 @@ module _ (n n1 n2 : Names) (spot : Spot) (t t2 : MonStatements) where
       let behind_at = behind_is ∙ (λ i. before (round_is i) (test_by (names i) (inner_is i) e)) in
       last ∙ (λ i. before t (one (Labelled (one (Loop (front_is i) (behind_at i))) (end_label (inner_is i)))))
 
-  pub turns_code : (e step : Option Expression) (a : Statement) (inner : ℕ) (front round behind : MonStatements) → inner ≡ spot.levels + 1 → front ≡ test_if_any_by n inner e → n1 ≡ with_registers (any_temporaries temporaries e) n
-      → round ≡ one (Labelled (statement_by n1 (in_loop spot) a) (next_label (spot.levels + 1))) → n2 ≡ after a n1 → behind ≡ before round (effect_if_any_by n2 step)
+  pub turns_code : (e step : Option Expression) (a : Statement) (inner : ℕ) (front round behind : MonStatements) → inner ≡ spot.levels + 1 → front ≡ test_if_any_by n inner e → n1 ≡ with_registers (any_temporaries (takes (unit_of n)) e) n
+      → round ≡ one (Labelled (statement_by n1 (in_loop spot) a) (next_label (spot.levels + 1))) → n2 ≡ after a n1 → behind ≡ before round (act_if_any_by n2 step)
       → t2 ≡ before t (one (Labelled (one (Loop front behind)) (end_label inner))) → t2 ≡ before t (turns_by n spot e step a)
   turns_code e step a inner front round behind inner_is front_is names round_is names2 behind_is last =
-      let second : n2 ≡ after a (with_registers (any_temporaries temporaries e) n) = names2 ∙ ap (after a) names in
+      let second : n2 ≡ after a (with_registers (any_temporaries (takes (unit_of n)) e) n) = names2 ∙ ap (after a) names in
       let front_at = front_is ∙ ap (λ k. test_if_any_by n k e) inner_is in
       let round_at = round_is ∙ ap (λ m. one (Labelled (statement_by m (in_loop spot) a) (next_label (spot.levels + 1)))) names in
-      let behind_at = behind_is ∙ (λ i. before (round_at i) (effect_if_any_by (second i) step)) in
+      let tested = with_registers (any_temporaries (takes (unit_of n)) e) n in
+      let start = one (Labelled (statement_by tested (in_loop spot) a) (next_label (spot.levels + 1))) in
+      let behind_at = behind_is ∙ (λ i. before (round_at i) (act_if_any_by (second i) step)) ∙ ap (before start) (acted_any (after a tested) step) in
       last ∙ (λ i. before t (one (Labelled (one (Loop (front_at i) (behind_at i))) (end_label (inner_is i)))))
 
 -- the rest of a `for`
@@ -155,9 +164,12 @@ module _ (n : Names) (spot : Spot) (t t1 t2 : MonStatements) (first : ForFirst) 
       ∙ before_assoc t (before born start) (before again end)
       ∙ ap (before t) (before_assoc born start (before again end) ∙ ap (before born) (sym (before_assoc start again end)))
 
--- ---- its names
+-- ---- the names after a loop
+
+pub do_names : (n n1 n2 : Names) (at : Place) (e : Expression) (a : Statement) → n1 ≡ after a n → n2 ≡ with_registers (takes (unit_of n1) e) n1 → n2 ≡ after (Do at a e) n
+do_names n n1 n2 at e a first last = last ∙ ap (λ (m : Names). with_registers (takes (unit_of m) e) m) first
 
 pub for_names : (n n1 n2 : Names) (at : Place) (annots : List Annotation) (first : ForFirst) (e step : Option Expression) (a : Statement) → n1 ≡ behind_first first (entering (declared_first first) n)
-    → n2 ≡ with_registers (any_temporaries (effect_temporaries (unit_of n1)) step) (after a (with_registers (any_temporaries temporaries e) n1)) → n2 ≡ after (For at annots first e step a) n
+    → n2 ≡ with_registers (any_temporaries (act_takes (unit_of n1)) step) (after a (with_registers (any_temporaries (takes (unit_of n1)) e) n1)) → n2 ≡ after (For at annots first e step a) n
 for_names n n1 n2 at annots first e step a entered last =
-    last ∙ ap (λ (m : Names). with_registers (any_temporaries (effect_temporaries (unit_of m)) step) (after a (with_registers (any_temporaries temporaries e) m))) entered
+    last ∙ ap (λ (m : Names). with_registers (any_temporaries (act_takes (unit_of m)) step) (after a (with_registers (any_temporaries (takes (unit_of m)) e) m))) entered

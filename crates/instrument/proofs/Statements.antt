@@ -29,21 +29,21 @@ use Rattle.mon_syntax.specs.BlockMemory.{over_blocks}
 use Rattle.mon_syntax.specs.LiveBlocks.{live_in}
 use Rattle.mon_syntax.specs.Trees.{MonExpression, MonStatements, NoStatement}
 use Rattle.mon_syntax.specs.Trees as tree
-use Rattle.c_effects.specs.Letters.{Any, HasLetters, FullHasLetters, EffectHasLetters}
-use Rattle.c_model.specs.Pure.{IsPure, IsPureOrCall, IsEffect, IsEffectOrCall}
+use Rattle.c_effects.specs.Letters.{Any, ValueHasLetters, ActHasLetters}
 use Rattle.c_model.specs.EffectPlaces.{FirstPlaced, StatementPlaced, CasesPlaced, ElsePlaced, ItemsPlaced}
 use Rattle.instrument.proofs.RangedTrees.{AreRangedAsserts, nothing_declared}
 use Rattle.instrument.specs.Limits.{HasNumbers, CasesHaveNumbers, ElseHasNumbers, FirstHasNumbers, HaveNumbers}
-use Rattle.c_effects.specs.Expressions.{value_type, temporaries, setup, condition_of, before, one, set}
+use Rattle.c_effects.specs.Expressions.{value_type, before, one, set}
 use Rattle.annot_code.specs.Code.{assertions}
 use Rattle.annot_code.proofs.Asserted.{behind_grows}
 use Rattle.c_initialisers.specs.Translation.{declaration_temporaries}
-use Rattle.c_effects.specs.Effects.{full_temporaries, full_setup, full_value, effect_temporaries, any_temporaries, effect_if_any}
-use Rattle.c_effects.specs.Effects as effects
+use Rattle.c_initialisers.specs.Translation as initialisers
+use Rattle.c_effects.specs.Effects.{any_temporaries}
+use Rattle.c_effects.specs.Full.{act, act_takes, condition_result, prepare, result, takes}
 use Rattle.track_scopes.specs.Blocks.{entered, deaths, with_born}
 use Rattle.track_scopes.specs.Lives.{with_store}
-use Rattle.instrument.specs.Translation.{Spot, returned_temporaries, switch_temporaries, after_statement, after_cases, after_else, after_first, after_item, after_items, with_variables, test, test_if_any, search, others_in_block, statement}
-use Rattle.instrument.specs.Translation.{next_cases, blocks_of_cases, else_part, first_part, items, loop}
+use Rattle.instrument.specs.Translation.{Spot, returned_temporaries, switch_temporaries, after_statement, after_cases, after_else, after_first, after_item, after_items, with_variables, search, others_in_block, statement}
+use Rattle.instrument.specs.Translation.{test, test_if_any, act_if_any, next_cases, blocks_of_cases, else_part, first_part, items, loop}
 use Rattle.c_simulation.specs.Labels.{end_label, next_label}
 use Rattle.instrument.specs.Translation as target
 use Rattle.instrument.proofs.DeclarationCode.{next-entered}
@@ -55,14 +55,13 @@ use Rattle.c_simulation.proofs.Registers.{get-set_same, same_all, same_trans, sa
 use Rattle.c_simulation.specs.Reaching.{Reaches, Anything, Tested, Valued}
 use Rattle.c_simulation.proofs.Following.{later_same, passes_later, stays, follows_choice, follows_then}
 use Rattle.c_simulation.proofs.Evaluating.{set_runs}
-use Rattle.c_simulation.proofs.Reaching.{follows_before, follows_behind, reached_done, reached_follows, reached_here, reached_lower, test_reaches, test_runs}
+use Rattle.c_simulation.proofs.Reaching.{follows_before, follows_behind, reached_done, reached_follows, reached_here, test_runs}
 use Rattle.c_simulation.specs.Following.{IsResult, IsResultOf, Follows, Breaks, Continues, IsLeft}
 use Rattle.instrument.proofs.Births.{with_numbers, pointed_point, pointed_append, all_apart, behind_births}
 use Rattle.instrument.proofs.Blocks.{Meets, meets_after, meets_later, block_follows}
 use Rattle.instrument.proofs.Loops as loops
 use Rattle.instrument.proofs.Switches as switches
 use Rattle.instrument.proofs.Declared.{AreBorn, CanDeclare, CasesCanDeclare, ElseCanDeclare, ItemsCanDeclare, AreAbsent, meets_behind, meets_behind_items, more_kinds, statement_grows, cases_grow, else_grows, first_grows, items_grow}
-use Rattle.c_simulation.proofs.Expressions as expressions
 use Rattle.c_simulation.proofs.Expressions.{handed_on}
 use Rattle.c_model.specs.TypedAnnotations.{StatementNoted, CasesNoted, ElseNoted, ItemsNoted}
 use Rattle.c_simulation.specs.SameRegisters.{Same, Stays}
@@ -71,11 +70,9 @@ use Rattle.instrument.proofs.Scenes.{Scene, scene_inner, scene_with_all, scene_b
 use Rattle.interval_infer.specs.InSight.{AreFound}
 use Rattle.interval_infer.proofs.Sights.{DeclarationsFound, found_with_all, declarations_found-append}
 use Rattle.instrument.proofs.Sight.{scope_for, sees_found, sees_born, declared_born}
-use Rattle.instrument.proofs.Effects.{effect_reaches}
+use Rattle.instrument.proofs.Evaluations.{act_reached, condition_reached, value_reached}
 use Rattle.instrument.proofs.Asserts.{assertions_follow}
-use Rattle.instrument.proofs.FullExpressions.{full_reaches}
 use Rattle.instrument.proofs.Own.{AllCanBeBorn, AreThere, are_there}
-use Rattle.instrument.proofs.FullForms.{effect_or_call}
 
 there_front : (p : TranslationUnit) (a b : List Declaration) → AreThere p (a ++ b) → AreThere p a
 there_front p [] b h = tt
@@ -180,47 +177,41 @@ module _ (w : Setting) (n : ℕ) where
   nothing_reached : (h : Here) (spot : Spot) (low : ℕ) (bound : Bindings) (living : List ℕ) → ReachSame h spot low bound living state.done NoStatement
   nothing_reached h spot low bound living = λ regs from t m le. reached_here w low regs from t m.standing.bounded m.beside
 
-  effect_reached : (h : Here) (spot : Spot) (low : ℕ) (bound : Bindings) (living : List ℕ) (s : Sight) (g : Scene w n s) (rs : List MonType) (e : Expression) → IsEffectOrCall e → WellTyped s e → EffectHasLetters e → low ≤ length rs
-      → length (rs ++ effect_temporaries w.unit e) ≤ w.registers → ReachSame h spot low bound living (effect_with T (Some e) w.call) (effects.effect w.unit bound rs e)
-  effect_reached h spot low bound living s g rs e pure q l behind enough = λ regs from t m le.
-      reached_done w Anything low regs from (eval_with T e w.call from) (runs w n t (effects.effect w.unit bound rs e) regs)
-      (effect_reaches w n h s g low bound from t le rs behind regs m.standing m.beside e pure q l enough)
+  effect_reached : (h : Here) (spot : Spot) (low : ℕ) (bound : Bindings) (living : List ℕ) (s : Sight) (g : Scene w n s) (rs : List MonType) (e : Expression) → WellTyped s e → ActHasLetters e → low ≤ length rs
+      → length (rs ++ act_takes w.unit e) ≤ w.registers → ReachSame h spot low bound living (effect_with T (Some e) w.call) (act w.unit bound rs e)
+  effect_reached h spot low bound living s g rs e q l behind enough = λ regs from t m le.
+      reached_done w Anything low regs from (eval_with T e w.call from) (runs w n t (act w.unit bound rs e) regs)
+      (act_reached w n h s g low bound from t le rs behind regs m.standing m.beside e q l enough)
 
-  effect_does : (h : Here) (spot : Spot) (low : ℕ) (bound : Bindings) (living : List ℕ) (s : Sight) (g : Scene w n s) (rs : List MonType) (e : Expression) → IsEffectOrCall e → WellTyped s e → EffectHasLetters e → low ≤ length rs
-      → length (rs ++ effect_temporaries w.unit e) ≤ w.registers → DoSame h spot low bound living (effect_with T (Some e) w.call) (effects.effect w.unit bound rs e)
-  effect_does h spot low bound living s g rs e pure q l behind enough = λ regs from t m le.
-      reached_follows w h Anything low regs from (effect_with T (Some e) w.call from) (runs w n t (effects.effect w.unit bound rs e) regs) m.standing.kept
-      (effect_reached h spot low bound living s g rs e pure q l behind enough regs from t m le)
+  effect_does : (h : Here) (spot : Spot) (low : ℕ) (bound : Bindings) (living : List ℕ) (s : Sight) (g : Scene w n s) (rs : List MonType) (e : Expression) → WellTyped s e → ActHasLetters e → low ≤ length rs
+      → length (rs ++ act_takes w.unit e) ≤ w.registers → DoSame h spot low bound living (effect_with T (Some e) w.call) (act w.unit bound rs e)
+  effect_does h spot low bound living s g rs e q l behind enough = λ regs from t m le.
+      reached_follows w h Anything low regs from (effect_with T (Some e) w.call from) (runs w n t (act w.unit bound rs e) regs) m.standing.kept
+      (effect_reached h spot low bound living s g rs e q l behind enough regs from t m le)
 
-  effect_if_any_reached : (h : Here) (spot : Spot) (low : ℕ) (bound : Bindings) (living : List ℕ) (s : Sight) (g : Scene w n s) (rs : List MonType) (e : Option Expression) → WhereAny IsEffect e → WhereAny (WellTyped s) e
-      → Any EffectHasLetters e → low ≤ length rs → length (rs ++ any_temporaries (effect_temporaries w.unit) e) ≤ w.registers → ReachSame h spot low bound living (effect_with T e w.call) (effect_if_any w.unit bound rs e)
-  effect_if_any_reached h spot low bound living s g rs None pure q l behind enough = nothing_reached h spot low bound living
-  effect_if_any_reached h spot low bound living s g rs (Some e) pure q l behind enough = effect_reached h spot low bound living s g rs e (effect_or_call e pure) q l behind enough
+  effect_if_any_reached : (h : Here) (spot : Spot) (low : ℕ) (bound : Bindings) (living : List ℕ) (s : Sight) (g : Scene w n s) (rs : List MonType) (e : Option Expression) → WhereAny (WellTyped s) e
+      → Any ActHasLetters e → low ≤ length rs → length (rs ++ any_temporaries (act_takes w.unit) e) ≤ w.registers → ReachSame h spot low bound living (effect_with T e w.call) (act_if_any w.unit bound rs e)
+  effect_if_any_reached h spot low bound living s g rs None q l behind enough = nothing_reached h spot low bound living
+  effect_if_any_reached h spot low bound living s g rs (Some e) q l behind enough = effect_reached h spot low bound living s g rs e q l behind enough
 
   -- ---- conditions
 
-  condition_tested : (h : Here) (spot : Spot) (low : ℕ) (bound : Bindings) (living : List ℕ) (s : Sight) (g : Scene w n s) (rs : List MonType) (e : Expression) → IsPure e → IsCondition s e → HasLetters e → low ≤ length rs
-      → length (rs ++ temporaries e) ≤ w.registers → (regs : List Value) (from : State) (t : Target) → Meets w h spot low bound living regs from t → from.steps ≤ n
-      → Reaches w (Tested w (length (rs ++ temporaries e)) (condition_of w.unit bound rs e)) low regs from (source.condition_of T e w.call from) (runs w n t (setup w.unit bound rs e) regs)
-  condition_tested h spot low bound living s g rs e pure q l behind enough regs from t m le =
-      let high = length (rs ++ temporaries e) in
-      let c = condition_of w.unit bound rs e in
-      let r = source.condition_of T e w.call from in
-      let code = runs w n t (setup w.unit bound rs e) regs in
-      reached_lower w (Tested w high c) low (length rs) regs from r code behind
-      (test_reaches w from t r regs (length rs) high code c m.standing.bounded m.beside
-      (expressions.tests w n s g.knows bound from t m.beside.store_is m.standing.bounded low e q.scalar.scalar rs q.scalar.is pure q.typed l behind regs m.standing.anchored (omega (arith, enough, m.standing.registers))))
+  condition_tested : (h : Here) (spot : Spot) (low : ℕ) (bound : Bindings) (living : List ℕ) (s : Sight) (g : Scene w n s) (rs : List MonType) (e : Expression) → IsCondition s e → ValueHasLetters e → low ≤ length rs
+      → length (rs ++ takes w.unit e) ≤ w.registers → (regs : List Value) (from : State) (t : Target) → Meets w h spot low bound living regs from t → from.steps ≤ n
+      → Reaches w (Tested w (length (rs ++ takes w.unit e)) (condition_result w.unit bound rs e)) low regs from (source.condition_of T e w.call from) (runs w n t (prepare w.unit bound rs e) regs)
+  condition_tested h spot low bound living s g rs e q l behind enough regs from t m le =
+      condition_reached w n h s g low bound from t le rs behind regs m.standing m.beside e q.scalar.scalar q.scalar.is q.typed l enough
 
   -- `if`
   choice_does : (h : Here) (spot : Spot) (low : ℕ) (bound : Bindings) (living : List ℕ) (s : Sight) (g : Scene w n s) (rs : List MonType) (e : Expression) (x y : Evaluation (Unit {0})) (a b : MonStatements)
-      → IsPure e → IsCondition s e → HasLetters e
-      → low ≤ length rs → length (rs ++ temporaries e) ≤ w.registers → DoSame h spot low bound living x a → DoSame h spot low bound living y b
-      → DoSame h spot low bound living (λ s. on_outcome (source.condition_of T e w.call s) (λ v. source.choose v x y)) (before (setup w.unit bound rs e) (one (tree.If (condition_of w.unit bound rs e) a b)))
-  choice_does h spot low bound living s g rs e x y a b pure q l behind enough f k = λ regs from t m le.
-      let high = length (rs ++ temporaries e) in
-      let c = condition_of w.unit bound rs e in
-      follows_before w n h (Tested w high c) low regs Next from t (source.condition_of T e w.call from) (setup w.unit bound rs e) (one (tree.If c a b)) (λ v. source.choose v x y)
-      (condition_tested h spot low bound living s g rs e pure q l behind enough regs from t m le)
+      → IsCondition s e → ValueHasLetters e
+      → low ≤ length rs → length (rs ++ takes w.unit e) ≤ w.registers → DoSame h spot low bound living x a → DoSame h spot low bound living y b
+      → DoSame h spot low bound living (λ s. on_outcome (source.condition_of T e w.call s) (λ v. source.choose v x y)) (before (prepare w.unit bound rs e) (one (tree.If (condition_result w.unit bound rs e) a b)))
+  choice_does h spot low bound living s g rs e x y a b q l behind enough f k = λ regs from t m le.
+      let high = length (rs ++ takes w.unit e) in
+      let c = condition_result w.unit bound rs e in
+      follows_before w n h (Tested w high c) low regs Next from t (source.condition_of T e w.call from) (prepare w.unit bound rs e) (one (tree.If c a b)) (λ v. source.choose v x y)
+      (condition_tested h spot low bound living s g rs e q l behind enough regs from t m le)
       (λ v to after u o same later be test.
       let is = test_runs w n high c a b v after to u test in
       let m2 = meets_later w h spot low bound living regs after from to t u o same later be m in
@@ -230,17 +221,16 @@ module _ (w : Setting) (n : ℕ) where
 
   -- ---- `return`
 
-  returned_does : (h : Here) (spot : Spot) (low : ℕ) (living : List ℕ) (s : Sight) (g : Scene w n s) (r : RegisterTable) (e : Option Expression) → WhereAny IsPureOrCall e → Returned s h.result e → Any FullHasLetters e → low ≤ next_register r
-      → next_register (with_kinds (any_temporaries returned_temporaries e) r) ≤ w.registers → (at_place : Place) → DoSame h spot low r.bound living (exec_with T (Return at_place e) w.call (suc n)) (target.returned w.unit spot r e)
-  returned_does h spot low living s g r None pure q l behind enough place = λ regs from t m le.
+  returned_does : (h : Here) (spot : Spot) (low : ℕ) (living : List ℕ) (s : Sight) (g : Scene w n s) (r : RegisterTable) (e : Option Expression) → Returned s h.result e → Any ValueHasLetters e → low ≤ next_register r
+      → next_register (with_kinds (any_temporaries (returned_temporaries w.unit) e) r) ≤ w.registers → (at_place : Place) → DoSame h spot low r.bound living (exec_with T (Return at_place e) w.call (suc n)) (target.returned w.unit spot r e)
+  returned_does h spot low living s g r None q l behind enough place = λ regs from t m le.
       leave_follows w n h spot low r.bound living from regs t m None None (subst (λ k. IsResult k None) (sym q) tt) (λ u. one_is w.globals (tree.Return None) w.calls n regs u)
-  returned_does h spot low living s g r (Some e) pure q l behind enough place = λ regs from t m le.
-      follows_before w n h (Valued w k last v_code) low regs Next from t (eval_with T e w.call from) (full_setup w.unit r.bound r.kinds e) rest (λ v. stop (Leaves (Returns (Some v))))
-      (reached_lower w (Valued w k last v_code) low (length r.kinds) regs from (eval_with T e w.call from) (runs w n t (full_setup w.unit r.bound r.kinds e) regs) behind
-      (full_reaches w n h s g low r.bound from t le r.kinds behind regs m.standing m.beside e k (ap scalar_of q.ctype ∙ q.scalar.is) pure q.typed l (omega (arith, enough, long))))
+  returned_does h spot low living s g r (Some e) q l behind enough place = λ regs from t m le.
+      follows_before w n h (Valued w k last v_code) low regs Next from t (eval_with T e w.call from) (prepare w.unit r.bound r.kinds e) rest (λ v. stop (Leaves (Returns (Some v))))
+      (value_reached w n h s g low r.bound from t le r.kinds behind regs m.standing m.beside e k (ap scalar_of q.ctype ∙ q.scalar.is) q.typed l (omega (arith, enough, long)))
       (λ v to after u o same later be has.
       let taken = slice_set after last v in
-      let changed : Same low after taken = same_set low last after v (omega (arith, behind, longer r.kinds (full_temporaries e))) in
+      let changed : Same low after taken = same_set low last after v (omega (arith, behind, longer r.kinds (takes w.unit e))) in
       let there : slice_get taken last ≡ Some v = get-set_same after last v (omega (arith, same.long, m.standing.registers, enough, long)) in
       follows_behind w n h low after taken Next to u (Stop (Leaves (Returns (Some v))) to) (set last v_code) leaves later.bounded changed (set_runs w n u last v_code after v (has.1 after (same_all last after)))
       (leave_follows w n h spot low r.bound living to taken u (meets_later w h spot low r.bound living regs taken from to t u o (same_trans low low regs after taken (omega arith) same changed) later be m) (Some v)
@@ -251,13 +241,13 @@ module _ (w : Setting) (n : ℕ) where
       k = q.scalar.scalar
 
       last : ℕ
-      last = length (r.kinds ++ full_temporaries e)
+      last = length (r.kinds ++ takes w.unit e)
 
-      long : length (r.kinds ++ (full_temporaries e ++ value_type (type_of e) ∷ [])) ≡ suc last
-      long = omega (arith, length-append r.kinds (full_temporaries e ++ value_type (type_of e) ∷ []), length-append (full_temporaries e) (value_type (type_of e) ∷ []), length-append r.kinds (full_temporaries e))
+      long : length (r.kinds ++ (takes w.unit e ++ value_type (type_of e) ∷ [])) ≡ suc last
+      long = omega (arith, length-append r.kinds (takes w.unit e ++ value_type (type_of e) ∷ []), length-append (takes w.unit e) (value_type (type_of e) ∷ []), length-append r.kinds (takes w.unit e))
 
       v_code : MonExpression
-      v_code = full_value w.unit r.bound r.kinds e
+      v_code = result w.unit r.bound r.kinds e
 
       leaves : MonStatements
       leaves = before (deaths (target.all_live spot)) (one (tree.Return (Some (tree.Register last))))
@@ -268,19 +258,19 @@ module _ (w : Setting) (n : ℕ) where
   -- ---- `switch`
 
   -- what is behind the word is computed, the case is searched, and the items are done by this code
-  switch_does : (h : Here) (spot : Spot) (low : ℕ) (living : List ℕ) (s : Sight) (g : Scene w n s) (r : RegisterTable) (e : Expression) (cs : Cases) (k : CInt) → IsPureOrCall e → WellTyped s e → type_of e ≡ Int k → FullHasLetters e
-      → low ≤ next_register r → length (r.kinds ++ returned_temporaries e) ≡ suc (length (r.kinds ++ full_temporaries e)) → suc (suc (length (r.kinds ++ full_temporaries e))) ≤ w.registers → (a : MonStatements)
-      → ((base c : ℕ) → switches.CasesDo w n (switches.in_items w h base (spot.levels + 1)) (target.in_switch spot) (suc (suc (length (r.kinds ++ full_temporaries e)))) living (length (r.kinds ++ returned_temporaries e)) c r.bound
+  switch_does : (h : Here) (spot : Spot) (low : ℕ) (living : List ℕ) (s : Sight) (g : Scene w n s) (r : RegisterTable) (e : Expression) (cs : Cases) (k : CInt) → WellTyped s e → type_of e ≡ Int k → ValueHasLetters e
+      → low ≤ next_register r → length (r.kinds ++ returned_temporaries w.unit e) ≡ suc (length (r.kinds ++ takes w.unit e)) → suc (suc (length (r.kinds ++ takes w.unit e))) ≤ w.registers → (a : MonStatements)
+      → ((base c : ℕ) → switches.CasesDo w n (switches.in_items w h base (spot.levels + 1)) (target.in_switch spot) (suc (suc (length (r.kinds ++ takes w.unit e)))) living (length (r.kinds ++ returned_temporaries w.unit e)) c r.bound
       (cases_with T cs w.call (suc n) c) a)
       → (at_place : Place) → DoSame h spot low r.bound living (exec_with T (Switch at_place e cs) w.call (suc n))
-      (before (full_setup w.unit r.bound r.kinds e) (before (set (length (r.kinds ++ full_temporaries e)) (full_value w.unit r.bound r.kinds e))
-      (before (search (spot.levels + 1) (value_type (type_of e)) (length (r.kinds ++ full_temporaries e)) (length (r.kinds ++ returned_temporaries e)) cs) (one (tree.Labelled a (end_label (spot.levels + 1)))))))
-  switch_does h spot low living s g r e cs k pure q type l behind long enough a does place =
-      let v = length (r.kinds ++ full_temporaries e) in
-      let setup_code = full_setup w.unit r.bound r.kinds e in
-      let code = full_value w.unit r.bound r.kinds e in
+      (before (prepare w.unit r.bound r.kinds e) (before (set (length (r.kinds ++ takes w.unit e)) (result w.unit r.bound r.kinds e))
+      (before (search (spot.levels + 1) (value_type (type_of e)) (length (r.kinds ++ takes w.unit e)) (length (r.kinds ++ returned_temporaries w.unit e)) cs) (one (tree.Labelled a (end_label (spot.levels + 1)))))))
+  switch_does h spot low living s g r e cs k q type l behind long enough a does place =
+      let v = length (r.kinds ++ takes w.unit e) in
+      let setup_code = prepare w.unit r.bound r.kinds e in
+      let code = result w.unit r.bound r.kinds e in
       let levels = spot.levels + 1 in
-      let f2 = longer r.kinds (full_temporaries e) in
+      let f2 = longer r.kinds (takes w.unit e) in
       subst (λ j. ((base c : ℕ) → switches.CasesDo w n (switches.in_items w h base levels) (target.in_switch spot) (suc (suc v)) living j c r.bound (cases_with T cs w.call (suc n) c) a)
       → DoSame h spot low r.bound living (exec_with T (Switch place e cs) w.call (suc n)) (before setup_code (before (set v code) (before (search levels (value_type (type_of e)) v j cs) (one (tree.Labelled a (end_label levels)))))))
       (sym long)
@@ -288,8 +278,7 @@ module _ (w : Setting) (n : ℕ) where
       → DoSame h spot low r.bound living (exec_with T (Switch place e cs) w.call (suc n)) (before setup_code (before (set v code) (before (search levels (value_type t) v (suc v) cs) (one (tree.Labelled a (end_label levels)))))))
       (sym type)
       (switches.switch_follows w n h spot low r.bound living k (eval_with T e w.call) setup_code code v
-      (λ regs from t m le. reached_lower w (Valued w (IntegerType k) v code) low (length r.kinds) regs from (eval_with T e w.call from) (runs w n t setup_code regs) behind
-      (full_reaches w n h s g low r.bound from t le r.kinds behind regs m.standing m.beside e (IntegerType k) (ap scalar_of type) pure q l (omega (arith, enough, m.standing.registers))))
+      (λ regs from t m le. value_reached w n h s g low r.bound from t le r.kinds behind regs m.standing m.beside e (IntegerType k) (ap scalar_of type) q l (omega (arith, enough, m.standing.registers)))
       cs (cases_with T cs w.call (suc n)) a (omega (arith, behind, f2)) enough))
       does
 
@@ -308,37 +297,37 @@ module _ (w : Setting) (n : ℕ) where
   abbrev for_turns : Option Expression → Option Expression → Statement → Evaluation (Unit {0})
   for_turns e step a = turns (suc n) (condition_with T e w.call) (turn_with None (exec_with T a w.call (suc n)) (effect_with T step w.call))
 
-  test_if_any_does : (h : Here) (base : ℕ) (spot : Spot) (low : ℕ) (living : List ℕ) (s : Sight) (g : Scene w n s) (r : RegisterTable) (e : Option Expression) → WhereAny IsPure e → WhereAny (IsCondition s) e → Any HasLetters e
-      → low ≤ next_register r → next_register (with_kinds (any_temporaries temporaries e) r) ≤ w.registers
+  test_if_any_does : (h : Here) (base : ℕ) (spot : Spot) (low : ℕ) (living : List ℕ) (s : Sight) (g : Scene w n s) (r : RegisterTable) (e : Option Expression) → WhereAny (IsCondition s) e → Any ValueHasLetters e
+      → low ≤ next_register r → next_register (with_kinds (any_temporaries (takes w.unit) e) r) ≤ w.registers
       → loops.Tests w h base spot low r.bound living n (condition_with T e w.call) (test_if_any w.unit r.bound r.kinds (spot.levels + 1) e)
-  test_if_any_does h base spot low living s g r None pure q l behind enough = loops.no_test w h base spot low r.bound living n
-  test_if_any_does h base spot low living s g r (Some e) pure q l behind enough =
-      loops.tests w h base spot low r.bound living n (source.condition_of T e w.call) (setup w.unit r.bound r.kinds e) (condition_of w.unit r.bound r.kinds e) (length (r.kinds ++ temporaries e))
-      (λ regs from t m le. condition_tested (loops.in_turn w h base spot low r.bound living n) (target.in_loop spot) low r.bound living s g r.kinds e pure q l behind enough regs from t m le)
+  test_if_any_does h base spot low living s g r None q l behind enough = loops.no_test w h base spot low r.bound living n
+  test_if_any_does h base spot low living s g r (Some e) q l behind enough =
+      loops.tests w h base spot low r.bound living n (source.condition_of T e w.call) (prepare w.unit r.bound r.kinds e) (condition_result w.unit r.bound r.kinds e) (length (r.kinds ++ takes w.unit e))
+      (λ regs from t m le. condition_tested (loops.in_turn w h base spot low r.bound living n) (target.in_loop spot) low r.bound living s g r.kinds e q l behind enough regs from t m le)
 
   abbrev BodyDoes : Here → Spot → ℕ → RegisterTable → List ℕ → Statement → Type 0
   BodyDoes h spot low r living a =
       (base : ℕ) → DoSame (loops.in_body w h base spot low r.bound living n) (target.in_loop spot) low r.bound living (exec_with T a w.call (suc n)) (statement w.unit (target.in_loop spot) r a)
 
-  for_does : (h : Here) (spot : Spot) (low : ℕ) (living : List ℕ) (s : Sight) (g : Scene w n s) (r : RegisterTable) (e step : Option Expression) (a : Statement) → WhereAny IsPure e → WhereAny (IsCondition s) e → Any HasLetters e
-      → WhereAny IsEffect step → WhereAny (WellTyped s) step → Any EffectHasLetters step → AreAbsent living (declared_within a) → low ≤ next_register r
-      → next_register (with_kinds (any_temporaries (effect_temporaries w.unit) step) (after_statement w.unit a (with_kinds (any_temporaries temporaries e) r))) ≤ w.registers
-      → BodyDoes h spot low (with_kinds (any_temporaries temporaries e) r) living a
-      → DoSame h spot low r.bound living (for_turns e step a) (target.for_turns w.unit (spot.levels + 1) r (after_statement w.unit a (with_kinds (any_temporaries temporaries e) r)) e step
-      (statement w.unit (target.in_loop spot) (with_kinds (any_temporaries temporaries e) r) a))
-  for_does h spot low living s g r e step a e_full e_typed e_letters step_full step_typed step_letters absent behind enough body = λ regs from t m le.
-      let r2 = with_kinds (any_temporaries temporaries e) r in
+  for_does : (h : Here) (spot : Spot) (low : ℕ) (living : List ℕ) (s : Sight) (g : Scene w n s) (r : RegisterTable) (e step : Option Expression) (a : Statement) → WhereAny (IsCondition s) e → Any ValueHasLetters e
+      → WhereAny (WellTyped s) step → Any ActHasLetters step → AreAbsent living (declared_within a) → low ≤ next_register r
+      → next_register (with_kinds (any_temporaries (act_takes w.unit) step) (after_statement w.unit a (with_kinds (any_temporaries (takes w.unit) e) r))) ≤ w.registers
+      → BodyDoes h spot low (with_kinds (any_temporaries (takes w.unit) e) r) living a
+      → DoSame h spot low r.bound living (for_turns e step a) (target.for_turns w.unit (spot.levels + 1) r (after_statement w.unit a (with_kinds (any_temporaries (takes w.unit) e) r)) e step
+      (statement w.unit (target.in_loop spot) (with_kinds (any_temporaries (takes w.unit) e) r) a))
+  for_does h spot low living s g r e step a e_typed e_letters step_typed step_letters absent behind enough body = λ regs from t m le.
+      let r2 = with_kinds (any_temporaries (takes w.unit) e) r in
       let r3 = after_statement w.unit a r2 in
       let base = length from.store in
-      let f1 = more_kinds (any_temporaries temporaries e) r in
+      let f1 = more_kinds (any_temporaries (takes w.unit) e) r in
       let f2 = statement_grows w.unit a r2 in
-      let f3 = more_kinds (any_temporaries (effect_temporaries w.unit) step) r3 in
+      let f3 = more_kinds (any_temporaries (act_takes w.unit) step) r3 in
       let here = loops.in_turn w h base spot low r.bound living n in
-      loops.loop_follows w h base spot low r.bound living n from _ regs t (test_if_any w.unit r.bound r.kinds (spot.levels + 1) e) (statement w.unit (target.in_loop spot) r2 a) (effect_if_any w.unit r3.bound r3.kinds step)
+      loops.loop_follows w h base spot low r.bound living n from _ regs t (test_if_any w.unit r.bound r.kinds (spot.levels + 1) e) (statement w.unit (target.in_loop spot) r2 a) (act_if_any w.unit r3.bound r3.kinds step)
       (loops.turns_follow w h base spot low r.bound living n (condition_with T e w.call) (exec_with T a w.call (suc n)) (statement w.unit (target.in_loop spot) r2 a) (body base)
-      (test_if_any w.unit r.bound r.kinds (spot.levels + 1) e) (test_if_any_does h base spot low living s g r e e_full e_typed e_letters behind (omega (arith, enough, f2, f3)))
-      (effect_with T step w.call) (effect_if_any w.unit r3.bound r3.kinds step)
-      (λ regs from t m le. effect_if_any_reached here (target.in_loop spot) low r3.bound living s g r3.kinds step step_full step_typed step_letters (omega (arith, behind, f1, f2)) enough regs from t
+      (test_if_any w.unit r.bound r.kinds (spot.levels + 1) e) (test_if_any_does h base spot low living s g r e e_typed e_letters behind (omega (arith, enough, f2, f3)))
+      (effect_with T step w.call) (act_if_any w.unit r3.bound r3.kinds step)
+      (λ regs from t m le. effect_if_any_reached here (target.in_loop spot) low r3.bound living s g r3.kinds step step_typed step_letters (omega (arith, behind, f1, f2)) enough regs from t
       (meets_behind w here (target.in_loop spot) low a r2 living regs from t absent m) le)
       n regs from t (loops.meets_turn w h base spot low r.bound living n regs from t refl m) le le)
 
@@ -349,34 +338,34 @@ module _ (w : Setting) (n : ℕ) where
       → DoSame h spot low r.bound living (first_with T first w.call (suc n) >> x) (before (first_part w.unit spot r first) code)
   first_then NoFirst local h spot low living s g around r x code f q l behind enough go = go
   first_then (First (Run (Eval at e))) local h spot low living s g around r x code f q l behind enough go =
-      in_order_same h spot low r.bound living (effect_with T (Some e) w.call) x (effects.effect w.unit r.bound r.kinds e) code (effect_does h spot low r.bound living s g r.kinds e f q l behind enough) go
+      in_order_same h spot low r.bound living (effect_with T (Some e) w.call) x (act w.unit r.bound r.kinds e) code (effect_does h spot low r.bound living s g r.kinds e q l behind enough) go
   first_then (First (Declare ds)) local h spot low living s g around r x code f q l behind enough go =
-      in_order_same h spot low r.bound living (initialise_all T ds w.call) x (effects.initialise_all w.unit r.bound r.kinds ds) code
-      (λ regs from t m le. reached_follows w h Anything low regs from (initialise_all T ds w.call from) (runs w n t (effects.initialise_all w.unit r.bound r.kinds ds) regs) m.standing.kept
-      (initials_reach w n h low r.bound ds s g local f q l r.kinds behind enough regs from t le m.standing m.beside)) go
+      in_order_same h spot low r.bound living (initialise_all T ds w.call) x (initialisers.initialise_all w.unit r.bound r.kinds ds) code
+      (λ regs from t m le. reached_follows w h Anything low regs from (initialise_all T ds w.call from) (runs w n t (initialisers.initialise_all w.unit r.bound r.kinds ds) regs) m.standing.kept
+      (initials_reach w n h low r.bound ds s g local q l r.kinds behind enough regs from t le m.standing m.beside)) go
   first_then (First (Specify at t)) local h spot low living s g around r x code f q l behind enough go = go
   first_then _ local h spot low living s g around r x code f q l behind enough go = absurd f
 
   for_follows : (at : Place) (first : ForFirst) (s : Sight) (g : Scene w n s) (around : Around) (h : Here) (spot : Spot) (low : ℕ) (r : RegisterTable) (living : List ℕ) (e step : Option Expression) (a : Statement)
       → AreBorn w.unit (declared_first first) → AreAbsent (with_numbers (declared_first first) living) (declared_within a) → FirstPlaced first → FirstTyped (inner s) around first → FirstHasNumbers first
-      → WhereAny IsPure e → WhereAny (IsCondition (behind_first (inner s) first)) e → Any HasLetters e → WhereAny IsEffect step → WhereAny (WellTyped (behind_first (inner s) first)) step → Any EffectHasLetters step
+      → WhereAny (IsCondition (behind_first (inner s) first)) e → Any ValueHasLetters e → WhereAny (WellTyped (behind_first (inner s) first)) step → Any ActHasLetters step
       → low ≤ next_register r → next_register (after_statement w.unit (For at [] first e step a) r) ≤ w.registers
       → ((old : State) → BodyDoes (behind_births w.unit.structs h old (declared_first first)) (with_variables (next_register r) (declared_first first) spot) (next_register r + length (declared_first first))
-      (with_kinds (any_temporaries temporaries e) (after_first w.unit first (entered (declared_first first) r))) (with_numbers (declared_first first) living) a)
+      (with_kinds (any_temporaries (takes w.unit) e) (after_first w.unit first (entered (declared_first first) r))) (with_numbers (declared_first first) living) a)
       → DoSame h spot low r.bound living (exec_with T (For at [] first e step a) w.call (suc n)) (statement w.unit spot r (For at [] first e step a))
-  for_follows at first s g around h spot low r living e step a born absent f_formed f_typed f_letters e_full e_typed e_letters step_full step_typed step_letters behind enough body = λ regs from t m le.
+  for_follows at first s g around h spot low r living e step a born absent f_formed f_typed f_letters e_typed e_letters step_typed step_letters behind enough body = λ regs from t m le.
       let ds = declared_first first in
       let r1 = entered ds r in
       let r2 = after_first w.unit first r1 in
-      let r3 = with_kinds (any_temporaries temporaries e) r2 in
+      let r3 = with_kinds (any_temporaries (takes w.unit) e) r2 in
       let r4 = after_statement w.unit a r3 in
       let spot2 = with_variables (next_register r) ds spot in
       let low2 = next_register r + length ds in
       let f0 = next-entered ds r in
       let f1 = first_grows w.unit first r1 in
-      let f2 = more_kinds (any_temporaries temporaries e) r2 in
+      let f2 = more_kinds (any_temporaries (takes w.unit) e) r2 in
       let f3 = statement_grows w.unit a r3 in
-      let f4 = more_kinds (any_temporaries (effect_temporaries w.unit) step) r4 in
+      let f4 = more_kinds (any_temporaries (act_takes w.unit) step) r4 in
       let turns_of = for_turns e step a in
       let code = target.for_turns w.unit (spot.levels + 1) r2 r4 e step (statement w.unit (target.in_loop spot2) r3 a) in
       subst (λ x. Follows w h low regs Next from (restored from x) (runs w n t (target.alive w.unit (next_register r) ds (before (first_part w.unit spot2 r1 first) code)) regs))
@@ -385,7 +374,7 @@ module _ (w : Setting) (n : ℕ) where
       (λ old room. first_then first (are_there w.unit ds born.local room) (behind_births w.unit.structs h old ds) spot2 low2 (with_numbers ds living) (inner s) (scene_inner w n s g) around r1 turns_of code f_formed f_typed f_letters
       (omega (arith, f0)) (omega (arith, enough, f2, f3, f4))
       (for_does (behind_births w.unit.structs h old ds) spot2 low2 (with_numbers ds living) (behind_first (inner s) first) (scene_behind_first w n (inner s) first (scene_inner w n s g)) r2 e step a
-      e_full e_typed e_letters step_full step_typed step_letters absent (omega (arith, f0, f1)) enough (body old)))
+      e_typed e_letters step_typed step_letters absent (omega (arith, f0, f1)) enough (body old)))
       regs from t m le)
 
   -- a part that stands after a statement in the code, though not in a run
@@ -410,7 +399,7 @@ module _ (w : Setting) (n : ℕ) where
         → CanDeclare w.unit living a → StatementPlaced AreRangedAsserts a → StatementTyped s around a → StatementNoted s a → HasNumbers a → low ≤ next_register r → next_register (after_statement w.unit a r) ≤ w.registers
         → DoSame h spot low r.bound living (exec_with T a w.call (suc n)) (statement w.unit spot r a)
     statement_follows (Empty at) s around h spot low r living stands g sees result looped c f q m l behind enough = nothing_does h spot low r.bound living
-    statement_follows (Eval at e) s around h spot low r living stands g sees result looped c f q m l behind enough = effect_does h spot low r.bound living s g r.kinds e f q l behind enough
+    statement_follows (Eval at e) s around h spot low r living stands g sees result looped c f q m l behind enough = effect_does h spot low r.bound living s g r.kinds e q l behind enough
     statement_follows (Block at body) s around h spot low r living stands g sees result looped c f q m l behind enough =
         let ds = declared_in body in
         let f0 = next-entered ds r in
@@ -420,25 +409,25 @@ module _ (w : Setting) (n : ℕ) where
         stands (scene_inner w n s g) (sees_born s.entities ds living sees) (declared_born ds living) (are_there w.unit ds c.0.local room) result looped
         c.1 f q m l (omega (arith, f0)) enough)
     statement_follows (If at e a b) s around h spot low r living stands g sees result looped c f q m l behind enough =
-        let r1 = with_kinds (temporaries e) r in
+        let r1 = with_kinds (takes w.unit e) r in
         let r2 = after_statement w.unit a r1 in
-        let f1 = more_kinds (temporaries e) r in
+        let f1 = more_kinds (takes w.unit e) r in
         let f2 = statement_grows w.unit a r1 in
         let f3 = else_grows w.unit b r2 in
-        choice_does h spot low r.bound living s g r.kinds e (exec_with T a w.call (suc n)) (else_with T b w.call (suc n)) (statement w.unit spot r1 a) (else_part w.unit spot r2 b) f.0 q.0 l.0 behind (omega (arith, enough, f2, f3))
+        choice_does h spot low r.bound living s g r.kinds e (exec_with T a w.call (suc n)) (else_with T b w.call (suc n)) (statement w.unit spot r1 a) (else_part w.unit spot r2 b) q.0 l.0 behind (omega (arith, enough, f2, f3))
         (statement_follows a s around h spot low r1 living stands g sees result looped c.1 f.1 q.1 m.0 l.1 (omega (arith, behind, f1)) (omega (arith, enough, f3)))
         (behind_first_part a h spot low r1 living (else_with T b w.call (suc n)) (else_part w.unit spot r2 b) c.0
         (else_follows b s around h spot low r2 living stands g sees result looped c.2 f.2 q.2 m.1 l.2 (omega (arith, behind, f1, f2)) enough))
     statement_follows (While at annots e a) s around h spot low r living stands g sees result looped c f q m l behind enough = λ regs from t x le.
-        let r1 = with_kinds (temporaries e) r in
+        let r1 = with_kinds (takes w.unit e) r in
         let k = spot.levels + 1 in
         let base = length from.store in
         let here = loops.in_body w h base spot low r.bound living n in
         subst (λ xs. Follows w h low regs Next from (exec_with T (While at xs e a) w.call (suc n) from) (runs w n t (statement w.unit spot r (While at [] e a)) regs)) (sym f.0)
         (loops.loop_follows w h base spot low r.bound living n from _ regs t (test w.unit r.bound r.kinds k e) (statement w.unit (target.in_loop spot) r1 a) NoStatement
         (loops.turns_follow w h base spot low r.bound living n (source.condition_of T e w.call) (exec_with T a w.call (suc n)) (statement w.unit (target.in_loop spot) r1 a)
-        (statement_follows a s (in_loop around) here (target.in_loop spot) low r1 living (refl, refl) g sees result (refl, refl) c f.2 q.1 m.1 l.1 (omega (arith, behind, more_kinds (temporaries e) r)) enough)
-        (test w.unit r.bound r.kinds k e) (test_if_any_does h base spot low living s g r (Some e) f.1 q.0 l.0 behind (omega (arith, enough, statement_grows w.unit a r1)))
+        (statement_follows a s (in_loop around) here (target.in_loop spot) low r1 living (refl, refl) g sees result (refl, refl) c f.2 q.1 m.1 l.1 (omega (arith, behind, more_kinds (takes w.unit e) r)) enough)
+        (test w.unit r.bound r.kinds k e) (test_if_any_does h base spot low living s g r (Some e) q.0 l.0 behind (omega (arith, enough, statement_grows w.unit a r1)))
         state.done NoStatement (nothing_reached (loops.in_turn w h base spot low r.bound living n) (target.in_loop spot) low r.bound living)
         n regs from t (loops.meets_turn w h base spot low r.bound living n regs from t refl x) le le))
     statement_follows (Do at a e) s around h spot low r living stands g sees result looped c f q m l behind enough = λ regs from t x le.
@@ -449,45 +438,45 @@ module _ (w : Setting) (n : ℕ) where
         let there = loops.in_turn w h base spot low r.bound living n in
         loops.loop_follows w h base spot low r.bound living n from _ regs t NoStatement (statement w.unit (target.in_loop spot) r a) (test w.unit r1.bound r1.kinds k e)
         (loops.do_turns_follow w h base spot low r.bound living n (source.condition_of T e w.call) (exec_with T a w.call (suc n)) (statement w.unit (target.in_loop spot) r a)
-        (statement_follows a s (in_loop around) here (target.in_loop spot) low r living (refl, refl) g sees result (refl, refl) c.1 f.0 q.0 m l.0 behind (omega (arith, enough, more_kinds (temporaries e) r1)))
+        (statement_follows a s (in_loop around) here (target.in_loop spot) low r living (refl, refl) g sees result (refl, refl) c.1 f.0 q.0 m l.0 behind (omega (arith, enough, more_kinds (takes w.unit e) r1)))
         (test w.unit r1.bound r1.kinds k e)
-        (loops.tests w h base spot low r.bound living n (source.condition_of T e w.call) (setup w.unit r1.bound r1.kinds e) (condition_of w.unit r1.bound r1.kinds e) (length (r1.kinds ++ temporaries e))
-        (λ regs from t m le. condition_tested there (target.in_loop spot) low r1.bound living s g r1.kinds e f.1 q.1 l.1 (omega (arith, behind, statement_grows w.unit a r)) enough regs from t
+        (loops.tests w h base spot low r.bound living n (source.condition_of T e w.call) (prepare w.unit r1.bound r1.kinds e) (condition_result w.unit r1.bound r1.kinds e) (length (r1.kinds ++ takes w.unit e))
+        (λ regs from t m le. condition_tested there (target.in_loop spot) low r1.bound living s g r1.kinds e q.1 l.1 (omega (arith, behind, statement_grows w.unit a r)) enough regs from t
         (meets_behind w there (target.in_loop spot) low a r living regs from t c.0 m) le))
         n regs from t (loops.meets_turn w h base spot low r.bound living n regs from t refl x) le le)
     statement_follows (For at annots first e step a) s around h spot low r living stands g sees result looped c f q m l behind enough =
         let ds = declared_first first in
         let r1 = entered ds r in
         let r2 = after_first w.unit first r1 in
-        let r3 = with_kinds (any_temporaries temporaries e) r2 in
+        let r3 = with_kinds (any_temporaries (takes w.unit) e) r2 in
         let f0 = next-entered ds r in
         let f1 = first_grows w.unit first r1 in
-        let f2 = more_kinds (any_temporaries temporaries e) r2 in
-        let f4 = more_kinds (any_temporaries (effect_temporaries w.unit) step) (after_statement w.unit a r3) in
+        let f2 = more_kinds (any_temporaries (takes w.unit) e) r2 in
+        let f4 = more_kinds (any_temporaries (act_takes w.unit) step) (after_statement w.unit a r3) in
         let spot2 = with_variables (next_register r) ds spot in
         let low2 = next_register r + length ds in
         subst (λ xs. DoSame h spot low r.bound living (exec_with T (For at xs first e step a) w.call (suc n)) (statement w.unit spot r (For at [] first e step a))) (sym f.0)
-        (for_follows at first s g around h spot low r living e step a c.0 c.1 f.1 q.0 l.0 f.2 q.1 l.1 f.3 q.2 l.3 behind enough (λ old base.
+        (for_follows at first s g around h spot low r living e step a c.0 c.1 f.1 q.0 l.0 q.1 l.1 q.2 l.3 behind enough (λ old base.
         statement_follows a (behind_first (inner s) first) (in_loop around) (loops.in_body w (behind_births w.unit.structs h old ds) base spot2 low2 r3.bound (with_numbers ds living) n) (target.in_loop spot2) low2 r3 (with_numbers ds living)
         (refl, refl) (scene_behind_first w n (inner s) first (scene_inner w n s g)) (sees_first first s living sees) result (refl, refl) c.2 f.4 q.3 m.1 l.2 (omega (arith, f0, f1, f2)) (omega (arith, enough, f4))))
     statement_follows (Break at) s around h spot low r living stands g sees result looped c f q m l behind enough = λ regs from t x le. break_follows w n h spot low r.bound living from regs t x stands.0 (sym looped.1 ∙ q)
     statement_follows (Continue at) s around h spot low r living stands g sees result looped c f q m l behind enough = λ regs from t x le. continue_follows w n h spot low r.bound living from regs t x stands.1 (sym looped.0 ∙ q)
-    statement_follows (Return at e) s around h spot low r living stands g sees result looped c f q m l behind enough = returned_does h spot low living s g r e f (subst (λ k. Returned s k e) result q) l behind enough at
+    statement_follows (Return at e) s around h spot low r living stands g sees result looped c f q m l behind enough = returned_does h spot low living s g r e (subst (λ k. Returned s k e) result q) l behind enough at
     statement_follows (Labelled at x a) s around h spot low r living stands g sees result looped c f q m l behind enough = absurd f
     statement_follows (Switch at e cases) s around h spot low r living stands g sees result looped c f q m l behind enough =
-        let taken = with_kinds (switch_temporaries e) r in
-        let v = length (r.kinds ++ full_temporaries e) in
+        let taken = with_kinds (switch_temporaries w.unit e) r in
+        let v = length (r.kinds ++ takes w.unit e) in
         let f1 = cases_grow w.unit cases taken in
-        let long1 = length-append (r.kinds ++ full_temporaries e) (value_type (type_of e) ∷ []) in
-        let long2 = length-append (r.kinds ++ returned_temporaries e) (U64 ∷ []) in
-        let long3 : length (r.kinds ++ returned_temporaries e) ≡ suc v = ap length (sym (append_assoc r.kinds (full_temporaries e) (value_type (type_of e) ∷ []))) ∙ long1 ∙ omega arith in
-        let long4 : next_register taken ≡ suc (suc v) = ap length (sym (append_assoc r.kinds (returned_temporaries e) (U64 ∷ []))) ∙ long2 ∙ omega (arith, long3) in
-        let f2 = longer r.kinds (full_temporaries e) in
-        switch_does h spot low living s g r e cases (promoted q.0) f.0 q.1 q.2 l.0 behind long3 (omega (arith, enough, long4, f1))
-        (blocks_of_cases w.unit (target.in_switch spot) taken (length (r.kinds ++ returned_temporaries e)) 0 0 cases)
+        let long1 = length-append (r.kinds ++ takes w.unit e) (value_type (type_of e) ∷ []) in
+        let long2 = length-append (r.kinds ++ returned_temporaries w.unit e) (U64 ∷ []) in
+        let long3 : length (r.kinds ++ returned_temporaries w.unit e) ≡ suc v = ap length (sym (append_assoc r.kinds (takes w.unit e) (value_type (type_of e) ∷ []))) ∙ long1 ∙ omega arith in
+        let long4 : next_register taken ≡ suc (suc v) = ap length (sym (append_assoc r.kinds (returned_temporaries w.unit e) (U64 ∷ []))) ∙ long2 ∙ omega (arith, long3) in
+        let f2 = longer r.kinds (takes w.unit e) in
+        switch_does h spot low living s g r e cases (promoted q.0) q.1 q.2 l.0 behind long3 (omega (arith, enough, long4, f1))
+        (blocks_of_cases w.unit (target.in_switch spot) taken (length (r.kinds ++ returned_temporaries w.unit e)) 0 0 cases)
         (λ base chosen.
         let inside = switches.in_items w h base (spot.levels + 1) in
-        let j = length (r.kinds ++ returned_temporaries e) in
+        let j = length (r.kinds ++ returned_temporaries w.unit e) in
         subst (λ b. switches.CasesDo w n inside (target.in_switch spot) (suc (suc v)) living j chosen r.bound (cases_with T cases w.call (suc n) chosen) (before b (blocks_of_cases w.unit (target.in_switch spot) taken j 0 0 cases)))
         (switches.none_begun w.unit (target.in_switch spot) taken j 0 cases)
         (cases_follow cases s (in_switch around) inside (target.in_switch spot) (suc (suc v)) taken living j chosen (omega (arith, long3)) (promoted q.0) 0 0 chosen
@@ -544,12 +533,12 @@ module _ (w : Setting) (n : ℕ) where
         → DoSame h spot low r.bound living (items_with T is w.call (suc n)) (items w.unit spot r is)
     items_follow NoItem s around h spot low r living stands g sees have local result looped c f q m l behind enough = nothing_does h spot low r.bound living
     items_follow (Then (Declare ds) rest) s around h spot low r living stands g sees have local result looped c f q m l behind enough =
-        let r1 = with_kinds (declaration_temporaries ds) r in
-        let f1 = more_kinds (declaration_temporaries ds) r in
+        let r1 = with_kinds (declaration_temporaries w.unit ds) r in
+        let f1 = more_kinds (declaration_temporaries w.unit ds) r in
         let f2 = items_grow w.unit rest r1 in
-        in_order_same h spot low r.bound living (initialise_all T ds w.call) (items_with T rest w.call (suc n)) (effects.initialise_all w.unit r.bound r.kinds ds) (items w.unit spot r1 rest)
-        (λ regs from t x le. reached_follows w h Anything low regs from (initialise_all T ds w.call from) (runs w n t (effects.initialise_all w.unit r.bound r.kinds ds) regs) x.standing.kept
-        (initials_reach w n h low r.bound ds s g (there_front w.unit ds (declared_in rest) local) f.0 q.0 l.0 r.kinds behind (omega (arith, enough, f2)) regs from t le x.standing x.beside))
+        in_order_same h spot low r.bound living (initialise_all T ds w.call) (items_with T rest w.call (suc n)) (initialisers.initialise_all w.unit r.bound r.kinds ds) (items w.unit spot r1 rest)
+        (λ regs from t x le. reached_follows w h Anything low regs from (initialise_all T ds w.call from) (runs w n t (initialisers.initialise_all w.unit r.bound r.kinds ds) regs) x.standing.kept
+        (initials_reach w n h low r.bound ds s g (there_front w.unit ds (declared_in rest) local) q.0 l.0 r.kinds behind (omega (arith, enough, f2)) regs from t le x.standing x.beside))
         (items_follow rest (with_objects s ds) around h spot low r1 living stands (scene_with_all w n s ds g) (found_with_all s ds (scope_for living) sees (declarations_found-append ds (declared_in rest) (scope_for living) have).0)
         (declarations_found-append ds (declared_in rest) (scope_for living) have).1 (there_back w.unit ds (declared_in rest) local) result looped c.1 f.1 q.1 m.1 l.1 (omega (arith, behind, f1)) enough)
     items_follow (Then (Specify at t) rest) s around h spot low r living stands g sees have local result looped c f q m l behind enough =

@@ -13,8 +13,8 @@ use Rattle.mon_syntax.specs.Registers.{Bindings, RegisterTable, with_kinds, boun
 use Rattle.mon_syntax.specs.Valid.{Types}
 use Rattle.track_scopes.specs.Blocks.{with_pointer, entered, with_born}
 use Rattle.c_initialisers.specs.Translation.{declaration_temporaries}
-use Rattle.c_effects.specs.Effects.{any_temporaries, effect_temporaries}
-use Rattle.c_effects.specs.Expressions.{temporaries}
+use Rattle.c_effects.specs.Effects.{any_temporaries}
+use Rattle.c_effects.specs.Full.{act_takes, takes}
 use Rattle.annot_code.specs.Code.{behind_assertions}
 use Rattle.annot_code.proofs.Asserted.{behind_begins}
 use Rattle.instrument.specs.Translation.{returned_temporaries, switch_temporaries, after_statement, after_cases, after_else, after_first, after_item, after_items}
@@ -46,36 +46,36 @@ entered_begins (d ∷ ds) r = begins_then r.kinds (r.kinds ++ Ptr ∷ []) (enter
 mutual
   pub statement_begins : (p : TranslationUnit) (a : Statement) (r : RegisterTable) → Begins r.kinds (after_statement p a r).kinds
   statement_begins p (Empty at) r = begins_itself r.kinds
-  statement_begins p (Eval at e) r = begins_added r.kinds (effect_temporaries p e)
+  statement_begins p (Eval at e) r = begins_added r.kinds (act_takes p e)
   statement_begins p (Block at body) r =
       let inside = entered (declared_in body) r in
       begins_then r.kinds inside.kinds (after_items p body inside).kinds (entered_begins (declared_in body) r) (items_begin p body inside)
   statement_begins p (If at e a b) r =
-      let x = with_kinds (temporaries e) r in
+      let x = with_kinds (takes p e) r in
       let y = after_statement p a x in
-      begins_then r.kinds x.kinds (after_else p b y).kinds (begins_added r.kinds (temporaries e)) (begins_then x.kinds y.kinds (after_else p b y).kinds (statement_begins p a x) (else_begins p b y))
+      begins_then r.kinds x.kinds (after_else p b y).kinds (begins_added r.kinds (takes p e)) (begins_then x.kinds y.kinds (after_else p b y).kinds (statement_begins p a x) (else_begins p b y))
   statement_begins p (While at annots e a) r =
-      let x = with_kinds (temporaries e) r in
-      begins_then r.kinds x.kinds (after_statement p a x).kinds (begins_added r.kinds (temporaries e)) (statement_begins p a x)
+      let x = with_kinds (takes p e) r in
+      begins_then r.kinds x.kinds (after_statement p a x).kinds (begins_added r.kinds (takes p e)) (statement_begins p a x)
   statement_begins p (Do at a e) r =
       let x = after_statement p a r in
-      begins_then r.kinds x.kinds (x.kinds ++ temporaries e) (statement_begins p a r) (begins_added x.kinds (temporaries e))
+      begins_then r.kinds x.kinds (x.kinds ++ takes p e) (statement_begins p a r) (begins_added x.kinds (takes p e))
   statement_begins p (For at annots first e behind a) r =
       let x = entered (declared_first first) r in
       let y = after_first p first x in
-      let z = with_kinds (any_temporaries temporaries e) y in
+      let z = with_kinds (any_temporaries (takes p) e) y in
       let w = after_statement p a z in
-      begins_then r.kinds x.kinds (w.kinds ++ any_temporaries (effect_temporaries p) behind) (entered_begins (declared_first first) r)
-      (begins_then x.kinds y.kinds (w.kinds ++ any_temporaries (effect_temporaries p) behind) (first_begins p first x)
-      (begins_then y.kinds z.kinds (w.kinds ++ any_temporaries (effect_temporaries p) behind) (begins_added y.kinds (any_temporaries temporaries e))
-      (begins_then z.kinds w.kinds (w.kinds ++ any_temporaries (effect_temporaries p) behind) (statement_begins p a z) (begins_added w.kinds (any_temporaries (effect_temporaries p) behind)))))
+      begins_then r.kinds x.kinds (w.kinds ++ any_temporaries (act_takes p) behind) (entered_begins (declared_first first) r)
+      (begins_then x.kinds y.kinds (w.kinds ++ any_temporaries (act_takes p) behind) (first_begins p first x)
+      (begins_then y.kinds z.kinds (w.kinds ++ any_temporaries (act_takes p) behind) (begins_added y.kinds (any_temporaries (takes p) e))
+      (begins_then z.kinds w.kinds (w.kinds ++ any_temporaries (act_takes p) behind) (statement_begins p a z) (begins_added w.kinds (any_temporaries (act_takes p) behind)))))
   statement_begins p (Break at) r = begins_itself r.kinds
   statement_begins p (Continue at) r = begins_itself r.kinds
-  statement_begins p (Return at e) r = begins_added r.kinds (any_temporaries returned_temporaries e)
+  statement_begins p (Return at e) r = begins_added r.kinds (any_temporaries (returned_temporaries p) e)
   statement_begins p (Labelled at l a) r = begins_itself r.kinds
   statement_begins p (Switch at e cases) r =
-      let x = with_kinds (switch_temporaries e) r in
-      begins_then r.kinds x.kinds (after_cases p cases x).kinds (begins_added r.kinds (switch_temporaries e)) (cases_begin p cases x)
+      let x = with_kinds (switch_temporaries p e) r in
+      begins_then r.kinds x.kinds (after_cases p cases x).kinds (begins_added r.kinds (switch_temporaries p e)) (cases_begin p cases x)
 
   pub cases_begin : (p : TranslationUnit) (cs : Cases) (r : RegisterTable) → Begins r.kinds (after_cases p cs r).kinds
   cases_begin p NoCase r = begins_itself r.kinds
@@ -92,7 +92,7 @@ mutual
   first_begins p (First i) r = item_begins p i r
 
   pub item_begins : (p : TranslationUnit) (i : BlockItem) (r : RegisterTable) → Begins r.kinds (after_item p i r).kinds
-  item_begins p (Declare ds) r = begins_added r.kinds (declaration_temporaries ds)
+  item_begins p (Declare ds) r = begins_added r.kinds (declaration_temporaries p ds)
   item_begins p (Specify at t) r = begins_itself r.kinds
   item_begins p (Run a) r = statement_begins p a r
   item_begins p (Asserts annots) r = behind_asserts p r.bound r.kinds annots
@@ -161,27 +161,27 @@ module _ (ts : Types) where
         let inside = entered (declared_in body) r in
         items_keep p body inside b x g (entered_keep x g (declared_in body) r (begins_then inside.kinds (after_items p body inside).kinds ts (items_begin p body inside) b) h)
     statement_keeps p (If at e a c) r b x g h =
-        let y = with_kinds (temporaries e) r in
+        let y = with_kinds (takes p e) r in
         let z = after_statement p a y in
         else_keeps p c z b x g (statement_keeps p a y (begins_then z.kinds (after_else p c z).kinds ts (else_begins p c z) b) x g h)
-    statement_keeps p (While at annots e a) r b x g h = statement_keeps p a (with_kinds (temporaries e) r) b x g h
-    statement_keeps p (Do at a e) r b x g h = statement_keeps p a r (begins_front (after_statement p a r).kinds (temporaries e) ts b) x g h
+    statement_keeps p (While at annots e a) r b x g h = statement_keeps p a (with_kinds (takes p e) r) b x g h
+    statement_keeps p (Do at a e) r b x g h = statement_keeps p a r (begins_front (after_statement p a r).kinds (takes p e) ts b) x g h
     statement_keeps p (For at annots first e behind a) r b x g h =
         let own = declared_first first in
         let y = entered own r in
         let z = after_first p first y in
-        let v = with_kinds (any_temporaries temporaries e) z in
+        let v = with_kinds (any_temporaries (takes p) e) z in
         let w = after_statement p a v in
-        let last = begins_front w.kinds (any_temporaries (effect_temporaries p) behind) ts b in
+        let last = begins_front w.kinds (any_temporaries (act_takes p) behind) ts b in
         let third = begins_then v.kinds w.kinds ts (statement_begins p a v) last in
-        let second = begins_front z.kinds (any_temporaries temporaries e) ts third in
+        let second = begins_front z.kinds (any_temporaries (takes p) e) ts third in
         let one = begins_then y.kinds z.kinds ts (first_begins p first y) second in
         statement_keeps p a v last x g (first_keeps p first y second x g (entered_keep x g own r one h))
     statement_keeps p (Break at) r b x g h = h
     statement_keeps p (Continue at) r b x g h = h
     statement_keeps p (Return at e) r b x g h = h
     statement_keeps p (Labelled at l a) r b x g h = h
-    statement_keeps p (Switch at e cases) r b x g h = cases_keep p cases (with_kinds (switch_temporaries e) r) b x g h
+    statement_keeps p (Switch at e cases) r b x g h = cases_keep p cases (with_kinds (switch_temporaries p e) r) b x g h
 
     pub cases_keep : (p : TranslationUnit) (cs : Cases) (r : RegisterTable) → Begins (after_cases p cs r).kinds ts → Keeps r (after_cases p cs r)
     cases_keep p NoCase r b x g h = h

@@ -1,7 +1,4 @@
--- Translated expressions have their types, and their parentheses are within the limit.
-pub use Rattle.instrument.proofs.Parentheses.{few_parens, few_parens_of_pointer, few_parens_of_variable, few_place, parens_back, parens_binary}
-pub use Rattle.instrument.proofs.Parentheses.{parens_cast, parens_compared, parens_compound, parens_compound_of, parens_condition, parens_converted}
-pub use Rattle.instrument.proofs.Parentheses.{parens_element, parens_farther, parens_in_type, parens_indexed, parens_loaded, parens_operated, parens_scaled, parens_step, parens_two, parens_unary, some_weight}
+-- What translated expressions are made of has its types: constants, operators, pointers to variables, and registers in order.
 pub use Rattle.instrument.proofs.TypedDefinitions.{is_global}
 use Rattle.std.proofs.Common.{◌≡◌, ℕ, ◌+◌, ◌^◌, ◌<◌, ◌≤◌, ℤ, pos, negsuc, Bool, true, false, not, List, [], ◌∷◌, ◌++◌, length, Option, Some, None, slice_get, nat_lt, nat_eq, if◌then◌else◌, cond, refl, sym, ap, ◌∙◌, subst, arith, append_assoc}
 use Rattle.std.proofs.lemmas.Bool.{ltb-true, leb-true}
@@ -11,14 +8,13 @@ use Rattle.c_syntax.specs.declared.types.CInt.{CInt}
 use Rattle.c_syntax.specs.declared.types.CInt.TheVariants as c
 use Rattle.c_syntax.specs.declared.expression.Use.{Use}
 use Rattle.c_syntax.specs.declared.expression.UnOp.{UnOp}
-use Rattle.c_syntax.specs.declared.expression.UnOp.TheVariants as prefix
 use Rattle.c_syntax.specs.declared.expression.BinOp.{BinOp}
 use Rattle.c_syntax.specs.declared.expression.BinOp.TheVariants as operator
 use Rattle.c_syntax.specs.Ctypes as source_type
 use Rattle.c_syntax.specs.Ctypes.{PlainType, Void, Int, Array, Struct, Count, int_type}
-use Rattle.c_syntax.specs.Expressions.{Expression, Node, Number, Letter, Variable, Unary, Binary, Both, Either, Choice, Assign, Bump, Call, Cast, SizeOfType, SizeOfExpr, Text, Index, Dot, Arrow, Comma, type_of}
+use Rattle.c_syntax.specs.Expressions.{Expression, Node, type_of}
 use Rattle.c_syntax.specs.Programs.{StructType, TranslationUnit}
-use Rattle.c_syntax.specs.Layouts.{Scalar, scalar_of, size_of, offset_of, target_of}
+use Rattle.c_syntax.specs.Layouts.{Scalar, scalar_of, size_of}
 use Rattle.c_model.specs.Integers.{fits, width, is_signed}
 use Rattle.c_model.specs.Meaning.{is_array, is_of_library, unit_of}
 use Rattle.c_model.specs.Conversions as convert
@@ -33,25 +29,20 @@ use Rattle.mon_syntax.specs.Trees as tree
 use Rattle.mon_syntax.specs.Trees.{MonExpression}
 use Rattle.mon_syntax.specs.Arithmetic.{is_pointer}
 use Rattle.mon_syntax.specs.Checking.{same_type}
-use Rattle.mon_syntax.specs.Valid.{Types, HasType, has_constant, has_operator, second_type, is_arithmetic, is_whole, is_relation, result_type, IsExpression}
-use Rattle.c_effects.specs.Letters.{HasLetters}
-use Rattle.c_model.specs.Pure.{IsPure}
-use Rattle.c_model.specs.Sizes.{weight_of, most_weight}
+use Rattle.mon_syntax.specs.Valid.{Types, HasType, has_constant, has_operator, second_type, is_arithmetic, is_whole, is_relation, result_type}
 use Rattle.c_model.specs.SmallTypes.{TypesSmall}
 use Rattle.c_model.specs.TypedTrees.{IsScalar, HasKnownSize, IsInteger, IsPromoted, Denotes, IsName, OfObject, OfNull, OnIntegers, BinaryTypes, OfIntegers, OfPointerAndInteger, OfIntegerAndPointer, OfDifference, OfPointers}
 use Rattle.c_model.specs.ExpressionTyping.{has_object}
-use Rattle.c_model.specs.TypedTrees.{IndexTypes, OnTheLeft, OnTheRight, CompoundTypes, ToInteger, ToPointer, CastTypes, ToVoid, OfInteger, OfPointer, OfNullConstant, OfArray, WellTyped}
-use Rattle.c_effects.specs.Expressions.{register_type, value_type, operand_type, operator_of, in_type, compared, condition, truth, binary, temporaries, scaled, farther, element, pointer_and_integer, object_of_global}
-use Rattle.c_effects.specs.Expressions.{two_pointers, operated, indexed, converted, compound, global_index, pointer_of, pointer_to, loaded, value, place, truth_of, condition_of}
-use Rattle.c_effects.specs.Effects.{block_register, block_of, current}
+use Rattle.c_model.specs.TypedTrees.{IndexTypes, OnTheLeft, OnTheRight, CompoundTypes, ToInteger, ToPointer, CastTypes, ToVoid, OfInteger, OfPointer, OfNullConstant, OfArray}
+use Rattle.c_effects.specs.Expressions.{register_type, value_type, operand_type, operator_of, in_type, compared, condition, truth, binary, scaled, farther, element, pointer_and_integer, object_of_global}
+use Rattle.c_effects.specs.Expressions.{two_pointers, operated, indexed, converted, compound, global_index, pointer_of, pointer_to, loaded}
+use Rattle.c_effects.specs.Effects.{block_register, block_of}
 use Rattle.annot_code.specs.Validity.{Begins}
-use Rattle.c_simulation.proofs.ExpressionTypes.{place_has_object}
-use Rattle.instrument.proofs.Parts.{StructsFit, near}
+use Rattle.instrument.proofs.Parts.{StructsFit}
 use Rattle.c_simulation.proofs.Integers.{operand_is, is_number, number_result, number_second, number_operator}
-use Rattle.c_simulation.proofs.Registers.{get-below, get-end}
-use Rattle.c_simulation.proofs.Expressions.{letter_fits}
+use Rattle.c_simulation.proofs.Registers.{get-end}
 use Rattle.c_model.specs.StaticObjects.{static_objects}
-use Rattle.instrument.proofs.Objects.{global_inside, literal_is}
+use Rattle.instrument.proofs.Objects.{global_inside}
 
 -- ---- constants
 
@@ -353,13 +344,13 @@ module _ (g : ℕ) (ts : Types) where
   zero_typed : (t k : MonType) → k ≡ operand_type t → HasType g ts (tree.Constant (operand_type t) (pos 0)) k
   zero_typed t k e = (sym e, zero_constant t)
 
-  negated_typed : (t : MonType) (e : MonExpression) → HasType g ts e t → HasType g ts (compared mon.Eq t e) I32
+  pub negated_typed : (t : MonType) (e : MonExpression) → HasType g ts e t → HasType g ts (compared mon.Eq t e) I32
   negated_typed t e h = let o = equality_operator t in (refl, o.0, operand_typed t e h, zero_typed t (second_type mon.Eq (operand_type t)) o.1)
 
   pub truth_typed : (t : MonType) (e : MonExpression) → HasType g ts e t → HasType g ts (truth t e) I32
   truth_typed t e h = let o = difference_operator t in (refl, o.0, operand_typed t e h, zero_typed t (second_type mon.Ne (operand_type t)) o.1)
 
-  condition_typed : (t : MonType) (e : MonExpression) → HasType g ts e t → HasType g ts (condition t e) I32
+  pub condition_typed : (t : MonType) (e : MonExpression) → HasType g ts e t → HasType g ts (condition t e) I32
   condition_typed t e h = by (same_type t I32) refl
     where
       by : (b : Bool) → same_type t I32 ≡ b → HasType g ts (if b then e else truth t e) I32
@@ -368,7 +359,7 @@ module _ (g : ℕ) (ts : Types) where
 
   -- ---- pointers
 
-  farther_typed : (e : MonExpression) (d : ℕ) → d ≤ 2147483647 → HasType g ts e Ptr → HasType g ts (farther e d) Ptr
+  pub farther_typed : (e : MonExpression) (d : ℕ) → d ≤ 2147483647 → HasType g ts e Ptr → HasType g ts (farther e d) Ptr
   farther_typed e d small h = (refl, refl, h, (refl, bytes_constant d small))
 
   scaled_typed : (unit : ℕ) (k : CInt) (i : MonExpression) → unit ≤ 2147483647 → HasType g ts i (register_type k) → HasType g ts (scaled unit (register_type k) i) I64
@@ -517,17 +508,6 @@ module _ (g : ℕ) (ts : Types) where
     array_object to a scalar array (OfNullConstant left right null) = let h : false ≡ true = ap is_array (sym right.is) ∙ array in absurd cc
     array_object to a scalar array (OfArray t n is of object) = (object, ap value_type is)
 
-  -- ---- registers after both sides
-
-  pub both_begin : (x y : Expression) (rs : Types) → Begins (rs ++ (temporaries x ++ temporaries y ++ I32 ∷ [])) ts → Begins (rs ++ temporaries x ++ temporaries y ++ I32 ∷ []) ts
-  both_begin x y rs h =
-      subst (λ l. Begins l ts) (sym (append_assoc rs (temporaries x ++ temporaries y) (I32 ∷ [])) ∙ ap (λ l. l ++ I32 ∷ []) (sym (append_assoc rs (temporaries x) (temporaries y)))) h
-
-  pub choice_begins : (x y z : Expression) (t : MonType) (rs : Types) → Begins (rs ++ (temporaries x ++ temporaries y ++ temporaries z ++ t ∷ [])) ts → Begins (rs ++ temporaries x ++ temporaries y ++ temporaries z ++ t ∷ []) ts
-  choice_begins x y z t rs h =
-      subst (λ l. Begins l ts) (sym (append_assoc rs (temporaries x ++ temporaries y ++ temporaries z) (t ∷ [])) ∙ ap (λ l. l ++ t ∷ []) (sym (append_assoc rs (temporaries x ++ temporaries y) (temporaries z)) ∙ ap (λ l. l ++ temporaries z)
-      (sym (append_assoc rs (temporaries x) (temporaries y))))) h
-
 module _ (s : Sight) where
   pub operands_scalar : (op : BinOp) (t u v : PlainType) → BinaryTypes s op t u v → IsScalar u × IsScalar v
   operands_scalar op t u v (OfIntegers h) = (promoted_scalar u h.left, promoted_scalar v h.right)
@@ -561,137 +541,28 @@ module _ (p : TranslationUnit) (ts : Types) (bound : Bindings) (s : Sight) (know
   pub seen : (x : Use) (t : PlainType) → Denotes s x t → Seen p ts bound x.decl
   seen x t d = subst (Seen p ts bound) (sym d.decl) (knows.sees x.name d.object d.found)
 
-  name_typed : (x : Use) (t : PlainType) (b : Bool) → is_of_library x ≡ b → IsScalar t → IsName s x t → Typed (if b then tree.Constant Ptr (pos 0) else loaded t (pointer_to p bound x.decl)) (value_type t)
+  pub name_typed : (x : Use) (t : PlainType) (b : Bool) → is_of_library x ≡ b → IsScalar t → IsName s x t → Typed (if b then tree.Constant Ptr (pos 0) else loaded t (pointer_to p bound x.decl)) (value_type t)
   name_typed x t true e h (OfObject d) = let k : true ≡ false = sym e ∙ (seen x t d).own in absurd cc
   name_typed x t false e h (OfObject d) = loaded_typed (count_of_globals p) ts t (pointer_to p bound x.decl) h (pointer_typed x.decl (seen x t d).has)
   name_typed x t true e h (OfNull library is) = subst (λ u. Typed (tree.Constant Ptr (pos 0)) (value_type u)) (sym is) (refl, refl)
   name_typed x t false e h (OfNull library is) = let k : true ≡ false = ap (λ n. nat_eq n 4294967295) (sym library) ∙ e in absurd cc
 
-  name_placed : (x : Use) (t : PlainType) → is_of_library x ≡ false → IsName s x t → Typed (pointer_to p bound x.decl) Ptr
+  pub name_placed : (x : Use) (t : PlainType) → is_of_library x ≡ false → IsName s x t → Typed (pointer_to p bound x.decl) Ptr
   name_placed x t e (OfObject d) = pointer_typed x.decl (seen x t d).has
   name_placed x t e (OfNull library is) = let k : true ≡ false = ap (λ n. nat_eq n 4294967295) (sym library) ∙ e in absurd cc
 
-  not_true : (b : Bool) → not b ≡ true → b ≡ false
+  pub not_true : (b : Bool) → not b ≡ true → b ≡ false
   not_true true e = absurd cc
   not_true false e = refl
 
   -- an operator on a promoted operand
-  sign_typed : (op : UnOp) (t u : PlainType) (e : MonExpression) → IsPromoted u → t ≡ u → Typed e (value_type u) → Typed (tree.Minus (value_type u) e) (value_type t) × Typed (tree.Flip (value_type u) e) (value_type t)
+  pub sign_typed : (op : UnOp) (t u : PlainType) (e : MonExpression) → IsPromoted u → t ≡ u → Typed e (value_type u) → Typed (tree.Minus (value_type u) e) (value_type t) × Typed (tree.Flip (value_type u) e) (value_type t)
   sign_typed op t u e h same f =
       let computes = ap (λ x. is_arithmetic (value_type x)) h.is ∙ promoted_computes h.int in
       ((ap value_type (sym same), computes, f), (ap value_type (sym same), computes, f))
 
-  cast_typed : (b : Bool) (to : PlainType) (a : Expression) (d e : MonExpression) → is_array (type_of a) ≡ b → IsScalar to → CastTypes s to a → (has_object a ≡ true → Typed d Ptr) → (IsScalar (type_of a) → Typed e (value_type (type_of a)))
+  pub cast_typed : (b : Bool) (to : PlainType) (a : Expression) (d e : MonExpression) → is_array (type_of a) ≡ b → IsScalar to → CastTypes s to a → (has_object a ≡ true → Typed d Ptr) → (IsScalar (type_of a) → Typed e (value_type (type_of a)))
       → Typed (if b then d else converted (type_of a) to e) (value_type to)
   cast_typed true to a d e is scalar types f h =
       let k = array_object (count_of_globals p) ts p.structs s knows.structs_are to a scalar is types in subst (Typed d) (sym k.1) (f k.0)
   cast_typed false to a d e is scalar types f h = converted_typed (count_of_globals p) ts p.structs s knows.structs_are to a e scalar is types h
-
-  mutual
-    pub typed : (e : Expression) (rs : Types) → IsScalar (type_of e) → IsPure e → WellTyped s e → TypesSmall p.structs e → HasLetters e → Begins (rs ++ temporaries e) ts → Typed (value p bound rs e) (value_type (type_of e))
-    typed (Node at t (Number z None)) rs h u q parts l b = absurd q
-    typed (Node at t (Number z (Some i))) rs h u q parts l b = (refl, subst (λ j. has_constant (value_type j) z ≡ true) (sym q.0) (small_constant i z q.1))
-    typed (Node at t (Letter z)) rs h u q parts l b = (refl, subst (λ j. has_constant (value_type j) z ≡ true) (sym q) (small_constant c.I32 z (letter_fits z l)))
-    typed (Node at t (Text n)) rs h u q parts l b = let k : scalar_of (Array (Int c.I8) (Count (length q.text.bytes + 1))) ≡ Some h.scalar = ap scalar_of (sym q.ctype) ∙ h.is in absurd cc
-    typed (Node at t (Variable x)) rs h u q parts l b = name_typed x t (is_of_library x) refl h q
-    typed (Node at t (Unary prefix.Deref a)) rs h u q parts l b =
-        loaded_typed (count_of_globals p) ts t (value p bound rs a) h (subst (λ x. Typed (value p bound rs a) (value_type x)) q.1 (typed a rs (pointer_scalar (type_of a) t q.1) u q.0 parts.1 l b))
-    typed (Node at t (Unary prefix.Address a)) rs h u q parts l b =
-        subst (λ x. Typed (place p bound rs a) (value_type x)) (sym q.2) (placed a rs (place_has_object a q.1) u q.0 parts.1 l b)
-    typed (Node at t (Unary prefix.Plus a)) rs h u q parts l b =
-        subst (λ x. Typed (value p bound rs a) (value_type x)) (sym q.2) (typed a rs (promoted_scalar (type_of a) q.1) u q.0 parts.1 l b)
-    typed (Node at t (Unary prefix.Minus a)) rs h u q parts l b =
-        (sign_typed prefix.Minus t (type_of a) (value p bound rs a) q.1 q.2 (typed a rs (promoted_scalar (type_of a) q.1) u q.0 parts.1 l b)).0
-    typed (Node at t (Unary prefix.Flip a)) rs h u q parts l b =
-        (sign_typed prefix.Flip t (type_of a) (value p bound rs a) q.1 q.2 (typed a rs (promoted_scalar (type_of a) q.1) u q.0 parts.1 l b)).1
-    typed (Node at t (Unary prefix.Not a)) rs h u q parts l b =
-        subst (λ x. Typed (compared mon.Eq (value_type (type_of a)) (value p bound rs a)) (value_type x)) (sym q.2) (negated_typed (count_of_globals p) ts (value_type (type_of a)) (value p bound rs a) (typed a rs q.1 u q.0 parts.1 l b))
-    typed (Node at t (Binary op x y)) rs h u q parts l b =
-        let k = operands_scalar s op t (type_of x) (type_of y) q.2 in
-        operated_typed (count_of_globals p) ts p.structs s knows.structs_are op t (type_of x) (type_of y) (value p bound rs x) (value p bound (rs ++ temporaries x) y) q.2
-        (type_small p.structs x parts.1.0) (type_small p.structs y parts.1.1) (typed x rs k.0 u.0 q.0 parts.1.0 l.0 (begins_left rs (temporaries x) (temporaries y) ts b))
-        (typed y (rs ++ temporaries x) k.1 u.1 q.1 parts.1.1 l.1 (begins_right rs (temporaries x) (temporaries y) ts b))
-    typed (Node at t (Both x y)) rs h u q parts l b = register_at (rs ++ temporaries x ++ temporaries y) ts I32 (both_begin (count_of_globals p) ts x y rs b) ∙ ap (λ i. Some (value_type i)) (sym q.4)
-    typed (Node at t (Either x y)) rs h u q parts l b = register_at (rs ++ temporaries x ++ temporaries y) ts I32 (both_begin (count_of_globals p) ts x y rs b) ∙ ap (λ i. Some (value_type i)) (sym q.4)
-    typed (Node at t (Choice x y z)) rs h u q parts l b =
-        register_at (rs ++ temporaries x ++ temporaries y ++ temporaries z) ts (value_type (type_of y)) (choice_begins (count_of_globals p) ts x y z (value_type (type_of y)) rs b) ∙ ap (λ i. Some (value_type i)) q.4
-    typed (Node at t (Cast to a)) rs h u q parts l b =
-        let scalar = subst IsScalar q.1 h in
-        subst (λ i. Typed (if is_array (type_of a) then place p bound rs a else converted (type_of a) to (value p bound rs a)) (value_type i)) (sym q.1)
-        (cast_typed (is_array (type_of a)) to a (place p bound rs a) (value p bound rs a) refl scalar q.2 (λ k. placed a rs k u q.0 parts.1 l b) (λ k. typed a rs k u q.0 parts.1 l b))
-    typed (Node at t (SizeOfType v)) rs h u q parts l b = (ap value_type (sym q.1), size_constant (size_of p.structs v) (known_small p.structs s v knows.structs_are q.0))
-    typed (Node at t (SizeOfExpr a)) rs h u q parts l b = (ap value_type (sym q.2), size_constant (size_of p.structs (type_of a)) (known_small p.structs s (type_of a) knows.structs_are q.1))
-    typed (Node at t (Index x y)) rs h u q parts l b =
-        let k = index_scalar s t (type_of x) (type_of y) q.2 in
-        let e = indexed p.structs (type_of x) (type_of y) (value p bound rs x) (value p bound (rs ++ temporaries x) y) in
-        loaded_typed (count_of_globals p) ts t e h
-        (indexed_typed (count_of_globals p) ts p.structs s knows.structs_are t (type_of x) (type_of y) (value p bound rs x) (value p bound (rs ++ temporaries x) y) q.2
-        (type_small p.structs x parts.1.0) (type_small p.structs y parts.1.1) (typed x rs k.0 u.0 q.0 parts.1.0 l.0 (begins_left rs (temporaries x) (temporaries y) ts b))
-        (typed y (rs ++ temporaries x) k.1 u.1 q.1 parts.1.1 l.1 (begins_right rs (temporaries x) (temporaries y) ts b)))
-    typed (Node at t (Dot a m)) rs h u q parts l b =
-        let d = offset_of p.structs (type_of a) m in
-        loaded_typed (count_of_globals p) ts t (farther (place p bound rs a) d) h (farther_typed (count_of_globals p) ts (place p bound rs a) d (near p.structs knows.fits (type_of a) m) (placed a rs q.1 u q.0 parts.1 l b))
-    typed (Node at t (Arrow a m)) rs h u q parts l b =
-        let d = offset_of p.structs (target_of (type_of a)) m in
-        loaded_typed (count_of_globals p) ts t (farther (value p bound rs a) d) h (farther_typed (count_of_globals p) ts (value p bound rs a) d (near p.structs knows.fits (target_of (type_of a)) m)
-        (subst (λ x. Typed (value p bound rs a) (value_type x)) q.1.is (typed a rs (pointer_scalar (type_of a) q.1.target q.1.is) u q.0 parts.1 l b)))
-    typed (Node at t (Comma a e)) rs h u q parts l b = absurd u
-    typed (Node at t (Assign op x y)) rs h u q parts l b = absurd u
-    typed (Node at t (Bump op a)) rs h u q parts l b = absurd u
-    typed (Node at t (Call f es)) rs h u q parts l b = absurd u
-
-    -- what designates an object
-    pub placed : (e : Expression) (rs : Types) → has_object e ≡ true → IsPure e → WellTyped s e → TypesSmall p.structs e → HasLetters e → Begins (rs ++ temporaries e) ts → Typed (place p bound rs e) Ptr
-    placed (Node at t (Text n)) rs h u q parts l b =
-        let inside = get-below p.texts n q.text (ap (λ x. slice_get x n) (sym knows.texts_are) ∙ q.found) in
-        (refl, (literal_is p n inside).below)
-    placed (Node at t (Variable x)) rs h u q parts l b = name_placed x t (not_true (is_of_library x) h) q
-    placed (Node at t (Unary prefix.Deref a)) rs h u q parts l b = subst (λ x. Typed (value p bound rs a) (value_type x)) q.1 (typed a rs (pointer_scalar (type_of a) t q.1) u q.0 parts.1 l b)
-    placed (Node at t (Index x y)) rs h u q parts l b =
-        let k = index_scalar s t (type_of x) (type_of y) q.2 in
-        indexed_typed (count_of_globals p) ts p.structs s knows.structs_are t (type_of x) (type_of y) (value p bound rs x) (value p bound (rs ++ temporaries x) y) q.2
-        (type_small p.structs x parts.1.0) (type_small p.structs y parts.1.1) (typed x rs k.0 u.0 q.0 parts.1.0 l.0 (begins_left rs (temporaries x) (temporaries y) ts b))
-        (typed y (rs ++ temporaries x) k.1 u.1 q.1 parts.1.1 l.1 (begins_right rs (temporaries x) (temporaries y) ts b))
-    placed (Node at t (Dot a m)) rs h u q parts l b =
-        let d = offset_of p.structs (type_of a) m in
-        farther_typed (count_of_globals p) ts (place p bound rs a) d (near p.structs knows.fits (type_of a) m) (placed a rs q.1 u q.0 parts.1 l b)
-    placed (Node at t (Arrow a m)) rs h u q parts l b =
-        let d = offset_of p.structs (target_of (type_of a)) m in
-        farther_typed (count_of_globals p) ts (value p bound rs a) d (near p.structs knows.fits (target_of (type_of a)) m)
-        (subst (λ x. Typed (value p bound rs a) (value_type x)) q.1.is (typed a rs (pointer_scalar (type_of a) q.1.target q.1.is) u q.0 parts.1 l b))
-    placed (Node at t (Comma a e)) rs h u q parts l b = absurd u
-    placed (Node at t (Assign op a e)) rs h u q parts l b = absurd u
-    placed _ rs h u q parts l b = absurd cc
-
-  -- ---- within the limit
-
-  pub expression_valid : (e : Expression) (rs : Types) → IsScalar (type_of e) → IsPure e → WellTyped s e → TypesSmall p.structs e → HasLetters e → weight_of e ≤ most_weight → Begins (rs ++ temporaries e) ts
-      → IsExpression (count_of_globals p) ts (value p bound rs e) (value_type (type_of e))
-  expression_valid e rs h u q parts l light b = record { typed = typed e rs h u q parts l b; within = omega (arith, few_parens p bound rs e, light) }
-
-  pub place_valid : (e : Expression) (rs : Types) → has_object e ≡ true → IsPure e → WellTyped s e → TypesSmall p.structs e → HasLetters e → weight_of e ≤ most_weight → Begins (rs ++ temporaries e) ts
-      → IsExpression (count_of_globals p) ts (place p bound rs e) Ptr
-  place_valid e rs h u q parts l light b = record { typed = placed e rs h u q parts l b; within = omega (arith, few_place p bound rs e, light) }
-
-  pub condition_valid : (e : Expression) (rs : Types) → IsScalar (type_of e) → IsPure e → WellTyped s e → TypesSmall p.structs e → HasLetters e → weight_of e ≤ most_weight → Begins (rs ++ temporaries e) ts
-      → IsExpression (count_of_globals p) ts (condition_of p bound rs e) I32
-  condition_valid e rs h u q parts l light b =
-      let m = parens_condition (value_type (type_of e)) (value p bound rs e) (weight_of e) (few_parens p bound rs e) (some_weight e) in
-      record { typed = condition_typed (count_of_globals p) ts (value_type (type_of e)) (value p bound rs e) (typed e rs h u q parts l b); within = omega (arith, m, light) }
-
-  pub truth_valid : (e : Expression) (rs : Types) → IsScalar (type_of e) → IsPure e → WellTyped s e → TypesSmall p.structs e → HasLetters e → weight_of e ≤ most_weight → Begins (rs ++ temporaries e) ts
-      → IsExpression (count_of_globals p) ts (truth_of p bound rs e) I32
-  truth_valid e rs h u q parts l light b =
-      let m = parens_compared mon.Ne (value_type (type_of e)) (value p bound rs e) (weight_of e) (few_parens p bound rs e) (some_weight e) in
-      record { typed = truth_typed (count_of_globals p) ts (value_type (type_of e)) (value p bound rs e) (typed e rs h u q parts l b); within = omega (arith, m, light) }
-
-  -- `op=` on an object
-  pub compound_valid : (op : BinOp) (t : PlainType) (r : ℕ) (e : Expression) (rs : Types) → CompoundTypes s op t (type_of e) → has_small_parts p.structs t ≡ true → slice_get ts r ≡ Some Ptr → IsPure e → WellTyped s e
-      → TypesSmall p.structs e → HasLetters e → weight_of e ≤ most_weight
-      → Begins (rs ++ temporaries e) ts → IsExpression (count_of_globals p) ts (compound p.structs op t (type_of e) (current r t) (value p bound rs e)) (value_type t)
-  compound_valid op t r e rs types small points u q parts l light b =
-      let m = parens_compound_of p.structs op t (type_of e) (current r t) (value p bound rs e) (1 + weight_of e) (let k = some_weight e in omega (arith, k)) (let k = few_parens p bound rs e in omega (arith, k)) (omega arith) in
-      record {
-        typed = compound_typed (count_of_globals p) ts p.structs s knows.structs_are op t (type_of e) (current r t) (value p bound rs e) types small (refl, points) (typed e rs (compound_scalar s op t (type_of e) types) u q parts l b);
-        within = omega (arith, m, light);
-      }

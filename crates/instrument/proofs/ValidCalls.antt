@@ -26,7 +26,7 @@ use Rattle.c_effects.specs.Expressions.{value_type, one}
 use Rattle.instrument.specs.Translation.{function_name, index_of_main, result_of, value_types, arguments_from, function_of, functions_from, translated}
 use Rattle.c_effects.specs.Effects.{index_of, first_of, library_call, call}
 use Rattle.instrument.proofs.Typed.{count_of_globals}
-use Rattle.instrument.proofs.ValidEffects.{CallValid, CallsValid}
+use Rattle.instrument.proofs.FullValid.{CallValid, CallsValid}
 use Rattle.instrument.proofs.ValidRegisters.{types_of_arguments}
 
 -- ---- functions by their indices

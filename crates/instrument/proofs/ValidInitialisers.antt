@@ -21,8 +21,7 @@ use Rattle.mon_syntax.specs.Registers.{Bindings}
 use Rattle.mon_syntax.specs.Trees as tree
 use Rattle.mon_syntax.specs.Valid.{Types, Labels, Signature, IsExpression, AreStatements, has_constant, depth_of_all}
 use Rattle.c_initialisers.specs.Letters.{InitialiserHasLetters, InitialisersHaveLetters, InitialHasLetters}
-use Rattle.c_effects.specs.Letters.{FullHasLetters}
-use Rattle.c_model.specs.Pure.{IsPureOrCall, IsPureInitialiser, ArePureInitialisers}
+use Rattle.c_effects.specs.Letters.{ValueHasLetters}
 use Rattle.c_model.specs.ReadTree.{AreBytes, TextsAreBytes}
 use Rattle.c_model.specs.FullExpressions.{EachInitial, EachPart}
 use Rattle.c_model.specs.SmallTypes.{TypesSmall}
@@ -31,16 +30,17 @@ use Rattle.instrument.proofs.FormedTrees.{InitialFormed}
 use Rattle.c_model.specs.TypedTrees.{IsScalar, InitialisedBy, ByText, ByValue, Initialises, PartsInitialised, WhereAny}
 use Rattle.c_effects.specs.Expressions.{register_type, value_type, before, one, set, farther}
 use Rattle.c_initialisers.specs.Translation.{initial_temporaries, one_temporaries, fill_temporaries, parts_temporaries, bytes_at, fill_one, fill, fill_parts, initialise}
-use Rattle.c_effects.specs.Effects.{full_temporaries, full_setup, full_value, store, stored_at, scalars_in, widest, zeros_at, zeros_from, zero_parts}
+use Rattle.c_effects.specs.Full.{prepare, takes}
+use Rattle.c_effects.specs.Full as full
+use Rattle.c_effects.specs.Effects.{store, stored_at, scalars_in, widest, zeros_at, zeros_from, zero_parts}
 use Rattle.c_effects.proofs.ZeroRuns.{zero_at}
 use Rattle.annot_code.proofs.Depths.{deep_before}
 use Rattle.annot_code.proofs.ValidParts.{before_valid, set_valid}
 use Rattle.annot_code.specs.Validity.{Begins}
 use Rattle.instrument.proofs.Typed.{begins_left, begins_right, register_at, Knows, count_of_globals, bytes_constant}
-use Rattle.instrument.proofs.ValidSetups.{deep_one, deep_set}
-use Rattle.instrument.proofs.ValidEffects.{CallsValid, full_valid, assigned_valid, deep_full, deep_behind_full}
+use Rattle.instrument.proofs.FullDepths.{deep_behind, deep_one, deep_prepare, deep_set}
+use Rattle.instrument.proofs.FullValid.{CallsValid, full_valid, assigned_valid}
 use Rattle.instrument.proofs.Parts.{StructsFit, PartsInside, ScalarsInside, parts_inside, parts_scalars}
-use Rattle.instrument.proofs.FullForms.{pure_full}
 
 pub initial_letters : (o : Option (Place × Initialiser)) → InitialHasLetters o → WhereAny (λ (i : Place × Initialiser). InitialiserHasLetters i.1) o
 initial_letters None h = tt
@@ -77,10 +77,10 @@ module _ (p : TranslationUnit) (bound : Bindings) where
   deep_one_filled : (r d : ℕ) (rs : List MonType) (t : PlainType) (o : Option ℕ) (e : Expression) → IsSmall e → depth_of_all (fill_one p bound r d rs t o e) ≤ suc most_forms
   deep_one_filled r d rs t (Some n) e small = deep_bytes r (length rs) d (size_of p.structs t) (text_at (map (λ (x : StringLiteral). x.bytes) p.texts) n) (suc most_forms) (omega arith)
   deep_one_filled r d rs t None e small =
-      let x = deep_full p bound rs e in
+      let x = deep_prepare p bound rs e in
       let few = small.few in
-      let k = length (rs ++ full_temporaries e) in
-      deep_before (full_setup p bound rs e) (stored_at r k d (value_type t) (full_value p bound rs e)) (suc most_forms) (omega (arith, x, few)) (deep_stored r k d (value_type t) (full_value p bound rs e) (suc most_forms) (omega arith))
+      let k = length (rs ++ takes p e) in
+      deep_before (prepare p bound rs e) (stored_at r k d (value_type t) (full.result p bound rs e)) (suc most_forms) (omega (arith, x, few)) (deep_stored r k d (value_type t) (full.result p bound rs e) (suc most_forms) (omega arith))
 
   mutual
     deep_fill : (r d : ℕ) (rs : List MonType) (t : PlainType) (i : Initialiser) → EachInitial IsSmall i → depth_of_all (fill p bound r d rs t i) ≤ suc most_forms
@@ -91,7 +91,7 @@ module _ (p : TranslationUnit) (bound : Bindings) where
     deep_parts r d rs cs NoInitialiser small = deep_zeros r (length rs) d 0 (scalars_in p.structs d cs) (suc most_forms) (omega arith)
     deep_parts r d rs [] (Listed i is) small = omega arith
     deep_parts r d rs (x ∷ cs) (Listed i is) small =
-        deep_before (fill p bound r (d + x.0) rs x.1 i) (fill_parts p bound r d (rs ++ fill_temporaries i) cs is) (suc most_forms) (deep_fill r (d + x.0) rs x.1 i small.0) (deep_parts r d (rs ++ fill_temporaries i) cs is small.1)
+        deep_before (fill p bound r (d + x.0) rs x.1 i) (fill_parts p bound r d (rs ++ fill_temporaries p i) cs is) (suc most_forms) (deep_fill r (d + x.0) rs x.1 i small.0) (deep_parts r d (rs ++ fill_temporaries p i) cs is small.1)
 
   pub deep_initialise : (rs : List MonType) (r : ℕ) (t : PlainType) (o : Option (Place × Initialiser)) → InitialFormed p.structs o → depth_of_all (initialise p bound rs r t o) ≤ suc most_forms
   deep_initialise rs r t None f = omega arith
@@ -100,10 +100,10 @@ module _ (p : TranslationUnit) (bound : Bindings) where
       by : (o : Option ℕ) → string_in e ≡ o → depth_of_all (initialise p bound rs r t (Some (at, One e))) ≤ suc most_forms
       by None none =
           let few = f.small.few in
-          subst (λ b. depth_of_all (if not (is_there b) then before (full_setup p bound rs e) (store r t (full_value p bound rs e)) else fill_one p bound r 0 rs t b e) ≤ suc most_forms) (sym none)
-          (deep_behind_full p bound rs e (tree.Store r (value_type t) (full_value p bound rs e)) (suc most_forms) (omega (arith, few)) (omega arith))
+          subst (λ b. depth_of_all (if not (is_there b) then before (prepare p bound rs e) (store r t (full.result p bound rs e)) else fill_one p bound r 0 rs t b e) ≤ suc most_forms) (sym none)
+          (deep_behind p bound rs e (tree.Store r (value_type t) (full.result p bound rs e)) (suc most_forms) (omega (arith, few)) (omega arith))
       by (Some n) text =
-          subst (λ b. depth_of_all (if not (is_there b) then before (full_setup p bound rs e) (store r t (full_value p bound rs e)) else fill_one p bound r 0 rs t b e) ≤ suc most_forms) (sym text)
+          subst (λ b. depth_of_all (if not (is_there b) then before (prepare p bound rs e) (store r t (full.result p bound rs e)) else fill_one p bound r 0 rs t b e) ≤ suc most_forms) (sym text)
           (deep_one_filled r 0 rs t (Some n) e f.small)
   deep_initialise rs r t (Some (at, Many brace is)) f = deep_parts r 0 rs (parts_or_itself (tables_of p) t) is f.small
 
@@ -185,60 +185,60 @@ module _ (p : TranslationUnit) (gs : List Signature) (ts : Types) (result : Opti
   -- ---- what fills an object to which a register points
 
   -- a string literal, or a value
-  filled_valid : (r d : ℕ) (rs : Types) (t : PlainType) (e : Expression) → IsPoint r → d + size_of p.structs t ≤ 2147483647 → InitialisedBy s t e → IsPureOrCall e → TypesSmall p.structs e → FullHasLetters e → weight_of e ≤ most_weight
-      → Begins (rs ++ one_temporaries (string_in e) e) ts → Are (fill_one p bound r d rs t (string_in e) e)
-  filled_valid r d rs t e points small (ByText text) pure parts l light b =
+  filled_valid : (r d : ℕ) (rs : Types) (t : PlainType) (e : Expression) → IsPoint r → d + size_of p.structs t ≤ 2147483647 → InitialisedBy s t e → TypesSmall p.structs e → ValueHasLetters e → weight_of e ≤ most_weight
+      → Begins (rs ++ one_temporaries p (string_in e) e) ts → Are (fill_one p bound r d rs t (string_in e) e)
+  filled_valid r d rs t e points small (ByText text) parts l light b =
       let is : string_in e ≡ Some text.text = ap string_in text.is in
       subst (λ o. Are (fill_one p bound r d rs t o e)) (sym is)
-      (bytes_valid r (length rs) d (size_of p.structs t) (text_at (map (λ (x : StringLiteral). x.bytes) p.texts) text.text) points (register_at rs ts Ptr (subst (λ o. Begins (rs ++ one_temporaries o e) ts) is b)) small
+      (bytes_valid r (length rs) d (size_of p.structs t) (text_at (map (λ (x : StringLiteral). x.bytes) p.texts) text.text) points (register_at rs ts Ptr (subst (λ o. Begins (rs ++ one_temporaries p o e) ts) is b)) small
       (text_bytes p.texts text.text texts))
-  filled_valid r d rs t e points small (ByValue val none) pure parts l light b =
-      let te = full_temporaries e in
-      let here = subst (λ o. Begins (rs ++ one_temporaries o e) ts) none b in
-      let v = full_valid p gs ts result bound s knows calls ls e rs (subst IsScalar (sym val.ctype) val.scalar) pure val.typed parts l light (begins_left rs te (Ptr ∷ []) ts here) in
+  filled_valid r d rs t e points small (ByValue val none) parts l light b =
+      let te = takes p e in
+      let here = subst (λ o. Begins (rs ++ one_temporaries p o e) ts) none b in
+      let v = full_valid p gs ts result bound s knows calls ls e rs (subst IsScalar (sym val.ctype) val.scalar) val.typed parts l light (begins_left rs te (Ptr ∷ []) ts here) in
       subst (λ o. Are (fill_one p bound r d rs t o e)) (sym none)
-      (behind (full_setup p bound rs e) (stored_at r (length (rs ++ te)) d (value_type t) (full_value p bound rs e)) v.0
-      (stored_valid r (length (rs ++ te)) d (value_type t) (full_value p bound rs e) points (register_at (rs ++ te) ts Ptr (begins_right rs te (Ptr ∷ []) ts here)) (omega (arith, small))
-      (subst (λ u. IsExpression G ts (full_value p bound rs e) (value_type u)) val.ctype v.1)))
+      (behind (prepare p bound rs e) (stored_at r (length (rs ++ te)) d (value_type t) (full.result p bound rs e)) v.setup
+      (stored_valid r (length (rs ++ te)) d (value_type t) (full.result p bound rs e) points (register_at (rs ++ te) ts Ptr (begins_right rs te (Ptr ∷ []) ts here)) (omega (arith, small))
+      (subst (λ u. IsExpression G ts (full.result p bound rs e) (value_type u)) val.ctype v.value)))
 
   own_parts : (t : PlainType) (is : Initialisers) → PartsInitialised s (parts_or_itself (tables_in s) t) is → PartsInitialised s (parts_or_itself (tables_of p) t) is
   own_parts t is h = subst (λ x. PartsInitialised s (parts_or_itself (record { structs = x; texts = map (λ (l : StringLiteral). l.bytes) s.texts; literals = [] }) t) is) knows.structs_are h
 
   mutual
-    fill_valid : (r d : ℕ) (rs : Types) (t : PlainType) (i : Initialiser) → IsPoint r → d + size_of p.structs t ≤ 2147483647 → Initialises s t i → IsPureInitialiser i → EachInitial IsSmall i → EachInitial (TypesSmall p.structs) i
+    fill_valid : (r d : ℕ) (rs : Types) (t : PlainType) (i : Initialiser) → IsPoint r → d + size_of p.structs t ≤ 2147483647 → Initialises s t i → EachInitial IsSmall i → EachInitial (TypesSmall p.structs) i
         → InitialiserHasLetters i
-        → Begins (rs ++ fill_temporaries i) ts → Are (fill p bound r d rs t i)
-    fill_valid r d rs t (One e) points small q pure f parts l b = filled_valid r d rs t e points small q (pure_full e pure) parts l f.light b
-    fill_valid r d rs t (Many brace is) points small q pure f parts l b =
-        fill_parts_valid r d (size_of p.structs t) rs (parts_or_itself (tables_of p) t) is points small (parts_inside (tables_of p) t fits) (own_parts t is q) pure f parts l b
+        → Begins (rs ++ fill_temporaries p i) ts → Are (fill p bound r d rs t i)
+    fill_valid r d rs t (One e) points small q f parts l b = filled_valid r d rs t e points small q parts l f.light b
+    fill_valid r d rs t (Many brace is) points small q f parts l b =
+        fill_parts_valid r d (size_of p.structs t) rs (parts_or_itself (tables_of p) t) is points small (parts_inside (tables_of p) t fits) (own_parts t is q) f parts l b
 
-    fill_parts_valid : (r d most : ℕ) (rs : Types) (cs : List (ℕ × PlainType)) (is : Initialisers) → IsPoint r → d + most ≤ 2147483647 → PartsInside p.structs most cs → PartsInitialised s cs is → ArePureInitialisers is → EachPart IsSmall is
-        → EachPart (TypesSmall p.structs) is → InitialisersHaveLetters is → Begins (rs ++ parts_temporaries is) ts → Are (fill_parts p bound r d rs cs is)
-    fill_parts_valid r d most rs cs NoInitialiser points small h q pure f parts l b = zero_parts_valid r (length rs) d most cs points (register_at rs ts Ptr b) small h
-    fill_parts_valid r d most rs [] (Listed i is) points small h q pure f parts l b = absurd q
-    fill_parts_valid r d most rs (x ∷ cs) (Listed i is) points small h q pure f parts l b =
+    fill_parts_valid : (r d most : ℕ) (rs : Types) (cs : List (ℕ × PlainType)) (is : Initialisers) → IsPoint r → d + most ≤ 2147483647 → PartsInside p.structs most cs → PartsInitialised s cs is → EachPart IsSmall is
+        → EachPart (TypesSmall p.structs) is → InitialisersHaveLetters is → Begins (rs ++ parts_temporaries p is) ts → Are (fill_parts p bound r d rs cs is)
+    fill_parts_valid r d most rs cs NoInitialiser points small h q f parts l b = zero_parts_valid r (length rs) d most cs points (register_at rs ts Ptr b) small h
+    fill_parts_valid r d most rs [] (Listed i is) points small h q f parts l b = absurd q
+    fill_parts_valid r d most rs (x ∷ cs) (Listed i is) points small h q f parts l b =
         let inside = h.0 in
-        let ti = fill_temporaries i in
+        let ti = fill_temporaries p i in
         behind (fill p bound r (d + x.0) rs x.1 i) (fill_parts p bound r d (rs ++ ti) cs is)
-        (fill_valid r (d + x.0) rs x.1 i points (omega (arith, small, inside)) q.0 pure.0 f.0 parts.0 l.0 (begins_left rs ti (parts_temporaries is) ts b))
-        (fill_parts_valid r d most (rs ++ ti) cs is points small h.1 q.1 pure.1 f.1 parts.1 l.1 (begins_right rs ti (parts_temporaries is) ts b))
+        (fill_valid r (d + x.0) rs x.1 i points (omega (arith, small, inside)) q.0 f.0 parts.0 l.0 (begins_left rs ti (parts_temporaries p is) ts b))
+        (fill_parts_valid r d most (rs ++ ti) cs is points small h.1 q.1 f.1 parts.1 l.1 (begins_right rs ti (parts_temporaries p is) ts b))
 
-  one_initialised : (at : Place) (rs : Types) (r : ℕ) (t : PlainType) (e : Expression) → IsPoint r → size_of p.structs t ≤ 2147483647 → InitialisedBy s t e → IsPureOrCall e → TypesSmall p.structs e → FullHasLetters e → weight_of e ≤ most_weight
-      → Begins (rs ++ initial_temporaries (Some (at, One e))) ts → Are (initialise p bound rs r t (Some (at, One e)))
-  one_initialised at rs r t e points small (ByText text) pure parts l light b =
+  one_initialised : (at : Place) (rs : Types) (r : ℕ) (t : PlainType) (e : Expression) → IsPoint r → size_of p.structs t ≤ 2147483647 → InitialisedBy s t e → TypesSmall p.structs e → ValueHasLetters e → weight_of e ≤ most_weight
+      → Begins (rs ++ initial_temporaries p (Some (at, One e))) ts → Are (initialise p bound rs r t (Some (at, One e)))
+  one_initialised at rs r t e points small (ByText text) parts l light b =
       let is : string_in e ≡ Some text.text = ap string_in text.is in
-      let k : Begins (rs ++ Ptr ∷ []) ts = subst (λ o. Begins (rs ++ (if is_there o then Ptr ∷ [] else full_temporaries e)) ts) is b in
-      let whole = filled_valid r 0 rs t e points (omega (arith, small)) (ByText text) pure parts l light (subst (λ o. Begins (rs ++ one_temporaries o e) ts) (sym is) k) in
-      subst (λ o. Are (if not (is_there o) then before (full_setup p bound rs e) (store r t (full_value p bound rs e)) else fill_one p bound r 0 rs t (string_in e) e)) (sym is) whole
-  one_initialised at rs r t e points small (ByValue val none) pure parts l light b =
-      let k = subst (λ o. Begins (rs ++ (if is_there o then Ptr ∷ [] else full_temporaries e)) ts) none b in
-      subst (λ o. Are (if not (is_there o) then before (full_setup p bound rs e) (store r t (full_value p bound rs e)) else fill_one p bound r 0 rs t (string_in e) e)) (sym none)
-      (assigned_valid p gs ts result bound s knows calls ls r t e rs points val.ctype val.scalar pure val.typed parts l light k)
+      let k : Begins (rs ++ Ptr ∷ []) ts = subst (λ o. Begins (rs ++ (if is_there o then Ptr ∷ [] else takes p e)) ts) is b in
+      let whole = filled_valid r 0 rs t e points (omega (arith, small)) (ByText text) parts l light (subst (λ o. Begins (rs ++ one_temporaries p o e) ts) (sym is) k) in
+      subst (λ o. Are (if not (is_there o) then before (prepare p bound rs e) (store r t (full.result p bound rs e)) else fill_one p bound r 0 rs t (string_in e) e)) (sym is) whole
+  one_initialised at rs r t e points small (ByValue val none) parts l light b =
+      let k = subst (λ o. Begins (rs ++ (if is_there o then Ptr ∷ [] else takes p e)) ts) none b in
+      subst (λ o. Are (if not (is_there o) then before (prepare p bound rs e) (store r t (full.result p bound rs e)) else fill_one p bound r 0 rs t (string_in e) e)) (sym none)
+      (assigned_valid p gs ts result bound s knows calls ls r t e rs points val.ctype val.scalar val.typed parts l light k)
 
   -- an object of the type is initialised
   pub initialise_valid : (rs : Types) (r : ℕ) (t : PlainType) (o : Option (Place × Initialiser)) → IsPoint r → size_of p.structs t ≤ 2147483647 → WhereAny (λ (i : Place × Initialiser). Initialises s t i.1) o → InitialFormed p.structs o
-      → WhereAny (λ (i : Place × Initialiser). InitialiserHasLetters i.1) o → Begins (rs ++ initial_temporaries o) ts → Are (initialise p bound rs r t o)
+      → WhereAny (λ (i : Place × Initialiser). InitialiserHasLetters i.1) o → Begins (rs ++ initial_temporaries p o) ts → Are (initialise p bound rs r t o)
   initialise_valid rs r t None points small q f l b = tt
-  initialise_valid rs r t (Some (at, One e)) points small q f l b = one_initialised at rs r t e points small q f.is f.types l f.small.light b
+  initialise_valid rs r t (Some (at, One e)) points small q f l b = one_initialised at rs r t e points small q f.types l f.small.light b
   initialise_valid rs r t (Some (at, Many brace is)) points small q f l b =
-      fill_parts_valid r 0 (size_of p.structs t) rs (parts_or_itself (tables_of p) t) is points (omega (arith, small)) (parts_inside (tables_of p) t fits) (own_parts t is q) f.is f.small f.types l b
+      fill_parts_valid r 0 (size_of p.structs t) rs (parts_or_itself (tables_of p) t) is points (omega (arith, small)) (parts_inside (tables_of p) t fits) (own_parts t is q) f.small f.types l b

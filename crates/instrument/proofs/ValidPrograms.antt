@@ -45,7 +45,7 @@ use Rattle.instrument.proofs.Names.{IsNumber, main_is_free, function_is_free, fu
 use Rattle.instrument.proofs.Typed.{begins_left, begins_right, register_at, is_global, Knows, count_of_globals, scalar_is}
 use Rattle.instrument.proofs.LaidOut.{structs_fit}
 use Rattle.instrument.proofs.Tables.{begins_itself, begins_then, entered_begins, items_begin, HavePointers, entered_keep, entered_have, AllPoint, PointFrom, entered_from, point_born}
-use Rattle.instrument.proofs.ValidSetups.{deep_set}
+use Rattle.instrument.proofs.FullDepths.{deep_set}
 use Rattle.instrument.proofs.ValidCalls.{signatures, calls_valid}
 use Rattle.instrument.proofs.ValidInitialisers.{initialise_valid, deep_initialise}
 use Rattle.instrument.proofs.ValidBlocks.{Sees, AreSmall, sees_one, sees_later, deep_deaths, birth_valid, deaths_valid, alive_valid}
@@ -118,7 +118,7 @@ deep_globals : (p : TranslationUnit) (rs : Types) (ds : List Declaration) → Gl
 deep_globals p rs [] h = omega arith
 deep_globals p rs (d ∷ ds) h =
     let g = object_of_global (number_of d) (static_objects p) in
-    deep_before (initialise_global p rs g d.ctype d.init) (initialise_globals p (rs ++ global_temporaries d.init) ds) (suc most_forms) (one g d.init h.0.formed) (deep_globals p (rs ++ global_temporaries d.init) ds h.1)
+    deep_before (initialise_global p rs g d.ctype d.init) (initialise_globals p (rs ++ global_temporaries p d.init) ds) (suc most_forms) (one g d.init h.0.formed) (deep_globals p (rs ++ global_temporaries p d.init) ds h.1)
   where
     one : (g : ℕ) (o : Option (Place × Initialiser)) → InitialFormed p.structs o → depth_of_all (initialise_global p rs g d.ctype o) ≤ suc most_forms
     one g None f = omega arith
@@ -142,26 +142,26 @@ module _ (p : TranslationUnit) (q : IsTypedProgram p) where
     abbrev Main : MonStatements → Type 0
     Main a = AreStatements (count_of_globals p) gs ts result [] a
 
-    global_valid : (rs : Types) (g : ℕ) (d : Declaration) (o : Option (Place × Initialiser)) → g < count_of_globals p → (k : GlobalTyped p d) → d.init ≡ o → Begins (rs ++ global_temporaries o) ts → Main (initialise_global p rs g d.ctype o)
+    global_valid : (rs : Types) (g : ℕ) (d : Declaration) (o : Option (Place × Initialiser)) → g < count_of_globals p → (k : GlobalTyped p d) → d.init ≡ o → Begins (rs ++ global_temporaries p o) ts → Main (initialise_global p rs g d.ctype o)
     global_valid rs g d None lt k e b = tt
     global_valid rs g d (Some i) lt k e b =
-        let here = begins_left rs (Ptr ∷ []) (initial_temporaries (Some i)) ts b in
+        let here = begins_left rs (Ptr ∷ []) (initial_temporaries p (Some i)) ts b in
         let points = register_at rs ts Ptr here in
         let pointer : IsExpression (count_of_globals p) ts (tree.Global g) Ptr = record { typed = (refl, omega (arith, lt)); within = omega arith } in
         before_valid (count_of_globals p) gs ts result [] (set (length rs) (tree.Global g)) (initialise p [] (rs ++ Ptr ∷ []) (length rs) d.ctype (Some i))
         (set_valid (count_of_globals p) gs ts result [] (length rs) (tree.Global g) Ptr points pointer)
         (initialise_valid p gs ts result [] k.sight (file_knows ts k.sight k.file) (calls_valid p ts k.sight k.file.names_are k.file.functions) [] (structs_fit p.structs q.structs) q.texts (rs ++ Ptr ∷ []) (length rs) d.ctype (Some i) points k.size
         (subst (WhereAny (λ (i : Place × Initialiser). Initialises k.sight d.ctype i.1)) e k.init) (subst (InitialFormed p.structs) e k.formed) (subst (WhereAny (λ (i : Place × Initialiser). InitialiserHasLetters i.1)) e k.letters)
-        (begins_right rs (Ptr ∷ []) (initial_temporaries (Some i)) ts b))
+        (begins_right rs (Ptr ∷ []) (initial_temporaries p (Some i)) ts b))
 
-    globals_valid : (rs : Types) (front ds : List Declaration) → front ++ ds ≡ p.globals → GlobalsTyped p ds → Begins (rs ++ all_global_temporaries ds) ts → Main (initialise_globals p rs ds)
+    globals_valid : (rs : Types) (front ds : List Declaration) → front ++ ds ≡ p.globals → GlobalsTyped p ds → Begins (rs ++ all_global_temporaries p ds) ts → Main (initialise_globals p rs ds)
     globals_valid rs front [] is h b = tt
     globals_valid rs front (d ∷ ds) is h b =
         let g = object_of_global (number_of d) (static_objects p) in
-        let own = global_temporaries d.init in
+        let own = global_temporaries p d.init in
         before_valid (count_of_globals p) gs ts result [] (initialise_global p rs g d.ctype d.init) (initialise_globals p (rs ++ own) ds)
-        (global_valid rs g d d.init (global_inside p (number_of d) (subst (λ l. global_index (number_of d) l < length l) is (index_below front d ds))) h.0 refl (begins_left rs own (all_global_temporaries ds) ts b))
-        (globals_valid (rs ++ own) (front ++ d ∷ []) ds (append_assoc front (d ∷ []) ds ∙ is) h.1 (begins_right rs own (all_global_temporaries ds) ts b))
+        (global_valid rs g d d.init (global_inside p (number_of d) (subst (λ l. global_index (number_of d) l < length l) is (index_below front d ds))) h.0 refl (begins_left rs own (all_global_temporaries p ds) ts b))
+        (globals_valid (rs ++ own) (front ++ d ∷ []) ds (append_assoc front (d ∷ []) ds ∙ is) h.1 (begins_right rs own (all_global_temporaries p ds) ts b))
 
   -- ---- a function
 

@@ -23,38 +23,38 @@ use Rattle.mon_syntax.specs.Trees as tree
 use Rattle.mon_syntax.specs.declared.tree.MonOp.TheVariants.{Eq}
 use Rattle.mon_syntax.specs.declared.tree.MonType.TheVariants.{U64}
 use Rattle.mon_syntax.specs.Valid.{Types, Labels, Signature, IsExpression, IsStatement, AreStatements, ReturnsResult, has_constant, has_operator, second_type, has_label, has_no_step}
-use Rattle.instrument.proofs.FormedTrees.{IsFull, IsFullOrCall, IsFullEffect, IsFullEffectOrCall, AreInitialised, FirstFormed, StatementFormed, CasesFormed, ElseFormed, ItemsFormed}
+use Rattle.instrument.proofs.FormedTrees.{IsFull, AreInitialised, FirstFormed, StatementFormed, CasesFormed, ElseFormed, ItemsFormed}
 use Rattle.c_model.specs.TypedTrees.{WhereAny, IsScalar, WellTyped, IsCondition, AreDeclared, Returned, StatementTyped, CasesTyped, ElseTyped, ItemsTyped, FirstTyped, IsCaseValue}
 use Rattle.c_model.specs.TypedAnnotations.{StatementNoted, CasesNoted, ElseNoted, ItemsNoted}
 use Rattle.track_scopes.specs.Blocks.{entered, deaths}
 use Rattle.c_initialisers.specs.Letters.{InitialsHaveLetters}
-use Rattle.c_effects.specs.Letters.{Any, HasLetters, FullHasLetters, EffectHasLetters}
+use Rattle.c_effects.specs.Letters.{Any, ActHasLetters, ValueHasLetters}
 use Rattle.instrument.specs.Limits.{HasNumbers, CasesHaveNumbers, ElseHasNumbers, FirstHasNumbers, HaveNumbers}
-use Rattle.c_effects.specs.Expressions.{register_type, value_type, before, one, set, setup, temporaries, condition_of}
+use Rattle.c_effects.specs.Expressions.{register_type, value_type, before, one, set}
 use Rattle.annot_code.specs.Code.{assertions}
 use Rattle.c_initialisers.specs.Translation.{initial_temporaries, declaration_temporaries, initialise, initialise_all, initialise_local, may_be_born}
-use Rattle.c_effects.specs.Effects.{block_of, any_temporaries, full_temporaries, effect_temporaries, full_setup, full_value, effect, effect_if_any}
-use Rattle.instrument.specs.Translation.{Spot, leave_where_zero, test, test_if_any, returned_temporaries, switch_temporaries, returned, loop, with_variables, after_statement, after_cases, after_else, after_first, after_item, after_items, statement}
-use Rattle.instrument.specs.Translation.{case_label, test_case, tests_of_cases, search, where_reached, others_in_block, next_cases, blocks_of_cases}
+use Rattle.c_effects.specs.Effects.{block_of, any_temporaries}
+use Rattle.c_effects.specs.Full.{act, act_takes, condition_result, prepare, takes}
+use Rattle.c_effects.specs.Full as full
+use Rattle.instrument.specs.Translation.{Spot, leave_where_zero, returned_temporaries, switch_temporaries, returned, loop, with_variables, after_statement, after_cases, after_else, after_first, after_item, after_items, statement}
+use Rattle.instrument.specs.Translation.{act_if_any, test, test_if_any, case_label, test_case, tests_of_cases, search, where_reached, others_in_block, next_cases, blocks_of_cases}
 use Rattle.c_simulation.specs.Labels.{end_label, next_label}
 use Rattle.instrument.specs.Translation.{else_part, first_part, items, result_of}
 use Rattle.instrument.specs.Translation as target
 use Rattle.instrument.proofs.Names.{IsNumber, end_is_free, next_is_free, case_is_free, ends_differ, nexts_differ, same_bytes}
-use Rattle.instrument.proofs.Typed.{small_constant, index_constant, begins_left, begins_right, begins_front, register_at, count_of_globals, block_points, known_small, condition_valid}
+use Rattle.instrument.proofs.Typed.{small_constant, index_constant, begins_left, begins_right, begins_front, register_at, count_of_globals, block_points, known_small}
 use Rattle.instrument.proofs.Tables.{begins_then, statement_begins, cases_begin, else_begins, first_begins, items_begin, HavePointers, pointers_front, pointers_back, pointers_kept, entered_keep, entered_have, statement_keeps, items_keep}
 use Rattle.instrument.proofs.Tables.{first_keeps, AllPoint, point_both}
 use Rattle.instrument.proofs.Tables.{entered_from, point_born}
-use Rattle.instrument.proofs.ValidSetups.{HasValue, setup_valid}
 use Rattle.instrument.proofs.ValidAsserts.{assertions_valid}
-use Rattle.instrument.proofs.ValidEffects.{CallsValid, result_scalar, effect_valid, full_valid}
+use Rattle.instrument.proofs.FullValid.{CallsValid, HasValue, act_valid, condition_valid, full_valid, prepare_valid, result_scalar}
 use Rattle.instrument.proofs.Parts.{StructsFit}
 use Rattle.c_model.specs.ReadTree.{TextsAreBytes}
 use Rattle.annot_code.proofs.ValidParts.{before_valid}
 use Rattle.annot_code.specs.Validity.{Begins}
 use Rattle.instrument.proofs.ValidInitialisers.{initialise_valid, initial_letters}
 use Rattle.instrument.proofs.ValidBlocks.{Sees, AreSmall, sees_inner, sees_one, sees_behind, sees_later, deaths_valid, alive_valid}
-use Rattle.instrument.proofs.Depths.{no_step_test, no_step_test_if_any, no_step_effect_if_any}
-use Rattle.instrument.proofs.FullForms.{effect_or_call}
+use Rattle.instrument.proofs.Depths.{no_step_test, no_step_test_if_any, no_step_act_if_any}
 use Rattle.instrument.proofs.Numbers.{structs_behind}
 
 -- ---- labels
@@ -137,22 +137,24 @@ module _ (p : TranslationUnit) (gs : List Signature) (ts : Types) (result : Plai
   and_then : (ls : Labels) (a b : MonStatements) → Are ls a → Are ls b → Are ls (before a b)
   and_then ls a b h k = before_valid (count_of_globals p) gs ts (result_of result) ls a b h k
 
-  effect_at : (s : Sight) (r : RegisterTable) (v : See r s) (ls : Labels) (e : Expression) → IsFullEffectOrCall p.structs e → WellTyped s e → EffectHasLetters e → Begins (r.kinds ++ effect_temporaries p e) ts → Are ls (effect p r.bound r.kinds e)
-  effect_at s r v ls e f q l b = effect_valid p gs ts (result_of result) r.bound s v.knows (calls s v.names_are v.functions_are) ls e r.kinds f.is q f.types l f.small.light b
+  effect_at : (s : Sight) (r : RegisterTable) (v : See r s) (ls : Labels) (e : Expression) → IsFull p.structs e → WellTyped s e → ActHasLetters e → Begins (r.kinds ++ act_takes p e) ts → Are ls (act p r.bound r.kinds e)
+  effect_at s r v ls e f q l b = act_valid p gs ts (result_of result) r.bound s v.knows (calls s v.names_are v.functions_are) ls e q f.types l f.small.light r.kinds b
 
-  effect_if_any_at : (s : Sight) (r : RegisterTable) (v : See r s) (ls : Labels) (e : Option Expression) → WhereAny (IsFullEffect p.structs) e → WhereAny (WellTyped s) e → Any EffectHasLetters e
-      → Begins (r.kinds ++ any_temporaries (effect_temporaries p) e) ts → Are ls (effect_if_any p r.bound r.kinds e)
+  effect_if_any_at : (s : Sight) (r : RegisterTable) (v : See r s) (ls : Labels) (e : Option Expression) → WhereAny (IsFull p.structs) e → WhereAny (WellTyped s) e → Any ActHasLetters e
+      → Begins (r.kinds ++ any_temporaries (act_takes p) e) ts → Are ls (act_if_any p r.bound r.kinds e)
   effect_if_any_at s r v ls None f q l b = tt
-  effect_if_any_at s r v ls (Some e) f q l b = effect_at s r v ls e (record { is = effect_or_call e f.is; small = f.small; types = f.types }) q l b
+  effect_if_any_at s r v ls (Some e) f q l b = effect_at s r v ls e f q l b
 
-  test_at : (s : Sight) (r : RegisterTable) (v : See r s) (ls : Labels) (loops : ℕ) (e : Expression) → has_label ls (end_label loops) ≡ true → IsFull p.structs e → IsCondition s e → HasLetters e → Begins (r.kinds ++ temporaries e) ts
+  test_at : (s : Sight) (r : RegisterTable) (v : See r s) (ls : Labels) (loops : ℕ) (e : Expression) → has_label ls (end_label loops) ≡ true → IsFull p.structs e → IsCondition s e → ValueHasLetters e → Begins (r.kinds ++ takes p e) ts
       → Are ls (test p r.bound r.kinds loops e)
   test_at s r v ls loops e jump f q l b =
-      and_then ls (setup p r.bound r.kinds e) (leave_where_zero loops (condition_of p r.bound r.kinds e)) (setup_valid p gs ts (result_of result) r.bound s v.knows ls e r.kinds (HasValue q.scalar) f.is q.typed f.types l f.small.light b)
-      ((condition_valid p ts r.bound s v.knows e r.kinds q.scalar f.is q.typed f.types l f.small.light b, tt, (jump, tt)), tt)
+      let known = calls s v.names_are v.functions_are in
+      and_then ls (prepare p r.bound r.kinds e) (leave_where_zero loops (condition_result p r.bound r.kinds e))
+      (prepare_valid p gs ts (result_of result) r.bound s v.knows known ls e q.typed f.types l f.small.light r.kinds (HasValue q.scalar) b)
+      ((condition_valid p gs ts (result_of result) r.bound s v.knows known ls e r.kinds q.scalar q.typed f.types l f.small.light b, tt, (jump, tt)), tt)
 
-  test_if_any_at : (s : Sight) (r : RegisterTable) (v : See r s) (ls : Labels) (loops : ℕ) (e : Option Expression) → has_label ls (end_label loops) ≡ true → WhereAny (IsFull p.structs) e → WhereAny (IsCondition s) e → Any HasLetters e
-      → Begins (r.kinds ++ any_temporaries temporaries e) ts → Are ls (test_if_any p r.bound r.kinds loops e)
+  test_if_any_at : (s : Sight) (r : RegisterTable) (v : See r s) (ls : Labels) (loops : ℕ) (e : Option Expression) → has_label ls (end_label loops) ≡ true → WhereAny (IsFull p.structs) e → WhereAny (IsCondition s) e → Any ValueHasLetters e
+      → Begins (r.kinds ++ any_temporaries (takes p) e) ts → Are ls (test_if_any p r.bound r.kinds loops e)
   test_if_any_at s r v ls loops None jump f q l b = tt
   test_if_any_at s r v ls loops (Some e) jump f q l b = test_at s r v ls loops e jump f q l b
 
@@ -170,17 +172,17 @@ module _ (p : TranslationUnit) (gs : List Signature) (ts : Types) (result : Plai
   where_born ls false a h = tt
 
   initials_valid : (ds : List Declaration) (s : Sight) (bound : Bindings) (v : Sees p ts bound functions s) (ls : Labels) (rs : Types) → HavePointers ts bound ds → AreOwn ds → AreInitialised p.structs ds → AreDeclared s ds → InitialsHaveLetters ds
-      → Begins (rs ++ declaration_temporaries ds) ts → Are ls (initialise_all p bound rs ds)
+      → Begins (rs ++ declaration_temporaries p ds) ts → Are ls (initialise_all p bound rs ds)
   initials_valid [] s bound v ls rs h own f q l b = tt
   initials_valid (d ∷ ds) s bound v ls rs h own f q l b =
-      let here = initial_temporaries d.init in
+      let here = initial_temporaries p d.init in
       let w = sees_one p ts functions bound s d own.0 h.0 v in
       and_then ls (initialise_local p bound rs d) (initialise_all p bound (rs ++ here) ds)
       (where_born ls (may_be_born (size_of p.structs d.ctype)) (initialise p bound rs (block_of bound (number_of d)) d.ctype d.init)
       (initialise_valid p gs ts (result_of result) bound (with_object s d) w.knows (calls (with_object s d) w.names_are w.functions_are) ls fits texts rs
       (block_of bound (number_of d)) d.ctype d.init
-      (block_points ts bound (number_of d) h.0) (declared_small s (d ∷ ds) v.knows.structs_are q).0 q.0.init f.0 (initial_letters d.init l.0) (begins_left rs here (declaration_temporaries ds) ts b)))
-      (initials_valid ds (with_object s d) bound w ls (rs ++ here) h.1 own.1 f.1 q.1 l.1 (begins_right rs here (declaration_temporaries ds) ts b))
+      (block_points ts bound (number_of d) h.0) (declared_small s (d ∷ ds) v.knows.structs_are q).0 q.0.init f.0 (initial_letters d.init l.0) (begins_left rs here (declaration_temporaries p ds) ts b)))
+      (initials_valid ds (with_object s d) bound w ls (rs ++ here) h.1 own.1 f.1 q.1 l.1 (begins_right rs here (declaration_temporaries p ds) ts b))
 
   -- ---- loops
 
@@ -216,22 +218,22 @@ module _ (p : TranslationUnit) (gs : List Signature) (ts : Types) (result : Plai
       let e : IsExpression (count_of_globals p) ts (tree.Register r) (value_type t) = record { typed = points; within = omega arith } in
       subst (λ t. ReturnsResult (count_of_globals p) ts t (Some (tree.Register r))) (sym (result_scalar t h)) e
 
-  returned_valid : (spot : Spot) (s : Sight) (r : RegisterTable) (v : See r s) (ls : Labels) (e : Option Expression) → Points ts spot → WhereAny (IsFullOrCall p.structs) e → Returned s result e → Any FullHasLetters e
-      → Begins (r.kinds ++ any_temporaries returned_temporaries e) ts → Are ls (returned p spot r e)
+  returned_valid : (spot : Spot) (s : Sight) (r : RegisterTable) (v : See r s) (ls : Labels) (e : Option Expression) → Points ts spot → WhereAny (IsFull p.structs) e → Returned s result e → Any ValueHasLetters e
+      → Begins (r.kinds ++ any_temporaries (returned_temporaries p) e) ts → Are ls (returned p spot r e)
   returned_valid spot s r v ls None k f q l b =
       let live = target.all_live spot in
       and_then ls (deaths live) (one (tree.Return None)) (deaths_valid (count_of_globals p) gs ts (result_of result) ls live (points_living spot k))
       (subst (λ t. ReturnsResult (count_of_globals p) ts (result_of t) None) (sym q) tt, tt)
   returned_valid spot s r v ls (Some e) k f q l b =
       let live = target.all_live spot in
-      let te = full_temporaries e in
+      let te = takes p e in
       let last = length (r.kinds ++ te) in
-      let x = full_valid p gs ts (result_of result) r.bound s v.knows (calls s v.names_are v.functions_are) ls e r.kinds (subst IsScalar (sym q.ctype) q.scalar) f.is q.typed f.types l f.small.light
+      let x = full_valid p gs ts (result_of result) r.bound s v.knows (calls s v.names_are v.functions_are) ls e r.kinds (subst IsScalar (sym q.ctype) q.scalar) q.typed f.types l f.small.light
       (begins_left r.kinds te (value_type (type_of e) ∷ []) ts b) in
       let register : slice_get ts last ≡ Some (value_type (type_of e)) = register_at (r.kinds ++ te) ts (value_type (type_of e)) (begins_right r.kinds te (value_type (type_of e) ∷ []) ts b) in
       let leaves = one (tree.Return (Some (tree.Register last))) in
-      and_then ls (full_setup p r.bound r.kinds e) (before (set last (full_value p r.bound r.kinds e)) (before (deaths live) leaves)) x.0
-      (and_then ls (set last (full_value p r.bound r.kinds e)) (before (deaths live) leaves) ((value_type (type_of e), register, x.1), tt)
+      and_then ls (prepare p r.bound r.kinds e) (before (set last (full.result p r.bound r.kinds e)) (before (deaths live) leaves)) x.setup
+      (and_then ls (set last (full.result p r.bound r.kinds e)) (before (deaths live) leaves) ((value_type (type_of e), register, x.value), tt)
       (and_then ls (deaths live) leaves (deaths_valid (count_of_globals p) gs ts (result_of result) ls live (points_living spot k))
       (returns_register last result q.scalar (register ∙ ap (λ t. Some (value_type t)) q.ctype), tt)))
 
@@ -259,19 +261,19 @@ module _ (p : TranslationUnit) (gs : List Signature) (ts : Types) (result : Plai
 
   -- what is behind the word, in a register
   pub record IsSwitchValue (ls : Labels) (r : RegisterTable) (e : Expression) : Type 0 where
-    pub setup : Are ls (full_setup p r.bound r.kinds e)
-    pub set : Are ls (set (length (r.kinds ++ full_temporaries e)) (full_value p r.bound r.kinds e))
-    pub register : slice_get ts (length (r.kinds ++ full_temporaries e)) ≡ Some (value_type (type_of e))
+    pub setup : Are ls (prepare p r.bound r.kinds e)
+    pub set : Are ls (set (length (r.kinds ++ takes p e)) (full.result p r.bound r.kinds e))
+    pub register : slice_get ts (length (r.kinds ++ takes p e)) ≡ Some (value_type (type_of e))
 
-  switch_value_valid : (s : Sight) (r : RegisterTable) (v : See r s) (ls : Labels) (e : Expression) (k : CInt) → IsFullOrCall p.structs e → WellTyped s e → type_of e ≡ Int k → FullHasLetters e → Begins (r.kinds ++ returned_temporaries e) ts
+  switch_value_valid : (s : Sight) (r : RegisterTable) (v : See r s) (ls : Labels) (e : Expression) (k : CInt) → IsFull p.structs e → WellTyped s e → type_of e ≡ Int k → ValueHasLetters e → Begins (r.kinds ++ returned_temporaries p e) ts
       → IsSwitchValue ls r e
   switch_value_valid s r v ls e k f q type l b =
-      let te = full_temporaries e in
+      let te = takes p e in
       let t = value_type (type_of e) in
       let scalar : IsScalar (type_of e) = record { scalar = IntegerType k; is = ap scalar_of type } in
-      let x = full_valid p gs ts (result_of result) r.bound s v.knows (calls s v.names_are v.functions_are) ls e r.kinds scalar f.is q f.types l f.small.light (begins_left r.kinds te (t ∷ []) ts b) in
+      let x = full_valid p gs ts (result_of result) r.bound s v.knows (calls s v.names_are v.functions_are) ls e r.kinds scalar q f.types l f.small.light (begins_left r.kinds te (t ∷ []) ts b) in
       let register : slice_get ts (length (r.kinds ++ te)) ≡ Some t = register_at (r.kinds ++ te) ts t (begins_right r.kinds te (t ∷ []) ts b) in
-      record { setup = x.0; set = ((t, register, x.1), tt); register = register }
+      record { setup = x.setup; set = ((t, register, x.value), tt); register = register }
 
   index_small : (i : ℕ) (cs : Cases) → CasesHaveNumbers i cs → i < 2 ^ 63
   index_small i NoCase l = l
@@ -374,16 +376,17 @@ module _ (p : TranslationUnit) (gs : List Signature) (ts : Types) (result : Plai
         (entered_from ts own r born)
         (items_valid body (inner s) around ls (with_variables (next_register r) own spot) (points_with spot r own born k) inside (sees_inner p ts functions inside.bound s z2) same o (entered_have ts own r born) f q m w l (omega (arith, d)) b)
     statement_valid (If at e x y) s around ls spot k r v same o f q m w l d b =
-        let z = with_kinds (temporaries e) r in
+        let z = with_kinds (takes p e) r in
         let z2 = after_statement p x z in
         let second = begins_then z2.kinds (after_else p y z2).kinds ts (else_begins p y z2) b in
         let first = begins_then z.kinds z2.kinds ts (statement_begins p x z) second in
         let left = le-max_left (form.depth x) (form.depth_of_else y) in
         let right = le-max_right (form.depth x) (form.depth_of_else y) in
-        and_then ls (setup p r.bound r.kinds e) (one (tree.If (condition_of p r.bound r.kinds e) (statement p spot z x) (else_part p spot z2 y)))
-        (setup_valid p gs ts (result_of result) r.bound s v.knows ls e r.kinds (HasValue q.0.scalar) f.0.is q.0.typed f.0.types l.0 f.0.small.light first) (
+        let known = calls s v.names_are v.functions_are in
+        and_then ls (prepare p r.bound r.kinds e) (one (tree.If (condition_result p r.bound r.kinds e) (statement p spot z x) (else_part p spot z2 y)))
+        (prepare_valid p gs ts (result_of result) r.bound s v.knows known ls e q.0.typed f.0.types l.0 f.0.small.light r.kinds (HasValue q.0.scalar) first) (
           (
-            condition_valid p ts r.bound s v.knows e r.kinds q.0.scalar f.0.is q.0.typed f.0.types l.0 f.0.small.light first,
+            condition_valid p gs ts (result_of result) r.bound s v.knows known ls e r.kinds q.0.scalar q.0.typed f.0.types l.0 f.0.small.light first,
             statement_valid x s around ls spot k z v same o f.1 q.1 m.0 w.0 l.1 (omega (arith, d, left)) second,
             else_valid y s around ls spot k z2 (sees_later p ts functions z z2 s (statement_keeps ts p x z second) v) same o f.2 q.2 m.1 w.1 l.2 (omega (arith, d, right)) b,
           ),
@@ -391,7 +394,7 @@ module _ (p : TranslationUnit) (gs : List Signature) (ts : Types) (result : Plai
         )
     statement_valid (While at annots e a) s around ls spot k r v same o f q m w l d b =
         let loops = spot.levels + 1 in
-        let z = with_kinds (temporaries e) r in
+        let z = with_kinds (takes p e) r in
         let first = begins_then z.kinds (after_statement p a z).kinds ts (statement_begins p a z) b in
         loop_valid ls spot.levels spot.innermost around.breaks around.loops o (test p r.bound r.kinds loops e) (statement p (target.in_loop spot) z a) NoStatement (omega (arith, d)) (no_step_test p r.bound r.kinds loops e) refl
         (test_at s r v (ended ls spot.levels spot.innermost around.breaks around.loops o) loops e (own_end ls spot.levels spot.innermost around.breaks around.loops o) f.1 q.0 l.0 first)
@@ -400,7 +403,7 @@ module _ (p : TranslationUnit) (gs : List Signature) (ts : Types) (result : Plai
     statement_valid (Do at a e) s around ls spot k r v same o f q m w l d b =
         let loops = spot.levels + 1 in
         let z = after_statement p a r in
-        let first = begins_front z.kinds (temporaries e) ts b in
+        let first = begins_front z.kinds (takes p e) ts b in
         loop_valid ls spot.levels spot.innermost around.breaks around.loops o NoStatement (statement p (target.in_loop spot) r a) (test p z.bound z.kinds loops e) (omega (arith, d)) refl (no_step_test p z.bound z.kinds loops e) tt
         (statement_valid a s (in_loop around) (in_body ls spot.levels spot.innermost around.breaks around.loops o)
         (target.in_loop spot) (points_loop spot k) r v same (around_body ls spot.levels spot.innermost around.breaks around.loops o) f.0 q.0 m w l.0 (omega (arith, d)) first)
@@ -411,11 +414,11 @@ module _ (p : TranslationUnit) (gs : List Signature) (ts : Types) (result : Plai
         let inside = with_variables (next_register r) own spot in
         let y = entered own r in
         let z = after_first p first y in
-        let u = with_kinds (any_temporaries temporaries e) z in
+        let u = with_kinds (any_temporaries (takes p) e) z in
         let z2 = after_statement p a u in
-        let fourth = begins_front z2.kinds (any_temporaries (effect_temporaries p) step) ts b in
+        let fourth = begins_front z2.kinds (any_temporaries (act_takes p) step) ts b in
         let third = begins_then u.kinds z2.kinds ts (statement_begins p a u) fourth in
-        let second = begins_front z.kinds (any_temporaries temporaries e) ts third in
+        let second = begins_front z.kinds (any_temporaries (takes p) e) ts third in
         let born = begins_then y.kinds z.kinds ts (first_begins p first y) second in
         let t = inner s in
         let have = entered_have ts own r born in
@@ -427,11 +430,11 @@ module _ (p : TranslationUnit) (gs : List Signature) (ts : Types) (result : Plai
         let front = first_part p inside y first in
         let tested = test_if_any p z.bound z.kinds loops e in
         let body = statement p (target.in_loop inside) u a in
-        let last = effect_if_any p z2.bound z2.kinds step in
+        let last = act_if_any p z2.bound z2.kinds step in
         alive_valid (count_of_globals p) gs ts (result_of result) ls p (next_register r) own (before front (one (loop loops tested body last))) (first_small first t around v.knows.structs_are q.0) (entered_from ts own r born)
         (and_then ls front (one (loop loops tested body last))
         (first_valid first t y in_born around inside ls have w.0 f.1 q.0 l.0 second)
-        (loop_valid ls spot.levels spot.innermost around.breaks around.loops o tested body last (omega (arith, d)) (no_step_test_if_any p z.bound z.kinds loops e) (no_step_effect_if_any p z2.bound z2.kinds step)
+        (loop_valid ls spot.levels spot.innermost around.breaks around.loops o tested body last (omega (arith, d)) (no_step_test_if_any p z.bound z.kinds loops e) (no_step_act_if_any p z2.bound z2.kinds step)
         (test_if_any_at after z in_turns (ended ls spot.levels spot.innermost around.breaks around.loops o) loops e (own_end ls spot.levels spot.innermost around.breaks around.loops o) f.2 q.1 l.1 third)
         (statement_valid a after (in_loop around) (in_body ls spot.levels spot.innermost around.breaks around.loops o)
         (target.in_loop inside) (points_loop inside points) u in_turns same (around_body ls spot.levels spot.innermost around.breaks around.loops o) f.4 q.3 m.1 w.1 l.2 (omega (arith, d)) fourth)
@@ -443,18 +446,18 @@ module _ (p : TranslationUnit) (gs : List Signature) (ts : Types) (result : Plai
     statement_valid (Labelled at x a) s around ls spot k r v same o f q m w l d b = absurd f
     statement_valid (Switch at e cases) s around ls spot k r v same o f q m w l d b =
         let levels = spot.levels + 1 in
-        let taken = returned_temporaries e in
-        let z = with_kinds (switch_temporaries e) r in
+        let taken = returned_temporaries p e in
+        let z = with_kinds (switch_temporaries p e) r in
         let first = begins_then z.kinds (after_cases p cases z).kinds ts (cases_begin p cases z) b in
         let chosen : slice_get ts (length (r.kinds ++ taken)) ≡ Some U64 = register_at (r.kinds ++ taken) ts U64 (begins_right r.kinds taken (U64 ∷ []) ts first) in
         let is = (switch_value_valid s r v ls e (promoted q.0) f.0 q.1 q.2 l.0 (begins_left r.kinds taken (U64 ∷ []) ts first)) in
-        let search_code = search levels (value_type (type_of e)) (length (r.kinds ++ full_temporaries e)) (length (r.kinds ++ taken)) cases in
+        let search_code = search levels (value_type (type_of e)) (length (r.kinds ++ takes p e)) (length (r.kinds ++ taken)) cases in
         let items_code = blocks_of_cases p (target.in_switch spot) z (length (r.kinds ++ taken)) 0 0 cases in
-        and_then ls (full_setup p r.bound r.kinds e) (before (set (length (r.kinds ++ full_temporaries e)) (full_value p r.bound r.kinds e)) (before search_code (one (tree.Labelled items_code (end_label levels))))) is.setup
-        (and_then ls (set (length (r.kinds ++ full_temporaries e)) (full_value p r.bound r.kinds e)) (before search_code (one (tree.Labelled items_code (end_label levels)))) is.set
+        and_then ls (prepare p r.bound r.kinds e) (before (set (length (r.kinds ++ takes p e)) (full.result p r.bound r.kinds e)) (before search_code (one (tree.Labelled items_code (end_label levels))))) is.setup
+        (and_then ls (set (length (r.kinds ++ takes p e)) (full.result p r.bound r.kinds e)) (before search_code (one (tree.Labelled items_code (end_label levels)))) is.set
         (and_then ls search_code (one (tree.Labelled items_code (end_label levels)))
-        (subst (λ t. Are ls (search levels (value_type t) (length (r.kinds ++ full_temporaries e)) (length (r.kinds ++ taken)) cases)) (sym q.2)
-        (search_valid levels (length (r.kinds ++ full_temporaries e)) (length (r.kinds ++ taken)) q.0 (subst (λ t. slice_get ts (length (r.kinds ++ full_temporaries e)) ≡ Some (value_type t)) q.2 is.register) chosen
+        (subst (λ t. Are ls (search levels (value_type t) (length (r.kinds ++ takes p e)) (length (r.kinds ++ taken)) cases)) (sym q.2)
+        (search_valid levels (length (r.kinds ++ takes p e)) (length (r.kinds ++ taken)) q.0 (subst (λ t. slice_get ts (length (r.kinds ++ takes p e)) ≡ Some (value_type t)) q.2 is.register) chosen
         cases s (in_switch around) ls (omega (arith, d)) (o.no_case levels) q.3 l.1)) (
           (
             end_is_free levels (omega (arith, d)),
@@ -515,7 +518,7 @@ module _ (p : TranslationUnit) (gs : List Signature) (ts : Types) (result : Plai
         → ItemsFormed p.structs is → ItemsTyped s around is → ItemsNoted s is → ItemsOwn is → HaveNumbers is → spot.levels + form.depth_of_items is ≤ 1000 → Within (after_items p is r) → Are ls (items p spot r is)
     items_valid NoItem s around ls spot k r v same o h f q m w l d b = tt
     items_valid (Then (Declare ds) rest) s around ls spot k r v same o h f q m w l d b =
-        let z = with_kinds (declaration_temporaries ds) r in
+        let z = with_kinds (declaration_temporaries p ds) r in
         let first = begins_then z.kinds (after_items p rest z).kinds ts (items_begin p rest z) b in
         let own = pointers_front ts r.bound ds (declared_in rest) h in
         let right = le-max_right 0 (form.depth_of_items rest) in

@@ -14,7 +14,7 @@ use Rattle.mon_syntax.specs.declared.tree.CopySize.TheVariants.{Four}
 use Rattle.mon_syntax.specs.declared.tree.MemoryCall.TheVariants.{Copy}
 use Rattle.mon_syntax.specs.Registers.{Bindings}
 use Rattle.mon_syntax.specs.Trees.{MonExpression, Register, Constant, Binary, Load, Set, Store, Act, Then, NoStatement}
-use Rattle.c_effects.specs.Effects.{effect, effect_temporaries}
+use Rattle.c_effects.specs.Full.{act, act_takes}
 
 abbrev here : Place
 here = record { line = 1; column = 1; offset = 1 }
@@ -49,15 +49,15 @@ abbrev one : Expression
 one = Node here int_type (source.Number (pos 1) (Some c.I32))
 
 -- `p->b = 1`: the pointer, the value, and then the member's place
-assigned_is : effect program bound (kind.Ptr ∷ []) (Node here int_type (source.Assign None second one))
+assigned_is : act program bound (kind.Ptr ∷ []) (Node here int_type (source.Assign None second one))
     ≡ Then (Set 1 (Load kind.Ptr (Register 0))) (Then (Set 2 (Binary mon.Add kind.Ptr (Register 1) (Constant kind.I64 (pos 4)))) (Then (Store 2 kind.I32 (Constant kind.I32 (pos 1))) NoStatement))
 assigned_is = refl
 
-assigned_registers : effect_temporaries program (Node here int_type (source.Assign None second one)) ≡ kind.Ptr ∷ kind.Ptr ∷ []
+assigned_registers : act_takes program (Node here int_type (source.Assign None second one)) ≡ kind.Ptr ∷ kind.Ptr ∷ []
 assigned_registers = refl
 
 -- `p->b++`
-bumped_is : effect program bound (kind.Ptr ∷ []) (Node here int_type (source.Bump PostUp second))
+bumped_is : act program bound (kind.Ptr ∷ []) (Node here int_type (source.Bump PostUp second))
     ≡ Then (Set 1 (Load kind.Ptr (Register 0))) (Then (Set 2 (Binary mon.Add kind.Ptr (Register 1) (Constant kind.I64 (pos 4))))
     (Then (Store 2 kind.I32 (Binary mon.Add kind.I32 (Load kind.I32 (Register 2)) (Constant kind.I32 (pos 1)))) NoStatement))
 bumped_is = refl
@@ -73,9 +73,9 @@ abbrev offset : ℕ → ℕ → MonExpression
 offset r d = Binary mon.Add kind.Ptr (Register r) (Constant kind.I64 (pos d))
 
 -- `*p = x`: the pointer, and then the two members
-copied_is : effect program ((1, 0) ∷ (2, 1) ∷ []) (kind.Ptr ∷ kind.Ptr ∷ []) (Node here (Struct 0) (source.Assign None target whole))
+copied_is : act program ((1, 0) ∷ (2, 1) ∷ []) (kind.Ptr ∷ kind.Ptr ∷ []) (Node here (Struct 0) (source.Assign None target whole))
     ≡ Then (Set 2 (Load kind.Ptr (Register 0))) (Then (Act None (Copy Four) (offset 2 0 ∷ offset 1 0 ∷ [])) (Then (Act None (Copy Four) (offset 2 4 ∷ offset 1 4 ∷ [])) NoStatement))
 copied_is = refl
 
-copied_registers : effect_temporaries program (Node here (Struct 0) (source.Assign None target whole)) ≡ kind.Ptr ∷ []
+copied_registers : act_takes program (Node here (Struct 0) (source.Assign None target whole)) ≡ kind.Ptr ∷ []
 copied_registers = refl

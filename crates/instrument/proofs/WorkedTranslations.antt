@@ -17,11 +17,11 @@ use Rattle.mon_syntax.specs.declared.tree.MonType.TheVariants as kind
 use Rattle.mon_syntax.specs.Registers.{Bindings, RegisterTable}
 use Rattle.mon_syntax.specs.Trees.{Register, Global, Constant, Binary, Minus, Cast, Load, Set, Store, Act, If, Labelled, Goto, Return, MonStatement, MonStatements, Then, NoStatement, Zeros, Literal}
 use Rattle.mon_syntax.specs.Valid.{open_parens}
-use Rattle.c_effects.specs.Expressions.{value, literal, pointer_to, one}
+use Rattle.c_effects.specs.Expressions.{literal, pointer_to, one}
 use Rattle.c_simulation.specs.Labels.{end_label}
 use Rattle.instrument.specs.Translation as target
 use Rattle.instrument.specs.Translation.{outermost, case_label, text_name, global_name, monitored_globals}
-use Rattle.c_effects.specs.Effects.{effect}
+use Rattle.c_effects.specs.Full.{act, result}
 use Rattle.c_model.specs.Sizes.{weight_of}
 
 abbrev here : Place
@@ -60,19 +60,19 @@ array = Node here int_type (source.Index (Node here (Ptr int_type) (source.Cast 
 abbrev back : Expression
 back = Node here int_type (source.Unary prefix.Deref (Node here (Ptr int_type) (source.Binary operator.Sub (pointer 1) (Node here int_type (source.Number (pos 1) (Some c.I32))))))
 
-index_is : value program bound [] index
+index_is : result program bound [] index
     ≡ Load kind.I32 (Binary mon.Add kind.Ptr (Load kind.Ptr (Register 0)) (Binary mon.Mul kind.I64 (Cast kind.I64 (Load kind.I32 (Register 1))) (Constant kind.I64 (pos 4))))
 index_is = refl
 
-array_is : value program bound [] array ≡ Load kind.I32 (Binary mon.Add kind.Ptr (Global 0) (Binary mon.Mul kind.I64 (Cast kind.I64 (Load kind.I32 (Register 1))) (Constant kind.I64 (pos 4))))
+array_is : result program bound [] array ≡ Load kind.I32 (Binary mon.Add kind.Ptr (Global 0) (Binary mon.Mul kind.I64 (Cast kind.I64 (Load kind.I32 (Register 1))) (Constant kind.I64 (pos 4))))
 array_is = refl
 
-back_is : value program bound [] back
+back_is : result program bound [] back
     ≡ Load kind.I32 (Binary mon.Add kind.Ptr (Load kind.Ptr (Register 0)) (Minus kind.I64 (Binary mon.Mul kind.I64 (Cast kind.I64 (Constant kind.I32 (pos 1))) (Constant kind.I64 (pos 4)))))
 back_is = refl
 
 -- parentheses, and the weights that bound them
-index_parens : open_parens (value program bound [] index) ≡ 6
+index_parens : open_parens (result program bound [] index) ≡ 6
 index_parens = refl
 
 index_weight : weight_of index ≡ 8
@@ -81,7 +81,7 @@ index_weight = refl
 array_weight : weight_of array ≡ 9
 array_weight = refl
 
-back_parens : open_parens (value program bound [] back) ≡ 6
+back_parens : open_parens (result program bound [] back) ≡ 6
 back_parens = refl
 
 back_weight : weight_of back ≡ 10
@@ -96,13 +96,13 @@ abbrev library : ℕ → PlainType → Expression → Expression
 library x t e = Node here t (source.Call (record { name = x; decl = 4294967295 }) (source.Following e source.NoExpression))
 
 -- `p = malloc(8)`
-malloc_is : effect heap_program bound (kind.Ptr ∷ kind.Ptr ∷ [])
+malloc_is : act heap_program bound (kind.Ptr ∷ kind.Ptr ∷ [])
     (Node here (Ptr Void) (source.Assign None (variable (Ptr Void) 1) (library 0 (Ptr Void) (Node here (Int c.U64) (source.Number (pos 8) (Some c.U64))))))
     ≡ Then (Act (Some 2) Malloc (Constant kind.U64 (pos 8) ∷ [])) (Then (Store 0 kind.Ptr (Register 2)) NoStatement)
 malloc_is = refl
 
 -- `free(p)`
-free_is : effect heap_program bound [] (library 1 Void (variable (Ptr Void) 1)) ≡ Then (Act None Free (Load kind.Ptr (Register 0) ∷ [])) NoStatement
+free_is : act heap_program bound [] (library 1 Void (variable (Ptr Void) 1)) ≡ Then (Act None Free (Load kind.Ptr (Register 0) ∷ [])) NoStatement
 free_is = refl
 
 -- ---- globals and literals in the order of the text

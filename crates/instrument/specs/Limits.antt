@@ -8,7 +8,7 @@ use Rattle.c_syntax.specs.Statements.{Cases, NoCase, AnotherCase}
 use Rattle.c_syntax.specs.Programs.{Function, TranslationUnit}
 use Rattle.c_model.specs.Meaning.{is_definition}
 use Rattle.c_initialisers.specs.Letters.{InitialsHaveLetters}
-use Rattle.c_effects.specs.Letters.{Any, HasLetters, FullHasLetters, EffectHasLetters}
+use Rattle.c_effects.specs.Letters.{Any, ValueHasLetters, ActHasLetters}
 use Rattle.annot_code.specs.Numbered.{AreNumbered}
 use Rattle.mon_syntax.specs.declared.tree.MonType.{MonType}
 use Rattle.instrument.specs.Translation.{registers_of_body, after_body, front_temporaries}
@@ -18,17 +18,17 @@ use Rattle.instrument.specs.Translation.{registers_of_body, after_body, front_te
 abbrev mutual
   pub HasNumbers : Statement → Type 0
   HasNumbers (Empty at) = Unit {0}
-  HasNumbers (Eval at e) = EffectHasLetters e
+  HasNumbers (Eval at e) = ActHasLetters e
   HasNumbers (Block at items) = HaveNumbers items
-  HasNumbers (If at e a b) = HasLetters e × HasNumbers a × ElseHasNumbers b
-  HasNumbers (While at annots e a) = HasLetters e × HasNumbers a
-  HasNumbers (Do at a e) = HasNumbers a × HasLetters e
-  HasNumbers (For at annots first e behind a) = FirstHasNumbers first × Any HasLetters e × HasNumbers a × Any EffectHasLetters behind
+  HasNumbers (If at e a b) = ValueHasLetters e × HasNumbers a × ElseHasNumbers b
+  HasNumbers (While at annots e a) = ValueHasLetters e × HasNumbers a
+  HasNumbers (Do at a e) = HasNumbers a × ValueHasLetters e
+  HasNumbers (For at annots first e behind a) = FirstHasNumbers first × Any ValueHasLetters e × HasNumbers a × Any ActHasLetters behind
   HasNumbers (Break at) = Unit {0}
   HasNumbers (Continue at) = Unit {0}
-  HasNumbers (Return at e) = Any FullHasLetters e
+  HasNumbers (Return at e) = Any ValueHasLetters e
   HasNumbers (Labelled at l a) = ⊥
-  HasNumbers (Switch at e cases) = FullHasLetters e × CasesHaveNumbers 0 cases
+  HasNumbers (Switch at e cases) = ValueHasLetters e × CasesHaveNumbers 0 cases
 
   -- cases, of which the first one has this index
   pub CasesHaveNumbers : ℕ → Cases → Type 0

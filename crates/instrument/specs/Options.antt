@@ -18,7 +18,8 @@ use Rattle.mon_syntax.specs.Registers.{Names, next_register, with_kinds, with_ta
 use Rattle.mon_syntax.specs.Trees.{MonStatements, NoStatement, Global}
 use Rattle.track_scopes.specs.Blocks.{births, entered}
 use Rattle.c_effects.specs.Effects.{any_temporaries}
-use Rattle.c_effects.specs.Expressions.{before, object_of_global, set, temporaries}
+use Rattle.c_effects.specs.Expressions.{before, object_of_global, set}
+use Rattle.c_effects.specs.Full.{takes}
 use Rattle.c_initialisers.specs.Initialisers.{initialise_by}
 use Rattle.c_effects.specs.Named.{unit_of, with_registers}
 use Rattle.instrument.specs.declared.spot.Spot as code
@@ -94,8 +95,8 @@ test_if_any_by n loops e = test_if_any (unit_of n) n.table.bound n.table.kinds l
 -- the loop of a `for`, after what stands first in it
 abbrev pub turns_by : Names → Spot → Option Expression → Option Expression → Statement → MonStatements
 turns_by n spot e step a =
-    for_turns (unit_of n) (spot.levels + 1) n.table (after_statement (unit_of n) a (with_kinds (any_temporaries temporaries e) n.table)) e step
-    (statement (unit_of n) (in_loop spot) (with_kinds (any_temporaries temporaries e) n.table) a)
+    for_turns (unit_of n) (spot.levels + 1) n.table (after_statement (unit_of n) a (with_kinds (any_temporaries (takes (unit_of n)) e) n.table)) e step
+    (statement (unit_of n) (in_loop spot) (with_kinds (any_temporaries (takes (unit_of n)) e) n.table) a)
 
 -- the body of a function, where it has one
 abbrev pub body_by : Names → Spot → Option Statement → MonStatements
@@ -146,7 +147,7 @@ global_initialised n d = started n (object_of_global (number_of d) (static_objec
 -- globals in order
 abbrev pub globals_initialised : Names → List Declaration → MonStatements
 globals_initialised n [] = NoStatement
-globals_initialised n (d ∷ ds) = before (global_initialised n d) (globals_initialised (with_registers (global_temporaries d.init) n) ds)
+globals_initialised n (d ∷ ds) = before (global_initialised n d) (globals_initialised (with_registers (global_temporaries (unit_of n) d.init) n) ds)
 
 -- ---- functions
 

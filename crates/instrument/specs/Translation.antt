@@ -26,9 +26,9 @@ use Rattle.mon_syntax.specs.Trees.{MonStatements, NoStatement, Then, MonRegister
 use Rattle.mon_syntax.specs.Trees.{Zeros, Literal, MonitoredGlobal, MonFunction, MonitoredProgram}
 use Rattle.mon_syntax.specs.Registers.{Bindings, RegisterTable, no_registers, with_kinds, next_register}
 use Rattle.c_initialisers.specs.Translation.{declaration_temporaries, initial_temporaries, initialise, initialise_all}
-use Rattle.c_effects.specs.Effects.{any_temporaries, effect_temporaries, full_temporaries, full_setup, full_value, effect}
-use Rattle.c_effects.specs.Effects.{effect_if_any}
-use Rattle.c_effects.specs.Expressions.{object_of_global, register_type, value_type, temporaries, before, one, set, condition_of, setup}
+use Rattle.c_effects.specs.Effects.{any_temporaries}
+use Rattle.c_effects.specs.Full.{act, act_takes, condition_result, prepare, result, takes}
+use Rattle.c_effects.specs.Expressions.{object_of_global, register_type, value_type, before, one, set}
 use Rattle.c_simulation.specs.Labels.{end_label, next_label}
 use Rattle.annot_code.specs.Code.{assertions, behind_assertions}
 use Rattle.track_scopes.specs.Blocks.{entered, birth, births, deaths, with_born}
@@ -62,29 +62,29 @@ index_of_main names (f ∷ fs) =
 -- ---- the registers after a part, before which these are
 
 -- the register that takes a value before the blocks die from which it may be read, and the type of it
-abbrev pub returned_temporaries : Expression → List MonType
-returned_temporaries e = full_temporaries e ++ value_type (type_of e) ∷ []
+abbrev pub returned_temporaries : TranslationUnit → Expression → List MonType
+returned_temporaries p e = takes p e ++ value_type (type_of e) ∷ []
 
 -- those that take the value of what is behind `switch`, and the index of the case that is chosen
-abbrev pub switch_temporaries : Expression → List MonType
-switch_temporaries e = returned_temporaries e ++ U64 ∷ []
+abbrev pub switch_temporaries : TranslationUnit → Expression → List MonType
+switch_temporaries p e = returned_temporaries p e ++ U64 ∷ []
 
 abbrev mutual
   pub after_statement : TranslationUnit → Statement → RegisterTable → RegisterTable
   after_statement p (source_statement.Empty at) r = r
-  after_statement p (source_statement.Eval at e) r = with_kinds (effect_temporaries p e) r
+  after_statement p (source_statement.Eval at e) r = with_kinds (act_takes p e) r
   after_statement p (source_statement.Block at body) r = after_items p body (entered (declared_in body) r)
-  after_statement p (source_statement.If at e a b) r = after_else p b (after_statement p a (with_kinds (temporaries e) r))
-  after_statement p (source_statement.While at annots e a) r = after_statement p a (with_kinds (temporaries e) r)
-  after_statement p (source_statement.Do at a e) r = with_kinds (temporaries e) (after_statement p a r)
+  after_statement p (source_statement.If at e a b) r = after_else p b (after_statement p a (with_kinds (takes p e) r))
+  after_statement p (source_statement.While at annots e a) r = after_statement p a (with_kinds (takes p e) r)
+  after_statement p (source_statement.Do at a e) r = with_kinds (takes p e) (after_statement p a r)
   after_statement p (source_statement.For at annots first e behind a) r =
-      with_kinds (any_temporaries (effect_temporaries p) behind)
-      (after_statement p a (with_kinds (any_temporaries temporaries e) (after_first p first (entered (declared_first first) r))))
+      with_kinds (any_temporaries (act_takes p) behind)
+      (after_statement p a (with_kinds (any_temporaries (takes p) e) (after_first p first (entered (declared_first first) r))))
   after_statement p (source_statement.Break at) r = r
   after_statement p (source_statement.Continue at) r = r
-  after_statement p (source_statement.Return at e) r = with_kinds (any_temporaries returned_temporaries e) r
+  after_statement p (source_statement.Return at e) r = with_kinds (any_temporaries (returned_temporaries p) e) r
   after_statement p (source_statement.Labelled at l a) r = r
-  after_statement p (source_statement.Switch at e cases) r = after_cases p cases (with_kinds (switch_temporaries e) r)
+  after_statement p (source_statement.Switch at e cases) r = after_cases p cases (with_kinds (switch_temporaries p e) r)
 
   pub after_cases : TranslationUnit → Cases → RegisterTable → RegisterTable
   after_cases p NoCase r = r
@@ -99,7 +99,7 @@ abbrev mutual
   after_first p (First i) r = after_item p i r
 
   pub after_item : TranslationUnit → BlockItem → RegisterTable → RegisterTable
-  after_item p (Declare ds) r = with_kinds (declaration_temporaries ds) r
+  after_item p (Declare ds) r = with_kinds (declaration_temporaries p ds) r
   after_item p (Specify at t) r = r
   after_item p (Run a) r = after_statement p a r
   after_item p (Asserts annots) r = record r { kinds = behind_assertions p r.bound r.kinds annots }
@@ -121,11 +121,16 @@ abbrev pub leave_where_zero : ℕ → MonExpression → MonStatements
 leave_where_zero loops e = one (If e NoStatement (one (Goto (end_label loops))))
 
 abbrev pub test : TranslationUnit → Bindings → List MonType → ℕ → Expression → MonStatements
-test p bound rs loops e = before (setup p bound rs e) (leave_where_zero loops (condition_of p bound rs e))
+test p bound rs loops e = before (prepare p bound rs e) (leave_where_zero loops (condition_result p bound rs e))
 
 abbrev pub test_if_any : TranslationUnit → Bindings → List MonType → ℕ → Option Expression → MonStatements
 test_if_any p bound rs loops None = NoStatement
 test_if_any p bound rs loops (Some e) = test p bound rs loops e
+
+-- what stands for its effects, and may be left out
+abbrev pub act_if_any : TranslationUnit → Bindings → List MonType → Option Expression → MonStatements
+act_if_any p bound rs None = NoStatement
+act_if_any p bound rs (Some e) = act p bound rs e
 
 -- what stands before the step, the body, and what stands after it
 abbrev pub loop : ℕ → MonStatements → MonStatements → MonStatements → MonStatement
@@ -134,7 +139,7 @@ loop loops front body behind = Labelled (one (Loop front (Then (Labelled body (n
 -- the turns of a `for`: the registers before its condition, and those before what stands after its body
 abbrev pub for_turns : TranslationUnit → ℕ → RegisterTable → RegisterTable → Option Expression → Option Expression → MonStatements → MonStatements
 for_turns p loops r after e behind body =
-    one (loop loops (test_if_any p r.bound r.kinds loops e) body (effect_if_any p after.bound after.kinds behind))
+    one (loop loops (test_if_any p r.bound r.kinds loops e) body (act_if_any p after.bound after.kinds behind))
 
 -- Where a statement stands: how many loops and switches stand around it, the number of the innermost loop among these, and the blocks of variables that
 -- live, by the registers that point to them, the youngest first: those born inside what a `break` leaves, from there to the body of the innermost loop,
@@ -203,22 +208,22 @@ module _ (p : TranslationUnit) where
   abbrev pub returned : Spot → RegisterTable → Option Expression → MonStatements
   returned spot r None = before (deaths (all_live spot)) (one (Return None))
   returned spot r (Some e) =
-      before (full_setup p r.bound r.kinds e) (before (set (length (r.kinds ++ full_temporaries e)) (full_value p r.bound r.kinds e))
-      (before (deaths (all_live spot)) (one (Return (Some (Register (length (r.kinds ++ full_temporaries e))))))))
+      before (prepare p r.bound r.kinds e) (before (set (length (r.kinds ++ takes p e)) (result p r.bound r.kinds e))
+      (before (deaths (all_live spot)) (one (Return (Some (Register (length (r.kinds ++ takes p e))))))))
 
   abbrev mutual
     pub statement : Spot → RegisterTable → Statement → MonStatements
     statement spot r (source_statement.Empty at) = NoStatement
-    statement spot r (source_statement.Eval at e) = effect p r.bound r.kinds e
+    statement spot r (source_statement.Eval at e) = act p r.bound r.kinds e
     statement spot r (source_statement.Block at body) =
         alive p (next_register r) (declared_in body)
         (items (with_variables (next_register r) (declared_in body) spot) (entered (declared_in body) r) body)
     statement spot r (source_statement.If at e a b) =
-        before (setup p r.bound r.kinds e) (one (If (condition_of p r.bound r.kinds e)
-        (statement spot (with_kinds (temporaries e) r) a)
-        (else_part spot (after_statement p a (with_kinds (temporaries e) r)) b)))
+        before (prepare p r.bound r.kinds e) (one (If (condition_result p r.bound r.kinds e)
+        (statement spot (with_kinds (takes p e) r) a)
+        (else_part spot (after_statement p a (with_kinds (takes p e) r)) b)))
     statement spot r (source_statement.While at annots e a) =
-        one (loop (spot.levels + 1) (test p r.bound r.kinds (spot.levels + 1) e) (statement (in_loop spot) (with_kinds (temporaries e) r) a) NoStatement)
+        one (loop (spot.levels + 1) (test p r.bound r.kinds (spot.levels + 1) e) (statement (in_loop spot) (with_kinds (takes p e) r) a) NoStatement)
     statement spot r (source_statement.Do at a e) =
         one (loop (spot.levels + 1) NoStatement (statement (in_loop spot) r a)
         (test p (after_statement p a r).bound (after_statement p a r).kinds (spot.levels + 1) e))
@@ -226,17 +231,17 @@ module _ (p : TranslationUnit) where
         alive p (next_register r) (declared_first first)
         (before (first_part (with_variables (next_register r) (declared_first first) spot) (entered (declared_first first) r) first)
         (for_turns p (spot.levels + 1) (after_first p first (entered (declared_first first) r))
-        (after_statement p a (with_kinds (any_temporaries temporaries e) (after_first p first (entered (declared_first first) r)))) e behind
+        (after_statement p a (with_kinds (any_temporaries (takes p) e) (after_first p first (entered (declared_first first) r)))) e behind
         (statement (in_loop (with_variables (next_register r) (declared_first first) spot))
-        (with_kinds (any_temporaries temporaries e) (after_first p first (entered (declared_first first) r))) a)))
+        (with_kinds (any_temporaries (takes p) e) (after_first p first (entered (declared_first first) r))) a)))
     statement spot r (source_statement.Break at) = before (deaths spot.inside) (one (Goto (end_label spot.levels)))
     statement spot r (source_statement.Continue at) = before (deaths (spot.inside ++ spot.between)) (one (Goto (next_label spot.innermost)))
     statement spot r (source_statement.Return at e) = returned spot r e
     statement spot r (source_statement.Labelled at l a) = NoStatement
     statement spot r (source_statement.Switch at e cases) =
-        before (full_setup p r.bound r.kinds e) (before (set (length (r.kinds ++ full_temporaries e)) (full_value p r.bound r.kinds e))
-        (before (search (spot.levels + 1) (value_type (type_of e)) (length (r.kinds ++ full_temporaries e)) (length (r.kinds ++ returned_temporaries e)) cases)
-        (one (Labelled (blocks_of_cases (in_switch spot) (with_kinds (switch_temporaries e) r) (length (r.kinds ++ returned_temporaries e)) 0 0 cases)
+        before (prepare p r.bound r.kinds e) (before (set (length (r.kinds ++ takes p e)) (result p r.bound r.kinds e))
+        (before (search (spot.levels + 1) (value_type (type_of e)) (length (r.kinds ++ takes p e)) (length (r.kinds ++ returned_temporaries p e)) cases)
+        (one (Labelled (blocks_of_cases (in_switch spot) (with_kinds (switch_temporaries p e) r) (length (r.kinds ++ returned_temporaries p e)) 0 0 cases)
         (end_label (spot.levels + 1))))))
 
     -- the items of the next k cases, of which the first one has the index i: those of the chosen case, whose index is in the register j, and of all behind it
@@ -354,13 +359,13 @@ abbrev pub monitored_globals : TranslationUnit → List MonitoredGlobal
 monitored_globals p = monitored_from p 0 0 (static_objects p)
 
 -- what a global that has an initialiser takes: a register that points to it, and those of the initialiser
-abbrev pub global_temporaries : Option (Place × Initialiser) → List MonType
-global_temporaries None = []
-global_temporaries (Some i) = Ptr ∷ initial_temporaries (Some i)
+abbrev pub global_temporaries : TranslationUnit → Option (Place × Initialiser) → List MonType
+global_temporaries p None = []
+global_temporaries p (Some i) = Ptr ∷ initial_temporaries p (Some i)
 
-abbrev pub all_global_temporaries : List Declaration → List MonType
-all_global_temporaries [] = []
-all_global_temporaries (d ∷ ds) = global_temporaries d.init ++ all_global_temporaries ds
+abbrev pub all_global_temporaries : TranslationUnit → List Declaration → List MonType
+all_global_temporaries p [] = []
+all_global_temporaries p (d ∷ ds) = global_temporaries p d.init ++ all_global_temporaries p ds
 
 abbrev pub initialise_global : TranslationUnit → List MonType → ℕ → PlainType → Option (Place × Initialiser) → MonStatements
 initialise_global p rs g t None = NoStatement
@@ -371,7 +376,7 @@ abbrev pub initialise_globals : TranslationUnit → List MonType → List Declar
 initialise_globals p rs [] = NoStatement
 initialise_globals p rs (d ∷ ds) =
     before (initialise_global p rs (object_of_global (number_of d) (static_objects p)) d.ctype d.init)
-    (initialise_globals p (rs ++ global_temporaries d.init) ds)
+    (initialise_globals p (rs ++ global_temporaries p d.init) ds)
 
 -- ---- programs
 
@@ -389,7 +394,7 @@ code_of p front f =
 
 -- `main` initialises the globals first
 abbrev pub front_temporaries : TranslationUnit → Bool → List MonType
-front_temporaries p is_main = if is_main then all_global_temporaries p.globals else []
+front_temporaries p is_main = if is_main then all_global_temporaries p p.globals else []
 
 abbrev pub front : TranslationUnit → Bool → List Declaration → MonStatements
 front p is_main params = if is_main then initialise_globals p (value_types params) p.globals else NoStatement

@@ -105,7 +105,7 @@ fn initialise_global(
     to: &mut Vec<MonStmt>,
 ) -> Result<(), AllocError>
     ensures code { OnOk result (plain_stmts to.new.items ≡ before (plain_stmts to.old.items) (global_initialised names.old (plain_decl d.now))) }
-    ensures names { OnOk result (names.new ≡ with_registers (global_temporaries (plain_decl d.now).init) names.old) }
+    ensures names { OnOk result (names.new ≡ with_registers (global_temporaries (unit_of names.old) (plain_decl d.now).init) names.old) }
     ensures letters { OnOk result (InitialHasLetters (plain_decl d.now).init) }
 {
     match &d.init {
@@ -128,7 +128,7 @@ pub fn initialise_globals(
 ) -> Result<(), AllocError>
     ensures code { OnOk result (plain_stmts to.new.items ≡ before (plain_stmts to.old.items)
         (globals_initialised names.old (unit_of names.old).globals)) }
-    ensures names { OnOk result (names.new ≡ with_registers (all_global_temporaries (unit_of names.old).globals) names.old) }
+    ensures names { OnOk result (names.new ≡ with_registers (all_global_temporaries (unit_of names.old) (unit_of names.old).globals) names.old) }
     ensures letters { OnOk result (InitialsHaveLetters (unit_of names.old).globals) }
 {
     let decls = names.globals();

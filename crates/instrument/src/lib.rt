@@ -1,7 +1,7 @@
 //! The translation of annotated C into monitored C.
 //!
 //! A register points to the block of each variable, in which its value stands, and each annotation becomes an assertion. Expressions and
-//! their effects are those of `c_effects`.
+//! their effects are those of `c_evaluation`.
 #![tactic(auto)]
 
 mod block;

@@ -11,10 +11,12 @@ ghost use Rattle.mon_syntax.specs.Trees.{Goto, If, Labelled, Loop, plain_expr as
 ghost use Rattle.track_scopes.specs.Blocks.{deaths, with_born};
 ghost use Rattle.annot_code.specs.Numbered.{AreNumbered};
 ghost use Rattle.annot_code.specs.Plain.{assertions_by, names_behind_assertions};
-ghost use Rattle.c_effects.specs.Letters.{Any, EffectHasLetters, FullHasLetters, HasLetters};
-ghost use Rattle.c_effects.specs.Expressions.{before, one, set, temporaries};
-ghost use Rattle.c_effects.specs.Effects.{any_temporaries, effect_temporaries, full_temporaries};
-ghost use Rattle.c_effects.specs.Named.{condition_by, full_setup_by, full_value_by, setup_by, unit_of, with_registers};
+ghost use Rattle.c_effects.specs.Letters.{ActHasLetters, Any, ValueHasLetters};
+ghost use Rattle.c_effects.specs.Expressions.{before, one, set};
+ghost use Rattle.c_effects.specs.Effects.{any_temporaries};
+ghost use Rattle.c_effects.specs.Full.{act_takes, takes};
+ghost use Rattle.c_effects.specs.Named.{unit_of, with_registers};
+ghost use Rattle.c_evaluation.specs.Evaluated.{condition_result_by, prepare_by, result_by};
 ghost use Rattle.instrument.specs.Limits.{ElseHasNumbers, FirstHasNumbers, HasNumbers, HaveNumbers, ItemHasNumbers};
 ghost use Rattle.instrument.specs.Options.{after, behind_else, behind_first, behind_item, behind_items, births_by, do_loop, else_part_by, entering};
 ghost use Rattle.instrument.specs.Options.{first_part_by, item_by, items_by, plain_first_part, plain_spot, returned_by, statement_by};
@@ -27,11 +29,10 @@ use crate::name::{end_label, next_label};
 use crate::spot::Spot;
 use annot_code::assertion::assertion;
 use c_effects::conversion::value_type;
-use c_effects::effect::{effect, effect_if_any};
-use c_effects::expression::condition_of;
-use c_effects::full::full;
 use c_effects::operator::register;
 use c_effects::part::{alone, then};
+use c_evaluation::act::{act, act_if_any};
+use c_evaluation::evaluation::{condition_of, value};
 use c_initialisers::initialiser::initialise_all;
 use c_syntax::{Annot, Expr, Item, Stmt, StmtKind};
 use mon_syntax::{MonExpr, MonStmt, MonStmtKind, Registers};
@@ -82,8 +83,8 @@ fn leave_unless(
     to: &mut Vec<MonStmt>,
 ) -> Result<(), AllocError>
     ensures code { OnOk result (plain_stmts to.new.items ≡ before (plain_stmts to.old.items) (test_by names.old loops (plain_expr e.now))) }
-    ensures names { OnOk result (names.new ≡ with_registers (temporaries (plain_expr e.now)) names.old) }
-    ensures letters { OnOk result (HasLetters (plain_expr e.now)) }
+    ensures names { OnOk result (names.new ≡ with_registers (takes (unit_of names.old) (plain_expr e.now)) names.old) }
+    ensures letters { OnOk result (ValueHasLetters (plain_expr e.now)) }
 {
     let condition = condition_of(alloc, e, names, to)?;
     leave_where_zero(alloc, loops, condition, to)
@@ -100,8 +101,8 @@ fn leave_unless_any(
 ) -> Result<(), AllocError>
     ensures code { OnOk result (plain_stmts to.new.items ≡ before (plain_stmts to.old.items)
         (test_if_any_by names.old loops (option_map plain_expr e.now))) }
-    ensures names { OnOk result (names.new ≡ with_registers (any_temporaries temporaries (option_map plain_expr e.now)) names.old) }
-    ensures letters { OnOk result (Any HasLetters (option_map plain_expr e.now)) }
+    ensures names { OnOk result (names.new ≡ with_registers (any_temporaries (takes (unit_of names.old)) (option_map plain_expr e.now)) names.old) }
+    ensures letters { OnOk result (Any ValueHasLetters (option_map plain_expr e.now)) }
 {
     match e {
         Some(e) => leave_unless(alloc, loops, e, names, to),
@@ -162,15 +163,15 @@ fn set_aside(
     names: &mut Registers<'_>,
     to: &mut Vec<MonStmt>,
 ) -> Result<u32, AllocError>
-    ensures number { IfOk result (λ r. r ≡ length (names.old.table.kinds ++ full_temporaries (plain_expr e.now))) }
-    ensures code { OnOk result (plain_stmts to.new.items ≡ before (plain_stmts to.old.items) (before (full_setup_by names.old (plain_expr e.now))
-        (set (length (names.old.table.kinds ++ full_temporaries (plain_expr e.now))) (full_value_by names.old (plain_expr e.now))))) }
-    ensures names { OnOk result (names.new ≡ with_registers (returned_temporaries (plain_expr e.now)) names.old) }
-    ensures letters { OnOk result (FullHasLetters (plain_expr e.now)) }
+    ensures number { IfOk result (λ r. r ≡ length (names.old.table.kinds ++ takes (unit_of names.old) (plain_expr e.now))) }
+    ensures code { OnOk result (plain_stmts to.new.items ≡ before (plain_stmts to.old.items) (before (prepare_by names.old (plain_expr e.now))
+        (set (length (names.old.table.kinds ++ takes (unit_of names.old) (plain_expr e.now))) (result_by names.old (plain_expr e.now))))) }
+    ensures names { OnOk result (names.new ≡ with_registers (returned_temporaries (unit_of names.old) (plain_expr e.now)) names.old) }
+    ensures letters { OnOk result (ValueHasLetters (plain_expr e.now)) }
 {
-    let value = full(alloc, e, names, to)?;
+    let found = value(alloc, e, names, to)?;
     let number = names.fresh(value_type(&e.ctype))?;
-    then(alloc, to, MonStmtKind::Set(number, value))?;
+    then(alloc, to, MonStmtKind::Set(number, found))?;
     Ok(number)
 }
 
@@ -186,8 +187,9 @@ fn give_back(
     ensures code { OnOk result (plain_stmts to.new.items ≡ before (plain_stmts to.old.items)
         (returned_by names.old (plain_spot spot.now)
         (option_map plain_expr e.now))) }
-    ensures names { OnOk result (names.new ≡ with_registers (any_temporaries returned_temporaries (option_map plain_expr e.now)) names.old) }
-    ensures letters { OnOk result (Any FullHasLetters (option_map plain_expr e.now)) }
+    ensures names { OnOk result (names.new ≡ with_registers
+        (any_temporaries (returned_temporaries (unit_of names.old)) (option_map plain_expr e.now)) names.old) }
+    ensures letters { OnOk result (Any ValueHasLetters (option_map plain_expr e.now)) }
 {
     match e {
         Some(e) => {
@@ -274,7 +276,7 @@ pub fn statement(
 {
     match &*s.kind {
         StmtKind::Empty => Ok(()),
-        StmtKind::Eval(e) => effect(alloc, e, names, to),
+        StmtKind::Eval(e) => act(alloc, e, names, to),
         StmtKind::Block(body) => block(alloc, spot, body, names, to),
         StmtKind::If(e, a, b) => {
             let first = tested(alloc, spot, a, e, names, to)?;
@@ -381,10 +383,10 @@ fn rest_of_for(
         (before (turns_by names.old (with_blocks (reverse own.items) (plain_spot spot.now))
         (option_map plain_expr controls.entry.0.now) (option_map plain_expr controls.entry.1.now) (plain_stmt a.now)) (deaths (reverse own.items)))) }
     ensures names { OnOk result (names.new ≡ with_registers
-        (any_temporaries (effect_temporaries (unit_of names.old)) (option_map plain_expr controls.entry.1.now))
-        (after (plain_stmt a.now) (with_registers (any_temporaries temporaries (option_map plain_expr controls.entry.0.now)) names.old))) }
-    ensures numbers { OnOk result (Any HasLetters (option_map plain_expr controls.entry.0.now) × HasNumbers (plain_stmt a.now)
-        × Any EffectHasLetters (option_map plain_expr controls.entry.1.now)) }
+        (any_temporaries (act_takes (unit_of names.old)) (option_map plain_expr controls.entry.1.now))
+        (after (plain_stmt a.now) (with_registers (any_temporaries (takes (unit_of names.old)) (option_map plain_expr controls.entry.0.now)) names.old))) }
+    ensures numbers { OnOk result (Any ValueHasLetters (option_map plain_expr controls.entry.0.now) × HasNumbers (plain_stmt a.now)
+        × Any ActHasLetters (option_map plain_expr controls.entry.1.now)) }
 {
     let live = inside(alloc, spot.inside, &own)?;
     let around = Spot {
@@ -408,12 +410,12 @@ fn tested(
     names: &mut Registers<'_>,
     to: &mut Vec<MonStmt>,
 ) -> Result<(MonExpr, Vec<MonStmt>), AllocError>
-    ensures condition { IfOk result (λ r. plain_monitored r.0 ≡ condition_by names.old (plain_expr e.now)) }
-    ensures first { IfOk result (λ r. plain_stmts r.1.items ≡ statement_by (with_registers (temporaries (plain_expr e.now)) names.old) (plain_spot spot.now)
-        (plain_stmt a.now)) }
-    ensures setup { OnOk result (plain_stmts to.new.items ≡ before (plain_stmts to.old.items) (setup_by names.old (plain_expr e.now))) }
-    ensures names { OnOk result (names.new ≡ after (plain_stmt a.now) (with_registers (temporaries (plain_expr e.now)) names.old)) }
-    ensures numbers { OnOk result (HasLetters (plain_expr e.now) × HasNumbers (plain_stmt a.now)) }
+    ensures condition { IfOk result (λ r. plain_monitored r.0 ≡ condition_result_by names.old (plain_expr e.now)) }
+    ensures first { IfOk result (λ r. plain_stmts r.1.items
+        ≡ statement_by (with_registers (takes (unit_of names.old) (plain_expr e.now)) names.old) (plain_spot spot.now) (plain_stmt a.now)) }
+    ensures setup { OnOk result (plain_stmts to.new.items ≡ before (plain_stmts to.old.items) (prepare_by names.old (plain_expr e.now))) }
+    ensures names { OnOk result (names.new ≡ after (plain_stmt a.now) (with_registers (takes (unit_of names.old) (plain_expr e.now)) names.old)) }
+    ensures numbers { OnOk result (ValueHasLetters (plain_expr e.now) × HasNumbers (plain_stmt a.now)) }
 {
     let condition = condition_of(alloc, e, names, to)?;
     let first = apart(alloc, spot, a, names)?;
@@ -539,17 +541,17 @@ fn turns(
         (turns_by names.old (plain_spot spot.now)
         (option_map plain_expr controls.entry.0.now) (option_map plain_expr controls.entry.1.now) (plain_stmt a.now))) }
     ensures names { OnOk result (names.new ≡ with_registers
-        (any_temporaries (effect_temporaries (unit_of names.old)) (option_map plain_expr controls.entry.1.now))
-        (after (plain_stmt a.now) (with_registers (any_temporaries temporaries (option_map plain_expr controls.entry.0.now)) names.old))) }
-    ensures numbers { OnOk result (Any HasLetters (option_map plain_expr controls.entry.0.now) × HasNumbers (plain_stmt a.now)
-        × Any EffectHasLetters (option_map plain_expr controls.entry.1.now)) }
+        (any_temporaries (act_takes (unit_of names.old)) (option_map plain_expr controls.entry.1.now))
+        (after (plain_stmt a.now) (with_registers (any_temporaries (takes (unit_of names.old)) (option_map plain_expr controls.entry.0.now)) names.old))) }
+    ensures numbers { OnOk result (Any ValueHasLetters (option_map plain_expr controls.entry.0.now) × HasNumbers (plain_stmt a.now)
+        × Any ActHasLetters (option_map plain_expr controls.entry.1.now)) }
 {
     let (e, step) = controls;
     let loops = one_more(spot.levels)?;
     let mut front = Vec::new(alloc);
     leave_unless_any(alloc, loops, e, names, &mut front)?;
     let mut behind = round(alloc, spot, a, names)?;
-    effect_if_any(alloc, step, names, &mut behind)?;
+    act_if_any(alloc, step, names, &mut behind)?;
     repeat(alloc, loops, front, behind, to)
 }
 

@@ -12,7 +12,7 @@ use Rattle.c_initialisers.specs.Initialisers.{fill_by, fill_first_by, fill_parts
 use Rattle.c_effects.specs.Named.{unit_of, with_registers}
 use Rattle.c_effects.proofs.Sequences.{left_at, more_behind, nothing}
 use Rattle.c_effects.proofs.Trees.{on_ok, on_ok_then}
-use Rattle.c_initialisers.proofs.InitialiserTrees.{filled_more, many_filled, none_filled, registers_more}
+use Rattle.c_initialisers.proofs.InitialiserTrees.{filled_more, many_filled, many_names, none_filled, registers_more}
 use Rattle.c_initialisers.proofs.initialiser.+fill.Goals as goal
 
 pub fill-returns-in_ok-parts-in-Many-clause-code : goal.fill-returns-in_ok-parts-in-Many-clause-code
@@ -29,7 +29,7 @@ pub fill-returns-in_ok-parts-in-Many-clause-names : goal.fill-returns-in_ok-part
 fill-returns-in_ok-parts-in-Many-clause-names t c =
     let n = c.args.names.now in
     subst (λ (x : Initialiser). OnOk c.fill_parts.result (c.fill_parts.new.names ≡ with_registers (fill_temporaries (unit_of n) x) n)) (sym (ap plain_init c.in-Many.is ∙ many_is c.in-Many.field-0 c.in-Many.inits))
-    (on_ok_then c.fill_parts.result (λ last. last ∙ ap (λ l. with_registers (parts_temporaries (unit_of n) (plain_inits l)) n) c.deref.ensures.value) c.fill_parts.ensures.names)
+    (on_ok_then c.fill_parts.result (many_names n c.fill_parts.new.names c.in-Many.field-0 _ (plain_inits c.in-Many.inits.items) (ap plain_inits c.deref.ensures.value)) c.fill_parts.ensures.names)
 
 pub fill-returns-in_ok-parts-in-Many-clause-letters : goal.fill-returns-in_ok-parts-in-Many-clause-letters
 fill-returns-in_ok-parts-in-Many-clause-letters t c =

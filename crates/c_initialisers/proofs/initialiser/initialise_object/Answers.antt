@@ -11,7 +11,7 @@ use Rattle.c_initialisers.specs.Translation.{parts_temporaries}
 use Rattle.c_initialisers.specs.Initialisers.{initialise_object_by, object_temporaries, parts_in}
 use Rattle.c_effects.specs.Named.{unit_of, with_registers}
 use Rattle.c_effects.proofs.Trees.{on_ok_then}
-use Rattle.c_initialisers.proofs.InitialiserTrees.{many_initialised}
+use Rattle.c_initialisers.proofs.InitialiserTrees.{many_initialised, object_names}
 use Rattle.c_initialisers.proofs.initialiser.initialise_object.Goals as goal
 
 pub returns-in_ok-parts-in-Many-clause-code : goal.returns-in_ok-parts-in-Many-clause-code
@@ -27,7 +27,7 @@ pub returns-in_ok-parts-in-Many-clause-names : goal.returns-in_ok-parts-in-Many-
 returns-in_ok-parts-in-Many-clause-names c =
     let n = c.args.names.now in
     subst (λ (x : Initialiser). OnOk c.fill_parts.result (c.fill_parts.new.names ≡ with_registers (object_temporaries (unit_of n) x) n)) (sym (ap plain_init c.in-Many.is ∙ many_is c.in-Many.field-0 c.in-Many.inits))
-    (on_ok_then c.fill_parts.result (λ last. last ∙ ap (λ l. with_registers (parts_temporaries (unit_of n) (plain_inits l)) n) c.deref.ensures.value) c.fill_parts.ensures.names)
+    (on_ok_then c.fill_parts.result (object_names n c.fill_parts.new.names c.in-Many.field-0 _ (plain_inits c.in-Many.inits.items) (ap plain_inits c.deref.ensures.value)) c.fill_parts.ensures.names)
 
 pub returns-in_ok-parts-in-Many-clause-letters : goal.returns-in_ok-parts-in-Many-clause-letters
 returns-in_ok-parts-in-Many-clause-letters c =

@@ -11,11 +11,11 @@ use Rattle.mon_syntax.proofs.Rows.{if_is}
 use Rattle.track_scopes.specs.Blocks.{deaths, with_born}
 use Rattle.c_effects.specs.Expressions.{before}
 use Rattle.c_effects.proofs.Sequences.{left_at, none_left, all_there, more_behind, nothing}
-use Rattle.c_effects.proofs.Trees.{on_ok_then}
+use Rattle.c_effects.proofs.Trees.{on_ok, on_ok_then}
 use Rattle.instrument.specs.Limits.{HasNumbers, HaveNumbers}
 use Rattle.instrument.specs.Options.{after, behind_first, behind_item, behind_items, else_part_by, entering, first_part_by, item_by, items_by, plain_first_part, plain_spot, statement_by, test_if_any_by}
 use Rattle.instrument.proofs.DeclarationCode.{born_front, inside_is}
-use Rattle.instrument.proofs.StatementTrees.{block_stmt, branches_code, if_stmt, for_stmt, if_code, do_code, round_code, turns_code, entered_code, rest_code, for_code, alive_code, declared_of_first, for_names}
+use Rattle.instrument.proofs.StatementTrees.{block_stmt, branches_code, if_stmt, for_stmt, if_code, do_code, do_names, round_code, turns_code, entered_code, rest_code, for_code, alive_code, declared_of_first, for_names}
 use Rattle.instrument.proofs.statement.+statement.Goals as goal
 
 pub else_part-returns-in-None-clause-code : goal.else_part-returns-in-None-clause-code
@@ -72,10 +72,10 @@ turns-returns-clause-code t c =
     on_ok_then c.repeat.result
     (turns_code n c.leave_unless_any.new.names c.round.new.names (plain_spot c.args.spot.now) t0 (plain_stmts c.repeat.new.to.items) e (option_map plain_expr c.args.controls.1.now)
     (plain_stmt c.args.a.now) c.in_ok-loops.loops
-    (plain_stmts c.leave_unless_any.new.to.items) (plain_stmts c.in_ok-behind.behind.items) (plain_stmts c.effect_if_any.new.to.items)
+    (plain_stmts c.leave_unless_any.new.to.items) (plain_stmts c.in_ok-behind.behind.items) (plain_stmts c.act_if_any.new.to.items)
     c.in_ok-loops.ensures
     (c.in_ok-leave_unless_any.ensures.code ∙ ap (λ l. before (plain_stmts l) (test_if_any_by n c.in_ok-loops.loops e)) c.new-front.ensures.items)
-    c.in_ok-leave_unless_any.ensures.names c.in_ok-behind.ensures.code c.in_ok-behind.ensures.names c.in_ok-effect_if_any.ensures.code)
+    c.in_ok-leave_unless_any.ensures.names c.in_ok-behind.ensures.code c.in_ok-behind.ensures.names c.in_ok-act_if_any.ensures.setup)
     c.repeat.ensures
 
 pub round-returns-clause-code : goal.round-returns-clause-code
@@ -118,6 +118,12 @@ do_loop-returns-clause-code t c =
     (plain_stmts c.new.result.items) (plain_stmts c.in_ok-behind.behind.items) (plain_stmts c.leave_unless.new.to.items)
     c.in_ok-loops.ensures c.in_ok-behind.ensures.names (ap plain_stmts c.new.ensures.items) c.in_ok-behind.ensures.code c.in_ok-leave_unless.ensures.code)
     c.repeat.ensures
+
+pub do_loop-returns-clause-names : goal.do_loop-returns-clause-names
+do_loop-returns-clause-names t c =
+    let a = c.args.a.now in
+    on_ok c.repeat.result
+    (do_names c.args.names.now c.round.new.names c.leave_unless.new.names a.place (plain_expr c.args.e.now) (plain_stmt a) c.in_ok-behind.ensures.names c.in_ok-leave_unless.ensures.names)
 
 pub enter_for-returns-clause-own : goal.enter_for-returns-clause-own
 enter_for-returns-clause-own t c =
