@@ -1,6 +1,6 @@
 -- The plain form of a vector of trees is that of its list.
 use Rattle.std.proofs.Common.{◌≡◌, refl, ap, sym, ◌∙◌}
-use Rattle.std.specs.Prelude.{List, [], ◌∷◌, map, Vec, Result, Ok, Err, IfOk}
+use Rattle.std.specs.Prelude.{List, [], ◌∷◌, map, Vec, Result, Ok, Err, IfOk, option_map}
 use Rattle.std.specs.declared.alloc.Global.{Global}
 use Rattle.c_syntax.specs.declared.place.Place.{Place}
 use Rattle.c_syntax.specs.declared.expression.Use.{Use}
@@ -11,12 +11,15 @@ use Rattle.c_syntax.specs.declared.expression.ExprKind.TheBlock.{hidden-the_row-
 use Rattle.c_syntax.specs.declared.statement.Init.{Init, Row_of-Init, end_of-Init, more_of-Init, items-the_row-Init, items_hidden-the_row-Init-0}
 use Rattle.c_syntax.specs.declared.statement.Init as init
 use Rattle.c_syntax.specs.declared.statement.Init.TheBlock.{hidden-the_row-Init-0}
+use Rattle.c_syntax.specs.declared.statement.Case.{Case}
 use Rattle.c_syntax.specs.declared.statement.Item.{Item}
-use Rattle.c_syntax.specs.declared.statement.StmtKind.{Row_of-Item, end_of-Item, more_of-Item, items-the_row-Item, items_hidden-the_row-Item-0}
+use Rattle.c_syntax.specs.declared.statement.StmtKind.{Row_of-Item, end_of-Item, more_of-Item, items-the_row-Item, items_hidden-the_row-Item-0, items_shown-the_row-Item-0}
+use Rattle.c_syntax.specs.declared.statement.StmtKind.{Row_of-Case, end_of-Case, more_of-Case, items-the_row-Case, items_hidden-the_row-Case-1}
 use Rattle.c_syntax.specs.declared.statement.StmtKind as statement
-use Rattle.c_syntax.specs.declared.statement.Item.TheBlock.{hidden-the_row-Item-0}
+use Rattle.c_syntax.specs.declared.statement.Item.TheBlock.{hidden-the_row-Item-0, hidden-the_row-Case-1}
 use Rattle.c_syntax.specs.Expressions.{PlainType, plain_type, Expression, Node, Call, Expressions, NoExpression, Following, plain_expr, plain_exprs, plain_kind, plain_expr_row}
-use Rattle.c_syntax.specs.Statements.{Many, Listed, plain_init, plain_init_row, plain_inits, Block, Then, plain_item, plain_items, plain_item_row, plain_stmt_kind}
+use Rattle.c_syntax.specs.Statements.{Many, Listed, plain_init, plain_init_row, plain_inits, Block, Switch, AnotherCase, Then, plain_item, plain_items, plain_item_row, plain_stmt_kind}
+use Rattle.c_syntax.specs.Statements.{plain_case_row, plain_cases}
 
 expr_row_is : {m : _} (row : Row_of-Expr m) → plain_expr_row row ≡ plain_exprs (items-the_row-Expr m row)
 expr_row_is end_of-Expr = refl
@@ -34,6 +37,15 @@ item_row_is (more_of-Item i rest) = ap (Then (plain_item i)) (item_row_is rest)
 
 pub block_is : (at : Place) (v : Vec Item Global) → plain_stmt_kind at (statement.Block v) ≡ Block at (plain_items v.items)
 block_is at v = ap (Block at) (item_row_is (hidden-the_row-Item-0 v) ∙ ap plain_items (items_hidden-the_row-Item-0 v))
+
+case_row_is : {m : _} (row : Row_of-Case m) → plain_case_row row ≡ plain_cases (items-the_row-Case m row)
+case_row_is end_of-Case = refl
+case_row_is (more_of-Case at v shape row rest) =
+    let same = item_row_is row ∙ ap plain_items (sym (items_shown-the_row-Item-0 shape row)) in
+    λ i. AnotherCase at (option_map plain_expr v) (same i) (case_row_is rest i)
+
+pub switch_is : (at : Place) (e : Expr) (v : Vec Case Global) → plain_stmt_kind at (statement.Switch e v) ≡ Switch at (plain_expr e) (plain_cases v.items)
+switch_is at e v = ap (Switch at (plain_expr e)) (case_row_is (hidden-the_row-Case-1 v) ∙ ap plain_cases (items_hidden-the_row-Case-1 v))
 
 init_row_is : {m : _} (row : Row_of-Init m) → plain_init_row row ≡ plain_inits (items-the_row-Init m row)
 init_row_is end_of-Init = refl

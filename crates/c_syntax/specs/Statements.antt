@@ -4,10 +4,11 @@ use Rattle.c_syntax.specs.declared.place.Place.{Place}
 use Rattle.c_syntax.specs.declared.statement.Decl.{Decl}
 use Rattle.c_syntax.specs.declared.statement.Init.{Init, Row_of-Init, end_of-Init, more_of-Init}
 use Rattle.c_syntax.specs.declared.statement.Init as init
+use Rattle.c_syntax.specs.declared.statement.Case.{Case}
 use Rattle.c_syntax.specs.declared.statement.Item.{Item}
 use Rattle.c_syntax.specs.declared.statement.Item as item
 use Rattle.c_syntax.specs.declared.statement.Stmt.{Stmt}
-use Rattle.c_syntax.specs.declared.statement.StmtKind.{StmtKind, Held-StmtKind-If-2, Held-StmtKind-For-1, Row_of-Item, end_of-Item, more_of-Item}
+use Rattle.c_syntax.specs.declared.statement.StmtKind.{StmtKind, Held-StmtKind-If-2, Held-StmtKind-For-1, Row_of-Item, end_of-Item, more_of-Item, Row_of-Case, end_of-Case, more_of-Case}
 use Rattle.c_syntax.specs.declared.statement.StmtKind as code
 use Rattle.c_syntax.specs.Ctypes.{PlainType, plain_type}
 use Rattle.c_syntax.specs.Expressions.{Expression, plain_expr}
@@ -107,6 +108,11 @@ abbrev mutual
   plain_stmt_kind at code.Break = Break at
   plain_stmt_kind at code.Continue = Continue at
   plain_stmt_kind at (code.Return e) = Return at (option_map plain_expr e)
+  plain_stmt_kind at (code.Switch' e shape row) = Switch at (plain_expr e) (plain_case_row row)
+
+  pub plain_case_row : {m : _} → Row_of-Case m → Cases
+  plain_case_row end_of-Case = NoCase
+  plain_case_row (more_of-Case at v shape row rest) = AnotherCase at (option_map plain_expr v) (plain_item_row row) (plain_case_row rest)
 
   pub plain_else : Held-StmtKind-If-2 → ElsePart
   plain_else code.StmtKind-If-2-None' = NoElse
@@ -136,3 +142,7 @@ plain_else_part (Some a) = Else (plain_stmt a)
 abbrev pub plain_items : List Item → BlockItems
 plain_items [] = NoItem
 plain_items (i ∷ is) = Then (plain_item i) (plain_items is)
+
+abbrev pub plain_cases : List Case → Cases
+plain_cases [] = NoCase
+plain_cases (c ∷ cs) = AnotherCase c.place (option_map plain_expr c.value) (plain_items c.items.items) (plain_cases cs)

@@ -29,6 +29,6 @@ pub use name::Name;
 pub use place::Place;
 pub use program::{Behavior, Contract, EnumDef, Enumerator, Func, Layout, Member, Program, Text};
 pub use refusal::{FrontFault, Refusal};
-pub use statement::{Decl, Init, Item, Stmt, StmtKind};
+pub use statement::{Case, Decl, Init, Item, Stmt, StmtKind};
 pub use token::{Token, TokenKind, Tokens};
 pub use types::{BlockKind, CInt, CType, How, Length, Segment, Width};

@@ -37,6 +37,15 @@ pub enum Item {
     Asserts(Vec<Annot>),
 }
 
+/// A case of a `switch`, at its word, with its value, or none for `default`, and its items (C99 6.8.1).
+#[derive(Drop)]
+#[cycle(stmt)]
+pub struct Case {
+    pub place: Place,
+    pub value: Option<Expr>,
+    pub items: Vec<Item>,
+}
+
 /// A statement, at its first token.
 #[derive(Drop)]
 #[cycle(stmt)]
@@ -63,4 +72,6 @@ pub enum StmtKind {
     Break,
     Continue,
     Return(Option<Expr>),
+    /// `switch`, with its cases (C99 6.8.4.2).
+    Switch(Expr, Vec<Case>),
 }
