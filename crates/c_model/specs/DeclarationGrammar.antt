@@ -1,16 +1,17 @@
--- The grammar of declarations, with the trees that are read (C99 6.7); `words`, `expr` and `call` stand in ExpressionGrammar:
+-- The grammar of declarations, with the trees that are read (C99 6.7); `words`, `comma`, `assign` and `cond` stand in
+-- ExpressionGrammar:
 --
 --   decl    = words [ declared { "," declared } ] ";"          declared = dtor [ "=" init ]
---   dtor    = { "*" { "const" } } NAME { "[" [ expr ] "]" }
---   init    = expr | call | list                               list = "{" item { "," item } [ "," ] "}"       item = expr | list
---   params  = [ "void" ] | param { "," param }                 param = words { "*" { "const" } } [ NAME ] { "[" [ expr ] "]" }
+--   dtor    = { "*" { "const" } } NAME { "[" [ comma ] "]" }
+--   init    = assign | list                                    list = "{" init { "," init } [ "," ] "}"
+--   params  = [ "void" ] | param { "," param }                 param = words { "*" { "const" } } [ NAME ] { "[" [ comma ] "]" }
 --
 -- At file scope a type may be defined where it is named:
 --
 --   spec    = { "static" | "typedef" | "const" } braced { "const" }
 --   braced  = base | ( "struct" | "enum" ) [ ANYNAME ] braces
 --   braces  = "{" member { member } "}", of a struct, and "{" one { "," one } [ "," ] "}", of an enum
---   member  = { "const" } braced { "const" } dtor { "," dtor } ";"        one = NAME [ "=" expr ]
+--   member  = { "const" } braced { "const" } dtor { "," dtor } ";"        one = NAME [ "=" cond ]
 --
 -- The NAME of a member may be the name of a type. "static" or "typedef" stands once at most, and "void" alone is no parameter. An item,
 -- an initialiser, a value of an enum and a declarator, which of a parameter is what stands after its words, have at most 400 tokens. At
@@ -35,10 +36,11 @@ use Rattle.c_model.specs.declared.vocabulary.Keyword.TheVariants as keyword
 use Rattle.c_model.specs.Vocabulary.{Vocabulary}
 use Rattle.c_model.specs.Punctuators.{assign, semicolon, comma, right_paren, left_brace, right_brace}
 use Rattle.c_model.specs.Terminals.{placed, expression_limit, nesting_limit}
+use Rattle.c_model.specs.declared.operands.Level.TheVariants.{Assignment, Conditional}
 use Rattle.c_model.specs.ExpressionGrammar.{name_kind, keyword_kind, mark_kind, kind, first_type, first_expression, first_any_name}
 use Rattle.c_model.specs.ExpressionGrammar.{most_in_expression, most_nested, declared_type, TypeStart, VoidStart, mark, reserved, name, any_name}
 use Rattle.c_model.specs.ExpressionGrammar.{untagged_base, consts, type_words, type_start, type_behind, more_consts, star_words, length_or_none, brackets}
-use Rattle.c_model.specs.ExpressionGrammar.{closed, expression, full_expression, full_expression_or_call}
+use Rattle.c_model.specs.ExpressionGrammar.{closed, expression, full_expression_at}
 
 -- ---- what begins what: these sets serve `parse` alone
 
@@ -178,7 +180,7 @@ module _ (ws : Vocabulary) where
   declared_name named.Ordinary = name ws
   declared_name named.Member = any_name ws
 
-  -- { "[" [ expr ] "]" }
+  -- { "[" [ comma ] "]" }
   unfoldable pub lengths : Syntax PlainToken (List PlainLength)
   lengths = brackets ws (length_or_none ws (expression ws))
 
@@ -193,7 +195,7 @@ module _ (ws : Vocabulary) where
   unfoldable pub maybe_name : Syntax PlainToken (Option (ℕ × Place))
   maybe_name = choice (kind ws) (name_kind ∷ []) (name ws then λ x. gives (Some x)) (gives None)
 
-  -- { "*" { "const" } } [ NAME ] { "[" [ expr ] "]" }
+  -- { "*" { "const" } } [ NAME ] { "[" [ comma ] "]" }
   unfoldable pub abstract_dtor : Syntax PlainToken AbstractDeclarator
   abstract_dtor = star_words ws then λ stars. maybe_name then λ x. lengths then λ ns. gives (record { stars = stars; name = x; lengths = ns })
 
@@ -202,11 +204,11 @@ module _ (ws : Vocabulary) where
 
   -- ---- initialisers (C99 6.7.8); L stands for a list inside another
 
-  -- expr | list
+  -- assign | list
   unfoldable pub item_of_list : Syntax PlainToken Initialiser → Syntax PlainToken Initialiser
-  item_of_list L = choice (kind ws) (mark_kind left_brace ∷ []) L (full_expression ws then λ e. gives (One e))
+  item_of_list L = choice (kind ws) (mark_kind left_brace ∷ []) L (full_expression_at ws Assignment then λ e. gives (One e))
 
-  -- "{" item { "," item } [ "," ] "}"
+  -- "{" init { "," init } [ "," ] "}"
   unfoldable pub list_of : Syntax PlainToken Initialiser → Syntax PlainToken Initialiser
   list_of L = mark ws left_brace then λ at. listed first_item_of_list (item_of_list L) then λ is. gives (Many at (initialisers is))
 
@@ -215,10 +217,10 @@ module _ (ws : Vocabulary) where
   list_in zero = deep nesting_limit (kind ws) (mark_kind left_brace ∷ []) (list_of none)
   list_in (suc d) = list_of (list_in d)
 
-  -- expr | call | list
+  -- assign | list
   unfoldable pub initialiser : Syntax PlainToken Initialiser
   initialiser =
-      choice (kind ws) (mark_kind left_brace ∷ []) (list_in most_nested) (full_expression_or_call ws then λ e. gives (One e))
+      choice (kind ws) (mark_kind left_brace ∷ []) (list_in most_nested) (full_expression_at ws Assignment then λ e. gives (One e))
 
   -- ---- declarations
 
@@ -330,12 +332,12 @@ module _ (ws : Vocabulary) where
       mark ws left_brace then λ _. member B ([], d) then λ x. more_members B x then λ y.
       mark ws right_brace then λ _. gives (with_struct h y.0 y.1)
 
-  -- [ "=" expr ]
+  -- [ "=" cond ]
   unfoldable pub constant_value : Syntax PlainToken (Option Expression)
   constant_value =
-      choice (kind ws) (mark_kind assign ∷ []) (mark ws assign then λ _. full_expression ws then λ e. gives (Some e)) (gives None)
+      choice (kind ws) (mark_kind assign ∷ []) (mark ws assign then λ _. full_expression_at ws Conditional then λ e. gives (Some e)) (gives None)
 
-  -- NAME [ "=" expr ]
+  -- NAME [ "=" cond ]
   unfoldable pub constant : Syntax PlainToken EnumConstant
   constant = name ws then λ x. constant_value then λ v. gives (record { place = x.1; name = x.0; value = v })
 

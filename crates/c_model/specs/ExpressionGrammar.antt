@@ -1,19 +1,16 @@
 -- The grammar of expressions, with the trees that are read (C99 6.4.4, 6.4.5, 6.5, 6.7.6):
 --
---   expr    = binary [ "?" expr ":" expr ]
+--   comma   = assign { "," assign }
+--   assign  = cond | unary assign-op assign
+--   cond    = binary [ "?" comma ":" cond ]
 --   binary  = cast, joined by the operators of C99 6.5.5 to 6.5.14, each level from the left
 --   cast    = unary | "(" type ")" cast
---   unary   = postfix | ( "+" | "-" | "!" | "~" | "*" | "&" ) cast | "sizeof" unary | "sizeof" "(" type ")"
---   postfix = primary { "[" expr "]" | "." ANYNAME | "->" ANYNAME }
---   primary = NAME | NUMBER | CHAR | STRING | "(" expr ")"
---   type    = words { "*" { "const" } } { "[" expr "]" }
+--   unary   = postfix | ( "+" | "-" | "!" | "~" | "*" | "&" ) cast | ( "++" | "--" ) unary | "sizeof" unary | "sizeof" "(" type ")"
+--   postfix = ( primary | NAME "(" [ assign { "," assign } ] ")" ) { "[" comma "]" | "." ANYNAME | "->" ANYNAME | "++" | "--" }
+--   primary = NAME | NUMBER | CHAR | STRING | "(" comma ")"
+--   type    = words { "*" { "const" } } { "[" comma "]" }
 --   words   = { "const" } base { "const" }
 --   base    = integer words in any order | "void" | TYPENAME | "struct" ANYNAME | "enum" ANYNAME
---
--- An expression that stands for its effect is one of these, an assignment, or an increment:
---
---   effect  = unary "=" ( expr | call ) | unary assign-op expr | ( "++" | "--" ) unary | postfix ( "++" | "--" ) | expr
---   call    = NAME "(" [ expr { "," expr } ] ")"
 --
 -- An expression that stands in no other has at most 400 tokens. A TYPENAME is the name of a type, and an ANYNAME is a NAME or a TYPENAME.
 -- Types and declarations are set by typing.
@@ -30,12 +27,14 @@ use Rattle.c_syntax.specs.declared.expression.BumpOp.{BumpOp}
 use Rattle.c_syntax.specs.declared.expression.BumpOp.TheVariants.{PreUp, PreDown, PostUp, PostDown}
 use Rattle.c_syntax.specs.Ctypes.{PlainType, Void, Int, Ptr, Array, Named, StructTag, EnumTag, PlainLength, Left, Written, int_type}
 use Rattle.c_syntax.specs.Expressions.{Expression, Node, ExpressionKind, Number, Letter, Text, Variable, Unary, Binary, Both, Either, Choice, Assign}
-use Rattle.c_syntax.specs.Expressions.{Bump, Call, Cast, SizeOfType, SizeOfExpr, Index, Dot, Arrow, Expressions, NoExpression, Following, place_of}
+use Rattle.c_syntax.specs.Expressions.{Bump, Call, Cast, SizeOfType, SizeOfExpr, Index, Dot, Arrow, Comma, Expressions, NoExpression, Following, place_of}
 use Rattle.c_syntax.specs.Trees.{kind_of}
 use Rattle.c_syntax.specs.Tokens as token
 use Rattle.c_syntax.specs.Tokens.{PlainTokenKind, PlainToken}
 use Rattle.c_model.specs.declared.operands.Form.{Form}
 use Rattle.c_model.specs.declared.operands.Form.TheVariants as form
+use Rattle.c_model.specs.declared.operands.Level.{Level}
+use Rattle.c_model.specs.declared.operands.Level.TheVariants.{Assignment, Conditional}
 use Rattle.c_model.specs.declared.operands.Stars.{Stars}
 use Rattle.c_model.specs.declared.operands.TypeUse.{TypeUse}
 use Rattle.c_model.specs.declared.operands.TypeUse.TheVariants as type_use
@@ -121,7 +120,10 @@ keyword_kind keyword.Sizeof = 27
 keyword_kind keyword.Struct = 28
 keyword_kind keyword.Enum = 29
 keyword_kind keyword.Typedef = 30
-keyword_kind keyword.Kept = 31
+keyword_kind keyword.Switch = 31
+keyword_kind keyword.Case = 32
+keyword_kind keyword.Default = 33
+keyword_kind keyword.Kept = 34
 
 abbrev pub mark_kind : ℕ → ℕ
 mark_kind m = 40 + m
@@ -219,18 +221,15 @@ first_type = keyword_kind keyword.Const ∷ first_base
 
 abbrev pub first_expression : List ℕ
 first_expression =
-    name_kind ∷ number_kind ∷ letter_kind ∷ text_kind ∷ mark_kind left_paren ∷ mark_kind plus ∷ mark_kind minus ∷ mark_kind exclamation ∷ mark_kind tilde
-    ∷ mark_kind times ∷ mark_kind ampersand ∷ keyword_kind keyword.Sizeof ∷ []
+    mark_kind increment ∷ mark_kind decrement ∷ name_kind ∷ number_kind ∷ letter_kind ∷ text_kind ∷ mark_kind left_paren ∷ mark_kind plus ∷ mark_kind minus
+    ∷ mark_kind exclamation ∷ mark_kind tilde ∷ mark_kind times ∷ mark_kind ampersand ∷ keyword_kind keyword.Sizeof ∷ []
 
 abbrev pub first_any_name : List ℕ
 first_any_name = name_kind ∷ type_name_kind ∷ []
 
 -- what a postfix expression goes on with
 abbrev pub first_postfix : List ℕ
-first_postfix = mark_kind left_bracket ∷ mark_kind dot ∷ mark_kind arrow ∷ []
-
-abbrev pub first_effect : List ℕ
-first_effect = mark_kind increment ∷ mark_kind decrement ∷ first_expression
+first_postfix = mark_kind left_bracket ∷ mark_kind dot ∷ mark_kind arrow ∷ mark_kind increment ∷ mark_kind decrement ∷ []
 
 -- what may follow words for a sign, and for a size; it serves `parse` alone
 abbrev pub signs_behind : SignWords → List ℕ
@@ -448,11 +447,11 @@ module _ (ws : Vocabulary) where
   unfoldable pub star_words : Syntax PlainToken Stars
   star_words = many (kind ws) (λ _. mark_kind times ∷ []) next_star no_stars
 
-  -- expr, as the length of an array; E stands for the expression
+  -- comma, as the length of an array; E stands for the expression
   unfoldable pub written_length : Syntax PlainToken Expression → Syntax PlainToken PlainLength
   written_length E = E then λ e. gives (Written e)
 
-  -- [ expr ]
+  -- [ comma ]
   unfoldable pub length_or_none : Syntax PlainToken Expression → Syntax PlainToken PlainLength
   length_or_none E = choice (kind ws) first_expression (written_length E) (gives Left)
 
@@ -468,11 +467,12 @@ module _ (ws : Vocabulary) where
   unfoldable pub brackets : Syntax PlainToken PlainLength → Syntax PlainToken (List PlainLength)
   brackets L = many (kind ws) (λ _. mark_kind left_bracket ∷ []) (next_bracket L) []
 
-  -- words { "*" { "const" } } { "[" expr "]" }, the type of a cast and of `sizeof` (C99 6.7.6)
+  -- words { "*" { "const" } } { "[" comma "]" }, the type of a cast and of `sizeof` (C99 6.7.6)
   unfoldable pub type_name : Syntax PlainToken Expression → Syntax PlainToken PlainType
   type_name E = type_words then λ t. star_words then λ stars. brackets (written_length E) then λ ns. gives (declared_type t stars ns)
 
-  -- ---- expressions; E stands for an expression inside another, O for an operand, by what a type in parentheses begins
+  -- ---- expressions; E stands for an expression with commas inside another, A for one without, O for an operand, by what a type in
+  -- parentheses begins
 
   abbrev pub Operand : Type 1
   Operand = TypeUse → Syntax PlainToken ReadOperand
@@ -481,7 +481,7 @@ module _ (ws : Vocabulary) where
   unfoldable pub closed : {A : Type 0} → A → Syntax PlainToken A
   closed x = mark right_paren then λ _. gives x
 
-  -- "[" expr "]", after a postfix expression (C99 6.5.2.1)
+  -- "[" comma "]", after a postfix expression (C99 6.5.2.1)
   unfoldable pub indexed : Syntax PlainToken Expression → Expression → Syntax PlainToken Expression
   indexed E x = mark left_bracket then λ at. E then λ i. mark right_bracket then λ _. gives (read_as at (Index x i))
 
@@ -493,17 +493,22 @@ module _ (ws : Vocabulary) where
   unfoldable pub arrowed : Expression → Syntax PlainToken Expression
   arrowed x = mark arrow then λ at. any_name then λ m. gives (read_as at (Arrow x m.0))
 
-  -- "[" expr "]" | "." ANYNAME | "->" ANYNAME
+  -- "++" | "--"
+  unfoldable pub bumped : Expression → Syntax PlainToken Expression
+  bumped x = one (placed (mark_entry postfix_bumps)) then λ o. gives (read_as o.1 (Bump o.0 x))
+
+  -- "[" comma "]" | "." ANYNAME | "->" ANYNAME | "++" | "--"
   unfoldable pub postfix_once : Syntax PlainToken Expression → Expression → Syntax PlainToken Expression
   postfix_once E x =
       choice (kind ws) (mark_kind left_bracket ∷ []) (indexed E x)
-      (choice (kind ws) (mark_kind dot ∷ []) (dotted x) (arrowed x))
+      (choice (kind ws) (mark_kind dot ∷ []) (dotted x)
+      (choice (kind ws) (mark_kind arrow ∷ []) (arrowed x) (bumped x)))
 
-  -- { "[" expr "]" | "." ANYNAME | "->" ANYNAME }, after a primary expression
+  -- { "[" comma "]" | "." ANYNAME | "->" ANYNAME | "++" | "--" }, after a primary expression or a call
   unfoldable pub postfixes : Syntax PlainToken Expression → Expression → Syntax PlainToken Expression
   postfixes E x = many (kind ws) (λ _. first_postfix) (postfix_once E) x
 
-  -- the rest of a postfix expression, after its primary one and with the place of its first token
+  -- the rest of a postfix expression, after its primary one or a call, with the place of its first token
   unfoldable pub postfix_rest : Syntax PlainToken Expression → Place → Expression → Syntax PlainToken ReadOperand
   postfix_rest E at x = postfixes E x then λ y. gives (read_operand y form.Postfix at)
 
@@ -527,7 +532,7 @@ module _ (ws : Vocabulary) where
   unfoldable pub sized_type : Syntax PlainToken Expression → Place → Syntax PlainToken ReadOperand
   sized_type E at = type_name E then λ t. closed (read_operand (read_as at (SizeOfType t)) form.TypeName at)
 
-  -- expr ")" and the rest of a postfix expression, after "("
+  -- comma ")" and the rest of a postfix expression, after "("
   unfoldable pub paren_rest : Syntax PlainToken Expression → Place → Syntax PlainToken ReadOperand
   paren_rest E at = E then λ e. mark right_paren then λ _. postfix_rest E at e
 
@@ -546,138 +551,127 @@ module _ (ws : Vocabulary) where
   unfoldable pub sized : Operand → Syntax PlainToken ReadOperand
   sized O = reserved keyword.Sizeof then λ at. O type_use.Sizes then λ x. gives (read_operand (read_as at (size_of_operand x)) form.Unary at)
 
+  -- ( "++" | "--" ) unary
+  unfoldable pub bump_first : Operand → Syntax PlainToken ReadOperand
+  bump_first O = one (placed (mark_entry prefix_bumps)) then λ o. O type_use.Nothing then λ x. gives
+      (read_operand (read_as o.1 (Bump o.0 x.expression)) form.Unary o.1)
+
   -- an operand that begins with no name
   unfoldable pub operand_but_name : Syntax PlainToken Expression → Operand → Operand
   operand_but_name E O u =
       choice (kind ws) (mark_kind left_paren ∷ []) (mark left_paren then λ at. behind_paren E O u at)
       (choice (kind ws) (kinds_of unary_operators) (prefixed O)
-      (choice (kind ws) (keyword_kind keyword.Sizeof ∷ []) (sized O) (literal_first E)))
+      (choice (kind ws) (kinds_of prefix_bumps) (bump_first O)
+      (choice (kind ws) (keyword_kind keyword.Sizeof ∷ []) (sized O) (literal_first E))))
+
+  -- ---- calls
+
+  -- "," assign, after the arguments before it
+  unfoldable pub next_argument : Syntax PlainToken Expression → List Expression → Syntax PlainToken (List Expression)
+  next_argument A es = mark comma then λ _. A then λ e. gives (es ++ e ∷ [])
+
+  -- [ assign { "," assign } ]
+  unfoldable pub arguments : Syntax PlainToken Expression → Syntax PlainToken (List Expression)
+  arguments A = choice (kind ws) first_expression (A then λ e. many (kind ws) (λ _. mark_kind comma ∷ []) (next_argument A) (e ∷ [])) (gives [])
+
+  -- "(" .. ")", after a name
+  unfoldable pub call_rest : Syntax PlainToken Expression → ℕ → Syntax PlainToken Expression
+  call_rest A f = mark left_paren then λ at. arguments A then λ es. closed (read_as at (Call (use_of f) (expressions es)))
 
   -- a postfix expression that begins with this name
-  abbrev pub behind_variable : Syntax PlainToken Expression → ℕ × Place → Syntax PlainToken ReadOperand
-  behind_variable E x = postfix_rest E x.1 (read_name x)
+  unfoldable pub behind_variable : Syntax PlainToken Expression → Syntax PlainToken Expression → ℕ × Place → Syntax PlainToken ReadOperand
+  behind_variable E A x =
+      choice (kind ws) (mark_kind left_paren ∷ []) (call_rest A x.0 then λ e. postfix_rest E x.1 e) (postfix_rest E x.1 (read_name x))
 
   -- a unary expression, or what a type in parentheses begins
-  unfoldable pub operand_of : Syntax PlainToken Expression → Operand → Operand
-  operand_of E O u = choice (kind ws) (name_kind ∷ []) (name then behind_variable E) (operand_but_name E O u)
+  unfoldable pub operand_of : Syntax PlainToken Expression → Syntax PlainToken Expression → Operand → Operand
+  operand_of E A O u = choice (kind ws) (name_kind ∷ []) (name then behind_variable E A) (operand_but_name E O u)
 
-  unfoldable pub operand : Syntax PlainToken Expression → Operand
-  operand E = knot (operand_of E)
+  unfoldable pub operand : Syntax PlainToken Expression → Syntax PlainToken Expression → Operand
+  operand E A = knot (operand_of E A)
 
   -- an operator of the level with its right operand R, after the left one
   unfoldable pub joined_once : ℕ → Syntax PlainToken Expression → Expression → Syntax PlainToken Expression
   joined_once l R left = one (placed (mark_entry (operators_at l))) then λ o. R then λ right. gives (read_as o.1 (connective_kind o.0 left right))
 
   -- what stands after an operand: operators of the levels below l with their right operands
-  unfoldable pub behind_operand : Syntax PlainToken Expression → ℕ → Expression → Syntax PlainToken Expression
-  behind_operand E zero x = gives x
-  behind_operand E (suc l) x =
-      behind_operand E l x then λ y.
-      many (kind ws) (λ _. kinds_of (operators_at l)) (joined_once l (operand E type_use.Casts then λ z. behind_operand E l z.expression)) y
+  unfoldable pub behind_operand : Syntax PlainToken Expression → Syntax PlainToken Expression → ℕ → Expression → Syntax PlainToken Expression
+  behind_operand E A zero x = gives x
+  behind_operand E A (suc l) x =
+      behind_operand E A l x then λ y.
+      many (kind ws) (λ _. kinds_of (operators_at l)) (joined_once l (operand E A type_use.Casts then λ z. behind_operand E A l z.expression)) y
 
-  -- "?" expr ":" expr, after the condition (C99 6.5.15)
-  unfoldable pub choice_rest : Syntax PlainToken Expression → Expression → Syntax PlainToken Expression
-  choice_rest E x = mark question then λ at. E then λ y. mark colon then λ _. E then λ z. gives (read_as at (Choice x y z))
+  -- "?" comma ":" cond, after the condition (C99 6.5.15); C stands for a conditional expression
+  unfoldable pub choice_rest : Syntax PlainToken Expression → Syntax PlainToken Expression → Expression → Syntax PlainToken Expression
+  choice_rest E C x = mark question then λ at. E then λ y. mark colon then λ _. C then λ z. gives (read_as at (Choice x y z))
 
-  -- the rest of an expression, after its first operand
-  unfoldable pub expression_rest : Syntax PlainToken Expression → Expression → Syntax PlainToken Expression
-  expression_rest E x = behind_operand E levels x then λ y. choice (kind ws) (mark_kind question ∷ []) (choice_rest E y) (gives y)
+  -- the rest of a conditional expression, after its first operand
+  unfoldable pub conditional_rest :
+      Syntax PlainToken Expression → Syntax PlainToken Expression → Syntax PlainToken Expression
+      → Expression → Syntax PlainToken Expression
+  conditional_rest E A C x = behind_operand E A levels x then λ y. choice (kind ws) (mark_kind question ∷ []) (choice_rest E C y) (gives y)
 
-  unfoldable pub expression_of : Syntax PlainToken Expression → Syntax PlainToken Expression
-  expression_of E = operand E type_use.Casts then λ x. expression_rest E x.expression
+  -- assign-op assign, after a unary expression (C99 6.5.16)
+  unfoldable pub assigned : Syntax PlainToken Expression → Expression → Syntax PlainToken Expression
+  assigned A left = one (placed (mark_entry assignment_operators)) then λ o. A then λ right. gives (read_as o.1 (Assign o.0 left right))
 
+  unfoldable pub behind_unary :
+      Syntax PlainToken Expression → Syntax PlainToken Expression → Syntax PlainToken Expression
+      → Expression → Syntax PlainToken Expression
+  behind_unary E A C x = choice (kind ws) (kinds_of assignment_operators) (assigned A x) (conditional_rest E A C x)
+
+  -- what stands after an operand of the form: after a cast no assignment
+  unfoldable pub behind_form :
+      Syntax PlainToken Expression → Syntax PlainToken Expression → Syntax PlainToken Expression
+      → Form → Expression → Syntax PlainToken Expression
+  behind_form E A C form.Postfix x = behind_unary E A C x
+  behind_form E A C form.Unary x = behind_unary E A C x
+  behind_form E A C form.Cast x = conditional_rest E A C x
+  behind_form E A C form.TypeName x = conditional_rest E A C x
+
+  unfoldable pub at_level :
+      Syntax PlainToken Expression → Syntax PlainToken Expression → Syntax PlainToken Expression
+      → Level → Syntax PlainToken Expression
+  at_level E A C Assignment = operand E A type_use.Casts then λ x. behind_form E A C x.form x.expression
+  at_level E A C Conditional = operand E A type_use.Casts then λ x. conditional_rest E A C x.expression
+
+  -- ---- commas (C99 6.5.17)
+
+  -- "," assign, after the left side
+  unfoldable pub next_part : Syntax PlainToken Expression → Expression → Syntax PlainToken Expression
+  next_part A x = mark comma then λ at. A then λ y. gives (read_as at (Comma x y))
+
+  -- assign { "," assign }
+  unfoldable pub with_commas : Syntax PlainToken Expression → Syntax PlainToken Expression
+  with_commas A = A then λ x. many (kind ws) (λ _. mark_kind comma ∷ []) (next_part A) x
+
+  -- ---- all of them
+
+  unfoldable pub expression_of : (Level → Syntax PlainToken Expression) → Level → Syntax PlainToken Expression
+  expression_of G l = at_level (with_commas (G Assignment)) (G Assignment) (G Conditional) l
+
+  -- assign, and cond
+  unfoldable pub expression_at : Level → Syntax PlainToken Expression
+  expression_at = knot expression_of
+
+  -- comma
   unfoldable pub expression : Syntax PlainToken Expression
-  expression = knot {S = Unit {0}} (λ E u. expression_of (E u)) tt
+  expression = with_commas (expression_at Assignment)
 
-  -- ---- calls
-
-  unfoldable pub next_argument : List Expression → Syntax PlainToken (List Expression)
-  next_argument es = mark comma then λ _. expression then λ e. gives (es ++ e ∷ [])
-
-  -- [ expr { "," expr } ]
-  unfoldable pub arguments : Syntax PlainToken (List Expression)
-  arguments =
-      choice (kind ws) first_expression (expression then λ e. many (kind ws) (λ _. mark_kind comma ∷ []) next_argument (e ∷ []))
-      (gives [])
-
-  -- "(" .. ")", after a name
-  unfoldable pub call_rest : ℕ × Place → Syntax PlainToken (Expression × Place)
-  call_rest f = mark left_paren then λ at. arguments then λ es. closed (read_as at (Call (use_of f.0) (expressions es)), f.1)
-
-  -- what stands after a name at the front of an expression or a call
-  unfoldable pub behind_name_or_callee : ℕ × Place → Syntax PlainToken Expression
-  behind_name_or_callee x =
-      choice (kind ws) (mark_kind left_paren ∷ []) (call_rest x then λ c. gives c.0)
-      (behind_variable expression x then λ y. expression_rest expression y.expression)
-
-  -- an expression, or a call
-  unfoldable pub expression_or_call : Syntax PlainToken Expression
-  expression_or_call =
-      choice (kind ws) (name_kind ∷ []) (name then behind_name_or_callee)
-      (operand_but_name expression (operand expression) type_use.Casts then λ x. expression_rest expression x.expression)
-
-  -- ---- effects, each with the place of its first token
-
-  -- what is assigned: by `=` an expression or a call, and by another operator an expression
-  unfoldable pub assigned_value : Option BinOp → Syntax PlainToken Expression
-  assigned_value None = expression_or_call
-  assigned_value (Some op) = expression
-
-  -- assign-op and what is assigned, after a unary expression
-  unfoldable pub assigned : Expression → Syntax PlainToken Expression
-  assigned left = one (placed (mark_entry assignment_operators)) then λ o. assigned_value o.0 then λ right. gives (read_as o.1 (Assign o.0 left right))
-
-  -- "++" | "--", after a postfix expression
-  unfoldable pub bumped : Expression → Syntax PlainToken Expression
-  bumped x = one (placed (mark_entry postfix_bumps)) then λ o. gives (read_as o.1 (Bump o.0 x))
-
-  unfoldable pub behind_unary : Expression → Syntax PlainToken Expression
-  behind_unary x = choice (kind ws) (kinds_of assignment_operators) (assigned x) (expression_rest expression x)
-
-  unfoldable pub behind_postfix : Expression → Syntax PlainToken Expression
-  behind_postfix x = choice (kind ws) (kinds_of postfix_bumps) (bumped x) (behind_unary x)
-
-  -- what stands after an expression of the form
-  unfoldable pub behind_form : Form → Expression → Syntax PlainToken Expression
-  behind_form form.Postfix x = behind_postfix x
-  behind_form form.Unary x = behind_unary x
-  behind_form form.Cast x = expression_rest expression x
-  behind_form form.TypeName x = expression_rest expression x
-
-  -- the rest of an effect, after its first operand
-  unfoldable pub effect_rest : ReadOperand → Syntax PlainToken (Expression × Place)
-  effect_rest x = behind_form x.form x.expression then λ e. gives (e, x.first)
-
-  -- ( "++" | "--" ) unary
-  unfoldable pub bump_first : Syntax PlainToken (Expression × Place)
-  bump_first = one (placed (mark_entry prefix_bumps)) then λ o. operand expression type_use.Nothing then λ x. gives (read_as o.1 (Bump o.0 x.expression), o.1)
-
-  -- an effect that begins with no name
-  unfoldable pub effect_but_name : Syntax PlainToken (Expression × Place)
-  effect_but_name = choice (kind ws) (kinds_of prefix_bumps) bump_first (operand_but_name expression (operand expression) type_use.Casts then effect_rest)
-
-  -- an expression, an assignment or an increment
-  unfoldable pub effect : Syntax PlainToken (Expression × Place)
-  effect = choice (kind ws) (name_kind ∷ []) (name then λ x. behind_variable expression x then effect_rest) effect_but_name
-
-  -- what stands after a name at the front of a statement
-  unfoldable pub behind_name : ℕ × Place → Syntax PlainToken (Expression × Place)
-  behind_name x = choice (kind ws) (mark_kind left_paren ∷ []) (call_rest x) (behind_variable expression x then effect_rest)
-
-  -- an effect or a call
-  unfoldable pub effect_or_call : Syntax PlainToken (Expression × Place)
-  effect_or_call = choice (kind ws) (name_kind ∷ []) (name then behind_name) effect_but_name
+  -- the same with the place of its first token, as a statement begins with it
+  unfoldable pub placed_expression : Syntax PlainToken (Expression × Place)
+  placed_expression =
+      operand expression (expression_at Assignment) type_use.Casts then λ x.
+      behind_form expression (expression_at Assignment) (expression_at Conditional) x.form x.expression then λ y.
+      many (kind ws) (λ _. mark_kind comma ∷ []) (next_part (expression_at Assignment)) y then λ e. gives (e, x.first)
 
   -- ---- expressions that stand in no other
 
   unfoldable pub full_expression : Syntax PlainToken Expression
   full_expression = at_most expression_limit most_in_expression expression
 
-  unfoldable pub full_expression_or_call : Syntax PlainToken Expression
-  full_expression_or_call = at_most expression_limit most_in_expression expression_or_call
+  unfoldable pub full_placed_expression : Syntax PlainToken (Expression × Place)
+  full_placed_expression = at_most expression_limit most_in_expression placed_expression
 
-  unfoldable pub full_effect : Syntax PlainToken (Expression × Place)
-  full_effect = at_most expression_limit most_in_expression effect
-
-  unfoldable pub full_effect_or_call : Syntax PlainToken (Expression × Place)
-  full_effect_or_call = at_most expression_limit most_in_expression effect_or_call
+  unfoldable pub full_expression_at : Level → Syntax PlainToken Expression
+  full_expression_at l = at_most expression_limit most_in_expression (expression_at l)

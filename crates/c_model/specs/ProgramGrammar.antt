@@ -5,11 +5,13 @@
 --   external   = spec [ declared { "," declared } ] ";" | spec dtor { "," dtor } ";" | spec { "*" } NAME "(" params ")" ( ";" | body )
 --   body       = "{" { item } "}"
 --   item       = annotation | decl | stmt
---   stmt       = "{" { item } "}" | ";" | effect ";" | call ";"
---              | "if" "(" expr ")" branch [ "else" branch ]
---              | "while" "(" expr ")" branch | "do" branch "while" "(" expr ")" ";"
---              | "for" "(" ( decl | [ effect | call ] ";" ) [ expr ] ";" [ effect ] ")" branch
---              | "break" ";" | "continue" ";" | "return" [ expr | call ] ";"
+--   stmt       = "{" { item } "}" | ";" | comma ";"
+--              | "if" "(" comma ")" branch [ "else" branch ]
+--              | "while" "(" comma ")" branch | "do" branch "while" "(" comma ")" ";"
+--              | "for" "(" ( decl | [ comma ] ";" ) [ comma ] ";" [ comma ] ")" branch
+--              | "switch" "(" comma ")" "{" { case } "}"
+--              | "break" ";" | "continue" ";" | "return" [ comma ] ";"
+--   case       = ( "case" cond | "default" ) ":" { annotation | stmt }
 --   annotation : see AnnotationGrammar
 --
 -- An annotation that is no item stands where no assert may: it is passed over, and the place of the first of these is kept. A branch with an
@@ -25,6 +27,7 @@ use Rattle.c_syntax.specs.Ctypes.{PlainType}
 use Rattle.c_syntax.specs.Expressions.{Expression}
 use Rattle.c_syntax.specs.Statements as statement
 use Rattle.c_syntax.specs.Statements.{Declaration, Statement, ElsePart, NoElse, ForFirst, NoFirst, First, BlockItem, BlockItems, NoItem, Then}
+use Rattle.c_syntax.specs.Statements.{Cases, NoCase, AnotherCase}
 use Rattle.c_syntax.specs.Logic.{Annotation}
 use Rattle.c_syntax.specs.Programs.{Function, StringLiteral, TranslationUnit}
 use Rattle.c_syntax.specs.Tokens as token
@@ -33,13 +36,14 @@ use Rattle.c_model.specs.declared.declarations.AnnotationState.{AnnotationState}
 use Rattle.c_model.specs.declared.declarations.Storage.{Storage}
 use Rattle.c_model.specs.declared.declarations.Storage.TheVariants as storage
 use Rattle.c_model.specs.declared.declarations.Named.TheVariants as ordinary
+use Rattle.c_model.specs.declared.operands.Level.TheVariants.{Conditional}
 use Rattle.c_model.specs.declared.vocabulary.Keyword.TheVariants as keyword
 use Rattle.c_model.specs.Vocabulary.{Vocabulary, word_at, declared_word}
-use Rattle.c_model.specs.Punctuators.{semicolon, comma, left_paren, left_brace, right_brace}
+use Rattle.c_model.specs.Punctuators.{semicolon, colon, comma, left_paren, left_brace, right_brace}
 use Rattle.c_model.specs.Terminals.{nesting_limit}
-use Rattle.c_model.specs.ExpressionGrammar.{annot_open_kind, keyword_kind, mark_kind, kind, first_type, first_expression, first_effect, pointers}
+use Rattle.c_model.specs.ExpressionGrammar.{annot_open_kind, keyword_kind, mark_kind, kind, first_type, first_expression, pointers}
 use Rattle.c_model.specs.ExpressionGrammar.{most_nested, mark, reserved, closed}
-use Rattle.c_model.specs.ExpressionGrammar.{full_expression, full_expression_or_call, full_effect, full_effect_or_call}
+use Rattle.c_model.specs.ExpressionGrammar.{full_expression, full_placed_expression, full_expression_at}
 use Rattle.c_model.specs.DeclarationGrammar.{Declarator, Definitions, names_function, declared_by, nameless, ended, full_dtor, initialised, more_declared}
 use Rattle.c_model.specs.DeclarationGrammar.{declaration, parameters, file_spec}
 use Rattle.c_model.specs.AnnotationGrammar.{annotations}
@@ -49,7 +53,7 @@ use Rattle.c_model.specs.AnnotationGrammar.{annotations}
 abbrev pub first_statement : List ℕ
 first_statement =
     mark_kind left_brace ∷ mark_kind semicolon ∷ keyword_kind keyword.If ∷ keyword_kind keyword.While ∷ keyword_kind keyword.Do ∷ keyword_kind keyword.For
-    ∷ keyword_kind keyword.Break ∷ keyword_kind keyword.Continue ∷ keyword_kind keyword.Return ∷ first_effect
+    ∷ keyword_kind keyword.Switch ∷ keyword_kind keyword.Break ∷ keyword_kind keyword.Continue ∷ keyword_kind keyword.Return ∷ first_expression
 
 -- what begins a statement inside another
 abbrev pub first_branch : List ℕ
@@ -58,11 +62,24 @@ first_branch = annot_open_kind ∷ first_statement
 abbrev pub first_item : List ℕ
 first_item = annot_open_kind ∷ first_type ++ first_statement
 
+abbrev pub first_case : List ℕ
+first_case = keyword_kind keyword.Case ∷ keyword_kind keyword.Default ∷ []
+
 -- ---- trees
 
 abbrev pub block_items : List BlockItem → BlockItems
 block_items [] = NoItem
 block_items (i ∷ is) = Then i (block_items is)
+
+-- a case as it is read: the place of its word, its value, or none for `default`, and its items
+pub record ReadCase : Type 0 where
+  pub place : Place
+  pub value : Option Expression
+  pub items : List BlockItem
+
+abbrev pub cases_of : List ReadCase → Cases
+cases_of [] = NoCase
+cases_of (c ∷ cs) = AnotherCase c.place c.value (block_items c.items) (cases_of cs)
 
 abbrev mutual
   -- an `if` without `else` at the end, with which a further `else` would go (C99 6.8.4.1 p3)
@@ -178,7 +195,7 @@ module _ (ws : Vocabulary) where
 
   -- ---- statements; T stands for a statement in a block, and S for one inside another
 
-  -- "(" expr ")"
+  -- "(" comma ")"
   unfoldable pub condition : Syntax PlainToken Expression
   condition = mark ws left_paren then λ _. full_expression ws then λ e. closed ws e
 
@@ -202,20 +219,20 @@ module _ (ws : Vocabulary) where
       reserved ws keyword.Do then λ at. S n then λ x. reserved ws keyword.While then λ _. condition then λ e.
       ended ws (statement.Do at x.0 e, x.1)
 
-  -- decl | [ effect | call ] ";"
+  -- decl | [ comma ] ";"
   unfoldable pub for_first : AnnotationState → Syntax PlainToken (ForFirst × AnnotationState)
   for_first n =
       choice (kind ws) first_type (declaration ws then λ i. gives (First i, n))
-      (choice (kind ws) first_effect (full_effect_or_call ws then λ e. ended ws (First (statement.Run (statement.Eval e.1 e.0)), n))
+      (choice (kind ws) first_expression (full_placed_expression ws then λ e. ended ws (First (statement.Run (statement.Eval e.1 e.0)), n))
       (ended ws (NoFirst, n)))
 
-  -- [ expr ] ";"
+  -- [ comma ] ";"
   unfoldable pub maybe_ended : Syntax PlainToken (Option Expression)
   maybe_ended = choice (kind ws) first_expression (full_expression ws then λ e. ended ws (Some e)) (ended ws None)
 
-  -- [ effect ] ")"
+  -- [ comma ] ")"
   unfoldable pub for_behind : Syntax PlainToken (Option Expression)
-  for_behind = choice (kind ws) first_effect (full_effect ws then λ e. closed ws (Some e.0)) (closed ws None)
+  for_behind = choice (kind ws) first_expression (full_expression ws then λ e. closed ws (Some e)) (closed ws None)
 
   unfoldable pub for_loop : Numbered → Numbered
   for_loop S n =
@@ -227,9 +244,9 @@ module _ (ws : Vocabulary) where
       choice (kind ws) (keyword_kind keyword.Break ∷ []) (reserved ws keyword.Break then λ at. ended ws (statement.Break at, n))
       (reserved ws keyword.Continue then λ at. ended ws (statement.Continue at, n))
 
-  -- [ expr | call ] ";"
+  -- [ comma ] ";"
   unfoldable pub returned : Syntax PlainToken (Option Expression)
-  returned = choice (kind ws) first_expression (full_expression_or_call ws then λ e. ended ws (Some e)) (ended ws None)
+  returned = choice (kind ws) first_expression (full_expression ws then λ e. ended ws (Some e)) (ended ws None)
 
   unfoldable pub return_statement : Numbered
   return_statement n = reserved ws keyword.Return then λ at. returned then λ e. gives (statement.Return at e, n)
@@ -256,9 +273,46 @@ module _ (ws : Vocabulary) where
   unfoldable pub empty_statement : Numbered
   empty_statement n = mark ws semicolon then λ at. gives (statement.Empty at, n)
 
-  -- ( effect | call ) ";"
+  -- ---- `switch` (C99 6.8.4.2)
+
+  -- "case" cond ":"
+  unfoldable pub valued_case : Syntax PlainToken (Place × Option Expression)
+  valued_case = reserved ws keyword.Case then λ at. full_expression_at ws Conditional then λ e. mark ws colon then λ _. gives (at, Some e)
+
+  -- "default" ":"
+  unfoldable pub default_case : Syntax PlainToken (Place × Option Expression)
+  default_case = reserved ws keyword.Default then λ at. mark ws colon then λ _. gives (at, None)
+
+  unfoldable pub case_label : Syntax PlainToken (Place × Option Expression)
+  case_label = choice (kind ws) (keyword_kind keyword.Case ∷ []) valued_case default_case
+
+  -- annotation | stmt
+  unfoldable pub case_item : Numbered → AnnotationState → Syntax PlainToken (BlockItem × AnnotationState)
+  case_item T n = choice (kind ws) (annot_open_kind ∷ []) (placed_annotation n) (T n then λ x. gives (statement.Run x.0, x.1))
+
+  unfoldable pub case_items_once : Numbered → List BlockItem × AnnotationState → Syntax PlainToken (List BlockItem × AnnotationState)
+  case_items_once T x = case_item T x.1 then λ i. gives (x.0 ++ i.0 ∷ [], i.1)
+
+  -- { annotation | stmt }, after the items x
+  unfoldable pub case_items : Numbered → List BlockItem × AnnotationState → Syntax PlainToken (List BlockItem × AnnotationState)
+  case_items T x = many (kind ws) (λ _. first_branch) (case_items_once T) x
+
+  -- case, after others
+  unfoldable pub next_case : Numbered → List ReadCase × AnnotationState → Syntax PlainToken (List ReadCase × AnnotationState)
+  next_case T x = case_label then λ l. case_items T ([], x.1) then λ y. gives (x.0 ++ record { place = l.0; value = l.1; items = y.0 } ∷ [], y.1)
+
+  -- { case }, after the cases x
+  unfoldable pub cases : Numbered → List ReadCase × AnnotationState → Syntax PlainToken (List ReadCase × AnnotationState)
+  cases T x = many (kind ws) (λ _. first_case) (next_case T) x
+
+  unfoldable pub switch_statement : Numbered → Numbered
+  switch_statement T n =
+      reserved ws keyword.Switch then λ at. condition then λ e. mark ws left_brace then λ _. cases T ([], n) then λ x.
+      mark ws right_brace then λ _. gives (statement.Switch at e (cases_of x.0), x.1)
+
+  -- comma ";"
   unfoldable pub effect_statement : Numbered
-  effect_statement n = full_effect_or_call ws then λ e. ended ws (statement.Eval e.1 e.0, n)
+  effect_statement n = full_placed_expression ws then λ e. ended ws (statement.Eval e.1 e.0, n)
 
   unfoldable pub statement_of : Numbered → Numbered → Numbered
   statement_of T S n =
@@ -268,8 +322,9 @@ module _ (ws : Vocabulary) where
       (choice (kind ws) (keyword_kind keyword.While ∷ []) (while_loop S n)
       (choice (kind ws) (keyword_kind keyword.Do ∷ []) (do_loop S n)
       (choice (kind ws) (keyword_kind keyword.For ∷ []) (for_loop S n)
+      (choice (kind ws) (keyword_kind keyword.Switch ∷ []) (switch_statement T n)
       (choice (kind ws) (keyword_kind keyword.Return ∷ []) (return_statement n)
-      (choice (kind ws) (keyword_kind keyword.Break ∷ keyword_kind keyword.Continue ∷ []) (jump n) (effect_statement n))))))))
+      (choice (kind ws) (keyword_kind keyword.Break ∷ keyword_kind keyword.Continue ∷ []) (jump n) (effect_statement n)))))))))
 
   -- a statement inside another, with or without annotations before it
   unfoldable pub branch_of : Numbered → Numbered → Numbered

@@ -4,7 +4,7 @@ use Rattle.c_syntax.specs.declared.types.CInt.{CInt}
 use Rattle.c_syntax.specs.declared.types.CInt.TheVariants.{I8, U8, I16, U16, I32, U32, I64, U64}
 use Rattle.c_model.specs.declared.vocabulary.Keyword.{Keyword}
 use Rattle.c_model.specs.declared.vocabulary.Keyword.TheVariants.{Char, Short, Int, Long, Signed, Unsigned, Void, Const, Static, If, Else, While, Do, For}
-use Rattle.c_model.specs.declared.vocabulary.Keyword.TheVariants.{Break, Continue, Return, Sizeof, Struct, Enum, Typedef, Kept}
+use Rattle.c_model.specs.declared.vocabulary.Keyword.TheVariants.{Break, Continue, Return, Sizeof, Struct, Enum, Typedef, Switch, Case, Default, Kept}
 use Rattle.c_model.specs.declared.vocabulary.TypeName.TheVariants.{Library, Declared, DeclaredAssert}
 use Rattle.c_model.specs.declared.vocabulary.LogicWord.{LogicWord}
 use Rattle.c_model.specs.declared.vocabulary.LogicWord.TheVariants as logic
@@ -28,16 +28,16 @@ keywords =
     ∷ (codes "const", word.Keyword Const) ∷ (codes "static", word.Keyword Static) ∷ (codes "if", word.Keyword If) ∷ (codes "else", word.Keyword Else)
     ∷ (codes "while", word.Keyword While) ∷ (codes "do", word.Keyword Do) ∷ (codes "for", word.Keyword For) ∷ (codes "break", word.Keyword Break)
     ∷ (codes "continue", word.Keyword Continue) ∷ (codes "return", word.Keyword Return) ∷ (codes "sizeof", word.Keyword Sizeof)
-    ∷ (codes "struct", word.Keyword Struct) ∷ (codes "enum", word.Keyword Enum) ∷ (codes "typedef", word.Keyword Typedef) ∷ []
+    ∷ (codes "struct", word.Keyword Struct) ∷ (codes "enum", word.Keyword Enum) ∷ (codes "typedef", word.Keyword Typedef)
+    ∷ (codes "switch", word.Keyword Switch) ∷ (codes "case", word.Keyword Case) ∷ (codes "default", word.Keyword Default) ∷ []
 
 -- the keywords that no production has
 abbrev pub kept_keywords : Words
 kept_keywords =
-    (codes "switch", word.Keyword Kept) ∷ (codes "case", word.Keyword Kept) ∷ (codes "default", word.Keyword Kept) ∷ (codes "auto", word.Keyword Kept)
-    ∷ (codes "register", word.Keyword Kept) ∷ (codes "extern", word.Keyword Kept) ∷ (codes "inline", word.Keyword Kept) ∷ (codes "restrict", word.Keyword Kept)
-    ∷ (codes "volatile", word.Keyword Kept) ∷ (codes "goto", word.Keyword Kept) ∷ (codes "union", word.Keyword Kept) ∷ (codes "float", word.Keyword Kept)
-    ∷ (codes "double", word.Keyword Kept) ∷ (codes "_Bool", word.Keyword Kept) ∷ (codes "_Complex", word.Keyword Kept)
-    ∷ (codes "_Imaginary", word.Keyword Kept) ∷ []
+    (codes "auto", word.Keyword Kept) ∷ (codes "register", word.Keyword Kept) ∷ (codes "extern", word.Keyword Kept) ∷ (codes "inline", word.Keyword Kept)
+    ∷ (codes "restrict", word.Keyword Kept) ∷ (codes "volatile", word.Keyword Kept) ∷ (codes "goto", word.Keyword Kept)
+    ∷ (codes "union", word.Keyword Kept) ∷ (codes "float", word.Keyword Kept) ∷ (codes "double", word.Keyword Kept) ∷ (codes "_Bool", word.Keyword Kept)
+    ∷ (codes "_Complex", word.Keyword Kept) ∷ (codes "_Imaginary", word.Keyword Kept) ∷ []
 
 -- types of the library (C99 7.17), and words of annotations (ACSL)
 abbrev pub other_words : Words

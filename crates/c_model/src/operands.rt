@@ -5,7 +5,7 @@ use c_syntax::BinOp;
 /// What form an operand has, by which it can go on.
 #[derive(Clone, Copy, PartialEq, Eq, Debug)]
 pub enum Form {
-    /// A postfix expression, which `++` may follow.
+    /// A postfix expression, which `=` may follow.
     Postfix,
     /// A unary expression, which `=` may follow.
     Unary,
@@ -22,6 +22,15 @@ pub enum TypeUse {
     /// What `sizeof` takes.
     Sizes,
     Nothing,
+}
+
+/// What an expression without commas may be (C99 6.5.15, 6.5.16).
+#[derive(Clone, Copy, PartialEq, Eq, Debug)]
+pub enum Level {
+    /// An assignment too, as in an argument.
+    Assignment,
+    /// None, as after `:`.
+    Conditional,
 }
 
 /// The stars of a declarator.

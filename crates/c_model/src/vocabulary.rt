@@ -26,6 +26,9 @@ pub enum Keyword {
     Struct,
     Enum,
     Typedef,
+    Switch,
+    Case,
+    Default,
     /// A keyword that no production has.
     Kept,
 }
