@@ -34,7 +34,7 @@ no t = 0
 module _ (ws : Vocabulary) where
   -- ---- lists
 
-  item_choice : (L : Syntax PlainToken Initialiser) → Same (item_of_list ws L) (production.item ws L)
+  item_choice : (L : Syntax PlainToken Initialiser) → Same (item_of_list ws L) (production.init ws L)
   unfolding item_of_list
   item_choice L =
       both

@@ -5,7 +5,7 @@ use Rattle.grammar.specs.Exact.{Same}
 use Rattle.grammar.proofs.Forms.{to_left}
 use Rattle.grammar_laws.specs.Plain.{repeated}
 use Rattle.grammar_laws.proofs.Inclusions.{Within, both, forth, back, itself, ◌so◌, each, on, in_turn, turns, handed, handed_back, capped_within}
-use Rattle.grammar_laws.proofs.EffectProductions.{stars_line}
+use Rattle.grammar_laws.proofs.TypeProductions.{stars_line}
 use Rattle.grammar_laws.proofs.FileProductions.{declared_line, next_line}
 use Rattle.c_syntax.specs.Ctypes.{PlainType}
 use Rattle.c_syntax.specs.Statements.{Declaration, BlockItem, Declare}

@@ -8,7 +8,7 @@ use Rattle.grammar.proofs.Forms.{to_left, many_form}
 use Rattle.grammar_laws.specs.Plain.{◌or◌, repeated}
 use Rattle.grammar_laws.proofs.Inclusions.{Within, both, forth, back, itself, ◌so◌, either, first, second, on, in_turn, turns, either_before, handed, handed_back, given_first, given_back}
 use Rattle.grammar_laws.proofs.Tokens.{just, by_token, just_as, one_by_one, placed_is, placed_some}
-use Rattle.grammar_laws.proofs.EffectProductions.{base_line}
+use Rattle.grammar_laws.proofs.TypeProductions.{base_line}
 use Rattle.c_syntax.specs.declared.place.Place.{Place}
 use Rattle.c_syntax.specs.Ctypes.{PlainType, Void, Int, StructTag, EnumTag}
 use Rattle.c_syntax.specs.Tokens as token

@@ -7,7 +7,8 @@ pub mod ExpressionKnots
 pub mod AnnotationKnots
 -- productions
 pub mod ExpressionProductions
-pub mod EffectProductions
+pub mod TypeProductions
+pub mod AssignmentProductions
 pub mod CommaLists
 pub mod DeclarationProductions
 pub mod StatementProductions

@@ -9,7 +9,7 @@ use Rattle.grammar_laws.specs.Plain.{◌or◌, repeated, with_first}
 use Rattle.grammar_laws.proofs.Inclusions.{Within, both, forth, back, itself, ◌so◌, either, first, second, each, on, in_turn, turns, either_before, after_either, handed, handed_back}
 use Rattle.grammar_laws.proofs.Inclusions.{given_first, given_back, nothing, ended_none, limited, capped_within, Bounds, but_forth, but_back}
 use Rattle.grammar_laws.proofs.Tokens.{grouped, just, by_token, just_as, just_on, one_by_one, place_is, placed_some, first_told, first_told_back}
-use Rattle.grammar_laws.proofs.EffectProductions.{stars_line}
+use Rattle.grammar_laws.proofs.TypeProductions.{stars_line}
 use Rattle.grammar_laws.proofs.DeclaratorProductions.{lengths_line}
 use Rattle.grammar_laws.proofs.FirstWords.{cut_line, start_word, keyword_start, reserved_word, word_reserved, void_alone}
 use Rattle.c_syntax.specs.declared.place.Place.{Place}

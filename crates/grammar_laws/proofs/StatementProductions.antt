@@ -1,5 +1,5 @@
 -- The productions of statements are those of the head of their grammar.
-use Rattle.std.proofs.Common.{ℕ, zero, suc, cond, [], ◌∷◌, Option, Some, None, refl, inl, inr}
+use Rattle.std.proofs.Common.{ℕ, zero, suc, cond, List, [], ◌∷◌, Option, Some, None, refl, inl, inr}
 use Rattle.grammar.specs.Syntax.{Syntax, none, gives, ◌then◌, deep}
 use Rattle.grammar.specs.Exact.{Same}
 use Rattle.grammar_laws.specs.Plain.{◌or◌}
@@ -15,10 +15,10 @@ use Rattle.c_model.specs.declared.vocabulary.Keyword.TheVariants as keyword
 use Rattle.c_model.specs.Vocabulary.{Vocabulary}
 use Rattle.c_model.specs.Punctuators.{semicolon, left_paren, right_paren, left_brace}
 use Rattle.c_model.specs.Terminals.{nesting_limit}
-use Rattle.c_model.specs.ExpressionGrammar.{annot_open_kind, keyword_kind, mark_kind, kind, first_type, first_expression, first_effect, mark, reserved}
-use Rattle.c_model.specs.ExpressionGrammar.{closed, full_expression, full_expression_or_call, full_effect}
+use Rattle.c_model.specs.ExpressionGrammar.{annot_open_kind, keyword_kind, mark_kind, kind, first_type, first_expression, mark, reserved}
+use Rattle.c_model.specs.ExpressionGrammar.{closed, full_expression}
 use Rattle.c_model.specs.DeclarationGrammar.{ended}
-use Rattle.c_model.specs.ProgramGrammar.{Numbered, first_statement, first_item, first_branch, is_open, statement_of, branch_of, statement_in, branch_in}
+use Rattle.c_model.specs.ProgramGrammar.{Numbered, ReadCase, first_statement, first_item, first_branch, first_case, is_open, statement_of, branch_of, statement_in, branch_in}
 use Rattle.c_model.specs.ProgramGrammar as parsed
 use Rattle.grammar_laws.specs.StatementProductions as production
 
@@ -68,25 +68,25 @@ module _ (ws : Vocabulary) where
   for_first_line : (n : AnnotationState) → Same (parsed.for_first ws n) (production.for_first ws n)
   unfolding parsed.for_first ended
   for_first_line n =
-      both (each (kind ws) first_type no [] (itself _) (each (kind ws) first_effect no [] (itself _) (itself _)))
-      (each no [] (kind ws) first_type (itself _) (each no [] (kind ws) first_effect (itself _) (itself _)))
+      both (each (kind ws) first_type no [] (itself _) (each (kind ws) first_expression no [] (itself _) (itself _)))
+      (each no [] (kind ws) first_type (itself _) (each no [] (kind ws) first_expression (itself _) (itself _)))
 
   -- after the first part of `for`
   abbrev turned : Numbered → Place → ForFirst × AnnotationState → Option Expression → Option Expression → Syntax PlainToken Stated
   turned S at first e behind = S first.1 then λ x. gives (statement.For at [] first.0 e behind x.0, x.1)
 
   abbrev Behind : Syntax PlainToken (Option Expression)
-  Behind = (full_effect ws then λ f. gives (Some f.0)) or gives None
+  Behind = production.maybe ws (full_expression ws)
 
   behind_forth : (S : Numbered) (at : Place) (first : ForFirst × AnnotationState) (e : Option Expression) → (S first.1).begun []
       → Within (parsed.for_behind ws then turned S at first e) (Behind then λ behind. mark ws right_paren then λ _. turned S at first e behind)
   unfolding parsed.for_behind closed
-  behind_forth S at first e empty = maybe_forth (kind ws) first_effect no [] (full_effect ws) (mark ws right_paren) (λ f. Some f.0) None (turned S at first e) (λ b. inl empty)
+  behind_forth S at first e empty = maybe_forth (kind ws) first_expression no [] (full_expression ws) (mark ws right_paren) Some None (turned S at first e) (λ b. inl empty)
 
   behind_back : (S : Numbered) (at : Place) (first : ForFirst × AnnotationState) (e : Option Expression)
       → Within (Behind then λ behind. mark ws right_paren then λ _. turned S at first e behind) (parsed.for_behind ws then turned S at first e)
   unfolding parsed.for_behind closed
-  behind_back S at first e = maybe_back (kind ws) first_effect no [] (full_effect ws) (mark ws right_paren) (λ f. Some f.0) None (turned S at first e) (inl refl)
+  behind_back S at first e = maybe_back (kind ws) first_expression no [] (full_expression ws) (mark ws right_paren) Some None (turned S at first e) (inl refl)
 
   behind_empty : (parsed.for_behind ws).begun []
   unfolding parsed.for_behind closed
@@ -121,8 +121,8 @@ module _ (ws : Vocabulary) where
   return_line : (n : AnnotationState) → Same (parsed.return_statement ws n) (production.return_statement ws n)
   unfolding parsed.return_statement parsed.returned ended
   return_line n =
-      both (on (reserved ws keyword.Return) (λ at. maybe_forth (kind ws) first_expression no [] (full_expression_or_call ws) (mark ws semicolon) Some None (returning n at) (λ e. refl)))
-      (on (reserved ws keyword.Return) (λ at. maybe_back (kind ws) first_expression no [] (full_expression_or_call ws) (mark ws semicolon) Some None (returning n at) (inl refl)))
+      both (on (reserved ws keyword.Return) (λ at. maybe_forth (kind ws) first_expression no [] (full_expression ws) (mark ws semicolon) Some None (returning n at) (λ e. refl)))
+      (on (reserved ws keyword.Return) (λ at. maybe_back (kind ws) first_expression no [] (full_expression ws) (mark ws semicolon) Some None (returning n at) (inl refl)))
 
   jump_line : (n : AnnotationState) → Same (parsed.jump ws n) (production.jump ws n)
   unfolding parsed.jump ended
@@ -144,6 +144,38 @@ module _ (ws : Vocabulary) where
   unfolding parsed.effect_statement ended
   effect_line n = both (itself _) (itself _)
 
+  -- ---- `switch`
+
+  label_line : Same (parsed.case_label ws) (production.case_label ws)
+  unfolding parsed.case_label parsed.valued_case parsed.default_case
+  label_line = both (each (kind ws) (keyword_kind keyword.Case ∷ []) no [] (itself _) (itself _)) (each no [] (kind ws) (keyword_kind keyword.Case ∷ []) (itself _) (itself _))
+
+  case_item_line : (T : Numbered) (n : AnnotationState) → Same (parsed.case_item ws T n) (production.case_item ws T n)
+  unfolding parsed.case_item parsed.placed_annotation
+  case_item_line T n = both (each (kind ws) (annot_open_kind ∷ []) no [] (itself _) (itself _)) (each no [] (kind ws) (annot_open_kind ∷ []) (itself _) (itself _))
+
+  case_items_line : (T : Numbered) (n : AnnotationState) → Same (parsed.case_items ws T ([], n)) (production.case_items ws T n)
+  unfolding parsed.case_items parsed.case_items_once
+  case_items_line T n =
+      both (turns (kind ws) (λ _. first_branch) no (λ _. []) (λ y. in_turn (forth (case_item_line T y.1)) (λ i. itself _)) ([], n))
+      (turns no (λ _. []) (kind ws) (λ _. first_branch) (λ y. in_turn (back (case_item_line T y.1)) (λ i. itself _)) ([], n))
+
+  next_case_line : (T : Numbered) (x : List ReadCase × AnnotationState) → Same (parsed.next_case ws T x) (production.next_case ws T x)
+  unfolding parsed.next_case
+  next_case_line T x =
+      both (in_turn (forth label_line) (λ l. in_turn (forth (case_items_line T x.1)) (λ y. itself _))) (in_turn (back label_line) (λ l. in_turn (back (case_items_line T x.1)) (λ y. itself _)))
+
+  cases_line : (T : Numbered) (n : AnnotationState) → Same (parsed.cases ws T ([], n)) (production.cases ws T n)
+  unfolding parsed.cases
+  cases_line T n =
+      both (turns (kind ws) (λ _. first_case) no (λ _. []) (λ y. forth (next_case_line T y)) ([], n)) (turns no (λ _. []) (kind ws) (λ _. first_case) (λ y. back (next_case_line T y)) ([], n))
+
+  switch_line : (T : Numbered) (n : AnnotationState) → Same (parsed.switch_statement ws T n) (production.switch_statement ws T n)
+  unfolding parsed.switch_statement parsed.condition closed
+  switch_line T n =
+      both (on (reserved ws keyword.Switch) (λ at. on (production.condition ws) (λ e. on (mark ws left_brace) (λ _. in_turn (forth (cases_line T n)) (λ x. itself _)))))
+      (on (reserved ws keyword.Switch) (λ at. on (production.condition ws) (λ e. on (mark ws left_brace) (λ _. in_turn (back (cases_line T n)) (λ x. itself _)))))
+
   one_of : (T S : Numbered) (n : AnnotationState) → ((m : AnnotationState) → (S m).begun []) → Same (statement_of ws T S n) (production.stmt ws T S n)
   unfolding statement_of
   one_of T S n empty =
@@ -154,26 +186,30 @@ module _ (ws : Vocabulary) where
       (either (kind ws) (keyword_kind keyword.While ∷ []) (second no [] _ (second no [] _ (second no [] _ (second no [] _ (first no [] _ (forth (while_line S n)))))))
       (either (kind ws) (keyword_kind keyword.Do ∷ []) (second no [] _ (second no [] _ (second no [] _ (second no [] _ (second no [] _ (first no [] _ (forth (do_line S n))))))))
       (either (kind ws) (keyword_kind keyword.For ∷ []) (second no [] _ (second no [] _ (second no [] _ (second no [] _ (second no [] _ (second no [] _ (first no [] _ (forth (for_line S n empty)))))))))
-      (either (kind ws) (keyword_kind keyword.Return ∷ []) (second no [] _ (second no [] _ (second no [] _ (second no [] _ (second no [] _ (second no [] _ (second no [] _ (second no [] _ (forth (return_line n))))))))))
+      (either (kind ws) (keyword_kind keyword.Switch ∷ []) (second no [] _ (second no [] _ (second no [] _ (second no [] _ (second no [] _ (second no [] _ (second no [] _ (first no [] _ (forth (switch_line T n))))))))))
+      (either (kind ws) (keyword_kind keyword.Return ∷ []) (second no [] _ (second no [] _ (second no [] _ (second no [] _ (second no [] _ (second no [] _ (second no [] _ (second no [] _ (second no [] _ (forth (return_line n)))))))))))
       (either (kind ws) (keyword_kind keyword.Break ∷ keyword_kind keyword.Continue ∷ []) (second no [] _ (second no [] _ (second no [] _ (second no [] _ (second no [] _ (second no [] _ (second no [] _
-      (first no [] _ (forth (jump_line n)))))))))) (second no [] _ (second no [] _ (first no [] _ (forth (effect_line n)))))))))))))
+      (second no [] _ (first no [] _ (forth (jump_line n)))))))))))
+      (second no [] _ (second no [] _ (first no [] _ (forth (effect_line n))))))))))))))
       (either no [] (first (kind ws) (mark_kind left_brace ∷ []) _ (back (block_line T n)))
       (either no [] (second (kind ws) (mark_kind left_brace ∷ []) _ (first (kind ws) (mark_kind semicolon ∷ []) _ (back (empty_line n))))
-      (either no [] (second (kind ws) (mark_kind left_brace ∷ []) _ (second (kind ws) (mark_kind semicolon ∷ []) _ (second (kind ws) (keyword_kind keyword.If ∷ []) _
-      (second (kind ws) (keyword_kind keyword.While ∷ []) _ (second (kind ws) (keyword_kind keyword.Do ∷ []) _ (second (kind ws) (keyword_kind keyword.For ∷ []) _
-      (second (kind ws) (keyword_kind keyword.Return ∷ []) _ (second (kind ws) (keyword_kind keyword.Break ∷ keyword_kind keyword.Continue ∷ []) _ (back (effect_line n))))))))))
+      (either no [] (second (kind ws) (mark_kind left_brace ∷ []) _ (second (kind ws) (mark_kind semicolon ∷ []) _ (second (kind ws) (keyword_kind keyword.If ∷ []) _ (second (kind ws) (keyword_kind keyword.While ∷ []) _
+      (second (kind ws) (keyword_kind keyword.Do ∷ []) _ (second (kind ws) (keyword_kind keyword.For ∷ []) _ (second (kind ws) (keyword_kind keyword.Switch ∷ []) _ (second (kind ws) (keyword_kind keyword.Return ∷ []) _
+      (second (kind ws) (keyword_kind keyword.Break ∷ keyword_kind keyword.Continue ∷ []) _ (back (effect_line n)))))))))))
       (either no [] (second (kind ws) (mark_kind left_brace ∷ []) _ (second (kind ws) (mark_kind semicolon ∷ []) _ (first (kind ws) (keyword_kind keyword.If ∷ []) _ (back (selection_line S n)))))
-      (either no [] (second (kind ws) (mark_kind left_brace ∷ []) _ (second (kind ws) (mark_kind semicolon ∷ []) _
-      (second (kind ws) (keyword_kind keyword.If ∷ []) _ (first (kind ws) (keyword_kind keyword.While ∷ []) _ (back (while_line S n))))))
+      (either no [] (second (kind ws) (mark_kind left_brace ∷ []) _ (second (kind ws) (mark_kind semicolon ∷ []) _ (second (kind ws) (keyword_kind keyword.If ∷ []) _ (first (kind ws) (keyword_kind keyword.While ∷ []) _ (back (while_line S n))))))
       (either no [] (second (kind ws) (mark_kind left_brace ∷ []) _ (second (kind ws) (mark_kind semicolon ∷ []) _ (second (kind ws) (keyword_kind keyword.If ∷ []) _
       (second (kind ws) (keyword_kind keyword.While ∷ []) _ (first (kind ws) (keyword_kind keyword.Do ∷ []) _ (back (do_line S n)))))))
-      (either no [] (second (kind ws) (mark_kind left_brace ∷ []) _ (second (kind ws) (mark_kind semicolon ∷ []) _ (second (kind ws) (keyword_kind keyword.If ∷ []) _
-      (second (kind ws) (keyword_kind keyword.While ∷ []) _ (second (kind ws) (keyword_kind keyword.Do ∷ []) _ (first (kind ws) (keyword_kind keyword.For ∷ []) _ (back (for_line S n empty))))))))
-      (either no [] (second (kind ws) (mark_kind left_brace ∷ []) _ (second (kind ws) (mark_kind semicolon ∷ []) _ (second (kind ws) (keyword_kind keyword.If ∷ []) _
-      (second (kind ws) (keyword_kind keyword.While ∷ []) _ (second (kind ws) (keyword_kind keyword.Do ∷ []) _ (second (kind ws) (keyword_kind keyword.For ∷ []) _
-      (second (kind ws) (keyword_kind keyword.Return ∷ []) _ (first (kind ws) (keyword_kind keyword.Break ∷ keyword_kind keyword.Continue ∷ []) _ (back (jump_line n))))))))))
+      (either no [] (second (kind ws) (mark_kind left_brace ∷ []) _ (second (kind ws) (mark_kind semicolon ∷ []) _ (second (kind ws) (keyword_kind keyword.If ∷ []) _ (second (kind ws) (keyword_kind keyword.While ∷ []) _
+      (second (kind ws) (keyword_kind keyword.Do ∷ []) _ (first (kind ws) (keyword_kind keyword.For ∷ []) _ (back (for_line S n empty))))))))
+      (either no [] (second (kind ws) (mark_kind left_brace ∷ []) _ (second (kind ws) (mark_kind semicolon ∷ []) _ (second (kind ws) (keyword_kind keyword.If ∷ []) _ (second (kind ws) (keyword_kind keyword.While ∷ []) _
+      (second (kind ws) (keyword_kind keyword.Do ∷ []) _ (second (kind ws) (keyword_kind keyword.For ∷ []) _ (first (kind ws) (keyword_kind keyword.Switch ∷ []) _ (back (switch_line T n)))))))))
+      (either no [] (second (kind ws) (mark_kind left_brace ∷ []) _ (second (kind ws) (mark_kind semicolon ∷ []) _ (second (kind ws) (keyword_kind keyword.If ∷ []) _ (second (kind ws) (keyword_kind keyword.While ∷ []) _
+      (second (kind ws) (keyword_kind keyword.Do ∷ []) _ (second (kind ws) (keyword_kind keyword.For ∷ []) _ (second (kind ws) (keyword_kind keyword.Switch ∷ []) _
+      (second (kind ws) (keyword_kind keyword.Return ∷ []) _ (first (kind ws) (keyword_kind keyword.Break ∷ keyword_kind keyword.Continue ∷ []) _ (back (jump_line n)))))))))))
       (second (kind ws) (mark_kind left_brace ∷ []) _ (second (kind ws) (mark_kind semicolon ∷ []) _ (second (kind ws) (keyword_kind keyword.If ∷ []) _ (second (kind ws) (keyword_kind keyword.While ∷ []) _
-      (second (kind ws) (keyword_kind keyword.Do ∷ []) _ (second (kind ws) (keyword_kind keyword.For ∷ []) _ (first (kind ws) (keyword_kind keyword.Return ∷ []) _ (back (return_line n)))))))))))))))))
+      (second (kind ws) (keyword_kind keyword.Do ∷ []) _ (second (kind ws) (keyword_kind keyword.For ∷ []) _
+      (second (kind ws) (keyword_kind keyword.Switch ∷ []) _ (first (kind ws) (keyword_kind keyword.Return ∷ []) _ (back (return_line n)))))))))))))))))))
 
   statement_of_empty : (T S : Numbered) (n : AnnotationState) → (statement_of ws T S n).begun []
   unfolding statement_of parsed.block

@@ -13,8 +13,8 @@ use Rattle.c_syntax.specs.Tokens.{PlainToken, PlainTokenKind}
 use Rattle.c_model.specs.declared.declarations.Named.{Named}
 use Rattle.c_model.specs.Punctuators.{left_bracket, right_bracket, assign, semicolon, comma, left_brace, right_brace, right_paren}
 use Rattle.c_model.specs.Terminals.{expression_limit, placed}
-use Rattle.c_model.specs.ExpressionGrammar.{most_in_expression, expression, type_words, mark, reserved, name, any_name, consts, base, full_expression}
-use Rattle.c_model.specs.ExpressionGrammar.{full_expression_or_call}
+use Rattle.c_model.specs.ExpressionGrammar.{most_in_expression, expression, type_words, mark, reserved, name, any_name, consts, base, full_expression_at}
+use Rattle.c_model.specs.declared.operands.Level.TheVariants.{Assignment, Conditional}
 use Rattle.c_model.specs.declared.vocabulary.Keyword.TheVariants as keyword
 use Rattle.c_model.specs.DeclarationGrammar.{Declarator, declared_by, declared_name, Braces, TagHead, Definitions, tag_word, initialisers, member_of}
 use Rattle.c_model.specs.DeclarationGrammar.{with_struct, with_enum, AbstractDeclarator, parameter_of}
@@ -36,22 +36,18 @@ module _ (ws : Vocabulary) where
       I then λ i. repeated (λ is. mark ws comma then λ _. I then λ j. gives (is ++ j ∷ [])) (i ∷ []) then λ is.
       (mark ws comma then λ _. gives is) or gives is
 
-  -- init = expr | call | list
+  -- init = assign | list
   abbrev pub init : Syntax PlainToken Initialiser → Syntax PlainToken Initialiser
-  init L = (full_expression_or_call ws then λ e. gives (One e)) or L
+  init L = (full_expression_at ws Assignment then λ e. gives (One e)) or L
 
-  -- item = expr | list
-  abbrev pub item : Syntax PlainToken Initialiser → Syntax PlainToken Initialiser
-  item L = (full_expression ws then λ e. gives (One e)) or L
-
-  -- list = "{" item { "," item } [ "," ] "}"
+  -- list = "{" init { "," init } [ "," ] "}"
   abbrev pub list : Syntax PlainToken Initialiser → Syntax PlainToken Initialiser
-  list L = mark ws left_brace then λ at. comma_list (item L) then λ is. mark ws right_brace then λ _. gives (Many at (initialisers is))
+  list L = mark ws left_brace then λ at. comma_list (init L) then λ is. mark ws right_brace then λ _. gives (Many at (initialisers is))
 
-  -- one = NAME [ "=" expr ]
+  -- one = NAME [ "=" cond ]
   abbrev pub one : Syntax PlainToken EnumConstant
   one =
-      name ws then λ x. ((mark ws assign then λ _. full_expression ws then λ e. gives (Some e)) or gives None) then λ v.
+      name ws then λ x. ((mark ws assign then λ _. full_expression_at ws Conditional then λ e. gives (Some e)) or gives None) then λ v.
       gives (record { place = x.1; name = x.0; value = v })
 
   -- dtor { "," dtor } ";", after these members
@@ -94,13 +90,13 @@ module _ (ws : Vocabulary) where
 
   -- ---- declarators and declarations
 
-  -- { "[" [ expr ] "]" }
+  -- { "[" [ comma ] "]" }
   abbrev pub lengths : Syntax PlainToken (List PlainLength)
   lengths =
       repeated (λ ns. (mark ws left_bracket then λ _. ((expression ws then λ e. gives (Written e)) or gives Left) then λ n.
       mark ws right_bracket then λ _. gives n) then λ n. gives (ns ++ n ∷ [])) []
 
-  -- dtor = { "*" { "const" } } NAME { "[" [ expr ] "]" }, at most 400 tokens
+  -- dtor = { "*" { "const" } } NAME { "[" [ comma ] "]" }, at most 400 tokens
   abbrev pub dtor : Named → Syntax PlainToken Declarator
   dtor k =
       at_most expression_limit most_in_expression

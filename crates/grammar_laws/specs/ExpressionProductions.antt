@@ -4,9 +4,11 @@ use Rattle.std.specs.Prelude.{◌+◌, List, [], ◌∷◌, ◌++◌, true, ℕ}
 use Rattle.grammar.specs.Syntax.{Syntax, gives, one, ◌then◌}
 use Rattle.grammar_laws.specs.Plain.{◌or◌, repeated}
 use Rattle.c_syntax.specs.Ctypes.{PlainType, Void, Int, StructTag, EnumTag, Written}
-use Rattle.c_syntax.specs.Expressions.{Assign, Bump, Call, Expression, Number, Letter, Text, Unary, Choice, Cast, SizeOfType, SizeOfExpr, Index, Dot, Arrow}
+use Rattle.c_syntax.specs.Expressions.{Assign, Bump, Call, Expression, Number, Letter, Text, Unary, Choice, Cast, SizeOfType, SizeOfExpr}
+use Rattle.c_syntax.specs.Expressions.{Index, Dot, Arrow, Comma}
 use Rattle.c_syntax.specs.declared.place.Place.{Place}
 use Rattle.c_syntax.specs.Tokens.{PlainToken}
+use Rattle.c_model.specs.declared.operands.Level.TheVariants.{Assignment, Conditional}
 use Rattle.c_model.specs.declared.operands.Stars.{Stars}
 use Rattle.c_model.specs.Vocabulary.{no_words, integer_type, Vocabulary}
 use Rattle.c_model.specs.Punctuators.{times, comma, question, colon, left_paren, right_paren, dot, arrow, left_bracket, right_bracket}
@@ -25,23 +27,40 @@ module _ (ws : Vocabulary) where
   abbrev expression : Syntax PlainToken Expression
   expression = parsed.expression ws
 
+  abbrev pub parsed_assign : Syntax PlainToken Expression
+  parsed_assign = parsed.expression_at ws Assignment
+
+  abbrev pub parsed_cond : Syntax PlainToken Expression
+  parsed_cond = parsed.expression_at ws Conditional
+
   abbrev pub parsed_cast : Syntax PlainToken ReadOperand
-  parsed_cast = parsed.operand ws expression type_use.Casts
+  parsed_cast = parsed.operand ws expression parsed_assign type_use.Casts
 
   abbrev pub parsed_unary : Syntax PlainToken ReadOperand
-  parsed_unary = parsed.operand ws expression type_use.Nothing
+  parsed_unary = parsed.operand ws expression parsed_assign type_use.Nothing
 
   -- operands joined by the operators of the levels below this one
   abbrev pub parsed_level : ℕ → Syntax PlainToken Expression
-  parsed_level l = parsed_cast then λ x. parsed.behind_operand ws expression l x.expression
+  parsed_level l = parsed_cast then λ x. parsed.behind_operand ws expression parsed_assign l x.expression
 
   -- ---- productions
 
-  -- expr = binary [ "?" expr ":" expr ]
-  abbrev pub expr : Syntax PlainToken Expression
-  expr =
+  -- comma = assign { "," assign }
+  abbrev pub commas : Syntax PlainToken Expression
+  commas = parsed_assign then λ x. repeated (λ left. mark ws comma then λ at. parsed_assign then λ right. gives (read_as at (Comma left right))) x
+
+  -- assign = cond | unary assign-op assign
+  abbrev pub assign : Syntax PlainToken Expression
+  assign =
+      parsed_cond
+      or (parsed_unary then λ x. one (placed (mark_entry assignment_operators)) then λ o. parsed_assign then λ y.
+      gives (read_as o.1 (Assign o.0 x.expression y)))
+
+  -- cond = binary [ "?" comma ":" cond ]
+  abbrev pub conditional : Syntax PlainToken Expression
+  conditional =
       parsed_level levels then λ c.
-      (mark ws question then λ at. expression then λ x. mark ws colon then λ _. expression then λ y. gives (read_as at (Choice c x y))) or gives c
+      (mark ws question then λ at. expression then λ x. mark ws colon then λ _. parsed_cond then λ y. gives (read_as at (Choice c x y))) or gives c
 
   -- binary = cast, joined by operators, each level from the left
   abbrev pub level : ℕ → Syntax PlainToken Expression
@@ -57,30 +76,44 @@ module _ (ws : Vocabulary) where
       or (mark ws left_paren then λ at. type_name ws expression then λ t. mark ws right_paren then λ _. parsed_cast then λ x.
       gives (read_operand (read_as at (Cast t x.expression)) form.Cast at))
 
-  -- primary = NAME | NUMBER | CHAR | STRING | "(" expr ")", with the place of its first token
+  -- [ assign { "," assign } ]
+  abbrev pub arguments : Syntax PlainToken (List Expression)
+  arguments =
+      (parsed_assign then λ e. repeated (λ es. mark ws comma then λ _. parsed_assign then λ f. gives (es ++ f ∷ [])) (e ∷ [])) or gives []
+
+  -- primary = NAME | NUMBER | CHAR | STRING | "(" comma ")", with the place of its first token
   abbrev pub primary : Syntax PlainToken (Expression × Place)
   primary =
       (name ws then λ x. gives (read_name x, x.1)) or (one (placed number_of) then λ n. gives (read_as n.1 (Number n.0.0 n.0.1), n.1))
       or (one (placed letter_of) then λ z. gives (read_as z.1 (Letter z.0), z.1)) or (fixed ws text_kind then λ at. gives (read_as at (Text at.offset), at))
       or (mark ws left_paren then λ at. expression then λ e. mark ws right_paren then λ _. gives (e, at))
 
-  -- "[" expr "]" | "." ANYNAME | "->" ANYNAME
+  -- NAME "(" [ assign { "," assign } ] ")", with the place of its first token
+  abbrev pub call : Syntax PlainToken (Expression × Place)
+  call =
+      name ws then λ f. mark ws left_paren then λ at. arguments then λ es. mark ws right_paren then λ _.
+      gives (read_as at (Call (use_of f.0) (expressions es)), f.1)
+
+  -- "[" comma "]" | "." ANYNAME | "->" ANYNAME | "++" | "--"
   abbrev pub behind_primary : Expression → Syntax PlainToken Expression
   behind_primary x =
       (mark ws left_bracket then λ at. expression then λ i. mark ws right_bracket then λ _. gives (read_as at (Index x i)))
       or (mark ws dot then λ at. any_name ws then λ m. gives (read_as at (Dot x m.0)))
       or (mark ws arrow then λ at. any_name ws then λ m. gives (read_as at (Arrow x m.0)))
+      or (one (placed (mark_entry postfix_bumps)) then λ o. gives (read_as o.1 (Bump o.0 x)))
 
-  -- postfix = primary { "[" expr "]" | "." ANYNAME | "->" ANYNAME }
+  -- postfix = ( primary | call ) { "[" comma "]" | "." ANYNAME | "->" ANYNAME | "++" | "--" }
   abbrev pub postfix : Syntax PlainToken ReadOperand
-  postfix = primary then λ p. repeated behind_primary p.0 then λ x. gives (read_operand x form.Postfix p.1)
+  postfix = (primary or call) then λ p. repeated behind_primary p.0 then λ x. gives (read_operand x form.Postfix p.1)
 
-  -- unary = postfix | ( "+" | "-" | "!" | "~" | "*" | "&" ) cast | "sizeof" unary | "sizeof" "(" type ")"
+  -- unary = postfix | ( "+" | "-" | "!" | "~" | "*" | "&" ) cast | ( "++" | "--" ) unary | "sizeof" unary | "sizeof" "(" type ")"
   abbrev pub unary : Syntax PlainToken ReadOperand
   unary =
       postfix
       or (one (placed (mark_entry unary_operators)) then λ o. parsed_cast then λ x.
       gives (read_operand (read_as o.1 (Unary o.0 x.expression)) form.Unary o.1))
+      or (one (placed (mark_entry prefix_bumps)) then λ o. parsed_unary then λ x.
+      gives (read_operand (read_as o.1 (Bump o.0 x.expression)) form.Unary o.1))
       or (reserved ws keyword.Sizeof then λ at. parsed_unary then λ x. gives (read_operand (read_as at (SizeOfExpr x.expression)) form.Unary at))
       or (reserved ws keyword.Sizeof then λ at. mark ws left_paren then λ _. type_name ws expression then λ t. mark ws right_paren then λ _.
       gives (read_operand (read_as at (SizeOfType t)) form.Unary at))
@@ -109,52 +142,9 @@ module _ (ws : Vocabulary) where
       repeated (λ s. (mark ws times then λ _. repeated (λ b. reserved ws keyword.Const then λ _. gives true) s.constant) then λ c.
       gives (record { count = s.count + 1; constant = c })) no_stars
 
-  -- type = words { "*" { "const" } } { "[" expr "]" }
+  -- type = words { "*" { "const" } } { "[" comma "]" }
   abbrev pub type : Syntax PlainToken PlainType
   type =
       words then λ t. stars then λ s.
       repeated (λ ns. (mark ws left_bracket then λ _. expression then λ e. mark ws right_bracket then λ _. gives (Written e)) then λ n. gives (ns ++ n ∷ [])) []
       then λ ns. gives (declared_type t s ns)
-
-  -- ---- calls and effects
-
-  -- [ expr { "," expr } ]
-  abbrev pub arguments : Syntax PlainToken (List Expression)
-  arguments =
-      (expression then λ e. repeated (λ es. mark ws comma then λ _. expression then λ f. gives (es ++ f ∷ [])) (e ∷ [])) or gives []
-
-  -- call = NAME "(" [ expr { "," expr } ] ")", after its name
-  abbrev pub call : ℕ × Place → Syntax PlainToken (Expression × Place)
-  call f =
-      mark ws left_paren then λ at. arguments then λ es. mark ws right_paren then λ _. gives (read_as at (Call (use_of f.0) (expressions es)), f.1)
-
-  -- unary "=" ( expr | call ) | unary assign-op expr, with the place of the first token
-  abbrev pub assignment : Syntax PlainToken (Expression × Place)
-  assignment =
-      parsed_unary then λ x. (one (placed (mark_entry assignment_operators)) then λ o. parsed.assigned_value ws o.0 then λ y.
-      gives (read_as o.1 (Assign o.0 x.expression y))) then λ e. gives (e, x.first)
-
-  -- ( "++" | "--" ) unary
-  abbrev pub bump_first : Syntax PlainToken (Expression × Place)
-  bump_first = one (placed (mark_entry prefix_bumps)) then λ o. parsed_unary then λ x. gives (read_as o.1 (Bump o.0 x.expression), o.1)
-
-  -- postfix ( "++" | "--" )
-  abbrev pub bump_last : Syntax PlainToken (Expression × Place)
-  bump_last =
-      postfix then λ x. (one (placed (mark_entry postfix_bumps)) then λ o. gives (read_as o.1 (Bump o.0 x.expression))) then λ e. gives (e, x.first)
-
-  -- expr, with the place of its first token
-  abbrev pub placed_expr : Syntax PlainToken (Expression × Place)
-  placed_expr = parsed_cast then λ x. parsed.expression_rest ws expression x.expression then λ e. gives (e, x.first)
-
-  -- effect = unary "=" ( expr | call ) | unary assign-op expr | ( "++" | "--" ) unary | postfix ( "++" | "--" ) | expr
-  abbrev pub effect : Syntax PlainToken (Expression × Place)
-  effect = assignment or bump_first or bump_last or placed_expr
-
-  -- effect | call
-  abbrev pub effect_or_call : Syntax PlainToken (Expression × Place)
-  effect_or_call = (name ws then call) or parsed.effect ws
-
-  -- expr | call
-  abbrev pub expression_or_call : Syntax PlainToken Expression
-  expression_or_call = (name ws then λ f. call f then λ c. gives c.0) or expression

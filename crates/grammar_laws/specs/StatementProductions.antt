@@ -3,18 +3,20 @@
 use Rattle.std.specs.Prelude.{List, [], ◌∷◌, ◌++◌, Option, Some, None, cond}
 use Rattle.grammar.specs.Syntax.{Syntax, none, gives, ◌then◌}
 use Rattle.grammar_laws.specs.Plain.{◌or◌, repeated}
+use Rattle.c_syntax.specs.declared.place.Place.{Place}
 use Rattle.c_syntax.specs.Expressions.{Expression}
 use Rattle.c_syntax.specs.Statements as statement
 use Rattle.c_syntax.specs.Statements.{Statement, NoElse, ForFirst, NoFirst, First, BlockItem}
 use Rattle.c_syntax.specs.Tokens.{PlainToken}
 use Rattle.c_model.specs.declared.declarations.AnnotationState.{AnnotationState}
+use Rattle.c_model.specs.declared.operands.Level.TheVariants.{Conditional}
 use Rattle.c_model.specs.declared.vocabulary.Keyword.TheVariants as keyword
 use Rattle.c_model.specs.Vocabulary.{Vocabulary}
-use Rattle.c_model.specs.Punctuators.{semicolon, left_paren, right_paren, left_brace, right_brace}
-use Rattle.c_model.specs.ExpressionGrammar.{mark, reserved, full_expression, full_expression_or_call, full_effect, full_effect_or_call}
+use Rattle.c_model.specs.Punctuators.{semicolon, colon, left_paren, right_paren, left_brace, right_brace}
+use Rattle.c_model.specs.ExpressionGrammar.{mark, reserved, full_expression, full_placed_expression, full_expression_at}
 use Rattle.c_model.specs.DeclarationGrammar.{declaration}
 use Rattle.c_model.specs.AnnotationGrammar.{annotations}
-use Rattle.c_model.specs.ProgramGrammar.{Numbered, FileParts, is_open, block_items, after_placed, with_nameless, with_typedef}
+use Rattle.c_model.specs.ProgramGrammar.{Numbered, ReadCase, is_open, block_items, cases_of, after_placed}
 use Rattle.c_model.specs.ProgramGrammar as parsed
 
 module _ (ws : Vocabulary) where
@@ -22,7 +24,7 @@ module _ (ws : Vocabulary) where
   abbrev pub maybe : {A : Type 0} → Syntax PlainToken A → Syntax PlainToken (Option A)
   maybe G = (G then λ x. gives (Some x)) or gives None
 
-  -- "(" expr ")"
+  -- "(" comma ")"
   abbrev pub condition : Syntax PlainToken Expression
   condition = mark ws left_paren then λ _. full_expression ws then λ e. mark ws right_paren then λ _. gives e
 
@@ -44,41 +46,41 @@ module _ (ws : Vocabulary) where
   abbrev pub empty : Numbered
   empty n = mark ws semicolon then λ at. gives (statement.Empty at, n)
 
-  -- "if" "(" expr ")" branch [ "else" branch ], where a branch that is open takes the "else" itself
+  -- "if" "(" comma ")" branch [ "else" branch ], where a branch that is open takes the "else" itself
   abbrev pub selection : Numbered → Numbered
   selection S n =
       reserved ws keyword.If then λ at. condition then λ e. S n then λ x.
       gives (statement.If at e x.0 NoElse, x.1)
       or cond (is_open x.0) none (reserved ws keyword.Else then λ _. S x.1 then λ y. gives (statement.If at e x.0 (statement.Else y.0), y.1))
 
-  -- "while" "(" expr ")" branch
+  -- "while" "(" comma ")" branch
   abbrev pub while_loop : Numbered → Numbered
   while_loop S n = reserved ws keyword.While then λ at. condition then λ e. S n then λ x. gives (statement.While at [] e x.0, x.1)
 
-  -- "do" branch "while" "(" expr ")" ";"
+  -- "do" branch "while" "(" comma ")" ";"
   abbrev pub do_loop : Numbered → Numbered
   do_loop S n =
       reserved ws keyword.Do then λ at. S n then λ x. reserved ws keyword.While then λ _. condition then λ e.
       mark ws semicolon then λ _. gives (statement.Do at x.0 e, x.1)
 
-  -- decl | [ effect | call ] ";"
+  -- decl | [ comma ] ";"
   abbrev pub for_first : AnnotationState → Syntax PlainToken (ForFirst × AnnotationState)
   for_first n =
       (declaration ws then λ i. gives (First i, n))
-      or (full_effect_or_call ws then λ e. mark ws semicolon then λ _. gives (First (statement.Run (statement.Eval e.1 e.0)), n))
+      or (full_placed_expression ws then λ e. mark ws semicolon then λ _. gives (First (statement.Run (statement.Eval e.1 e.0)), n))
       or (mark ws semicolon then λ _. gives (NoFirst, n))
 
-  -- "for" "(" ( decl | [ effect | call ] ";" ) [ expr ] ";" [ effect ] ")" branch
+  -- "for" "(" ( decl | [ comma ] ";" ) [ comma ] ";" [ comma ] ")" branch
   abbrev pub for_loop : Numbered → Numbered
   for_loop S n =
       reserved ws keyword.For then λ at. mark ws left_paren then λ _. for_first n then λ first. maybe (full_expression ws) then λ e.
-      mark ws semicolon then λ _. ((full_effect ws then λ f. gives (Some f.0)) or gives None) then λ behind. mark ws right_paren then λ _.
+      mark ws semicolon then λ _. maybe (full_expression ws) then λ behind. mark ws right_paren then λ _.
       S first.1 then λ x. gives (statement.For at [] first.0 e behind x.0, x.1)
 
-  -- "return" [ expr | call ] ";"
+  -- "return" [ comma ] ";"
   abbrev pub return_statement : Numbered
   return_statement n =
-      reserved ws keyword.Return then λ at. maybe (full_expression_or_call ws) then λ e. mark ws semicolon then λ _. gives (statement.Return at e, n)
+      reserved ws keyword.Return then λ at. maybe (full_expression ws) then λ e. mark ws semicolon then λ _. gives (statement.Return at e, n)
 
   -- "break" ";" | "continue" ";"
   abbrev pub jump : Numbered
@@ -86,14 +88,43 @@ module _ (ws : Vocabulary) where
       (reserved ws keyword.Break then λ at. mark ws semicolon then λ _. gives (statement.Break at, n))
       or (reserved ws keyword.Continue then λ at. mark ws semicolon then λ _. gives (statement.Continue at, n))
 
-  -- ( effect | call ) ";"
+  -- ( "case" cond | "default" ) ":"
+  abbrev pub case_label : Syntax PlainToken (Place × Option Expression)
+  case_label =
+      (reserved ws keyword.Case then λ at. full_expression_at ws Conditional then λ e. mark ws colon then λ _. gives (at, Some e))
+      or (reserved ws keyword.Default then λ at. mark ws colon then λ _. gives (at, None))
+
+  -- annotation | stmt
+  abbrev pub case_item : Numbered → AnnotationState → Syntax PlainToken (BlockItem × AnnotationState)
+  case_item T n = (annotations ws n.number then λ x. gives (statement.Asserts x.0, after_placed n x.1)) or (T n then λ x. gives (statement.Run x.0, x.1))
+
+  -- { annotation | stmt }
+  abbrev pub case_items : Numbered → AnnotationState → Syntax PlainToken (List BlockItem × AnnotationState)
+  case_items T n = repeated (λ x. case_item T x.1 then λ i. gives (x.0 ++ i.0 ∷ [], i.1)) ([], n)
+
+  -- case = ( "case" cond | "default" ) ":" { annotation | stmt }, after others
+  abbrev pub next_case : Numbered → List ReadCase × AnnotationState → Syntax PlainToken (List ReadCase × AnnotationState)
+  next_case T x = case_label then λ l. case_items T x.1 then λ y. gives (x.0 ++ record { place = l.0; value = l.1; items = y.0 } ∷ [], y.1)
+
+  -- { case }
+  abbrev pub cases : Numbered → AnnotationState → Syntax PlainToken (List ReadCase × AnnotationState)
+  cases T n = repeated (next_case T) ([], n)
+
+  -- "switch" "(" comma ")" "{" { case } "}"
+  abbrev pub switch_statement : Numbered → Numbered
+  switch_statement T n =
+      reserved ws keyword.Switch then λ at. condition then λ e. mark ws left_brace then λ _. cases T n then λ x.
+      mark ws right_brace then λ _. gives (statement.Switch at e (cases_of x.0), x.1)
+
+  -- comma ";"
   abbrev pub effect_statement : Numbered
-  effect_statement n = full_effect_or_call ws then λ e. mark ws semicolon then λ _. gives (statement.Eval e.1 e.0, n)
+  effect_statement n = full_placed_expression ws then λ e. mark ws semicolon then λ _. gives (statement.Eval e.1 e.0, n)
 
   -- stmt
   abbrev pub stmt : Numbered → Numbered → Numbered
   stmt T S n =
-      block T n or empty n or effect_statement n or selection S n or while_loop S n or do_loop S n or for_loop S n or jump n or return_statement n
+      block T n or empty n or effect_statement n or selection S n or while_loop S n or do_loop S n or for_loop S n
+      or switch_statement T n or jump n or return_statement n
 
   -- branch = annotation branch | stmt
   abbrev pub branch : Numbered → Numbered → Numbered

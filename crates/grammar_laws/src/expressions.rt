@@ -6,12 +6,14 @@ ghost use Rattle.grammar.specs.Exact.{Same};
 ghost use Rattle.c_model.specs.Vocabulary.{Vocabulary};
 ghost use Rattle.c_model.specs.ExpressionGrammar.{expression};
 ghost use Rattle.c_model.specs.ExpressionGrammar as parsed;
-ghost use Rattle.grammar_laws.specs.ExpressionProductions.{parsed_cast, parsed_level, parsed_unary};
+ghost use Rattle.grammar_laws.specs.ExpressionProductions.{parsed_assign, parsed_cast, parsed_cond, parsed_level, parsed_unary};
 ghost use Rattle.grammar_laws.specs.ExpressionProductions as production;
 
-/// Expressions, operands joined by the operators of each level, casts and unary expressions.
+/// Expressions with commas, assignments and conditions, operands joined by the operators of each level, casts and unary expressions.
 pub fn expressions()
-    ensures expr { (words : Vocabulary) → Same (expression words) (production.expr words) }
+    ensures comma { (words : Vocabulary) → Same (expression words) (production.commas words) }
+    ensures assign { (words : Vocabulary) → Same (parsed_assign words) (production.assign words) }
+    ensures cond { (words : Vocabulary) → Same (parsed_cond words) (production.conditional words) }
     ensures level { (words : Vocabulary) (below : ℕ) → Same (parsed_level words (suc below)) (production.level words below) }
     ensures least { (words : Vocabulary) → Same (parsed_level words 0) (parsed_cast words then λ operand. gives operand.expression) }
     ensures cast { (words : Vocabulary) → Same (parsed_cast words) (production.cast words) }
@@ -25,9 +27,7 @@ pub fn types()
     ensures name { (words : Vocabulary) → Same (parsed.type_name words (expression words)) (production.type words) }
 {}
 
-/// Expressions that stand for their effect, and where a call may stand instead.
-pub fn effects()
-    ensures effect { (words : Vocabulary) → Same (parsed.effect words) (production.effect words) }
-    ensures called { (words : Vocabulary) → Same (parsed.effect_or_call words) (production.effect_or_call words) }
-    ensures value { (words : Vocabulary) → Same (parsed.expression_or_call words) (production.expression_or_call words) }
+/// An expression with the place of its first token is, but for that place, an expression.
+pub fn placed()
+    ensures { (words : Vocabulary) → Same (parsed.placed_expression words then λ e. gives e.0) (expression words then λ e. gives e) }
 {}

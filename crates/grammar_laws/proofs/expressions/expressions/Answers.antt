@@ -1,8 +1,15 @@
-use Rattle.grammar_laws.proofs.ExpressionProductions.{expr_line, level_line, least_level_line, cast_line, unary_line}
+use Rattle.grammar_laws.proofs.ExpressionProductions.{conditional_line, level_line, least_level_line, cast_line, unary_line}
+use Rattle.grammar_laws.proofs.AssignmentProductions.{assign_line, commas_line}
 use Rattle.grammar_laws.proofs.expressions.expressions.Goals as goal
 
-pub returns-clause-expr : goal.returns-clause-expr
-returns-clause-expr c = expr_line
+pub returns-clause-comma : goal.returns-clause-comma
+returns-clause-comma c = commas_line
+
+pub returns-clause-assign : goal.returns-clause-assign
+returns-clause-assign c = assign_line
+
+pub returns-clause-cond : goal.returns-clause-cond
+returns-clause-cond c = conditional_line
 
 pub returns-clause-level : goal.returns-clause-level
 returns-clause-level c = level_line

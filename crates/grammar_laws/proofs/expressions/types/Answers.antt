@@ -1,4 +1,4 @@
-use Rattle.grammar_laws.proofs.EffectProductions.{base_line, words_line, type_line}
+use Rattle.grammar_laws.proofs.TypeProductions.{base_line, words_line, type_line}
 use Rattle.grammar_laws.proofs.expressions.types.Goals as goal
 
 pub returns-clause-base : goal.returns-clause-base
