@@ -21,6 +21,7 @@ use Rattle.c_model.specs.declared.declarations.Named.TheVariants as named
 use Rattle.c_model.specs.declared.vocabulary.Keyword.TheVariants as keyword
 use Rattle.c_model.specs.Vocabulary.{Vocabulary}
 use Rattle.c_model.specs.Punctuators.{assign, semicolon, comma, right_paren, left_brace, right_brace, left_bracket, times}
+use Rattle.c_model.specs.declared.operands.Level.TheVariants.{Assignment, Conditional}
 use Rattle.c_model.specs.Terminals.{expression_limit, nesting_limit}
 use Rattle.c_model.specs.ExpressionGrammar.{name_kind, keyword_kind, mark_kind, kind, first_base, first_type, first_integer_words, first_any_name, most_in_expression}
 use Rattle.c_model.specs.ExpressionGrammar.{most_nested, no_stars, mark, fixed, TypeStart}
@@ -32,7 +33,7 @@ use Rattle.c_model.specs.DeclarationGrammar.{declared_list, declaration, paramet
 use Rattle.c_model.specs.DeclarationGrammar.{tagged_type, braced, member, more_members, struct_braces, constant_value, constant, enum_braces, braces_for, braces_of, braces_in, storage_word, more_storage, file_spec}
 use Rattle.c_expr_parser.proofs.ExactTokens.{IsRead, fixed_good, name_good, any_name_good, type_start_good}
 use Rattle.c_expr_parser.proofs.ExactTypes.{enlarged, apart_none, more_type, first_behind, untagged_good, consts_good, type_good, type_behind_good, more_consts_good, stars_good}
-use Rattle.c_expr_parser.proofs.ExactExpressions.{more_expression, more_or_call, closed_good, length_good, brackets_good, expression_good, full_expression_good, full_expression_or_call_good}
+use Rattle.c_expr_parser.proofs.ExactExpressions.{more_expression, closed_good, length_good, brackets_good, expression_good, full_level_good}
 use Rattle.c_expr_parser.proofs.Unlimited.{stars_free, brackets_free, length_free, expression_free}
 
 -- what a declarator begins with, and what it can go on with
@@ -50,7 +51,7 @@ more_abstract = keyword_kind keyword.Const ∷ first_abstract
 
 -- what an initialised declarator can go on with
 abbrev pub more_initialised : List ℕ
-more_initialised = mark_kind left_bracket ∷ mark_kind assign ∷ more_or_call
+more_initialised = mark_kind left_bracket ∷ mark_kind assign ∷ more_expression
 
 -- what a type with braces can go on with
 abbrev pub more_braced : List ℕ
@@ -228,7 +229,7 @@ module _ (ws : Vocabulary) where
   module _ {L : Syntax PlainToken Initialiser} (l : IsRead ws L false (mark_kind left_brace ∷ []) []) where
     pub item_of_list_good : IsRead ws (item_of_list ws L) false first_item_of_list more_expression
     unfolding item_of_list
-    item_of_list_good = declared (either (mark_kind left_brace ∷ []) l (seq (full_expression_good ws) (λ e. given _) refl) refl) refl
+    item_of_list_good = declared (either (mark_kind left_brace ∷ []) l (seq (full_level_good ws Assignment) (λ e. given _) refl) refl) refl
 
     list_of_good : IsRead ws (list_of ws L) false (mark_kind left_brace ∷ []) []
     unfolding list_of
@@ -243,13 +244,13 @@ module _ (ws : Vocabulary) where
   list_in_good zero = too_deep nesting_limit (mark_kind left_brace ∷ []) (list_of_good (none_good ws false (mark_kind left_brace ∷ []) [])).here (list_begins none)
   list_in_good (suc d) = list_of_good (list_in_good d)
 
-  initialiser_good : IsRead ws (initialiser ws) false first_item_of_list more_or_call
+  initialiser_good : IsRead ws (initialiser ws) false first_item_of_list more_expression
   unfolding initialiser
-  initialiser_good = declared (either (mark_kind left_brace ∷ []) (list_in_good most_nested) (seq (full_expression_or_call_good ws) (λ e. given _) refl) refl) refl
+  initialiser_good = declared (either (mark_kind left_brace ∷ []) (list_in_good most_nested) (seq (full_level_good ws Assignment) (λ e. given _) refl) refl) refl
 
   -- ---- declarations
 
-  pub initialised_good : (t : PlainType) (d : Declarator) → IsRead ws (initialised ws t d) true (mark_kind assign ∷ []) (mark_kind assign ∷ more_or_call)
+  pub initialised_good : (t : PlainType) (d : Declarator) → IsRead ws (initialised ws t d) true (mark_kind assign ∷ []) (mark_kind assign ∷ more_expression)
   unfolding initialised
   initialised_good t d = declared (either (mark_kind assign ∷ []) (seq (fixed_good ws (mark_kind assign)) (λ at. seq initialiser_good (λ i. given _) refl) refl) (given _) refl) refl
 
@@ -383,7 +384,7 @@ module _ (ws : Vocabulary) where
 
   constant_value_good : IsRead ws (constant_value ws) true (mark_kind assign ∷ []) more_constant
   unfolding constant_value
-  constant_value_good = declared (either (mark_kind assign ∷ []) (seq (fixed_good ws (mark_kind assign)) (λ _. seq (full_expression_good ws) (λ e. given _) refl) refl) (given _) refl) refl
+  constant_value_good = declared (either (mark_kind assign ∷ []) (seq (fixed_good ws (mark_kind assign)) (λ _. seq (full_level_good ws Conditional) (λ e. given _) refl) refl) (given _) refl) refl
 
   pub constant_good : IsRead ws (constant ws) false (name_kind ∷ []) more_constant
   unfolding constant

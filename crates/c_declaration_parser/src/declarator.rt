@@ -164,7 +164,7 @@ fn declared_name<'a>(
     }
 }
 
-/// `{ "*" { "const" } } NAME { "[" [ expr ] "]" }`
+/// `{ "*" { "const" } } NAME { "[" [ comma ] "]" }`
 #[tactic(auto, unfolding(c_model::specs::DeclarationGrammar::dtor, c_model::specs::DeclarationGrammar::lengths))]
 fn dtor<'a>(
     alloc: Global,
@@ -228,7 +228,7 @@ fn maybe_name<'a>(
     }
 }
 
-/// `{ "*" { "const" } } [ NAME ] { "[" [ expr ] "]" }`
+/// `{ "*" { "const" } } [ NAME ] { "[" [ comma ] "]" }`
 #[tactic(auto, unfolding(c_model::specs::DeclarationGrammar::abstract_dtor, c_model::specs::DeclarationGrammar::lengths))]
 fn abstract_dtor<'a>(
     alloc: Global,

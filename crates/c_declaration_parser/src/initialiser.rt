@@ -8,9 +8,10 @@ ghost use Rattle.c_model.specs.DeclarationGrammar.{first_item_of_list, initialis
 ghost use Rattle.c_model.specs.DeclarationGrammar.{item_of_list, list_in, initialiser};
 ghost use Rattle.token_reader.specs.Reading.{Gives, plain_list};
 
-use c_expr_parser::full::{full_expression, full_expression_or_call};
+use c_expr_parser::full::full_expression_at;
 use c_expr_parser::kinds::{COMMA, LEFT_BRACE, RIGHT_BRACE, kind};
 use c_expr_parser::terminals::{begins_expression, next_is, skip};
+use c_model::operands::Level;
 use c_model::vocabulary::Word;
 use c_syntax::fault::{Limit, ReadFault};
 use c_syntax::{Init, Place, Token};
@@ -57,7 +58,7 @@ fn maybe_comma<'a>(
     }
 }
 
-/// `expr | list`
+/// `assign | list`
 #[tactic(auto, unfolding(c_model::specs::DeclarationGrammar::item_of_list))]
 #[cycle(initialiser)]
 fn item_of_list<'a>(
@@ -72,7 +73,7 @@ fn item_of_list<'a>(
     if next_is(words, LEFT_BRACE, tokens) {
         list_in(alloc, words, levels, tokens)
     } else {
-        let (e, rest) = full_expression(alloc, words, tokens)?;
+        let (e, rest) = full_expression_at(alloc, words, Level::Assignment, tokens)?;
         Ok((Init::One(e), rest))
     }
 }
@@ -192,7 +193,7 @@ fn list_in<'a>(
     Ok((make_list(place, all), rest))
 }
 
-/// `expr | call | list`
+/// `assign | list`
 #[tactic(auto, unfolding(c_model::specs::DeclarationGrammar::initialiser))]
 pub fn initialiser<'a>(
     alloc: Global,
@@ -204,7 +205,7 @@ pub fn initialiser<'a>(
     if next_is(words, LEFT_BRACE, tokens) {
         list_in(alloc, words, MOST_OPEN, tokens)
     } else {
-        let (e, rest) = full_expression_or_call(alloc, words, tokens)?;
+        let (e, rest) = full_expression_at(alloc, words, Level::Assignment, tokens)?;
         Ok((Init::One(e), rest))
     }
 }

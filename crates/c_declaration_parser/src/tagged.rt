@@ -15,13 +15,14 @@ ghost use Rattle.token_reader.specs.Reading.{Gives, plain_list};
 ghost use Rattle.c_declaration_parser.specs.Reading.{plain_declarator, plain_head, plain_definitions, other_members};
 
 use crate::declarator::{Declarator, full_dtor, member_of};
-use c_expr_parser::full::full_expression;
+use c_expr_parser::full::full_expression_at;
 use c_expr_parser::kinds::{
     ASSIGN, COMMA, ENUM, LEFT_BRACE, NAME, RIGHT_BRACE, SEMICOLON, STRUCT, TYPE_NAME, kind,
 };
 use c_expr_parser::terminals::{any_name, kept, name, next_begins_type, next_is, skip};
 use c_expr_parser::types::{BaseType, consts, untagged_base};
 use c_model::declarations::{Named, Tagged};
+use c_model::operands::Level;
 use c_model::vocabulary::Word;
 use c_syntax::fault::{Limit, ReadFault};
 use c_syntax::{CInt, EnumDef, Enumerator, Expr, Layout, Member, Place, Token};
@@ -122,7 +123,7 @@ fn with_enum(
 
 // ---- enums
 
-/// `[ "=" expr ]`
+/// `[ "=" cond ]`
 #[tactic(auto, unfolding(c_model::specs::DeclarationGrammar::constant_value))]
 fn constant_value<'a>(
     alloc: Global,
@@ -133,14 +134,14 @@ fn constant_value<'a>(
 {
     if next_is(words, ASSIGN, tokens) {
         let (_, rest) = skip(words, ASSIGN, tokens)?;
-        let (e, rest) = full_expression(alloc, words, rest)?;
+        let (e, rest) = full_expression_at(alloc, words, Level::Conditional, rest)?;
         Ok((Some(e), rest))
     } else {
         Ok((None, tokens))
     }
 }
 
-/// `NAME [ "=" expr ]`
+/// `NAME [ "=" cond ]`
 #[tactic(auto, unfolding(c_model::specs::DeclarationGrammar::constant))]
 fn constant<'a>(
     alloc: Global,

@@ -4,6 +4,7 @@ use Rattle.grammar.specs.Syntax.{Syntax, ParseFault, At, one_at, among, sees, ma
 use Rattle.grammar.specs.Exact.{Unread}
 use Rattle.grammar.proofs.Sets.{within, apart, within_self, within_left, within_both, within_among, cond_or}
 use Rattle.grammar.proofs.Parts.{widen}
+use Rattle.grammar.proofs.Limits.{opened}
 use Rattle.grammar.proofs.Theorem.{at_within}
 use Rattle.grammar.proofs.Solid.{IsSolid, lower, gives_solid, seq_solid, behind, either_solid, listed, many_solid, many_solid_to, made_solid, knot_solid, knot_solid_to, at_most_solid, unread}
 use Rattle.c_syntax.specs.declared.place.Place.{Place}
@@ -12,22 +13,29 @@ use Rattle.c_syntax.specs.Expressions.{Expression}
 use Rattle.c_syntax.specs.Tokens.{PlainToken}
 use Rattle.c_model.specs.declared.vocabulary.Keyword.TheVariants as keyword
 use Rattle.c_model.specs.declared.vocabulary.IntegerWords.{IntegerWords}
+use Rattle.c_model.specs.declared.operands.Form.{Form}
+use Rattle.c_model.specs.declared.operands.Form.TheVariants as form
+use Rattle.c_model.specs.declared.operands.Level.{Level}
+use Rattle.c_model.specs.declared.operands.Level.TheVariants.{Assignment, Conditional}
 use Rattle.c_model.specs.declared.operands.Stars.{Stars}
 use Rattle.c_model.specs.declared.operands.TypeUse.{TypeUse}
 use Rattle.c_model.specs.declared.operands.TypeUse.TheVariants.{Casts, Sizes, Nothing}
 use Rattle.c_model.specs.Vocabulary.{Vocabulary, no_words}
-use Rattle.c_model.specs.Punctuators.{question, colon, left_paren, right_paren, left_bracket, right_bracket, dot, arrow, times}
+use Rattle.c_model.specs.Punctuators.{question, colon, comma, left_paren, right_paren, left_bracket, right_bracket, dot, arrow, times}
 use Rattle.c_model.specs.ExpressionGrammar.{fixed, name_kind, number_kind, letter_kind, type_name_kind, keyword_kind, mark_kind, kind, kinds_of, unary_operators, operators_at, levels, first_integer_words, first_base, first_type}
 use Rattle.c_model.specs.ExpressionGrammar.{first_expression, first_postfix, text_kind, typedef_name, struct_tag, enum_tag, untagged_base, more_consts, star, next_star, star_words, written_length, bracket, next_bracket, brackets, type_name, indexed}
 use Rattle.c_model.specs.ExpressionGrammar.{dotted, arrowed}
-use Rattle.c_model.specs.ExpressionGrammar.{postfix_once, postfixes, postfix_rest, literal_first, behind_variable}
+use Rattle.c_model.specs.ExpressionGrammar.{postfix_once, postfixes, postfix_rest, literal_first, behind_variable, assignment_operators, prefix_bumps, postfix_bumps, bumped, bump_first}
 use Rattle.c_model.specs.ExpressionGrammar.{words_behind, most_in_expression, Operand, integer_word, integer_words, base, consts, type_words, closed, literal, cast_rest, sized_type, paren_rest, behind_paren, prefixed}
 use Rattle.c_model.specs.Terminals.{expression_limit}
-use Rattle.c_model.specs.ExpressionGrammar.{sized, operand_but_name, operand_of, operand, joined_once, behind_operand, choice_rest, expression_rest, expression_of, expression, full_expression}
-use Rattle.c_expr_parser.proofs.Unlimited.{expression_free}
+use Rattle.c_model.specs.ExpressionGrammar.{sized, operand_but_name, operand_of, operand, joined_once, behind_operand, choice_rest, conditional_rest, next_argument, arguments, call_rest, assigned, behind_unary, behind_form, at_level, next_part}
+use Rattle.c_model.specs.ExpressionGrammar.{with_commas}
+use Rattle.c_model.specs.ExpressionGrammar.{expression_at, expression, placed_expression, full_expression, full_placed_expression, full_expression_at}
+use Rattle.c_expr_parser.proofs.Unlimited.{level_free, expression_free}
 use Rattle.c_expr_parser.proofs.ExactTypes.{apart_none, words_fit, words_within, more_type, first_untagged}
-use Rattle.c_expr_parser.proofs.ExactExpressions.{kinds_below, more_below, AreApart, levels_apart, level_within, below_within, postfix_apart, behind_kinds, more_expression, more_type_name, first_but_name, both_true, operand_good, expression_exact}
-use Rattle.c_expr_parser.proofs.ExactExpressions.{expression_is, expression_good, operand_is}
+use Rattle.c_expr_parser.proofs.ExactExpressions.{kinds_below, more_below, AreApart, levels_apart, level_within, below_within, postfix_apart, behind_kinds, behind_unary_kinds, more_operand, more_expression, more_commas, more_type_name}
+use Rattle.c_expr_parser.proofs.ExactExpressions.{first_but_name, both_true, operand_good}
+use Rattle.c_expr_parser.proofs.ExactExpressions.{level_exact, level_is, levels_good, expression_good, operand_is}
 use Rattle.c_expr_parser.proofs.Steps.{consts_turn, consts_ends}
 use Rattle.c_expr_parser.proofs.TakenTokens.{Solid, fixed_solid, name_solid, any_name_solid, number_solid, letter_solid, marks_solid, next_words_solid, typedef_name_solid}
 
@@ -160,8 +168,42 @@ module _ (ws : Vocabulary) where
   first_in_paren Sizes = first_type ++ first_expression
   first_in_paren Nothing = first_expression
 
-  module _ {n : ℕ} {E : Syntax PlainToken Expression} (e : Solid ws n E true false first_expression more_expression) where
-    written_solid : Solid ws n (written_length ws E) true false first_expression more_expression
+  -- ---- arguments and parts of a comma; A is an expression without commas
+
+  bumped_solid : {n : ℕ} (x : Expression) → Solid ws n (bumped ws x) true false (kinds_of postfix_bumps) []
+  unfolding bumped
+  bumped_solid x = listed (seq_solid (marks_solid ws postfix_bumps) (λ o. gives_solid _) refl) refl
+
+  module _ {n : ℕ} {A : Syntax PlainToken Expression} (a : Solid ws n A true false first_expression more_expression) where
+    next_argument_solid : (es : List Expression) → Solid ws n (next_argument ws A es) true false (mark_kind comma ∷ []) more_expression
+    unfolding next_argument
+    next_argument_solid es = listed (seq_solid (fixed_solid ws (mark_kind comma)) (λ _. seq_solid a (λ e. gives_solid _) refl) refl) refl
+
+    some_arguments_solid : Solid ws n (A then λ e. many (kind ws) (λ _. mark_kind comma ∷ []) (next_argument ws A) (e ∷ [])) true false first_expression more_commas
+    some_arguments_solid = listed (seq_solid a (λ e. many_solid (mark_kind comma ∷ []) refl refl n next_argument_solid (e ∷ [])) refl) refl
+
+    arguments_solid : Solid ws n (arguments ws A) false true first_expression (first_expression ++ more_commas)
+    unfolding arguments
+    arguments_solid = listed (either_solid first_expression some_arguments_solid (gives_solid []) refl refl) refl
+
+    call_rest_solid : (f : ℕ) → Solid ws n (call_rest ws A f) true false (mark_kind left_paren ∷ []) []
+    unfolding call_rest
+    call_rest_solid f = listed (seq_solid (fixed_solid ws (mark_kind left_paren)) (λ at. seq_solid arguments_solid (λ es. closed_solid _) refl) refl) refl
+
+    assigned_solid : (x : Expression) → Solid ws (suc n) (assigned ws A x) true false (kinds_of assignment_operators) more_expression
+    unfolding assigned
+    assigned_solid x = listed (behind (marks_solid ws assignment_operators) (λ o. seq_solid a (λ y. gives_solid _) refl) refl) refl
+
+    next_part_solid : (x : Expression) → Solid ws n (next_part ws A x) true false (mark_kind comma ∷ []) more_expression
+    unfolding next_part
+    next_part_solid x = listed (seq_solid (fixed_solid ws (mark_kind comma)) (λ at. seq_solid a (λ y. gives_solid _) refl) refl) refl
+
+    with_commas_solid : Solid ws n (with_commas ws A) true false first_expression more_commas
+    unfolding with_commas
+    with_commas_solid = listed (seq_solid a (λ x. many_solid (mark_kind comma ∷ []) refl refl n next_part_solid x) refl) refl
+
+  module _ {n : ℕ} {E : Syntax PlainToken Expression} (e : Solid ws n E true false first_expression more_commas) where
+    written_solid : Solid ws n (written_length ws E) true false first_expression more_commas
     unfolding written_length
     written_solid = listed (seq_solid e (λ x. gives_solid _) refl) refl
 
@@ -185,14 +227,11 @@ module _ (ws : Vocabulary) where
     postfix_once_solid : (x : Expression) → Solid ws n (postfix_once ws E x) true false first_postfix []
     unfolding postfix_once
     postfix_once_solid x =
-        listed (either_solid (mark_kind left_bracket ∷ []) (indexed_solid x) (either_solid (mark_kind dot ∷ []) (dotted_solid x) (arrowed_solid x) refl refl) refl refl) refl
+        listed (either_solid (mark_kind left_bracket ∷ []) (indexed_solid x) (either_solid (mark_kind dot ∷ []) (dotted_solid x) (either_solid (mark_kind arrow ∷ []) (arrowed_solid x) (bumped_solid x) refl refl) refl refl) refl refl) refl
 
     postfix_rest_solid : (at : Place) (x : Expression) → Solid ws n (postfix_rest ws E at x) false true first_postfix first_postfix
     unfolding postfix_rest postfixes
     postfix_rest_solid at x = listed (seq_solid (many_solid first_postfix refl refl n postfix_once_solid x) (λ y. gives_solid _) refl) refl
-
-    behind_variable_solid : (x : ℕ × Place) → Solid ws n (behind_variable ws E x) false true first_postfix first_postfix
-    behind_variable_solid x = postfix_rest_solid _ _
 
     literal_first_solid : Solid ws (suc n) (literal_first ws E) true false (number_kind ∷ letter_kind ∷ text_kind ∷ []) first_postfix
     unfolding literal_first
@@ -206,59 +245,81 @@ module _ (ws : Vocabulary) where
     unfolding sized_type
     sized_type_solid at = listed (seq_solid type_name_solid (λ t. closed_solid _) refl) refl
 
-  module _ {n : ℕ} {E : Syntax PlainToken Expression} (e : Solid ws n E true false first_expression more_expression) {O : Operand ws} (o : (u : TypeUse) → Solid ws n (O u) true false first_expression first_postfix) where
-    cast_solid : (at : Place) → Solid ws n (cast_rest ws E O at) true false first_type first_postfix
+  module _ {n : ℕ} {E : Syntax PlainToken Expression} (e : Solid ws n E true false first_expression more_commas) {O : Operand ws} (o : (u : TypeUse) → Solid ws n (O u) true false first_expression more_operand) where
+    cast_solid : (at : Place) → Solid ws n (cast_rest ws E O at) true false first_type more_operand
     unfolding cast_rest
     cast_solid at = listed (seq_solid (type_name_solid e) (λ t. seq_solid (fixed_solid ws (mark_kind right_paren)) (λ _. seq_solid (o Casts) (λ x. gives_solid _) refl) refl) refl) refl
 
-    behind_paren_solid : (u : TypeUse) (at : Place) → Solid ws n (behind_paren ws E O u at) true false (first_in_paren u) first_postfix
+    behind_paren_solid : (u : TypeUse) (at : Place) → Solid ws n (behind_paren ws E O u at) true false (first_in_paren u) more_operand
     unfolding behind_paren
     behind_paren_solid Casts at = listed (either_solid first_type (cast_solid at) (paren_solid e at) refl refl) refl
     behind_paren_solid Sizes at = listed (either_solid first_type (sized_type_solid e at) (paren_solid e at) refl refl) refl
-    behind_paren_solid Nothing at = paren_solid e at
+    behind_paren_solid Nothing at = listed (paren_solid e at) refl
 
-    prefixed_solid : Solid ws (suc n) (prefixed ws O) true false (kinds_of unary_operators) first_postfix
+    prefixed_solid : Solid ws (suc n) (prefixed ws O) true false (kinds_of unary_operators) more_operand
     unfolding prefixed
     prefixed_solid = listed (behind (marks_solid ws unary_operators) (λ p. seq_solid (o Casts) (λ x. gives_solid _) refl) refl) refl
 
-    sized_solid : Solid ws (suc n) (sized ws O) true false (keyword_kind keyword.Sizeof ∷ []) first_postfix
+    sized_solid : Solid ws (suc n) (sized ws O) true false (keyword_kind keyword.Sizeof ∷ []) more_operand
     unfolding sized
     sized_solid = listed (behind (fixed_solid ws (keyword_kind keyword.Sizeof)) (λ at. seq_solid (o Sizes) (λ x. gives_solid _) refl) refl) refl
 
-    but_name_solid : (u : TypeUse) → Solid ws (suc n) (operand_but_name ws E O u) true false first_but_name first_postfix
+    bump_first_solid : Solid ws (suc n) (bump_first ws O) true false (kinds_of prefix_bumps) more_operand
+    unfolding bump_first
+    bump_first_solid = listed (behind (marks_solid ws prefix_bumps) (λ p. seq_solid (o Nothing) (λ x. gives_solid _) refl) refl) refl
+
+    but_name_solid : (u : TypeUse) → Solid ws (suc n) (operand_but_name ws E O u) true false first_but_name more_operand
     unfolding operand_but_name
     but_name_solid u =
         listed (either_solid (mark_kind left_paren ∷ []) (behind (fixed_solid ws (mark_kind left_paren)) (λ at. behind_paren_solid u at) (apart_none (first_in_paren u)))
-        (either_solid (kinds_of unary_operators) prefixed_solid (either_solid (keyword_kind keyword.Sizeof ∷ []) sized_solid (literal_first_solid e) refl refl) refl refl) refl refl) refl
+        (either_solid (kinds_of unary_operators) prefixed_solid (either_solid (kinds_of prefix_bumps) bump_first_solid (either_solid (keyword_kind keyword.Sizeof ∷ []) sized_solid
+        (literal_first_solid e) refl refl) refl refl) refl refl) refl refl) refl
 
-    operand_of_solid : (u : TypeUse) → Solid ws (suc n) (operand_of ws E O u) true false first_expression first_postfix
+  module _ {n : ℕ} {E A : Syntax PlainToken Expression} (e : Solid ws n E true false first_expression more_commas) (a : Solid ws n A true false first_expression more_expression) where
+    behind_variable_solid : (x : ℕ × Place) → Solid ws n (behind_variable ws E A x) false true more_operand more_operand
+    unfolding behind_variable
+    behind_variable_solid x =
+        listed (either_solid (mark_kind left_paren ∷ []) (seq_solid (call_rest_solid a x.0) (λ y. postfix_rest_solid e x.1 y) refl) (postfix_rest_solid e x.1 _) refl refl) refl
+
+    operand_of_solid : {O : Operand ws} → ((u : TypeUse) → Solid ws n (O u) true false first_expression more_operand) → (u : TypeUse) → Solid ws (suc n) (operand_of ws E A O u) true false first_expression more_operand
     unfolding operand_of
-    operand_of_solid u = listed (either_solid (name_kind ∷ []) (behind (name_solid ws) (λ x. behind_variable_solid e x) refl) (but_name_solid u) refl refl) refl
+    operand_of_solid o u = listed (either_solid (name_kind ∷ []) (behind (name_solid ws) (λ x. behind_variable_solid x) refl) (but_name_solid e o u) refl refl) refl
 
   -- ---- expressions
 
-  module _ (n : ℕ) (e : Solid ws n (expression ws) true false first_expression more_expression) where
-    operand_solid : (u : TypeUse) → Solid ws (suc n) (operand ws (expression ws) u) true false first_expression first_postfix
-    operand_solid u =
-        knot_solid_to {S = TypeUse} (suc n) refl (λ v. (operand_good ws (expression_good ws) v).here) (λ v. operand_is ws v) (λ k lt o v. operand_of_solid (lower k (omega (arith, lt)) e) o v) (suc n) (omega arith) u
+  module _ (n : ℕ) (g : (l : Level) → Solid ws n (expression_at ws l) true false first_expression more_expression) where
+    abbrev E : Syntax PlainToken Expression
+    E = expression ws
 
-    right_solid : (l : ℕ) → apart (kinds_below l) first_postfix ≡ true → ((x : Expression) → Solid ws (suc n) (behind_operand ws (expression ws) l x) false true (kinds_below l) (more_below l))
-        → Solid ws (suc n) (operand ws (expression ws) Casts then λ z. behind_operand ws (expression ws) l z.expression) true false first_expression (more_below l)
+    abbrev A : Syntax PlainToken Expression
+    A = expression_at ws Assignment
+
+    commas_solid : Solid ws n E true false first_expression more_commas
+    unfolding expression
+    commas_solid = with_commas_solid (g Assignment)
+
+    operand_solid : (u : TypeUse) → Solid ws (suc n) (operand ws E A u) true false first_expression more_operand
+    operand_solid u =
+        knot_solid_to {S = TypeUse} (suc n) refl (λ v. (operand_good ws (expression_good ws) (levels_good ws Assignment) v).here) (λ v. operand_is ws v)
+        (λ k lt o v. operand_of_solid (lower k (omega (arith, lt)) commas_solid) (lower k (omega (arith, lt)) (g Assignment)) o v) (suc n) (omega arith) u
+
+    right_solid : (l : ℕ) → apart (kinds_below l) more_operand ≡ true → ((x : Expression) → Solid ws (suc n) (behind_operand ws E A l x) false true (kinds_below l) (more_below l))
+        → Solid ws (suc n) (operand ws E A Casts then λ z. behind_operand ws E A l z.expression) true false first_expression (more_below l)
     right_solid l a b =
         relisted ws first_expression (more_below l) (seq_solid (operand_solid Casts) (λ z. b z.expression) a) (λ _. refl) refl
-        (λ x. within_both (more_below l) first_postfix (more_below l) (within_self (more_below l)) (within_left first_postfix (kinds_below l)))
+        (λ x. within_both (more_below l) more_operand (more_below l) (within_self (more_below l)) (within_left more_operand (kinds_below l)))
 
-    joined_solid : (l : ℕ) → apart (kinds_below l) first_postfix ≡ true → ((x : Expression) → Solid ws (suc n) (behind_operand ws (expression ws) l x) false true (kinds_below l) (more_below l)) → (x : Expression)
-        → Solid ws (suc n) (joined_once ws l (operand ws (expression ws) Casts then λ z. behind_operand ws (expression ws) l z.expression) x) true false (kinds_of (operators_at l)) (more_below l)
+    joined_solid : (l : ℕ) → apart (kinds_below l) more_operand ≡ true → ((x : Expression) → Solid ws (suc n) (behind_operand ws E A l x) false true (kinds_below l) (more_below l)) → (x : Expression)
+        → Solid ws (suc n) (joined_once ws l (operand ws E A Casts then λ z. behind_operand ws E A l z.expression) x) true false (kinds_of (operators_at l)) (more_below l)
     unfolding joined_once
     joined_solid l a b x =
         relisted ws (kinds_of (operators_at l)) (more_below l) (seq_solid (marks_solid ws (operators_at l)) (λ p. seq_solid (right_solid l a b) (λ y. gives_solid _) refl) refl)
         (λ _. within_left (kinds_of (operators_at l)) []) (within_both (kinds_of (operators_at l)) [] (kinds_of (operators_at l)) (within_self (kinds_of (operators_at l))) refl)
         (λ y. within_both (more_below l) [] (more_below l) (within_self (more_below l)) refl)
 
-    level_solid : (l : ℕ) → apart (kinds_of (operators_at l)) (more_below l) ≡ true → apart (kinds_below l) first_postfix ≡ true
-        → ((x : Expression) → Solid ws (suc n) (behind_operand ws (expression ws) l x) false true (kinds_below l) (more_below l)) → (x : Expression)
-        → Solid ws (suc n) (behind_operand ws (expression ws) (suc l) x) false true (kinds_below (suc l)) (more_below (suc l))
+    level_solid : (l : ℕ) → apart (kinds_of (operators_at l)) (more_below l) ≡ true → apart (kinds_below l) more_operand ≡ true
+        → ((x : Expression) → Solid ws (suc n) (behind_operand ws E A l x) false true (kinds_below l) (more_below l)) → (x : Expression)
+        → Solid ws (suc n) (behind_operand ws E A (suc l) x) false true (kinds_below (suc l)) (more_below (suc l))
     unfolding behind_operand
     level_solid l a c b x =
         let ks = kinds_of (operators_at l) in
@@ -268,31 +329,66 @@ module _ (ws : Vocabulary) where
         (within_self (below ++ ks))
         (λ y. within_both (ks ++ more_below l) (more_below l) more (within_both ks (more_below l) more (level_within l) (below_within l)) (below_within l))
 
-    behind_solid : (l : ℕ) → AreApart l → (x : Expression) → Solid ws (suc n) (behind_operand ws (expression ws) l x) false true (kinds_below l) (more_below l)
+    behind_solid : (l : ℕ) → AreApart l → (x : Expression) → Solid ws (suc n) (behind_operand ws E A l x) false true (kinds_below l) (more_below l)
     unfolding behind_operand
-    behind_solid zero a x = relisted ws [] first_postfix (gives_solid x) (λ h. absurd cc) refl (λ y. refl)
+    behind_solid zero a x = relisted ws [] more_operand (gives_solid x) (λ h. absurd cc) refl (λ y. refl)
     behind_solid (suc l) a x = level_solid l a.1 (postfix_apart l a.0) (behind_solid l a.0) x
 
-    choice_solid : (x : Expression) → Solid ws (suc n) (choice_rest ws (expression ws) x) true false (mark_kind question ∷ []) more_expression
+    choice_solid : (x : Expression) → Solid ws (suc n) (choice_rest ws E (expression_at ws Conditional) x) true false (mark_kind question ∷ []) more_expression
     unfolding choice_rest
     choice_solid x =
-        listed (behind (fixed_solid ws (mark_kind question)) (λ at. seq_solid e (λ y. seq_solid (fixed_solid ws (mark_kind colon)) (λ _. seq_solid e (λ z. gives_solid _) refl) refl) refl) refl) refl
+        listed (behind (fixed_solid ws (mark_kind question)) (λ at. seq_solid commas_solid (λ y. seq_solid (fixed_solid ws (mark_kind colon)) (λ _. seq_solid (g Conditional) (λ z. gives_solid _) refl) refl) refl) refl) refl
 
-    rest_solid : (x : Expression) → Solid ws (suc n) (expression_rest ws (expression ws) x) false true behind_kinds more_expression
-    unfolding expression_rest
+    rest_solid : (x : Expression) → Solid ws (suc n) (conditional_rest ws E A (expression_at ws Conditional) x) false true behind_kinds more_expression
+    unfolding conditional_rest
     rest_solid x = listed (seq_solid (behind_solid levels levels_apart x) (λ y. either_solid (mark_kind question ∷ []) (choice_solid y) (gives_solid y) refl refl) refl) refl
 
-    expression_of_solid : Solid ws (suc n) (expression_of ws (expression ws)) true false first_expression more_expression
-    unfolding expression_of
-    expression_of_solid = listed (seq_solid (operand_solid Casts) (λ x. rest_solid x.expression) refl) refl
+    behind_unary_solid : (x : Expression) → Solid ws (suc n) (behind_unary ws E A (expression_at ws Conditional) x) false true behind_unary_kinds more_expression
+    unfolding behind_unary
+    behind_unary_solid x = listed (either_solid (kinds_of assignment_operators) (assigned_solid (g Assignment) x) (rest_solid x) refl refl) refl
 
-  pub expression_solid : (n : ℕ) → Solid ws n (expression ws) true false first_expression more_expression
-  expression_solid n = knot_solid {S = Unit {0}} refl (λ _. expression_exact ws) (λ _. expression_is ws) (λ k e _. expression_of_solid k (e tt)) n tt
+    behind_form_solid : (f : Form) (x : Expression) → Solid ws (suc n) (behind_form ws E A (expression_at ws Conditional) f x) false true behind_unary_kinds more_expression
+    unfolding behind_form
+    behind_form_solid form.Postfix x = behind_unary_solid x
+    behind_form_solid form.Unary x = behind_unary_solid x
+    behind_form_solid form.Cast x = relisted ws behind_unary_kinds more_expression (rest_solid x) (λ h. absurd cc) refl (λ y. refl)
+    behind_form_solid form.TypeName x = relisted ws behind_unary_kinds more_expression (rest_solid x) (λ h. absurd cc) refl (λ y. refl)
 
-  full_solid : (n : ℕ) → Solid ws n (full_expression ws) true false first_expression more_expression
+    at_level_solid : (l : Level) → Solid ws (suc n) (at_level ws E A (expression_at ws Conditional) l) true false first_expression more_expression
+    unfolding at_level
+    at_level_solid Assignment = listed (seq_solid (operand_solid Casts) (λ x. behind_form_solid x.form x.expression) refl) refl
+    at_level_solid Conditional = listed (seq_solid (operand_solid Casts) (λ x. rest_solid x.expression) refl) refl
+
+  pub level_solid_at : (n : ℕ) (l : Level) → Solid ws n (expression_at ws l) true false first_expression more_expression
+  level_solid_at n l = knot_solid {S = Level} refl (λ m. level_exact ws m) (λ m. level_is ws m) (λ k g m. at_level_solid k g m) n l
+
+  pub expression_solid : (n : ℕ) → Solid ws n (expression ws) true false first_expression more_commas
+  expression_solid n = commas_solid n (level_solid_at n)
+
+  full_solid : (n : ℕ) → Solid ws n (full_expression ws) true false first_expression more_commas
   unfolding full_expression
   full_solid n = at_most_solid expression_limit most_in_expression (expression_free ws) (expression_solid n)
 
   -- the tokens before a refused one are no expression
   pub full_unread : (ts : List PlainToken) (n : ℕ) → (full_expression ws).parse ts ≡ Err (At n) → Unread (full_expression ws) ts n
-  full_unread ts n e = unread (full_expression ws) true false first_expression (λ _. more_expression) full_solid ts n e
+  full_unread ts n e = unread (full_expression ws) true false first_expression (λ _. more_commas) full_solid ts n e
+
+  full_level_solid : (l : Level) (n : ℕ) → Solid ws n (full_expression_at ws l) true false first_expression more_expression
+  unfolding full_expression_at
+  full_level_solid l n = at_most_solid expression_limit most_in_expression (level_free ws l) (level_solid_at n l)
+
+  pub full_level_unread : (l : Level) (ts : List PlainToken) (n : ℕ) → (full_expression_at ws l).parse ts ≡ Err (At n) → Unread (full_expression_at ws l) ts n
+  full_level_unread l ts n e = unread (full_expression_at ws l) true false first_expression (λ _. more_expression) (full_level_solid l) ts n e
+
+  -- ---- with the place of its first token
+
+  placed_solid : (n : ℕ) → Solid ws n (placed_expression ws) true false first_expression more_commas
+  unfolding placed_expression
+  placed_solid n = lower n (omega arith)
+      (listed (seq_solid (operand_solid n (level_solid_at n) Casts) (λ x. seq_solid (behind_form_solid n (level_solid_at n) x.form x.expression)
+      (λ y. seq_solid (many_solid (mark_kind comma ∷ []) refl refl (suc n) (λ z. next_part_solid (level_solid_at (suc n) Assignment) z) y) (λ e. gives_solid _) refl) refl) refl) refl)
+
+  -- a token of a kind that can begin one begins one
+  pub placed_begins : (t : PlainToken) → among (kind ws t) first_expression ≡ true → (full_placed_expression ws).begun (t ∷ [])
+  unfolding full_placed_expression
+  placed_begins t h = opened (kind ws) (placed_expression ws) first_expression (λ _. more_commas) (placed_solid 0).exact t (λ e. (placed_solid 2).opens refl t [] (omega arith) h e)

@@ -5,20 +5,21 @@ use Rattle.grammar.proofs.Productions.{seq, given, turn, turn_fails, turn_ends, 
 use Rattle.grammar.proofs.Bounds.{many_is}
 use Rattle.c_syntax.specs.declared.place.Place.{Place}
 use Rattle.c_syntax.specs.Tokens.{PlainToken}
+use Rattle.c_model.specs.declared.operands.Level.TheVariants.{Assignment}
 use Rattle.c_model.specs.declared.operands.Stars.{Stars}
 use Rattle.c_model.specs.declared.vocabulary.Keyword.TheVariants as keyword
 use Rattle.c_model.specs.declared.vocabulary.IntegerWords.{IntegerWords}
 use Rattle.c_model.specs.Vocabulary.{Vocabulary}
 use Rattle.c_model.specs.Punctuators.{comma, times}
 use Rattle.c_syntax.specs.Expressions.{Expression}
-use Rattle.c_model.specs.ExpressionGrammar.{keyword_kind, mark_kind, next_argument, kind, fixed, reserved, words_behind, integer_word, consts, more_consts, no_stars, star, next_star, star_words}
+use Rattle.c_model.specs.ExpressionGrammar.{keyword_kind, mark_kind, next_argument, next_part, with_commas, expression_at, expression, kind, fixed, reserved, words_behind, integer_word, consts, more_consts, no_stars, star, next_star, star_words}
 use Rattle.c_syntax.specs.declared.fault.ReadFault.{ReadFault}
-use Rattle.c_expr_parser.specs.Reading.{more_words, more_stars, more_arguments}
+use Rattle.c_expr_parser.specs.Reading.{more_words, more_stars, more_arguments, more_parts}
 use Rattle.token_reader.specs.Reading.{Fails}
 use Rattle.token_reader.proofs.Faults.{again}
 use Rattle.c_expr_parser.proofs.ExactTokens.{IsRead, fixed_good}
 use Rattle.c_expr_parser.proofs.ExactTypes.{words_fit, integer_word_good, next_star_good}
-use Rattle.c_expr_parser.proofs.ExactExpressions.{next_argument_good}
+use Rattle.c_expr_parser.proofs.ExactExpressions.{more_expression, levels_good, next_argument_good, next_part_good}
 
 module _ (ws : Vocabulary) where
   word_exact : (x : IntegerWords) → IsRead ws (integer_word ws x) false (words_behind x) []
@@ -96,16 +97,54 @@ module _ (ws : Vocabulary) where
   unfolding more_stars
   stars_ends x ts s = turn_ends star_kinds (next_star ws) (λ z. (star_exact z).here) refl x ts s
 
-  pub arguments_turn : (x y : List Expression) (ts rest : List PlainToken) → sees (kind ws) (mark_kind comma ∷ []) ts ≡ true → (next_argument ws x).parse ts ≡ Ok (y, rest) → (more_arguments ws x).parse ts ≡ (more_arguments ws y).parse rest
-  unfolding more_arguments
-  arguments_turn x y ts rest s e = turn (mark_kind comma ∷ []) (next_argument ws) (λ z. (next_argument_good ws z).here) refl x y ts rest s e
+  -- ---- arguments, and parts of a comma
 
-  pub arguments_fails : (x : List Expression) (ts : List PlainToken) (e : ReadFault) → sees (kind ws) (mark_kind comma ∷ []) ts ≡ true → Fails e ((next_argument ws x).parse ts) → Fails e ((more_arguments ws x).parse ts)
-  unfolding more_arguments
-  arguments_fails x ts e s = again e (λ d. turn_fails (mark_kind comma ∷ []) (next_argument ws) (λ z. (next_argument_good ws z).here) refl x ts d s)
+  abbrev comma_kinds : List ℕ
+  comma_kinds = mark_kind comma ∷ []
 
-  pub arguments_ends : (x : List Expression) (ts : List PlainToken) → sees (kind ws) (mark_kind comma ∷ []) ts ≡ false → (more_arguments ws x).parse ts ≡ Ok (x, ts)
+  argument_once : (x : List Expression) → IsRead ws (next_argument ws (expression_at ws Assignment) x) false comma_kinds more_expression
+  argument_once x = next_argument_good ws (levels_good ws Assignment) x
+
+  pub arguments_turn : (x y : List Expression) (ts rest : List PlainToken) → sees (kind ws) comma_kinds ts ≡ true → (next_argument ws (expression_at ws Assignment) x).parse ts ≡ Ok (y, rest)
+      → (more_arguments ws x).parse ts ≡ (more_arguments ws y).parse rest
   unfolding more_arguments
-  arguments_ends x ts s = turn_ends (mark_kind comma ∷ []) (next_argument ws) (λ z. (next_argument_good ws z).here) refl x ts s
+  arguments_turn x y ts rest s e = turn comma_kinds (next_argument ws (expression_at ws Assignment)) (λ z. (argument_once z).here) refl x y ts rest s e
+
+  pub arguments_fails : (x : List Expression) (ts : List PlainToken) (e : ReadFault) → sees (kind ws) comma_kinds ts ≡ true → Fails e ((next_argument ws (expression_at ws Assignment) x).parse ts) → Fails e ((more_arguments ws x).parse ts)
+  unfolding more_arguments
+  arguments_fails x ts e s = again e (λ d. turn_fails comma_kinds (next_argument ws (expression_at ws Assignment)) (λ z. (argument_once z).here) refl x ts d s)
+
+  pub arguments_ends : (x : List Expression) (ts : List PlainToken) → sees (kind ws) comma_kinds ts ≡ false → (more_arguments ws x).parse ts ≡ Ok (x, ts)
+  unfolding more_arguments
+  arguments_ends x ts s = turn_ends comma_kinds (next_argument ws (expression_at ws Assignment)) (λ z. (argument_once z).here) refl x ts s
+
+  part_once : (x : Expression) → IsRead ws (next_part ws (expression_at ws Assignment) x) false comma_kinds more_expression
+  part_once x = next_part_good ws (levels_good ws Assignment) x
+
+  pub parts_turn : (x y : Expression) (ts rest : List PlainToken) → sees (kind ws) comma_kinds ts ≡ true → (next_part ws (expression_at ws Assignment) x).parse ts ≡ Ok (y, rest) → (more_parts ws x).parse ts ≡ (more_parts ws y).parse rest
+  unfolding more_parts
+  parts_turn x y ts rest s e = turn comma_kinds (next_part ws (expression_at ws Assignment)) (λ z. (part_once z).here) refl x y ts rest s e
+
+  pub parts_fails : (x : Expression) (ts : List PlainToken) (e : ReadFault) → sees (kind ws) comma_kinds ts ≡ true → Fails e ((next_part ws (expression_at ws Assignment) x).parse ts) → Fails e ((more_parts ws x).parse ts)
+  unfolding more_parts
+  parts_fails x ts e s = again e (λ d. turn_fails comma_kinds (next_part ws (expression_at ws Assignment)) (λ z. (part_once z).here) refl x ts d s)
+
+  pub parts_ends : (x : Expression) (ts : List PlainToken) → sees (kind ws) comma_kinds ts ≡ false → (more_parts ws x).parse ts ≡ Ok (x, ts)
+  unfolding more_parts
+  parts_ends x ts s = turn_ends comma_kinds (next_part ws (expression_at ws Assignment)) (λ z. (part_once z).here) refl x ts s
+
+  pub comma_goes_on : (x : Expression) (ts rest : List PlainToken) → (expression_at ws Assignment).parse ts ≡ Ok (x, rest) → (expression ws).parse ts ≡ (more_parts ws x).parse rest
+  unfolding expression with_commas more_parts
+  comma_goes_on x ts rest e = rw e refl
+
+  pub comma_fails : (ts : List PlainToken) (e : ReadFault) → Fails e ((expression_at ws Assignment).parse ts) → Fails e ((expression ws).parse ts)
+  unfolding expression with_commas
+  comma_fails ts e = again e (λ d h. rw h refl)
 
 pub ruleset stars_rules = (stars_begin, stars_turn, stars_fails, stars_ends)
+
+pub ruleset arguments_rules = (arguments_turn, arguments_fails, arguments_ends)
+
+pub ruleset parts_rules = (parts_turn, parts_fails, parts_ends)
+
+pub ruleset comma_rules = (comma_goes_on, comma_fails)

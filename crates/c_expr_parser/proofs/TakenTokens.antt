@@ -55,9 +55,12 @@ keyword_large keyword.Sizeof = omega arith
 keyword_large keyword.Struct = omega arith
 keyword_large keyword.Enum = omega arith
 keyword_large keyword.Typedef = omega arith
+keyword_large keyword.Switch = omega arith
+keyword_large keyword.Case = omega arith
+keyword_large keyword.Default = omega arith
 keyword_large keyword.Kept = omega arith
 
-keyword_small : (k : Keyword) → keyword_kind k ≤ 31
+keyword_small : (k : Keyword) → keyword_kind k ≤ 34
 keyword_small keyword.Char = omega arith
 keyword_small keyword.Short = omega arith
 keyword_small keyword.Int = omega arith
@@ -79,9 +82,12 @@ keyword_small keyword.Sizeof = omega arith
 keyword_small keyword.Struct = omega arith
 keyword_small keyword.Enum = omega arith
 keyword_small keyword.Typedef = omega arith
+keyword_small keyword.Switch = omega arith
+keyword_small keyword.Case = omega arith
+keyword_small keyword.Default = omega arith
 keyword_small keyword.Kept = omega arith
 
-pub word_small : (w : Word) → word_kind w ≤ 31
+pub word_small : (w : Word) → word_kind w ≤ 34
 word_small (word.Keyword k) = keyword_small k
 word_small (word.TypeName t) = omega arith
 word_small word.Assert = omega arith
@@ -248,7 +254,7 @@ module _ (ws : Vocabulary) where
   marks_taken : {A : Type 0} (table : List (ℕ × A)) (t : PlainTokenKind) → among (token_kind ws t) (kinds_of table) ≡ true → (x : A) × (mark_entry table t ≡ Some x)
   marks_taken {A} table t h = by t h
     where
-      other : (k : PlainTokenKind) → token_kind ws k ≤ 31 → among (token_kind ws k) (kinds_of table) ≡ true → (x : A) × (mark_entry table k ≡ Some x)
+      other : (k : PlainTokenKind) → token_kind ws k ≤ 34 → among (token_kind ws k) (kinds_of table) ≡ true → (x : A) × (mark_entry table k ≡ Some x)
       other k small g = in_table _ (token_kind ws k) table (λ m x is e. absurd (omega (arith, small, is))) g
 
       by : (k : PlainTokenKind) → among (token_kind ws k) (kinds_of table) ≡ true → (x : A) × (mark_entry table k ≡ Some x)

@@ -1,13 +1,14 @@
--- No token of an expression, an effect or a call passes a limit: the limit of their tokens is set where they stand in no other.
-use Rattle.std.proofs.Common.{ℕ, Bool, zero, suc, List, [], ◌∷◌, Option, Some, None}
-use Rattle.grammar.specs.Syntax.{Syntax}
+-- No token of an expression passes a limit: the limit of their tokens is set where they stand in no other.
+use Rattle.std.proofs.Common.{ℕ, Bool, zero, suc, List, [], ◌∷◌}
+use Rattle.grammar.specs.Syntax.{Syntax, many}
 use Rattle.grammar.proofs.Labels.{Unlimited, late_gives, late_one, late_then, late_choice, late_many, late_knot}
 use Rattle.c_syntax.specs.declared.place.Place.{Place}
-use Rattle.c_syntax.specs.declared.expression.BinOp.{BinOp}
 use Rattle.c_syntax.specs.Ctypes.{PlainLength}
 use Rattle.c_syntax.specs.Expressions.{Expression}
 use Rattle.c_syntax.specs.Tokens.{PlainToken}
 use Rattle.c_model.specs.declared.operands.Form.{Form}
+use Rattle.c_model.specs.declared.operands.Level.{Level}
+use Rattle.c_model.specs.declared.operands.Level.TheVariants.{Assignment, Conditional}
 use Rattle.c_model.specs.declared.operands.Form.TheVariants as form
 use Rattle.c_model.specs.declared.operands.Stars.{Stars}
 use Rattle.c_model.specs.declared.operands.TypeUse.{TypeUse}
@@ -15,15 +16,16 @@ use Rattle.c_model.specs.declared.operands.TypeUse.TheVariants.{Casts, Sizes, No
 use Rattle.c_model.specs.declared.vocabulary.Keyword.TheVariants as keyword
 use Rattle.c_model.specs.declared.vocabulary.IntegerWords.{IntegerWords}
 use Rattle.c_model.specs.Vocabulary.{Vocabulary}
-use Rattle.c_model.specs.Punctuators.{question, comma, left_paren, times, left_bracket, dot}
-use Rattle.c_model.specs.ExpressionGrammar.{name_kind, number_kind, type_name_kind, keyword_kind, mark_kind, kind, kinds_of, unary_operators, operators_at, levels, assignment_operators, prefix_bumps, postfix_bumps, first_type}
+use Rattle.c_model.specs.Punctuators.{question, comma, left_paren, times, left_bracket, dot, arrow}
+use Rattle.c_model.specs.ExpressionGrammar.{name_kind, number_kind, type_name_kind, keyword_kind, mark_kind, kind, kinds_of, unary_operators, operators_at, levels, assignment_operators, prefix_bumps, first_type}
 use Rattle.c_model.specs.ExpressionGrammar.{first_expression, first_postfix, letter_kind}
-use Rattle.c_model.specs.ExpressionGrammar.{words_behind, ReadOperand, Operand, integer_word, integer_words, typedef_name, struct_tag, enum_tag, untagged_base, base, consts, type_words, closed, literal, cast_rest, sized_type, paren_rest}
+use Rattle.c_model.specs.ExpressionGrammar.{words_behind, Operand, integer_word, integer_words, typedef_name, struct_tag, enum_tag, untagged_base, base, consts, type_words, closed, literal, cast_rest, sized_type, paren_rest}
 use Rattle.c_model.specs.ExpressionGrammar.{behind_paren, prefixed, sized, operand_but_name}
 use Rattle.c_model.specs.ExpressionGrammar.{more_consts, star, next_star, star_words, written_length, length_or_none, bracket, next_bracket, brackets, type_name, indexed, dotted, arrowed, postfix_once, postfixes, postfix_rest, literal_first}
 use Rattle.c_model.specs.ExpressionGrammar.{behind_variable}
-use Rattle.c_model.specs.ExpressionGrammar.{operand_of, operand, joined_once, behind_operand, choice_rest, expression_rest, expression_of, expression, next_argument, arguments, call_rest, behind_name_or_callee, expression_or_call, assigned_value}
-use Rattle.c_model.specs.ExpressionGrammar.{assigned, bumped, behind_unary, behind_postfix, behind_form, effect_rest, bump_first, effect_but_name, effect, behind_name, effect_or_call}
+use Rattle.c_model.specs.ExpressionGrammar.{bump_first, operand_of, operand, joined_once, behind_operand, choice_rest, conditional_rest, next_argument, arguments, call_rest, assigned, bumped, behind_unary, behind_form, at_level, next_part}
+use Rattle.c_model.specs.ExpressionGrammar.{with_commas}
+use Rattle.c_model.specs.ExpressionGrammar.{expression_of, expression_at, expression, placed_expression}
 
 module _ (ws : Vocabulary) where
   -- ---- types
@@ -106,6 +108,40 @@ module _ (ws : Vocabulary) where
   unfolding arrowed
   arrowed_free x = late_then (late_one _) (λ at. late_then (late_one _) (λ m. late_gives _))
 
+  bumped_free : (x : Expression) → Unlimited (bumped ws x)
+  unfolding bumped
+  bumped_free x = late_then (late_one _) (λ op. late_gives _)
+
+  -- ---- calls and commas; A is an expression without commas
+
+  module _ {A : Syntax PlainToken Expression} (a : Unlimited A) where
+    next_argument_free : (es : List Expression) → Unlimited (next_argument ws A es)
+    unfolding next_argument
+    next_argument_free es = late_then (late_one _) (λ _. late_then a (λ e. late_gives _))
+
+    arguments_free : Unlimited (arguments ws A)
+    unfolding arguments
+    arguments_free = late_choice (kind ws) first_expression (late_then a (λ e. late_many (kind ws) (λ _. mark_kind comma ∷ []) next_argument_free _)) (late_gives _)
+
+    call_rest_free : (f : ℕ) → Unlimited (call_rest ws A f)
+    unfolding call_rest
+    call_rest_free f = late_then (late_one _) (λ at. late_then arguments_free (λ es. closed_free _))
+
+    assigned_free : (x : Expression) → Unlimited (assigned ws A x)
+    unfolding assigned
+    assigned_free x = late_then (late_one _) (λ op. late_then a (λ y. late_gives _))
+
+    next_part_free : (x : Expression) → Unlimited (next_part ws A x)
+    unfolding next_part
+    next_part_free x = late_then (late_one _) (λ at. late_then a (λ y. late_gives _))
+
+    parts_free : (x : Expression) → Unlimited (many (kind ws) (λ _. mark_kind comma ∷ []) (next_part ws A) x)
+    parts_free x = late_many (kind ws) (λ _. mark_kind comma ∷ []) next_part_free x
+
+    with_commas_free : Unlimited (with_commas ws A)
+    unfolding with_commas
+    with_commas_free = late_then a (λ x. parts_free x)
+
   module _ {E : Syntax PlainToken Expression} (e : Unlimited E) where
     written_free : Unlimited (written_length ws E)
     unfolding written_length
@@ -126,14 +162,11 @@ module _ (ws : Vocabulary) where
     postfix_once_free : (x : Expression) → Unlimited (postfix_once ws E x)
     unfolding postfix_once
     postfix_once_free x =
-        late_choice (kind ws) (mark_kind left_bracket ∷ []) (indexed_free x) (late_choice (kind ws) (mark_kind dot ∷ []) (dotted_free x) (arrowed_free x))
+        late_choice (kind ws) (mark_kind left_bracket ∷ []) (indexed_free x) (late_choice (kind ws) (mark_kind dot ∷ []) (dotted_free x) (late_choice (kind ws) (mark_kind arrow ∷ []) (arrowed_free x) (bumped_free x)))
 
     postfix_rest_free : (at : Place) (x : Expression) → Unlimited (postfix_rest ws E at x)
     unfolding postfix_rest postfixes
     postfix_rest_free at x = late_then (late_many (kind ws) (λ _. first_postfix) postfix_once_free x) (λ y. late_gives _)
-
-    behind_variable_free : (x : ℕ × Place) → Unlimited (behind_variable ws E x)
-    behind_variable_free x = postfix_rest_free _ _
 
     literal_first_free : Unlimited (literal_first ws E)
     unfolding literal_first
@@ -166,18 +199,28 @@ module _ (ws : Vocabulary) where
       unfolding sized
       sized_free = late_then (late_one _) (λ at. late_then (o Sizes) (λ x. late_gives _))
 
+      bump_first_free : Unlimited (bump_first ws O)
+      unfolding bump_first
+      bump_first_free = late_then (late_one _) (λ op. late_then (o Nothing) (λ x. late_gives _))
+
       but_name_free : (u : TypeUse) → Unlimited (operand_but_name ws E O u)
       unfolding operand_but_name
       but_name_free u =
           late_choice (kind ws) (mark_kind left_paren ∷ []) (late_then (late_one _) (λ at. behind_paren_free u at))
           (late_choice (kind ws) (kinds_of unary_operators) prefixed_free
-          (late_choice (kind ws) (keyword_kind keyword.Sizeof ∷ []) sized_free literal_first_free))
+          (late_choice (kind ws) (kinds_of prefix_bumps) bump_first_free
+          (late_choice (kind ws) (keyword_kind keyword.Sizeof ∷ []) sized_free literal_first_free)))
 
-      operand_of_free : (u : TypeUse) → Unlimited (operand_of ws E O u)
-      unfolding operand_of
-      operand_of_free u = late_choice (kind ws) (name_kind ∷ []) (late_then (late_one _) (λ x. behind_variable_free x)) (but_name_free u)
+  module _ {E A : Syntax PlainToken Expression} (e : Unlimited E) (a : Unlimited A) where
+    behind_variable_free : (x : ℕ × Place) → Unlimited (behind_variable ws E A x)
+    unfolding behind_variable
+    behind_variable_free x = late_choice (kind ws) (mark_kind left_paren ∷ []) (late_then (call_rest_free a x.0) (λ y. postfix_rest_free e x.1 y)) (postfix_rest_free e x.1 _)
 
-    operand_free : (u : TypeUse) → Unlimited (operand ws E u)
+    operand_of_free : {O : Operand ws} → ((u : TypeUse) → Unlimited (O u)) → (u : TypeUse) → Unlimited (operand_of ws E A O u)
+    unfolding operand_of
+    operand_of_free o u = late_choice (kind ws) (name_kind ∷ []) (late_then (late_one _) (λ x. behind_variable_free x)) (but_name_free e o u)
+
+    operand_free : (u : TypeUse) → Unlimited (operand ws E A u)
     unfolding operand
     operand_free u = late_knot (λ O o v. operand_of_free o v) u
 
@@ -187,110 +230,49 @@ module _ (ws : Vocabulary) where
     unfolding joined_once
     joined_free l x r = late_then (late_one _) (λ op. late_then r (λ y. late_gives _))
 
-    behind_free : (l : ℕ) (x : Expression) → Unlimited (behind_operand ws E l x)
+    behind_free : (l : ℕ) (x : Expression) → Unlimited (behind_operand ws E A l x)
     unfolding behind_operand
     behind_free zero x = late_gives x
     behind_free (suc l) x =
         late_then (behind_free l x)
         (λ y. late_many (kind ws) (λ _. kinds_of (operators_at l)) (λ z. joined_free l z (late_then (operand_free Casts) (λ w. behind_free l w.expression))) y)
 
-    choice_rest_free : (x : Expression) → Unlimited (choice_rest ws E x)
-    unfolding choice_rest
-    choice_rest_free x = late_then (late_one _) (λ at. late_then e (λ y. late_then (late_one _) (λ _. late_then e (λ z. late_gives _))))
+    module _ {C : Syntax PlainToken Expression} (c : Unlimited C) where
+      choice_rest_free : (x : Expression) → Unlimited (choice_rest ws E C x)
+      unfolding choice_rest
+      choice_rest_free x = late_then (late_one _) (λ at. late_then e (λ y. late_then (late_one _) (λ _. late_then c (λ z. late_gives _))))
 
-    rest_free : (x : Expression) → Unlimited (expression_rest ws E x)
-    unfolding expression_rest
-    rest_free x = late_then (behind_free levels x) (λ y. late_choice (kind ws) (mark_kind question ∷ []) (choice_rest_free y) (late_gives y))
+      rest_free : (x : Expression) → Unlimited (conditional_rest ws E A C x)
+      unfolding conditional_rest
+      rest_free x = late_then (behind_free levels x) (λ y. late_choice (kind ws) (mark_kind question ∷ []) (choice_rest_free y) (late_gives y))
 
-    expression_of_free : Unlimited (expression_of ws E)
-    unfolding expression_of
-    expression_of_free = late_then (operand_free Casts) (λ x. rest_free x.expression)
+      behind_unary_free : (x : Expression) → Unlimited (behind_unary ws E A C x)
+      unfolding behind_unary
+      behind_unary_free x = late_choice (kind ws) (kinds_of assignment_operators) (assigned_free a x) (rest_free x)
+
+      behind_form_free : (f : Form) (x : Expression) → Unlimited (behind_form ws E A C f x)
+      unfolding behind_form
+      behind_form_free form.Postfix x = behind_unary_free x
+      behind_form_free form.Unary x = behind_unary_free x
+      behind_form_free form.Cast x = rest_free x
+      behind_form_free form.TypeName x = rest_free x
+
+      at_level_free : (l : Level) → Unlimited (at_level ws E A C l)
+      unfolding at_level
+      at_level_free Assignment = late_then (operand_free Casts) (λ x. behind_form_free x.form x.expression)
+      at_level_free Conditional = late_then (operand_free Casts) (λ x. rest_free x.expression)
+
+  pub level_free : (l : Level) → Unlimited (expression_at ws l)
+  unfolding expression_at expression_of
+  level_free l = late_knot (λ G g m. at_level_free (with_commas_free (g Assignment)) (g Assignment) (g Conditional) m) l
 
   pub expression_free : Unlimited (expression ws)
   unfolding expression
-  expression_free = late_knot {S = Unit {0}} (λ E e u. expression_of_free (e u)) tt
+  expression_free = with_commas_free (level_free Assignment)
 
-  rests_free : (x : Expression) → Unlimited (expression_rest ws (expression ws) x)
-  rests_free x = rest_free expression_free x
-
-  first_operand_free : Unlimited (operand_but_name ws (expression ws) (operand ws (expression ws)) Casts)
-  first_operand_free = but_name_free expression_free (λ u. operand_free expression_free u) Casts
-
-  -- ---- calls
-
-  next_argument_free : (es : List Expression) → Unlimited (next_argument ws es)
-  unfolding next_argument
-  next_argument_free es = late_then (late_one _) (λ _. late_then expression_free (λ e. late_gives _))
-
-  arguments_free : Unlimited (arguments ws)
-  unfolding arguments
-  arguments_free =
-      late_choice (kind ws) first_expression (late_then expression_free (λ e. late_many (kind ws) (λ _. mark_kind comma ∷ []) next_argument_free _)) (late_gives _)
-
-  call_rest_free : (f : ℕ × Place) → Unlimited (call_rest ws f)
-  unfolding call_rest
-  call_rest_free f = late_then (late_one _) (λ at. late_then arguments_free (λ es. closed_free _))
-
-  behind_callee_free : (x : ℕ × Place) → Unlimited (behind_name_or_callee ws x)
-  unfolding behind_name_or_callee
-  behind_callee_free x = late_choice (kind ws) (mark_kind left_paren ∷ []) (late_then (call_rest_free x) (λ c. late_gives _)) (late_then (behind_variable_free expression_free x) (λ y. rests_free y.expression))
-
-  pub expression_or_call_free : Unlimited (expression_or_call ws)
-  unfolding expression_or_call
-  expression_or_call_free =
-      late_choice (kind ws) (name_kind ∷ []) (late_then (late_one _) (λ x. behind_callee_free x)) (late_then first_operand_free (λ x. rests_free x.expression))
-
-  -- ---- effects
-
-  assigned_value_free : (op : Option BinOp) → Unlimited (assigned_value ws op)
-  unfolding assigned_value
-  assigned_value_free None = expression_or_call_free
-  assigned_value_free (Some op) = expression_free
-
-  assigned_free : (x : Expression) → Unlimited (assigned ws x)
-  unfolding assigned
-  assigned_free x = late_then (late_one _) (λ op. late_then (assigned_value_free op.0) (λ y. late_gives _))
-
-  bumped_free : (x : Expression) → Unlimited (bumped ws x)
-  unfolding bumped
-  bumped_free x = late_then (late_one _) (λ op. late_gives _)
-
-  behind_unary_free : (x : Expression) → Unlimited (behind_unary ws x)
-  unfolding behind_unary
-  behind_unary_free x = late_choice (kind ws) (kinds_of assignment_operators) (assigned_free x) (rests_free x)
-
-  behind_postfix_free : (x : Expression) → Unlimited (behind_postfix ws x)
-  unfolding behind_postfix
-  behind_postfix_free x = late_choice (kind ws) (kinds_of postfix_bumps) (bumped_free x) (behind_unary_free x)
-
-  behind_form_free : (f : Form) (x : Expression) → Unlimited (behind_form ws f x)
-  unfolding behind_form
-  behind_form_free form.Postfix x = behind_postfix_free x
-  behind_form_free form.Unary x = behind_unary_free x
-  behind_form_free form.Cast x = rests_free x
-  behind_form_free form.TypeName x = rests_free x
-
-  effect_rest_free : (x : ReadOperand) → Unlimited (effect_rest ws x)
-  unfolding effect_rest
-  effect_rest_free x = late_then (behind_form_free x.form x.expression) (λ e. late_gives _)
-
-  bump_first_free : Unlimited (bump_first ws)
-  unfolding bump_first
-  bump_first_free = late_then (late_one _) (λ op. late_then (operand_free expression_free Nothing) (λ x. late_gives _))
-
-  effect_but_name_free : Unlimited (effect_but_name ws)
-  unfolding effect_but_name
-  effect_but_name_free = late_choice (kind ws) (kinds_of prefix_bumps) bump_first_free (late_then first_operand_free (λ x. effect_rest_free x))
-
-  pub effect_free : Unlimited (effect ws)
-  unfolding effect
-  effect_free =
-      late_choice (kind ws) (name_kind ∷ []) (late_then (late_one _) (λ x. late_then (behind_variable_free expression_free x) (λ y. effect_rest_free y))) effect_but_name_free
-
-  behind_name_free : (x : ℕ × Place) → Unlimited (behind_name ws x)
-  unfolding behind_name
-  behind_name_free x = late_choice (kind ws) (mark_kind left_paren ∷ []) (call_rest_free x) (late_then (behind_variable_free expression_free x) (λ y. effect_rest_free y))
-
-  pub effect_or_call_free : Unlimited (effect_or_call ws)
-  unfolding effect_or_call
-  effect_or_call_free = late_choice (kind ws) (name_kind ∷ []) (late_then (late_one _) (λ x. behind_name_free x)) effect_but_name_free
+  pub placed_free : Unlimited (placed_expression ws)
+  unfolding placed_expression
+  placed_free =
+      late_then (operand_free expression_free (level_free Assignment) Casts)
+      (λ x. late_then (behind_form_free expression_free (level_free Assignment) (level_free Conditional) x.form x.expression)
+      (λ y. late_then (parts_free (level_free Assignment) y) (λ e. late_gives _)))

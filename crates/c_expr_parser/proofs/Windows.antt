@@ -10,14 +10,14 @@ use Rattle.c_syntax.specs.declared.token.Token.{Token}
 use Rattle.c_syntax.specs.Expressions.{Expression}
 use Rattle.c_syntax.specs.Tokens.{PlainToken, plain_token}
 use Rattle.c_model.specs.Vocabulary.{Vocabulary}
-use Rattle.c_model.specs.ExpressionGrammar.{kind, first_expression, first_effect, most_in_expression, expression, expression_or_call, effect, effect_or_call, full_expression, full_expression_or_call, full_effect}
+use Rattle.c_model.specs.ExpressionGrammar.{kind, first_expression, most_in_expression, expression, placed_expression, expression_at, full_expression, full_placed_expression, full_expression_at}
+use Rattle.c_model.specs.declared.operands.Level.{Level}
 use Rattle.c_model.specs.Terminals.{expression_limit}
-use Rattle.c_model.specs.ExpressionGrammar.{full_effect_or_call}
 use Rattle.c_syntax.specs.declared.fault.ReadFault.{ReadFault}
 use Rattle.c_syntax.specs.declared.fault.ReadFault.TheVariants as fault
 use Rattle.c_expr_parser.specs.Reading.{LeftWithin, Resumed}
 use Rattle.token_reader.specs.Reading.{plain_list, label, Fails}
-use Rattle.c_expr_parser.proofs.ExactExpressions.{more_expression, more_or_call, more_effect, expression_good, expression_or_call_good, effect_good, effect_or_call_good}
+use Rattle.c_expr_parser.proofs.ExactExpressions.{more_expression, more_commas, expression_good, placed_good, levels_good}
 
 take_drop : {T : Type 0} (n : ℕ) (ts : List T) → ts ≡ take n ts ++ drop n ts
 take_drop zero ts = refl
@@ -91,107 +91,85 @@ module _ {A : Type 0} {null : Bool} (ws : Vocabulary) (G : Syntax PlainToken A) 
 
 pub full_expression_whole : (ws : Vocabulary) (ts : List Token) → length ts ≤ most_in_expression → (full_expression ws).parse (plain_list ts) ≡ (expression ws).parse (plain_list ts)
 unfolding full_expression
-full_expression_whole ws ts h = whole ws (expression ws) first_expression more_expression (expression_good ws).here ts h
+full_expression_whole ws ts h = whole ws (expression ws) first_expression more_commas (expression_good ws).here ts h
 
 pub full_expression_behind : (ws : Vocabulary) (ts near : List Token) (x : Expression) (rest r : List Token) → near ≡ take (most_in_expression + 1) ts → most_in_expression < length ts
     → (expression ws).parse (plain_list near) ≡ Ok (x, plain_list rest) → (length rest ≡ 0 → ⊥) → length rest ≤ length near → r ≡ drop (most_in_expression + 1 - length rest) ts → (full_expression ws).parse (plain_list ts) ≡ Ok (x, plain_list r)
 unfolding full_expression
-full_expression_behind ws ts near x rest r is h e z l d = rw d (goes_on ws (expression ws) first_expression more_expression (expression_good ws).here ts near is h x rest e z
+full_expression_behind ws ts near x rest r is h e z l d = rw d (goes_on ws (expression ws) first_expression more_commas (expression_good ws).here ts near is h x rest e z
     (omega (arith, l, ap length is, take_long (most_in_expression + 1) ts (omega (arith, h)))))
 
 pub full_expression_over : (ws : Vocabulary) (ts near : List Token) (x : Expression) (rest : List Token) → near ≡ take (most_in_expression + 1) ts → most_in_expression < length ts → (expression ws).parse (plain_list near) ≡ Ok (x, plain_list rest)
     → length rest ≡ 0 → (full_expression ws).parse (plain_list ts) ≡ Err (Over expression_limit (length ts - (most_in_expression + 1) + 1))
 unfolding full_expression
-full_expression_over ws ts near x rest is h e z = over ws (expression ws) first_expression more_expression (expression_good ws).here ts near is h x rest e z
+full_expression_over ws ts near x rest is h e z = over ws (expression ws) first_expression more_commas (expression_good ws).here ts near is h x rest e z
 
 pub full_expression_fails : (ws : Vocabulary) (ts near : List Token) (e r : ReadFault) → near ≡ take (most_in_expression + 1) ts → most_in_expression < length ts → Fails e ((expression ws).parse (plain_list near))
     → Resumed e (length ts - (most_in_expression + 1)) r → Fails r ((full_expression ws).parse (plain_list ts))
 unfolding full_expression
-full_expression_fails ws ts near e r is h f q = fails ws (expression ws) first_expression more_expression (expression_good ws).here ts near is h e r f q
+full_expression_fails ws ts near e r is h f q = fails ws (expression ws) first_expression more_commas (expression_good ws).here ts near is h e r f q
 
 pub full_expression_bound : (ws : Vocabulary) (ts near : List Token) (e : ReadFault) → near ≡ take (most_in_expression + 1) ts → most_in_expression < length ts → Fails e ((expression ws).parse (plain_list near))
     → LeftWithin e (most_in_expression + 1)
-full_expression_bound ws ts near e is h f = subst (λ (k : ℕ). LeftWithin e k) (ap length is ∙ take_long (most_in_expression + 1) ts (omega (arith, h))) (bound ws (expression ws) first_expression more_expression (expression_good ws).here near e f)
+full_expression_bound ws ts near e is h f = subst (λ (k : ℕ). LeftWithin e k) (ap length is ∙ take_long (most_in_expression + 1) ts (omega (arith, h))) (bound ws (expression ws) first_expression more_commas (expression_good ws).here near e f)
 
-pub full_expression_or_call_whole : (ws : Vocabulary) (ts : List Token) → length ts ≤ most_in_expression → (full_expression_or_call ws).parse (plain_list ts) ≡ (expression_or_call ws).parse (plain_list ts)
-unfolding full_expression_or_call
-full_expression_or_call_whole ws ts h = whole ws (expression_or_call ws) first_expression more_or_call (expression_or_call_good ws).here ts h
+pub full_placed_expression_whole : (ws : Vocabulary) (ts : List Token) → length ts ≤ most_in_expression → (full_placed_expression ws).parse (plain_list ts) ≡ (placed_expression ws).parse (plain_list ts)
+unfolding full_placed_expression
+full_placed_expression_whole ws ts h = whole ws (placed_expression ws) first_expression more_commas (placed_good ws).here ts h
 
-pub full_expression_or_call_behind : (ws : Vocabulary) (ts near : List Token) (x : Expression) (rest r : List Token) → near ≡ take (most_in_expression + 1) ts → most_in_expression < length ts
-    → (expression_or_call ws).parse (plain_list near) ≡ Ok (x, plain_list rest) → (length rest ≡ 0 → ⊥) → length rest ≤ length near → r ≡ drop (most_in_expression + 1 - length rest) ts
-    → (full_expression_or_call ws).parse (plain_list ts) ≡ Ok (x, plain_list r)
-unfolding full_expression_or_call
-full_expression_or_call_behind ws ts near x rest r is h e z l d = rw d (goes_on ws (expression_or_call ws) first_expression more_or_call (expression_or_call_good ws).here ts near is h x rest e z
+pub full_placed_expression_behind : (ws : Vocabulary) (ts near : List Token) (x : Expression × Place) (rest r : List Token) → near ≡ take (most_in_expression + 1) ts → most_in_expression < length ts
+    → (placed_expression ws).parse (plain_list near) ≡ Ok (x, plain_list rest) → (length rest ≡ 0 → ⊥) → length rest ≤ length near → r ≡ drop (most_in_expression + 1 - length rest) ts
+    → (full_placed_expression ws).parse (plain_list ts) ≡ Ok (x, plain_list r)
+unfolding full_placed_expression
+full_placed_expression_behind ws ts near x rest r is h e z l d = rw d (goes_on ws (placed_expression ws) first_expression more_commas (placed_good ws).here ts near is h x rest e z
     (omega (arith, l, ap length is, take_long (most_in_expression + 1) ts (omega (arith, h)))))
 
-pub full_expression_or_call_over : (ws : Vocabulary) (ts near : List Token) (x : Expression) (rest : List Token) → near ≡ take (most_in_expression + 1) ts → most_in_expression < length ts
-    → (expression_or_call ws).parse (plain_list near) ≡ Ok (x, plain_list rest) → length rest ≡ 0 → (full_expression_or_call ws).parse (plain_list ts) ≡ Err (Over expression_limit (length ts - (most_in_expression + 1) + 1))
-unfolding full_expression_or_call
-full_expression_or_call_over ws ts near x rest is h e z = over ws (expression_or_call ws) first_expression more_or_call (expression_or_call_good ws).here ts near is h x rest e z
+pub full_placed_expression_over : (ws : Vocabulary) (ts near : List Token) (x : Expression × Place) (rest : List Token) → near ≡ take (most_in_expression + 1) ts → most_in_expression < length ts
+    → (placed_expression ws).parse (plain_list near) ≡ Ok (x, plain_list rest)
+    → length rest ≡ 0 → (full_placed_expression ws).parse (plain_list ts) ≡ Err (Over expression_limit (length ts - (most_in_expression + 1) + 1))
+unfolding full_placed_expression
+full_placed_expression_over ws ts near x rest is h e z = over ws (placed_expression ws) first_expression more_commas (placed_good ws).here ts near is h x rest e z
 
-pub full_expression_or_call_fails : (ws : Vocabulary) (ts near : List Token) (e r : ReadFault) → near ≡ take (most_in_expression + 1) ts → most_in_expression < length ts → Fails e ((expression_or_call ws).parse (plain_list near))
-    → Resumed e (length ts - (most_in_expression + 1)) r → Fails r ((full_expression_or_call ws).parse (plain_list ts))
-unfolding full_expression_or_call
-full_expression_or_call_fails ws ts near e r is h f q = fails ws (expression_or_call ws) first_expression more_or_call (expression_or_call_good ws).here ts near is h e r f q
+pub full_placed_expression_fails : (ws : Vocabulary) (ts near : List Token) (e r : ReadFault) → near ≡ take (most_in_expression + 1) ts → most_in_expression < length ts → Fails e ((placed_expression ws).parse (plain_list near))
+    → Resumed e (length ts - (most_in_expression + 1)) r → Fails r ((full_placed_expression ws).parse (plain_list ts))
+unfolding full_placed_expression
+full_placed_expression_fails ws ts near e r is h f q = fails ws (placed_expression ws) first_expression more_commas (placed_good ws).here ts near is h e r f q
 
-pub full_expression_or_call_bound : (ws : Vocabulary) (ts near : List Token) (e : ReadFault) → near ≡ take (most_in_expression + 1) ts → most_in_expression < length ts → Fails e ((expression_or_call ws).parse (plain_list near))
+pub full_placed_expression_bound : (ws : Vocabulary) (ts near : List Token) (e : ReadFault) → near ≡ take (most_in_expression + 1) ts → most_in_expression < length ts → Fails e ((placed_expression ws).parse (plain_list near))
     → LeftWithin e (most_in_expression + 1)
-full_expression_or_call_bound ws ts near e is h f = subst (λ (k : ℕ). LeftWithin e k) (ap length is ∙ take_long (most_in_expression + 1) ts (omega (arith, h))) (bound ws (expression_or_call ws) first_expression more_or_call
-    (expression_or_call_good ws).here near e f)
+full_placed_expression_bound ws ts near e is h f = subst
+    (λ (k : ℕ). LeftWithin e k) (ap length is ∙ take_long (most_in_expression + 1) ts (omega (arith, h))) (bound ws (placed_expression ws) first_expression more_commas (placed_good ws).here near e f)
 
-pub full_effect_whole : (ws : Vocabulary) (ts : List Token) → length ts ≤ most_in_expression → (full_effect ws).parse (plain_list ts) ≡ (effect ws).parse (plain_list ts)
-unfolding full_effect
-full_effect_whole ws ts h = whole ws (effect ws) first_effect more_effect (effect_good ws).here ts h
+pub full_level_whole : (ws : Vocabulary) (v : Level) (ts : List Token) → length ts ≤ most_in_expression → (full_expression_at ws v).parse (plain_list ts) ≡ (expression_at ws v).parse (plain_list ts)
+unfolding full_expression_at
+full_level_whole ws v ts h = whole ws (expression_at ws v) first_expression more_expression (levels_good ws v).here ts h
 
-pub full_effect_behind : (ws : Vocabulary) (ts near : List Token) (x : Expression × Place) (rest r : List Token) → near ≡ take (most_in_expression + 1) ts → most_in_expression < length ts
-    → (effect ws).parse (plain_list near) ≡ Ok (x, plain_list rest) → (length rest ≡ 0 → ⊥) → length rest ≤ length near → r ≡ drop (most_in_expression + 1 - length rest) ts → (full_effect ws).parse (plain_list ts) ≡ Ok (x, plain_list r)
-unfolding full_effect
-full_effect_behind ws ts near x rest r is h e z l d = rw d (goes_on ws (effect ws) first_effect more_effect (effect_good ws).here ts near is h x rest e z (omega (arith, l, ap length is, take_long (most_in_expression + 1) ts (omega (arith, h)))))
-
-pub full_effect_over : (ws : Vocabulary) (ts near : List Token) (x : Expression × Place) (rest : List Token) → near ≡ take (most_in_expression + 1) ts → most_in_expression < length ts → (effect ws).parse (plain_list near) ≡ Ok (x, plain_list rest)
-    → length rest ≡ 0 → (full_effect ws).parse (plain_list ts) ≡ Err (Over expression_limit (length ts - (most_in_expression + 1) + 1))
-unfolding full_effect
-full_effect_over ws ts near x rest is h e z = over ws (effect ws) first_effect more_effect (effect_good ws).here ts near is h x rest e z
-
-pub full_effect_fails : (ws : Vocabulary) (ts near : List Token) (e r : ReadFault) → near ≡ take (most_in_expression + 1) ts → most_in_expression < length ts → Fails e ((effect ws).parse (plain_list near))
-    → Resumed e (length ts - (most_in_expression + 1)) r → Fails r ((full_effect ws).parse (plain_list ts))
-unfolding full_effect
-full_effect_fails ws ts near e r is h f q = fails ws (effect ws) first_effect more_effect (effect_good ws).here ts near is h e r f q
-
-pub full_effect_bound : (ws : Vocabulary) (ts near : List Token) (e : ReadFault) → near ≡ take (most_in_expression + 1) ts → most_in_expression < length ts → Fails e ((effect ws).parse (plain_list near)) → LeftWithin e (most_in_expression + 1)
-full_effect_bound ws ts near e is h f = subst (λ (k : ℕ). LeftWithin e k) (ap length is ∙ take_long (most_in_expression + 1) ts (omega (arith, h))) (bound ws (effect ws) first_effect more_effect (effect_good ws).here near e f)
-
-pub full_effect_or_call_whole : (ws : Vocabulary) (ts : List Token) → length ts ≤ most_in_expression → (full_effect_or_call ws).parse (plain_list ts) ≡ (effect_or_call ws).parse (plain_list ts)
-unfolding full_effect_or_call
-full_effect_or_call_whole ws ts h = whole ws (effect_or_call ws) first_effect more_effect (effect_or_call_good ws).here ts h
-
-pub full_effect_or_call_behind : (ws : Vocabulary) (ts near : List Token) (x : Expression × Place) (rest r : List Token) → near ≡ take (most_in_expression + 1) ts → most_in_expression < length ts
-    → (effect_or_call ws).parse (plain_list near) ≡ Ok (x, plain_list rest) → (length rest ≡ 0 → ⊥) → length rest ≤ length near → r ≡ drop (most_in_expression + 1 - length rest) ts
-    → (full_effect_or_call ws).parse (plain_list ts) ≡ Ok (x, plain_list r)
-unfolding full_effect_or_call
-full_effect_or_call_behind ws ts near x rest r is h e z l d = rw d (goes_on ws (effect_or_call ws) first_effect more_effect (effect_or_call_good ws).here ts near is h x rest e z
+pub full_level_behind : (ws : Vocabulary) (v : Level) (ts near : List Token) (x : Expression) (rest r : List Token) → near ≡ take (most_in_expression + 1) ts → most_in_expression < length ts
+    → (expression_at ws v).parse (plain_list near) ≡ Ok (x, plain_list rest) → (length rest ≡ 0 → ⊥) → length rest ≤ length near → r ≡ drop (most_in_expression + 1 - length rest) ts
+    → (full_expression_at ws v).parse (plain_list ts) ≡ Ok (x, plain_list r)
+unfolding full_expression_at
+full_level_behind ws v ts near x rest r is h e z l d = rw d (goes_on ws (expression_at ws v) first_expression more_expression (levels_good ws v).here ts near is h x rest e z
     (omega (arith, l, ap length is, take_long (most_in_expression + 1) ts (omega (arith, h)))))
 
-pub full_effect_or_call_over : (ws : Vocabulary) (ts near : List Token) (x : Expression × Place) (rest : List Token) → near ≡ take (most_in_expression + 1) ts → most_in_expression < length ts
-    → (effect_or_call ws).parse (plain_list near) ≡ Ok (x, plain_list rest) → length rest ≡ 0 → (full_effect_or_call ws).parse (plain_list ts) ≡ Err (Over expression_limit (length ts - (most_in_expression + 1) + 1))
-unfolding full_effect_or_call
-full_effect_or_call_over ws ts near x rest is h e z = over ws (effect_or_call ws) first_effect more_effect (effect_or_call_good ws).here ts near is h x rest e z
+pub full_level_over : (ws : Vocabulary) (v : Level) (ts near : List Token) (x : Expression) (rest : List Token) → near ≡ take (most_in_expression + 1) ts → most_in_expression < length ts
+    → (expression_at ws v).parse (plain_list near) ≡ Ok (x, plain_list rest)
+    → length rest ≡ 0 → (full_expression_at ws v).parse (plain_list ts) ≡ Err (Over expression_limit (length ts - (most_in_expression + 1) + 1))
+unfolding full_expression_at
+full_level_over ws v ts near x rest is h e z = over ws (expression_at ws v) first_expression more_expression (levels_good ws v).here ts near is h x rest e z
 
-pub full_effect_or_call_fails : (ws : Vocabulary) (ts near : List Token) (e r : ReadFault) → near ≡ take (most_in_expression + 1) ts → most_in_expression < length ts → Fails e ((effect_or_call ws).parse (plain_list near))
-    → Resumed e (length ts - (most_in_expression + 1)) r → Fails r ((full_effect_or_call ws).parse (plain_list ts))
-unfolding full_effect_or_call
-full_effect_or_call_fails ws ts near e r is h f q = fails ws (effect_or_call ws) first_effect more_effect (effect_or_call_good ws).here ts near is h e r f q
+pub full_level_fails : (ws : Vocabulary) (v : Level) (ts near : List Token) (e r : ReadFault) → near ≡ take (most_in_expression + 1) ts → most_in_expression < length ts → Fails e ((expression_at ws v).parse (plain_list near))
+    → Resumed e (length ts - (most_in_expression + 1)) r → Fails r ((full_expression_at ws v).parse (plain_list ts))
+unfolding full_expression_at
+full_level_fails ws v ts near e r is h f q = fails ws (expression_at ws v) first_expression more_expression (levels_good ws v).here ts near is h e r f q
 
-pub full_effect_or_call_bound : (ws : Vocabulary) (ts near : List Token) (e : ReadFault) → near ≡ take (most_in_expression + 1) ts → most_in_expression < length ts → Fails e ((effect_or_call ws).parse (plain_list near))
+pub full_level_bound : (ws : Vocabulary) (v : Level) (ts near : List Token) (e : ReadFault) → near ≡ take (most_in_expression + 1) ts → most_in_expression < length ts → Fails e ((expression_at ws v).parse (plain_list near))
     → LeftWithin e (most_in_expression + 1)
-full_effect_or_call_bound ws ts near e is h f = subst (λ (k : ℕ). LeftWithin e k) (ap length is ∙ take_long (most_in_expression + 1) ts (omega (arith, h))) (bound ws (effect_or_call ws) first_effect more_effect (effect_or_call_good ws).here near e f)
+full_level_bound ws v ts near e is h f = subst (λ (k : ℕ). LeftWithin e k) (ap length is ∙ take_long (most_in_expression + 1) ts (omega (arith, h))) (bound ws (expression_at ws v) first_expression more_expression (levels_good ws v).here near e f)
 
 -- ---- what the code of each production cites
 
 pub ruleset full_expression_rules = (full_expression_whole, full_expression_behind, full_expression_over, full_expression_fails, full_expression_bound)
 
-pub ruleset full_expression_or_call_rules = (full_expression_or_call_whole, full_expression_or_call_behind, full_expression_or_call_over, full_expression_or_call_fails, full_expression_or_call_bound)
+pub ruleset full_placed_expression_rules = (full_placed_expression_whole, full_placed_expression_behind, full_placed_expression_over, full_placed_expression_fails, full_placed_expression_bound)
 
-pub ruleset full_effect_rules = (full_effect_whole, full_effect_behind, full_effect_over, full_effect_fails, full_effect_bound)
-
-pub ruleset full_effect_or_call_rules = (full_effect_or_call_whole, full_effect_or_call_behind, full_effect_or_call_over, full_effect_or_call_fails, full_effect_or_call_bound)
+pub ruleset full_level_rules = (full_level_whole, full_level_behind, full_level_over, full_level_fails, full_level_bound)

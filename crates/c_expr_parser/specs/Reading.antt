@@ -7,14 +7,16 @@ use Rattle.c_syntax.specs.Ctypes.{PlainType, Void, Int, Struct, Named, StructTag
 use Rattle.c_syntax.specs.Expressions.{Expression, plain_expr}
 use Rattle.c_model.specs.declared.vocabulary.IntegerWords.{IntegerWords}
 use Rattle.c_model.specs.declared.operands.Stars.{Stars}
+use Rattle.c_model.specs.declared.operands.Level.TheVariants.{Assignment}
 use Rattle.c_model.specs.declared.operands.TypeUse.TheVariants.{Casts}
 use Rattle.c_model.specs.Vocabulary.{Vocabulary}
 use Rattle.c_model.specs.Punctuators.{comma, times, left_bracket}
 use Rattle.c_model.specs.ExpressionGrammar.{TypeStart, ConstStart, VoidStart, StructStart, EnumStart, NameStart, IntegerStart, ReadOperand, kind, mark_kind}
 use Rattle.c_model.specs.ExpressionGrammar.{kinds_of, operators_at}
-use Rattle.c_model.specs.ExpressionGrammar.{words_behind, integer_word, next_star, next_bracket, operand, behind_operand, joined_once, expression}
-use Rattle.c_model.specs.ExpressionGrammar.{next_argument}
-use Rattle.c_expr_parser.specs.declared.expression.ReadOperand as code_operand
+use Rattle.c_model.specs.ExpressionGrammar.{words_behind, integer_word, next_star, next_bracket, operand, behind_operand, joined_once, expression_at}
+use Rattle.c_model.specs.ExpressionGrammar.{expression}
+use Rattle.c_model.specs.ExpressionGrammar.{next_argument, next_part}
+use Rattle.c_expr_parser.specs.declared.parts.ReadOperand as code_operand
 use Rattle.c_expr_parser.specs.declared.types.BaseType.{BaseType}
 use Rattle.c_expr_parser.specs.declared.types.BaseType.TheVariants as words
 use Rattle.c_expr_parser.specs.declared.declarator.Bracket.{Bracket}
@@ -78,10 +80,15 @@ module _ (ws : Vocabulary) where
 
   -- the right operand of an operator of the level
   unfoldable pub right_operand : ℕ → Syntax PlainToken Expression
-  right_operand l = operand ws (expression ws) Casts then λ z. behind_operand ws (expression ws) l z.expression
+  right_operand l =
+      operand ws (expression ws) (expression_at ws Assignment) Casts then λ z. behind_operand ws (expression ws) (expression_at ws Assignment) l z.expression
 
   unfoldable pub more_joined : ℕ → Expression → Syntax PlainToken Expression
   more_joined l x = many (kind ws) (λ _. kinds_of (operators_at l)) (joined_once ws l (right_operand l)) x
 
   unfoldable pub more_arguments : List Expression → Syntax PlainToken (List Expression)
-  more_arguments es = many (kind ws) (λ _. mark_kind comma ∷ []) (next_argument ws) es
+  more_arguments es = many (kind ws) (λ _. mark_kind comma ∷ []) (next_argument ws (expression_at ws Assignment)) es
+
+  -- the parts of a comma after the left side
+  unfoldable pub more_parts : Expression → Syntax PlainToken Expression
+  more_parts x = many (kind ws) (λ _. mark_kind comma ∷ []) (next_part ws (expression_at ws Assignment)) x

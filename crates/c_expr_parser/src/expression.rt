@@ -1,119 +1,39 @@
 //! Expressions (C99 6.5).
 
-ghost use Rattle.std.specs.Prelude.{◌≡◌, ◌≤◌, ◌<◌, length, IfOk, IfErr};
+ghost use Rattle.std.specs.Prelude.{◌≡◌, ◌≤◌, ◌<◌, length, map, IfOk};
 ghost use Rattle.c_syntax.specs.Ctypes.{plain_type, plain_length};
-ghost use Rattle.c_syntax.specs.Expressions.{plain_expr, plain_kind};
-ghost use Rattle.grammar.specs.Syntax.{gives, one, sees};
-ghost use Rattle.c_model.specs.ExpressionGrammar.{kind, kinds_of, operators_at, read_as, read_name, read_operand, size_of_operand, connective_kind};
-ghost use Rattle.c_model.specs.Terminals.{placed, mark_entry};
-ghost use Rattle.c_model.specs.ExpressionGrammar.{written_length, bracket, brackets, type_name, indexed, dotted, arrowed, postfix_once, postfix_rest, literal};
-ghost use Rattle.c_model.specs.ExpressionGrammar.{cast_rest, sized_type, paren_rest, behind_paren, prefixed, sized, operand_but_name, operand_of};
-ghost use Rattle.c_model.specs.ExpressionGrammar.{operand, joined_once, behind_operand, choice_rest, expression_rest, expression_of, expression};
-ghost use Rattle.c_expr_parser.specs.Reading.{plain_operand, plain_brackets, more_brackets, right_operand, more_joined};
-ghost use Rattle.token_reader.specs.Reading.{Gives, TakesNoMemory, plain_list};
+ghost use Rattle.c_syntax.specs.Expressions.{plain_expr};
+ghost use Rattle.c_model.specs.declared.operands.Level.TheVariants.{Assignment, Conditional};
+ghost use Rattle.c_model.specs.ExpressionGrammar.{written_length, bracket, brackets, type_name, indexed, postfix_once, postfix_rest};
+ghost use Rattle.c_model.specs.ExpressionGrammar.{cast_rest, sized_type, paren_rest, behind_paren, prefixed, sized, bump_first, operand_but_name};
+ghost use Rattle.c_model.specs.ExpressionGrammar.{next_argument, arguments, call_rest, behind_variable, operand, joined_once, behind_operand, choice_rest};
+ghost use Rattle.c_model.specs.ExpressionGrammar.{conditional_rest, assigned, behind_unary, behind_form, next_part};
+ghost use Rattle.c_model.specs.ExpressionGrammar.{expression_at, expression, placed_expression};
+ghost use Rattle.c_expr_parser.specs.Reading.{plain_operand, plain_brackets, more_brackets, right_operand, more_joined, more_arguments, more_parts};
+ghost use Rattle.token_reader.specs.Reading.{Gives, plain_list};
 
 use crate::declarator::{Bracket, declared_type, pushed};
 use crate::kinds::{
-    ARROW, COLON, DOT, LEFT_BRACKET, LEFT_PAREN, LETTER, NAME, NUMBER, QUESTION, RIGHT_BRACKET,
-    RIGHT_PAREN, SIZEOF, TEXT,
+    ARROW, COLON, COMMA, DOT, LEFT_BRACKET, LEFT_PAREN, NAME, QUESTION, RIGHT_BRACKET, RIGHT_PAREN,
+    SIZEOF,
 };
-use crate::tables::{LEVELS, UNARY, operators_at};
+use crate::parts::{
+    ReadOperand, arrowed, bumped, dotted, joined, literal, make_call, next_is_operator, operator,
+    read_name, size_of_operand, with_expression, with_operand,
+};
+use crate::tables::{ASSIGNMENTS, LEVELS, PREFIX_BUMPS, UNARY};
 use crate::terminals::{
-    any_name, kept, letter, name, next_begins_type, next_is, next_is_marked, next_is_postfix,
-    number, skip,
+    kept, name, next_begins_expression, next_begins_type, next_is, next_is_marked, next_is_postfix,
+    skip,
 };
 use crate::types::{star_words, type_words};
-use c_model::operands::{Connective, Form, TypeUse};
+use c_model::operands::{Form, Level, TypeUse};
 use c_model::vocabulary::Word;
 use c_syntax::fault::ReadFault;
-use c_syntax::{CInt, CType, Expr, ExprKind, Length, Place, Token, Use};
+use c_syntax::{CType, Expr, ExprKind, Length, Place, Token};
 use smallvec::SmallVec;
-use std::alloc::{AllocError, Global};
+use std::alloc::Global;
 use token_reader::terminals::marked;
-
-/// An operand with its form and the place of its first token.
-#[derive(Drop)]
-pub struct ReadOperand {
-    pub expression: Expr,
-    pub form: Form,
-    pub first: Place,
-}
-
-/// An expression as it is read, whose type is set by typing.
-pub fn read_as(alloc: Global, place: Place, kind: ExprKind) -> Result<Expr, AllocError>
-    ensures { IfOk result (λ e. plain_expr e ≡ read_as place (plain_kind kind)) }
-{
-    Ok(Expr {
-        place,
-        kind: Box::new(alloc, kind)?,
-        ctype: CType::Int(CInt::I32),
-    })
-}
-
-/// The expression of this kind, after which these tokens are left.
-pub fn with_expression<'a>(
-    alloc: Global,
-    place: Place,
-    kind: ExprKind,
-    tokens: &'a [Token],
-) -> Result<(Expr, &'a [Token]), ReadFault>
-    ensures read { Gives (λ x. (plain_expr x.0, plain_list x.1.now)) result ((gives (read_as place (plain_kind kind))).parse (plain_list tokens.now)) }
-    ensures shorter { IfOk result (λ x. length x.1.now ≤ length tokens.now) }
-{
-    Ok((read_as(alloc, place, kind)?, tokens))
-}
-
-/// The operand of this kind and form, which begins at its place and after which these tokens are left.
-fn with_operand<'a>(
-    alloc: Global,
-    place: Place,
-    kind: ExprKind,
-    form: Form,
-    tokens: &'a [Token],
-) -> Result<(ReadOperand, &'a [Token]), ReadFault>
-    ensures read { Gives (λ x. (plain_operand x.0, plain_list x.1.now)) result ((gives (read_operand (read_as place (plain_kind kind)) form place)).parse
-        (plain_list tokens.now)) }
-    ensures shorter { IfOk result (λ x. length x.1.now ≤ length tokens.now) }
-{
-    let expression = read_as(alloc, place, kind)?;
-    let first = place;
-    let operand = ReadOperand {
-        expression,
-        form,
-        first,
-    };
-    Ok((operand, tokens))
-}
-
-/// A name that is used.
-pub fn read_name(alloc: Global, name: u32, place: Place) -> Result<Expr, AllocError>
-    ensures { IfOk result (λ x. plain_expr x ≡ read_name (name, place)) }
-{
-    let x = Use { name, decl: 0 };
-    read_as(alloc, place, ExprKind::Variable(x))
-}
-
-/// An integer, character or string literal.
-#[tactic(auto, unfolding(c_model::specs::ExpressionGrammar::literal))]
-fn literal<'a>(
-    alloc: Global,
-    words: &[Word],
-    tokens: &'a [Token],
-) -> Result<(Expr, &'a [Token]), ReadFault>
-    ensures read { Gives (λ x. (plain_expr x.0, plain_list x.1.now)) result ((literal words.now).parse (plain_list tokens.now)) }
-    ensures shorter { IfOk result (λ x. length x.1.now < length tokens.now) }
-{
-    if next_is(words, NUMBER, tokens) {
-        let (value, ctype, place, rest) = number(tokens)?;
-        with_expression(alloc, place, ExprKind::Number(value, ctype), rest)
-    } else if next_is(words, LETTER, tokens) {
-        let (value, place, rest) = letter(tokens)?;
-        with_expression(alloc, place, ExprKind::Letter(value), rest)
-    } else {
-        let (place, rest) = skip(words, TEXT, tokens)?;
-        with_expression(alloc, place, ExprKind::Text(place.offset), rest)
-    }
-}
 
 /// An expression as the length of an array.
 #[tactic(auto, unfolding(c_model::specs::ExpressionGrammar::written_length))]
@@ -131,7 +51,7 @@ pub fn written_length<'a>(
     Ok((Length::Written(Box::new(alloc, e)?), rest))
 }
 
-/// `"[" expr "]"`
+/// `"[" comma "]"`
 #[tactic(auto, unfolding(c_model::specs::ExpressionGrammar::bracket))]
 #[cycle(expression)]
 fn written_bracket<'a>(
@@ -149,7 +69,7 @@ fn written_bracket<'a>(
     Ok((Bracket { length }, rest))
 }
 
-/// `{ "[" expr "]" }`
+/// `{ "[" comma "]" }`
 #[tactic(auto, using(crate::proofs::BracketTurns::written_rules))]
 #[cycle(expression)]
 fn written_brackets<'a>(
@@ -189,7 +109,7 @@ pub fn type_name<'a>(
     Ok((declared_type(alloc, base, stars, brackets)?, rest))
 }
 
-/// `"[" expr "]"`, after a postfix expression.
+/// `"[" comma "]"`, after a postfix expression.
 #[tactic(auto, unfolding(c_model::specs::ExpressionGrammar::indexed))]
 #[cycle(expression)]
 fn indexed<'a>(
@@ -206,38 +126,6 @@ fn indexed<'a>(
     let (x, (index, rest)) = kept(x, expression(alloc, words, rest))?;
     let ((x, index), (_, rest)) = kept((x, index), skip(words, RIGHT_BRACKET, rest))?;
     with_expression(alloc, place, ExprKind::Index(x, index), rest)
-}
-
-/// `"." ANYNAME`, after a postfix expression.
-#[tactic(auto, unfolding(c_model::specs::ExpressionGrammar::dotted))]
-fn dotted<'a>(
-    alloc: Global,
-    words: &[Word],
-    x: Expr,
-    tokens: &'a [Token],
-) -> Result<(Expr, &'a [Token]), ReadFault>
-    ensures read { Gives (λ x. (plain_expr x.0, plain_list x.1.now)) result ((dotted words.now (plain_expr x)).parse (plain_list tokens.now)) }
-    ensures shorter { IfOk result (λ x. length x.1.now < length tokens.now) }
-{
-    let (x, (place, rest)) = kept(x, skip(words, DOT, tokens))?;
-    let (x, (member, _, rest)) = kept(x, any_name(words, rest))?;
-    with_expression(alloc, place, ExprKind::Dot(x, member), rest)
-}
-
-/// `"->" ANYNAME`, after a postfix expression.
-#[tactic(auto, unfolding(c_model::specs::ExpressionGrammar::arrowed))]
-fn arrowed<'a>(
-    alloc: Global,
-    words: &[Word],
-    x: Expr,
-    tokens: &'a [Token],
-) -> Result<(Expr, &'a [Token]), ReadFault>
-    ensures read { Gives (λ x. (plain_expr x.0, plain_list x.1.now)) result ((arrowed words.now (plain_expr x)).parse (plain_list tokens.now)) }
-    ensures shorter { IfOk result (λ x. length x.1.now < length tokens.now) }
-{
-    let (x, (place, rest)) = kept(x, skip(words, ARROW, tokens))?;
-    let (x, (member, _, rest)) = kept(x, any_name(words, rest))?;
-    with_expression(alloc, place, ExprKind::Arrow(x, member), rest)
 }
 
 /// One postfix operator, after its operand.
@@ -257,12 +145,14 @@ fn postfix_once<'a>(
         indexed(alloc, words, x, tokens)
     } else if next_is(words, DOT, tokens) {
         dotted(alloc, words, x, tokens)
-    } else {
+    } else if next_is(words, ARROW, tokens) {
         arrowed(alloc, words, x, tokens)
+    } else {
+        bumped(alloc, words, x, tokens)
     }
 }
 
-/// The rest of a postfix expression, after its primary one and with the place of its first token.
+/// The rest of a postfix expression, after its primary one or a call, with the place of its first token.
 #[tactic(auto, using(crate::proofs::PostfixTurns::postfix_rules))]
 #[cycle(expression)]
 pub fn postfix_rest<'a>(
@@ -319,7 +209,8 @@ fn cast_rest<'a>(
     tokens: &'a [Token],
 ) -> Result<(ReadOperand, &'a [Token]), ReadFault>
     ensures read { Gives (λ x. (plain_operand x.0, plain_list x.1.now)) result
-        ((cast_rest words.now (expression words.now) (operand words.now (expression words.now)) place).parse (plain_list tokens.now)) }
+        ((cast_rest words.now (expression words.now) (operand words.now (expression words.now) (expression_at words.now Assignment)) place).parse
+        (plain_list tokens.now)) }
     ensures shorter { IfOk result (λ x. length x.1.now < length tokens.now) }
 {
     let (t, rest) = type_name(alloc, words, tokens)?;
@@ -334,7 +225,7 @@ fn cast_rest<'a>(
     )
 }
 
-/// `expr ")"` and the rest of a postfix expression, after `(`.
+/// `comma ")"` and the rest of a postfix expression, after `(`.
 #[tactic(auto, unfolding(c_model::specs::ExpressionGrammar::paren_rest))]
 #[cycle(expression)]
 fn paren_rest<'a>(
@@ -363,7 +254,8 @@ fn behind_paren<'a>(
     tokens: &'a [Token],
 ) -> Result<(ReadOperand, &'a [Token]), ReadFault>
     ensures read { Gives (λ x. (plain_operand x.0, plain_list x.1.now)) result
-        ((behind_paren words.now (expression words.now) (operand words.now (expression words.now)) type_use place).parse (plain_list tokens.now)) }
+        ((behind_paren words.now (expression words.now) (operand words.now (expression words.now) (expression_at words.now Assignment)) type_use place).parse
+        (plain_list tokens.now)) }
     ensures shorter { IfOk result (λ x. length x.1.now < length tokens.now) }
 {
     match type_use {
@@ -393,8 +285,8 @@ fn prefixed<'a>(
     words: &[Word],
     tokens: &'a [Token],
 ) -> Result<(ReadOperand, &'a [Token]), ReadFault>
-    ensures read { Gives (λ x. (plain_operand x.0, plain_list x.1.now)) result ((prefixed words.now (operand words.now (expression words.now))).parse
-        (plain_list tokens.now)) }
+    ensures read { Gives (λ x. (plain_operand x.0, plain_list x.1.now)) result
+        ((prefixed words.now (operand words.now (expression words.now) (expression_at words.now Assignment))).parse (plain_list tokens.now)) }
     ensures shorter { IfOk result (λ x. length x.1.now < length tokens.now) }
 {
     let (op, place, rest) = marked(UNARY, tokens)?;
@@ -408,22 +300,6 @@ fn prefixed<'a>(
     )
 }
 
-/// `sizeof` of the operand.
-fn size_of_operand(alloc: Global, place: Place, x: ReadOperand) -> Result<Expr, AllocError>
-    ensures { IfOk result (λ e. plain_expr e ≡ read_as place (size_of_operand (plain_operand x))) }
-{
-    match x.form {
-        Form::TypeName => Ok(Expr {
-            place,
-            kind: x.expression.kind,
-            ctype: CType::Int(CInt::I32),
-        }),
-        Form::Postfix | Form::Unary | Form::Cast => {
-            read_as(alloc, place, ExprKind::SizeOfExpr(x.expression))
-        }
-    }
-}
-
 /// `sizeof` and its operand (C99 6.5.3.4).
 #[tactic(auto, unfolding(c_model::specs::ExpressionGrammar::sized))]
 #[cycle(expression)]
@@ -432,8 +308,8 @@ fn sized<'a>(
     words: &[Word],
     tokens: &'a [Token],
 ) -> Result<(ReadOperand, &'a [Token]), ReadFault>
-    ensures read { Gives (λ x. (plain_operand x.0, plain_list x.1.now)) result ((sized words.now (operand words.now (expression words.now))).parse
-        (plain_list tokens.now)) }
+    ensures read { Gives (λ x. (plain_operand x.0, plain_list x.1.now)) result
+        ((sized words.now (operand words.now (expression words.now) (expression_at words.now Assignment))).parse (plain_list tokens.now)) }
     ensures shorter { IfOk result (λ x. length x.1.now < length tokens.now) }
 {
     let (place, rest) = skip(words, SIZEOF, tokens)?;
@@ -446,17 +322,41 @@ fn sized<'a>(
     Ok((sized, rest))
 }
 
+/// `++` or `--` and its operand.
+#[tactic(auto, unfolding(c_model::specs::ExpressionGrammar::bump_first))]
+#[cycle(expression)]
+fn bump_first<'a>(
+    alloc: Global,
+    words: &[Word],
+    tokens: &'a [Token],
+) -> Result<(ReadOperand, &'a [Token]), ReadFault>
+    ensures read { Gives (λ x. (plain_operand x.0, plain_list x.1.now)) result
+        ((bump_first words.now (operand words.now (expression words.now) (expression_at words.now Assignment))).parse (plain_list tokens.now)) }
+    ensures shorter { IfOk result (λ x. length x.1.now < length tokens.now) }
+{
+    let (op, place, rest) = marked(PREFIX_BUMPS, tokens)?;
+    let (x, rest) = operand(alloc, words, TypeUse::Nothing, rest)?;
+    with_operand(
+        alloc,
+        place,
+        ExprKind::Bump(op, x.expression),
+        Form::Unary,
+        rest,
+    )
+}
+
 /// An operand that begins with no name.
 #[tactic(auto, unfolding(c_model::specs::ExpressionGrammar::operand_but_name, c_model::specs::ExpressionGrammar::literal_first))]
 #[cycle(expression)]
-pub fn operand_but_name<'a>(
+fn operand_but_name<'a>(
     alloc: Global,
     words: &[Word],
     type_use: TypeUse,
     tokens: &'a [Token],
 ) -> Result<(ReadOperand, &'a [Token]), ReadFault>
     ensures read { Gives (λ x. (plain_operand x.0, plain_list x.1.now)) result
-        ((operand_but_name words.now (expression words.now) (operand words.now (expression words.now)) type_use).parse (plain_list tokens.now)) }
+        ((operand_but_name words.now (expression words.now) (operand words.now (expression words.now) (expression_at words.now Assignment)) type_use).parse
+        (plain_list tokens.now)) }
     ensures shorter { IfOk result (λ x. length x.1.now < length tokens.now) }
 {
     if next_is(words, LEFT_PAREN, tokens) {
@@ -464,6 +364,8 @@ pub fn operand_but_name<'a>(
         behind_paren(alloc, words, type_use, place, rest)
     } else if next_is_marked(words, UNARY, tokens) {
         prefixed(alloc, words, tokens)
+    } else if next_is_marked(words, PREFIX_BUMPS, tokens) {
+        bump_first(alloc, words, tokens)
     } else if next_is(words, SIZEOF, tokens) {
         sized(alloc, words, tokens)
     } else {
@@ -473,23 +375,129 @@ pub fn operand_but_name<'a>(
     }
 }
 
+/// `"," assign`, after the arguments that are read.
+#[tactic(auto, unfolding(c_model::specs::ExpressionGrammar::next_argument))]
+#[cycle(expression)]
+fn next_argument<'a>(
+    alloc: Global,
+    words: &[Word],
+    all: Vec<Expr>,
+    tokens: &'a [Token],
+) -> Result<(Vec<Expr>, &'a [Token]), ReadFault>
+    ensures read { Gives (λ x. (map plain_expr x.0.items, plain_list x.1.now)) result
+        ((next_argument words.now (expression_at words.now Assignment) (map plain_expr all.items)).parse (plain_list tokens.now)) }
+    ensures shorter { IfOk result (λ x. length x.1.now < length tokens.now) }
+{
+    let (all, (_, rest)) = kept(all, skip(words, COMMA, tokens))?;
+    let (all, (e, rest)) = kept(all, expression_at(alloc, words, Level::Assignment, rest))?;
+    let mut all = all;
+    all.push(e)?;
+    Ok((all, rest))
+}
+
+/// The arguments after those that are read.
+#[tactic(auto, using(crate::proofs::Steps::arguments_rules))]
+#[cycle(expression)]
+fn more_arguments<'a>(
+    alloc: Global,
+    words: &[Word],
+    all: Vec<Expr>,
+    tokens: &'a [Token],
+) -> Result<(Vec<Expr>, &'a [Token]), ReadFault>
+    ensures read { Gives (λ x. (map plain_expr x.0.items, plain_list x.1.now)) result
+        ((more_arguments words.now (map plain_expr all.items)).parse (plain_list tokens.now)) }
+    ensures shorter { IfOk result (λ x. length x.1.now ≤ length tokens.now) }
+{
+    let mut all = all;
+    let mut rest = tokens;
+    'turn: while next_is(words, COMMA, rest) {
+        let (more, after) = next_argument(alloc, words, all, rest)?;
+        all = more;
+        rest = after;
+    }
+    Ok((all, rest))
+}
+
+/// The arguments of a call.
+#[tactic(auto, unfolding(c_model::specs::ExpressionGrammar::arguments, crate::specs::Reading::more_arguments))]
+#[cycle(expression)]
+fn arguments<'a>(
+    alloc: Global,
+    words: &[Word],
+    tokens: &'a [Token],
+) -> Result<(Vec<Expr>, &'a [Token]), ReadFault>
+    ensures read { Gives (λ x. (map plain_expr x.0.items, plain_list x.1.now)) result
+        ((arguments words.now (expression_at words.now Assignment)).parse (plain_list tokens.now)) }
+    ensures shorter { IfOk result (λ x. length x.1.now ≤ length tokens.now) }
+{
+    if next_begins_expression(words, tokens) {
+        let (first, rest) = expression_at(alloc, words, Level::Assignment, tokens)?;
+        let mut all = Vec::new(alloc);
+        all.push(first)?;
+        more_arguments(alloc, words, all, rest)
+    } else {
+        Ok((Vec::new(alloc), tokens))
+    }
+}
+
+/// `"(" .. ")"`, after a name.
+#[tactic(auto, unfolding(c_model::specs::ExpressionGrammar::call_rest, c_model::specs::ExpressionGrammar::closed))]
+#[cycle(expression)]
+fn call_rest<'a>(
+    alloc: Global,
+    words: &[Word],
+    f: u32,
+    tokens: &'a [Token],
+) -> Result<(Expr, &'a [Token]), ReadFault>
+    ensures read { Gives (λ x. (plain_expr x.0, plain_list x.1.now)) result
+        ((call_rest words.now (expression_at words.now Assignment) f).parse (plain_list tokens.now)) }
+    ensures shorter { IfOk result (λ x. length x.1.now < length tokens.now) }
+{
+    let (place, rest) = skip(words, LEFT_PAREN, tokens)?;
+    let (arguments, rest) = arguments(alloc, words, rest)?;
+    let (arguments, (_, rest)) = kept(arguments, skip(words, RIGHT_PAREN, rest))?;
+    Ok((make_call(alloc, place, f, arguments)?, rest))
+}
+
+/// A postfix expression that begins with a name.
+#[tactic(auto, unfolding(c_model::specs::ExpressionGrammar::behind_variable))]
+#[cycle(expression)]
+fn behind_variable<'a>(
+    alloc: Global,
+    words: &[Word],
+    number: u32,
+    place: Place,
+    tokens: &'a [Token],
+) -> Result<(ReadOperand, &'a [Token]), ReadFault>
+    ensures read { Gives (λ x. (plain_operand x.0, plain_list x.1.now)) result
+        ((behind_variable words.now (expression words.now) (expression_at words.now Assignment) (number, place)).parse (plain_list tokens.now)) }
+    ensures shorter { IfOk result (λ x. length x.1.now ≤ length tokens.now) }
+{
+    if next_is(words, LEFT_PAREN, tokens) {
+        let (call, rest) = call_rest(alloc, words, number, tokens)?;
+        postfix_rest(alloc, words, place, call, rest)
+    } else {
+        let x = read_name(alloc, number, place)?;
+        postfix_rest(alloc, words, place, x, tokens)
+    }
+}
+
 /// A unary expression, or what a type in parentheses begins.
 #[tactic(auto, using(crate::proofs::ExactExpressions::operand_is), unfolding(c_model::specs::ExpressionGrammar::operand_of))]
 #[cycle(expression)]
-pub fn operand<'a>(
+fn operand<'a>(
     alloc: Global,
     words: &[Word],
     type_use: TypeUse,
     tokens: &'a [Token],
 ) -> Result<(ReadOperand, &'a [Token]), ReadFault>
     ensures read { Gives (λ x. (plain_operand x.0, plain_list x.1.now)) result
-        ((operand words.now (expression words.now) type_use).parse (plain_list tokens.now)) }
+        ((operand words.now (expression words.now) (expression_at words.now Assignment) type_use).parse (plain_list tokens.now)) }
     ensures shorter { IfOk result (λ x. length x.1.now < length tokens.now) }
 {
     if next_is(words, NAME, tokens) {
         let (number, place, rest) = name(words, tokens)?;
-        let x = read_name(alloc, number, place)?;
-        postfix_rest(alloc, words, place, x, rest)
+        behind_variable(alloc, words, number, place, rest)
     } else {
         operand_but_name(alloc, words, type_use, tokens)
     }
@@ -510,31 +518,6 @@ fn right_operand<'a>(
 {
     let (x, rest) = operand(alloc, words, TypeUse::Casts, tokens)?;
     behind_operand(alloc, words, level, x.expression, rest)
-}
-
-/// A binary operator of the level.
-fn operator(level: u32, tokens: &[Token]) -> Result<(Connective, Place, &[Token]), ReadFault>
-    ensures read { Gives (λ x. ((x.0, x.1), plain_list x.2.now)) result ((one (placed (mark_entry (operators_at level)))).parse (plain_list tokens.now)) }
-    ensures shorter { IfOk result (λ x. length x.2.now < length tokens.now) }
-    ensures sure { IfErr result TakesNoMemory }
-{
-    marked(operators_at(level), tokens)
-}
-
-fn next_is_operator(words: &[Word], level: u32, tokens: &[Token]) -> bool
-    ensures { result ≡ sees (kind words.now) (kinds_of (operators_at level)) (plain_list tokens.now) }
-{
-    next_is_marked(words, operators_at(level), tokens)
-}
-
-fn joined(connective: Connective, left: Expr, right: Expr) -> ExprKind
-    ensures { plain_kind result ≡ connective_kind connective (plain_expr left) (plain_expr right) }
-{
-    match connective {
-        Connective::Operator(op) => ExprKind::Binary(op, left, right),
-        Connective::And => ExprKind::Both(left, right),
-        Connective::Or => ExprKind::Either(left, right),
-    }
 }
 
 /// An operator of the level with its right operand.
@@ -592,8 +575,9 @@ fn behind_operand<'a>(
     tokens: &'a [Token],
 ) -> Result<(Expr, &'a [Token]), ReadFault>
     requires { level ≤ 10 }
-    ensures read { Gives (λ x. (plain_expr x.0, plain_list x.1.now)) result ((behind_operand words.now (expression words.now) level (plain_expr left)).parse
-        (plain_list tokens.now)) }
+    ensures read { Gives (λ x. (plain_expr x.0, plain_list x.1.now)) result
+        ((behind_operand words.now (expression words.now) (expression_at words.now Assignment) level
+        (plain_expr left)).parse (plain_list tokens.now)) }
     ensures shorter { IfOk result (λ x. length x.1.now ≤ length tokens.now) }
 {
     if level == 0 {
@@ -603,7 +587,7 @@ fn behind_operand<'a>(
     more_joined(alloc, words, level - 1, left, rest)
 }
 
-/// `"?" expr ":" expr`, after the condition.
+/// `"?" comma ":" cond`, after the condition.
 #[tactic(auto, unfolding(c_model::specs::ExpressionGrammar::choice_rest))]
 #[cycle(expression)]
 fn choice_rest<'a>(
@@ -612,14 +596,17 @@ fn choice_rest<'a>(
     condition: Expr,
     tokens: &'a [Token],
 ) -> Result<(Expr, &'a [Token]), ReadFault>
-    ensures read { Gives (λ x. (plain_expr x.0, plain_list x.1.now)) result ((choice_rest words.now (expression words.now) (plain_expr condition)).parse
-        (plain_list tokens.now)) }
+    ensures read { Gives (λ x. (plain_expr x.0, plain_list x.1.now)) result
+        ((choice_rest words.now (expression words.now) (expression_at words.now Conditional) (plain_expr condition)).parse (plain_list tokens.now)) }
     ensures shorter { IfOk result (λ x. length x.1.now < length tokens.now) }
 {
     let (condition, (place, rest)) = kept(condition, skip(words, QUESTION, tokens))?;
     let (condition, (first, rest)) = kept(condition, expression(alloc, words, rest))?;
     let (operands, (_, rest)) = kept((condition, first), skip(words, COLON, rest))?;
-    let ((condition, first), (second, rest)) = kept(operands, expression(alloc, words, rest))?;
+    let ((condition, first), (second, rest)) = kept(
+        operands,
+        expression_at(alloc, words, Level::Conditional, rest),
+    )?;
     with_expression(
         alloc,
         place,
@@ -628,16 +615,17 @@ fn choice_rest<'a>(
     )
 }
 
-/// The rest of an expression, after its first operand.
-#[tactic(auto, unfolding(c_model::specs::ExpressionGrammar::expression_rest))]
+/// The rest of a conditional expression, after its first operand.
+#[tactic(auto, unfolding(c_model::specs::ExpressionGrammar::conditional_rest))]
 #[cycle(expression)]
-pub fn expression_rest<'a>(
+fn conditional_rest<'a>(
     alloc: Global,
     words: &[Word],
     left: Expr,
     tokens: &'a [Token],
 ) -> Result<(Expr, &'a [Token]), ReadFault>
-    ensures read { Gives (λ x. (plain_expr x.0, plain_list x.1.now)) result ((expression_rest words.now (expression words.now) (plain_expr left)).parse
+    ensures read { Gives (λ x. (plain_expr x.0, plain_list x.1.now)) result
+        ((conditional_rest words.now (expression words.now) (expression_at words.now Assignment) (expression_at words.now Conditional) (plain_expr left)).parse
         (plain_list tokens.now)) }
     ensures shorter { IfOk result (λ x. length x.1.now ≤ length tokens.now) }
 {
@@ -649,8 +637,132 @@ pub fn expression_rest<'a>(
     }
 }
 
+/// An assignment operator and its right side.
+#[tactic(auto, unfolding(c_model::specs::ExpressionGrammar::assigned))]
+#[cycle(expression)]
+fn assigned<'a>(
+    alloc: Global,
+    words: &[Word],
+    left: Expr,
+    tokens: &'a [Token],
+) -> Result<(Expr, &'a [Token]), ReadFault>
+    ensures read { Gives (λ x. (plain_expr x.0, plain_list x.1.now)) result
+        ((assigned words.now (expression_at words.now Assignment) (plain_expr left)).parse (plain_list tokens.now)) }
+    ensures shorter { IfOk result (λ x. length x.1.now < length tokens.now) }
+{
+    let (left, (op, place, rest)) = kept(left, marked(ASSIGNMENTS, tokens))?;
+    let (left, (right, rest)) = kept(left, expression_at(alloc, words, Level::Assignment, rest))?;
+    with_expression(alloc, place, ExprKind::Assign(op, left, right), rest)
+}
+
+/// What stands after a unary expression.
+#[tactic(auto, unfolding(c_model::specs::ExpressionGrammar::behind_unary))]
+#[cycle(expression)]
+fn behind_unary<'a>(
+    alloc: Global,
+    words: &[Word],
+    x: Expr,
+    tokens: &'a [Token],
+) -> Result<(Expr, &'a [Token]), ReadFault>
+    ensures read { Gives (λ x. (plain_expr x.0, plain_list x.1.now)) result
+        ((behind_unary words.now (expression words.now) (expression_at words.now Assignment) (expression_at words.now Conditional) (plain_expr x)).parse
+        (plain_list tokens.now)) }
+    ensures shorter { IfOk result (λ x. length x.1.now ≤ length tokens.now) }
+{
+    if next_is_marked(words, ASSIGNMENTS, tokens) {
+        assigned(alloc, words, x, tokens)
+    } else {
+        conditional_rest(alloc, words, x, tokens)
+    }
+}
+
+/// What stands after an operand of the form: after a cast no assignment.
+#[tactic(auto, unfolding(c_model::specs::ExpressionGrammar::behind_form))]
+#[cycle(expression)]
+fn behind_form<'a>(
+    alloc: Global,
+    words: &[Word],
+    form: Form,
+    x: Expr,
+    tokens: &'a [Token],
+) -> Result<(Expr, &'a [Token]), ReadFault>
+    ensures read { Gives (λ x. (plain_expr x.0, plain_list x.1.now)) result
+        ((behind_form words.now (expression words.now) (expression_at words.now Assignment) (expression_at words.now Conditional) form (plain_expr x)).parse
+        (plain_list tokens.now)) }
+    ensures shorter { IfOk result (λ x. length x.1.now ≤ length tokens.now) }
+{
+    match form {
+        Form::Postfix | Form::Unary => behind_unary(alloc, words, x, tokens),
+        Form::Cast | Form::TypeName => conditional_rest(alloc, words, x, tokens),
+    }
+}
+
+/// An expression without commas, of any length.
+#[tactic(auto, using(crate::proofs::ExactExpressions::level_is), unfolding(c_model::specs::ExpressionGrammar::at_level))]
+#[cycle(expression)]
+pub fn expression_at<'a>(
+    alloc: Global,
+    words: &[Word],
+    level: Level,
+    tokens: &'a [Token],
+) -> Result<(Expr, &'a [Token]), ReadFault>
+    ensures read { Gives (λ x. (plain_expr x.0, plain_list x.1.now)) result ((expression_at words.now level).parse (plain_list tokens.now)) }
+    ensures shorter { IfOk result (λ x. length x.1.now < length tokens.now) }
+{
+    match level {
+        Level::Assignment => {
+            let (x, rest) = operand(alloc, words, TypeUse::Casts, tokens)?;
+            behind_form(alloc, words, x.form, x.expression, rest)
+        }
+        Level::Conditional => {
+            let (x, rest) = operand(alloc, words, TypeUse::Casts, tokens)?;
+            conditional_rest(alloc, words, x.expression, rest)
+        }
+    }
+}
+
+/// `"," assign`, after the left side.
+#[tactic(auto, unfolding(c_model::specs::ExpressionGrammar::next_part))]
+#[cycle(expression)]
+fn next_part<'a>(
+    alloc: Global,
+    words: &[Word],
+    left: Expr,
+    tokens: &'a [Token],
+) -> Result<(Expr, &'a [Token]), ReadFault>
+    ensures read { Gives (λ x. (plain_expr x.0, plain_list x.1.now)) result
+        ((next_part words.now (expression_at words.now Assignment) (plain_expr left)).parse (plain_list tokens.now)) }
+    ensures shorter { IfOk result (λ x. length x.1.now < length tokens.now) }
+{
+    let (left, (place, rest)) = kept(left, skip(words, COMMA, tokens))?;
+    let (left, (right, rest)) = kept(left, expression_at(alloc, words, Level::Assignment, rest))?;
+    with_expression(alloc, place, ExprKind::Comma(left, right), rest)
+}
+
+/// The parts of a comma after the left side.
+#[tactic(auto, using(crate::proofs::Steps::parts_rules))]
+#[cycle(expression)]
+fn more_parts<'a>(
+    alloc: Global,
+    words: &[Word],
+    left: Expr,
+    tokens: &'a [Token],
+) -> Result<(Expr, &'a [Token]), ReadFault>
+    ensures read { Gives (λ x. (plain_expr x.0, plain_list x.1.now)) result ((more_parts words.now (plain_expr left)).parse (plain_list tokens.now)) }
+    ensures shorter { IfOk result (λ x. length x.1.now ≤ length tokens.now) }
+{
+    let mut left = left;
+    let mut rest = tokens;
+    'turn: while next_is(words, COMMA, rest) {
+        let (more, after) = next_part(alloc, words, left, rest)?;
+        left = more;
+        rest = after;
+    }
+    Ok((left, rest))
+}
+
 /// An expression of any length.
-#[tactic(auto, using(crate::proofs::ExactExpressions::expression_is), unfolding(c_model::specs::ExpressionGrammar::expression_of))]
+#[tactic(auto, using(crate::proofs::Steps::comma_rules))]
 #[cycle(expression)]
 pub fn expression<'a>(
     alloc: Global,
@@ -660,6 +772,23 @@ pub fn expression<'a>(
     ensures read { Gives (λ x. (plain_expr x.0, plain_list x.1.now)) result ((expression words.now).parse (plain_list tokens.now)) }
     ensures shorter { IfOk result (λ x. length x.1.now < length tokens.now) }
 {
+    let (left, rest) = expression_at(alloc, words, Level::Assignment, tokens)?;
+    more_parts(alloc, words, left, rest)
+}
+
+/// An expression of any length, with the place of its first token.
+#[tactic(auto, unfolding(c_model::specs::ExpressionGrammar::placed_expression, crate::specs::Reading::more_parts))]
+pub fn placed_expression<'a>(
+    alloc: Global,
+    words: &[Word],
+    tokens: &'a [Token],
+) -> Result<(Expr, Place, &'a [Token]), ReadFault>
+    ensures read { Gives (λ x. ((plain_expr x.0, x.1), plain_list x.2.now)) result ((placed_expression words.now).parse (plain_list tokens.now)) }
+    ensures shorter { IfOk result (λ x. length x.2.now < length tokens.now) }
+{
     let (x, rest) = operand(alloc, words, TypeUse::Casts, tokens)?;
-    expression_rest(alloc, words, x.expression, rest)
+    let first = x.first;
+    let (left, rest) = behind_form(alloc, words, x.form, x.expression, rest)?;
+    let (e, rest) = more_parts(alloc, words, left, rest)?;
+    Ok((e, first, rest))
 }

@@ -1,16 +1,15 @@
-//! Expressions and effects that stand in no other, within the limit of their tokens.
+//! Expressions that stand in no other, within the limit of their tokens.
 
 ghost use Rattle.std.specs.Prelude.{◌≡◌, ◌≤◌, ◌<◌, ◌+◌, ◌-◌, length, take, drop, IfOk};
 ghost use Rattle.c_syntax.specs.Expressions.{plain_expr};
-ghost use Rattle.c_model.specs.ExpressionGrammar.{most_in_expression, full_expression, full_expression_or_call, full_effect, full_effect_or_call};
+ghost use Rattle.c_model.specs.ExpressionGrammar.{most_in_expression, full_expression, full_placed_expression, full_expression_at};
 ghost use Rattle.c_syntax.specs.declared.fault.ReadFault.TheVariants.{Over};
 ghost use Rattle.c_syntax.specs.declared.fault.Limit.TheVariants.{Expression};
 ghost use Rattle.c_expr_parser.specs.Reading.{LeftWithin, Resumed};
 ghost use Rattle.token_reader.specs.Reading.{Gives, plain_list};
 
-use crate::call::expression_or_call;
-use crate::effect::{effect, effect_or_call};
-use crate::expression::expression;
+use crate::expression::{expression, expression_at, placed_expression};
+use c_model::operands::Level;
 use c_model::vocabulary::Word;
 use c_syntax::fault::{Limit, ReadFault};
 use c_syntax::{Expr, Place, Token};
@@ -83,67 +82,46 @@ pub fn full_expression<'a>(
     }
 }
 
-/// An expression or a call.
-#[tactic(auto, using(crate::proofs::Windows::full_expression_or_call_rules))]
-pub fn full_expression_or_call<'a>(
+/// An expression with the place of its first token, as a statement begins with it.
+#[tactic(auto, using(crate::proofs::Windows::full_placed_expression_rules))]
+pub fn full_placed_expression<'a>(
     alloc: Global,
     words: &[Word],
     tokens: &'a [Token],
+) -> Result<(Expr, Place, &'a [Token]), ReadFault>
+    ensures read { Gives (λ x. ((plain_expr x.0, x.1), plain_list x.2.now)) result ((full_placed_expression words.now).parse (plain_list tokens.now)) }
+    ensures shorter { IfOk result (λ x. length x.2.now ≤ length tokens.now) }
+{
+    if tokens.len() <= MOST {
+        return placed_expression(alloc, words, tokens);
+    }
+    match placed_expression(alloc, words, window(tokens)) {
+        Ok((e, first, rest)) => match rest.len() {
+            0 => Err(passed(tokens.len())),
+            left => Ok((e, first, behind(tokens, left))),
+        },
+        Err(fault) => Err(resumed(fault, tokens.len())),
+    }
+}
+
+/// An expression without commas.
+#[tactic(auto, using(crate::proofs::Windows::full_level_rules))]
+pub fn full_expression_at<'a>(
+    alloc: Global,
+    words: &[Word],
+    level: Level,
+    tokens: &'a [Token],
 ) -> Result<(Expr, &'a [Token]), ReadFault>
-    ensures read { Gives (λ x. (plain_expr x.0, plain_list x.1.now)) result ((full_expression_or_call words.now).parse (plain_list tokens.now)) }
+    ensures read { Gives (λ x. (plain_expr x.0, plain_list x.1.now)) result ((full_expression_at words.now level).parse (plain_list tokens.now)) }
     ensures shorter { IfOk result (λ x. length x.1.now ≤ length tokens.now) }
 {
     if tokens.len() <= MOST {
-        return expression_or_call(alloc, words, tokens);
+        return expression_at(alloc, words, level, tokens);
     }
-    match expression_or_call(alloc, words, window(tokens)) {
+    match expression_at(alloc, words, level, window(tokens)) {
         Ok((e, rest)) => match rest.len() {
             0 => Err(passed(tokens.len())),
             left => Ok((e, behind(tokens, left))),
-        },
-        Err(fault) => Err(resumed(fault, tokens.len())),
-    }
-}
-
-/// An expression, an assignment or an increment.
-#[tactic(auto, using(crate::proofs::Windows::full_effect_rules))]
-pub fn full_effect<'a>(
-    alloc: Global,
-    words: &[Word],
-    tokens: &'a [Token],
-) -> Result<(Expr, Place, &'a [Token]), ReadFault>
-    ensures read { Gives (λ x. ((plain_expr x.0, x.1), plain_list x.2.now)) result ((full_effect words.now).parse (plain_list tokens.now)) }
-    ensures shorter { IfOk result (λ x. length x.2.now ≤ length tokens.now) }
-{
-    if tokens.len() <= MOST {
-        return effect(alloc, words, tokens);
-    }
-    match effect(alloc, words, window(tokens)) {
-        Ok((e, first, rest)) => match rest.len() {
-            0 => Err(passed(tokens.len())),
-            left => Ok((e, first, behind(tokens, left))),
-        },
-        Err(fault) => Err(resumed(fault, tokens.len())),
-    }
-}
-
-/// An effect or a call.
-#[tactic(auto, using(crate::proofs::Windows::full_effect_or_call_rules))]
-pub fn full_effect_or_call<'a>(
-    alloc: Global,
-    words: &[Word],
-    tokens: &'a [Token],
-) -> Result<(Expr, Place, &'a [Token]), ReadFault>
-    ensures read { Gives (λ x. ((plain_expr x.0, x.1), plain_list x.2.now)) result ((full_effect_or_call words.now).parse (plain_list tokens.now)) }
-    ensures shorter { IfOk result (λ x. length x.2.now ≤ length tokens.now) }
-{
-    if tokens.len() <= MOST {
-        return effect_or_call(alloc, words, tokens);
-    }
-    match effect_or_call(alloc, words, window(tokens)) {
-        Ok((e, first, rest)) => match rest.len() {
-            0 => Err(passed(tokens.len())),
-            left => Ok((e, first, behind(tokens, left))),
         },
         Err(fault) => Err(resumed(fault, tokens.len())),
     }

@@ -69,7 +69,13 @@ pub const ENUM: u32 = 29;
 
 pub const TYPEDEF: u32 = 30;
 
-pub const KEPT: u32 = 31;
+pub const SWITCH: u32 = 31;
+
+pub const CASE: u32 = 32;
+
+pub const DEFAULT: u32 = 33;
+
+pub const KEPT: u32 = 34;
 
 /// The kind of the first punctuator in the list of all; the others follow.
 pub const FIRST_MARK: u32 = 40;
@@ -151,6 +157,9 @@ pub fn keyword_kind(keyword: Keyword) -> u32
         Keyword::Struct => STRUCT,
         Keyword::Enum => ENUM,
         Keyword::Typedef => TYPEDEF,
+        Keyword::Switch => SWITCH,
+        Keyword::Case => CASE,
+        Keyword::Default => DEFAULT,
         Keyword::Kept => KEPT,
     }
 }

@@ -16,7 +16,7 @@ use c_syntax::{Length, Token};
 use smallvec::SmallVec;
 use std::alloc::Global;
 
-/// `[ expr ]`
+/// `[ comma ]`
 #[tactic(auto, unfolding(c_model::specs::ExpressionGrammar::length_or_none))]
 fn length_or_none<'a>(
     alloc: Global,
@@ -34,7 +34,7 @@ fn length_or_none<'a>(
     }
 }
 
-/// `"[" [ expr ] "]"`
+/// `"[" [ comma ] "]"`
 #[tactic(auto, unfolding(c_model::specs::ExpressionGrammar::bracket))]
 fn bracket<'a>(
     alloc: Global,

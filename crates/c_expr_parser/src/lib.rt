@@ -5,6 +5,7 @@
 
 // What single tokens stand for.
 pub mod kinds;
+pub mod level;
 mod tables;
 pub mod terminals;
 pub mod vocabulary;
@@ -14,10 +15,9 @@ pub mod declarator;
 pub mod type_start;
 pub mod types;
 
-// Expressions and effects, inside others.
-mod call;
-mod effect;
+// Expressions inside others.
 mod expression;
+mod parts;
 
 // The brackets of declarators.
 pub mod lengths;
@@ -27,4 +27,5 @@ pub mod full;
 mod read;
 
 pub use expression::type_name;
+pub use level::Level;
 pub use read::{one_expression, read_expr};

@@ -8,9 +8,9 @@ ghost use Rattle.c_model.specs.Terminals.{placed};
 ghost use Rattle.token_reader.specs.Reading.{Gives, TakesNoMemory, plain_list};
 
 use crate::kinds::{
-    AMPERSAND, ARROW, CHAR, CONST, DOT, ENUM, EXCLAMATION, FIRST_MARK, LEFT_BRACKET, LEFT_PAREN,
-    LETTER, MINUS, NAME, NUMBER, PLUS, SIZEOF, STRUCT, TEXT, TILDE, TIMES, TYPE_NAME, UNSIGNED,
-    VOID, kind, word_at, word_kind,
+    AMPERSAND, ARROW, CHAR, CONST, DECREMENT, DOT, ENUM, EXCLAMATION, FIRST_MARK, INCREMENT,
+    LEFT_BRACKET, LEFT_PAREN, LETTER, MINUS, NAME, NUMBER, PLUS, SIZEOF, STRUCT, TEXT, TILDE,
+    TIMES, TYPE_NAME, UNSIGNED, VOID, kind, word_at, word_kind,
 };
 use c_model::vocabulary::Word;
 use c_syntax::fault::ReadFault;
@@ -66,13 +66,15 @@ pub fn begins_expression(kind: u32) -> bool
         || kind == TIMES
         || kind == AMPERSAND
         || kind == SIZEOF
+        || kind == INCREMENT
+        || kind == DECREMENT
 }
 
 /// Whether a postfix expression goes on with a token of this kind.
 fn goes_on(kind: u32) -> bool
     ensures { result ≡ among kind first_postfix }
 {
-    kind == LEFT_BRACKET || kind == DOT || kind == ARROW
+    kind == LEFT_BRACKET || kind == DOT || kind == ARROW || kind == INCREMENT || kind == DECREMENT
 }
 
 /// Whether a word of this kind names a tag or a member.

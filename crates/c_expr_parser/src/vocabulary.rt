@@ -1,10 +1,12 @@
 //! What the names of a text are (C99 6.4.1, 7.17).
 
-ghost use Rattle.std.specs.Prelude.{◌≡◌, map, IfOk};
-ghost use Rattle.c_model.specs.Vocabulary.{keywords, kept_keywords, other_words, logic_words, name_or_logic, word_of};
+ghost use Rattle.std.specs.Prelude.{◌≡◌, map, slice_set, IfOk};
+ghost use Rattle.c_model.specs.Vocabulary.{keywords, kept_keywords, other_words, logic_words, name_or_logic, word_of, word_at, declared_word};
+ghost use Rattle.c_expr_parser.specs.Levels.{with_types};
 ghost use Rattle.c_model.specs.declared.vocabulary.LogicWord.TheVariants.{Kept};
 ghost use Rattle.c_model.specs.Terminals.{found_in};
 
+use crate::kinds::word_at;
 use c_model::vocabulary::{Keyword, LogicWord, TypeName, Word};
 use c_syntax::{CInt, Name};
 use std::alloc::{AllocError, Global};
@@ -36,6 +38,9 @@ fn keyword(bytes: &[u8], other: Word) -> Word
             (b"struct", Word::Keyword(Keyword::Struct)),
             (b"enum", Word::Keyword(Keyword::Enum)),
             (b"typedef", Word::Keyword(Keyword::Typedef)),
+            (b"switch", Word::Keyword(Keyword::Switch)),
+            (b"case", Word::Keyword(Keyword::Case)),
+            (b"default", Word::Keyword(Keyword::Default)),
         ],
         bytes,
         other,
@@ -47,9 +52,6 @@ fn kept_keyword(bytes: &[u8], other: Word) -> Word
 {
     found_in(
         &[
-            (b"switch", Word::Keyword(Keyword::Kept)),
-            (b"case", Word::Keyword(Keyword::Kept)),
-            (b"default", Word::Keyword(Keyword::Kept)),
             (b"auto", Word::Keyword(Keyword::Kept)),
             (b"register", Word::Keyword(Keyword::Kept)),
             (b"extern", Word::Keyword(Keyword::Kept)),
@@ -127,4 +129,40 @@ pub fn vocabulary(alloc: Global, names: &[Name]) -> Result<Vec<Word>, AllocError
         words.push(word_of(name.bytes()))?;
     }
     Ok(words)
+}
+
+/// What a word is once a `typedef` declares it (C99 6.7.7).
+fn declared_word(word: Word) -> Word
+    ensures { result ≡ declared_word word }
+{
+    match word {
+        Word::Assert => Word::TypeName(TypeName::DeclaredAssert),
+        Word::Keyword(_) | Word::TypeName(_) | Word::Integer | Word::Logic(_) | Word::Name => {
+            Word::TypeName(TypeName::Declared)
+        }
+    }
+}
+
+/// A name is that of a type from here on.
+pub fn name_type(words: &mut Vec<Word>, number: u32)
+    ensures { words.new.items ≡ slice_set words.old.items number (declared_word (word_at words.old.items number)) }
+{
+    let declared = declared_word(word_at(words.as_slice(), number));
+    let number = number as usize;
+    if number < words.len() {
+        words[number] = declared;
+    }
+}
+
+/// The words, where earlier `typedef`s declare these names.
+pub fn with_types(words: Vec<Word>, types: &[u32]) -> Vec<Word>
+    ensures { result.items ≡ with_types words.items types.now }
+{
+    let mut words = words;
+    let mut rest = types;
+    'turn: while let [number, after @ ..] = rest {
+        name_type(&mut words, *number);
+        rest = after;
+    }
+    words
 }

@@ -24,7 +24,8 @@ use Rattle.c_model.specs.DeclarationGrammar.{first_spec, Declarator, names_funct
 use Rattle.c_model.specs.ProgramGrammar.{first_statement, first_branch, statement_in, branch_in, FileParts, with_typedef, no_parts, function_rest, function, globals, behind_declarator, declared_at_file, next_typedef, more_typedefs}
 use Rattle.c_model.specs.ProgramGrammar.{typedefs, behind_spec, strays, declared_external, external, any_kind, more_external, unit}
 use Rattle.c_expr_parser.proofs.ExactTokens.{IsRead, fixed_good}
-use Rattle.c_parser.proofs.Openings.{word_small, opens, branch_opens}
+use Rattle.c_expr_parser.proofs.TakenTokens.{word_small}
+use Rattle.c_parser.proofs.Openings.{opens, branch_opens}
 use Rattle.c_declaration_parser.proofs.ExactDeclarations.{first_dtor, more_dtor, ended_good, full_dtor_good, initialised_good, more_declared_good, parameters_good, file_spec_good}
 use Rattle.c_parser.proofs.ExactStatements.{ReadsStatements, ReadsBranches, more_statement, misplaced_good, statement_of_good, branch_of_good, items_good}
 

@@ -12,16 +12,18 @@ use Rattle.c_syntax.specs.Statements.{Statement, BlockItem, If, NoElse, Else, Wh
 use Rattle.c_model.specs.declared.declarations.AnnotationState.{AnnotationState}
 use Rattle.c_model.specs.declared.vocabulary.Keyword.TheVariants as keyword
 use Rattle.c_model.specs.Vocabulary.{Vocabulary}
-use Rattle.c_model.specs.Punctuators.{semicolon, left_paren, right_paren, left_brace, right_brace}
-use Rattle.c_model.specs.ExpressionGrammar.{annot_open_kind, keyword_kind, mark_kind, kind, first_type, first_expression, first_effect}
-use Rattle.c_model.specs.ProgramGrammar.{first_statement, first_branch, first_item, is_open, Numbered}
+use Rattle.c_model.specs.Punctuators.{semicolon, colon, left_paren, right_paren, left_brace, right_brace}
+use Rattle.c_model.specs.ExpressionGrammar.{annot_open_kind, keyword_kind, mark_kind, kind, first_type, first_expression}
+use Rattle.c_model.specs.declared.operands.Level.TheVariants.{Conditional}
+use Rattle.c_model.specs.ProgramGrammar.{first_statement, first_branch, first_item, first_case, is_open, Numbered, ReadCase}
+use Rattle.c_model.specs.ProgramGrammar.{valued_case, default_case, case_label, case_item, case_items_once, case_items, next_case, cases, switch_statement}
 use Rattle.c_model.specs.ProgramGrammar.{misplaced, placed_annotation, condition, else_branch, else_part, selection, while_loop, do_loop, for_first, maybe_ended, returned, for_behind, for_loop, jump}
 use Rattle.c_model.specs.ProgramGrammar.{return_statement, item, items_once, items, block, empty_statement, effect_statement, statement_of, branch_of}
 use Rattle.c_expr_parser.proofs.ExactTokens.{IsRead, fixed_good}
 use Rattle.c_expr_parser.proofs.ExactTypes.{enlarged}
 use Rattle.acsl_parser.proofs.ExactAnnotations.{annotations_good}
 use Rattle.c_declaration_parser.proofs.ExactDeclarations.{ended_good, declaration_good}
-use Rattle.c_expr_parser.proofs.ExactExpressions.{closed_good, full_expression_good, full_expression_or_call_good, full_effect_good, full_effect_or_call_good}
+use Rattle.c_expr_parser.proofs.ExactExpressions.{closed_good, full_expression_good, full_placed_good, full_level_good}
 
 module _ (ws : Vocabulary) where
   -- ---- annotations
@@ -40,11 +42,11 @@ module _ (ws : Vocabulary) where
   unfolding condition
   condition_good = declared (seq (fixed_good ws (mark_kind left_paren)) (λ _. seq (full_expression_good ws) (λ e. closed_good ws e) refl) refl) refl
 
-  for_first_good : (n : AnnotationState) → IsRead ws (for_first ws n) false (mark_kind semicolon ∷ first_type ++ first_effect) []
+  for_first_good : (n : AnnotationState) → IsRead ws (for_first ws n) false (mark_kind semicolon ∷ first_type ++ first_expression) []
   unfolding for_first
   for_first_good n =
       declared (either first_type (seq (declaration_good ws) (λ x. given _) refl)
-      (either first_effect (seq (full_effect_or_call_good ws) (λ e. ended_good ws _) refl) (ended_good ws _) refl) refl) refl
+      (either first_expression (seq (full_placed_good ws) (λ e. ended_good ws _) refl) (ended_good ws _) refl) refl) refl
 
   maybe_ended_good : IsRead ws (maybe_ended ws) false (mark_kind semicolon ∷ first_expression) []
   unfolding maybe_ended
@@ -52,11 +54,11 @@ module _ (ws : Vocabulary) where
 
   returned_good : IsRead ws (returned ws) false (mark_kind semicolon ∷ first_expression) []
   unfolding returned
-  returned_good = declared (either first_expression (seq (full_expression_or_call_good ws) (λ e. ended_good ws _) refl) (ended_good ws _) refl) refl
+  returned_good = declared (either first_expression (seq (full_expression_good ws) (λ e. ended_good ws _) refl) (ended_good ws _) refl) refl
 
-  for_behind_good : IsRead ws (for_behind ws) false (mark_kind right_paren ∷ first_effect) []
+  for_behind_good : IsRead ws (for_behind ws) false (mark_kind right_paren ∷ first_expression) []
   unfolding for_behind
-  for_behind_good = declared (either first_effect (seq (full_effect_good ws) (λ e. closed_good ws _) refl) (closed_good ws _) refl) refl
+  for_behind_good = declared (either first_expression (seq (full_expression_good ws) (λ e. closed_good ws _) refl) (closed_good ws _) refl) refl
 
   jump_good : (n : AnnotationState) → IsRead ws (jump ws n) false (keyword_kind keyword.Break ∷ keyword_kind keyword.Continue ∷ []) []
   unfolding jump
@@ -72,9 +74,9 @@ module _ (ws : Vocabulary) where
   unfolding empty_statement
   empty_good n = declared (seq (fixed_good ws (mark_kind semicolon)) (λ at. given _) refl) refl
 
-  effect_good : (n : AnnotationState) → IsRead ws (effect_statement ws n) false first_effect []
+  effect_good : (n : AnnotationState) → IsRead ws (effect_statement ws n) false first_expression []
   unfolding effect_statement
-  effect_good n = declared (seq (full_effect_or_call_good ws) (λ e. ended_good ws _) refl) refl
+  effect_good n = declared (seq (full_placed_good ws) (λ e. ended_good ws _) refl) refl
 
 -- ---- an `if` without `else` at the end can go on with `else`
 
@@ -132,6 +134,49 @@ module _ (ws : Vocabulary) {T : Numbered} (t : ReadsStatements ws T) where
   unfolding block
   block_good k = declared (seq (fixed_good ws (mark_kind left_brace)) (λ at. seq (items_good ([], k)) (λ x. seq (fixed_good ws (mark_kind right_brace)) (λ _. given _) refl) refl) refl) refl
 
+-- ---- the cases of a `switch`
+
+module _ (ws : Vocabulary) where
+  valued_case_good : IsRead ws (valued_case ws) false (keyword_kind keyword.Case ∷ []) []
+  unfolding valued_case
+  valued_case_good =
+      declared (seq (fixed_good ws (keyword_kind keyword.Case)) (λ at. seq (full_level_good ws Conditional) (λ e. seq (fixed_good ws (mark_kind colon)) (λ _. given _) refl) refl) refl) refl
+
+  default_case_good : IsRead ws (default_case ws) false (keyword_kind keyword.Default ∷ []) []
+  unfolding default_case
+  default_case_good = declared (seq (fixed_good ws (keyword_kind keyword.Default)) (λ at. seq (fixed_good ws (mark_kind colon)) (λ _. given _) refl) refl) refl
+
+  case_label_good : IsRead ws (case_label ws) false first_case []
+  unfolding case_label
+  case_label_good = declared (either (keyword_kind keyword.Case ∷ []) valued_case_good default_case_good refl) refl
+
+module _ (ws : Vocabulary) {T : Numbered} (t : ReadsStatements ws T) where
+  case_item_good : (k : AnnotationState) → IsRead ws (case_item ws T k) false first_branch an_else
+  unfolding case_item
+  case_item_good k = declared (either (annot_open_kind ∷ []) (placed_good ws k) (made {more = λ _. an_else} (λ x. (Run x.0, x.1)) (t k) (λ x. within_else (is_open x.0))) refl) refl
+
+  pub case_items_once_good : (x : List BlockItem × AnnotationState) → IsRead ws (case_items_once ws T x) false first_branch an_else
+  unfolding case_items_once
+  case_items_once_good x = declared (seq (case_item_good x.1) (λ i. given _) refl) refl
+
+  case_items_good : (x : List BlockItem × AnnotationState) → IsRead ws (case_items ws T x) true first_branch (keyword_kind keyword.Else ∷ first_branch)
+  unfolding case_items
+  case_items_good x = declared (again_and_again first_branch case_items_once_good refl x) refl
+
+  pub next_case_good : (x : List ReadCase × AnnotationState) → IsRead ws (next_case ws T x) false first_case (keyword_kind keyword.Else ∷ first_branch)
+  unfolding next_case
+  next_case_good x = declared (seq (case_label_good ws) (λ l. seq (case_items_good ([], x.1)) (λ y. given _) refl) refl) refl
+
+  cases_good : (x : List ReadCase × AnnotationState) → IsRead ws (cases ws T x) true first_case (keyword_kind keyword.Else ∷ first_case ++ first_branch)
+  unfolding cases
+  cases_good x = declared (again_and_again first_case next_case_good refl x) refl
+
+  switch_good : (k : AnnotationState) → IsRead ws (switch_statement ws T k) false (keyword_kind keyword.Switch ∷ []) []
+  unfolding switch_statement
+  switch_good k =
+      declared (seq (fixed_good ws (keyword_kind keyword.Switch)) (λ at. seq (condition_good ws) (λ e. seq (fixed_good ws (mark_kind left_brace)) (λ _. seq (cases_good ([], k)) (λ x.
+      seq (fixed_good ws (mark_kind right_brace)) (λ _. given _) refl) refl) refl) refl) refl) refl
+
 module _ (ws : Vocabulary) {S : Numbered} (s : ReadsBranches ws S) where
   else_branch_good : (at : Place) (e : Expression) (x : Statement × AnnotationState) → IsGood (kind ws) 0 (else_branch ws S at e x) (else_branch ws S at e x) false an_else more_statement
   unfolding else_branch
@@ -187,19 +232,24 @@ module _ (ws : Vocabulary) {S : Numbered} (s : ReadsBranches ws S) where
 abbrev jumps : List ℕ
 jumps = keyword_kind keyword.Break ∷ keyword_kind keyword.Continue ∷ []
 
+-- what begins a statement that is tried after the loops
+abbrev behind_loops : List ℕ
+behind_loops = keyword_kind keyword.Switch ∷ keyword_kind keyword.Return ∷ jumps ++ first_expression
+
 module _ (ws : Vocabulary) {T S : Numbered} (t : ReadsStatements ws T) (s : ReadsBranches ws S) where
   pub statement_of_good : (k : AnnotationState) → IsGood (kind ws) 0 (statement_of ws T S k) (statement_of ws T S k) false first_statement more_statement
   unfolding statement_of
   statement_of_good k =
       either_to (mark_kind left_brace ∷ []) (block_good ws t k)
-      (either_to (mark_kind semicolon ∷ []) {first = mark_kind semicolon ∷ keyword_kind keyword.If ∷ keyword_kind keyword.While ∷ keyword_kind keyword.Do ∷ keyword_kind keyword.For ∷ keyword_kind keyword.Return ∷ jumps ++ first_effect}
-      (empty_good ws k)
-      (either_to (keyword_kind keyword.If ∷ []) {first = keyword_kind keyword.If ∷ keyword_kind keyword.While ∷ keyword_kind keyword.Do ∷ keyword_kind keyword.For ∷ keyword_kind keyword.Return ∷ jumps ++ first_effect} (selection_good ws s k)
-      (either_to (keyword_kind keyword.While ∷ []) {first = keyword_kind keyword.While ∷ keyword_kind keyword.Do ∷ keyword_kind keyword.For ∷ keyword_kind keyword.Return ∷ jumps ++ first_effect} (while_good ws s k)
-      (either_to (keyword_kind keyword.Do ∷ []) {first = keyword_kind keyword.Do ∷ keyword_kind keyword.For ∷ keyword_kind keyword.Return ∷ jumps ++ first_effect} (do_good ws s k)
-      (either_to (keyword_kind keyword.For ∷ []) {first = keyword_kind keyword.For ∷ keyword_kind keyword.Return ∷ jumps ++ first_effect} (for_good ws s k)
-      (either_to (keyword_kind keyword.Return ∷ []) {first = keyword_kind keyword.Return ∷ jumps ++ first_effect} (return_good ws k)
-      (either_to jumps {first = jumps ++ first_effect} {more = more_statement} (jump_good ws k) (effect_good ws k) refl (λ x. refl) (λ x. refl))
+      (either_to (mark_kind semicolon ∷ []) {first = mark_kind semicolon ∷ keyword_kind keyword.If ∷ keyword_kind keyword.While ∷ keyword_kind keyword.Do ∷ keyword_kind keyword.For ∷ behind_loops} (empty_good ws k)
+      (either_to (keyword_kind keyword.If ∷ []) {first = keyword_kind keyword.If ∷ keyword_kind keyword.While ∷ keyword_kind keyword.Do ∷ keyword_kind keyword.For ∷ behind_loops} (selection_good ws s k)
+      (either_to (keyword_kind keyword.While ∷ []) {first = keyword_kind keyword.While ∷ keyword_kind keyword.Do ∷ keyword_kind keyword.For ∷ behind_loops} (while_good ws s k)
+      (either_to (keyword_kind keyword.Do ∷ []) {first = keyword_kind keyword.Do ∷ keyword_kind keyword.For ∷ behind_loops} (do_good ws s k)
+      (either_to (keyword_kind keyword.For ∷ []) {first = keyword_kind keyword.For ∷ behind_loops} (for_good ws s k)
+      (either_to (keyword_kind keyword.Switch ∷ []) {first = behind_loops} (switch_good ws t k)
+      (either_to (keyword_kind keyword.Return ∷ []) {first = keyword_kind keyword.Return ∷ jumps ++ first_expression} (return_good ws k)
+      (either_to jumps {first = jumps ++ first_expression} {more = more_statement} (jump_good ws k) (effect_good ws k) refl (λ x. refl) (λ x. refl))
+      refl (λ x. refl) (λ x. within_same (is_open x.0)))
       refl (λ x. refl) (λ x. within_same (is_open x.0)))
       refl (λ x. within_same (is_open x.0)) (λ x. within_same (is_open x.0)))
       refl (λ x. refl) (λ x. within_same (is_open x.0)))

@@ -9,11 +9,11 @@ use Rattle.c_model.specs.declared.declarations.AnnotationState.{AnnotationState}
 use Rattle.c_model.specs.Vocabulary.{Vocabulary}
 use Rattle.c_model.specs.ExpressionGrammar.{kind}
 use Rattle.c_model.specs.Terminals.{nesting_limit}
-use Rattle.c_model.specs.ProgramGrammar.{first_statement, first_branch, first_item, items_once, items, statement_of, branch_of, statement_in, branch_in}
+use Rattle.c_model.specs.ProgramGrammar.{first_statement, first_branch, first_item, first_case, ReadCase, items_once, items, case_items_once, case_items, next_case, cases, statement_of, branch_of, statement_in, branch_in}
 use Rattle.c_syntax.specs.declared.fault.ReadFault.{ReadFault}
 use Rattle.token_reader.specs.Reading.{plain_list, Fails}
 use Rattle.token_reader.proofs.Faults.{again}
-use Rattle.c_parser.proofs.ExactStatements.{items_once_good}
+use Rattle.c_parser.proofs.ExactStatements.{items_once_good, case_items_once_good, next_case_good}
 use Rattle.token_reader.proofs.Shorter.{shorter}
 use Rattle.c_parser.proofs.ExactPrograms.{statement_good}
 
@@ -70,7 +70,46 @@ module _ (ws : Vocabulary) where
     pub items_shorter : (x y : List BlockItem × AnnotationState) (ts rest : List Token) → (items_once ws (statement_in ws d) x).parse (plain_list ts) ≡ Ok (y, plain_list rest) → length rest < length ts
     items_shorter x y ts rest e = shorter (items_once ws (statement_in ws d) x) (items_once_good ws (statement_good ws d) x).here ts rest y e
 
+    -- ---- `switch`
+
+    pub case_items_turn : (x y : List BlockItem × AnnotationState) (ts rest : List PlainToken) → sees (kind ws) first_branch ts ≡ true → (case_items_once ws (statement_in ws d) x).parse ts ≡ Ok (y, rest)
+        → (case_items ws (statement_in ws d) x).parse ts ≡ (case_items ws (statement_in ws d) y).parse rest
+    unfolding case_items
+    case_items_turn x y ts rest s e = turn first_branch (case_items_once ws (statement_in ws d)) (λ z. (case_items_once_good ws (statement_good ws d) z).here) refl x y ts rest s e
+
+    pub case_items_fails : (x : List BlockItem × AnnotationState) (ts : List PlainToken) (e : ReadFault) → sees (kind ws) first_branch ts ≡ true → Fails e ((case_items_once ws (statement_in ws d) x).parse ts)
+        → Fails e ((case_items ws (statement_in ws d) x).parse ts)
+    unfolding case_items
+    case_items_fails x ts e s = again e (λ f. turn_fails first_branch (case_items_once ws (statement_in ws d)) (λ z. (case_items_once_good ws (statement_good ws d) z).here) refl x ts f s)
+
+    pub case_items_ends : (x : List BlockItem × AnnotationState) (ts : List PlainToken) → sees (kind ws) first_branch ts ≡ false → (case_items ws (statement_in ws d) x).parse ts ≡ Ok (x, ts)
+    unfolding case_items
+    case_items_ends x ts s = turn_ends first_branch (case_items_once ws (statement_in ws d)) (λ z. (case_items_once_good ws (statement_good ws d) z).here) refl x ts s
+
+    pub case_items_shorter : (x y : List BlockItem × AnnotationState) (ts rest : List Token) → (case_items_once ws (statement_in ws d) x).parse (plain_list ts) ≡ Ok (y, plain_list rest) → length rest < length ts
+    case_items_shorter x y ts rest e = shorter (case_items_once ws (statement_in ws d) x) (case_items_once_good ws (statement_good ws d) x).here ts rest y e
+
+    pub cases_turn : (x y : List ReadCase × AnnotationState) (ts rest : List PlainToken) → sees (kind ws) first_case ts ≡ true → (next_case ws (statement_in ws d) x).parse ts ≡ Ok (y, rest)
+        → (cases ws (statement_in ws d) x).parse ts ≡ (cases ws (statement_in ws d) y).parse rest
+    unfolding cases
+    cases_turn x y ts rest s e = turn first_case (next_case ws (statement_in ws d)) (λ z. (next_case_good ws (statement_good ws d) z).here) refl x y ts rest s e
+
+    pub cases_fails : (x : List ReadCase × AnnotationState) (ts : List PlainToken) (e : ReadFault) → sees (kind ws) first_case ts ≡ true → Fails e ((next_case ws (statement_in ws d) x).parse ts) → Fails e ((cases ws (statement_in ws d) x).parse ts)
+    unfolding cases
+    cases_fails x ts e s = again e (λ f. turn_fails first_case (next_case ws (statement_in ws d)) (λ z. (next_case_good ws (statement_good ws d) z).here) refl x ts f s)
+
+    pub cases_ends : (x : List ReadCase × AnnotationState) (ts : List PlainToken) → sees (kind ws) first_case ts ≡ false → (cases ws (statement_in ws d) x).parse ts ≡ Ok (x, ts)
+    unfolding cases
+    cases_ends x ts s = turn_ends first_case (next_case ws (statement_in ws d)) (λ z. (next_case_good ws (statement_good ws d) z).here) refl x ts s
+
+    pub cases_shorter : (x y : List ReadCase × AnnotationState) (ts rest : List Token) → (next_case ws (statement_in ws d) x).parse (plain_list ts) ≡ Ok (y, plain_list rest) → length rest < length ts
+    cases_shorter x y ts rest e = shorter (next_case ws (statement_in ws d) x) (next_case_good ws (statement_good ws d) x).here ts rest y e
+
 -- ---- what the code of each production cites
+
+pub ruleset case_items_rules = (case_items_turn, case_items_fails, case_items_ends, case_items_shorter)
+
+pub ruleset cases_rules = (cases_turn, cases_fails, cases_ends, cases_shorter)
 
 pub ruleset items_rules = (items_turn, items_fails, items_ends, items_shorter)
 

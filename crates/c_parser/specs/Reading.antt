@@ -6,6 +6,7 @@ use Rattle.c_syntax.specs.declared.place.Place.{Place}
 use Rattle.c_syntax.specs.Ctypes.{PlainType}
 use Rattle.c_syntax.specs.Tokens.{PlainToken}
 use Rattle.c_syntax.specs.declared.statement.Item.{Item}
+use Rattle.c_syntax.specs.declared.statement.Case as code_case
 use Rattle.c_syntax.specs.Expressions.{Expression, plain_expr}
 use Rattle.c_syntax.specs.Statements.{Statement, Block, Do, For, Break, Continue, ForFirst, NoFirst, First, plain_decl, plain_item, plain_stmt}
 use Rattle.c_syntax.specs.Programs.{Function, plain_func}
@@ -19,7 +20,7 @@ use Rattle.c_parser.specs.declared.program.FileParts as code_parts
 use Rattle.c_model.specs.Punctuators.{comma, left_paren, left_brace, right_brace}
 use Rattle.c_model.specs.ExpressionGrammar.{kind, mark, reserved, mark_kind, most_nested, pointers}
 use Rattle.c_model.specs.DeclarationGrammar.{parameters}
-use Rattle.c_model.specs.ProgramGrammar.{FileParts, Numbered, block_items}
+use Rattle.c_model.specs.ProgramGrammar.{FileParts, Numbered, ReadCase, block_items}
 use Rattle.c_model.specs.ProgramGrammar.{for_first, maybe_ended, for_behind, items, statement_in, function_rest, next_typedef}
 use Rattle.c_declaration_parser.specs.Reading.{plain_definitions}
 pub use Rattle.c_model.specs.DeclarationGrammar.{ended}
@@ -82,6 +83,9 @@ plain_heading h = record {
   condition = option_map plain_expr h.condition;
   step = option_map plain_expr h.step;
 }
+
+abbrev pub read_case : code_case.Case → ReadCase
+read_case c = record { place = c.place; value = option_map plain_expr c.value; items = map plain_item c.items.items }
 
 abbrev pub plain_body : Body → Statement × Place
 plain_body b = (plain_stmt b.block, b.close)

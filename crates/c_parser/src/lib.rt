@@ -8,6 +8,7 @@ mod terminals;
 
 // What stands in a function.
 mod annotation;
+mod cases;
 mod loops;
 mod statement;
 

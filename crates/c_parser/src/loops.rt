@@ -7,11 +7,8 @@ ghost use Rattle.c_model.specs.ProgramGrammar.{condition, effect_statement, for_
 ghost use Rattle.token_reader.specs.Reading.{Gives, plain_list};
 ghost use Rattle.c_parser.specs.Reading.{plain_first, plain_heading, counted, for_heading, for_with};
 
-use crate::terminals::next_begins_effect;
 use c_declaration_parser::declaration::declaration;
-use c_expr_parser::full::{
-    full_effect, full_effect_or_call, full_expression, full_expression_or_call,
-};
+use c_expr_parser::full::{full_expression, full_placed_expression};
 use c_expr_parser::kinds::{FOR, LEFT_PAREN, RIGHT_PAREN, SEMICOLON};
 use c_expr_parser::terminals::{kept, next_begins_expression, next_begins_type, skip};
 use c_model::declarations::AnnotationState;
@@ -20,7 +17,7 @@ use c_syntax::fault::ReadFault;
 use c_syntax::{Expr, Item, Place, Stmt, StmtKind, Token};
 use std::alloc::{AllocError, Global};
 
-/// `"(" expr ")"`
+/// `"(" comma ")"`
 #[tactic(auto, unfolding(c_model::specs::ProgramGrammar::condition, c_model::specs::ExpressionGrammar::closed))]
 pub fn condition<'a>(
     alloc: Global,
@@ -57,7 +54,7 @@ pub fn with_statement<'a>(
     Ok((statement_at(alloc, place, kind)?, state, tokens))
 }
 
-/// `( effect | call ) ";"`
+/// `comma ";"`
 #[tactic(auto, unfolding(c_model::specs::ProgramGrammar::effect_statement, c_model::specs::DeclarationGrammar::ended))]
 pub fn effect_statement<'a>(
     alloc: Global,
@@ -68,12 +65,12 @@ pub fn effect_statement<'a>(
     ensures { Gives (λ x. ((plain_stmt x.0, x.1), plain_list x.2.now)) result
         ((effect_statement words.now state).parse (plain_list tokens.now)) }
 {
-    let (e, place, rest) = full_effect_or_call(alloc, words, tokens)?;
+    let (e, place, rest) = full_placed_expression(alloc, words, tokens)?;
     let (_, rest) = skip(words, SEMICOLON, rest)?;
     with_statement(alloc, place, StmtKind::Eval(e), state, rest)
 }
 
-/// `decl | [ effect | call ] ";"`
+/// `decl | [ comma ] ";"`
 #[tactic(auto, unfolding(c_model::specs::ProgramGrammar::for_first, c_model::specs::ProgramGrammar::effect_statement, crate::specs::Reading::ended))]
 pub fn for_first<'a>(
     alloc: Global,
@@ -87,7 +84,7 @@ pub fn for_first<'a>(
     if next_begins_type(words, tokens) {
         let (item, rest) = declaration(alloc, words, tokens)?;
         Ok((Some(item), state, rest))
-    } else if next_begins_effect(words, tokens) {
+    } else if next_begins_expression(words, tokens) {
         let (s, state, rest) = effect_statement(alloc, words, state, tokens)?;
         Ok((Some(Item::Run(s)), state, rest))
     } else {
@@ -96,7 +93,7 @@ pub fn for_first<'a>(
     }
 }
 
-/// `[ expr ] ";"`
+/// `[ comma ] ";"`
 #[tactic(auto, unfolding(c_model::specs::ProgramGrammar::maybe_ended, c_model::specs::DeclarationGrammar::ended))]
 pub fn maybe_ended<'a>(
     alloc: Global,
@@ -115,7 +112,7 @@ pub fn maybe_ended<'a>(
     }
 }
 
-/// `[ expr | call ] ";"`
+/// `[ comma ] ";"`
 #[tactic(auto, unfolding(c_model::specs::ProgramGrammar::returned, c_model::specs::DeclarationGrammar::ended))]
 pub fn returned<'a>(
     alloc: Global,
@@ -125,7 +122,7 @@ pub fn returned<'a>(
     ensures { Gives (λ x. (option_map plain_expr x.0, plain_list x.1.now)) result ((returned words.now).parse (plain_list tokens.now)) }
 {
     if next_begins_expression(words, tokens) {
-        let (e, rest) = full_expression_or_call(alloc, words, tokens)?;
+        let (e, rest) = full_expression(alloc, words, tokens)?;
         let (_, rest) = skip(words, SEMICOLON, rest)?;
         Ok((Some(e), rest))
     } else {
@@ -134,7 +131,7 @@ pub fn returned<'a>(
     }
 }
 
-/// `[ effect ] ")"`
+/// `[ comma ] ")"`
 #[tactic(auto, unfolding(c_model::specs::ProgramGrammar::for_behind, c_model::specs::ExpressionGrammar::closed))]
 pub fn for_behind<'a>(
     alloc: Global,
@@ -143,8 +140,8 @@ pub fn for_behind<'a>(
 ) -> Result<(Option<Expr>, &'a [Token]), ReadFault>
     ensures { Gives (λ x. (option_map plain_expr x.0, plain_list x.1.now)) result ((for_behind words.now).parse (plain_list tokens.now)) }
 {
-    if next_begins_effect(words, tokens) {
-        let (e, _, rest) = full_effect(alloc, words, tokens)?;
+    if next_begins_expression(words, tokens) {
+        let (e, rest) = full_expression(alloc, words, tokens)?;
         let (_, rest) = skip(words, RIGHT_PAREN, rest)?;
         Ok((Some(e), rest))
     } else {
@@ -162,7 +159,7 @@ pub struct ForHeading {
     pub step: Option<Expr>,
 }
 
-/// `"for" "(" ( decl | [ effect | call ] ";" ) [ expr ] ";" [ effect ] ")"`
+/// `"for" "(" ( decl | [ comma ] ";" ) [ comma ] ";" [ comma ] ")"`
 #[tactic(auto, unfolding(crate::specs::Reading::for_heading))]
 pub fn for_heading<'a>(
     alloc: Global,

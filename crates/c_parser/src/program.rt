@@ -1,7 +1,6 @@
 //! Whole texts (C99 6.9).
 
-ghost use Rattle.std.specs.Prelude.{◌≡◌, map, slice_set, IfErr, OnOk, []};
-ghost use Rattle.c_model.specs.Vocabulary.{declared_word, word_at};
+ghost use Rattle.std.specs.Prelude.{◌≡◌, map, IfErr, OnOk, []};
 ghost use Rattle.c_syntax.specs.declared.fault.ReadFault.TheVariants.{Memory};
 ghost use Rattle.c_syntax.specs.Programs.{plain_program, plain_text};
 ghost use Rattle.c_model.specs.ProgramGrammar.{with_typedef, function, globals, behind_declarator, declared_at_file, next_typedef, more_typedefs};
@@ -19,11 +18,12 @@ use c_declaration_parser::declarator::{
 };
 use c_declaration_parser::specifier::file_spec;
 use c_declaration_parser::tagged::Definitions;
-use c_expr_parser::kinds::{ANNOT_OPEN, COMMA, LEFT_PAREN, SEMICOLON, word_at};
+use c_expr_parser::kinds::{ANNOT_OPEN, COMMA, LEFT_PAREN, SEMICOLON};
 use c_expr_parser::terminals::{next_is, skip};
 use c_expr_parser::types::BaseType;
+use c_expr_parser::vocabulary::name_type;
 use c_model::declarations::{AnnotationState, Named, Storage};
-use c_model::vocabulary::{TypeName as TypeWord, Word};
+use c_model::vocabulary::Word;
 use c_syntax::fault::ReadFault;
 use c_syntax::{Decl, Func, Name, Program, Text, Token};
 use std::alloc::Global;
@@ -158,29 +158,6 @@ fn declared_at_file<'a>(
 }
 
 // ---- types that a typedef declares
-
-/// What a word is once a `typedef` declares it (C99 6.7.7).
-fn declared_word(word: Word) -> Word
-    ensures { result ≡ declared_word word }
-{
-    match word {
-        Word::Assert => Word::TypeName(TypeWord::DeclaredAssert),
-        Word::Keyword(_) | Word::TypeName(_) | Word::Integer | Word::Logic(_) | Word::Name => {
-            Word::TypeName(TypeWord::Declared)
-        }
-    }
-}
-
-/// A name is that of a type from here on.
-fn name_type(words: &mut Vec<Word>, number: u32)
-    ensures { words.new.items ≡ slice_set words.old.items number (declared_word (word_at words.old.items number)) }
-{
-    let declared = declared_word(word_at(words.as_slice(), number));
-    let number = number as usize;
-    if number < words.len() {
-        words[number] = declared;
-    }
-}
 
 /// The type that a `typedef` declares by this declarator.
 fn with_typedef(

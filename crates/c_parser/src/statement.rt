@@ -6,24 +6,28 @@ ghost use Rattle.c_syntax.specs.Statements.{plain_stmt, plain_item};
 ghost use Rattle.c_syntax.specs.Statements as statement;
 ghost use Rattle.c_model.specs.ProgramGrammar.{is_open, block_items, else_branch, else_part, selection, while_loop, do_loop, for_loop, jump, return_statement};
 ghost use Rattle.c_model.specs.ProgramGrammar.{item, items_once, items, block, empty_statement, statement_of, statement_in, branch_in};
+ghost use Rattle.c_model.specs.ProgramGrammar.{case_item, case_items_once, case_items, next_case, cases, switch_statement};
 ghost use Rattle.token_reader.specs.Reading.{Gives, plain_list};
-ghost use Rattle.c_parser.specs.Reading.{break_statement, continue_statement, ended_do};
+ghost use Rattle.c_parser.specs.Reading.{break_statement, continue_statement, ended_do, read_case};
 
 use crate::annotation::{misplaced, placed_annotation};
+use crate::cases::{case_label, make_switch};
 use crate::loops::{
     condition, effect_statement, for_heading, for_kind, returned, statement_at, with_statement,
 };
-use crate::terminals::{next_begins_branch, next_begins_item, next_begins_statement, next_is_jump};
+use crate::terminals::{
+    next_begins_branch, next_begins_case, next_begins_item, next_begins_statement, next_is_jump,
+};
 use c_declaration_parser::declaration::declaration;
 use c_expr_parser::kinds::{
     ANNOT_OPEN, BREAK, CONTINUE, DO, ELSE, FOR, IF, LEFT_BRACE, RETURN, RIGHT_BRACE, SEMICOLON,
-    WHILE,
+    SWITCH, WHILE,
 };
 use c_expr_parser::terminals::{kept, next_begins_type, next_is, skip};
 use c_model::declarations::AnnotationState;
 use c_model::vocabulary::Word;
 use c_syntax::fault::{Limit, ReadFault};
-use c_syntax::{Expr, Item, Place, Stmt, StmtKind, Token};
+use c_syntax::{Case, Expr, Item, Place, Stmt, StmtKind, Token};
 use std::alloc::{AllocError, Global};
 use token_reader::terminals::left;
 
@@ -42,7 +46,8 @@ fn is_open(s: &Stmt) -> bool
         | StmtKind::Do(_, _)
         | StmtKind::Break
         | StmtKind::Continue
-        | StmtKind::Return(_) => false,
+        | StmtKind::Return(_)
+        | StmtKind::Switch(_, _) => false,
     }
 }
 
@@ -108,7 +113,7 @@ fn jump<'a>(
     }
 }
 
-/// `"return" [ expr | call ] ";"`
+/// `"return" [ comma ] ";"`
 #[tactic(auto, unfolding(c_model::specs::ProgramGrammar::return_statement))]
 fn return_statement<'a>(
     alloc: Global,
@@ -189,7 +194,7 @@ fn else_part<'a>(
     }
 }
 
-/// `"if" "(" expr ")" stmt [ "else" stmt ]`
+/// `"if" "(" comma ")" stmt [ "else" stmt ]`
 #[tactic(auto, unfolding(c_model::specs::ProgramGrammar::selection))]
 #[cycle(statement)]
 #[inline(never)]
@@ -209,7 +214,7 @@ fn selection<'a>(
     else_part(alloc, words, levels, place, e, then, state, rest)
 }
 
-/// `"while" "(" expr ")" stmt`
+/// `"while" "(" comma ")" stmt`
 #[tactic(auto, unfolding(c_model::specs::ProgramGrammar::while_loop))]
 #[cycle(statement)]
 #[inline(never)]
@@ -248,7 +253,7 @@ fn ended_do<'a>(
     with_statement(alloc, place, StmtKind::Do(body, e), state, rest)
 }
 
-/// `"do" stmt "while" "(" expr ")" ";"`
+/// `"do" stmt "while" "(" comma ")" ";"`
 #[tactic(auto, unfolding(c_model::specs::ProgramGrammar::do_loop))]
 #[cycle(statement)]
 #[inline(never)]
@@ -269,7 +274,7 @@ fn do_loop<'a>(
     ended_do(alloc, words, place, body, e, state, rest)
 }
 
-/// `"for" "(" ( decl | [ effect | call ] ";" ) [ expr ] ";" [ effect ] ")" stmt`
+/// `"for" "(" ( decl | [ comma ] ";" ) [ comma ] ";" [ comma ] ")" stmt`
 #[tactic(auto, unfolding(c_model::specs::ProgramGrammar::for_loop, crate::specs::Reading::for_heading))]
 #[cycle(statement)]
 #[inline(never)]
@@ -377,6 +382,151 @@ fn block<'a>(
     Ok((make_block(alloc, place, all)?, state, rest))
 }
 
+/// An annotation or a statement.
+#[tactic(auto, unfolding(c_model::specs::ProgramGrammar::case_item))]
+#[cycle(statement)]
+fn case_item<'a>(
+    alloc: Global,
+    words: &[Word],
+    levels: u32,
+    state: AnnotationState,
+    tokens: &'a [Token],
+) -> Result<(Item, AnnotationState, &'a [Token]), ReadFault>
+    ensures { Gives (λ x. ((plain_item x.0, x.1), plain_list x.2.now)) result
+        ((case_item words.now (statement_in words.now levels) state).parse (plain_list tokens.now)) }
+{
+    if next_is(words, ANNOT_OPEN, tokens) {
+        placed_annotation(alloc, words, state, tokens)
+    } else {
+        let (s, state, rest) = statement(alloc, words, levels, state, tokens)?;
+        Ok((make_run(s), state, rest))
+    }
+}
+
+#[tactic(auto, unfolding(c_model::specs::ProgramGrammar::case_items_once))]
+#[cycle(statement)]
+fn case_items_once<'a>(
+    alloc: Global,
+    words: &[Word],
+    levels: u32,
+    all: Vec<Item>,
+    state: AnnotationState,
+    tokens: &'a [Token],
+) -> Result<(Vec<Item>, AnnotationState, &'a [Token]), ReadFault>
+    ensures { Gives (λ x. ((map plain_item x.0.items, x.1), plain_list x.2.now)) result
+        ((case_items_once words.now (statement_in words.now levels) (map plain_item all.items, state)).parse (plain_list tokens.now)) }
+{
+    let mut all = all;
+    let (one, state, rest) = case_item(alloc, words, levels, state, tokens)?;
+    all.push(one)?;
+    Ok((all, state, rest))
+}
+
+/// The items of a case after those that are read.
+#[tactic(auto, using(crate::proofs::Steps::case_items_rules))]
+#[cycle(statement)]
+fn case_items<'a>(
+    alloc: Global,
+    words: &[Word],
+    levels: u32,
+    all: Vec<Item>,
+    state: AnnotationState,
+    tokens: &'a [Token],
+) -> Result<(Vec<Item>, AnnotationState, &'a [Token]), ReadFault>
+    ensures { Gives (λ x. ((map plain_item x.0.items, x.1), plain_list x.2.now)) result
+        ((case_items words.now (statement_in words.now levels) (map plain_item all.items, state)).parse (plain_list tokens.now)) }
+{
+    let mut all = all;
+    let mut state = state;
+    let mut rest = tokens;
+    'turn: while next_begins_branch(words, rest) {
+        let (more, next, after) = case_items_once(alloc, words, levels, all, state, rest)?;
+        all = more;
+        state = next;
+        rest = after;
+    }
+    Ok((all, state, rest))
+}
+
+/// A case, after others.
+#[tactic(auto, unfolding(c_model::specs::ProgramGrammar::next_case))]
+#[cycle(statement)]
+fn next_case<'a>(
+    alloc: Global,
+    words: &[Word],
+    levels: u32,
+    all: Vec<Case>,
+    state: AnnotationState,
+    tokens: &'a [Token],
+) -> Result<(Vec<Case>, AnnotationState, &'a [Token]), ReadFault>
+    ensures { Gives (λ x. ((map read_case x.0.items, x.1), plain_list x.2.now)) result
+        ((next_case words.now (statement_in words.now levels) (map read_case all.items, state)).parse (plain_list tokens.now)) }
+{
+    let (all, (place, value, rest)) = kept(all, case_label(alloc, words, tokens))?;
+    let ((all, value), (items, state, rest)) = kept(
+        (all, value),
+        case_items(alloc, words, levels, Vec::new(alloc), state, rest),
+    )?;
+    let mut all = all;
+    all.push(Case {
+        place,
+        value,
+        items,
+    })?;
+    Ok((all, state, rest))
+}
+
+/// The cases after those that are read.
+#[tactic(auto, using(crate::proofs::Steps::cases_rules))]
+#[cycle(statement)]
+fn cases<'a>(
+    alloc: Global,
+    words: &[Word],
+    levels: u32,
+    all: Vec<Case>,
+    state: AnnotationState,
+    tokens: &'a [Token],
+) -> Result<(Vec<Case>, AnnotationState, &'a [Token]), ReadFault>
+    ensures { Gives (λ x. ((map read_case x.0.items, x.1), plain_list x.2.now)) result
+        ((cases words.now (statement_in words.now levels) (map read_case all.items, state)).parse (plain_list tokens.now)) }
+{
+    let mut all = all;
+    let mut state = state;
+    let mut rest = tokens;
+    'turn: while next_begins_case(words, rest) {
+        let (more, next, after) = next_case(alloc, words, levels, all, state, rest)?;
+        all = more;
+        state = next;
+        rest = after;
+    }
+    Ok((all, state, rest))
+}
+
+/// `"switch" "(" comma ")" "{" { case } "}"`
+#[tactic(auto, unfolding(c_model::specs::ProgramGrammar::switch_statement))]
+#[cycle(statement)]
+#[inline(never)]
+fn switch_statement<'a>(
+    alloc: Global,
+    words: &[Word],
+    levels: u32,
+    state: AnnotationState,
+    tokens: &'a [Token],
+) -> Result<(Stmt, AnnotationState, &'a [Token]), ReadFault>
+    ensures { Gives (λ x. ((plain_stmt x.0, x.1), plain_list x.2.now)) result
+        ((switch_statement words.now (statement_in words.now levels) state).parse (plain_list tokens.now)) }
+{
+    let (place, rest) = skip(words, SWITCH, tokens)?;
+    let (e, rest) = condition(alloc, words, rest)?;
+    let (e, (_, rest)) = kept(e, skip(words, LEFT_BRACE, rest))?;
+    let (e, (all, state, rest)) = kept(
+        e,
+        cases(alloc, words, levels, Vec::new(alloc), state, rest),
+    )?;
+    let ((e, all), (_, rest)) = kept((e, all), skip(words, RIGHT_BRACE, rest))?;
+    Ok((make_switch(alloc, place, e, all)?, state, rest))
+}
+
 /// A statement in which statements stand at most so many levels deep, itself included.
 #[tactic(auto, using(crate::proofs::Steps::statement_rules), unfolding(c_model::specs::ProgramGrammar::statement_of))]
 #[cycle(statement)]
@@ -410,6 +560,8 @@ fn statement<'a>(
         do_loop(alloc, words, levels, state, tokens)
     } else if next_is(words, FOR, tokens) {
         for_loop(alloc, words, levels, state, tokens)
+    } else if next_is(words, SWITCH, tokens) {
+        switch_statement(alloc, words, levels, state, tokens)
     } else if next_is(words, RETURN, tokens) {
         return_statement(alloc, words, state, tokens)
     } else if next_is_jump(words, tokens) {

@@ -3,23 +3,17 @@
 ghost use Rattle.std.specs.Prelude.{◌≡◌, ◌++◌, [], ◌∷◌};
 ghost use Rattle.grammar.specs.Syntax.{among, sees};
 ghost use Rattle.c_model.specs.declared.vocabulary.Keyword.TheVariants as keyword;
-ghost use Rattle.c_model.specs.ExpressionGrammar.{kind, keyword_kind, first_type, first_effect};
-ghost use Rattle.c_model.specs.ProgramGrammar.{first_statement, first_branch, first_item};
+ghost use Rattle.c_model.specs.ExpressionGrammar.{kind, keyword_kind, first_type};
+ghost use Rattle.c_model.specs.ProgramGrammar.{first_statement, first_branch, first_item, first_case};
 ghost use Rattle.token_reader.specs.Reading.{plain_list};
 
 use c_expr_parser::kinds::{
-    ANNOT_OPEN, BREAK, CONTINUE, DECREMENT, DO, FOR, IF, INCREMENT, LEFT_BRACE, RETURN, SEMICOLON,
+    ANNOT_OPEN, BREAK, CASE, CONTINUE, DEFAULT, DO, FOR, IF, LEFT_BRACE, RETURN, SEMICOLON, SWITCH,
     WHILE, kind,
 };
 use c_expr_parser::terminals::{begins_expression, begins_type};
 use c_model::vocabulary::Word;
 use c_syntax::Token;
-
-fn begins_effect(kind: u32) -> bool
-    ensures { result ≡ among kind first_effect }
-{
-    kind == INCREMENT || kind == DECREMENT || begins_expression(kind)
-}
 
 fn begins_statement(kind: u32) -> bool
     ensures { result ≡ among kind first_statement }
@@ -30,25 +24,17 @@ fn begins_statement(kind: u32) -> bool
         || kind == WHILE
         || kind == DO
         || kind == FOR
+        || kind == SWITCH
         || kind == BREAK
         || kind == CONTINUE
         || kind == RETURN
-        || begins_effect(kind)
+        || begins_expression(kind)
 }
 
 fn begins_branch(kind: u32) -> bool
     ensures { result ≡ among kind first_branch }
 {
     kind == ANNOT_OPEN || begins_statement(kind)
-}
-
-pub fn next_begins_effect(words: &[Word], tokens: &[Token]) -> bool
-    ensures { result ≡ sees (kind words.now) first_effect (plain_list tokens.now) }
-{
-    match tokens {
-        [] => false,
-        [token, ..] => begins_effect(kind(words, token)),
-    }
 }
 
 pub fn next_begins_statement(words: &[Word], tokens: &[Token]) -> bool
@@ -90,6 +76,19 @@ pub fn next_begins_item(words: &[Word], tokens: &[Token]) -> bool
     match tokens {
         [] => false,
         [token, ..] => begins_item(kind(words, token)),
+    }
+}
+
+/// Whether a case comes next.
+pub fn next_begins_case(words: &[Word], tokens: &[Token]) -> bool
+    ensures { result ≡ sees (kind words.now) first_case (plain_list tokens.now) }
+{
+    match tokens {
+        [] => false,
+        [token, ..] => {
+            let k = kind(words, token);
+            k == CASE || k == DEFAULT
+        }
     }
 }
 

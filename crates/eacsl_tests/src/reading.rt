@@ -1,7 +1,7 @@
 //! Tokens, expressions at a place, and the words of a command line.
 
 use crate::same::{made, same_bytes, same_number};
-use c_expr_parser::read_expr;
+use c_expr_parser::{Level, read_expr};
 use c_lexer::tokens;
 use c_model::{Job, read_words};
 use c_syntax::{FrontFault, TokenKind, Tokens};
@@ -44,7 +44,7 @@ fn ends(rt: &(impl Abort + AllocGlobal), text: &str, at: usize, wanted: u128) {
     if at > tokens.list.len() {
         panic!(rt; "there is no such token");
     }
-    match read_expr(rt.alloc(), &tokens, at) {
+    match read_expr(rt.alloc(), &tokens, at, Level::Comma, &[]) {
         Ok((e, behind)) => {
             drop(e);
             same_number(rt, behind as u128, wanted);
@@ -60,6 +60,7 @@ fn ends(rt: &(impl Abort + AllocGlobal), text: &str, at: usize, wanted: u128) {
 
 #[test]
 fn an_expression_is_read_at_a_place(rt: HostRuntime) {
+    ends(&rt, "x = a + b * c ;", 0, 7);
     ends(&rt, "x = a + b * c ;", 2, 7);
     ends(&rt, "x = a + b * c ;", 4, 7);
     ends(&rt, "x = a + b * c ;", 1, 1004);
@@ -70,7 +71,7 @@ fn an_expression_is_read_at_a_place(rt: HostRuntime) {
 fn postfix_operators_are_read(rt: HostRuntime) {
     ends(&rt, "p -> a [ 1 ] . size_t + * & q ;", 0, 12);
     ends(&rt, "\"abc\" [ 1 ] [ i ? 0 : 1 ] ;", 0, 11);
-    ends(&rt, "( p ) . assert ++ ;", 0, 5);
+    ends(&rt, "( p ) . assert ++ ;", 0, 6);
     ends(&rt, "a . 1", 0, 1004);
     ends(&rt, "a [ ]", 0, 1004);
 }

@@ -1,4 +1,4 @@
-use Rattle.std.proofs.Common.{◌≡◌, length, map, ap, ◌∙◌, ◌≤◌, arith}
+use Rattle.std.proofs.Common.{length, map, ap, ◌∙◌, ◌≤◌, arith}
 use Rattle.c_syntax.specs.Logic.{plain_annot}
 use Rattle.c_syntax.specs.Tokens.{plain_tokens, plain_token}
 use Rattle.c_model.specs.Vocabulary.{word_of}

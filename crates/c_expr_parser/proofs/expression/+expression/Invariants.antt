@@ -1,7 +1,7 @@
-use Rattle.std.proofs.Common.{◌≡◌, ◌+◌, ◌*◌, ◌≤◌, length}
+use Rattle.std.proofs.Common.{◌≡◌, ◌+◌, ◌*◌, ◌≤◌, length, map}
 use Rattle.c_syntax.specs.Expressions.{plain_expr}
 use Rattle.c_model.specs.ExpressionGrammar.{expression, written_length, brackets, postfix_rest}
-use Rattle.c_expr_parser.specs.Reading.{plain_brackets, more_brackets, more_joined}
+use Rattle.c_expr_parser.specs.Reading.{plain_brackets, more_brackets, more_joined, more_arguments, more_parts}
 use Rattle.token_reader.specs.Reading.{plain_list}
 use Rattle.c_expr_parser.proofs.expression.+expression.Given as goal
 
@@ -62,8 +62,35 @@ decreases-prefixed l = 100 * length l.tokens.now + 2
 abbrev pub decreases-sized : goal.decreases-sized
 decreases-sized l = 100 * length l.tokens.now + 2
 
+abbrev pub decreases-bump_first : goal.decreases-bump_first
+decreases-bump_first l = 100 * length l.tokens.now + 2
+
 abbrev pub decreases-operand_but_name : goal.decreases-operand_but_name
 decreases-operand_but_name l = 100 * length l.tokens.now + 3
+
+abbrev pub decreases-next_argument : goal.decreases-next_argument
+decreases-next_argument l = 100 * length l.tokens.now + 1
+
+abbrev pub decreases-more_arguments : goal.decreases-more_arguments
+decreases-more_arguments l = 100 * length l.tokens.now + 2
+
+abbrev pub invariant-more_arguments-turn : goal.invariant-more_arguments-turn
+invariant-more_arguments-turn l = record {
+  same : (more_arguments l.words (map plain_expr l.all.items)).parse (plain_list l.rest) ≡ (more_arguments l.words (map plain_expr l.fn.all.items)).parse (plain_list l.fn.tokens);
+  shorter : length l.rest ≤ length l.fn.tokens;
+}
+
+abbrev pub decreases-more_arguments-turn : goal.decreases-more_arguments-turn
+decreases-more_arguments-turn l = length l.rest
+
+abbrev pub decreases-arguments : goal.decreases-arguments
+decreases-arguments l = 100 * length l.tokens.now + 52
+
+abbrev pub decreases-call_rest : goal.decreases-call_rest
+decreases-call_rest l = 100 * length l.tokens.now + 1
+
+abbrev pub decreases-behind_variable : goal.decreases-behind_variable
+decreases-behind_variable l = 100 * length l.tokens.now + 4
 
 abbrev pub decreases-operand : goal.decreases-operand
 decreases-operand l = 100 * length l.tokens.now + 4
@@ -92,8 +119,35 @@ decreases-behind_operand l = 100 * length l.tokens.now + 2 * l.level + 10
 abbrev pub decreases-choice_rest : goal.decreases-choice_rest
 decreases-choice_rest l = 100 * length l.tokens.now + 5
 
-abbrev pub decreases-expression_rest : goal.decreases-expression_rest
-decreases-expression_rest l = 100 * length l.tokens.now + 45
+abbrev pub decreases-conditional_rest : goal.decreases-conditional_rest
+decreases-conditional_rest l = 100 * length l.tokens.now + 45
+
+abbrev pub decreases-assigned : goal.decreases-assigned
+decreases-assigned l = 100 * length l.tokens.now + 1
+
+abbrev pub decreases-behind_unary : goal.decreases-behind_unary
+decreases-behind_unary l = 100 * length l.tokens.now + 46
+
+abbrev pub decreases-behind_form : goal.decreases-behind_form
+decreases-behind_form l = 100 * length l.tokens.now + 47
+
+abbrev pub decreases-expression_at : goal.decreases-expression_at
+decreases-expression_at l = 100 * length l.tokens.now + 48
+
+abbrev pub decreases-next_part : goal.decreases-next_part
+decreases-next_part l = 100 * length l.tokens.now + 1
+
+abbrev pub decreases-more_parts : goal.decreases-more_parts
+decreases-more_parts l = 100 * length l.tokens.now + 2
+
+abbrev pub invariant-more_parts-turn : goal.invariant-more_parts-turn
+invariant-more_parts-turn l = record {
+  same : (more_parts l.words (plain_expr l.left)).parse (plain_list l.rest) ≡ (more_parts l.words (plain_expr l.fn.left)).parse (plain_list l.fn.tokens);
+  shorter : length l.rest ≤ length l.fn.tokens;
+}
+
+abbrev pub decreases-more_parts-turn : goal.decreases-more_parts-turn
+decreases-more_parts-turn l = length l.rest
 
 abbrev pub decreases-expression : goal.decreases-expression
 decreases-expression l = 100 * length l.tokens.now + 50

@@ -1,4 +1,4 @@
-use Rattle.c_expr_parser.proofs.ExactExpressions.{expression_form}
+use Rattle.c_expr_parser.proofs.ExactExpressions.{level_form}
 use Rattle.c_expr_parser.proofs.Answers.{one, begun, fronts}
 use Rattle.c_expr_parser.proofs.read.one_expression.Goals as goal
 
@@ -12,4 +12,4 @@ pub returns-clause-fronts : goal.returns-clause-fronts
 returns-clause-fronts c = fronts
 
 pub returns-clause-form : goal.returns-clause-form
-returns-clause-form c = expression_form
+returns-clause-form c = level_form

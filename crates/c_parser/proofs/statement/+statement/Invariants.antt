@@ -1,7 +1,8 @@
 use Rattle.std.proofs.Common.{◌≡◌, ◌+◌, ◌*◌, length, map}
 use Rattle.c_syntax.specs.Statements.{plain_item}
-use Rattle.c_model.specs.ProgramGrammar.{items, statement_in}
+use Rattle.c_model.specs.ProgramGrammar.{items, case_items, cases, statement_in}
 use Rattle.token_reader.specs.Reading.{plain_list}
+use Rattle.c_parser.specs.Reading.{read_case}
 use Rattle.c_parser.proofs.statement.+statement.Given as goal
 
 abbrev pub decreases-else_branch : goal.decreases-else_branch
@@ -40,6 +41,38 @@ decreases-items-turn l = length l.rest
 
 abbrev pub decreases-block : goal.decreases-block
 decreases-block l = 10 * l.levels + 4
+
+abbrev pub decreases-case_item : goal.decreases-case_item
+decreases-case_item l = 10 * l.levels + 1
+
+abbrev pub decreases-case_items_once : goal.decreases-case_items_once
+decreases-case_items_once l = 10 * l.levels + 2
+
+abbrev pub decreases-case_items : goal.decreases-case_items
+decreases-case_items l = 10 * l.levels + 3
+
+abbrev pub invariant-case_items-turn : goal.invariant-case_items-turn
+invariant-case_items-turn l = (case_items l.words (statement_in l.words l.levels) (map plain_item l.all.items, l.state)).parse (plain_list l.rest) ≡
+    (case_items l.words (statement_in l.words l.levels) (map plain_item l.fn.all.items, l.fn.state)).parse (plain_list l.fn.tokens)
+
+abbrev pub decreases-case_items-turn : goal.decreases-case_items-turn
+decreases-case_items-turn l = length l.rest
+
+abbrev pub decreases-next_case : goal.decreases-next_case
+decreases-next_case l = 10 * l.levels + 4
+
+abbrev pub decreases-cases : goal.decreases-cases
+decreases-cases l = 10 * l.levels + 5
+
+abbrev pub invariant-cases-turn : goal.invariant-cases-turn
+invariant-cases-turn l = (cases l.words (statement_in l.words l.levels) (map read_case l.all.items, l.state)).parse (plain_list l.rest) ≡
+    (cases l.words (statement_in l.words l.levels) (map read_case l.fn.all.items, l.fn.state)).parse (plain_list l.fn.tokens)
+
+abbrev pub decreases-cases-turn : goal.decreases-cases-turn
+decreases-cases-turn l = length l.rest
+
+abbrev pub decreases-switch_statement : goal.decreases-switch_statement
+decreases-switch_statement l = 10 * l.levels + 6
 
 abbrev pub decreases-statement : goal.decreases-statement
 decreases-statement l = 10 * l.levels

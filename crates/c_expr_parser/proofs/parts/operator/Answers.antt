@@ -4,8 +4,7 @@ use Rattle.grammar.specs.Syntax.{one}
 use Rattle.c_model.specs.declared.operands.Connective.{Connective}
 use Rattle.c_model.specs.Terminals.{placed, mark_entry}
 use Rattle.token_reader.specs.Reading.{Gives, plain_list}
-use Rattle.c_expr_parser.proofs.expression.operator.Goals as goal
+use Rattle.c_expr_parser.proofs.parts.operator.Goals as goal
 
--- src/expression.rt
 pub returns-clause-read : goal.returns-clause-read
 returns-clause-read c = subst (λ (table : List (ℕ × Connective)). Gives (λ x. ((x.0, x.1), plain_list x.2.now)) c.marked.result ((one (placed (mark_entry table))).parse (plain_list c.args.tokens.now))) c.operators_at.ensures c.marked.ensures.read
