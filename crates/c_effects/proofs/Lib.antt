@@ -2,7 +2,6 @@ pub mod Sequences
 pub mod Layouts
 pub mod Trees
 pub mod Pures
-pub mod FullForms
 pub mod Objects
 pub mod Depths
 pub mod ScalarTrees

@@ -1,18 +1,15 @@
 -- The translation of an expression without effects is that of `Expressions`, and nothing is left of it for its effects.
-use Rattle.std.proofs.Common.{◌≡◌, Bool, true, false, not, ◌&&◌, List, [], ◌++◌, refl, ap}
+use Rattle.std.proofs.Common.{◌≡◌, Bool, true, false, not, ◌&&◌, List, [], ◌++◌, refl, ap, ◌∙◌, append-nil}
 use Rattle.c_syntax.specs.declared.expression.UnOp.TheVariants as prefix
 use Rattle.c_syntax.specs.Expressions.{Expression, Node, Number, Letter, Text, Variable, Unary, Binary, Both, Either, Choice, Assign, Bump, Call, Cast, SizeOfType, SizeOfExpr, Index, Dot, Arrow, Comma}
-use Rattle.c_syntax.specs.Expressions.{Expressions, NoExpression, Following}
-use Rattle.c_syntax.specs.Programs.{StructType, TranslationUnit}
-use Rattle.c_model.specs.Meaning.{is_member}
-use Rattle.c_model.specs.Pure.{ArePure, IsPure}
+use Rattle.c_syntax.specs.Programs.{TranslationUnit}
+use Rattle.c_model.specs.Pure.{IsPure}
 use Rattle.mon_syntax.specs.declared.tree.MonType.{MonType}
 use Rattle.mon_syntax.specs.Registers.{Bindings}
 use Rattle.mon_syntax.specs.Trees.{NoStatement}
 use Rattle.c_effects.specs.Expressions.{value, place, setup, temporaries}
-use Rattle.c_effects.specs.Effects.{arguments, arguments_setup, arguments_temporaries, base, offset_in}
-use Rattle.c_effects.specs.Full.{are_pure, is_inner, is_pure, is_settled, inner_offset, keeps, keeps_all}
-use Rattle.c_effects.specs.Full.{act, act_takes, all_results, all_takes, location, origin, prepare, prepare_all, result, takes}
+use Rattle.c_effects.specs.Full.{is_pure, is_settled, keeps}
+use Rattle.c_effects.specs.Full.{act, act_takes, location, prepare, result, takes}
 
 pub pure_bool : (e : Expression) → IsPure e → is_pure e ≡ true
 pure_bool (Node at t (Number n k)) p = refl
@@ -33,11 +30,7 @@ pure_bool (Node at t (Arrow a m)) p = pure_bool a p
 pure_bool (Node at t (Assign op a b)) p = absurd p
 pure_bool (Node at t (Bump op a)) p = absurd p
 pure_bool (Node at t (Call f es)) p = absurd p
-pure_bool (Node at t (Comma a b)) p = absurd p
-
-pub pure_bools : (es : Expressions) → ArePure es → are_pure es ≡ true
-pure_bools NoExpression p = refl
-pure_bools (Following e es) p = rw (pure_bool e p.0) (pure_bools es p.1)
+pure_bool (Node at t (Comma a b)) p = rw (pure_bool a p.0) (pure_bool b p.1)
 
 -- a value kept is none, where what is evaluated after it has no effect
 kept_none : (b c : Bool) → c ≡ true → (not b && not c) ≡ false
@@ -47,80 +40,8 @@ kept_none false c h = ap not h
 pub keeps_none : (a b : Expression) → IsPure b → keeps a b ≡ false
 keeps_none a b p = kept_none (is_settled a) (is_pure b) (pure_bool b p)
 
-pub keeps_all_none : (a : Expression) (es : Expressions) → ArePure es → keeps_all a es ≡ false
-keeps_all_none a es p = kept_none (is_settled a) (are_pure es) (pure_bools es p)
-
--- ---- members
-
-pub inner_member : (e : Expression) → IsPure e → is_inner e ≡ is_member e
-inner_member (Node at t (Dot a m)) p = refl
-inner_member (Node at t (Arrow a m)) p = refl
-inner_member (Node at t (Assign op a b)) p = absurd p
-inner_member (Node at t (Comma a b)) p = absurd p
-inner_member (Node at t (Number n k)) p = refl
-inner_member (Node at t (Letter n)) p = refl
-inner_member (Node at t (Text n)) p = refl
-inner_member (Node at t (Variable x)) p = refl
-inner_member (Node at t (Unary op a)) p = refl
-inner_member (Node at t (Binary op a b)) p = refl
-inner_member (Node at t (Both a b)) p = refl
-inner_member (Node at t (Either a b)) p = refl
-inner_member (Node at t (Choice a b c)) p = refl
-inner_member (Node at t (Cast to a)) p = refl
-inner_member (Node at t (SizeOfType u)) p = refl
-inner_member (Node at t (SizeOfExpr a)) p = refl
-inner_member (Node at t (Index a b)) p = refl
-inner_member (Node at t (Bump op a)) p = absurd p
-inner_member (Node at t (Call f es)) p = absurd p
-
-pub inner_offset_in : (structs : List StructType) (e : Expression) → IsPure e → inner_offset structs e ≡ offset_in structs e
-inner_offset_in structs (Node at t (Dot a m)) p = rw (inner_offset_in structs a p) refl
-inner_offset_in structs (Node at t (Arrow a m)) p = refl
-inner_offset_in structs (Node at t (Assign op a b)) p = absurd p
-inner_offset_in structs (Node at t (Comma a b)) p = absurd p
-inner_offset_in structs (Node at t (Number n k)) p = refl
-inner_offset_in structs (Node at t (Letter n)) p = refl
-inner_offset_in structs (Node at t (Text n)) p = refl
-inner_offset_in structs (Node at t (Variable x)) p = refl
-inner_offset_in structs (Node at t (Unary op a)) p = refl
-inner_offset_in structs (Node at t (Binary op a b)) p = refl
-inner_offset_in structs (Node at t (Both a b)) p = refl
-inner_offset_in structs (Node at t (Either a b)) p = refl
-inner_offset_in structs (Node at t (Choice a b c)) p = refl
-inner_offset_in structs (Node at t (Cast to a)) p = refl
-inner_offset_in structs (Node at t (SizeOfType u)) p = refl
-inner_offset_in structs (Node at t (SizeOfExpr a)) p = refl
-inner_offset_in structs (Node at t (Index a b)) p = refl
-inner_offset_in structs (Node at t (Bump op a)) p = absurd p
-inner_offset_in structs (Node at t (Call f es)) p = absurd p
-
 module _ (p : TranslationUnit) where
   -- ---- registers
-
-  pub takes_pure : (e : Expression) → IsPure e → takes p e ≡ temporaries e
-  takes_pure (Node at t (Number n k)) h = refl
-  takes_pure (Node at t (Letter n)) h = refl
-  takes_pure (Node at t (Text n)) h = refl
-  takes_pure (Node at t (Variable x)) h = refl
-  takes_pure (Node at t (Unary op a)) h = takes_pure a h
-  takes_pure (Node at t (Binary op a b)) h = rw (keeps_none a b h.1) (rw (takes_pure a h.0) (rw (takes_pure b h.1) refl))
-  takes_pure (Node at t (Both a b)) h = rw (takes_pure a h.0) (rw (takes_pure b h.1) refl)
-  takes_pure (Node at t (Either a b)) h = rw (takes_pure a h.0) (rw (takes_pure b h.1) refl)
-  takes_pure (Node at t (Choice a b c)) h = rw (takes_pure a h.0) (rw (takes_pure b h.1) (rw (takes_pure c h.2) refl))
-  takes_pure (Node at t (Cast to a)) h = takes_pure a h
-  takes_pure (Node at t (SizeOfType u)) h = refl
-  takes_pure (Node at t (SizeOfExpr a)) h = refl
-  takes_pure (Node at t (Index a b)) h = rw (keeps_none a b h.1) (rw (takes_pure a h.0) (rw (takes_pure b h.1) refl))
-  takes_pure (Node at t (Dot a m)) h = takes_pure a h
-  takes_pure (Node at t (Arrow a m)) h = takes_pure a h
-  takes_pure (Node at t (Assign op a b)) h = absurd h
-  takes_pure (Node at t (Bump op a)) h = absurd h
-  takes_pure (Node at t (Call f es)) h = absurd h
-  takes_pure (Node at t (Comma a b)) h = absurd h
-
-  pub all_takes_pure : (es : Expressions) → ArePure es → all_takes p es ≡ arguments_temporaries es
-  all_takes_pure NoExpression h = refl
-  all_takes_pure (Following e es) h = rw (keeps_all_none e es h.1) (rw (takes_pure e h.0) (rw (all_takes_pure es h.1) refl))
 
   -- for its effects an expression without any takes none
   pub act_takes_pure : (e : Expression) → IsPure e → act_takes p e ≡ []
@@ -142,9 +63,56 @@ module _ (p : TranslationUnit) where
   act_takes_pure (Node at t (Assign op a b)) h = absurd h
   act_takes_pure (Node at t (Bump op a)) h = absurd h
   act_takes_pure (Node at t (Call f es)) h = absurd h
-  act_takes_pure (Node at t (Comma a b)) h = absurd h
+  act_takes_pure (Node at t (Comma a b)) h = rw (act_takes_pure a h.0) (act_takes_pure b h.1)
+
+  pub takes_pure : (e : Expression) → IsPure e → takes p e ≡ temporaries e
+  takes_pure (Node at t (Number n k)) h = refl
+  takes_pure (Node at t (Letter n)) h = refl
+  takes_pure (Node at t (Text n)) h = refl
+  takes_pure (Node at t (Variable x)) h = refl
+  takes_pure (Node at t (Unary op a)) h = takes_pure a h
+  takes_pure (Node at t (Binary op a b)) h = rw (keeps_none a b h.1) (rw (takes_pure a h.0) (rw (takes_pure b h.1) refl))
+  takes_pure (Node at t (Both a b)) h = rw (takes_pure a h.0) (rw (takes_pure b h.1) refl)
+  takes_pure (Node at t (Either a b)) h = rw (takes_pure a h.0) (rw (takes_pure b h.1) refl)
+  takes_pure (Node at t (Choice a b c)) h = rw (takes_pure a h.0) (rw (takes_pure b h.1) (rw (takes_pure c h.2) refl))
+  takes_pure (Node at t (Cast to a)) h = takes_pure a h
+  takes_pure (Node at t (SizeOfType u)) h = refl
+  takes_pure (Node at t (SizeOfExpr a)) h = refl
+  takes_pure (Node at t (Index a b)) h = rw (keeps_none a b h.1) (rw (takes_pure a h.0) (rw (takes_pure b h.1) refl))
+  takes_pure (Node at t (Dot a m)) h = takes_pure a h
+  takes_pure (Node at t (Arrow a m)) h = takes_pure a h
+  takes_pure (Node at t (Assign op a b)) h = absurd h
+  takes_pure (Node at t (Bump op a)) h = absurd h
+  takes_pure (Node at t (Call f es)) h = absurd h
+  takes_pure (Node at t (Comma a b)) h = rw (act_takes_pure a h.0) (takes_pure b h.1)
 
   module _ (bound : Bindings) where
+    -- nothing is done for its effects
+    pub act_pure : (e : Expression) (rs : List MonType) → IsPure e → act p bound rs e ≡ NoStatement
+    act_pure (Node at t (Number n k)) rs h = refl
+    act_pure (Node at t (Letter n)) rs h = refl
+    act_pure (Node at t (Text n)) rs h = refl
+    act_pure (Node at t (Variable x)) rs h = refl
+    act_pure (Node at t (Unary op a)) rs h = act_pure a rs h
+    act_pure (Node at t (Binary op a b)) rs h = rw (act_pure a rs h.0) (act_pure b (rs ++ act_takes p a) h.1)
+    act_pure (Node at t (Both a b)) rs h = rw (pure_bool b h.1) (act_pure a rs h.0)
+    act_pure (Node at t (Either a b)) rs h = rw (pure_bool b h.1) (act_pure a rs h.0)
+    act_pure (Node at t (Choice a b c)) rs h = rw (pure_bool b h.1) (rw (pure_bool c h.2) (act_pure a rs h.0))
+    act_pure (Node at t (Cast to a)) rs h = act_pure a rs h
+    act_pure (Node at t (SizeOfType u)) rs h = refl
+    act_pure (Node at t (SizeOfExpr a)) rs h = refl
+    act_pure (Node at t (Index a b)) rs h = rw (act_pure a rs h.0) (act_pure b (rs ++ act_takes p a) h.1)
+    act_pure (Node at t (Dot a m)) rs h = act_pure a rs h
+    act_pure (Node at t (Arrow a m)) rs h = act_pure a rs h
+    act_pure (Node at t (Assign op a b)) rs h = absurd h
+    act_pure (Node at t (Bump op a)) rs h = absurd h
+    act_pure (Node at t (Call f es)) rs h = absurd h
+    act_pure (Node at t (Comma a b)) rs h = rw (act_pure a rs h.0) (act_pure b (rs ++ act_takes p a) h.1)
+
+    -- behind what takes no register
+    behind_pure : (e : Expression) (rs : List MonType) → IsPure e → rs ++ act_takes p e ≡ rs
+    behind_pure e rs h = ap (λ ts. rs ++ ts) (act_takes_pure e h) ∙ append-nil rs
+
     -- ---- values and places
 
     mutual
@@ -172,7 +140,7 @@ module _ (p : TranslationUnit) where
       result_pure (Node at t (Assign op a b)) rs h = absurd h
       result_pure (Node at t (Bump op a)) rs h = absurd h
       result_pure (Node at t (Call f es)) rs h = absurd h
-      result_pure (Node at t (Comma a b)) rs h = absurd h
+      result_pure (Node at t (Comma a b)) rs h = rw (behind_pure a rs h.0) (result_pure b rs h.1)
 
       pub location_pure : (e : Expression) (rs : List MonType) → IsPure e → location p bound rs e ≡ place p bound rs e
       location_pure (Node at t (Variable x)) rs h = refl
@@ -198,33 +166,7 @@ module _ (p : TranslationUnit) where
       location_pure (Node at t (Assign op a b)) rs h = absurd h
       location_pure (Node at t (Bump op a)) rs h = absurd h
       location_pure (Node at t (Call f es)) rs h = absurd h
-      location_pure (Node at t (Comma a b)) rs h = absurd h
-
-    pub origin_pure : (e : Expression) (rs : List MonType) → IsPure e → origin p bound rs e ≡ base p bound rs e
-    origin_pure (Node at t (Dot a m)) rs h = origin_pure a rs h
-    origin_pure (Node at t (Arrow a m)) rs h = result_pure a rs h
-    origin_pure (Node at t (Assign op a b)) rs h = absurd h
-    origin_pure (Node at t (Comma a b)) rs h = absurd h
-    origin_pure (Node at t (Bump op a)) rs h = absurd h
-    origin_pure (Node at t (Call f es)) rs h = absurd h
-    origin_pure (Node at t (Variable x)) rs h = refl
-    origin_pure (Node at t (Text n)) rs h = refl
-    origin_pure (Node at t (Unary op a)) rs h = location_pure (Node at t (Unary op a)) rs h
-    origin_pure (Node at t (Index a b)) rs h = location_pure (Node at t (Index a b)) rs h
-    origin_pure (Node at t (Number n k)) rs h = refl
-    origin_pure (Node at t (Letter n)) rs h = refl
-    origin_pure (Node at t (Binary op a b)) rs h = refl
-    origin_pure (Node at t (Both a b)) rs h = refl
-    origin_pure (Node at t (Either a b)) rs h = refl
-    origin_pure (Node at t (Choice a b c)) rs h = refl
-    origin_pure (Node at t (Cast to a)) rs h = refl
-    origin_pure (Node at t (SizeOfType u)) rs h = refl
-    origin_pure (Node at t (SizeOfExpr a)) rs h = refl
-
-    pub all_results_pure : (es : Expressions) (rs : List MonType) → ArePure es → all_results p bound rs es ≡ arguments p bound rs es
-    all_results_pure NoExpression rs h = refl
-    all_results_pure (Following e es) rs h =
-        rw (keeps_all_none e es h.1) (rw (takes_pure e h.0) (rw (result_pure e rs h.0) (rw (all_results_pure es (rs ++ temporaries e) h.1) refl)))
+      location_pure (Node at t (Comma a b)) rs h = rw (behind_pure a rs h.0) (location_pure b rs h.1)
 
     -- ---- statements
 
@@ -251,31 +193,4 @@ module _ (p : TranslationUnit) where
     prepare_pure (Node at t (Assign op a b)) rs h = absurd h
     prepare_pure (Node at t (Bump op a)) rs h = absurd h
     prepare_pure (Node at t (Call f es)) rs h = absurd h
-    prepare_pure (Node at t (Comma a b)) rs h = absurd h
-
-    pub prepare_all_pure : (es : Expressions) (rs : List MonType) → ArePure es → prepare_all p bound rs es ≡ arguments_setup p bound rs es
-    prepare_all_pure NoExpression rs h = refl
-    prepare_all_pure (Following e es) rs h =
-        rw (keeps_all_none e es h.1) (rw (takes_pure e h.0) (rw (prepare_pure e rs h.0) (rw (prepare_all_pure es (rs ++ temporaries e) h.1) refl)))
-
-    -- nothing is done for its effects
-    pub act_pure : (e : Expression) (rs : List MonType) → IsPure e → act p bound rs e ≡ NoStatement
-    act_pure (Node at t (Number n k)) rs h = refl
-    act_pure (Node at t (Letter n)) rs h = refl
-    act_pure (Node at t (Text n)) rs h = refl
-    act_pure (Node at t (Variable x)) rs h = refl
-    act_pure (Node at t (Unary op a)) rs h = act_pure a rs h
-    act_pure (Node at t (Binary op a b)) rs h = rw (act_pure a rs h.0) (act_pure b (rs ++ act_takes p a) h.1)
-    act_pure (Node at t (Both a b)) rs h = rw (pure_bool b h.1) (act_pure a rs h.0)
-    act_pure (Node at t (Either a b)) rs h = rw (pure_bool b h.1) (act_pure a rs h.0)
-    act_pure (Node at t (Choice a b c)) rs h = rw (pure_bool b h.1) (rw (pure_bool c h.2) (act_pure a rs h.0))
-    act_pure (Node at t (Cast to a)) rs h = act_pure a rs h
-    act_pure (Node at t (SizeOfType u)) rs h = refl
-    act_pure (Node at t (SizeOfExpr a)) rs h = refl
-    act_pure (Node at t (Index a b)) rs h = rw (act_pure a rs h.0) (act_pure b (rs ++ act_takes p a) h.1)
-    act_pure (Node at t (Dot a m)) rs h = act_pure a rs h
-    act_pure (Node at t (Arrow a m)) rs h = act_pure a rs h
-    act_pure (Node at t (Assign op a b)) rs h = absurd h
-    act_pure (Node at t (Bump op a)) rs h = absurd h
-    act_pure (Node at t (Call f es)) rs h = absurd h
-    act_pure (Node at t (Comma a b)) rs h = absurd h
+    prepare_pure (Node at t (Comma a b)) rs h = rw (act_pure a rs h.0) (rw (behind_pure a rs h.0) (prepare_pure b rs h.1))

@@ -187,7 +187,8 @@ temporaries (Node at t (source.Text n)) = []
 temporaries (Node at t (source.Index a b)) = temporaries a ++ temporaries b
 temporaries (Node at t (source.Dot a m)) = temporaries a
 temporaries (Node at t (source.Arrow a m)) = temporaries a
-temporaries (Node at t (source.Comma a b)) = []
+-- nothing is left of what has no effect, in front of a comma
+temporaries (Node at t (source.Comma a b)) = temporaries b
 
 -- the pointer to the block of a declaration: in the register that is bound to it, or else that of a global
 abbrev pub pointer_of : Option ℕ → ℕ → MonExpression
@@ -237,7 +238,8 @@ abbrev mutual
   value p bound rs (Node at t (source.Assign op a b)) = Constant I32 (pos 0)
   value p bound rs (Node at t (source.Bump op a)) = Constant I32 (pos 0)
   value p bound rs (Node at t (source.Call f args)) = Constant I32 (pos 0)
-  value p bound rs (Node at t (source.Comma a b)) = Constant I32 (pos 0)
+  -- nothing is left of what has no effect, in front of a comma
+  value p bound rs (Node at t (source.Comma a b)) = value p bound rs b
 
   pub place : TranslationUnit → Bindings → List MonType → Expression → MonExpression
   place p bound rs (Node at t (source.Variable x)) = pointer_to p bound x.decl
@@ -247,6 +249,7 @@ abbrev mutual
       indexed p.structs (type_of a) (type_of b) (value p bound rs a) (value p bound (rs ++ temporaries a) b)
   place p bound rs (Node at t (source.Dot a m)) = farther (place p bound rs a) (offset_of p.structs (type_of a) m)
   place p bound rs (Node at t (source.Arrow a m)) = farther (value p bound rs a) (offset_of p.structs (target_of (type_of a)) m)
+  place p bound rs (Node at t (source.Comma a b)) = place p bound rs b
   -- no other expression designates an object
   place p bound rs (Node at t _) = Constant Ptr (pos 0)
 
@@ -299,4 +302,5 @@ setup p bound rs (Node at t (source.Text n)) = NoStatement
 setup p bound rs (Node at t (source.Index a b)) = before (setup p bound rs a) (setup p bound (rs ++ temporaries a) b)
 setup p bound rs (Node at t (source.Dot a m)) = setup p bound rs a
 setup p bound rs (Node at t (source.Arrow a m)) = setup p bound rs a
-setup p bound rs (Node at t (source.Comma a b)) = NoStatement
+-- nothing is left of what has no effect, in front of a comma
+setup p bound rs (Node at t (source.Comma a b)) = setup p bound rs b

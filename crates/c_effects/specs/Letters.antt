@@ -31,7 +31,8 @@ HasLetters (Node at t (source.Text n)) = Unit {0}
 HasLetters (Node at t (source.Index a b)) = HasLetters a × HasLetters b
 HasLetters (Node at t (source.Dot a m)) = HasLetters a
 HasLetters (Node at t (source.Arrow a m)) = HasLetters a
-HasLetters (Node at t (source.Comma a b)) = Unit {0}
+-- nothing is left of what stands in front
+HasLetters (Node at t (source.Comma a b)) = HasLetters b
 
 abbrev pub Any : {A : Type 0} → (A → Type 0) → Option A → Type 0
 Any P None = Unit {0}

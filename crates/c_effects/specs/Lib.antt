@@ -1,7 +1,6 @@
 pub mod Expressions
 pub mod Effects
 pub mod Full
-pub mod FullLaws
 pub mod Letters
 pub mod Parts
 pub mod Named

@@ -22,6 +22,3 @@ pub mod object;
 
 // which values are kept
 pub mod settled;
-
-// laws
-pub mod laws;

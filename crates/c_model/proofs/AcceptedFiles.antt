@@ -5,16 +5,16 @@ use Rattle.c_syntax.specs.Programs.{TranslationUnit}
 use Rattle.c_model.specs.Checked.{Good}
 use Rattle.c_model.specs.UnitTyping.{typed_unit, room_fault, main_fault}
 use Rattle.c_model.specs.AnnotationTyping.{noted_unit}
-use Rattle.c_model.specs.Formed.{number_of, Ascend, AreNamed}
+use Rattle.c_model.specs.Formed.{AreReadAsserts, number_of, Ascend, AreNamed}
 use Rattle.c_model.specs.FullExpressions.{EachDeclared, EachInFunctions}
 use Rattle.c_model.specs.Sizes.{IsSmall}
 use Rattle.c_model.specs.SmallTypes.{TypesSmall}
-use Rattle.c_model.specs.ReadTree.{TextsAreBytes, ReadTree}
+use Rattle.c_model.specs.ReadTree.{FunctionsRead, TextsAreBytes, ReadTree}
 use Rattle.c_model.specs.AcceptedPrograms.{AreConstant, EachExpression, IsProgram}
 use Rattle.c_model.proofs.TypedParts.{gives_of}
 use Rattle.c_model.proofs.CompatibleFunctions.{unit_compatible}
 use Rattle.c_model.proofs.SmallPrograms.{HasSmallExpressions, unit_small}
-use Rattle.c_model.proofs.KeptForms.{HasForms, forms_kept}
+use Rattle.c_model.proofs.KeptForms.{forms_kept}
 use Rattle.c_model.proofs.NotedPrograms.{IsTypedFile, IsNotedFile, noted_file}
 use Rattle.c_model.proofs.TypedPrograms.{TypedFile, typed_file}
 use Rattle.c_model.proofs.TypedNumbers.{TypedInOrder, typed_in_order}
@@ -30,7 +30,7 @@ module _ (p q : TranslationUnit) (t : ReadTree p) (is : typed_unit p ≡ Good q)
     order : TypedInOrder q
     order = typed_in_order p q t.order is
 
-    forms : HasForms q
+    forms : FunctionsRead AreReadAsserts q.funcs
     forms = forms_kept p q t is
 
     small : HasSmallExpressions q
@@ -45,7 +45,7 @@ module _ (p q : TranslationUnit) (t : ReadTree p) (is : typed_unit p ≡ Good q)
       functions = order.functions;
       numbered = order.numbers;
       named = typed_functions_named p q file.read t.functions_named;
-      effects = forms.functions;
+      effects = forms;
       each = each;
       few = subst (λ n. n < 2 ^ 32) (sym (typed_functions_count p q file.read)) t.few_functions;
       main = main;
@@ -57,7 +57,7 @@ module _ (p q : TranslationUnit) (t : ReadTree p) (is : typed_unit p ≡ Good q)
       noted = light.noted;
       resolved = light.resolved;
       effects = light.effects;
-      constant = subst (λ (x : TranslationUnit). AreConstant x.globals) back (globals_constant p q is forms.globals);
+      constant = subst (λ (x : TranslationUnit). AreConstant x.globals) back (globals_constant p q is);
       small = record { globals = subst (λ (x : TranslationUnit). EachDeclared IsSmall x.globals) back small.globals; funcs = light.each };
       small_types = record {
         globals = subst (λ (x : TranslationUnit). EachDeclared (TypesSmall x.structs) x.globals) back types.globals;

@@ -8,7 +8,7 @@ use Rattle.c_model.specs.Meaning.{is_definition}
 use Rattle.c_model.specs.Library.{is_there}
 use Rattle.c_model.specs.Checked.{Checked, Good, Bad, one_part, where_so}
 use Rattle.c_syntax.specs.declared.place.Place.{Place}
-use Rattle.c_model.specs.ExpressionTyping.{no_name, too_large, Sight, with_object, inner, is_void, is_struct, is_scalar, is_unknown, sized, typed_type, known_type}
+use Rattle.c_model.specs.ExpressionTyping.{no_name, Sight, with_object, inner, is_void, is_struct, is_scalar, is_unknown, sized, typed_type, known_type}
 use Rattle.c_model.specs.DeclarationTyping.{scalar_type, typed_result, typed_global, typed_typedef, typed_member, typed_enumerators}
 use Rattle.c_model.specs.StatementTyping.{typed_items}
 use Rattle.c_model.specs.UnitTyping.{FileItem, StructHead, Member, AnEnum, ATypedef, AGlobal, AFunction, items_of_file, with_type, with_tag, with_function, with_parameters, same_signature, is_compatible, is_compatible_with_all}

@@ -58,7 +58,6 @@ pub mod OperandParentheses
 pub mod NotedTerms
 pub mod NotedForms
 pub mod NotedPrograms
-pub mod KeptExpressions
 pub mod KeptStatements
 pub mod KeptForms
 pub mod StableConstants

@@ -108,7 +108,7 @@ module _ (P : Expression → Type 0) where
           deep = λ i. 1 + max (p.deep i) (q.deep i);
           declares = λ i. p.declares i ++ q.declares i;
           each = λ h. (h.0, p.each h.1, q.each h.2);
-          placed = λ k h. (h.0, p.placed k h.1, q.placed k h.2);
+          placed = λ k h. (p.placed k h.0, q.placed k h.1);
         }))
     statement_kept s (While at annots e a) =
         gives_one (AreSameNotes s annots) (IsKept s (While at annots e a)) (typed_annotations s annots) (λ xs. one_part (noted_statement s a) (λ x. Good (While at xs e x))) (annotations_kept s annots) (λ xs n.
@@ -116,10 +116,10 @@ module _ (P : Expression → Type 0) where
           deep = ap (λ k. 1 + k) p.deep;
           declares = p.declares;
           each = λ h. (h.0, p.each h.1);
-          placed = λ k h. (n.none h.0, h.1, p.placed k h.2);
+          placed = λ k h. (n.none h.0, p.placed k h.1);
         }))
     statement_kept s (Do at a e) = gives_one (IsKept s a) (IsKept s (Do at a e)) (noted_statement s a) (λ x. Good (Do at x e)) (statement_kept s a)
-        (λ x p. record { deep = ap (λ n. 1 + n) p.deep; declares = p.declares; each = λ h. (p.each h.0, h.1); placed = λ k h. (p.placed k h.0, h.1) })
+        (λ x p. record { deep = ap (λ n. 1 + n) p.deep; declares = p.declares; each = λ h. (p.each h.0, h.1); placed = p.placed })
     statement_kept s (For at annots first e step a) =
         gives_one (AreSameNotes s annots) (IsKept s (For at annots first e step a)) (typed_annotations s annots)
         (λ xs. one_part (noted_statement (behind_first (inner s) first) a) (λ x. Good (For at xs first e step x))) (annotations_kept s annots) (λ xs n.
@@ -128,7 +128,7 @@ module _ (P : Expression → Type 0) where
           deep = ap (λ k. 1 + k) p.deep;
           declares = ap (λ ds. declared_in_first first ++ ds) p.declares;
           each = λ h. (h.0, h.1, h.2, p.each h.3);
-          placed = λ k h. (n.none h.0, h.1, h.2, h.3, p.placed (values_behind_first (inner s) first k) h.4);
+          placed = λ k h. (n.none h.0, h.1, p.placed (values_behind_first (inner s) first k) h.2);
         }))
     statement_kept s (Break at) = record { deep = refl; declares = refl; each = λ h. h; placed = λ k h. h }
     statement_kept s (Continue at) = record { deep = refl; declares = refl; each = λ h. h; placed = λ k h. h }
@@ -137,7 +137,7 @@ module _ (P : Expression → Type 0) where
         (λ x p. record { deep = ap (λ n. 1 + n) p.deep; declares = p.declares; each = p.each; placed = λ k h. absurd h })
     statement_kept s (Switch at e cases) =
         gives_one (AreCasesKept s cases) (IsKept s (Switch at e cases)) (noted_cases s cases) (λ x. Good (Switch at e x)) (cases_kept s cases)
-        (λ x p. record { deep = ap (λ n. 1 + n) p.deep; declares = p.declares; each = λ h. (h.0, p.each h.1); placed = λ k h. (h.0, p.placed k h.1) })
+        (λ x p. record { deep = ap (λ n. 1 + n) p.deep; declares = p.declares; each = λ h. (h.0, p.each h.1); placed = p.placed })
 
     cases_kept : (s : Sight) (cases : Cases) → Gives (AreCasesKept s cases) (noted_cases s cases)
     cases_kept s NoCase = record { deep = refl; declares = refl; each = λ h. h; placed = λ k h. h }

@@ -82,19 +82,19 @@ mutual
   statement_noted s (If at e a b) =
       gives_one (IsNoted s a) (IsNoted s (If at e a b)) (noted_statement s a) (λ a. one_part (noted_else s b) (λ b. Good (If at e a b))) (statement_noted s a) (λ c v.
       gives_one (IsElseNoted s b) (IsNoted s (If at e a b)) (noted_else s b) (λ b. Good (If at e c b)) (else_noted s b) (λ d w.
-      record { noted = λ p. (v.noted p.1, w.noted p.2); kept = λ u r h. (h.0, v.kept u r h.1, w.kept u r h.2) }))
+      record { noted = λ p. (v.noted p.0, w.noted p.1); kept = λ u r h. (h.0, v.kept u r h.1, w.kept u r h.2) }))
   statement_noted s (While at annots e a) =
       gives_one (WellNoted s annots) (IsNoted s (While at annots e a)) (typed_annotations s annots) (λ annots. one_part (noted_statement s a) (λ a. Good (While at annots e a))) (annotations_noted s annots) (λ n v.
       gives_one (IsNoted s a) (IsNoted s (While at annots e a)) (noted_statement s a) (λ a. Good (While at n e a)) (statement_noted s a) (λ c w.
-      record { noted = λ p. (v (none_read annots p.0), w.noted p.2); kept = λ u r h. (h.0, w.kept u (in_loop r) h.1) }))
+      record { noted = λ p. (v (none_read annots p.0), w.noted p.1); kept = λ u r h. (h.0, w.kept u (in_loop r) h.1) }))
   statement_noted s (Do at a e) =
       gives_one (IsNoted s a) (IsNoted s (Do at a e)) (noted_statement s a) (λ a. Good (Do at a e)) (statement_noted s a) (λ c w.
-      record { noted = λ p. w.noted p.0; kept = λ u r h. (w.kept u (in_loop r) h.0, h.1) })
+      record { noted = w.noted; kept = λ u r h. (w.kept u (in_loop r) h.0, h.1) })
   statement_noted s (For at annots first e step a) =
       gives_one (WellNoted s annots) (IsNoted s (For at annots first e step a)) (typed_annotations s annots)
       (λ annots. one_part (noted_statement (behind_first (inner s) first) a) (λ a. Good (For at annots first e step a))) (annotations_noted s annots) (λ n v.
       gives_one (IsNoted (behind_first (inner s) first) a) (IsNoted s (For at annots first e step a)) (noted_statement (behind_first (inner s) first) a) (λ a. Good (For at n first e step a)) (statement_noted (behind_first (inner s) first) a) (λ c w.
-      record { noted = λ p. (v (none_read annots p.0), w.noted p.4); kept = λ u r h. (h.0, h.1, h.2, w.kept (behind_first (inner u) first) (in_loop r) h.3) }))
+      record { noted = λ p. (v (none_read annots p.0), w.noted p.2); kept = λ u r h. (h.0, h.1, h.2, w.kept (behind_first (inner u) first) (in_loop r) h.3) }))
   statement_noted s (Break at) = record { noted = λ p. tt; kept = λ u r w. w }
   statement_noted s (Continue at) = record { noted = λ p. tt; kept = λ u r w. w }
   statement_noted s (Return at e) = record { noted = λ p. tt; kept = λ u r w. w }
@@ -102,7 +102,7 @@ mutual
       gives_one (IsNoted s a) (IsNoted s (Labelled at l a)) (noted_statement s a) (λ a. Good (Labelled at l a)) (statement_noted s a) (λ c w. record { noted = λ p. absurd p; kept = w.kept })
   statement_noted s (Switch at e cases) =
       gives_one (AreCasesNoted s cases) (IsNoted s (Switch at e cases)) (noted_cases s cases) (λ x. Good (Switch at e x)) (cases_noted s cases) (λ x w.
-      record { noted = λ p. w.noted p.1; kept = λ u r h. (h.0, h.1, h.2, w.kept u (in_switch r) (promoted h.0) h.3) })
+      record { noted = w.noted; kept = λ u r h. (h.0, h.1, h.2, w.kept u (in_switch r) (promoted h.0) h.3) })
 
   cases_noted : (s : Sight) (cases : Cases) → Gives (AreCasesNoted s cases) (noted_cases s cases)
   cases_noted s NoCase = record { noted = λ p. tt; kept = λ u r k w. w }

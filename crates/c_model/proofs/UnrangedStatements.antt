@@ -208,7 +208,7 @@ mutual
   items_declared NoItem = refl
   items_declared (Then x rest) = λ i. item_declared x i ++ items_declared rest i
 
--- ---- places of effects
+-- ---- places of annotations and declarations
 
 no_declaration : (xs : BlockItems) → Alike (DeclareNothing (unranged_items xs)) (DeclareNothing xs)
 no_declaration NoItem = itself
@@ -222,24 +222,21 @@ mutual
   statement_placed (Empty at) = itself
   statement_placed (Eval at e) = itself
   statement_placed (Block at items) = items_placed items
-  statement_placed (If at e a b) = record {
-    to = λ h. (h.0, (statement_placed a).to h.1, (else_placed b).to h.2);
-    from = λ h. (h.0, (statement_placed a).from h.1, (else_placed b).from h.2);
-  }
+  statement_placed (If at e a b) = beside (statement_placed a) (else_placed b)
   statement_placed (While at annots e a) = record {
+    to = λ h. ((are_none annots).to h.0, (statement_placed a).to h.1);
+    from = λ h. ((are_none annots).from h.0, (statement_placed a).from h.1);
+  }
+  statement_placed (Do at a e) = statement_placed a
+  statement_placed (For at annots first e step a) = record {
     to = λ h. ((are_none annots).to h.0, h.1, (statement_placed a).to h.2);
     from = λ h. ((are_none annots).from h.0, h.1, (statement_placed a).from h.2);
-  }
-  statement_placed (Do at a e) = record { to = λ h. ((statement_placed a).to h.0, h.1); from = λ h. ((statement_placed a).from h.0, h.1) }
-  statement_placed (For at annots first e step a) = record {
-    to = λ h. ((are_none annots).to h.0, h.1, h.2, h.3, (statement_placed a).to h.4);
-    from = λ h. ((are_none annots).from h.0, h.1, h.2, h.3, (statement_placed a).from h.4);
   }
   statement_placed (Break at) = itself
   statement_placed (Continue at) = itself
   statement_placed (Return at e) = itself
   statement_placed (Labelled at l a) = itself
-  statement_placed (Switch at e cases) = record { to = λ h. (h.0, (cases_placed cases).to h.1); from = λ h. (h.0, (cases_placed cases).from h.1) }
+  statement_placed (Switch at e cases) = cases_placed cases
 
   cases_placed : (cs : Cases) → Alike (CasesPlaced AreAsserts (unranged_cases cs)) (CasesPlaced AreAsserts cs)
   cases_placed NoCase = itself

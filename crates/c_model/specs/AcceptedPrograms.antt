@@ -1,4 +1,4 @@
--- What is known of each program of an accepted text: it is typed, calls what it defines, its effects stand where they may, its expressions and
+-- What is known of each program of an accepted text: it is typed, calls what it defines, its annotations stand where they may, its expressions and
 -- types are small, its names are those of C, its declarations have numbers of their own, and it has room and `main`.
 use Rattle.std.specs.Prelude.{◌≡◌, ◌<◌, ◌^◌, List, [], ◌∷◌, length, map, None}
 use Rattle.c_syntax.specs.declared.place.Place.{Place}
@@ -36,7 +36,7 @@ pub record IsProgram (p : TranslationUnit) : Type 0 where
   pub typed : ProgramTyped p
   pub noted : FileNoted p (sight_with p p.structs) (items_of_file p)
   pub resolved : FileResolved p (sight_with p p.structs) (items_of_file p)
-  -- effects stand where the grammar puts them, and expressions and their types are small
+  -- annotations and declarations stand where the grammar puts them, and expressions and their types are small
   pub effects : FunctionsRead AreAsserts p.funcs
   pub constant : AreConstant p.globals
   pub small : EachExpression IsSmall p

@@ -1,20 +1,15 @@
--- Where effects, calls and declarations stand in a program, without the sizes of its full expressions: FormedTrees asks for both.
-use Rattle.std.specs.Prelude.{◌≡◌, List, [], ◌∷◌}
+-- Where annotations and declarations stand in a program: annotations are items of blocks and of cases, and declarations are items of blocks or stand first
+-- in a `for`. Effects stand anywhere in an expression.
+use Rattle.std.specs.Prelude.{◌≡◌, List, []}
 use Rattle.c_syntax.specs.Logic.{Annotation}
-use Rattle.c_syntax.specs.Statements.{Declaration, Statement, Empty, Eval, Block, If, While, Do, For, Break, Continue, Return, Labelled, ElsePart, NoElse}
+use Rattle.c_syntax.specs.Statements.{Statement, Empty, Eval, Block, If, While, Do, For, Break, Continue, Return, Labelled, ElsePart, NoElse}
 use Rattle.c_syntax.specs.Statements.{Else, Switch, Cases, NoCase, AnotherCase}
 use Rattle.c_syntax.specs.Statements.{ForFirst, NoFirst, First, BlockItem, Declare, Specify, Run, Asserts, BlockItems, NoItem, Then}
-use Rattle.c_model.specs.Pure.{IsPure, IsPureOrCall, IsEffect, IsEffectOrCall, IsInitialiser}
-use Rattle.c_model.specs.TypedTrees.{WhereAny}
-
-abbrev pub ArePlaced : List Declaration → Type 0
-ArePlaced [] = Unit {0}
-ArePlaced (d ∷ ds) = IsInitialiser d.init × ArePlaced ds
 
 abbrev pub FirstPlaced : ForFirst → Type 0
 FirstPlaced NoFirst = Unit {0}
-FirstPlaced (First (Run (Eval at e))) = IsEffectOrCall e
-FirstPlaced (First (Declare ds)) = ArePlaced ds
+FirstPlaced (First (Run (Eval at e))) = Unit {0}
+FirstPlaced (First (Declare ds)) = Unit {0}
 FirstPlaced (First (Specify at t)) = Unit {0}
 FirstPlaced _ = ⊥
 
@@ -33,19 +28,18 @@ module _ (AreSo : List Annotation → Type 0) where
   abbrev mutual
     pub StatementPlaced : Statement → Type 0
     StatementPlaced (Empty at) = Unit {0}
-    StatementPlaced (Eval at e) = IsEffectOrCall e
+    StatementPlaced (Eval at e) = Unit {0}
     StatementPlaced (Block at items) = ItemsPlaced items
-    StatementPlaced (If at e a b) = IsPure e × StatementPlaced a × ElsePlaced b
-    StatementPlaced (While at annots e a) = (annots ≡ []) × IsPure e × StatementPlaced a
-    StatementPlaced (Do at a e) = StatementPlaced a × IsPure e
-    StatementPlaced (For at annots first e step a) =
-        (annots ≡ []) × FirstPlaced first × WhereAny IsPure e × WhereAny IsEffect step × StatementPlaced a
+    StatementPlaced (If at e a b) = StatementPlaced a × ElsePlaced b
+    StatementPlaced (While at annots e a) = (annots ≡ []) × StatementPlaced a
+    StatementPlaced (Do at a e) = StatementPlaced a
+    StatementPlaced (For at annots first e step a) = (annots ≡ []) × FirstPlaced first × StatementPlaced a
     StatementPlaced (Break at) = Unit {0}
     StatementPlaced (Continue at) = Unit {0}
-    StatementPlaced (Return at e) = WhereAny IsPureOrCall e
+    StatementPlaced (Return at e) = Unit {0}
     -- labels are not translated yet
     StatementPlaced (Labelled at l a) = ⊥
-    StatementPlaced (Switch at e cases) = IsPureOrCall e × CasesPlaced cases
+    StatementPlaced (Switch at e cases) = CasesPlaced cases
 
     -- nothing is declared directly in a `switch`
     pub CasesPlaced : Cases → Type 0
@@ -61,7 +55,7 @@ module _ (AreSo : List Annotation → Type 0) where
     ItemsPlaced (Then i rest) = ItemPlaced i × ItemsPlaced rest
 
     pub ItemPlaced : BlockItem → Type 0
-    ItemPlaced (Declare ds) = ArePlaced ds
+    ItemPlaced (Declare ds) = Unit {0}
     ItemPlaced (Specify at t) = Unit {0}
     ItemPlaced (Run a) = StatementPlaced a
     ItemPlaced (Asserts annots) = AreSo annots

@@ -1,14 +1,13 @@
--- What is known of each tree that is read of a text, whatever it contains, before it is typed: its places stand in the order of the text, effects and
--- calls stand only where the grammar puts them, its expressions are short, and what it declares has names.
+-- What is known of each tree that is read of a text, whatever it contains, before it is typed: its places stand in the order of the text, annotations and
+-- declarations stand only where the grammar puts them, its expressions are short, and what it declares has names.
 use Rattle.std.specs.Prelude.{◌≡◌, ℕ, suc, ◌<◌, ◌≤◌, ◌^◌, List, [], length, Option, Some, None}
 use Rattle.std.specs.List.{AllByRecursion}
 use Rattle.c_syntax.specs.Expressions.{Expression}
 use Rattle.c_syntax.specs.Logic.{Annotation}
-use Rattle.c_syntax.specs.Statements.{Declaration, Statement, Block}
+use Rattle.c_syntax.specs.Statements.{Statement, Block}
 use Rattle.c_syntax.specs.Programs.{StringLiteral, Function, TranslationUnit}
 use Rattle.c_model.specs.ExpressionGrammar.{most_nested}
 use Rattle.c_model.specs.Formed.{nodes_of, most_read, depth, AreReadAsserts, AreNamed, FunctionsNamed}
-use Rattle.c_model.specs.Pure.{IsInitialiser, HasBareCall}
 use Rattle.c_model.specs.FullExpressions.{EachDeclared, EachInFunctions}
 use Rattle.c_model.specs.EffectPlaces.{ItemsPlaced}
 pub use Rattle.c_model.specs.TextOrder.{Between, offset_of_constant, numbers_of_item, numbers_of_items, HasMembers, InTextOrder}
@@ -35,9 +34,6 @@ module _ (AreSo : List Annotation → Type 0) where
   abbrev pub FunctionsRead : List Function → Type 0
   FunctionsRead fs = AllByRecursion FunctionRead fs
 
-abbrev pub AreInitialisers : List Declaration → Type 0
-AreInitialisers ds = AllByRecursion (λ (d : Declaration). IsInitialiser d.init) ds
-
 -- ---- literals
 
 abbrev pub AreBytes : List ℕ → Type 0
@@ -53,10 +49,7 @@ pub record ReadTree (p : TranslationUnit) : Type 0 where
   pub order : InTextOrder p
   pub functions : FunctionsRead AreReadAsserts p.funcs
   pub functions_short : EachInFunctions IsShort p.funcs
-  pub functions_bare : EachInFunctions HasBareCall p.funcs
-  pub globals : AreInitialisers p.globals
   pub globals_short : EachDeclared IsShort p.globals
-  pub globals_bare : EachDeclared HasBareCall p.globals
   pub functions_named : FunctionsNamed p.names p.funcs
   pub globals_named : AreNamed p.names p.globals
   pub texts : TextsAreBytes p.texts

@@ -1,4 +1,4 @@
--- Declarations that are read have names of C, their numbers ascend, and effects and calls stand only where they may in their initialisers.
+-- Declarations that are read have names of C, their numbers ascend, and the expressions of their initialisers are formed.
 use Rattle.std.proofs.Common.{◌≡◌, ℕ, zero, suc, ◌<◌, ◌≤◌, Bool, true, false, cond, eqb, List, [], ◌∷◌, ◌++◌, map, Option, Some, None, refl, sym, ap, subst, ◌∙◌, append_assoc, arith}
 use Rattle.std.specs.Prelude.{slice_set}
 use Rattle.std.proofs.lemmas.Bool.{eqb-true}
@@ -13,6 +13,7 @@ use Rattle.c_syntax.specs.Tokens.{PlainTokenKind, PlainToken}
 use Rattle.c_model.specs.declared.declarations.Named.TheVariants as named
 use Rattle.c_model.specs.declared.vocabulary.Word.{Word}
 use Rattle.c_model.specs.declared.vocabulary.Word.TheVariants as word
+use Rattle.c_model.specs.declared.operands.Level.TheVariants.{Assignment}
 use Rattle.c_model.specs.Vocabulary.{Vocabulary, word_at, declared_word}
 use Rattle.c_model.specs.Punctuators.{assign, comma, semicolon, left_brace, right_brace}
 use Rattle.c_model.specs.ExpressionGrammar.{name_kind, word_kind, mark_kind, kind, name_of, name, mark, type_words, star_words}
@@ -20,12 +21,11 @@ use Rattle.c_model.specs.DeclarationGrammar.{Declarator, declared_by, initialise
 use Rattle.c_model.specs.DeclarationGrammar.{initialised, declared_once, next_declared, more_declared, declared_list, declaration}
 use Rattle.c_model.specs.ExpressionGrammar.{most_nested}
 use Rattle.c_model.specs.Formed.{AreReadAsserts, depth_of_item, declared_in_item, number_of}
-use Rattle.c_model.specs.Pure.{IsInitialiser, IsPureInitialiser, ArePureInitialisers}
 use Rattle.c_model.specs.FullExpressions.{EachInitial, EachPart, EachDeclared, EachInItem}
-use Rattle.c_model.specs.EffectPlaces.{ArePlaced, FirstPlaced, ItemPlaced}
-use Rattle.c_model.specs.ReadTree.{Between, AreInitialisers}
+use Rattle.c_model.specs.EffectPlaces.{FirstPlaced, ItemPlaced}
+use Rattle.c_model.specs.ReadTree.{Between}
 use Rattle.c_reader.proofs.TokenForms.{IsLexedKind, placed_is, placed_at}
-use Rattle.c_reader.proofs.ExpressionForms.{IsFormed, full_each, full_value_each}
+use Rattle.c_reader.proofs.ExpressionForms.{IsFormed, full_level_each}
 use Rattle.c_reader.proofs.PlacedReadings.{From, from_none, from_more, from_gives, from_one, from_then, from_choice, from_cond, from_at_most, from_deep, from_any, from_each, from_many}
 use Rattle.c_reader.proofs.PlacedReadings.{between_lower, between_higher, between_joined}
 
@@ -33,39 +33,13 @@ pub all_joined : {A : Type 0} (P : A → Type 0) (xs ys : List A) → AllByRecur
 all_joined P [] ys h g = g
 all_joined P (x ∷ xs) ys h g = (h.0, all_joined P xs ys h.1 g)
 
--- what the initialisers of declarations are, at file scope and in functions
-pub record AreInitialised (ds : List Declaration) : Type 0 where
-  pub are : AreInitialisers ds
-  pub short : EachDeclared IsFormed ds
+pub short_joined : (ds es : List Declaration) → EachDeclared IsFormed ds → EachDeclared IsFormed es → EachDeclared IsFormed (ds ++ es)
+short_joined [] es h g = g
+short_joined (d ∷ ds) es h g = (h.0, short_joined ds es h.1 g)
 
-pub initialised_joined : (ds es : List Declaration) → AreInitialised ds → AreInitialised es → AreInitialised (ds ++ es)
-initialised_joined [] es h g = g
-initialised_joined (d ∷ ds) es h g =
-    let rest = initialised_joined ds es (record { are = h.are.1; short = h.short.1 }) g in
-    record { are = (h.are.0, rest.are); short = (h.short.0, rest.short) }
-
-initialised_placed : (ds : List Declaration) → AreInitialisers ds → ArePlaced ds
-initialised_placed [] h = tt
-initialised_placed (d ∷ ds) h = (h.0, initialised_placed ds h.1)
-
--- an initialiser, whose list has no calls
-record IsRead (i : Initialiser) : Type 0 where
-  is : (at : Place) → IsInitialiser (Some (at, i))
-  short : EachInitial IsFormed i
-
-record IsItemOfList (i : Initialiser) : Type 0 where
-  is : IsPureInitialiser i
-  short : EachInitial IsFormed i
-
-record AreItemsOfList (is : List Initialiser) : Type 0 where
-  are : ArePureInitialisers (initialisers is)
-  short : EachPart IsFormed (initialisers is)
-
-items_behind : (is : List Initialiser) (i : Initialiser) → AreItemsOfList is → IsItemOfList i → AreItemsOfList (is ++ i ∷ [])
-items_behind [] i h p = record { are = (p.is, tt); short = (p.short, tt) }
-items_behind (j ∷ is) i h p =
-    let rest = items_behind is i (record { are = h.are.1; short = h.short.1 }) p in
-    record { are = (h.are.0, rest.are); short = (h.short.0, rest.short) }
+items_behind : (is : List Initialiser) (i : Initialiser) → EachPart IsFormed (initialisers is) → EachInitial IsFormed i → EachPart IsFormed (initialisers (is ++ i ∷ []))
+items_behind [] i h p = (p, tt)
+items_behind (j ∷ is) i h p = (h.0, items_behind is i h.1 p)
 
 -- a name of the later vocabulary is one of the earlier
 abbrev pub IsLater : Vocabulary → Vocabulary → Type 0
@@ -128,13 +102,13 @@ module _ (size : ℕ) (old : Vocabulary) where
   -- the declarators of a declaration, with their initialisers
   pub record AreDeclarators (l n : ℕ) (ds : List Declaration) : Type 0 where
     pub declares : Declares l ds n
-    pub initialised : AreInitialised ds
+    pub short : EachDeclared IsFormed ds
 
   pub declarators_joined : (l m n : ℕ) (ds es : List Declaration) → AreDeclarators l m ds → AreDeclarators m n es → AreDeclarators l n (ds ++ es)
-  declarators_joined l m n ds es p q = record { declares = declares_joined l m n ds es p.declares q.declares; initialised = initialised_joined ds es p.initialised q.initialised }
+  declarators_joined l m n ds es p q = record { declares = declares_joined l m n ds es p.declares q.declares; short = short_joined ds es p.short q.short }
 
   pub declarators_higher : (l m n : ℕ) (ds : List Declaration) → m ≤ n → AreDeclarators l m ds → AreDeclarators l n ds
-  declarators_higher l m n ds le p = record { declares = declares_higher l m n ds le p.declares; initialised = p.initialised }
+  declarators_higher l m n ds le p = record { declares = declares_higher l m n ds le p.declares; short = p.short }
 
   -- the same behind others
   pub record AreMore (before : List Declaration) (l n : ℕ) (ds : List Declaration) : Type 0 where
@@ -152,8 +126,8 @@ module _ (size : ℕ) (old : Vocabulary) where
     are = declarators_joined l m n p.new (d ∷ []) p.are q;
   }
 
-  one_declarator : (l n : ℕ) (t : PlainType) (d : Declarator) (i : Option (Place × Initialiser)) → IsNameWithin l n (d.name, d.place) → AreInitialised (declared_by t d i ∷ []) → AreDeclarators l n (declared_by t d i ∷ [])
-  one_declarator l n t d i p q = record { declares = record { names = (p.new, tt); numbers = (p.from, p.to) }; initialised = q }
+  one_declarator : (l n : ℕ) (t : PlainType) (d : Declarator) (i : Option (Place × Initialiser)) → IsNameWithin l n (d.name, d.place) → EachDeclared IsFormed (declared_by t d i ∷ []) → AreDeclarators l n (declared_by t d i ∷ [])
+  one_declarator l n t d i p q = record { declares = record { names = (p.new, tt); numbers = (p.from, p.to) }; short = q }
 
   -- a declaration, as an item or at the head of a `for`
   pub record IsDeclaration (l n : ℕ) (i : BlockItem) : Type 0 where
@@ -226,63 +200,45 @@ module _ (size : ℕ) (old : Vocabulary) where
     -- ---- initialisers
 
     IsReadFrom : ℕ → ℕ → Initialiser → Type 0
-    IsReadFrom l n i = (l ≤ n) × IsRead i
-
-    IsItemFrom : ℕ → ℕ → Initialiser → Type 0
-    IsItemFrom l n i = (l ≤ n) × IsItemOfList i
+    IsReadFrom l n i = (l ≤ n) × EachInitial IsFormed i
 
     AreItemsFrom : ℕ → ℕ → List Initialiser → Type 0
-    AreItemsFrom l n is = (l ≤ n) × AreItemsOfList is
+    AreItemsFrom l n is = (l ≤ n) × EachPart IsFormed (initialisers is)
 
-    item_of_list_from : (l : ℕ) {L : Syntax PlainToken Initialiser} → From size l L (IsItemFrom l) → From size l (item_of_list ws L) (IsItemFrom l)
-    unfolding item_of_list IsItemFrom
+    item_of_list_from : (l : ℕ) {L : Syntax PlainToken Initialiser} → From size l L (IsReadFrom l) → From size l (item_of_list ws L) (IsReadFrom l)
+    unfolding item_of_list IsReadFrom
     item_of_list_from l list =
         from_choice (kind ws) (mark_kind left_brace ∷ []) list
-        (from_then (from_each (full_each size ws)) (λ n e p. from_gives _ (p.1, record { is = p.2.is; short = p.2.short })))
+        (from_then (from_each (full_level_each size ws Assignment)) (λ n e p. from_gives _ (p.1, p.2)))
 
-    -- a list, as an initialiser and as an item of another list
-    record IsList (l n : ℕ) (i : Initialiser) : Type 0 where
-      on : l ≤ n
-      item : IsItemOfList i
-      alone : IsRead i
-
-    list_of_from : (l : ℕ) {L : Syntax PlainToken Initialiser} → ((m : ℕ) → From size m L (IsItemFrom m)) → From size l (list_of ws L) (IsList l)
-    unfolding list_of IsItemFrom AreItemsFrom
+    list_of_from : (l : ℕ) {L : Syntax PlainToken Initialiser} → ((m : ℕ) → From size m L (IsReadFrom m)) → From size l (list_of ws L) (IsReadFrom l)
+    unfolding list_of IsReadFrom AreItemsFrom
     list_of_from l {L} list =
         from_then (from_any (mark ws left_brace)) (λ m at le.
         from_then (listed_from first_item_of_list (AreItemsFrom m) (λ i j is lf h. (omega (arith, lf, h.0), h.1))
-        (λ i is h. from_more (λ n x p. (omega (arith, h.0, p.0), items_behind is x h.1 p.1)) (item_of_list_from i (list i))) m (omega arith, record { are = tt; short = tt })) (λ n is h.
-        from_gives _ (record {
-          on = omega (arith, le, h.0);
-          item = record { is = h.1.are; short = h.1.short };
-          alone = record { is = λ _. h.1.are; short = h.1.short };
-        })))
+        (λ i is h. from_more (λ n x p. (omega (arith, h.0, p.0), items_behind is x h.1 p.1)) (item_of_list_from i (list i))) m (omega arith, tt)) (λ n is h. from_gives _ (omega (arith, le, h.0), h.1)))
 
-    list_item : (l : ℕ) {G : Syntax PlainToken Initialiser} → From size l G (IsList l) → From size l G (IsItemFrom l)
-    unfolding IsItemFrom
-    list_item l g = from_more (λ n i p. (p.on, p.item)) g
-
-    none_item : (m : ℕ) → From size m none (IsItemFrom m)
+    none_item : (m : ℕ) → From size m none (IsReadFrom m)
     none_item m = from_none
 
-    list_from : (d l : ℕ) → From size l (list_in ws d) (IsList l)
+    list_from : (d l : ℕ) → From size l (list_in ws d) (IsReadFrom l)
     unfolding list_in
     list_from zero l = from_deep (kind ws) (mark_kind left_brace ∷ []) (list_of_from l none_item)
-    list_from (suc d) l = list_of_from l (λ m. list_item m (list_from d m))
+    list_from (suc d) l = list_of_from l (λ m. list_from d m)
 
     initialiser_from : (l : ℕ) → From size l (initialiser ws) (IsReadFrom l)
     unfolding initialiser IsReadFrom
     initialiser_from l =
-        from_choice (kind ws) (mark_kind left_brace ∷ []) (from_more (λ n i p. (p.on, p.alone)) (list_from most_nested l))
-        (from_then (from_each (full_value_each size ws)) (λ n e p. from_gives _ (p.1, record { is = λ _. p.2.is; short = p.2.short })))
+        from_choice (kind ws) (mark_kind left_brace ∷ []) (list_from most_nested l)
+        (from_then (from_each (full_level_each size ws Assignment)) (λ n e p. from_gives _ (p.1, p.2)))
 
     pub initialised_from : (t : PlainType) (d : Declarator) (l m : ℕ) → IsNameWithin l m (d.name, d.place) → From size m (initialised ws t d) (λ n x. AreDeclarators l n (x ∷ []))
     unfolding initialised IsReadFrom
     initialised_from t d l m p =
         from_choice (kind ws) (mark_kind assign ∷ [])
         (from_then (from_any (mark ws assign)) (λ j at le. from_then (initialiser_from j) (λ n i q.
-        from_gives _ (one_declarator l n t d (Some (at, i)) (name_wider l l m n (d.name, d.place) (omega arith) (omega (arith, le, q.0)) p) (record { are = (q.1.is at, tt); short = (q.1.short, tt) })))))
-        (from_gives _ (one_declarator l m t d None p (record { are = (tt, tt); short = (tt, tt) })))
+        from_gives _ (one_declarator l n t d (Some (at, i)) (name_wider l l m n (d.name, d.place) (omega arith) (omega (arith, le, q.0)) p) (q.1, tt)))))
+        (from_gives _ (one_declarator l m t d None p (tt, tt)))
 
     -- ---- declarations
 
@@ -303,8 +259,7 @@ module _ (size : ℕ) (old : Vocabulary) where
     declaration_is : (l m n : ℕ) (ds : List Declaration) → l ≤ m → AreMore [] m n ds → IsDeclaration l n (Declare ds)
     declaration_is l m n ds le p =
         let h : AreDeclarators m n ds = subst (λ (es : List Declaration). AreDeclarators m n es) (sym p.is) p.are in
-        let placed = initialised_placed ds h.initialised.are in
-        record { is = placed; first = placed; short = h.initialised.short; flat = refl; declares = declares_lower l m n ds le h.declares }
+        record { is = tt; first = tt; short = h.short; flat = refl; declares = declares_lower l m n ds le h.declares }
 
     specified_is : (l n : ℕ) (at : Place) (t : PlainType) → l ≤ n → IsDeclaration l n (Specify at t)
     specified_is l n at t le = record { is = tt; first = tt; short = tt; flat = refl; declares = declares_none l n le }
@@ -316,7 +271,7 @@ module _ (size : ℕ) (old : Vocabulary) where
         (from_then (once_from t [] m m [] no_more) (λ j ds h. from_then (more_from t [] m j ds h) (λ n es g. from_gives _ (declaration_is l m n es le g))))
       where
         no_more : AreMore [] m m []
-        no_more = record { new = []; is = refl; are = record { declares = declares_none m m (omega arith); initialised = record { are = tt; short = tt } } }
+        no_more = record { new = []; is = refl; are = record { declares = declares_none m m (omega arith); short = tt } }
 
     pub declaration_from : (l : ℕ) → From size l (declaration ws) (IsDeclaration l)
     unfolding declaration

@@ -310,7 +310,7 @@ module _ (size : ℕ) (old : Vocabulary) where
     later = later;
     definitions = record { structs = tt; enums = tt; ascend = omega arith; apart = record { once = λ o. omega arith; behind = λ o ge. omega arith } };
     typedefs = omega arith;
-    globals = record { declares = declares_none size old 0 0 (omega arith); initialised = record { are = tt; short = tt } };
+    globals = record { declares = declares_none size old 0 0 (omega arith); short = tt };
     functions = tt;
     ascend = omega arith;
     apart = record { once = λ o. omega arith; behind = λ o ge. omega arith };

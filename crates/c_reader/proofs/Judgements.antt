@@ -24,7 +24,7 @@ use Rattle.c_reader.proofs.AcceptedTexts.{accepted_program}
 use Rattle.c_reader.proofs.Letters.{accepted_letters}
 
 pub typed_trees_keep_asserts : TypedTreesKeepAsserts
-typed_trees_keep_asserts tree typed t is = subst (FunctionsRead AreReadAsserts) (sym (typed_in_order tree typed t.order is).functions) (forms_kept tree typed t is).functions
+typed_trees_keep_asserts tree typed t is = subst (FunctionsRead AreReadAsserts) (sym (typed_in_order tree typed t.order is).functions) (forms_kept tree typed t is)
 
 pub letters_are_characters : LettersAreCharacters
 letters_are_characters text p a = accepted_letters text p a

@@ -91,7 +91,7 @@ module _ (text : List ℕ) (p : TranslationUnit) (a : AcceptedText text p) where
         functions = order.functions;
         numbered = order.numbers;
         named = typed_functions_named a.tree a.typed file.read tree.functions_named;
-        effects = (forms_kept a.tree a.typed tree a.is_typed.is).functions;
+        effects = forms_kept a.tree a.typed tree a.is_typed.is;
         each = typed_letters.funcs;
         few = subst (λ n. n < 2 ^ 32) (sym (typed_functions_count a.tree a.typed file.read)) tree.few_functions;
         main = a.main;

@@ -1,5 +1,5 @@
--- The tree that is read of a text of bytes has its places in the order of the text, effects and calls where the grammar puts them, short expressions,
--- letters that are values of `char`, and names of C.
+-- The tree that is read of a text of bytes has its places in the order of the text, annotations and declarations where the grammar puts them, short
+-- expressions, letters that are values of `char`, and names of C.
 use Rattle.std.proofs.Common.{◌≡◌, ℕ, suc, ◌+◌, ◌<◌, ◌≤◌, ◌^◌, List, [], ◌∷◌, length, map, None, Ok, refl, sym, subst, arith}
 use Rattle.std.proofs.lemmas.List.{length-map}
 use Rattle.std.specs.List.{AllByRecursion}
@@ -13,7 +13,6 @@ use Rattle.c_model.specs.Vocabulary.{Vocabulary, word_of}
 use Rattle.c_model.specs.ProgramGrammar.{FileParts, texts_of, unit_with}
 use Rattle.c_model.specs.Phases.{vocabulary, IsRead}
 use Rattle.c_model.specs.AcceptedPrograms.{EachExpression}
-use Rattle.c_model.specs.Pure.{HasBareCall}
 use Rattle.c_model.specs.FullExpressions.{EachInFunctions}
 use Rattle.c_model.specs.Formed.{AreReadAsserts, AreNamed, AreNamedParameters, FunctionsNamed, declared_in_body}
 use Rattle.c_model.specs.ReadTree.{Between, IsShort, FunctionsRead, AreBytes, TextsAreBytes, ReadTree}
@@ -94,16 +93,11 @@ file_is_read : (ts : PlainTokens) (n : ℕ) (x : FileParts) → n ≤ 4294967295
 file_is_read ts n x le words list h =
     let size = length ts.names in
     let ws = vocabulary ts in
-    let short = functions_short size ws n x.functions h.functions in
-    let initialised = h.globals.initialised in
     record {
       order = file_in_order size ws n x h ts.names (texts_of ts.list) le;
       functions = functions_read size ws n x.functions h.functions;
-      functions_short = functions_follow IsFormed IsShort (λ e p. p.short) x.functions short;
-      functions_bare = functions_follow IsFormed HasBareCall (λ e p. p.bare) x.functions short;
-      globals = initialised.are;
-      globals_short = declared_follow IsFormed IsShort (λ e p. p.short) x.globals initialised.short;
-      globals_bare = declared_follow IsFormed HasBareCall (λ e p. p.bare) x.globals initialised.short;
+      functions_short = functions_follow IsFormed IsShort (λ e p. p.short) x.functions (functions_short size ws n x.functions h.functions);
+      globals_short = declared_follow IsFormed IsShort (λ e p. p.short) x.globals h.globals.short;
       functions_named = functions_named ts.names words n x.functions h.functions;
       globals_named = named ts.names words x.globals h.globals.declares.names;
       texts = texts_are_bytes size ts.list list;
@@ -122,7 +116,7 @@ tree_is_read text ts p bytes few has read =
 
 file_has_letters : (ts : PlainTokens) (n : ℕ) (x : FileParts) → IsFile (length ts.names) (vocabulary ts) n x → EachExpression LettersFit (unit_with ts.names (texts_of ts.list) x)
 file_has_letters ts n x h = record {
-  globals = declared_follow IsFormed LettersFit (λ e p. p.letters) x.globals h.globals.initialised.short;
+  globals = declared_follow IsFormed LettersFit (λ e p. p.letters) x.globals h.globals.short;
   funcs = functions_follow IsFormed LettersFit (λ e p. p.letters) x.functions (functions_short (length ts.names) (vocabulary ts) n x.functions h.functions);
 }
 

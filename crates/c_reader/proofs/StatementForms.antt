@@ -1,4 +1,4 @@
--- Statements that are read have effects, calls and declarations only where they may stand, and are no deeper than the limit.
+-- Statements that are read have annotations and declarations only where they may stand, are no deeper than the limit, and their expressions are short.
 use Rattle.std.proofs.Common.{◌≡◌, ℕ, zero, suc, ◌≤◌, List, [], ◌∷◌, ◌++◌, Some, None, refl, sym, ap, subst, ◌∙◌, Option, append_assoc, append-nil, arith}
 use Rattle.std.specs.List.{AllByRecursion}
 use Rattle.c_syntax.specs.declared.place.Place.{Place}
@@ -8,15 +8,14 @@ use Rattle.c_model.specs.declared.declarations.AnnotationState.{AnnotationState}
 use Rattle.c_model.specs.declared.vocabulary.Keyword.TheVariants as keyword
 use Rattle.c_model.specs.Vocabulary.{Vocabulary}
 use Rattle.c_model.specs.Punctuators.{semicolon, left_paren, right_paren, left_brace, right_brace}
-use Rattle.c_model.specs.ExpressionGrammar.{annot_open_kind, keyword_kind, mark_kind, kind, first_type, first_expression, first_effect, mark, reserved, closed}
-use Rattle.c_model.specs.ProgramGrammar.{Numbered, first_item, is_open, block_items, misplaced, placed_annotation, condition, else_branch, else_part, selection, while_loop, do_loop, for_first, maybe_ended, returned, for_behind, for_loop, jump}
-use Rattle.c_model.specs.ProgramGrammar.{return_statement, item, items_once, items, block, empty_statement, effect_statement, statement_of, branch_of, statement_in, branch_in}
+use Rattle.c_model.specs.ExpressionGrammar.{annot_open_kind, keyword_kind, mark_kind, kind, first_type, first_expression, mark, reserved, closed}
+use Rattle.c_model.specs.ProgramGrammar.{Numbered, ReadCase, cases_of, first_branch, first_case, first_item, is_open, block_items, misplaced, placed_annotation, condition, else_branch, else_part, selection, while_loop, do_loop, for_first, maybe_ended, returned, for_behind, for_loop, jump}
+use Rattle.c_model.specs.ProgramGrammar.{return_statement, item, items_once, items, block, case_label, case_item, case_items_once, case_items, next_case, cases, switch_statement, empty_statement, effect_statement, statement_of, branch_of, statement_in, branch_in}
 use Rattle.c_model.specs.TypedTrees.{WhereAny}
-use Rattle.c_model.specs.Formed.{AreReadAsserts, depth, depth_of_item, depth_of_items, declared_within, declared_in_first, declared_in_item, declared_in_items}
-use Rattle.c_model.specs.Pure.{IsPure, IsPureOrCall, IsEffect}
-use Rattle.c_model.specs.FullExpressions.{EachIn, EachInFirst, EachInItem, EachInItems}
-use Rattle.c_model.specs.EffectPlaces.{FirstPlaced, StatementPlaced, ItemPlaced, ItemsPlaced}
-use Rattle.c_reader.proofs.ExpressionForms.{IsFormed, IsFull, full_each, full_value_each, full_effect_each, full_call_each}
+use Rattle.c_model.specs.Formed.{AreReadAsserts, depth, depth_of_cases, depth_of_item, depth_of_items, declared_within, declared_in_cases, declared_in_first, declared_in_item, declared_in_items}
+use Rattle.c_model.specs.FullExpressions.{EachIn, EachInCases, EachInFirst, EachInItem, EachInItems}
+use Rattle.c_model.specs.EffectPlaces.{IsNoDeclaration, DeclareNothing, FirstPlaced, StatementPlaced, CasesPlaced, ItemPlaced, ItemsPlaced}
+use Rattle.c_reader.proofs.ExpressionForms.{IsFormed, full_each, full_placed_each}
 use Rattle.c_model.specs.DeclarationGrammar.{ended}
 use Rattle.c_reader.proofs.AnnotationForms.{annotations_each}
 use Rattle.c_reader.proofs.PlacedReadings.{From, from_none, from_more, from_gives, from_then, from_choice, from_cond, from_any, from_each, from_many}
@@ -50,6 +49,37 @@ declared_behind : (l : List BlockItem) (i : BlockItem) → declared_in_items (bl
 declared_behind [] i = append-nil (declared_in_item i)
 declared_behind (j ∷ l) i = ap (λ (w : List Declaration). declared_in_item j ++ w) (declared_behind l i) ∙ sym (append_assoc (declared_in_item j) (declared_in_items (block_items l)) (declared_in_item i))
 
+-- ---- cases in a list
+
+declare_nothing : (l : List BlockItem) → AllByRecursion IsNoDeclaration l → DeclareNothing (block_items l)
+declare_nothing [] h = tt
+declare_nothing (i ∷ l) h = (h.0, declare_nothing l h.1)
+
+-- a case in which statements stand at most d deep
+record IsCase (d : ℕ) (c : ReadCase) : Type 0 where
+  is : ItemsPlaced AreReadAsserts (block_items c.items)
+  none : DeclareNothing (block_items c.items)
+  short : EachInItems IsFormed (block_items c.items)
+  deep : depth_of_items (block_items c.items) ≤ d
+
+cases_placed : (d : ℕ) (l : List ReadCase) → AllByRecursion (IsCase d) l → CasesPlaced AreReadAsserts (cases_of l)
+cases_placed d [] h = tt
+cases_placed d (c ∷ l) h = (h.0.none, h.0.is, cases_placed d l h.1)
+
+cases_short : (d : ℕ) (l : List ReadCase) → AllByRecursion (IsCase d) l → EachInCases IsFormed (cases_of l)
+cases_short d [] h = tt
+cases_short d (c ∷ l) h = (h.0.short, cases_short d l h.1)
+
+cases_deep : (d : ℕ) (l : List ReadCase) → AllByRecursion (IsCase d) l → depth_of_cases (cases_of l) ≤ d
+cases_deep d [] h = omega arith
+cases_deep d (c ∷ l) h = omega (arith, h.0.deep, cases_deep d l h.1)
+
+declared_case_behind : (l : List ReadCase) (c : ReadCase) → declared_in_cases (cases_of (l ++ (c ∷ []))) ≡ declared_in_cases (cases_of l) ++ declared_in_items (block_items c.items)
+declared_case_behind [] c = append-nil (declared_in_items (block_items c.items))
+declared_case_behind (b ∷ l) c =
+    let first = declared_in_items (block_items b.items) in
+    ap (λ (w : List Declaration). first ++ w) (declared_case_behind l c) ∙ sym (append_assoc first (declared_in_cases (cases_of l)) (declared_in_items (block_items c.items)))
+
 module _ (size : ℕ) (old : Vocabulary) where
   -- a statement d deep at most, after the offset l
   pub record IsWithin (d l n : ℕ) (x : Statement × AnnotationState) : Type 0 where
@@ -66,14 +96,22 @@ module _ (size : ℕ) (old : Vocabulary) where
     pub are : AllByRecursion (IsItem d) x.0
     pub declares : Declares size old l (declared_in_items (block_items x.0)) n
 
+  -- items of a case, and cases
+  record AreCaseItems (d l n : ℕ) (x : List BlockItem × AnnotationState) : Type 0 where
+    items : AreItems d l n x
+    none : AllByRecursion IsNoDeclaration x.0
+
+  record AreCases (d l n : ℕ) (x : List ReadCase × AnnotationState) : Type 0 where
+    are : AllByRecursion (IsCase d) x.0
+    declares : Declares size old l (declared_in_cases (cases_of x.0)) n
+
   -- what declares nothing
   record IsAlone {A : Type 0} (P : A → Type 0) (l n : ℕ) (x : A) : Type 0 where
     is : P x
     on : l ≤ n
 
-  -- the same, where it may be left out
-  record IsOptional (P : Expression → Type 0) (l n : ℕ) (e : Option Expression) : Type 0 where
-    is : WhereAny P e
+  -- an expression that may be left out
+  record IsOptional (l n : ℕ) (e : Option Expression) : Type 0 where
     short : WhereAny IsFormed e
     on : l ≤ n
 
@@ -95,47 +133,47 @@ module _ (size : ℕ) (old : Vocabulary) where
     end_from : {l : ℕ} {A : Type 0} (P : ℕ → A → Type 0) (x : A) → ((n : ℕ) → l ≤ n → P n x) → From size l (ended ws x) P
     end_from P x p = ended_from size old ws later P x p
 
-    placed_from : (d l : ℕ) (c : AnnotationState) → From size l (placed_annotation ws c) (IsItemWithin d l)
+    placed_from : (d l : ℕ) (c : AnnotationState) → From size l (placed_annotation ws c) (λ n x. IsItemWithin d l n x × IsNoDeclaration x.0)
     unfolding placed_annotation
     placed_from d l c = from_then (from_each (annotations_each size ws c.number)) (λ n x p.
-        from_gives _ (record { item = record { is = p.2; short = tt; deep = omega arith }; declares = declares_none size old l n (omega (arith, p.1)) }))
+        from_gives _ (record { item = record { is = p.2; short = tt; deep = omega arith }; declares = declares_none size old l n (omega (arith, p.1)) }, tt))
 
-    condition_from : (l : ℕ) → From size l (condition ws) (IsAlone IsFull l)
+    condition_from : (l : ℕ) → From size l (condition ws) (IsAlone IsFormed l)
     unfolding condition
-    condition_from l = from_then (from_any (mark ws left_paren)) (λ m _ le. from_then (from_each (full_each size ws)) (λ i e p. closed_from ws (IsAlone IsFull l) e (λ n lf. record { is = p.2; on = omega (arith, le, lf, p.1) })))
+    condition_from l = from_then (from_any (mark ws left_paren)) (λ m _ le. from_then (from_each (full_each size ws)) (λ i e p. closed_from ws (IsAlone IsFormed l) e (λ n lf. record { is = p.2; on = omega (arith, le, lf, p.1) })))
 
     for_first_from : (l : ℕ) (c : AnnotationState) → From size l (for_first ws c) (IsFirst l)
     unfolding for_first
     for_first_from l c =
         from_choice (kind ws) first_type
         (from_then (declaration_from size old ws later l) (λ n x h. from_gives _ (record { is = h.first; short = h.short; declares = h.declares })))
-        (from_choice (kind ws) first_effect
-        (from_then (from_each (full_call_each size ws)) (λ i e p. end_from (IsFirst l) _ (λ n le. record { is = p.2.is; short = p.2.short; declares = declares_none size old l n (omega (arith, le, p.1)) })))
+        (from_choice (kind ws) first_expression
+        (from_then (from_each (full_placed_each size ws)) (λ i e p. end_from (IsFirst l) _ (λ n le. record { is = tt; short = p.2; declares = declares_none size old l n (omega (arith, le, p.1)) })))
         (end_from (IsFirst l) _ (λ n le. record { is = tt; short = tt; declares = declares_none size old l n le })))
 
-    maybe_from : (l : ℕ) → From size l (maybe_ended ws) (IsOptional IsPure l)
+    maybe_from : (l : ℕ) → From size l (maybe_ended ws) (IsOptional l)
     unfolding maybe_ended
     maybe_from l =
-        let P = IsOptional IsPure l in
+        let P = IsOptional l in
         from_choice (kind ws) first_expression
-        (from_then (from_each (full_each size ws)) (λ i e p. end_from P (Some e) (λ n le. record { is = p.2.is; short = p.2.short; on = omega (arith, le, p.1) })))
-        (end_from P None (λ n le. record { is = tt; short = tt; on = le }))
+        (from_then (from_each (full_each size ws)) (λ i e p. end_from P (Some e) (λ n le. record { short = p.2; on = omega (arith, le, p.1) })))
+        (end_from P None (λ n le. record { short = tt; on = le }))
 
-    returned_from : (l : ℕ) → From size l (returned ws) (IsOptional IsPureOrCall l)
+    returned_from : (l : ℕ) → From size l (returned ws) (IsOptional l)
     unfolding returned
     returned_from l =
-        let P = IsOptional IsPureOrCall l in
+        let P = IsOptional l in
         from_choice (kind ws) first_expression
-        (from_then (from_each (full_value_each size ws)) (λ i e p. end_from P (Some e) (λ n le. record { is = p.2.is; short = p.2.short; on = omega (arith, le, p.1) })))
-        (end_from P None (λ n le. record { is = tt; short = tt; on = le }))
+        (from_then (from_each (full_each size ws)) (λ i e p. end_from P (Some e) (λ n le. record { short = p.2; on = omega (arith, le, p.1) })))
+        (end_from P None (λ n le. record { short = tt; on = le }))
 
-    behind_from : (l : ℕ) → From size l (for_behind ws) (IsOptional IsEffect l)
+    behind_from : (l : ℕ) → From size l (for_behind ws) (IsOptional l)
     unfolding for_behind
     behind_from l =
-        let P = IsOptional IsEffect l in
-        from_choice (kind ws) first_effect
-        (from_then (from_each (full_effect_each size ws)) (λ i e p. closed_from ws P (Some e.0) (λ n le. record { is = p.2.is; short = p.2.short; on = omega (arith, le, p.1) })))
-        (closed_from ws P None (λ n le. record { is = tt; short = tt; on = le }))
+        let P = IsOptional l in
+        from_choice (kind ws) first_expression
+        (from_then (from_each (full_each size ws)) (λ i e p. closed_from ws P (Some e) (λ n le. record { short = p.2; on = omega (arith, le, p.1) })))
+        (closed_from ws P None (λ n le. record { short = tt; on = le }))
 
     jump_from : (d l : ℕ) (c : AnnotationState) → From size l (jump ws c) (IsWithin (suc d) l)
     unfolding jump
@@ -148,7 +186,7 @@ module _ (size : ℕ) (old : Vocabulary) where
     return_from : (d l : ℕ) (c : AnnotationState) → From size l (return_statement ws c) (IsWithin (suc d) l)
     unfolding return_statement
     return_from d l c = from_then (from_any (reserved ws keyword.Return)) (λ m at le. from_then (returned_from m)
-        (λ n e p. from_gives _ (record { is = p.is; short = p.short; deep = omega arith; declares = declares_none size old l n (omega (arith, le, p.on)) })))
+        (λ n e p. from_gives _ (record { is = tt; short = p.short; deep = omega arith; declares = declares_none size old l n (omega (arith, le, p.on)) })))
 
     empty_from : (d l : ℕ) (c : AnnotationState) → From size l (empty_statement ws c) (IsWithin (suc d) l)
     unfolding empty_statement
@@ -156,8 +194,8 @@ module _ (size : ℕ) (old : Vocabulary) where
 
     effect_from : (d l : ℕ) (c : AnnotationState) → From size l (effect_statement ws c) (IsWithin (suc d) l)
     unfolding effect_statement
-    effect_from d l c = from_then (from_each (full_call_each size ws)) (λ m e p. end_from (IsWithin (suc d) l) _
-        (λ n le. record { is = p.2.is; short = p.2.short; deep = omega arith; declares = declares_none size old l n (omega (arith, le, p.1)) }))
+    effect_from d l c = from_then (from_each (full_placed_each size ws)) (λ m e p. end_from (IsWithin (suc d) l) _
+        (λ n le. record { is = tt; short = p.2; deep = omega arith; declares = declares_none size old l n (omega (arith, le, p.1)) }))
 
     -- ---- statements in statements
 
@@ -165,7 +203,7 @@ module _ (size : ℕ) (old : Vocabulary) where
       item_from : (l : ℕ) (c : AnnotationState) → From size l (item ws T c) (IsItemWithin d l)
       unfolding item
       item_from l c =
-          from_choice (kind ws) (annot_open_kind ∷ []) (placed_from d l c)
+          from_choice (kind ws) (annot_open_kind ∷ []) (from_more (λ n x p. p.0) (placed_from d l c))
           (from_choice (kind ws) first_type
           (from_then (declaration_from size old ws later l) (λ n x h. from_gives _ (record { item = record { is = h.is; short = h.short; deep = omega (arith, h.flat) }; declares = h.declares })))
           (from_then (each l c) (λ n x p. from_gives _ (record { item = record { is = p.is; short = p.short; deep = p.deep }; declares = p.declares }))))
@@ -193,23 +231,74 @@ module _ (size : ℕ) (old : Vocabulary) where
             declares = declares_higher size old l i n (declared_in_items (block_items x.0)) lf h.declares;
           }))))
 
+      -- ---- `switch`
+
+      case_item_from : (l : ℕ) (c : AnnotationState) → From size l (case_item ws T c) (λ n x. IsItemWithin d l n x × IsNoDeclaration x.0)
+      unfolding case_item
+      case_item_from l c =
+          from_choice (kind ws) (annot_open_kind ∷ []) (placed_from d l c)
+          (from_then (each l c) (λ n x p. from_gives _ (record { item = record { is = p.is; short = p.short; deep = p.deep }; declares = p.declares }, tt)))
+
+      case_once_from : (l m : ℕ) (x : List BlockItem × AnnotationState) → AreCaseItems d l m x → From size m (case_items_once ws T x) (AreCaseItems d l)
+      unfolding case_items_once
+      case_once_from l m x h = from_then (case_item_from m x.1) (λ n i p. from_gives _ (record {
+        items = record {
+          are = all_behind (IsItem d) x.0 i.0 h.items.are p.0.item;
+          declares = subst (λ (ds : List Declaration). Declares size old l ds n) (sym (declared_behind x.0 i.0))
+              (declares_joined size old l m n (declared_in_items (block_items x.0)) (declared_in_item i.0) h.items.declares p.0.declares);
+        };
+        none = all_behind IsNoDeclaration x.0 i.0 h.none p.1;
+      }))
+
+      case_items_from : (l m : ℕ) (x : List BlockItem × AnnotationState) → AreCaseItems d l m x → From size m (case_items ws T x) (AreCaseItems d l)
+      unfolding case_items
+      case_items_from l m x h = from_many (kind ws) (λ _. first_branch) {P = AreCaseItems d l} (λ i y g. case_once_from l i y g) m x h
+
+      next_case_from : (l m : ℕ) (x : List ReadCase × AnnotationState) → AreCases d l m x → From size m (next_case ws T x) (AreCases d l)
+      unfolding next_case
+      next_case_from l m x h =
+          from_then (from_any (case_label ws)) (λ i w le.
+          from_then (case_items_from i i ([], x.1) (record { items = record { are = tt; declares = declares_none size old i i (omega arith) }; none = tt })) (λ n y g. from_gives _ (
+          let new : ReadCase = record { place = w.0; value = w.1; items = y.0 } in
+          record {
+            are = all_behind (IsCase d) x.0 new h.are (record { is = items_placed d y.0 g.items.are; none = declare_nothing y.0 g.none; short = items_short d y.0 g.items.are; deep = items_deep d y.0 g.items.are });
+            declares = subst (λ (ds : List Declaration). Declares size old l ds n) (sym (declared_case_behind x.0 new))
+                (declares_joined size old l m n (declared_in_cases (cases_of x.0)) (declared_in_items (block_items y.0)) h.declares (declares_lower size old m i n (declared_in_items (block_items y.0)) le g.items.declares));
+          })))
+
+      cases_from : (l m : ℕ) (x : List ReadCase × AnnotationState) → AreCases d l m x → From size m (cases ws T x) (AreCases d l)
+      unfolding cases
+      cases_from l m x h = from_many (kind ws) (λ _. first_case) {P = AreCases d l} (λ i y g. next_case_from l i y g) m x h
+
+      switch_from : (l : ℕ) (c : AnnotationState) → From size l (switch_statement ws T c) (IsWithin (suc d) l)
+      unfolding switch_statement
+      switch_from l c =
+          from_then (from_any (reserved ws keyword.Switch)) (λ m at le. from_then (condition_from m) (λ i e p. from_then (from_any (mark ws left_brace)) (λ j _ lf.
+          from_then (cases_from l j ([], c) (record { are = tt; declares = declares_none size old l j (omega (arith, le, lf, p.on)) })) (λ k x h.
+          from_then (from_any (mark ws right_brace)) (λ n _ lg. from_gives _ (record {
+            is = cases_placed d x.0 h.are;
+            short = (p.is, cases_short d x.0 h.are);
+            deep = omega (arith, cases_deep d x.0 h.are);
+            declares = declares_higher size old l k n (declared_in_cases (cases_of x.0)) lg h.declares;
+          }))))))
+
     module _ (d : ℕ) {S : Numbered} (each : (l : ℕ) (c : AnnotationState) → From size l (S c) (IsWithin d l)) where
-      else_branch_from : (at : Place) (e : Expression) (l m : ℕ) (x : Statement × AnnotationState) → IsFull e → IsWithin d l m x → From size m (else_branch ws S at e x) (IsWithin (suc d) l)
+      else_branch_from : (at : Place) (e : Expression) (l m : ℕ) (x : Statement × AnnotationState) → IsFormed e → IsWithin d l m x → From size m (else_branch ws S at e x) (IsWithin (suc d) l)
       unfolding else_branch
       else_branch_from at e l m x p q =
           from_then (from_any (reserved ws keyword.Else)) (λ i _ le. from_then (each i x.1) (λ n y r. from_gives _ (record {
-            is = (p.is, q.is, r.is);
-            short = (p.short, q.short, r.short);
+            is = (q.is, r.is);
+            short = (p, q.short, r.short);
             deep = omega (arith, q.deep, r.deep);
             declares = declares_joined size old l m n (declared_within x.0) (declared_within y.0) q.declares (declares_lower size old m i n (declared_within y.0) le r.declares);
           })))
 
-      else_part_from : (at : Place) (e : Expression) (l m : ℕ) (x : Statement × AnnotationState) → IsFull e → IsWithin d l m x → From size m (else_part ws S at e x) (IsWithin (suc d) l)
+      else_part_from : (at : Place) (e : Expression) (l m : ℕ) (x : Statement × AnnotationState) → IsFormed e → IsWithin d l m x → From size m (else_part ws S at e x) (IsWithin (suc d) l)
       unfolding else_part
       else_part_from at e l m x p q =
           let alone : IsWithin (suc d) l m (If at e x.0 NoElse, x.1) = record {
-            is = (p.is, q.is, tt);
-            short = (p.short, q.short, tt);
+            is = (q.is, tt);
+            short = (p, q.short, tt);
             deep = omega (arith, q.deep);
             declares = subst (λ (ds : List Declaration). Declares size old l ds m) (sym (append-nil (declared_within x.0))) q.declares;
           } in
@@ -225,15 +314,15 @@ module _ (size : ℕ) (old : Vocabulary) where
       unfolding while_loop
       while_from l c =
           from_then (from_any (reserved ws keyword.While)) (λ m at le. from_then (condition_from m) (λ i e p. from_then (each i c) (λ n x q.
-          from_gives _ (record { is = (refl, p.is.is, q.is); short = (p.is.short, q.short); deep = omega (arith, q.deep); declares = (lower d l i n x (omega (arith, le, p.on)) q).declares }))))
+          from_gives _ (record { is = (refl, q.is); short = (p.is, q.short); deep = omega (arith, q.deep); declares = (lower d l i n x (omega (arith, le, p.on)) q).declares }))))
 
       do_from : (l : ℕ) (c : AnnotationState) → From size l (do_loop ws S c) (IsWithin (suc d) l)
       unfolding do_loop
       do_from l c =
           from_then (from_any (reserved ws keyword.Do)) (λ m at le. from_then (each m c) (λ i x q. from_then (from_any (reserved ws keyword.While)) (λ j _ lf. from_then (condition_from j) (λ k e p.
           end_from (IsWithin (suc d) l) _ (λ n lg. record {
-            is = (q.is, p.is.is);
-            short = (q.short, p.is.short);
+            is = q.is;
+            short = (q.short, p.is);
             deep = omega (arith, q.deep);
             declares = declares_higher size old l i n (declared_within x.0) (omega (arith, lf, p.on, lg)) (lower d l m i x le q).declares;
           })))))
@@ -243,7 +332,7 @@ module _ (size : ℕ) (old : Vocabulary) where
       for_from l c =
           from_then (from_any (reserved ws keyword.For)) (λ m at le. from_then (from_any (mark ws left_paren)) (λ i _ lf. from_then (for_first_from i c) (λ j f h. from_then (maybe_from j) (λ k e p.
           from_then (behind_from k) (λ o b r. from_then (each o f.1) (λ n x q. from_gives _ (record {
-            is = (refl, h.is, p.is, r.is, q.is);
+            is = (refl, h.is, q.is);
             short = (h.short, p.short, r.short, q.short);
             deep = omega (arith, q.deep);
             declares = declares_joined size old l j n (declared_in_first f.0) (declared_within x.0)
@@ -261,8 +350,9 @@ module _ (size : ℕ) (old : Vocabulary) where
           (from_choice (kind ws) (keyword_kind keyword.While ∷ []) (while_from d s l c)
           (from_choice (kind ws) (keyword_kind keyword.Do ∷ []) (do_from d s l c)
           (from_choice (kind ws) (keyword_kind keyword.For ∷ []) (for_from d s l c)
+          (from_choice (kind ws) (keyword_kind keyword.Switch ∷ []) (switch_from d t l c)
           (from_choice (kind ws) (keyword_kind keyword.Return ∷ []) (return_from d l c)
-          (from_choice (kind ws) (keyword_kind keyword.Break ∷ keyword_kind keyword.Continue ∷ []) (jump_from d l c) (effect_from d l c))))))))
+          (from_choice (kind ws) (keyword_kind keyword.Break ∷ keyword_kind keyword.Continue ∷ []) (jump_from d l c) (effect_from d l c)))))))))
 
     -- annotations before a statement are passed over
     branch_of_from : (d : ℕ) {T S : Numbered} → ((l : ℕ) (c : AnnotationState) → From size l (T c) (IsWithin (suc d) l)) → ((l : ℕ) (c : AnnotationState) → From size l (S c) (IsWithin d l)) → (l : ℕ) (c : AnnotationState)

@@ -18,9 +18,9 @@ use Rattle.c_model.specs.Vocabulary.{word_of}
 use Rattle.c_model.specs.Library.{library_constant, is_library_name}
 use Rattle.c_model.specs.ExpressionGrammar.{integer_word, integer_words, typedef_name, struct_tag, enum_tag, untagged_base, base, consts, type_words, type_behind, more_consts, star, next_star, star_words, written_length, length_or_none}
 use Rattle.c_model.specs.ExpressionGrammar.{bracket, next_bracket, brackets, type_name, closed, indexed, dotted, arrowed, postfix_once, postfixes, postfix_rest, literal, literal_first, cast_rest, sized_type, paren_rest, behind_paren}
-use Rattle.c_model.specs.ExpressionGrammar.{prefixed, sized, operand_but_name, operand_of, operand, joined_once, behind_operand, choice_rest, expression_rest, expression_of, expression, next_argument, arguments, call_rest}
-use Rattle.c_model.specs.ExpressionGrammar.{behind_name_or_callee, expression_or_call, assigned_value, assigned, bumped, behind_unary, behind_postfix, behind_form, effect_rest, bump_first, effect_but_name, effect, behind_name}
-use Rattle.c_model.specs.ExpressionGrammar.{effect_or_call, full_expression, full_expression_or_call, full_effect, full_effect_or_call}
+use Rattle.c_model.specs.ExpressionGrammar.{prefixed, sized, operand_but_name, operand_of, operand, joined_once, behind_operand, choice_rest, conditional_rest, expression_of, expression, next_argument, arguments, call_rest}
+use Rattle.c_model.specs.ExpressionGrammar.{behind_variable, assigned, bumped, behind_unary, behind_form, bump_first, at_level, next_part, with_commas, expression_at, placed_expression}
+use Rattle.c_model.specs.ExpressionGrammar.{full_expression, full_placed_expression, full_expression_at}
 use Rattle.c_model.specs.DeclarationGrammar.{ended, maybe_comma, next_item, item_once, more_items, listed, lengths, dtor, full_dtor, maybe_name, abstract_dtor, full_abstract_dtor, item_of_list, list_of, list_in, initialiser, initialised}
 use Rattle.c_model.specs.DeclarationGrammar.{declared_once, next_declared, more_declared, declared_list, declaration, parameter_rest, void_parameter, parameter_behind, parameter, next_parameter, more_parameters, first_parameter, parameters}
 use Rattle.c_model.specs.DeclarationGrammar.{next_member, members_of, behind_tag, behind_word, tagged_type, braced, member, more_members, struct_braces, constant_value, constant, enum_braces, braces_of, braces_in, storage_word}
@@ -29,7 +29,9 @@ use Rattle.c_model.specs.AnnotationGrammar.{named_form, literal_form, sized_form
 use Rattle.c_model.specs.AnnotationGrammar.{prefixed as formula_prefixed, prefix_of, prefix, joined_once as formula_joined_once, joined_more, joined, linked, links_of, links, chain_of, implied}
 use Rattle.c_model.specs.AnnotationGrammar.{implication_of, choice_behind, implication, form_of, form, assert_clause, full_clause, next_assert, asserts, annotations}
 use Rattle.c_model.specs.ProgramGrammar.{texts_of, misplaced, placed_annotation, condition, else_branch, else_part, selection, while_loop, do_loop, for_first, maybe_ended, for_behind, for_loop, jump, returned}
-use Rattle.c_model.specs.ProgramGrammar.{return_statement, item, items_once, items, block, empty_statement, effect_statement, statement_of, branch_of, statement_in, branch_in, function_rest, function, globals, behind_declarator, declared_at_file}
+use Rattle.c_model.specs.ProgramGrammar.{return_statement, item, items_once, items, block, valued_case, default_case, case_label, case_item, case_items_once, case_items}
+use Rattle.c_model.specs.ProgramGrammar.{next_case, cases, switch_statement, empty_statement, effect_statement, statement_of, branch_of, statement_in, branch_in}
+use Rattle.c_model.specs.ProgramGrammar.{function_rest, function, globals, behind_declarator, declared_at_file}
 use Rattle.c_model.specs.ProgramGrammar.{next_typedef, more_typedefs, typedefs, strays, declared_external, external, more_external, unit}
 use Rattle.c_model.specs.State.{EndOfInput, Final, Exits, Broken, Undefined}
 use Rattle.c_model.specs.Meaning.{run}
@@ -87,18 +89,18 @@ programs :
     Ok (Exits (pos 1), []) ∷
     Ok (Broken 2 1 clause.Assert how.False, []) ∷
     Ok (Broken 2 1 clause.Assert how.Undefined, []) ∷ []
-unfolding tokens_of build cut piece_at add marks digits_at suffix_of body_of literal_of escape_at unit_at letter_of is_file ends_marker headers include_fault directive_fault outside_in_c outside_in_annotations backslash_names is_outside
-    word_at number_at letter_at string_at annotation_marks c_mark_at mark_at comment_at open_block open_line other_at directive_at integer_word integer_words typedef_name struct_tag enum_tag untagged_base base consts type_words
-    type_behind more_consts star next_star star_words written_length length_or_none bracket next_bracket brackets type_name closed indexed dotted arrowed postfix_once postfixes postfix_rest literal literal_first cast_rest sized_type
-    paren_rest behind_paren prefixed sized operand_but_name operand_of operand joined_once behind_operand choice_rest expression_rest expression_of expression next_argument arguments call_rest behind_name_or_callee expression_or_call
-    assigned_value assigned bumped behind_unary behind_postfix behind_form effect_rest bump_first effect_but_name effect behind_name effect_or_call full_expression full_expression_or_call full_effect full_effect_or_call ended maybe_comma
-    next_item item_once more_items listed lengths dtor full_dtor maybe_name abstract_dtor full_abstract_dtor item_of_list list_of list_in initialiser initialised declared_once next_declared more_declared declared_list declaration
-    parameter_rest void_parameter parameter_behind parameter next_parameter more_parameters first_parameter parameters next_member members_of behind_tag behind_word tagged_type braced member more_members struct_braces constant_value
-    constant enum_braces braces_of braces_in storage_word more_storage file_spec named_form literal_form sized_form atom cast_behind cast_to_type cast_to_integer parenthesised
-    behind_parenthesis formula_prefixed prefix_of prefix formula_joined_once joined_more joined linked links_of links chain_of implied implication_of choice_behind implication form_of form assert_clause full_clause next_assert
-    asserts annotations misplaced placed_annotation condition else_branch else_part selection while_loop do_loop for_first maybe_ended for_behind for_loop jump
-    returned return_statement item items_once items block empty_statement effect_statement statement_of branch_of statement_in branch_in function_rest function globals behind_declarator declared_at_file next_typedef more_typedefs typedefs
-    strays declared_external external more_external unit word_of library_constant is_library_name
+unfolding tokens_of build cut piece_at add marks digits_at suffix_of body_of literal_of escape_at unit_at letter_of is_file ends_marker headers include_fault directive_fault outside_in_c outside_in_annotations backslash_names
+    is_outside word_at number_at letter_at string_at annotation_marks c_mark_at mark_at comment_at open_block open_line other_at directive_at integer_word integer_words typedef_name struct_tag enum_tag untagged_base base
+    consts type_words type_behind more_consts star next_star star_words written_length length_or_none bracket next_bracket brackets type_name closed indexed dotted arrowed postfix_once postfixes postfix_rest literal
+    literal_first cast_rest sized_type paren_rest behind_paren prefixed sized operand_but_name operand_of operand joined_once behind_operand choice_rest conditional_rest expression_of expression_at expression next_argument
+    arguments call_rest behind_variable assigned bumped behind_unary behind_form at_level next_part with_commas bump_first full_expression placed_expression full_placed_expression full_expression_at ended maybe_comma
+    next_item item_once more_items listed lengths dtor full_dtor maybe_name abstract_dtor full_abstract_dtor item_of_list list_of list_in initialiser initialised declared_once next_declared more_declared declared_list
+    declaration parameter_rest void_parameter parameter_behind parameter next_parameter more_parameters first_parameter parameters next_member members_of behind_tag behind_word tagged_type braced member more_members
+    struct_braces constant_value constant enum_braces braces_of braces_in storage_word more_storage file_spec named_form literal_form sized_form atom cast_behind cast_to_type cast_to_integer parenthesised behind_parenthesis
+    formula_prefixed prefix_of prefix formula_joined_once joined_more joined linked links_of links chain_of implied implication_of choice_behind implication form_of form assert_clause full_clause next_assert asserts
+    annotations misplaced placed_annotation condition else_branch else_part selection while_loop do_loop for_first maybe_ended for_behind for_loop jump returned return_statement item items_once items block valued_case
+    default_case case_label case_item case_items_once case_items next_case cases switch_statement empty_statement effect_statement statement_of branch_of statement_in branch_in function_rest function globals behind_declarator
+    declared_at_file next_typedef more_typedefs typedefs strays declared_external external more_external unit word_of library_constant is_library_name
 programs = refl
 
 -- texts that are refused
@@ -142,19 +144,56 @@ refusals :
     refusal 5 (place 1 29 28) (codes "x") ∷
     refusal 6 (place 1 48 47) (codes "+") ∷
     refusal 10 (place 1 42 41) (codes "<<") ∷ []
-unfolding tokens_of build cut piece_at add marks digits_at suffix_of body_of literal_of escape_at unit_at letter_of is_file ends_marker headers include_fault directive_fault outside_in_c outside_in_annotations backslash_names is_outside
-    word_at number_at letter_at string_at annotation_marks c_mark_at mark_at comment_at open_block open_line other_at directive_at integer_word integer_words typedef_name struct_tag enum_tag untagged_base base consts type_words
-    type_behind more_consts star next_star star_words written_length length_or_none bracket next_bracket brackets type_name closed indexed dotted arrowed postfix_once postfixes postfix_rest literal literal_first cast_rest sized_type
-    paren_rest behind_paren prefixed sized operand_but_name operand_of operand joined_once behind_operand choice_rest expression_rest expression_of expression next_argument arguments call_rest behind_name_or_callee expression_or_call
-    assigned_value assigned bumped behind_unary behind_postfix behind_form effect_rest bump_first effect_but_name effect behind_name effect_or_call full_expression full_expression_or_call full_effect full_effect_or_call ended maybe_comma
-    next_item item_once more_items listed lengths dtor full_dtor maybe_name abstract_dtor full_abstract_dtor item_of_list list_of list_in initialiser initialised declared_once next_declared more_declared declared_list declaration
-    parameter_rest void_parameter parameter_behind parameter next_parameter more_parameters first_parameter parameters next_member members_of behind_tag behind_word tagged_type braced member more_members struct_braces constant_value
-    constant enum_braces braces_of braces_in storage_word more_storage file_spec named_form literal_form sized_form atom cast_behind cast_to_type cast_to_integer parenthesised
-    behind_parenthesis formula_prefixed prefix_of prefix formula_joined_once joined_more joined linked links_of links chain_of implied implication_of choice_behind implication form_of form assert_clause full_clause next_assert
-    asserts annotations misplaced placed_annotation condition else_branch else_part selection while_loop do_loop for_first maybe_ended for_behind for_loop jump
-    returned return_statement item items_once items block empty_statement effect_statement statement_of branch_of statement_in branch_in function_rest function globals behind_declarator declared_at_file next_typedef more_typedefs typedefs
-    strays declared_external external more_external unit word_of library_constant is_library_name
+unfolding tokens_of build cut piece_at add marks digits_at suffix_of body_of literal_of escape_at unit_at letter_of is_file ends_marker headers include_fault directive_fault outside_in_c outside_in_annotations backslash_names
+    is_outside word_at number_at letter_at string_at annotation_marks c_mark_at mark_at comment_at open_block open_line other_at directive_at integer_word integer_words typedef_name struct_tag enum_tag untagged_base base
+    consts type_words type_behind more_consts star next_star star_words written_length length_or_none bracket next_bracket brackets type_name closed indexed dotted arrowed postfix_once postfixes postfix_rest literal
+    literal_first cast_rest sized_type paren_rest behind_paren prefixed sized operand_but_name operand_of operand joined_once behind_operand choice_rest conditional_rest expression_of expression_at expression next_argument
+    arguments call_rest behind_variable assigned bumped behind_unary behind_form at_level next_part with_commas bump_first full_expression placed_expression full_placed_expression full_expression_at ended maybe_comma
+    next_item item_once more_items listed lengths dtor full_dtor maybe_name abstract_dtor full_abstract_dtor item_of_list list_of list_in initialiser initialised declared_once next_declared more_declared declared_list
+    declaration parameter_rest void_parameter parameter_behind parameter next_parameter more_parameters first_parameter parameters next_member members_of behind_tag behind_word tagged_type braced member more_members
+    struct_braces constant_value constant enum_braces braces_of braces_in storage_word more_storage file_spec named_form literal_form sized_form atom cast_behind cast_to_type cast_to_integer parenthesised behind_parenthesis
+    formula_prefixed prefix_of prefix formula_joined_once joined_more joined linked links_of links chain_of implied implication_of choice_behind implication form_of form assert_clause full_clause next_assert asserts
+    annotations misplaced placed_annotation condition else_branch else_part selection while_loop do_loop for_first maybe_ended for_behind for_loop jump returned return_statement item items_once items block valued_case
+    default_case case_label case_item case_items_once case_items next_case cases switch_statement empty_statement effect_statement statement_of branch_of statement_in branch_in function_rest function globals behind_declarator
+    declared_at_file next_typedef more_typedefs typedefs strays declared_external external more_external unit word_of library_constant is_library_name
 refusals = refl
+
+-- assignments, increments, calls and commas in expressions, and `switch`
+effects :
+    outcome (codes "int f(int n) { return n < 2 ? n : f(n - 1) + f(n - 2); } int main(void) { return f(6); }") ∷
+    outcome (codes "int main(void) { int i = 0, n = 0; while (i++ < 3 && ++n) ; return 10 * i + n; }") ∷
+    outcome (codes "int main(void) { int x, y; x = y = 3; return (x += y, x) + (x = 1) + x; }") ∷
+    outcome (codes "int main(void) { int i = 5; switch (i--) { case 4: return 1; case 5: i *= 2; default: i += 1; case 7: break; } return i; }") ∷
+    outcome (codes "int main(void) { for (int i = 0; ; i++) switch (i) { case 0: case 1: continue; default: return i; } }") ∷
+    outcome (codes "int x; int main(void) { (int)x = 1; }") ∷
+    outcome (codes "int main(void) { switch (1) { int x; } }") ∷
+    outcome (codes "int main(void) { switch (1) { case 1: case 2: case 1: ; } }") ∷
+    outcome (codes "int main(void) { switch (1) { default: ; default: ; } }") ∷
+    outcome (codes "int f(void) { return 1; } int x = 1 + f();") ∷ []
+    ≡
+    Ok (Exits (pos 8), []) ∷
+    Ok (Exits (pos 43), []) ∷
+    Ok (Exits (pos 8), []) ∷
+    Ok (Exits (pos 9), []) ∷
+    Ok (Exits (pos 2), []) ∷
+    refusal 4 (place 1 32 31) (codes "=") ∷
+    refusal 4 (place 1 31 30) (codes "int") ∷
+    refusal 6 (place 1 52 51) (decimal 1) ∷
+    refusal 6 (place 1 42 41) (codes "default") ∷
+    refusal 6 (place 1 33 32) (codes "=") ∷ []
+unfolding tokens_of build cut piece_at add marks digits_at suffix_of body_of literal_of escape_at unit_at letter_of is_file ends_marker headers include_fault directive_fault outside_in_c outside_in_annotations backslash_names
+    is_outside word_at number_at letter_at string_at annotation_marks c_mark_at mark_at comment_at open_block open_line other_at directive_at integer_word integer_words typedef_name struct_tag enum_tag untagged_base base
+    consts type_words type_behind more_consts star next_star star_words written_length length_or_none bracket next_bracket brackets type_name closed indexed dotted arrowed postfix_once postfixes postfix_rest literal
+    literal_first cast_rest sized_type paren_rest behind_paren prefixed sized operand_but_name operand_of operand joined_once behind_operand choice_rest conditional_rest expression_of expression_at expression next_argument
+    arguments call_rest behind_variable assigned bumped behind_unary behind_form at_level next_part with_commas bump_first full_expression placed_expression full_placed_expression full_expression_at ended maybe_comma
+    next_item item_once more_items listed lengths dtor full_dtor maybe_name abstract_dtor full_abstract_dtor item_of_list list_of list_in initialiser initialised declared_once next_declared more_declared declared_list
+    declaration parameter_rest void_parameter parameter_behind parameter next_parameter more_parameters first_parameter parameters next_member members_of behind_tag behind_word tagged_type braced member more_members
+    struct_braces constant_value constant enum_braces braces_of braces_in storage_word more_storage file_spec named_form literal_form sized_form atom cast_behind cast_to_type cast_to_integer parenthesised behind_parenthesis
+    formula_prefixed prefix_of prefix formula_joined_once joined_more joined linked links_of links chain_of implied implication_of choice_behind implication form_of form assert_clause full_clause next_assert asserts
+    annotations misplaced placed_annotation condition else_branch else_part selection while_loop do_loop for_first maybe_ended for_behind for_loop jump returned return_statement item items_once items block valued_case
+    default_case case_label case_item case_items_once case_items next_case cases switch_statement empty_statement effect_statement statement_of branch_of statement_in branch_in function_rest function globals behind_declarator
+    declared_at_file next_typedef more_typedefs typedefs strays declared_external external more_external unit word_of library_constant is_library_name
+effects = refl
 
 -- functions, their prototypes and calls, and declarations in blocks
 calls :
@@ -173,18 +212,18 @@ calls :
     Ok (Exits (pos 1), 41 ∷ 97 ∷ 98 ∷ 99 ∷ []) ∷
     Ok (Exits (pos 7), []) ∷
     Ok (Broken 1 1 clause.Assert how.False, 104 ∷ []) ∷ []
-unfolding tokens_of build cut piece_at add marks digits_at suffix_of body_of literal_of escape_at unit_at letter_of is_file ends_marker headers include_fault directive_fault outside_in_c outside_in_annotations backslash_names is_outside
-    word_at number_at letter_at string_at annotation_marks c_mark_at mark_at comment_at open_block open_line other_at directive_at integer_word integer_words typedef_name struct_tag enum_tag untagged_base base consts type_words
-    type_behind more_consts star next_star star_words written_length length_or_none bracket next_bracket brackets type_name closed indexed dotted arrowed postfix_once postfixes postfix_rest literal literal_first cast_rest sized_type
-    paren_rest behind_paren prefixed sized operand_but_name operand_of operand joined_once behind_operand choice_rest expression_rest expression_of expression next_argument arguments call_rest behind_name_or_callee expression_or_call
-    assigned_value assigned bumped behind_unary behind_postfix behind_form effect_rest bump_first effect_but_name effect behind_name effect_or_call full_expression full_expression_or_call full_effect full_effect_or_call ended maybe_comma
-    next_item item_once more_items listed lengths dtor full_dtor maybe_name abstract_dtor full_abstract_dtor item_of_list list_of list_in initialiser initialised declared_once next_declared more_declared declared_list declaration
-    parameter_rest void_parameter parameter_behind parameter next_parameter more_parameters first_parameter parameters next_member members_of behind_tag behind_word tagged_type braced member more_members struct_braces constant_value
-    constant enum_braces braces_of braces_in storage_word more_storage file_spec named_form literal_form sized_form atom cast_behind cast_to_type cast_to_integer parenthesised
-    behind_parenthesis formula_prefixed prefix_of prefix formula_joined_once joined_more joined linked links_of links chain_of implied implication_of choice_behind implication form_of form assert_clause full_clause next_assert
-    asserts annotations misplaced placed_annotation condition else_branch else_part selection while_loop do_loop for_first maybe_ended for_behind for_loop jump
-    returned return_statement item items_once items block empty_statement effect_statement statement_of branch_of statement_in branch_in function_rest function globals behind_declarator declared_at_file next_typedef more_typedefs typedefs
-    strays declared_external external more_external unit word_of library_constant is_library_name
+unfolding tokens_of build cut piece_at add marks digits_at suffix_of body_of literal_of escape_at unit_at letter_of is_file ends_marker headers include_fault directive_fault outside_in_c outside_in_annotations backslash_names
+    is_outside word_at number_at letter_at string_at annotation_marks c_mark_at mark_at comment_at open_block open_line other_at directive_at integer_word integer_words typedef_name struct_tag enum_tag untagged_base base
+    consts type_words type_behind more_consts star next_star star_words written_length length_or_none bracket next_bracket brackets type_name closed indexed dotted arrowed postfix_once postfixes postfix_rest literal
+    literal_first cast_rest sized_type paren_rest behind_paren prefixed sized operand_but_name operand_of operand joined_once behind_operand choice_rest conditional_rest expression_of expression_at expression next_argument
+    arguments call_rest behind_variable assigned bumped behind_unary behind_form at_level next_part with_commas bump_first full_expression placed_expression full_placed_expression full_expression_at ended maybe_comma
+    next_item item_once more_items listed lengths dtor full_dtor maybe_name abstract_dtor full_abstract_dtor item_of_list list_of list_in initialiser initialised declared_once next_declared more_declared declared_list
+    declaration parameter_rest void_parameter parameter_behind parameter next_parameter more_parameters first_parameter parameters next_member members_of behind_tag behind_word tagged_type braced member more_members
+    struct_braces constant_value constant enum_braces braces_of braces_in storage_word more_storage file_spec named_form literal_form sized_form atom cast_behind cast_to_type cast_to_integer parenthesised behind_parenthesis
+    formula_prefixed prefix_of prefix formula_joined_once joined_more joined linked links_of links chain_of implied implication_of choice_behind implication form_of form assert_clause full_clause next_assert asserts
+    annotations misplaced placed_annotation condition else_branch else_part selection while_loop do_loop for_first maybe_ended for_behind for_loop jump returned return_statement item items_once items block valued_case
+    default_case case_label case_item case_items_once case_items next_case cases switch_statement empty_statement effect_statement statement_of branch_of statement_in branch_in function_rest function globals behind_declarator
+    declared_at_file next_typedef more_typedefs typedefs strays declared_external external more_external unit word_of library_constant is_library_name
 calls = refl
 
 -- texts that are refused for their functions, calls and declarations
@@ -195,7 +234,7 @@ refused_calls :
     outcome (codes "int f(int a) { return a; } int main(void) { return f(1, 2); }") ∷
     outcome (codes "int f(void) { return 0; } int f() { return 1; } int main(void) { return 0; }") ∷
     outcome (codes "int f(int); long f(int x) { return x; } int main(void) { return 0; }") ∷
-    outcome (codes "int f(void) { return 1; } int main(void) { return 1 + f(); }") ∷
+    outcome (codes "int f(void) { return 1; } int main(void) { return (f)(); }") ∷
     outcome (codes "int main(void) { int x = main(); return x; }") ∷
     outcome (codes "int putchar(int c) { return c; } int main(void) { return 0; }") ∷
     outcome (codes "int f(void x) { return 0; } int main(void) { return 0; }") ∷
@@ -210,7 +249,7 @@ refused_calls :
     refusal 6 (place 1 53 52) (codes "(") ∷
     refusal 5 (place 1 31 30) (codes "f") ∷
     refusal 5 (place 1 18 17) (codes "f") ∷
-    refusal 4 (place 1 56 55) (codes "(") ∷
+    refusal 4 (place 1 54 53) (codes "(") ∷
     refusal 6 (place 1 30 29) (codes "(") ∷
     refusal 5 (place 1 5 4) (codes "putchar") ∷
     refusal 6 (place 1 12 11) (codes "x") ∷
@@ -218,18 +257,18 @@ refused_calls :
     refusal 5 (place 1 55 54) (codes "i") ∷
     refusal 13 (place 1 1 0) (codes "main") ∷
     refusal 13 (place 1 5 4) (codes "main") ∷ []
-unfolding tokens_of build cut piece_at add marks digits_at suffix_of body_of literal_of escape_at unit_at letter_of is_file ends_marker headers include_fault directive_fault outside_in_c outside_in_annotations backslash_names is_outside
-    word_at number_at letter_at string_at annotation_marks c_mark_at mark_at comment_at open_block open_line other_at directive_at integer_word integer_words typedef_name struct_tag enum_tag untagged_base base consts type_words
-    type_behind more_consts star next_star star_words written_length length_or_none bracket next_bracket brackets type_name closed indexed dotted arrowed postfix_once postfixes postfix_rest literal literal_first cast_rest sized_type
-    paren_rest behind_paren prefixed sized operand_but_name operand_of operand joined_once behind_operand choice_rest expression_rest expression_of expression next_argument arguments call_rest behind_name_or_callee expression_or_call
-    assigned_value assigned bumped behind_unary behind_postfix behind_form effect_rest bump_first effect_but_name effect behind_name effect_or_call full_expression full_expression_or_call full_effect full_effect_or_call ended maybe_comma
-    next_item item_once more_items listed lengths dtor full_dtor maybe_name abstract_dtor full_abstract_dtor item_of_list list_of list_in initialiser initialised declared_once next_declared more_declared declared_list declaration
-    parameter_rest void_parameter parameter_behind parameter next_parameter more_parameters first_parameter parameters next_member members_of behind_tag behind_word tagged_type braced member more_members struct_braces constant_value
-    constant enum_braces braces_of braces_in storage_word more_storage file_spec named_form literal_form sized_form atom cast_behind cast_to_type cast_to_integer parenthesised
-    behind_parenthesis formula_prefixed prefix_of prefix formula_joined_once joined_more joined linked links_of links chain_of implied implication_of choice_behind implication form_of form assert_clause full_clause next_assert
-    asserts annotations misplaced placed_annotation condition else_branch else_part selection while_loop do_loop for_first maybe_ended for_behind for_loop jump
-    returned return_statement item items_once items block empty_statement effect_statement statement_of branch_of statement_in branch_in function_rest function globals behind_declarator declared_at_file next_typedef more_typedefs typedefs
-    strays declared_external external more_external unit word_of library_constant is_library_name
+unfolding tokens_of build cut piece_at add marks digits_at suffix_of body_of literal_of escape_at unit_at letter_of is_file ends_marker headers include_fault directive_fault outside_in_c outside_in_annotations backslash_names
+    is_outside word_at number_at letter_at string_at annotation_marks c_mark_at mark_at comment_at open_block open_line other_at directive_at integer_word integer_words typedef_name struct_tag enum_tag untagged_base base
+    consts type_words type_behind more_consts star next_star star_words written_length length_or_none bracket next_bracket brackets type_name closed indexed dotted arrowed postfix_once postfixes postfix_rest literal
+    literal_first cast_rest sized_type paren_rest behind_paren prefixed sized operand_but_name operand_of operand joined_once behind_operand choice_rest conditional_rest expression_of expression_at expression next_argument
+    arguments call_rest behind_variable assigned bumped behind_unary behind_form at_level next_part with_commas bump_first full_expression placed_expression full_placed_expression full_expression_at ended maybe_comma
+    next_item item_once more_items listed lengths dtor full_dtor maybe_name abstract_dtor full_abstract_dtor item_of_list list_of list_in initialiser initialised declared_once next_declared more_declared declared_list
+    declaration parameter_rest void_parameter parameter_behind parameter next_parameter more_parameters first_parameter parameters next_member members_of behind_tag behind_word tagged_type braced member more_members
+    struct_braces constant_value constant enum_braces braces_of braces_in storage_word more_storage file_spec named_form literal_form sized_form atom cast_behind cast_to_type cast_to_integer parenthesised behind_parenthesis
+    formula_prefixed prefix_of prefix formula_joined_once joined_more joined linked links_of links chain_of implied implication_of choice_behind implication form_of form assert_clause full_clause next_assert asserts
+    annotations misplaced placed_annotation condition else_branch else_part selection while_loop do_loop for_first maybe_ended for_behind for_loop jump returned return_statement item items_once items block valued_case
+    default_case case_label case_item case_items_once case_items next_case cases switch_statement empty_statement effect_statement statement_of branch_of statement_in branch_in function_rest function globals behind_declarator
+    declared_at_file next_typedef more_typedefs typedefs strays declared_external external more_external unit word_of library_constant is_library_name
 refused_calls = refl
 
 -- texts with declarations of all forms
@@ -271,18 +310,18 @@ declarations :
     refusal 4 (place 1 16 15) (codes ")") ∷
     refusal 4 (place 1 27 26) (codes "}") ∷
     refusal 4 (place 1 47 46) (codes "typedef") ∷ []
-unfolding tokens_of build cut piece_at add marks digits_at suffix_of body_of literal_of escape_at unit_at letter_of is_file ends_marker headers include_fault directive_fault outside_in_c outside_in_annotations backslash_names is_outside
-    word_at number_at letter_at string_at annotation_marks c_mark_at mark_at comment_at open_block open_line other_at directive_at integer_word integer_words typedef_name struct_tag enum_tag untagged_base base consts type_words
-    type_behind more_consts star next_star star_words written_length length_or_none bracket next_bracket brackets type_name closed indexed dotted arrowed postfix_once postfixes postfix_rest literal literal_first cast_rest sized_type
-    paren_rest behind_paren prefixed sized operand_but_name operand_of operand joined_once behind_operand choice_rest expression_rest expression_of expression next_argument arguments call_rest behind_name_or_callee expression_or_call
-    assigned_value assigned bumped behind_unary behind_postfix behind_form effect_rest bump_first effect_but_name effect behind_name effect_or_call full_expression full_expression_or_call full_effect full_effect_or_call ended maybe_comma
-    next_item item_once more_items listed lengths dtor full_dtor maybe_name abstract_dtor full_abstract_dtor item_of_list list_of list_in initialiser initialised declared_once next_declared more_declared declared_list declaration
-    parameter_rest void_parameter parameter_behind parameter next_parameter more_parameters first_parameter parameters next_member members_of behind_tag behind_word tagged_type braced member more_members struct_braces constant_value
-    constant enum_braces braces_of braces_in storage_word more_storage file_spec named_form literal_form sized_form atom cast_behind cast_to_type cast_to_integer parenthesised
-    behind_parenthesis formula_prefixed prefix_of prefix formula_joined_once joined_more joined linked links_of links chain_of implied implication_of choice_behind implication form_of form assert_clause full_clause next_assert
-    asserts annotations misplaced placed_annotation condition else_branch else_part selection while_loop do_loop for_first maybe_ended for_behind for_loop jump
-    returned return_statement item items_once items block empty_statement effect_statement statement_of branch_of statement_in branch_in function_rest function globals behind_declarator declared_at_file next_typedef more_typedefs typedefs
-    strays declared_external external more_external unit word_of library_constant is_library_name
+unfolding tokens_of build cut piece_at add marks digits_at suffix_of body_of literal_of escape_at unit_at letter_of is_file ends_marker headers include_fault directive_fault outside_in_c outside_in_annotations backslash_names
+    is_outside word_at number_at letter_at string_at annotation_marks c_mark_at mark_at comment_at open_block open_line other_at directive_at integer_word integer_words typedef_name struct_tag enum_tag untagged_base base
+    consts type_words type_behind more_consts star next_star star_words written_length length_or_none bracket next_bracket brackets type_name closed indexed dotted arrowed postfix_once postfixes postfix_rest literal
+    literal_first cast_rest sized_type paren_rest behind_paren prefixed sized operand_but_name operand_of operand joined_once behind_operand choice_rest conditional_rest expression_of expression_at expression next_argument
+    arguments call_rest behind_variable assigned bumped behind_unary behind_form at_level next_part with_commas bump_first full_expression placed_expression full_placed_expression full_expression_at ended maybe_comma
+    next_item item_once more_items listed lengths dtor full_dtor maybe_name abstract_dtor full_abstract_dtor item_of_list list_of list_in initialiser initialised declared_once next_declared more_declared declared_list
+    declaration parameter_rest void_parameter parameter_behind parameter next_parameter more_parameters first_parameter parameters next_member members_of behind_tag behind_word tagged_type braced member more_members
+    struct_braces constant_value constant enum_braces braces_of braces_in storage_word more_storage file_spec named_form literal_form sized_form atom cast_behind cast_to_type cast_to_integer parenthesised behind_parenthesis
+    formula_prefixed prefix_of prefix formula_joined_once joined_more joined linked links_of links chain_of implied implication_of choice_behind implication form_of form assert_clause full_clause next_assert asserts
+    annotations misplaced placed_annotation condition else_branch else_part selection while_loop do_loop for_first maybe_ended for_behind for_loop jump returned return_statement item items_once items block valued_case
+    default_case case_label case_item case_items_once case_items next_case cases switch_statement empty_statement effect_statement statement_of branch_of statement_in branch_in function_rest function globals behind_declarator
+    declared_at_file next_typedef more_typedefs typedefs strays declared_external external more_external unit word_of library_constant is_library_name
 declarations = refl
 
 -- an assert that is no item of a block stands where none may (E7), where what follows it makes a text
@@ -306,16 +345,16 @@ misplaced_asserts :
     refusal 4 (place 1 47 46) (codes "}") ∷
     refusal 4 (place 1 23 22) (codes "}") ∷
     Ok (Exits (pos 0), []) ∷ []
-unfolding tokens_of build cut piece_at add marks digits_at suffix_of body_of literal_of escape_at unit_at letter_of is_file ends_marker headers include_fault directive_fault outside_in_c outside_in_annotations backslash_names is_outside
-    word_at number_at letter_at string_at annotation_marks c_mark_at mark_at comment_at open_block open_line other_at directive_at integer_word integer_words typedef_name struct_tag enum_tag untagged_base base consts type_words
-    type_behind more_consts star next_star star_words written_length length_or_none bracket next_bracket brackets type_name closed indexed dotted arrowed postfix_once postfixes postfix_rest literal literal_first cast_rest sized_type
-    paren_rest behind_paren prefixed sized operand_but_name operand_of operand joined_once behind_operand choice_rest expression_rest expression_of expression next_argument arguments call_rest behind_name_or_callee expression_or_call
-    assigned_value assigned bumped behind_unary behind_postfix behind_form effect_rest bump_first effect_but_name effect behind_name effect_or_call full_expression full_expression_or_call full_effect full_effect_or_call ended maybe_comma
-    next_item item_once more_items listed lengths dtor full_dtor maybe_name abstract_dtor full_abstract_dtor item_of_list list_of list_in initialiser initialised declared_once next_declared more_declared declared_list declaration
-    parameter_rest void_parameter parameter_behind parameter next_parameter more_parameters first_parameter parameters next_member members_of behind_tag behind_word tagged_type braced member more_members struct_braces constant_value
-    constant enum_braces braces_of braces_in storage_word more_storage file_spec named_form literal_form sized_form atom cast_behind cast_to_type cast_to_integer parenthesised
-    behind_parenthesis formula_prefixed prefix_of prefix formula_joined_once joined_more joined linked links_of links chain_of implied implication_of choice_behind implication form_of form assert_clause full_clause next_assert
-    asserts annotations misplaced placed_annotation condition else_branch else_part selection while_loop do_loop for_first maybe_ended for_behind for_loop jump
-    returned return_statement item items_once items block empty_statement effect_statement statement_of branch_of statement_in branch_in function_rest function globals behind_declarator declared_at_file next_typedef more_typedefs typedefs
-    strays declared_external external more_external unit word_of library_constant is_library_name
+unfolding tokens_of build cut piece_at add marks digits_at suffix_of body_of literal_of escape_at unit_at letter_of is_file ends_marker headers include_fault directive_fault outside_in_c outside_in_annotations backslash_names
+    is_outside word_at number_at letter_at string_at annotation_marks c_mark_at mark_at comment_at open_block open_line other_at directive_at integer_word integer_words typedef_name struct_tag enum_tag untagged_base base
+    consts type_words type_behind more_consts star next_star star_words written_length length_or_none bracket next_bracket brackets type_name closed indexed dotted arrowed postfix_once postfixes postfix_rest literal
+    literal_first cast_rest sized_type paren_rest behind_paren prefixed sized operand_but_name operand_of operand joined_once behind_operand choice_rest conditional_rest expression_of expression_at expression next_argument
+    arguments call_rest behind_variable assigned bumped behind_unary behind_form at_level next_part with_commas bump_first full_expression placed_expression full_placed_expression full_expression_at ended maybe_comma
+    next_item item_once more_items listed lengths dtor full_dtor maybe_name abstract_dtor full_abstract_dtor item_of_list list_of list_in initialiser initialised declared_once next_declared more_declared declared_list
+    declaration parameter_rest void_parameter parameter_behind parameter next_parameter more_parameters first_parameter parameters next_member members_of behind_tag behind_word tagged_type braced member more_members
+    struct_braces constant_value constant enum_braces braces_of braces_in storage_word more_storage file_spec named_form literal_form sized_form atom cast_behind cast_to_type cast_to_integer parenthesised behind_parenthesis
+    formula_prefixed prefix_of prefix formula_joined_once joined_more joined linked links_of links chain_of implied implication_of choice_behind implication form_of form assert_clause full_clause next_assert asserts
+    annotations misplaced placed_annotation condition else_branch else_part selection while_loop do_loop for_first maybe_ended for_behind for_loop jump returned return_statement item items_once items block valued_case
+    default_case case_label case_item case_items_once case_items next_case cases switch_statement empty_statement effect_statement statement_of branch_of statement_in branch_in function_rest function globals behind_declarator
+    declared_at_file next_typedef more_typedefs typedefs strays declared_external external more_external unit word_of library_constant is_library_name
 misplaced_asserts = refl

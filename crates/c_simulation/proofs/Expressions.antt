@@ -43,6 +43,7 @@ use Rattle.c_simulation.specs.Standing.{Setting, Target, runs, Has, IsOf, Bounde
 use Rattle.c_simulation.proofs.Pointers.{small_literal}
 use Rattle.c_simulation.proofs.Following.{anchored_same}
 use Rattle.c_simulation.specs.Following.{Evaluates, HasValue, HasNone, Places, HasPlace, HasNoPlace, Tests}
+use Rattle.c_simulation.proofs.PureValues.{Quiet, Gives, IsUndefined, HasKind, pure_gives}
 use Rattle.c_simulation.proofs.Registers.{same_all, same_less, longer}
 use Rattle.c_simulation.proofs.Anchors.{pointer_has}
 use Rattle.c_simulation.proofs.Integers.{is_number, truth_fits}
@@ -487,6 +488,12 @@ module _ (w : Setting) (n : ℕ) (sight : Sight) (knows : Knows w sight) (bound 
         member_follows w n target now store_is bounded false at d (on_outcome (eval_with T a w.call now) pointed_to) regs (length rs) (length (rs ++ temporaries a)) (runs w n target (setup w.unit bound rs a) regs)
         (value w.unit bound rs a) (pointer_place f)
 
+  -- what has no effect, in front of a comma, is evaluated in the source alone
+  comma_follows : (at : Place) (t : PlainType) (a b : Expression) (k : Scalar) (rs : List MonType) (regs : List Value) → Quiet (HasKind (scalar_of (type_of a))) now (eval_with T a w.call now) → Followed b k rs regs → Followed (Node at t (Comma a b)) k rs regs
+  comma_follows at t a b k rs regs (Gives v h e) f =
+      subst (λ r. Evaluates w k now target r regs (length rs) (length (rs ++ temporaries b)) (runs w n target (setup w.unit bound rs b) regs) (value w.unit bound rs b)) (sym (ap (λ r. on_outcome r (λ _. eval_with T b w.call)) e)) f
+  comma_follows at t a b k rs regs (IsUndefined there e) f = HasNone there (ap (λ r. on_outcome r (λ _. eval_with T b w.call)) e)
+
   -- ---- all forms
 
   mutual
@@ -561,7 +568,8 @@ module _ (w : Setting) (n : ℕ) (sight : Sight) (knows : Knows w sight) (bound 
         (sym (handed_on_twice (eval_with T a w.call now) pointed_to (λ p. give (shifted p d)) (λ q. read_any at q (scalar_of t))))
         (read_at w n target now store_is bounded true at t k (on_outcome (on_outcome (eval_with T a w.call now) pointed_to) (λ p. give (shifted p d))) regs (length rs) (length (rs ++ temporaries a))
         (runs w n target (setup w.unit bound rs a) regs) (farther (value w.unit bound rs a) d) is (arrow_place a rs regs at d (evaluates a PointerType rs (ap scalar_of q.1.is) p q.0 c behind regs h enough)))
-    evaluates (Node at t (Comma a b)) k rs is p q c behind regs h enough = absurd p
+    evaluates (Node at t (Comma a b)) k rs is p q c behind regs h enough =
+        comma_follows at t a b k rs regs (pure_gives T w.call sight now a p.0 q.0) (evaluates b k rs (ap scalar_of q.2 ∙ is) p.1 q.1 c behind regs h enough)
     evaluates (Node at t (Assign op a b)) k rs is p q c behind regs h enough = absurd p
     evaluates (Node at t (Bump op a)) k rs is p q c behind regs h enough = absurd p
     evaluates (Node at t (Call f args)) k rs is p q c behind regs h enough = absurd p
@@ -594,7 +602,7 @@ module _ (w : Setting) (n : ℕ) (sight : Sight) (knows : Knows w sight) (bound 
     places (Node at t (Cast to a)) rs o p q c behind regs h enough = absurd cc
     places (Node at t (SizeOfType u)) rs o p q c behind regs h enough = absurd cc
     places (Node at t (SizeOfExpr a)) rs o p q c behind regs h enough = absurd cc
-    places (Node at t (Comma a b)) rs o p q c behind regs h enough = absurd p
+    places (Node at t (Comma a b)) rs o p q c behind regs h enough = let no : true ≡ false = sym o ∙ p.2 in absurd cc
     places (Node at t (Assign op a b)) rs o p q c behind regs h enough = absurd p
     places (Node at t (Bump op a)) rs o p q c behind regs h enough = absurd p
     places (Node at t (Call f args)) rs o p q c behind regs h enough = absurd p

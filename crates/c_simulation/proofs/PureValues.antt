@@ -321,7 +321,9 @@ module _ (T : Tables) (call : Callee) (sight : Sight) (s : State) where
         quiet_then IsPointed (HasKind (scalar_of t)) s (eval_with T a call s) (λ x. pointed_to x >>= λ p. read_any at (shifted p d) (scalar_of t)) (pointed a q.1.target q.1.is (pure_gives a p q.0))
         (λ x i. quiet_then Any (HasKind (scalar_of t)) s (pointed_to x s) (λ p. read_any at (shifted p d) (scalar_of t)) (Gives i.0 tt (ap (λ v. pointed_to v s) i.1))
         (λ p h. quiet_read at (shifted p d) (scalar_of t) s))
-    pure_gives (Node at t (Comma a b)) p q = absurd p
+    pure_gives (Node at t (Comma a b)) p q =
+        quiet_then (HasKind (scalar_of (type_of a))) (HasKind (scalar_of t)) s (eval_with T a call s) (λ _. eval_with T b call) (pure_gives a p.0 q.0)
+        (λ v h. subst (λ u. Quiet (HasKind (scalar_of u)) s (eval_with T b call s)) q.2 (pure_gives b p.1 q.1))
     pure_gives (Node at t (Assign op a b)) p q = absurd p
     pure_gives (Node at t (Bump op a)) p q = absurd p
     pure_gives (Node at t (Call f args)) p q = absurd p
@@ -357,7 +359,7 @@ module _ (T : Tables) (call : Callee) (sight : Sight) (s : State) where
     place_gives (Node at t (Cast to a)) p q = IsUndefined at refl
     place_gives (Node at t (SizeOfType u)) p q = IsUndefined at refl
     place_gives (Node at t (SizeOfExpr a)) p q = IsUndefined at refl
-    place_gives (Node at t (Comma a b)) p q = absurd p
+    place_gives (Node at t (Comma a b)) p q = quiet_then (HasKind (scalar_of (type_of a))) Any s (eval_with T a call s) (λ _. place_with T b call) (pure_gives a p.0 q.0) (λ v h. place_gives b p.1 q.1)
     place_gives (Node at t (Assign op a b)) p q = absurd p
     place_gives (Node at t (Bump op a)) p q = absurd p
     place_gives (Node at t (Call f args)) p q = absurd p

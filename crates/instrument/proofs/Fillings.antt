@@ -125,7 +125,7 @@ pure_letters (Node at t (SizeOfExpr a)) h l = tt
 pure_letters (Node at t (Index a b)) h l = (pure_letters a h.0 l.0, pure_letters b h.1 l.1)
 pure_letters (Node at t (Dot a m)) h l = pure_letters a h l
 pure_letters (Node at t (Arrow a m)) h l = pure_letters a h l
-pure_letters (Node at t (Comma a b)) h l = absurd h
+pure_letters (Node at t (Comma a b)) h l = pure_letters b h.1 l.1
 
 module _ (w : Setting) (n : ℕ) (sight : Sight) (knows : Knows w sight) (bound : Bindings) (low : ℕ) where
   pub anchored_lasts : Lasts low (λ regs s. Anchored w low bound regs s.scope)

@@ -41,15 +41,15 @@ module _ (structs : List StructType) where
     statement_formed (Empty at) p h t = tt
     statement_formed (Eval at e) p h t = record { small = h; types = t }
     statement_formed (Block at items) p h t = items_formed items p h t
-    statement_formed (If at e a b) p h t = (record { small = h.0; types = t.0 }, statement_formed a p.1 h.1 t.1, else_formed b p.2 h.2 t.2)
-    statement_formed (While at annots e a) p h t = (p.0, record { small = h.0; types = t.0 }, statement_formed a p.2 h.1 t.1)
-    statement_formed (Do at a e) p h t = (statement_formed a p.0 h.0 t.0, record { small = h.1; types = t.1 })
-    statement_formed (For at annots first e step a) p h t = (p.0, first_formed first p.1 h.0 t.0, any_full e h.1 t.1, any_full step h.2 t.2, statement_formed a p.4 h.3 t.3)
+    statement_formed (If at e a b) p h t = (record { small = h.0; types = t.0 }, statement_formed a p.0 h.1 t.1, else_formed b p.1 h.2 t.2)
+    statement_formed (While at annots e a) p h t = (p.0, record { small = h.0; types = t.0 }, statement_formed a p.1 h.1 t.1)
+    statement_formed (Do at a e) p h t = (statement_formed a p h.0 t.0, record { small = h.1; types = t.1 })
+    statement_formed (For at annots first e step a) p h t = (p.0, first_formed first p.1 h.0 t.0, any_full e h.1 t.1, any_full step h.2 t.2, statement_formed a p.2 h.3 t.3)
     statement_formed (Break at) p h t = tt
     statement_formed (Continue at) p h t = tt
     statement_formed (Return at e) p h t = any_full e h t
     statement_formed (Labelled at l a) p h t = absurd p
-    statement_formed (Switch at e cases) p h t = (record { small = h.0; types = t.0 }, cases_formed cases p.1 h.1 t.1)
+    statement_formed (Switch at e cases) p h t = (record { small = h.0; types = t.0 }, cases_formed cases p h.1 t.1)
 
     cases_formed : (cs : Cases) → CasesPlaced AreRangedAsserts cs → EachInCases IsSmall cs → EachInCases Few cs → CasesFormed structs cs
     cases_formed NoCase p h t = tt

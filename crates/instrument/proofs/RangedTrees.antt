@@ -27,15 +27,15 @@ mutual
   statement_ranged (Empty at) p r = tt
   statement_ranged (Eval at e) p r = p
   statement_ranged (Block at items) p r = items_ranged items p r
-  statement_ranged (If at e a b) p r = (p.0, statement_ranged a p.1 r.0, else_ranged b p.2 r.1)
-  statement_ranged (While at annots e a) p r = (p.0, p.1, statement_ranged a p.2 r.1)
-  statement_ranged (Do at a e) p r = (statement_ranged a p.0 r, p.1)
-  statement_ranged (For at annots first e step a) p r = (p.0, p.1, p.2, p.3, statement_ranged a p.4 r.1)
+  statement_ranged (If at e a b) p r = (statement_ranged a p.0 r.0, else_ranged b p.1 r.1)
+  statement_ranged (While at annots e a) p r = (p.0, statement_ranged a p.1 r.1)
+  statement_ranged (Do at a e) p r = statement_ranged a p r
+  statement_ranged (For at annots first e step a) p r = (p.0, p.1, statement_ranged a p.2 r.1)
   statement_ranged (Break at) p r = tt
   statement_ranged (Continue at) p r = tt
   statement_ranged (Return at e) p r = p
   statement_ranged (Labelled at l a) p r = absurd p
-  statement_ranged (Switch at e cases) p r = (p.0, cases_ranged cases p.1 r)
+  statement_ranged (Switch at e cases) p r = cases_ranged cases p r
 
   cases_ranged : (cs : Cases) → CasesPlaced AreAsserts cs → CasesRanged cs → CasesPlaced AreRangedAsserts cs
   cases_ranged NoCase p r = tt

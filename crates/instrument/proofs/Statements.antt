@@ -415,9 +415,9 @@ module _ (w : Setting) (n : ℕ) where
         let f2 = statement_grows w.unit a r1 in
         let f3 = else_grows w.unit b r2 in
         choice_does h spot low r.bound living s g r.kinds e (exec_with T a w.call (suc n)) (else_with T b w.call (suc n)) (statement w.unit spot r1 a) (else_part w.unit spot r2 b) q.0 l.0 behind (omega (arith, enough, f2, f3))
-        (statement_follows a s around h spot low r1 living stands g sees result looped c.1 f.1 q.1 m.0 l.1 (omega (arith, behind, f1)) (omega (arith, enough, f3)))
+        (statement_follows a s around h spot low r1 living stands g sees result looped c.1 f.0 q.1 m.0 l.1 (omega (arith, behind, f1)) (omega (arith, enough, f3)))
         (behind_first_part a h spot low r1 living (else_with T b w.call (suc n)) (else_part w.unit spot r2 b) c.0
-        (else_follows b s around h spot low r2 living stands g sees result looped c.2 f.2 q.2 m.1 l.2 (omega (arith, behind, f1, f2)) enough))
+        (else_follows b s around h spot low r2 living stands g sees result looped c.2 f.1 q.2 m.1 l.2 (omega (arith, behind, f1, f2)) enough))
     statement_follows (While at annots e a) s around h spot low r living stands g sees result looped c f q m l behind enough = λ regs from t x le.
         let r1 = with_kinds (takes w.unit e) r in
         let k = spot.levels + 1 in
@@ -426,7 +426,7 @@ module _ (w : Setting) (n : ℕ) where
         subst (λ xs. Follows w h low regs Next from (exec_with T (While at xs e a) w.call (suc n) from) (runs w n t (statement w.unit spot r (While at [] e a)) regs)) (sym f.0)
         (loops.loop_follows w h base spot low r.bound living n from _ regs t (test w.unit r.bound r.kinds k e) (statement w.unit (target.in_loop spot) r1 a) NoStatement
         (loops.turns_follow w h base spot low r.bound living n (source.condition_of T e w.call) (exec_with T a w.call (suc n)) (statement w.unit (target.in_loop spot) r1 a)
-        (statement_follows a s (in_loop around) here (target.in_loop spot) low r1 living (refl, refl) g sees result (refl, refl) c f.2 q.1 m.1 l.1 (omega (arith, behind, more_kinds (takes w.unit e) r)) enough)
+        (statement_follows a s (in_loop around) here (target.in_loop spot) low r1 living (refl, refl) g sees result (refl, refl) c f.1 q.1 m.1 l.1 (omega (arith, behind, more_kinds (takes w.unit e) r)) enough)
         (test w.unit r.bound r.kinds k e) (test_if_any_does h base spot low living s g r (Some e) q.0 l.0 behind (omega (arith, enough, statement_grows w.unit a r1)))
         state.done NoStatement (nothing_reached (loops.in_turn w h base spot low r.bound living n) (target.in_loop spot) low r.bound living)
         n regs from t (loops.meets_turn w h base spot low r.bound living n regs from t refl x) le le))
@@ -438,7 +438,7 @@ module _ (w : Setting) (n : ℕ) where
         let there = loops.in_turn w h base spot low r.bound living n in
         loops.loop_follows w h base spot low r.bound living n from _ regs t NoStatement (statement w.unit (target.in_loop spot) r a) (test w.unit r1.bound r1.kinds k e)
         (loops.do_turns_follow w h base spot low r.bound living n (source.condition_of T e w.call) (exec_with T a w.call (suc n)) (statement w.unit (target.in_loop spot) r a)
-        (statement_follows a s (in_loop around) here (target.in_loop spot) low r living (refl, refl) g sees result (refl, refl) c.1 f.0 q.0 m l.0 behind (omega (arith, enough, more_kinds (takes w.unit e) r1)))
+        (statement_follows a s (in_loop around) here (target.in_loop spot) low r living (refl, refl) g sees result (refl, refl) c.1 f q.0 m l.0 behind (omega (arith, enough, more_kinds (takes w.unit e) r1)))
         (test w.unit r1.bound r1.kinds k e)
         (loops.tests w h base spot low r.bound living n (source.condition_of T e w.call) (prepare w.unit r1.bound r1.kinds e) (condition_result w.unit r1.bound r1.kinds e) (length (r1.kinds ++ takes w.unit e))
         (λ regs from t m le. condition_tested there (target.in_loop spot) low r1.bound living s g r1.kinds e q.1 l.1 (omega (arith, behind, statement_grows w.unit a r)) enough regs from t
@@ -458,7 +458,7 @@ module _ (w : Setting) (n : ℕ) where
         subst (λ xs. DoSame h spot low r.bound living (exec_with T (For at xs first e step a) w.call (suc n)) (statement w.unit spot r (For at [] first e step a))) (sym f.0)
         (for_follows at first s g around h spot low r living e step a c.0 c.1 f.1 q.0 l.0 q.1 l.1 q.2 l.3 behind enough (λ old base.
         statement_follows a (behind_first (inner s) first) (in_loop around) (loops.in_body w (behind_births w.unit.structs h old ds) base spot2 low2 r3.bound (with_numbers ds living) n) (target.in_loop spot2) low2 r3 (with_numbers ds living)
-        (refl, refl) (scene_behind_first w n (inner s) first (scene_inner w n s g)) (sees_first first s living sees) result (refl, refl) c.2 f.4 q.3 m.1 l.2 (omega (arith, f0, f1, f2)) (omega (arith, enough, f4))))
+        (refl, refl) (scene_behind_first w n (inner s) first (scene_inner w n s g)) (sees_first first s living sees) result (refl, refl) c.2 f.2 q.3 m.1 l.2 (omega (arith, f0, f1, f2)) (omega (arith, enough, f4))))
     statement_follows (Break at) s around h spot low r living stands g sees result looped c f q m l behind enough = λ regs from t x le. break_follows w n h spot low r.bound living from regs t x stands.0 (sym looped.1 ∙ q)
     statement_follows (Continue at) s around h spot low r living stands g sees result looped c f q m l behind enough = λ regs from t x le. continue_follows w n h spot low r.bound living from regs t x stands.1 (sym looped.0 ∙ q)
     statement_follows (Return at e) s around h spot low r living stands g sees result looped c f q m l behind enough = returned_does h spot low living s g r e (subst (λ k. Returned s k e) result q) l behind enough at
@@ -480,7 +480,7 @@ module _ (w : Setting) (n : ℕ) where
         subst (λ b. switches.CasesDo w n inside (target.in_switch spot) (suc (suc v)) living j chosen r.bound (cases_with T cases w.call (suc n) chosen) (before b (blocks_of_cases w.unit (target.in_switch spot) taken j 0 0 cases)))
         (switches.none_begun w.unit (target.in_switch spot) taken j 0 cases)
         (cases_follow cases s (in_switch around) inside (target.in_switch spot) (suc (suc v)) taken living j chosen (omega (arith, long3)) (promoted q.0) 0 0 chosen
-        (switches.all_left chosen) (refl, stands.1) g sees result (looped.0, refl) c f.1 q.3 m l.1 (omega (arith, long4)) enough))
+        (switches.all_left chosen) (refl, stands.1) g sees result (looped.0, refl) c f q.3 m l.1 (omega (arith, long4)) enough))
         at
 
     -- the cases of a switch from the index i on, of which the first k2 stand in a block that was begun; the first m2 are in front of the chosen one
