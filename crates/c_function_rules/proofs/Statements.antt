@@ -1,19 +1,21 @@
 -- Statements at a known variant.
-use Rattle.std.proofs.Common.{◌≡◌, ℕ, List, [], ◌∷◌, ◌++◌, sym, ap, ◌∙◌, subst, length, Option, Result}
+use Rattle.std.proofs.Common.{◌≡◌, ℕ, List, [], ◌∷◌, ◌++◌, false, sym, ap, ◌∙◌, subst, length, Option, Result}
 use Rattle.std.specs.Prelude.{Vec}
 use Rattle.std.specs.declared.alloc.Global.{Global}
 use Rattle.c_syntax.specs.declared.place.Place.{Place}
 use Rattle.c_syntax.specs.declared.expression.Expr.{Expr}
+use Rattle.c_syntax.specs.declared.types.CInt.{CInt}
+use Rattle.c_syntax.specs.declared.statement.Case.{Case}
 use Rattle.c_syntax.specs.declared.statement.Item.{Item}
 use Rattle.c_syntax.specs.declared.statement.Stmt.{Stmt}
 use Rattle.c_syntax.specs.declared.statement.StmtKind.{StmtKind}
 use Rattle.c_syntax.specs.declared.statement.StmtKind as code
-use Rattle.c_syntax.specs.Expressions.{plain_expr}
-use Rattle.c_syntax.specs.Statements.{Declaration, Block, Do, BlockItems, plain_stmt, plain_stmt_kind, plain_item, plain_items}
-use Rattle.c_syntax.proofs.Rows.{block_is}
+use Rattle.c_syntax.specs.Expressions.{Expression, plain_expr}
+use Rattle.c_syntax.specs.Statements.{Declaration, Block, Do, Switch, Cases, BlockItems, plain_stmt, plain_stmt_kind, plain_cases, plain_item, plain_items}
+use Rattle.c_syntax.proofs.Rows.{block_is, switch_is}
 use Rattle.c_model.specs.Checked.{Checked, Good, one_part}
-use Rattle.c_model.specs.ExpressionTyping.{Sight, inner}
-use Rattle.c_model.specs.StatementTyping.{typed_items, Around, in_loop, behind, behind_first, typed_condition, typed_statement, typed_item}
+use Rattle.c_model.specs.ExpressionTyping.{Sight, decayed_of, inner, typed}
+use Rattle.c_model.specs.StatementTyping.{typed_items, Around, controlling, in_loop, in_switch, behind, behind_first, typed_cases, typed_condition, typed_statement, typed_item}
 use Rattle.c_model.specs.UnitTyping.{with_parameters}
 use Rattle.c_scopes.specs.declared.fault.TypeFault.{TypeFault}
 use Rattle.c_scopes.specs.Answers.{Answers}
@@ -42,6 +44,18 @@ module _ (s : Sight) (r : Around) (at : Place) (k : StmtKind)
         subst (λ c. Answers (λ (u : Unit {0}). Do at (plain_stmt b') (plain_expr e')) c result)
         (sym (ap (λ x. typed_statement s r (plain_stmt_kind at x)) is ∙ ap (λ c. one_part c (λ d. one_part (typed_condition s (plain_expr e)) (λ e. Good (Do at d e)))) body))
         (made_of (Do at (plain_stmt b')) (λ (u : Unit {0}). plain_expr e') (typed_condition s (plain_expr e)) result (subst (λ u. Answers (λ (v : Unit {0}). plain_expr e') (typed_condition u (plain_expr e)) result) same h))
+
+    -- a `switch` in its place
+    pub switch_in_place : (e e' : Expr) (v w : Vec Case Global) (n : CInt) (r' : Around) (result : Result (Unit {0}) TypeFault) → k ≡ code.Switch e v
+        → one_part (decayed_of (typed s (plain_expr e))) controlling ≡ Good (n, plain_expr e') → r' ≡ in_switch r
+        → Answers (λ (u : Unit {0}). plain_cases w.items) (typed_cases s r' n [] false (plain_cases v.items)) result → Answers (λ (u : Unit {0}). plain_stmt_kind at (code.Switch e' w)) (typed_statement s r (plain_stmt_kind at k)) result
+    switch_in_place e e' v w n r' result is good around h =
+        let cases : CInt → Checked Cases = λ n. typed_cases s (in_switch r) n [] false (plain_cases v.items) in
+        subst (λ c. Answers (λ (u : Unit {0}). plain_stmt_kind at (code.Switch e' w)) c result)
+        (sym (ap (typed_statement s r) (ap (plain_stmt_kind at) is ∙ switch_is at e v) ∙ ap (λ (c : Checked (CInt × Expression)). one_part c (λ x. one_part (cases x.0) (λ cs. Good (Switch at x.1 cs)))) good))
+        (subst (λ d. Answers (λ (u : Unit {0}). d) (one_part (cases n) (λ cs. Good (Switch at (plain_expr e') cs))) result) (sym (switch_is at e' w))
+        (made_of (Switch at (plain_expr e')) (λ (u : Unit {0}). plain_cases w.items) (cases n) result
+        (subst (λ q. Answers (λ (u : Unit {0}). plain_cases w.items) (typed_cases s q n [] false (plain_cases v.items)) result) around h)))
 
 -- ---- blocks
 

@@ -65,7 +65,8 @@ fn type_body_kind(
         | StmtKind::For(..)
         | StmtKind::Break
         | StmtKind::Continue
-        | StmtKind::Return(_) => Ok(()),
+        | StmtKind::Return(_)
+        | StmtKind::Switch(..) => Ok(()),
     }
 }
 

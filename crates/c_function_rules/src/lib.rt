@@ -8,3 +8,4 @@ pub mod function;
 pub mod heading;
 pub mod parameter;
 pub mod statement;
+pub mod switch;

@@ -1,28 +1,31 @@
 //! Declarations in blocks, and statements (C99 6.7, 6.8).
 
-ghost use Rattle.std.specs.Prelude.{◌≡◌, IfErr, OnOk, Some, map, option_map, true};
+ghost use Rattle.std.specs.Prelude.{◌≡◌, ◌||◌, ℤ, [], IfErr, OnOk, Some, false, map, option_map, true};
 ghost use Rattle.c_syntax.specs.Ctypes.{plain_type};
 ghost use Rattle.c_syntax.specs.Expressions.{plain_expr};
 ghost use Rattle.c_syntax.specs.Statements.{Break, Continue, Return, Specify};
-ghost use Rattle.c_syntax.specs.Statements.{plain_decl, plain_else_part, plain_item, plain_items, plain_stmt, plain_stmt_kind};
+ghost use Rattle.c_syntax.specs.Statements.{plain_cases, plain_decl, plain_else_part, plain_item, plain_items, plain_stmt, plain_stmt_kind};
 ghost use Rattle.c_model.specs.Checked.{Good, one_part, where_so};
 ghost use Rattle.c_model.specs.ExpressionTyping.{decayed_of, inner, no_type, typed, typed_type, with_objects};
-ghost use Rattle.c_model.specs.StatementTyping.{behind, behind_first, condition, in_loop, returned, typed_condition, typed_declarations};
-ghost use Rattle.c_model.specs.StatementTyping.{typed_else, typed_first, typed_item, typed_items, typed_maybe, typed_statement};
+ghost use Rattle.c_model.specs.StatementTyping.{behind, behind_first, condition, in_loop, in_switch, returned, typed_cases, typed_condition};
+ghost use Rattle.c_model.specs.StatementTyping.{typed_declarations, typed_else, typed_first, typed_item, typed_items, typed_maybe, typed_statement};
 ghost use Rattle.c_scopes.specs.Answers.{Answers, IsRefusal};
 ghost use Rattle.c_scopes.specs.Sights.{plain_sight};
 ghost use Rattle.c_expression_rules.specs.Constants.{has_small_sizes};
 ghost use Rattle.c_function_rules.specs.Blocks.{behind_items};
+ghost use Rattle.c_function_rules.specs.PassedCases.{holds};
+ghost use Rattle.c_function_rules.specs.Cases.{is_default, typed_case, with_label};
 ghost use Rattle.c_function_rules.specs.Trees.{plain_around, plain_for_first};
 
+use crate::switch::{Passed, type_controlling, type_label};
 use c_conversions::conversion::{is_scalar, is_void};
 use c_declaration_rules::declaration::type_variable;
 use c_expression_rules::assignment::is_assigned;
 use c_expression_rules::expression::{type_expr, type_value, type_written};
 use c_expression_rules::operator::in_type;
 use c_scopes::fault::{TypeFault, no_type};
-use c_scopes::sight::{Sight, enter, leave};
-use c_syntax::{CType, Decl, Expr, Item, Place, Stmt, StmtKind};
+use c_scopes::sight::{Sight, enter, leave, mark_here};
+use c_syntax::{CInt, CType, Case, Decl, Expr, Item, Place, Stmt, StmtKind};
 use std::alloc::Global;
 
 /// Where a statement stands: what its function gives, whether a `break` may stand there, and whether it is inside a loop.
@@ -40,6 +43,16 @@ fn in_loop<'a>(around: &Around<'a>) -> Around<'a>
         result: around.result,
         breaks: true,
         loops: true,
+    }
+}
+
+fn in_switch<'a>(around: &Around<'a>) -> Around<'a>
+    ensures { plain_around result ≡ in_switch (plain_around around.now) }
+{
+    Around {
+        result: around.result,
+        breaks: true,
+        loops: around.loops,
     }
 }
 
@@ -227,7 +240,72 @@ fn type_kind(
         StmtKind::Break => jump(place, around.breaks),
         StmtKind::Continue => jump(place, around.loops),
         StmtKind::Return(e) => type_return(alloc, sight, place, around.result, e),
+        StmtKind::Switch(e, cases) => {
+            let k = type_controlling(alloc, sight, e)?;
+            let inside = in_switch(around);
+            type_cases(alloc, sight, &inside, k, cases)
+        }
     }
+}
+
+/// Types the cases of a `switch`, whose expression has the type.
+#[cycle(statement)]
+fn type_cases(
+    alloc: Global,
+    sight: &mut Sight,
+    around: &Around<'_>,
+    k: CInt,
+    cases: &mut Vec<Case>,
+) -> Result<(), TypeFault>
+    ensures typed { Answers (λ _. plain_cases cases.new.items)
+        (typed_cases (plain_sight sight.old) (plain_around around.now) k [] false (plain_cases cases.old.items)) result }
+    ensures same { OnOk result (plain_sight sight.new ≡ plain_sight sight.old) }
+{
+    let mut passed = Passed::new(alloc);
+    for i in 0..cases.len() {
+        type_case(alloc, sight, around, k, &mut passed, &mut cases[i])?;
+    }
+    Ok(())
+}
+
+/// Types a case, after those that are passed.
+#[cycle(statement)]
+fn type_case(
+    alloc: Global,
+    sight: &mut Sight,
+    around: &Around<'_>,
+    k: CInt,
+    passed: &mut Passed,
+    case: &mut Case,
+) -> Result<(), TypeFault>
+    ensures typed { Answers (λ _. (option_map plain_expr case.new.value, plain_items case.new.items.items))
+        (typed_case (plain_sight sight.old) (plain_around around.now) k (holds passed.old) passed.old.has_default
+        case.old.place (option_map plain_expr case.old.value) (plain_items case.old.items.items)) result }
+    ensures place { case.new.place ≡ case.old.place }
+    ensures values { OnOk result ((x : ℤ) → holds passed.new x ≡ with_label (option_map plain_expr case.new.value) (holds passed.old) x) }
+    ensures default { OnOk result (passed.new.has_default ≡ (is_default (option_map plain_expr case.new.value) || passed.old.has_default)) }
+    ensures same { OnOk result (plain_sight sight.new ≡ plain_sight sight.old) }
+{
+    type_label(alloc, sight, passed, k, case.place, &mut case.value)?;
+    type_case_items(alloc, sight, around, &mut case.items)
+}
+
+/// The items of a case, which are in sight of none after them.
+#[cycle(statement)]
+fn type_case_items(
+    alloc: Global,
+    sight: &mut Sight,
+    around: &Around<'_>,
+    items: &mut Vec<Item>,
+) -> Result<(), TypeFault>
+    ensures typed { Answers (λ _. plain_items items.new.items)
+        (typed_items (plain_sight sight.old) (plain_around around.now) (plain_items items.old.items)) result }
+    ensures same { OnOk result (plain_sight sight.new ≡ plain_sight sight.old) }
+{
+    let mark = mark_here(sight);
+    type_items(alloc, sight, around, items)?;
+    leave(sight, mark);
+    Ok(())
 }
 
 #[cycle(statement)]

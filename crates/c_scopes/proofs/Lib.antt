@@ -2,6 +2,7 @@ pub mod InPlace
 pub mod Least
 pub mod Lists
 pub mod BlockItems
+pub mod CaseLists
 pub mod Newest
 pub mod Objects
 pub mod Firsts

@@ -2,11 +2,12 @@
 
 ghost use Rattle.std.specs.Prelude.{◌≡◌, OnOk, Some, map, option_map};
 ghost use Rattle.c_syntax.specs.declared.place.Place.{Place};
-ghost use Rattle.c_syntax.specs.Statements.{plain_decl, plain_else_part, plain_item, plain_items, plain_stmt, plain_stmt_kind};
+ghost use Rattle.c_syntax.specs.Expressions.{plain_expr};
+ghost use Rattle.c_syntax.specs.Statements.{plain_cases, plain_decl, plain_else_part, plain_item, plain_items, plain_stmt, plain_stmt_kind};
 ghost use Rattle.c_syntax.specs.Programs.{plain_func};
 ghost use Rattle.c_model.specs.ExpressionTyping.{inner, with_objects};
 ghost use Rattle.c_model.specs.StatementTyping.{behind, behind_first};
-ghost use Rattle.c_model.specs.AnnotationTyping.{noted_body, noted_else, noted_function, noted_in, noted_item, noted_items, noted_statement};
+ghost use Rattle.c_model.specs.AnnotationTyping.{noted_body, noted_cases, noted_else, noted_function, noted_in, noted_item, noted_items, noted_statement};
 ghost use Rattle.c_scopes.specs.Answers.{Answers};
 ghost use Rattle.c_scopes.specs.Sights.{plain_sight};
 ghost use Rattle.c_function_rules.specs.Blocks.{behind_items};
@@ -17,7 +18,7 @@ use annot_typing::type_clauses;
 use c_function_rules::parameter::see_parameters;
 use c_scopes::fault::TypeFault;
 use c_scopes::sight::{Sight, enter, leave, mark_here, with_object};
-use c_syntax::{Decl, Func, Item, Stmt, StmtKind};
+use c_syntax::{Case, Decl, Func, Item, Stmt, StmtKind};
 use std::alloc::{AllocError, Global};
 
 /// Brings declared objects in sight.
@@ -92,6 +93,7 @@ fn note_kind(alloc: Global, sight: &mut Sight, kind: &mut StmtKind) -> Result<()
         | StmtKind::Break
         | StmtKind::Continue
         | StmtKind::Return(_) => Ok(()),
+        StmtKind::Switch(_controlling, cases) => note_cases(alloc, sight, cases),
     }
 }
 
@@ -135,6 +137,32 @@ fn note_items(alloc: Global, sight: &mut Sight, items: &mut Vec<Item>) -> Result
     Ok(())
 }
 
+/// Types the annotations of the cases of a `switch`.
+#[cycle(noted)]
+fn note_cases(alloc: Global, sight: &mut Sight, cases: &mut Vec<Case>) -> Result<(), TypeFault>
+    ensures noted { Answers (λ _. plain_cases cases.new.items) (noted_cases (plain_sight sight.old) (plain_cases cases.old.items)) result }
+    ensures same { OnOk result (plain_sight sight.new ≡ plain_sight sight.old) }
+{
+    for i in 0..cases.len() {
+        note_case(alloc, sight, &mut cases[i])?;
+    }
+    Ok(())
+}
+
+/// The items of a case, which are in sight of none after them.
+#[cycle(noted)]
+fn note_case(alloc: Global, sight: &mut Sight, case: &mut Case) -> Result<(), TypeFault>
+    ensures noted { Answers (λ _. plain_items case.new.items.items) (noted_items (plain_sight sight.old) (plain_items case.old.items.items)) result }
+    ensures place { case.new.place ≡ case.old.place }
+    ensures value { option_map plain_expr case.new.value ≡ option_map plain_expr case.old.value }
+    ensures same { OnOk result (plain_sight sight.new ≡ plain_sight sight.old) }
+{
+    let mark = mark_here(sight);
+    note_items(alloc, sight, &mut case.items)?;
+    leave(sight, mark);
+    Ok(())
+}
+
 /// A block in a scope of its own.
 #[cycle(noted)]
 fn note_block(alloc: Global, sight: &mut Sight, items: &mut Vec<Item>) -> Result<(), TypeFault>
@@ -174,7 +202,8 @@ fn note_body_kind(alloc: Global, sight: &mut Sight, kind: &mut StmtKind) -> Resu
         | StmtKind::For(..)
         | StmtKind::Break
         | StmtKind::Continue
-        | StmtKind::Return(_) => Ok(()),
+        | StmtKind::Return(_)
+        | StmtKind::Switch(..) => Ok(()),
     }
 }
 

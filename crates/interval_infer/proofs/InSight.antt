@@ -326,14 +326,14 @@ module _ (T : Tables) (call : Callee) (stays : (at : Place) (f : Use) (vs : List
     in_exec s (Eval at e) h q n = in_always (Sees s) _ (always_eval e)
     in_exec s (Block at items) h q n = in_born s (declared_in items) _ (in_items (inner s) items h q n)
     in_exec s (If at e a b) h q n =
-        in_then (Sees s) _ (condition_of T e call) _ (in_always (Sees s) _ (always_eval e)) (stays_test e) (λ v. in_cond (Sees s) (is_zero v) _ _ (in_else s b h.2 q.1 n) (in_exec s a h.1 q.0 n))
+        in_then (Sees s) _ (condition_of T e call) _ (in_always (Sees s) _ (always_eval e)) (stays_test e) (λ v. in_cond (Sees s) (is_zero v) _ _ (in_else s b h.1 q.1 n) (in_exec s a h.0 q.0 n))
     in_exec s (While at annots e a) h q n =
         subst (λ l. In (Sees s) (judged_exec T call calls (While at l e a) n)) (sym h.0)
         (in_turns (Sees s) n _ (done >> condition_of T e call) _ (in_then (Sees s) none done _ (in_always (Sees s) none always_none) (stays_give tt) (λ _. in_always (Sees s) _ (always_eval e)))
         (stays_then done (condition_of T e call) (stays_give tt) (stays_test e))
-        (λ again k. in_turn (Sees s) _ (exec_with T a call n) none done again (in_exec s a h.2 q.1 n) (stays_exec T call stays a n) (in_always (Sees s) none always_none) (stays_give tt) k))
+        (λ again k. in_turn (Sees s) _ (exec_with T a call n) none done again (in_exec s a h.1 q.1 n) (stays_exec T call stays a n) (in_always (Sees s) none always_none) (stays_give tt) k))
     in_exec s (Do at a e) h q n =
-        in_do_turns (Sees s) n _ (condition_of T e call) _ (exec_with T a call n) (in_always (Sees s) _ (always_eval e)) (stays_test e) (in_exec s a h.0 q n) (stays_exec T call stays a n)
+        in_do_turns (Sees s) n _ (condition_of T e call) _ (exec_with T a call n) (in_always (Sees s) _ (always_eval e)) (stays_test e) (in_exec s a h q n) (stays_exec T call stays a n)
     in_exec s (For at annots first e behind a) h q n =
         let S = Sees (behind_first (inner s) first) in
         subst (λ l. In (Sees s) (judged_exec T call calls (For at l first e behind a) n)) (sym h.0)
@@ -341,14 +341,14 @@ module _ (T : Tables) (call : Callee) (stays : (at : Place) (f : Use) (vs : List
         (stays_first T call stays first n) (λ _. in_wider (SeesWith s (declared_first first)) S _ (sees_first s first)
         (in_turns S n _ (done >> condition_with T e call) _ (in_then S none done _ (in_always S none always_none) (stays_give tt) (λ _. in_always S _ (always_any e)))
         (stays_then done (condition_with T e call) (stays_give tt) (stays_condition T call stays e))
-        (λ again k. in_turn S _ (exec_with T a call n) _ (effect_with T behind call) again (in_exec (behind_first (inner s) first) a h.4 q.1 n) (stays_exec T call stays a n)
+        (λ again k. in_turn S _ (exec_with T a call n) _ (effect_with T behind call) again (in_exec (behind_first (inner s) first) a h.2 q.1 n) (stays_exec T call stays a n)
         (in_always S _ (always_any behind)) (stays_effect T call stays behind) k)))))
     in_exec s (Break at) h q n = in_always (Sees s) none always_none
     in_exec s (Continue at) h q n = in_always (Sees s) none always_none
     in_exec s (Return at e) h q n = in_always (Sees s) _ (always_any e)
     in_exec s (Labelled at l a) h q n = absurd h
     in_exec s (Switch at e cases) h q n =
-        in_then (Sees s) _ (eval_with T e call) _ (in_always (Sees s) _ (always_eval e)) (stays_eval T call stays e) (λ v. in_cases s cases h.1 q n (chosen_case v cases))
+        in_then (Sees s) _ (eval_with T e call) _ (in_always (Sees s) _ (always_eval e)) (stays_eval T call stays e) (λ v. in_cases s cases h q n (chosen_case v cases))
 
     -- nothing is declared directly among the items of a case
     in_cases : (s : Sight) (cases : Cases) → CasesPlaced AreAsserts cases → CasesNoted s cases → (n k : ℕ) → In (Sees s) (judged_cases T call calls cases n k)

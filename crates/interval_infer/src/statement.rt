@@ -1,14 +1,15 @@
 //! Ranges over statements: the first annotation with a fault refuses its statement.
 
-ghost use Rattle.std.specs.Prelude.{IfErr, option_map};
+ghost use Rattle.std.specs.Prelude.{◌≡◌, IfErr, option_map};
 ghost use Rattle.c_syntax.specs.declared.place.Place.{Place};
-ghost use Rattle.c_syntax.specs.Statements.{plain_else_part, plain_item, plain_items, plain_stmt, plain_stmt_kind};
-ghost use Rattle.c_model.specs.AnnotationRanges.{ranged_body, ranged_else, ranged_item, ranged_items, ranged_statement};
+ghost use Rattle.c_syntax.specs.Expressions.{plain_expr};
+ghost use Rattle.c_syntax.specs.Statements.{plain_cases, plain_else_part, plain_item, plain_items, plain_stmt, plain_stmt_kind};
+ghost use Rattle.c_model.specs.AnnotationRanges.{ranged_body, ranged_cases, ranged_else, ranged_item, ranged_items, ranged_statement};
 ghost use Rattle.c_scopes.specs.Answers.{Answers, IsRefusal};
 
 use crate::annotation::clause_ranges;
 use c_scopes::fault::TypeFault;
-use c_syntax::{Item, Stmt, StmtKind};
+use c_syntax::{Case, Item, Stmt, StmtKind};
 
 /// Sets the ranges of the annotations in a statement.
 #[cycle(statements)]
@@ -39,6 +40,7 @@ fn range_kind(kind: &mut StmtKind) -> Result<(), TypeFault>
             clause_ranges(annots)?;
             range_statement(a)
         }
+        StmtKind::Switch(_controlling, cases) => range_cases(cases),
         StmtKind::Empty
         | StmtKind::Eval(_)
         | StmtKind::Break
@@ -80,6 +82,27 @@ fn range_items(items: &mut Vec<Item>) -> Result<(), TypeFault>
         range_item(&mut items[i])?;
     }
     Ok(())
+}
+
+#[cycle(statements)]
+fn range_cases(cases: &mut Vec<Case>) -> Result<(), TypeFault>
+    ensures ranged { Answers (λ _. plain_cases cases.new.items) (ranged_cases (plain_cases cases.old.items)) result }
+    ensures sure { IfErr result IsRefusal }
+{
+    for i in 0..cases.len() {
+        range_case(&mut cases[i])?;
+    }
+    Ok(())
+}
+
+#[cycle(statements)]
+fn range_case(case: &mut Case) -> Result<(), TypeFault>
+    ensures ranged { Answers (λ _. plain_items case.new.items.items) (ranged_items (plain_items case.old.items.items)) result }
+    ensures place { case.new.place ≡ case.old.place }
+    ensures value { option_map plain_expr case.new.value ≡ option_map plain_expr case.old.value }
+    ensures sure { IfErr result IsRefusal }
+{
+    range_items(&mut case.items)
 }
 
 /// Sets the ranges of the annotations in the body of a function, where it has one.
