@@ -17,7 +17,6 @@ pub mod Statuses
 pub mod MonitoredRuns
 pub mod Reports
 pub mod Words
-pub mod Arguments
 pub mod WordLaws
 pub mod Growth
 pub mod Steps

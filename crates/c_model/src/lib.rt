@@ -22,4 +22,3 @@ pub mod operands;
 pub mod limits;
 
 pub use job::{FileName, Job};
-pub use words::read_words;

@@ -6,3 +6,4 @@ mod lines;
 pub mod status;
 
 pub use answer::{eacsl, exec_text, instrument_text, run_text};
+pub use command_words::read_words;

@@ -3,8 +3,9 @@
 use crate::same::{made, same_bytes, same_number};
 use c_expr_parser::{Level, read_expr};
 use c_lexer::tokens;
-use c_model::{Job, read_words};
+use c_model::Job;
 use c_syntax::{FrontFault, TokenKind, Tokens};
+use eacsl_cli::read_words;
 use std::process::Abort;
 
 /// The tokens of a C text that has no fault in them.

@@ -1,6 +1,6 @@
 use Rattle.std.proofs.Common.{◌∙◌, sym}
-use Rattle.c_model.proofs.CommandLine.{not_plus, step_number-none, step_number-some}
-use Rattle.c_model.proofs.words.read_steps.Goals as goal
+use Rattle.command_words.proofs.StepNumbers.{not_plus, step_number-none, step_number-some}
+use Rattle.command_words.proofs.words.read_steps.Goals as goal
 
 pub returns-in_err-steps : goal.returns-in_err-steps
 returns-in_err-steps c =

@@ -1,0 +1,11 @@
+pub mod Finding
+pub mod Spelling
+pub mod Sorts
+pub mod Uses
+pub mod Walks
+pub mod Levels
+pub mod Forms
+pub mod TimedJobs
+pub mod SingleJobs
+pub mod FoundOperands
+pub mod StepNumbers
