@@ -1,5 +1,6 @@
 -- the code is the translation
 pub mod StatementTrees
+pub mod SwitchCode
 pub mod DeclarationCode
 pub mod GlobalCode
 pub mod Entries

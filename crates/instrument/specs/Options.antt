@@ -1,30 +1,35 @@
 -- Ours: plain forms.
 -- The plain form of what the translation takes: of what may be left out of a statement, and of where a statement stands; and what statements
 -- become where a function's names are these.
-use Rattle.std.specs.Prelude.{ℕ, zero, suc, ◌+◌, Bool, List, [], ◌∷◌, ◌++◌, reverse, Option, Some, None}
+use Rattle.std.specs.Prelude.{ℕ, ℤ, zero, suc, ◌+◌, Bool, List, [], ◌∷◌, ◌++◌, length, reverse, Option, Some, None}
 use Rattle.c_syntax.specs.declared.place.Place.{Place}
+use Rattle.c_syntax.specs.declared.statement.Case.{Case}
 use Rattle.c_syntax.specs.declared.statement.Item.{Item}
 use Rattle.c_syntax.specs.declared.statement.Stmt.{Stmt}
 use Rattle.c_syntax.specs.declared.expression.Expr.{Expr}
 use Rattle.c_syntax.specs.Ctypes.{PlainType}
-use Rattle.c_syntax.specs.Expressions.{Expression, plain_expr}
+use Rattle.c_syntax.specs.Expressions.{Expression, Node, Number, plain_expr, type_of}
 use Rattle.c_syntax.specs.Programs.{Function, TranslationUnit}
 use Rattle.c_syntax.specs.Statements.{Declaration, Statement, ElsePart, ForFirst, NoFirst, First, BlockItem, Declare, Specify, Run, Asserts, BlockItems}
-use Rattle.c_syntax.specs.Statements.{NoItem, Then, While, Do, Initialiser, plain_stmt, plain_item}
+use Rattle.c_syntax.specs.Statements.{Cases, NoCase, AnotherCase, NoItem, Then, While, Do, Switch, Initialiser}
+use Rattle.c_syntax.specs.Statements.{plain_stmt, plain_item, plain_items, plain_cases}
 use Rattle.c_model.specs.Formed.{number_of}
 use Rattle.c_model.specs.StaticObjects.{static_objects}
 use Rattle.mon_syntax.specs.declared.tree.MonType.TheVariants.{Ptr}
 use Rattle.mon_syntax.specs.Registers.{Names, next_register, with_kinds, with_table}
-use Rattle.mon_syntax.specs.Trees.{MonStatements, NoStatement, Global}
+use Rattle.mon_syntax.specs.Trees.{MonStatement, MonStatements, NoStatement, Global}
 use Rattle.track_scopes.specs.Blocks.{births, entered}
 use Rattle.c_effects.specs.Effects.{any_temporaries}
-use Rattle.c_effects.specs.Expressions.{before, object_of_global, set}
+use Rattle.c_effects.specs.Expressions.{before, object_of_global, set, value_type}
 use Rattle.c_effects.specs.Full.{takes}
 use Rattle.c_initialisers.specs.Initialisers.{initialise_by}
 use Rattle.c_effects.specs.Named.{unit_of, with_registers}
+use Rattle.c_evaluation.specs.Evaluated.{prepare_by, result_by}
 use Rattle.instrument.specs.declared.spot.Spot as code
-use Rattle.instrument.specs.Translation.{Spot, after_body, after_else, after_first, after_item, after_items, after_statement, else_part, first_part, for_turns}
-use Rattle.instrument.specs.Translation.{code_of, front, front_temporaries, global_temporaries, in_loop, item, items, returned, statement, test, test_if_any}
+use Rattle.instrument.specs.Limits.{HaveNumbers}
+use Rattle.instrument.specs.Translation.{Spot, after_body, after_cases, after_else, after_first, after_item, after_items, after_statement, else_part}
+use Rattle.instrument.specs.Translation.{blocks_of_cases, code_of, first_part, for_turns, front, front_temporaries, global_temporaries, in_loop}
+use Rattle.instrument.specs.Translation.{item, items, next_cases, others_in_block, returned, returned_temporaries, search, statement, test, test_if_any, where_reached}
 
 abbrev pub plain_first_part : Option Item → ForFirst
 plain_first_part None = NoFirst
@@ -60,6 +65,9 @@ behind_item i n = with_table (after_item (unit_of n) i n.table) n
 abbrev pub behind_items : BlockItems → Names → Names
 behind_items block n = with_table (after_items (unit_of n) block n.table) n
 
+abbrev pub behind_cases : Cases → Names → Names
+behind_cases cases n = with_table (after_cases (unit_of n) cases n.table) n
+
 abbrev pub behind_body : Option Statement → Names → Names
 behind_body a n = with_table (after_body (unit_of n) a n.table) n
 
@@ -82,6 +90,35 @@ item_by n spot i = item (unit_of n) spot n.table i
 
 abbrev pub items_by : Names → Spot → BlockItems → MonStatements
 items_by n spot block = items (unit_of n) spot n.table block
+
+-- the number behind `case`, which typing has put there
+abbrev pub number_behind : Option Expression → Option ℤ
+number_behind (Some (Node at t (Number n k))) = Some n
+number_behind _ = None
+
+-- how many cases stand in a block
+abbrev pub cases_in_block : ℕ
+cases_in_block = suc others_in_block
+
+abbrev pub items_of_case : Case → BlockItems
+items_of_case c = plain_items c.items.items
+
+-- the items of a case with this index, of the cases from an index on, and of blocks of cases, where the register has the index of the chosen one
+abbrev pub reached_by : Names → Spot → ℕ → ℕ → Case → MonStatement
+reached_by n spot j i c = where_reached j i (items_by n spot (items_of_case c))
+
+abbrev pub next_cases_by : Names → Spot → ℕ → ℕ → ℕ → Cases → MonStatements
+next_cases_by n spot j i k cases = next_cases (unit_of n) spot n.table j i k cases
+
+abbrev pub blocks_of_cases_by : Names → Spot → ℕ → ℕ → ℕ → Cases → MonStatements
+blocks_of_cases_by n spot j i k cases = blocks_of_cases (unit_of n) spot n.table j i k cases
+
+-- what stands before the cases of a `switch`
+abbrev pub chosen_by : Names → ℕ → Expression → Cases → MonStatements
+chosen_by n levels e cases =
+    before (prepare_by n e) (before (set (length (n.table.kinds ++ takes (unit_of n) e)) (result_by n e))
+    (search levels (value_type (type_of e)) (length (n.table.kinds ++ takes (unit_of n) e))
+    (length (n.table.kinds ++ returned_temporaries (unit_of n) e)) cases))
 
 abbrev pub returned_by : Names → Spot → Option Expression → MonStatements
 returned_by n spot e = returned (unit_of n) spot n.table e
@@ -110,6 +147,20 @@ while_loop a e = While a.place [] (plain_expr e) (plain_stmt a)
 
 abbrev pub do_loop : Stmt → Expr → Statement
 do_loop a e = Do a.place (plain_stmt a) (plain_expr e)
+
+abbrev pub switch_of : Expr → List Case → Statement
+switch_of e cases = Switch e.place (plain_expr e) (plain_cases cases)
+
+-- the first of these cases, so many at most
+abbrev pub first_cases : ℕ → Cases → Cases
+first_cases zero cases = NoCase
+first_cases (suc n) NoCase = NoCase
+first_cases (suc n) (AnotherCase at v body rest) = AnotherCase at v body (first_cases n rest)
+
+-- the items of these cases have numbers
+abbrev pub ItemsHaveNumbers : Cases → Type 0
+ItemsHaveNumbers NoCase = Unit {0}
+ItemsHaveNumbers (AnotherCase at v body rest) = HaveNumbers body × ItemsHaveNumbers rest
 
 -- ---- blocks
 

@@ -11,5 +11,6 @@ mod parameter;
 mod program;
 mod spot;
 mod statement;
+mod switch;
 
 pub use program::instrument;

@@ -2,7 +2,7 @@
 
 ghost use Rattle.std.specs.Prelude.{◌≡◌, ◌++◌, IfOk, codes, take};
 ghost use Rattle.std.specs.Fmt.{decimal};
-ghost use Rattle.instrument.specs.Translation.{function_name, global_name, pointer_name, register_name, temporary_name, text_name};
+ghost use Rattle.instrument.specs.Translation.{case_label, function_name, global_name, pointer_name, register_name, temporary_name, text_name};
 ghost use Rattle.c_simulation.specs.Labels.{end_label, next_label};
 
 use c_syntax::Name;
@@ -92,4 +92,11 @@ pub fn next_label(alloc: Global, loops: u32) -> Result<Name, AllocError>
     ensures { IfOk result (λ bytes. bytes ≡ next_label loops) }
 {
     short(alloc, b"next_", loops as usize)
+}
+
+/// `case_3`: the label of the end of the search in a `switch`, where its cases begin.
+pub fn case_label(alloc: Global, levels: u32) -> Result<Name, AllocError>
+    ensures { IfOk result (λ bytes. bytes ≡ case_label levels) }
+{
+    short(alloc, b"case_", levels as usize)
 }

@@ -1,10 +1,9 @@
 //! Statements (C99 6.8).
 
-ghost use Rattle.std.specs.Prelude.{◌≡◌, ◌+◌, ◌++◌, [], IfOk, OnOk, length, map, option_map, reverse};
+ghost use Rattle.std.specs.Prelude.{◌≡◌, ◌+◌, ◌<◌, ◌++◌, [], IfOk, OnOk, drop, length, map, option_map, reverse};
 ghost use Rattle.c_syntax.specs.Logic.{plain_annot};
 ghost use Rattle.c_syntax.specs.Expressions.{plain_expr};
-ghost use Rattle.c_syntax.specs.Statements.{plain_else_part};
-ghost use Rattle.c_syntax.specs.Statements.{plain_item, plain_items, plain_stmt};
+ghost use Rattle.c_syntax.specs.Statements.{plain_cases, plain_else_part, plain_item, plain_items, plain_stmt};
 ghost use Rattle.c_model.specs.Meaning.{declared_first, declared_in};
 ghost use Rattle.mon_syntax.specs.Registers.{next_register};
 ghost use Rattle.mon_syntax.specs.Trees.{Goto, If, Labelled, Loop, plain_expr as plain_monitored, plain_stmts};
@@ -17,16 +16,19 @@ ghost use Rattle.c_effects.specs.Effects.{any_temporaries};
 ghost use Rattle.c_effects.specs.Full.{act_takes, takes};
 ghost use Rattle.c_effects.specs.Named.{unit_of, with_registers};
 ghost use Rattle.c_evaluation.specs.Evaluated.{condition_result_by, prepare_by, result_by};
-ghost use Rattle.instrument.specs.Limits.{ElseHasNumbers, FirstHasNumbers, HasNumbers, HaveNumbers, ItemHasNumbers};
-ghost use Rattle.instrument.specs.Options.{after, behind_else, behind_first, behind_item, behind_items, births_by, do_loop, else_part_by, entering};
+ghost use Rattle.instrument.specs.Limits.{CasesHaveNumbers, ElseHasNumbers, FirstHasNumbers, HasNumbers, HaveNumbers, ItemHasNumbers};
+ghost use Rattle.instrument.specs.Options.{after, behind_cases, behind_else, behind_first, behind_item, behind_items, births_by, blocks_of_cases_by, chosen_by};
+ghost use Rattle.instrument.specs.Options.{ItemsHaveNumbers, cases_in_block, do_loop, else_part_by, entering, first_cases, items_of_case};
+ghost use Rattle.instrument.specs.Options.{next_cases_by, reached_by, switch_of};
 ghost use Rattle.instrument.specs.Options.{first_part_by, item_by, items_by, plain_first_part, plain_spot, returned_by, statement_by};
 ghost use Rattle.instrument.specs.Options.{test_by, test_if_any_by, turns_by, while_loop, with_blocks};
-ghost use Rattle.instrument.specs.Translation.{alive, all_live, in_loop, leave_where_zero, returned_temporaries, with_variables};
+ghost use Rattle.instrument.specs.Translation.{alive, all_live, in_loop, leave_where_zero, returned_temporaries, switch_temporaries, with_variables};
 ghost use Rattle.c_simulation.specs.Labels.{end_label, next_label};
 
 use crate::block::{enter_block, inside, items_of, leave, one_more};
 use crate::name::{end_label, next_label};
 use crate::spot::Spot;
+use crate::switch::{CASES_IN_BLOCK, Choice, OTHERS_IN_BLOCK, search, where_reached};
 use annot_code::assertion::assertion;
 use c_effects::conversion::value_type;
 use c_effects::operator::register;
@@ -34,8 +36,8 @@ use c_effects::part::{alone, then};
 use c_evaluation::act::{act, act_if_any};
 use c_evaluation::evaluation::{condition_of, value};
 use c_initialisers::initialiser::initialise_all;
-use c_syntax::{Annot, Expr, Item, Stmt, StmtKind};
-use mon_syntax::{MonExpr, MonStmt, MonStmtKind, Registers};
+use c_syntax::{Annot, Case, Expr, Item, Stmt, StmtKind};
+use mon_syntax::{MonExpr, MonStmt, MonStmtKind, MonType, Registers};
 use std::alloc::{AllocError, Global};
 
 // The assertions of a list of annotations.
@@ -205,6 +207,19 @@ fn give_back(
     }
 }
 
+// Statements at whose end a `break` goes on.
+fn until_end(
+    alloc: Global,
+    levels: u32,
+    code: Vec<MonStmt>,
+    to: &mut Vec<MonStmt>,
+) -> Result<(), AllocError>
+    ensures { OnOk result (plain_stmts to.new.items ≡ before (plain_stmts to.old.items) (one (Labelled (plain_stmts code.items) (end_label levels)))) }
+{
+    let label = end_label(alloc, levels)?;
+    then(alloc, to, MonStmtKind::Labelled(code, label))
+}
+
 // A loop, from what stands before its step and after it.
 fn repeat(
     alloc: Global,
@@ -216,9 +231,8 @@ fn repeat(
     ensures { OnOk result (plain_stmts to.new.items ≡ before (plain_stmts to.old.items)
         (one (Labelled (one (Loop (plain_stmts front.items) (plain_stmts behind.items))) (end_label loops)))) }
 {
-    let label = end_label(alloc, loops)?;
     let turns = alone(alloc, MonStmtKind::Loop(front, behind))?;
-    then(alloc, to, MonStmtKind::Labelled(turns, label))
+    until_end(alloc, loops, turns, to)
 }
 
 // The body of a loop, after which a `continue` goes on.
@@ -291,7 +305,131 @@ pub fn statement(
         StmtKind::Break => break_out(alloc, spot, to),
         StmtKind::Continue => go_on(alloc, spot, to),
         StmtKind::Return(e) => give_back(alloc, spot, e, names, to),
+        StmtKind::Switch(e, cases) => switch(alloc, spot, cases, e, names, to),
     }
+}
+
+// What stands before the cases of a `switch`: the value of its expression, and the search for a case with it. Gives the
+// register that has the index of the chosen case.
+#[tactic(auto, using(c_effects::proofs::Sequences::before_assoc))]
+fn choose_case(
+    alloc: Global,
+    levels: u32,
+    e: &Expr,
+    cases: &[Case],
+    names: &mut Registers<'_>,
+    to: &mut Vec<MonStmt>,
+) -> Result<u32, AllocError>
+    ensures index { IfOk result (λ r. r ≡ length (names.old.table.kinds ++ returned_temporaries (unit_of names.old) (plain_expr e.now))) }
+    ensures code { OnOk result (plain_stmts to.new.items ≡ before (plain_stmts to.old.items)
+        (chosen_by names.old levels (plain_expr e.now) (plain_cases cases.now))) }
+    ensures names { OnOk result (names.new ≡ with_registers (switch_temporaries (unit_of names.old) (plain_expr e.now)) names.old) }
+    ensures letters { OnOk result (ValueHasLetters (plain_expr e.now)) }
+{
+    let choice = Choice {
+        kind: value_type(&e.ctype),
+        value: set_aside(alloc, e, names, to)?,
+        index: names.fresh(MonType::U64)?,
+    };
+    search(alloc, levels, choice, cases, to)?;
+    Ok(choice.index)
+}
+
+// A `switch`.
+#[cycle(statement)]
+fn switch(
+    alloc: Global,
+    spot: &Spot<'_>,
+    cases: &[Case],
+    e: &Expr,
+    names: &mut Registers<'_>,
+    to: &mut Vec<MonStmt>,
+) -> Result<(), AllocError>
+    ensures code { OnOk result (plain_stmts to.new.items ≡ before (plain_stmts to.old.items)
+        (statement_by names.old (plain_spot spot.now) (switch_of e.now cases.now))) }
+    ensures names { OnOk result (names.new ≡ after (switch_of e.now cases.now) names.old) }
+    ensures numbers { OnOk result (HasNumbers (switch_of e.now cases.now)) }
+{
+    let levels = one_more(spot.levels)?;
+    let chosen = choose_case(alloc, levels, e, cases, names, to)?;
+    let between = inside(alloc, spot.between, spot.inside)?;
+    let inner = Spot {
+        levels,
+        innermost: spot.innermost,
+        inside: &[],
+        between: &between,
+        outside: spot.outside,
+    };
+    let code = blocks_of_cases(alloc, &inner, chosen, cases, names)?;
+    until_end(alloc, levels, code, to)
+}
+
+// The items of all cases, in blocks.
+#[cycle(statement)]
+fn blocks_of_cases(
+    alloc: Global,
+    spot: &Spot<'_>,
+    chosen: u32,
+    cases: &[Case],
+    names: &mut Registers<'_>,
+) -> Result<Vec<MonStmt>, AllocError>
+    ensures code { IfOk result (λ code. plain_stmts code.items ≡ blocks_of_cases_by names.old (plain_spot spot.now) chosen 0 0 (plain_cases cases.now)) }
+    ensures names { OnOk result (names.new ≡ behind_cases (plain_cases cases.now) names.old) }
+    ensures numbers { OnOk result (CasesHaveNumbers 0 (plain_cases cases.now)) }
+{
+    let mut code = Vec::new(alloc);
+    let mut first = 0;
+    while first < cases.len() {
+        let block = next_cases(alloc, spot, chosen, first, cases, names)?;
+        where_reached(alloc, chosen, first + OTHERS_IN_BLOCK, block, &mut code)?;
+        first += CASES_IN_BLOCK;
+    }
+    Ok(code)
+}
+
+// The items of the cases from the first one of a block on, as many as stand in a block.
+#[cycle(statement)]
+fn next_cases(
+    alloc: Global,
+    spot: &Spot<'_>,
+    chosen: u32,
+    first: usize,
+    cases: &[Case],
+    names: &mut Registers<'_>,
+) -> Result<Vec<MonStmt>, AllocError>
+    requires { first < length cases.now }
+    ensures code { IfOk result (λ code. plain_stmts code.items
+        ≡ next_cases_by names.old (plain_spot spot.now) chosen first cases_in_block (plain_cases (drop first cases.now))) }
+    ensures names { OnOk result (names.new ≡ behind_cases (first_cases cases_in_block (plain_cases (drop first cases.now))) names.old) }
+    ensures numbers { OnOk result (ItemsHaveNumbers (first_cases cases_in_block (plain_cases (drop first cases.now)))) }
+{
+    let mut code = Vec::new(alloc);
+    let end = cases.len().min(first + CASES_IN_BLOCK);
+    for i in first..end {
+        next_case(alloc, spot, (chosen, i), &cases[i], names, &mut code)?;
+    }
+    Ok(code)
+}
+
+// The items of a case, which are done if it is the chosen one, or stands behind it.
+#[cycle(statement)]
+fn next_case(
+    alloc: Global,
+    spot: &Spot<'_>,
+    reached: (u32, usize),
+    case: &Case,
+    names: &mut Registers<'_>,
+    to: &mut Vec<MonStmt>,
+) -> Result<(), AllocError>
+    ensures code { OnOk result (plain_stmts to.new.items ≡ before (plain_stmts to.old.items)
+        (one (reached_by names.old (plain_spot spot.now) reached.0 reached.1 case.now))) }
+    ensures names { OnOk result (names.new ≡ behind_items (items_of_case case.now) names.old) }
+    ensures numbers { OnOk result (HaveNumbers (items_of_case case.now)) }
+{
+    let (chosen, index) = reached;
+    let mut code = Vec::new(alloc);
+    items(alloc, spot, &case.items, names, &mut code)?;
+    where_reached(alloc, chosen, index, code, to)
 }
 
 // A `while`.

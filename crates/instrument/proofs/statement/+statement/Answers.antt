@@ -1,9 +1,8 @@
-use Rattle.std.proofs.Common.{◌≡◌, ℕ, List, [], ◌+◌, ◌++◌, drop, map, option_map, reverse, refl, ap, subst, sym, ◌∙◌}
+use Rattle.std.proofs.Common.{◌≡◌, ℕ, suc, List, [], ◌+◌, ◌-◌, ◌<◌, ◌^◌, ◌++◌, rules, arith, drop, length, length-drop, map, option_map, reverse, refl, ap, subst, sym, ◌∙◌}
 use Rattle.std.specs.Prelude.{OnOk}
 use Rattle.c_syntax.specs.Logic.{plain_annot}
 use Rattle.c_syntax.specs.Expressions.{plain_expr}
-use Rattle.c_syntax.specs.Statements.{plain_else_part}
-use Rattle.c_syntax.specs.Statements.{Statement, plain_item, plain_items, plain_stmt, plain_stmt_kind}
+use Rattle.c_syntax.specs.Statements.{plain_else_part, Statement, plain_item, plain_items, plain_stmt, plain_stmt_kind, plain_cases}
 use Rattle.c_model.specs.Meaning.{declared_in}
 use Rattle.mon_syntax.specs.Registers.{Names, next_register}
 use Rattle.mon_syntax.specs.Trees.{MonStatements, plain_expr as plain_monitored, plain_stmts}
@@ -13,9 +12,11 @@ use Rattle.c_effects.specs.Expressions.{before}
 use Rattle.c_effects.proofs.Sequences.{left_at, none_left, all_there, more_behind, nothing}
 use Rattle.c_effects.proofs.Trees.{on_ok, on_ok_then}
 use Rattle.instrument.specs.Limits.{HasNumbers, HaveNumbers}
-use Rattle.instrument.specs.Options.{after, behind_first, behind_item, behind_items, else_part_by, entering, first_part_by, item_by, items_by, plain_first_part, plain_spot, statement_by, test_if_any_by}
+use Rattle.instrument.specs.Options.{ItemsHaveNumbers, behind_cases, blocks_of_cases_by, cases_in_block, after, behind_first, behind_item, behind_items, else_part_by, entering, first_part_by, item_by, items_by, plain_first_part, plain_spot}
+use Rattle.instrument.specs.Options.{statement_by, test_if_any_by}
 use Rattle.instrument.proofs.DeclarationCode.{born_front, inside_is}
 use Rattle.instrument.proofs.StatementTrees.{block_stmt, branches_code, if_stmt, for_stmt, if_code, do_code, do_names, round_code, turns_code, entered_code, rest_code, for_code, alive_code, declared_of_first, for_names}
+use Rattle.instrument.proofs.SwitchCode.{switch_code, switch_stmt, one_more_case, more_names, more_numbers, no_more_code, no_more_cases, one_more_block, further_names, further_numbers, have_numbers}
 use Rattle.instrument.proofs.statement.+statement.Goals as goal
 
 pub else_part-returns-in-None-clause-code : goal.else_part-returns-in-None-clause-code
@@ -200,3 +201,96 @@ pub statement-returns-in_ok-own-in-For-clause-numbers : goal.statement-returns-i
 statement-returns-in_ok-own-in-For-clause-numbers t c =
     subst (λ (y : Statement). OnOk c.rest_of_for.result (HasNumbers y)) (for_stmt c.args.s.now c.in-For.field-0 c.in-For.first c.in-For.e c.in-For.step c.in-For.a c.in-For.a (sym c.deref.ensures ∙ c.in-For.is) refl)
     (on_ok_then c.rest_of_for.result (λ l. (c.in_ok-own-in-For.ensures.numbers, l.0, l.1, l.2)) c.rest_of_for.ensures.numbers)
+
+pub statement-returns-in-Switch-clause-code : goal.statement-returns-in-Switch-clause-code
+statement-returns-in-Switch-clause-code t c =
+    subst (λ (x : Statement). OnOk c.switch.result (plain_stmts c.switch.new.to.items ≡ before (plain_stmts c.args.to.now.items) (statement_by c.args.names.now (plain_spot c.args.spot.now) x)))
+    (switch_stmt c.args.s.now c.in-Switch.e c.in-Switch.cases _ (sym c.deref.ensures ∙ c.in-Switch.is) c.deref-in-Switch.ensures.value) c.switch.ensures.code
+
+pub statement-returns-in-Switch-clause-names : goal.statement-returns-in-Switch-clause-names
+statement-returns-in-Switch-clause-names t c =
+    subst (λ (x : Statement). OnOk c.switch.result (c.switch.new.names ≡ after x c.args.names.now))
+    (switch_stmt c.args.s.now c.in-Switch.e c.in-Switch.cases _ (sym c.deref.ensures ∙ c.in-Switch.is) c.deref-in-Switch.ensures.value) c.switch.ensures.names
+
+pub statement-returns-in-Switch-clause-numbers : goal.statement-returns-in-Switch-clause-numbers
+statement-returns-in-Switch-clause-numbers t c =
+    subst (λ (x : Statement). OnOk c.switch.result (HasNumbers x))
+    (switch_stmt c.args.s.now c.in-Switch.e c.in-Switch.cases _ (sym c.deref.ensures ∙ c.in-Switch.is) c.deref-in-Switch.ensures.value) c.switch.ensures.numbers
+
+pub switch-returns-clause-code : goal.switch-returns-clause-code
+switch-returns-clause-code t c =
+    let spot = c.args.spot.now in
+    let around = spot.inside.now in
+    let between = inside_is spot.between.now around around c.in_ok-between.between.items c.deref.result.now refl c.in_ok-between.ensures c.deref.ensures.value in
+    on_ok_then c.until_end.result
+    (switch_code c.args.names.now c.choose_case.new.names (plain_spot spot) (plain_stmts c.args.to.now.items) (plain_stmts c.choose_case.new.to.items) (plain_stmts c.until_end.new.to.items) c.args.e.now.place
+    (plain_expr c.args.e.now) (plain_cases c.args.cases.now) c.in_ok-levels.levels c.in_ok-chosen.chosen (reverse c.deref.result.now) (plain_stmts c.in_ok-code.code.items) c.in_ok-levels.ensures
+    c.in_ok-chosen.ensures.index between c.in_ok-chosen.ensures.names c.in_ok-chosen.ensures.code c.in_ok-code.ensures.code)
+    c.until_end.ensures
+
+pub next_cases-loop-i-preserved : goal.next_cases-loop-i-preserved
+next_cases-loop-i-preserved t c =
+    let n = c.loop-i.names in
+    let m = c.next_case.new.names in
+    let spot = plain_spot c.args.spot.now in
+    let l = c.args.cases.now in
+    let i = c.loop-i.i in
+    let x = c.index-cases-i.result in
+    let t0 = plain_stmts c.loop-i.code.items in
+    let k = c.args.first + cases_in_block - i in
+    let k' = c.args.first + cases_in_block - (i + 1) in
+    let lt : i < length l = omega (arith, c.loop-i-test.true, c.min-end.ensures) in
+    let few : i < c.args.first + cases_in_block = omega (arith, c.loop-i-test.true, c.min-end.ensures) in
+    let count : k ≡ suc k' = omega (arith, few) in
+    let is = c.index-cases-i.is in
+    let next = c.in_ok-next_case.ensures in
+    record {
+      code = one_more_case n m spot c.args.chosen i k k' l x t0 (plain_stmts c.next_case.new.to.items) lt is count next.code next.names c.loop-i.invariant.code;
+      names = more_names n m i k k' l x lt is count next.names c.loop-i.invariant.names;
+      numbers = more_numbers i k k' l x lt is count next.numbers c.loop-i.invariant.numbers;
+    }
+
+pub next_cases-returns-clause-code : goal.next_cases-returns-clause-code
+next_cases-returns-clause-code t c =
+    let rest = drop c.loop-i.i c.args.cases.now in
+    let none : 0 < length rest → 0 < (c.args.first + cases_in_block - c.loop-i.i) → ⊥ = λ some few. omega (arith, some, few, length-drop c.loop-i.i c.args.cases.now, c.min-end.ensures, c.loop-i-test.false) in
+    all_there (no_more_code c.loop-i.names (plain_spot c.args.spot.now) c.args.chosen c.loop-i.i (c.args.first + cases_in_block - c.loop-i.i) rest none) c.loop-i.invariant.code
+
+pub next_cases-returns-clause-names : goal.next_cases-returns-clause-names
+next_cases-returns-clause-names t c =
+    let rest = drop c.loop-i.i c.args.cases.now in
+    let none : 0 < length rest → 0 < (c.args.first + cases_in_block - c.loop-i.i) → ⊥ = λ some few. omega (arith, some, few, length-drop c.loop-i.i c.args.cases.now, c.min-end.ensures, c.loop-i-test.false) in
+    sym (ap (λ a. behind_cases a c.loop-i.names) (no_more_cases (c.args.first + cases_in_block - c.loop-i.i) rest none)) ∙ c.loop-i.invariant.names
+
+pub next_cases-returns-clause-numbers : goal.next_cases-returns-clause-numbers
+next_cases-returns-clause-numbers t c =
+    let rest = drop c.loop-i.i c.args.cases.now in
+    let none : 0 < length rest → 0 < (c.args.first + cases_in_block - c.loop-i.i) → ⊥ = λ some few. omega (arith, some, few, length-drop c.loop-i.i c.args.cases.now, c.min-end.ensures, c.loop-i-test.false) in
+    c.loop-i.invariant.numbers (subst ItemsHaveNumbers (sym (no_more_cases (c.args.first + cases_in_block - c.loop-i.i) rest none)) tt)
+
+pub blocks_of_cases-loop-first-preserved : goal.blocks_of_cases-loop-first-preserved
+blocks_of_cases-loop-first-preserved t c =
+    let n = c.loop-first.names in
+    let m = c.next_cases.new.names in
+    let l = c.args.cases.now in
+    let i = c.loop-first.first in
+    let lt = c.loop-first-test.true in
+    let block = c.in_ok-block.ensures in
+    record {
+      code = one_more_block l i lt n m (plain_spot c.args.spot.now) c.args.chosen (plain_stmts c.loop-first.code.items) (plain_stmts c.where_reached.new.to.items) (plain_stmts c.in_ok-block.block.items) block.code
+          c.in_ok-where_reached.ensures block.names c.loop-first.invariant.code;
+      names = further_names l i lt n m block.names c.loop-first.invariant.names;
+      numbers = further_numbers l i lt block.numbers c.loop-first.invariant.numbers;
+    }
+
+pub blocks_of_cases-returns-clause-code : goal.blocks_of_cases-returns-clause-code
+blocks_of_cases-returns-clause-code t c =
+    all_there (none_left (λ l. blocks_of_cases_by c.loop-first.names (plain_spot c.args.spot.now) c.args.chosen c.loop-first.first 0 (plain_cases l)) c.args.cases.now c.loop-first.first c.loop-first-test.false)
+    c.loop-first.invariant.code
+
+pub blocks_of_cases-returns-clause-numbers : goal.blocks_of_cases-returns-clause-numbers
+blocks_of_cases-returns-clause-numbers t c =
+    let l = c.args.cases.now in
+    let formed = c.well_formed in
+    let few : 0 + length l < 2 ^ 63 = first_of (omega (arith, formed), omega arith, search (rules, arith, formed)) in
+    have_numbers l 0 few (c.loop-first.invariant.numbers (subst ItemsHaveNumbers (sym (none_left plain_cases l c.loop-first.first c.loop-first-test.false)) tt))

@@ -1,11 +1,12 @@
 use Rattle.std.proofs.Common.{ap, ◌∙◌}
 use Rattle.mon_syntax.specs.Trees.{Labelled, plain_stmts}
-use Rattle.mon_syntax.proofs.Rows.{labelled_is, loop_is}
+use Rattle.mon_syntax.proofs.Rows.{loop_is}
 use Rattle.c_effects.specs.Expressions.{before, one}
 use Rattle.c_effects.proofs.Trees.{on_ok_then}
+use Rattle.c_simulation.specs.Labels.{end_label}
 use Rattle.instrument.proofs.statement.repeat.Goals as goal
 
 pub returns : goal.returns
 returns c =
-    let whole = labelled_is c.in_ok-turns.turns c.in_ok-label.label ∙ (λ i. Labelled ((c.in_ok-turns.ensures ∙ ap one (loop_is c.args.front c.args.behind)) i) (c.in_ok-label.ensures i)) in
-    on_ok_then c.then.result (λ last. last ∙ ap (λ s. before (plain_stmts c.args.to.now.items) (one s)) whole) c.then.ensures
+    let turns = c.in_ok-turns.ensures ∙ ap one (loop_is c.args.front c.args.behind) in
+    on_ok_then c.until_end.result (λ last. last ∙ ap (λ a. before (plain_stmts c.args.to.now.items) (one (Labelled a (end_label c.args.loops)))) turns) c.until_end.ensures
