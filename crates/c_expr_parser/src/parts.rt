@@ -3,7 +3,8 @@
 ghost use Rattle.std.specs.Prelude.{◌≡◌, ◌≤◌, ◌<◌, length, map, IfOk, IfErr};
 ghost use Rattle.c_syntax.specs.Expressions.{Call, plain_expr, plain_kind};
 ghost use Rattle.grammar.specs.Syntax.{gives, one, sees};
-ghost use Rattle.c_model.specs.ExpressionGrammar.{kind, kinds_of, operators_at, read_as, read_name, read_operand, use_of, expressions, size_of_operand, connective_kind};
+ghost use Rattle.c_model.specs.ExpressionGrammar.{kind, kinds_of, operators_at, read_as, read_name, read_operand, use_of, expressions};
+ghost use Rattle.c_model.specs.ExpressionGrammar.{size_of_operand, connective_kind};
 ghost use Rattle.c_model.specs.ExpressionGrammar.{literal, dotted, arrowed, bumped};
 ghost use Rattle.c_model.specs.Terminals.{placed, mark_entry};
 ghost use Rattle.c_expr_parser.specs.Reading.{plain_operand};

@@ -29,7 +29,8 @@ module _ (number : ℤ → Expression) (t : Checked BlockItems) (F : Option Expr
     valued (Bad f fs) = refl
 
     typed_value : (c : Checked Expression) (m : Expression → Checked ℤ)
-        → one_part {A = Option Expression × BlockItems} (one_part {A = Option Expression} (one_part {A = ℤ × Expression} (one_part c (λ x. one_part (m x) (λ z. Good (z, number z)))) (λ x. Good (Some x.1))) (λ v. one_part t (λ items. Good (v, items)))) F
+        → one_part {A = Option Expression × BlockItems} (one_part {A = Option Expression} (one_part {A = ℤ × Expression} (one_part c (λ x. one_part (m x) (λ z. Good (z, number z)))) (λ x. Good (Some x.1))) (λ v.
+        one_part t (λ items. Good (v, items)))) F
         ≡ one_part (one_part c m) (λ z. one_part t (λ items. G z items))
     typed_value (Good x) m = valued (m x)
     typed_value (Bad f fs) m = refl

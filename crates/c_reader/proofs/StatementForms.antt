@@ -9,8 +9,10 @@ use Rattle.c_model.specs.declared.vocabulary.Keyword.TheVariants as keyword
 use Rattle.c_model.specs.Vocabulary.{Vocabulary}
 use Rattle.c_model.specs.Punctuators.{semicolon, left_paren, right_paren, left_brace, right_brace}
 use Rattle.c_model.specs.ExpressionGrammar.{annot_open_kind, keyword_kind, mark_kind, kind, first_type, first_expression, mark, reserved, closed}
-use Rattle.c_model.specs.ProgramGrammar.{Numbered, ReadCase, cases_of, first_branch, first_case, first_item, is_open, block_items, misplaced, placed_annotation, condition, else_branch, else_part, selection, while_loop, do_loop, for_first, maybe_ended, returned, for_behind, for_loop, jump}
-use Rattle.c_model.specs.ProgramGrammar.{return_statement, item, items_once, items, block, case_label, case_item, case_items_once, case_items, next_case, cases, switch_statement, empty_statement, effect_statement, statement_of, branch_of, statement_in, branch_in}
+use Rattle.c_model.specs.ProgramGrammar.{Numbered, ReadCase, cases_of, first_branch, first_case, first_item, is_open, block_items, misplaced, placed_annotation, condition, else_branch, else_part, selection, while_loop, do_loop, for_first}
+use Rattle.c_model.specs.ProgramGrammar.{maybe_ended, returned, for_behind, for_loop, jump}
+use Rattle.c_model.specs.ProgramGrammar.{return_statement, item, items_once, items, block, case_label, case_item, case_items_once, case_items, next_case, cases, switch_statement, empty_statement, effect_statement, statement_of, branch_of}
+use Rattle.c_model.specs.ProgramGrammar.{statement_in, branch_in}
 use Rattle.c_model.specs.TypedTrees.{WhereAny}
 use Rattle.c_model.specs.Formed.{AreReadAsserts, depth, depth_of_cases, depth_of_item, depth_of_items, declared_within, declared_in_cases, declared_in_first, declared_in_item, declared_in_items}
 use Rattle.c_model.specs.FullExpressions.{EachIn, EachInCases, EachInFirst, EachInItem, EachInItems}

@@ -489,7 +489,8 @@ module _ (w : Setting) (n : ℕ) (sight : Sight) (knows : Knows w sight) (bound 
         (value w.unit bound rs a) (pointer_place f)
 
   -- what has no effect, in front of a comma, is evaluated in the source alone
-  comma_follows : (at : Place) (t : PlainType) (a b : Expression) (k : Scalar) (rs : List MonType) (regs : List Value) → Quiet (HasKind (scalar_of (type_of a))) now (eval_with T a w.call now) → Followed b k rs regs → Followed (Node at t (Comma a b)) k rs regs
+  comma_follows : (at : Place) (t : PlainType) (a b : Expression) (k : Scalar) (rs : List MonType) (regs : List Value) → Quiet (HasKind (scalar_of (type_of a))) now (eval_with T a w.call now) → Followed b k rs regs
+      → Followed (Node at t (Comma a b)) k rs regs
   comma_follows at t a b k rs regs (Gives v h e) f =
       subst (λ r. Evaluates w k now target r regs (length rs) (length (rs ++ temporaries b)) (runs w n target (setup w.unit bound rs b) regs) (value w.unit bound rs b)) (sym (ap (λ r. on_outcome r (λ _. eval_with T b w.call)) e)) f
   comma_follows at t a b k rs regs (IsUndefined there e) f = HasNone there (ap (λ r. on_outcome r (λ _. eval_with T b w.call)) e)

@@ -8,7 +8,8 @@ use Rattle.c_syntax.specs.declared.statement.Case.{Case}
 use Rattle.c_syntax.specs.declared.statement.Item.{Item}
 use Rattle.c_syntax.specs.declared.statement.Item as item
 use Rattle.c_syntax.specs.declared.statement.Stmt.{Stmt}
-use Rattle.c_syntax.specs.declared.statement.StmtKind.{StmtKind, Held-StmtKind-If-2, Held-StmtKind-For-1, Row_of-Item, end_of-Item, more_of-Item, Row_of-Case, end_of-Case, more_of-Case}
+use Rattle.c_syntax.specs.declared.statement.StmtKind.{StmtKind, Held-StmtKind-If-2, Held-StmtKind-For-1, Row_of-Item, end_of-Item, more_of-Item}
+use Rattle.c_syntax.specs.declared.statement.StmtKind.{Row_of-Case, end_of-Case, more_of-Case}
 use Rattle.c_syntax.specs.declared.statement.StmtKind as code
 use Rattle.c_syntax.specs.Ctypes.{PlainType, plain_type}
 use Rattle.c_syntax.specs.Expressions.{Expression, plain_expr}

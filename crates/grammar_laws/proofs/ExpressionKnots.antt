@@ -124,7 +124,8 @@ module _ (ws : Vocabulary) where
   behind_operand_reaches e a zero x = still (gives x)
   behind_operand_reaches e a (suc l) x =
       sequence (behind_operand_reaches e a l x) (λ y. repetition (kind ws) (λ _. kinds_of (operators_at l)) (λ left.
-      sequence (still (one (placed (mark_entry (operators_at l))))) (λ o. sequence (sequence (operand_reaches e a type_use.Casts) (λ z. behind_operand_reaches e a l z.expression)) (λ right. still (gives (read_as o.1 (connective_kind o.0 left right)))))) y)
+      sequence (still (one (placed (mark_entry (operators_at l))))) (λ o. sequence (sequence (operand_reaches e a type_use.Casts) (λ z. behind_operand_reaches e a l z.expression))
+      (λ right. still (gives (read_as o.1 (connective_kind o.0 left right)))))) y)
 
   with_commas_reaches : {A : ℕ → Tree} {A' : Tree} → Reaches A A' → Reaches (λ k. with_commas ws (A k)) (with_commas ws A')
   unfolding with_commas next_part

@@ -29,7 +29,8 @@ use Rattle.instrument.specs.declared.spot.Spot as code
 use Rattle.instrument.specs.Limits.{HaveNumbers}
 use Rattle.instrument.specs.Translation.{Spot, after_body, after_cases, after_else, after_first, after_item, after_items, after_statement, else_part}
 use Rattle.instrument.specs.Translation.{blocks_of_cases, code_of, first_part, for_turns, front, front_temporaries, global_temporaries, in_loop}
-use Rattle.instrument.specs.Translation.{item, items, next_cases, others_in_block, returned, returned_temporaries, search, statement, test, test_if_any, where_reached}
+use Rattle.instrument.specs.Translation.{item, items, next_cases, others_in_block, returned}
+use Rattle.instrument.specs.Translation.{returned_temporaries, search, statement, test, test_if_any, where_reached}
 
 abbrev pub plain_first_part : Option Item → ForFirst
 plain_first_part None = NoFirst
