@@ -1,9 +1,6 @@
 -- What holds between a state and each one that is reached from it: one induction for all such relations.
 use Rattle.std.proofs.Common.{◌≡◌, ℕ, zero, suc, ◌+◌, ◌*◌, ◌≤◌, ℤ, pos, ◌+ℤ◌, Bool, true, false, cond, ◌&&◌, if◌then◌else◌, nat_lt, nat_eq, List, [], ◌∷◌, ◌++◌, length, replicate, Option, Some, None, option_map, slice_get, codes, bytes_eq, refl}
-use Rattle.std.proofs.Common.{sym, ap, ◌∙◌}
-use Rattle.std.proofs.Common.{append_assoc}
-use Rattle.std.proofs.Common.{append-nil}
-use Rattle.std.proofs.Common.{arith}
+use Rattle.std.proofs.Common.{sym, ap, ◌∙◌, append_assoc, append-nil, arith}
 use Rattle.c_syntax.specs.declared.place.Place.{Place}
 use Rattle.c_syntax.specs.declared.types.Segment.{Segment}
 use Rattle.c_syntax.specs.declared.types.Segment.TheVariants.{Frames}
@@ -24,8 +21,7 @@ use Rattle.c_syntax.specs.Expressions.{Expression, Node, Number, Letter, Text, V
 use Rattle.c_syntax.specs.Expressions.{type_of}
 use Rattle.c_syntax.specs.Statements.{Initialiser, One, Many, Initialisers, NoInitialiser, Listed, Declaration, Statement, Empty, Eval, Block, If, While, Do}
 use Rattle.c_syntax.specs.Statements.{For, Break, Continue, Return, Labelled, ElsePart, NoElse, Else, ForFirst, NoFirst, First, BlockItem, Switch, Cases}
-use Rattle.c_syntax.specs.Statements.{NoCase, AnotherCase}
-use Rattle.c_syntax.specs.Statements.{Declare, Specify, Run, Asserts, BlockItems, NoItem, Then}
+use Rattle.c_syntax.specs.Statements.{NoCase, AnotherCase, Declare, Specify, Run, Asserts, BlockItems, NoItem, Then}
 use Rattle.c_syntax.specs.Programs.{StructType, NamedBehavior, FunctionContract, Function, TranslationUnit}
 use Rattle.c_syntax.specs.declared.types.CInt.TheVariants.{U64}
 use Rattle.c_syntax.specs.Layouts.{Scalar, scalar_size, scalar_of, size_of}
@@ -34,7 +30,11 @@ use Rattle.c_model.specs.Memory.{Pointer, Null, Into, Value, Integer, Points, No
 use Rattle.c_model.specs.Memory.{Unwritten, Number as NumberByte, Room, At, NoRoom, heap_room, heap_block, freed}
 use Rattle.c_model.specs.State.{Scope, Mark, Input, InputTail, EndOfInput, InputFault, ReadFault, Exits, print, read_byte, State, Breaks, Continues, Returns, End, Leaves, Over, Stuck, Undefined, Spent, Full, Outcome, Normal, Stop, Evaluation}
 use Rattle.c_model.specs.State.{on_outcome, ◌>>=◌, ◌>>◌, give, done, stop, defined, computed, as_scalar, step_from, step, find, start_of, object, read, read_any, put_store, changed, write, write_bytes, copy_object, tested, birth_of, birth, births}
-use Rattle.c_model.specs.State.{heap_birth, allocate}
+use Rattle.c_model.specs.State.{heap_birth, allocate, print_all}
+use Rattle.c_model.specs.Strings.{string_at}
+use Rattle.c_model.specs.Formats.{Piece, Bytes, Number as NumberPiece, Character, String, pieces_of}
+use Rattle.c_model.specs.Printing.{at_end_of_string, print_string, print_pieces}
+use Rattle.std.specs.Fmt.{signed_decimal}
 use Rattle.c_model.specs.State.{write_youngest, alone, frame, mark, back_to, restored, within, answered, called}
 use Rattle.c_model.specs.Logic.{TermValue, Mathematical, Environment, always, Answer, Says, SaysNothing, OutOfSteps, lazily, denied, silenced, fully, related}
 use Rattle.c_model.specs.Logic.{judged, Addressed, related_addresses, said, asks, all_apart}
@@ -46,13 +46,11 @@ use Rattle.c_model.specs.ContractChecks.{Check, assumed, demand, of_behavior, ch
 use Rattle.c_model.specs.ContractChecks.{all_hold, result_is, entry, ending}
 use Rattle.c_model.specs.MemoryQuestions.{null_address}
 use Rattle.c_model.specs.Meaning.{Tables, literal, Callee, is_zero, choose, truth_value, size_value, converted, is_of_library, is_pointer, named, is_member, address, is_array, pointed_to, assigned, compound, bump_operator, bump_value}
-use Rattle.c_model.specs.Meaning.{eval_with, place_with}
-use Rattle.c_model.specs.Meaning.{evals_with, after_body, turn_with, turns, do_turns, declared_in, declared_first, zero_scalars, zero_parts, string_in}
+use Rattle.c_model.specs.Meaning.{eval_with, place_with, evals_with, after_body, turn_with, turns, do_turns, declared_in, declared_first, zero_scalars, zero_parts, string_in}
 use Rattle.c_model.specs.Meaning.{write_each, fill_one, parts_or_itself, fill, fill_parts, initialise, initialise_all, condition_with, effect_with, exec_with}
 use Rattle.c_model.specs.Meaning.{else_with, first_with, item_with, items_with, parameters, body_with, put_char, get_char, exit_with, malloc_with}
-use Rattle.c_model.specs.Meaning.{calloc_with, free_with, library_call, at_close, returned_by, call_with, after_main, chosen_case, after_switch, cases_with}
-use Rattle.c_model.specs.Meaning.{call_of, tables_of, global_scope}
-use Rattle.c_model.specs.Meaning.{definition_at, main_with, function_named, whole, exec}
+use Rattle.c_model.specs.Meaning.{calloc_with, free_with, text_at_pointer, printf_with, library_call, at_close, returned_by, call_with, after_main, chosen_case, after_switch, cases_with}
+use Rattle.c_model.specs.Meaning.{call_of, tables_of, global_scope, definition_at, main_with, function_named, whole, exec}
 use Rattle.c_model.specs.Laws.{AreWhole, KeepsWhole, store_after}
 use Rattle.c_model.specs.Growth.{Grows, Grown}
 use Rattle.c_model.proofs.Blocks.{whole-saved_bytes, whole-copied_all, whole-append, whole-new_block, whole-freed, whole-kill_from}
@@ -636,15 +634,42 @@ module _ (R : State → State → Type 0) (r : Lasts R) where
   along_if true a b f g = f
   along_if false a b f g = g
 
-  pub along_library_call : (at : Place) (name : Option (List ℕ)) (vs : List Value) → Along (library_call at name vs)
-  along_library_call at None vs = along_stop (Over (Undefined at))
-  along_library_call at (Some name) vs =
+  along_print : (b : ℕ) → Along (print b)
+  along_print b = record { at = λ s. r.printed s b }
+
+  along_print_all : (bytes : List ℕ) → Along (print_all bytes)
+  along_print_all [] = along_give tt
+  along_print_all (b ∷ bs) = along_then _ _ (along_print b) (along_print_all bs)
+
+  along_end_of_string : (at : Place) (ends : Bool) → Along (at_end_of_string at ends)
+  along_end_of_string at true = along_give tt
+  along_end_of_string at false = along_stop (Over (Undefined at))
+
+  along_string : (at : Place) (p : Pointer) → Along (print_string at p)
+  along_string at p = record { at = λ s. (along_then _ _ (along_print_all (string_at s.store p).0) (along_end_of_string at (string_at s.store p).1)).at s }
+
+  pub along_pieces : (at : Place) (ps : List Piece) (vs : List Value) → Along (print_pieces at ps vs)
+  along_pieces at [] vs = along_give NoValue
+  along_pieces at (Bytes bs ∷ ps) vs = along_then _ _ (along_print_all bs) (along_pieces at ps vs)
+  along_pieces at (NumberPiece k ∷ ps) (Integer z ∷ vs) = along_then _ _ (along_print_all (signed_decimal z)) (along_pieces at ps vs)
+  along_pieces at (Character ∷ ps) (Integer z ∷ vs) = along_then _ _ (along_print (byte_of z)) (along_pieces at ps vs)
+  along_pieces at (String ∷ ps) (Points p ∷ vs) = along_then _ _ (along_string at p) (along_pieces at ps vs)
+  along_pieces at (piece ∷ ps) _ = along_stop (Over (Undefined at))
+
+  pub along_printf : (T : Tables) (at : Place) (vs : List Value) → Along (printf_with T at vs)
+  along_printf T at (Points p ∷ vs) = along_bind _ _ (defined_along at (text_at_pointer T p)) (λ bytes. along_bind _ _ (defined_along at (pieces_of bytes)) (λ ps. along_pieces at ps vs))
+  along_printf T at _ = along_stop (Over (Undefined at))
+
+  pub along_library_call : (T : Tables) (at : Place) (name : Option (List ℕ)) (vs : List Value) → Along (library_call T at name vs)
+  along_library_call T at None vs = along_stop (Over (Undefined at))
+  along_library_call T at (Some name) vs =
       along_if (bytes_eq name (codes "putchar")) _ _ (along_put_char at vs)
       (along_if (bytes_eq name (codes "getchar")) _ _ (along_get_char at vs)
       (along_if (bytes_eq name (codes "exit")) _ _ (along_exit at vs)
       (along_if (bytes_eq name (codes "malloc")) _ _ (along_malloc at vs)
       (along_if (bytes_eq name (codes "calloc")) _ _ (along_calloc at vs)
-      (along_if (bytes_eq name (codes "free")) _ _ (along_free at vs) (along_stop (Over (Undefined at))))))))
+      (along_if (bytes_eq name (codes "free")) _ _ (along_free at vs)
+      (along_if (bytes_eq name (codes "printf")) _ _ (along_printf T at vs) (along_stop (Over (Undefined at)))))))))
 
   pub along_at_close : (close : Place) (t : PlainType) → Along (at_close close t)
   along_at_close close t = by (scalar_of t)
@@ -675,9 +700,9 @@ module _ (R : State → State → Type 0) (r : Lasts R) where
 
   pub along_call_of : (p : TranslationUnit) (n : ℕ) → CalleeAlong (call_of p n)
   along_call_of p zero at f vs =
-      along_if (is_of_library f) _ _ (along_library_call at (slice_get p.names f.name) vs) (along_stop (Over Spent))
+      along_if (is_of_library f) _ _ (along_library_call (tables_of p) at (slice_get p.names f.name) vs) (along_stop (Over Spent))
   along_call_of p (suc n) at f vs =
-      along_if (is_of_library f) _ _ (along_library_call at (slice_get p.names f.name) vs)
+      along_if (is_of_library f) _ _ (along_library_call (tables_of p) at (slice_get p.names f.name) vs)
       (along_call_with (tables_of p) (global_scope p) (definition_at f.decl p.funcs) (call_of p n) n at vs (along_call_of p n))
 
   after_main_along : (c : Option FunctionContract) (hs : List Bool) (s : State) (o : Outcome (Unit {0})) → R s (state_after o) → R s (state_after (after_main c hs o))

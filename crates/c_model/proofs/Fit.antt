@@ -447,7 +447,7 @@ pub fit_call_of : (p : TranslationUnit) (m n k : ℕ) → k < m → k < n → Ca
 fit_call_of p zero n k lm ln at f vs = absurd (omega arith)
 fit_call_of p (suc m) zero k lm ln at f vs = absurd (omega arith)
 fit_call_of p (suc m) (suc n) k lm ln at f vs =
-    fit_if k (is_of_library f) _ _ _ _ (fit_still k _ (along_library_call Fewer steps_last at (slice_get p.names f.name) vs))
+    fit_if k (is_of_library f) _ _ _ _ (fit_still k _ (along_library_call Fewer steps_last (tables_of p) at (slice_get p.names f.name) vs))
     (fit_call_with (tables_of p) (global_scope p) (definition_at f.decl p.funcs) k m n (call_of p m) (call_of p n) at vs (omega arith) (omega arith)
     (λ j lt. fit_call_of p m n j (omega (arith, lt)) (omega (arith, lt))))
 

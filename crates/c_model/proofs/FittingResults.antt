@@ -4,7 +4,7 @@ use Rattle.std.proofs.lemmas.Bool.{lt-ltb}
 use Rattle.c_syntax.specs.declared.place.Place.{Place}
 use Rattle.c_syntax.specs.declared.expression.Use.{Use}
 use Rattle.c_syntax.specs.declared.types.CInt.{CInt}
-use Rattle.c_syntax.specs.declared.types.CInt.TheVariants.{I32, U64}
+use Rattle.c_syntax.specs.declared.types.CInt.TheVariants.{I8, I32, U64}
 use Rattle.c_syntax.specs.Ctypes.{PlainType, Void, Int, Ptr, Array, Struct, Named, StructTag, EnumTag, int_type}
 use Rattle.c_syntax.specs.Expressions.{Expression, Expressions}
 use Rattle.c_syntax.specs.Layouts.{Scalar, scalar_of}
@@ -23,7 +23,7 @@ use Rattle.c_model.specs.Logic.{TermValue, Mathematical, Addressed, Answer, Says
 use Rattle.c_model.specs.Memory.{Value, Integer, Points, NoValue, Store}
 use Rattle.c_model.specs.Meaning.{Tables, Callee, tables_of, global_scope, text_at, is_zero, choose, eval_with, condition_of, condition_with, effect_with, after_body, turn_with, turns, do_turns, after_switch}
 use Rattle.c_model.specs.Meaning.{chosen_case, declared_in, declared_first, exec_with, cases_with, else_with, first_with, item_with, items_with, body_with, parameters, at_close, returned_by, result_with, call_with}
-use Rattle.c_model.specs.Meaning.{call_of, definition_at, is_definition, is_of_library, library_call, put_char, get_char, exit_with, malloc_with, calloc_with, free_with}
+use Rattle.c_model.specs.Meaning.{call_of, definition_at, is_definition, is_of_library, library_call, put_char, get_char, exit_with, malloc_with, calloc_with, free_with, printf_with}
 use Rattle.c_model.specs.Predicates.{invariants, variant, valued, value_of, is_smaller, compared, term}
 use Rattle.c_model.specs.ReadTree.{AreBytes, BodyRead, FunctionRead, FunctionsRead}
 use Rattle.c_model.specs.SoundStates.{IsPlacedValue, IsSoundState, IsDirect, AreDirect, After, Any, Placed, AllPlaced, Declares, CallsKeepSound}
@@ -343,9 +343,10 @@ get_fits : (at : Place) (vs : List Value) (s : State) → Ends (FitsIn int_type)
 get_fits at [] s = byte_read_fits s.input.bytes s.input.tail s
 get_fits at (v ∷ vs) s = tt
 
-library_named : (at : Place) (x : ℕ) (w : List ℕ) (vs : List Value) (g : Signature) (s : State) → library_function x w ≡ Some g → Ends (FitsIn g.result) (library_call at (Some w) vs s)
-library_named at x w vs g s =
+library_named : (T : Tables) (at : Place) (x : ℕ) (w : List ℕ) (vs : List Value) (g : Signature) (s : State) → library_function x w ≡ Some g → Ends (FitsIn g.result) (library_call T at (Some w) vs s)
+library_named T at x w vs g s =
     by (bytes_eq w (codes "putchar")) (bytes_eq w (codes "getchar")) (bytes_eq w (codes "exit")) (bytes_eq w (codes "malloc")) (bytes_eq w (codes "calloc")) (bytes_eq w (codes "free"))
+    (bytes_eq w (codes "printf"))
   where
     result_of : (h : Signature) (m : Evaluation Value) → Ends (FitsIn h.result) (m s) → Some h ≡ Some g → Ends (FitsIn g.result) (m s)
     result_of h m fit e = let same : h ≡ g = cc in subst (λ (f : Signature). Ends (FitsIn f.result) (m s)) same fit
@@ -353,28 +354,30 @@ library_named at x w vs g s =
     pointer : (m : Evaluation Value) → Gives IsAddress NoJump m → Ends (FitsIn (Ptr Void)) (m s)
     pointer m g = well_ends (FitsIn (Ptr Void)) (m s) (g.at s)
 
-    by : (a b c d e f : Bool) → (if a then Some (of_library x (int_type ∷ []) int_type) else (if b then Some (of_library x [] int_type) else (if c then Some (of_library x (int_type ∷ []) Void)
-        else (if d then Some (of_library x (Int U64 ∷ []) (Ptr Void)) else (if e then Some (of_library x (Int U64 ∷ Int U64 ∷ []) (Ptr Void)) else (if f then Some (of_library x (Ptr Void ∷ []) Void) else None)))))) ≡ Some g
+    by : (a b c d e f h : Bool) → (if a then Some (of_library x (int_type ∷ []) int_type) else (if b then Some (of_library x [] int_type) else (if c then Some (of_library x (int_type ∷ []) Void)
+        else (if d then Some (of_library x (Int U64 ∷ []) (Ptr Void)) else (if e then Some (of_library x (Int U64 ∷ Int U64 ∷ []) (Ptr Void)) else (if f then Some (of_library x (Ptr Void ∷ []) Void)
+        else (if h then Some (of_library x (Ptr (Int I8) ∷ []) Void) else None))))))) ≡ Some g
         → Ends (FitsIn g.result) ((if a then put_char at vs else (if b then get_char at vs else (if c then exit_with at vs else
-        (if d then malloc_with at vs else (if e then calloc_with at vs else (if f then free_with at vs else stop (Over (Undefined at)))))))) s)
-    by true b c d e f h = result_of _ (put_char at vs) (put_fits at vs s) h
-    by false true c d e f h = result_of _ (get_char at vs) (get_fits at vs s) h
-    by false false true d e f h = result_of _ (exit_with at vs) (some_ends (FitsIn Void) (exit_with at vs s) (λ v. tt)) h
-    by false false false true e f h = result_of _ (malloc_with at vs) (pointer (malloc_with at vs) (gives_malloc at vs)) h
-    by false false false false true f h = result_of _ (calloc_with at vs) (pointer (calloc_with at vs) (gives_calloc at vs)) h
-    by false false false false false true h = result_of _ (free_with at vs) (some_ends (FitsIn Void) (free_with at vs s) (λ v. tt)) h
-    by false false false false false false h = absurd cc
+        (if d then malloc_with at vs else (if e then calloc_with at vs else (if f then free_with at vs else (if h then printf_with T at vs else stop (Over (Undefined at))))))))) s)
+    by true b c d e f h is = result_of _ (put_char at vs) (put_fits at vs s) is
+    by false true c d e f h is = result_of _ (get_char at vs) (get_fits at vs s) is
+    by false false true d e f h is = result_of _ (exit_with at vs) (some_ends (FitsIn Void) (exit_with at vs s) (λ v. tt)) is
+    by false false false true e f h is = result_of _ (malloc_with at vs) (pointer (malloc_with at vs) (gives_malloc at vs)) is
+    by false false false false true f h is = result_of _ (calloc_with at vs) (pointer (calloc_with at vs) (gives_calloc at vs)) is
+    by false false false false false true h is = result_of _ (free_with at vs) (some_ends (FitsIn Void) (free_with at vs s) (λ v. tt)) is
+    by false false false false false false true is = result_of _ (printf_with T at vs) (some_ends (FitsIn Void) (printf_with T at vs s) (λ v. tt)) is
+    by false false false false false false false is = absurd cc
 
-library_fits : (x : ℕ) (o : Option (List ℕ)) (g : Signature) → library_function x (elim o [ None ↦ [] | Some w ↦ w ]) ≡ Some g → (at : Place) (vs : List Value) (s : State) → Ends (FitsIn g.result) (library_call at o vs s)
-library_fits x None g e at vs s = tt
-library_fits x (Some w) g e at vs s = library_named at x w vs g s e
+library_fits : (T : Tables) (x : ℕ) (o : Option (List ℕ)) (g : Signature) → library_function x (elim o [ None ↦ [] | Some w ↦ w ]) ≡ Some g → (at : Place) (vs : List Value) (s : State) → Ends (FitsIn g.result) (library_call T at o vs s)
+library_fits T x None g e at vs s = tt
+library_fits T x (Some w) g e at vs s = library_named T at x w vs g s e
 
 -- ---- functions of the program
 
 -- a definition of the program, or a function of the library
 data IsCalled (p : TranslationUnit) (f : Use) (t : PlainType) : Type 0 where
   CallsFunction : (g : Function) → is_of_library f ≡ false → definition_at f.decl p.funcs ≡ Some g → t ≡ g.result → IsCalled p f t
-  CallsLibrary : is_of_library f ≡ true → ((at : Place) (vs : List Value) (s : State) → Ends (FitsIn t) (library_call at (slice_get p.names f.name) vs s)) → IsCalled p f t
+  CallsLibrary : is_of_library f ≡ true → ((at : Place) (vs : List Value) (s : State) → Ends (FitsIn t) (library_call (tables_of p) at (slice_get p.names f.name) vs s)) → IsCalled p f t
 
 is_called : (p : TranslationUnit) (sight : Sight) → Sees p sight → (f : Use) (t : PlainType) (es : Expressions) → Calls sight f t es → IsCalled p f t
 is_called p sight see f t es c = by (function_called f.name sight.functions) refl c.found
@@ -387,7 +390,7 @@ is_called p sight see f t es c = by (function_called f.name sight.functions) ref
     by None e found =
         let in_text : library_function f.name (name_at p.names f.name) ≡ Some c.callee = ap (λ ns. library_function f.name (name_at ns f.name)) (sym see.names) ∙ found in
         CallsLibrary (ap (λ n. nat_eq n 4294967295) c.decl ∙ library_number f.name (name_at sight.names f.name) c.callee found)
-        (λ at vs s. subst (λ u. Ends (FitsIn u) (library_call at (slice_get p.names f.name) vs s)) (sym c.result) (library_fits f.name (slice_get p.names f.name) c.callee in_text at vs s))
+        (λ at vs s. subst (λ u. Ends (FitsIn u) (library_call (tables_of p) at (slice_get p.names f.name) vs s)) (sym c.result) (library_fits (tables_of p) f.name (slice_get p.names f.name) c.callee in_text at vs s))
 
 -- where a function stands
 record Stands (fs : List Function) (f : Function) : Type 0 where
@@ -455,14 +458,14 @@ module _ (p : TranslationUnit) (q : IsProgram p) (letters : EachInFunctions Lett
       (read_at p.funcs i f q.effects e).body here.typed.body (letters_at p.funcs i f letters e) o.body o.variables n
 
   abbrev EndsIn : ℕ → Use → PlainType → Place → List Value → State → Bool → Option Function → Type 0
-  EndsIn n f t at vs s b o = Ends (FitsIn t) ((if b then library_call at (slice_get p.names f.name) vs else call_with (tables_of p) (global_scope p) o (call_of p n) n at vs) s)
+  EndsIn n f t at vs s b o = Ends (FitsIn t) ((if b then library_call (tables_of p) at (slice_get p.names f.name) vs else call_with (tables_of p) (global_scope p) o (call_of p n) n at vs) s)
 
   calls_fit : (n : ℕ) → CallsFit p (call_of p n)
   calls_fit zero sight see f t es c at vs s st pl = by (is_called p sight see f t es c)
     where
       by : IsCalled p f t → Ends (FitsIn t) (call_of p zero at f vs s)
-      by (CallsFunction g other found result) = subst (λ b. Ends (FitsIn t) ((if b then library_call at (slice_get p.names f.name) vs else stop (Over Spent)) s)) (sym other) tt
-      by (CallsLibrary is fit) = subst (λ b. Ends (FitsIn t) ((if b then library_call at (slice_get p.names f.name) vs else stop (Over Spent)) s)) (sym is) (fit at vs s)
+      by (CallsFunction g other found result) = subst (λ b. Ends (FitsIn t) ((if b then library_call (tables_of p) at (slice_get p.names f.name) vs else stop (Over Spent)) s)) (sym other) tt
+      by (CallsLibrary is fit) = subst (λ b. Ends (FitsIn t) ((if b then library_call (tables_of p) at (slice_get p.names f.name) vs else stop (Over Spent)) s)) (sym is) (fit at vs s)
   calls_fit (suc n) sight see f t es c at vs s st pl = by (calls_fit n) (is_called p sight see f t es c)
     where
       by : CallsFit p (call_of p n) → IsCalled p f t → EndsIn n f t at vs s (is_of_library f) (definition_at f.decl p.funcs)

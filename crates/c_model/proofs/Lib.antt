@@ -11,6 +11,8 @@ pub mod Blocks
 pub mod Together
 pub mod StaticObjects
 -- runs
+pub mod FormatSpelling
+pub mod Printing
 pub mod Fit
 pub mod Along
 pub mod HeapPlaces

@@ -10,7 +10,7 @@ use Rattle.c_syntax.specs.Programs.{FunctionContract, Function, TranslationUnit}
 use Rattle.c_model.specs.Memory.{Value, Integer, Points, NoValue}
 use Rattle.c_model.specs.State.{Leave, Breaks, Continues, Returns, Undefined, Spent, Leaves, Over, Stuck, Outcome, Normal, Stop, ◌>>◌, stop}
 use Rattle.c_model.specs.ContractChecks.{entry, ending}
-use Rattle.c_model.specs.Meaning.{is_definition, Callee, is_of_library, library_call, definition_at, body_with, call_with, initialise_all, tables_of}
+use Rattle.c_model.specs.Meaning.{Tables, is_definition, Callee, is_of_library, library_call, definition_at, body_with, call_with, initialise_all, tables_of}
 use Rattle.c_model.specs.Meaning.{global_scope, call_of, has_name, function_named, after_main, main_with, start}
 use Rattle.c_model.specs.ExpressionTyping.{Sight, Signature, name_at, or_else, function_called, library_function, same_type, inner}
 use Rattle.c_model.specs.UnitTyping.{with_parameters, main_fault, no_main, has_no_parameters}
@@ -32,16 +32,16 @@ use Rattle.c_model.proofs.NeverStuckItems.{function_in_sight, global_in_sight}
 -- a definition of the program, or a function of the library, which gives values of its type
 data IsCalled (p : TranslationUnit) (f : Use) (t : PlainType) : Type 0 where
   CallsFunction : (g : Function) → is_of_library f ≡ false → definition_at f.decl p.funcs ≡ Some g → t ≡ g.result → IsCalled p f t
-  CallsLibrary : is_of_library f ≡ true → ((at : Place) (vs : List Value) → Gives (IsValueOf t) NoJump (library_call at (slice_get p.names f.name) vs)) → IsCalled p f t
+  CallsLibrary : is_of_library f ≡ true → ((at : Place) (vs : List Value) → Gives (IsValueOf t) NoJump (library_call (tables_of p) at (slice_get p.names f.name) vs)) → IsCalled p f t
 
 -- functions of the library have its number
 pub library_number : (x : ℕ) (w : List ℕ) (g : Signature) → library_function x w ≡ Some g → nat_eq g.decl 4294967295 ≡ true
-library_number x w g e = each_of_library (λ (h : Signature). nat_eq h.decl 4294967295 ≡ true) g x w refl refl refl refl refl refl e
+library_number x w g e = each_of_library (λ (h : Signature). nat_eq h.decl 4294967295 ≡ true) g x w refl refl refl refl refl refl refl e
 
 -- what a call of a function of the library gives, by its name among those of the text
-library_gives : (x : ℕ) (o : Option (List ℕ)) (g : Signature) → library_function x (elim o [ None ↦ [] | Some w ↦ w ]) ≡ Some g → (at : Place) (vs : List Value) → Gives (IsValueOf g.result) NoJump (library_call at o vs)
-library_gives x None g e at vs = gives_over (Undefined at)
-library_gives x (Some w) g e at vs = gives_library_call at x w vs g e
+library_gives : (T : Tables) (x : ℕ) (o : Option (List ℕ)) (g : Signature) → library_function x (elim o [ None ↦ [] | Some w ↦ w ]) ≡ Some g → (at : Place) (vs : List Value) → Gives (IsValueOf g.result) NoJump (library_call T at o vs)
+library_gives T x None g e at vs = gives_over (Undefined at)
+library_gives T x (Some w) g e at vs = gives_library_call T at x w vs g e
 
 called : (p : TranslationUnit) (s : Sight) → Sees p s → (f : Use) (t : PlainType) (es : Expressions) → Calls s f t es → IsCalled p f t
 called p s see f t es c = by (function_called f.name s.functions) refl c.found
@@ -54,7 +54,7 @@ called p s see f t es c = by (function_called f.name s.functions) refl c.found
     by None e found =
         let in_text : library_function f.name (name_at p.names f.name) ≡ Some c.callee = ap (λ ns. library_function f.name (name_at ns f.name)) (sym see.names) ∙ found in
         CallsLibrary (ap (λ n. nat_eq n 4294967295) c.decl ∙ library_number f.name (name_at s.names f.name) c.callee found)
-        (λ at vs. subst (λ u. Gives (IsValueOf u) NoJump (library_call at (slice_get p.names f.name) vs)) (sym c.result) (library_gives f.name (slice_get p.names f.name) c.callee in_text at vs))
+        (λ at vs. subst (λ u. Gives (IsValueOf u) NoJump (library_call (tables_of p) at (slice_get p.names f.name) vs)) (sym c.result) (library_gives (tables_of p) f.name (slice_get p.names f.name) c.callee in_text at vs))
 
 -- ---- definitions
 
@@ -111,7 +111,7 @@ module _ (p : TranslationUnit) where
     -- a call by whether it is one of the library, and by what it calls
     abbrev Ends : ℕ → Use → PlainType → Place → List Value → Bool → Option Function → Type 0
     Ends n f t at vs b o =
-        Gives (IsValueOf t) NoJump (if b then library_call at (slice_get p.names f.name) vs else call_with (tables_of p) (global_scope p) o (call_of p n) n at vs)
+        Gives (IsValueOf t) NoJump (if b then library_call (tables_of p) at (slice_get p.names f.name) vs else call_with (tables_of p) (global_scope p) o (call_of p n) n at vs)
 
     -- calls so deep
     pub calls_give : (n : ℕ) → CallsGive p (call_of p n)
@@ -119,9 +119,9 @@ module _ (p : TranslationUnit) where
       where
         by : IsCalled p f t → Gives (IsValueOf t) NoJump (call_of p zero at f vs)
         by (CallsFunction g other found result) =
-            subst (λ b. Gives (IsValueOf t) NoJump (if b then library_call at (slice_get p.names f.name) vs else stop (Over Spent))) (sym other) (gives_over Spent)
+            subst (λ b. Gives (IsValueOf t) NoJump (if b then library_call (tables_of p) at (slice_get p.names f.name) vs else stop (Over Spent))) (sym other) (gives_over Spent)
         by (CallsLibrary is gives) =
-            subst (λ b. Gives (IsValueOf t) NoJump (if b then library_call at (slice_get p.names f.name) vs else stop (Over Spent))) (sym is)
+            subst (λ b. Gives (IsValueOf t) NoJump (if b then library_call (tables_of p) at (slice_get p.names f.name) vs else stop (Over Spent))) (sym is)
             (gives at vs)
     calls_give (suc n) s see f t es c at vs = by (calls_give n) (called p s see f t es c)
       where

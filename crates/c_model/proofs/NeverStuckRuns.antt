@@ -3,7 +3,7 @@ use Rattle.std.proofs.Common.{◌≡◌, ℕ, zero, suc, ◌+◌, ◌*◌, pos, 
 use Rattle.c_syntax.specs.declared.place.Place.{Place}
 use Rattle.c_syntax.specs.declared.types.Segment.{Segment}
 use Rattle.c_syntax.specs.declared.types.Segment.TheVariants.{Frames}
-use Rattle.c_syntax.specs.declared.types.CInt.TheVariants.{U64}
+use Rattle.c_syntax.specs.declared.types.CInt.TheVariants.{I8, U64}
 use Rattle.c_syntax.specs.Ctypes.{PlainType, Void, Int, Ptr, int_type}
 use Rattle.c_syntax.specs.Logic.{LogicTerm, ClauseBody, Raw, Holds, Annotation, Behaviors}
 use Rattle.c_syntax.specs.Logic as logic
@@ -15,7 +15,7 @@ use Rattle.c_model.specs.Memory.{Pointer, Null, Into, Value, Integer, Points, No
 use Rattle.c_model.specs.Memory.{standard_sizes, full_at_stack_birth, Room, At, NoRoom, heap_room, freed}
 use Rattle.c_model.specs.State.{InputTail, EndOfInput, InputFault, State, Leave, Breaks, Continues, Returns, Final, Undefined, Spent, Full}
 use Rattle.c_model.specs.State.{Exits, Leaves, Over, Stuck, Outcome, Normal, Stop, Evaluation, on_outcome, ◌>>=◌, ◌>>◌, give, done}
-use Rattle.c_model.specs.State.{Scope, stop, defined, computed, changed, step_from, step, read_byte, print, find}
+use Rattle.c_model.specs.State.{Scope, stop, defined, computed, changed, step_from, step, read_byte, print, print_all, find}
 use Rattle.c_model.specs.State.{start_of, object, put_store, write, tested, birth_of, birth, births, heap_birth, allocate, write_youngest, alone}
 use Rattle.c_model.specs.State.{frame, mark, restored, within, answered, called}
 use Rattle.c_model.specs.StatementTyping.{Around, in_loop, in_switch}
@@ -26,7 +26,11 @@ use Rattle.c_model.specs.Predicates.{term, clause, check, checks, invariant, inv
 use Rattle.c_model.specs.ContractChecks.{Check, covered, named_holds, assumed, demand, of_behavior, checked, all_checked, holds_at, is_assumes, entry_checks}
 use Rattle.c_model.specs.ContractChecks.{leave_checks, all_hold, result_is, entry, ending}
 use Rattle.c_model.specs.Meaning.{is_zero, choose, after_body, turn_with, turns, do_turns, after_switch}
-use Rattle.c_model.specs.Meaning.{put_char, get_char, exit_with, malloc_with, calloc_with, free_with, library_call}
+use Rattle.c_model.specs.Meaning.{Tables, put_char, get_char, exit_with, malloc_with, calloc_with, free_with, text_at_pointer, printf_with, library_call}
+use Rattle.c_model.specs.Strings.{string_at}
+use Rattle.c_model.specs.Formats.{Piece, Bytes, Number as NumberPiece, Character, String, pieces_of}
+use Rattle.c_model.specs.Printing.{at_end_of_string, print_string, print_pieces}
+use Rattle.std.specs.Fmt.{signed_decimal}
 
 -- ---- what evaluations give
 
@@ -373,22 +377,53 @@ pub gives_free : (at : Place) (vs : List Value) → Gives Anything NoJump (free_
 gives_free at (Points p ∷ []) = gives_then _ _ (gives_changed at (λ store. freed store p)) (gives_give NoValue tt)
 gives_free at _ = gives_over (Undefined at)
 
+gives_print : (b : ℕ) → Gives Anything NoJump (print b)
+gives_print b = record { at = λ s. tt }
+
+gives_print_all : (bytes : List ℕ) → Gives Anything NoJump (print_all bytes)
+gives_print_all [] = gives_give tt tt
+gives_print_all (b ∷ bs) = gives_then (print b) (print_all bs) (gives_print b) (gives_print_all bs)
+
+gives_end_of_string : (at : Place) (ends : Bool) → Gives Anything NoJump (at_end_of_string at ends)
+gives_end_of_string at true = gives_give tt tt
+gives_end_of_string at false = gives_over (Undefined at)
+
+gives_string : (at : Place) (p : Pointer) → Gives Anything NoJump (print_string at p)
+gives_string at p = record { at = λ s. (gives_then _ _ (gives_print_all (string_at s.store p).0) (gives_end_of_string at (string_at s.store p).1)).at s }
+
+gives_pieces : (at : Place) (ps : List Piece) (vs : List Value) → Gives Anything NoJump (print_pieces at ps vs)
+gives_pieces at [] vs = gives_give NoValue tt
+gives_pieces at (Bytes bs ∷ ps) vs = gives_then _ _ (gives_print_all bs) (gives_pieces at ps vs)
+gives_pieces at (NumberPiece k ∷ ps) (Integer z ∷ vs) = gives_then _ _ (gives_print_all (signed_decimal z)) (gives_pieces at ps vs)
+gives_pieces at (Character ∷ ps) (Integer z ∷ vs) = gives_then _ _ (gives_print (byte_of z)) (gives_pieces at ps vs)
+gives_pieces at (String ∷ ps) (Points p ∷ vs) = gives_then _ _ (gives_string at p) (gives_pieces at ps vs)
+gives_pieces at (piece ∷ ps) _ = gives_over (Undefined at)
+
+gives_printf : (T : Tables) (at : Place) (vs : List Value) → Gives Anything NoJump (printf_with T at vs)
+gives_printf T at (Points p ∷ vs) =
+    gives_bind {P = Anything} _ _ (gives_defined at (text_at_pointer T p) (anything (text_at_pointer T p))) (λ bytes u.
+    gives_bind {P = Anything} _ _ (gives_defined at (pieces_of bytes) (anything (pieces_of bytes))) (λ ps u. gives_pieces at ps vs))
+gives_printf T at _ = gives_over (Undefined at)
+
 -- a call of a function of the library gives a value of its result
-pub gives_library_call : (at : Place) (x : ℕ) (w : List ℕ) (vs : List Value) (g : Signature) → library_function x w ≡ Some g → Gives (IsValueOf g.result) NoJump (library_call at (Some w) vs)
-gives_library_call at x w vs g =
+pub gives_library_call : (T : Tables) (at : Place) (x : ℕ) (w : List ℕ) (vs : List Value) (g : Signature) → library_function x w ≡ Some g → Gives (IsValueOf g.result) NoJump (library_call T at (Some w) vs)
+gives_library_call T at x w vs g =
     by (bytes_eq w (codes "putchar")) (bytes_eq w (codes "getchar")) (bytes_eq w (codes "exit")) (bytes_eq w (codes "malloc")) (bytes_eq w (codes "calloc")) (bytes_eq w (codes "free"))
+    (bytes_eq w (codes "printf"))
   where
     result_of : (h : Signature) (m : Evaluation Value) → Gives (IsValueOf h.result) NoJump m → Some h ≡ Some g → Gives (IsValueOf g.result) NoJump m
     result_of h m gives e = let same : h ≡ g = cc in subst (λ (f : Signature). Gives (IsValueOf f.result) NoJump m) same gives
 
-    by : (a b c d e f : Bool) → (if a then Some (of_library x (int_type ∷ []) int_type) else (if b then Some (of_library x [] int_type) else (if c then Some (of_library x (int_type ∷ []) Void)
-        else (if d then Some (of_library x (Int U64 ∷ []) (Ptr Void)) else (if e then Some (of_library x (Int U64 ∷ Int U64 ∷ []) (Ptr Void)) else (if f then Some (of_library x (Ptr Void ∷ []) Void) else None)))))) ≡ Some g
+    by : (a b c d e f h : Bool) → (if a then Some (of_library x (int_type ∷ []) int_type) else (if b then Some (of_library x [] int_type) else (if c then Some (of_library x (int_type ∷ []) Void)
+        else (if d then Some (of_library x (Int U64 ∷ []) (Ptr Void)) else (if e then Some (of_library x (Int U64 ∷ Int U64 ∷ []) (Ptr Void)) else (if f then Some (of_library x (Ptr Void ∷ []) Void)
+        else (if h then Some (of_library x (Ptr (Int I8) ∷ []) Void) else None))))))) ≡ Some g
         → Gives (IsValueOf g.result) NoJump (if a then put_char at vs else (if b then get_char at vs else (if c then exit_with at vs else
-        (if d then malloc_with at vs else (if e then calloc_with at vs else (if f then free_with at vs else stop (Over (Undefined at))))))))
-    by true b c d e f h = result_of _ _ (gives_put_char at vs) h
-    by false true c d e f h = result_of _ _ (gives_get_char at vs) h
-    by false false true d e f h = result_of _ _ (gives_values (IsValueOf Void) _ (gives_exit at vs) (λ v _. tt)) h
-    by false false false true e f h = result_of _ _ (gives_malloc at vs) h
-    by false false false false true f h = result_of _ _ (gives_calloc at vs) h
-    by false false false false false true h = result_of _ _ (gives_free at vs) h
-    by false false false false false false h = absurd cc
+        (if d then malloc_with at vs else (if e then calloc_with at vs else (if f then free_with at vs else (if h then printf_with T at vs else stop (Over (Undefined at)))))))))
+    by true b c d e f h is = result_of _ _ (gives_put_char at vs) is
+    by false true c d e f h is = result_of _ _ (gives_get_char at vs) is
+    by false false true d e f h is = result_of _ _ (gives_values (IsValueOf Void) _ (gives_exit at vs) (λ v _. tt)) is
+    by false false false true e f h is = result_of _ _ (gives_malloc at vs) is
+    by false false false false true f h is = result_of _ _ (gives_calloc at vs) is
+    by false false false false false true h is = result_of _ _ (gives_free at vs) is
+    by false false false false false false true is = result_of _ _ (gives_printf T at vs) is
+    by false false false false false false false is = absurd cc

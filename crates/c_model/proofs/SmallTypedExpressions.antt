@@ -24,6 +24,8 @@ use Rattle.c_model.specs.ExpressionTyping.{is_scalar, is_void, pointed, is_place
 use Rattle.c_model.specs.ExpressionTyping.{choice_type, pointer_choice, choice_of, is_struct, is_step, is_equality, is_difference, where_elements, on_pointers, on_pointer_and_integer, on_integer_and_pointer, binary}
 use Rattle.c_model.specs.ExpressionTyping.{is_null, are_compatible, points_to_void, knows_elements, operated, operated_in_place, element}
 use Rattle.c_model.specs.ExpressionTyping.{is_assigned, assigned_struct, assigned_scalar, compounded, assign, bump, is_cast, cast, index, member, dot, arrow, size_of_type, size_of_expression}
+use Rattle.c_model.specs.Formats.{Piece, Bytes, Number as NumberPiece, Character, String, types_of}
+use Rattle.c_model.specs.ExpressionTyping.{callee_for, with_directives, is_printf, format_of, format_params, is_passed}
 use Rattle.c_model.specs.ExpressionTyping.{or_else, no_function, callee, first_type, rest_types, argument_for, argument_count, call, params_of, two, typed, typed_arguments, typed_type, known_type, limited}
 use Rattle.c_model.specs.SmallTypes.{TypesSmall, AllTypesSmall}
 use Rattle.c_model.proofs.TypedParts.{Gives, gives_one, gives_both, gives_given, gives_where, gives_sized, gives_elements, pointed_is}
@@ -115,7 +117,7 @@ module _ (new : List StructType)
         by false next i = next i
 
     library_small : (x : ℕ) (w : List ℕ) (f : Signature) → library_function x w ≡ Some f → SmallSignature f
-    library_small x w f i = each_of_library SmallSignature f x w (refl, (refl, tt)) (refl, tt) (refl, (refl, tt)) (refl, (refl, tt)) (refl, (refl, (refl, tt))) (refl, (refl, tt)) i
+    library_small x w f i = each_of_library SmallSignature f x w (refl, (refl, tt)) (refl, tt) (refl, (refl, tt)) (refl, (refl, tt)) (refl, (refl, (refl, tt))) (refl, (refl, tt)) (refl, (refl, tt)) i
 
     text_small : (offset k : ℕ) (ls : List StringLiteral) → AreSmallTexts ls → (l : ℕ × List ℕ) → literal_at offset k ls ≡ Some l → Small new (Array (Int I8) (Count (length l.1 + 1)))
     text_small offset k [] h l i = absurd cc
@@ -388,9 +390,28 @@ module _ (new : List StructType)
             by (Some b) = tt
             by None = by_function (or_else (function_called x s.functions) (library_function x (name_at s.names x))) refl
 
-        argument_small : (ts : List PlainType) → AllSmall ts → (e : Expression) → AreTypesSmall e → Gives AreTypesSmall (argument_for s (first_type ts) e)
-        argument_small [] k e h = h
-        argument_small (t ∷ ts) k e h = gives_where AreTypesSmall (is_assigned s e t) _ _ (λ c. in_type_small t e k.0 h)
+        directives_small : (ps : List Piece) → AllSmall (types_of ps)
+        directives_small [] = tt
+        directives_small (Bytes bs ∷ ps) = directives_small ps
+        directives_small (NumberPiece k ∷ ps) = (refl, directives_small ps)
+        directives_small (Character ∷ ps) = (refl, directives_small ps)
+        directives_small (String ∷ ps) = (refl, directives_small ps)
+
+        format_small : (o : Option (List Piece)) → AllSmall (format_params o)
+        format_small None = (refl, tt)
+        format_small (Some ps) = (refl, directives_small ps)
+
+        callee_for_small : (at : Place) (x : ℕ) (es : Expressions) → Gives SmallSignature (callee_for s at x es)
+        callee_for_small at x es =
+            gives_one SmallSignature SmallSignature (callee s at x) (λ f. Good (with_directives s es f)) (callee_small at x) (λ f k. (k.0, by (is_printf s f.name) f.params k.1))
+          where
+            by : (b : Bool) (ts : List PlainType) → AllSmall ts → AllSmall (cond b (format_params (format_of s es)) ts)
+            by true ts k = format_small (format_of s es)
+            by false ts k = k
+
+        argument_small : (printed : Bool) (ts : List PlainType) → AllSmall ts → (e : Expression) → AreTypesSmall e → Gives AreTypesSmall (argument_for s printed (first_type ts) e)
+        argument_small printed [] k e h = h
+        argument_small printed (t ∷ ts) k e h = gives_where AreTypesSmall (is_passed s printed e t) _ _ (λ c. in_type_small t e k.0 h)
 
         rest_small : (ts : List PlainType) → AllSmall ts → AllSmall (rest_types ts)
         rest_small [] k = tt
@@ -432,8 +453,10 @@ module _ (new : List StructType)
               typed_small (Node at t (Assign op a b)) = gives_both AreTypesSmall AreTypesSmall AreTypesSmall (typed s a) (decayed_of (typed s b)) (assign s at op)
                   (typed_small a) (value_of (typed s b) (typed_small b)) (λ x y v w. assigned_small at x y v w op)
               typed_small (Node at t (Bump op a)) = gives_one AreTypesSmall AreTypesSmall (typed s a) (bump s at op) (typed_small a) (λ x v. bump_small at op x v)
-              typed_small (Node at t (Call f es)) = gives_both SmallSignature (AllTypesSmall new) AreTypesSmall (callee s at f.name) (typed_arguments s (params_of (callee s at f.name)) es) (call at)
-                  (callee_small at f.name) (arguments_small (params_of (callee s at f.name)) (parameters_of_small (callee s at f.name) (callee_small at f.name)) es)
+              typed_small (Node at t (Call f es)) =
+                  let c = callee_for s at f.name es in
+                  gives_both SmallSignature (AllTypesSmall new) AreTypesSmall c (typed_arguments s (is_printf s f.name) (params_of c) es) (call at)
+                  (callee_for_small at f.name es) (arguments_small (is_printf s f.name) (params_of c) (parameters_of_small c (callee_for_small at f.name es)) es)
                   (λ h fs k l. call_small at h fs k l)
               typed_small (Node at t (Cast to a)) = limited_small_both new all s g AreTypesSmall AreTypesSmall at (known_type s to) (typed_type s at to) (decayed_of (typed s a)) (cast s at)
                   (type_is_known s at to) (typed_firm s i.types at to)
@@ -449,13 +472,13 @@ module _ (new : List StructType)
               typed_small (Node at t (Comma a b)) = gives_both AreTypesSmall AreTypesSmall AreTypesSmall (typed s a) (decayed_of (typed s b)) (λ a b. Good (Node at (type_of b) (Comma a b)))
                   (typed_small a) (value_of (typed s b) (typed_small b)) (λ x y v w. (type_small y w, (v, w)))
 
-              arguments_small : (ts : List PlainType) → AllSmall ts → (es : Expressions) → Gives (AllTypesSmall new) (typed_arguments s ts es)
-              arguments_small ts k NoExpression = tt
-              arguments_small ts k (Following e es) =
-                  gives_both AreTypesSmall (AllTypesSmall new) (AllTypesSmall new) (one_part (decayed_of (typed s e)) (argument_for s (first_type ts))) (typed_arguments s (rest_types ts) es)
+              arguments_small : (printed : Bool) (ts : List PlainType) → AllSmall ts → (es : Expressions) → Gives (AllTypesSmall new) (typed_arguments s printed ts es)
+              arguments_small printed ts k NoExpression = tt
+              arguments_small printed ts k (Following e es) =
+                  gives_both AreTypesSmall (AllTypesSmall new) (AllTypesSmall new) (one_part (decayed_of (typed s e)) (argument_for s printed (first_type ts))) (typed_arguments s printed (rest_types ts) es)
                   (λ e es. Good (Following e es))
-                  (gives_one AreTypesSmall AreTypesSmall (decayed_of (typed s e)) (argument_for s (first_type ts)) (value_of (typed s e) (typed_small e)) (λ x v. argument_small ts k x v))
-                  (arguments_small (rest_types ts) (rest_small ts k) es)
+                  (gives_one AreTypesSmall AreTypesSmall (decayed_of (typed s e)) (argument_for s printed (first_type ts)) (value_of (typed s e) (typed_small e)) (λ x v. argument_small printed ts k x v))
+                  (arguments_small printed (rest_types ts) (rest_small ts k) es)
                   (λ x xs v w. (v, w))
 
             pub value_small : (e : Expression) → Gives AreTypesSmall (decayed_of (typed s e))

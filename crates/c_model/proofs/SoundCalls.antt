@@ -9,17 +9,21 @@ use Rattle.c_syntax.specs.Programs.{FunctionContract, Function, TranslationUnit}
 use Rattle.c_syntax.specs.declared.types.CInt.TheVariants.{U64}
 use Rattle.c_syntax.specs.Layouts.{Scalar, scalar_of}
 use Rattle.c_model.specs.Integers.{bits_of, byte_of}
-use Rattle.c_model.specs.Memory.{Null, Into, Value, Integer, Points, NoValue, Byte, Store, standard_sizes}
+use Rattle.c_model.specs.Memory.{Pointer, Null, Into, Value, Integer, Points, NoValue, Byte, Store, standard_sizes}
 use Rattle.c_model.specs.Memory.{Unwritten, Number as NumberByte, Room, At, NoRoom, heap_room, heap_block, freed}
-use Rattle.c_model.specs.State.{InputTail, EndOfInput, InputFault, ReadFault, Exits, print, read_byte, State, Breaks, Continues, Returns, Leaves, Over, Stuck, Undefined, Spent, Full, Outcome, Normal, Stop, Evaluation}
-use Rattle.c_model.specs.State.{◌>>=◌, ◌>>◌, give, stop, as_scalar, step, changed, birth, births}
+use Rattle.c_model.specs.State.{InputTail, EndOfInput, InputFault, ReadFault, Exits, print, print_all, read_byte, State, Breaks, Continues, Returns, Leaves, Over, Stuck, Undefined, Spent, Full, Outcome, Normal, Stop, Evaluation}
+use Rattle.c_model.specs.State.{◌>>=◌, ◌>>◌, give, stop, defined, as_scalar, step, changed, birth, births}
 use Rattle.c_model.specs.State.{heap_birth, allocate}
+use Rattle.c_model.specs.Strings.{string_at}
+use Rattle.c_model.specs.Formats.{Piece, Bytes, Number as NumberPiece, Character, String, pieces_of}
+use Rattle.c_model.specs.Printing.{at_end_of_string, print_string, print_pieces}
+use Rattle.std.specs.Fmt.{signed_decimal}
 use Rattle.c_model.specs.State.{write_youngest, alone, frame, mark, called}
 use Rattle.c_model.specs.ContractChecks.{entry, ending}
 use Rattle.c_model.specs.Meaning.{Tables, Callee, is_of_library}
 use Rattle.c_model.specs.Meaning.{fill, initialise_all}
 use Rattle.c_model.specs.Meaning.{parameters, body_with, put_char, get_char, exit_with, malloc_with}
-use Rattle.c_model.specs.Meaning.{calloc_with, free_with, library_call, at_close, returned_by, call_with, after_main}
+use Rattle.c_model.specs.Meaning.{calloc_with, free_with, text_at_pointer, printf_with, library_call, at_close, returned_by, call_with, after_main}
 use Rattle.c_model.specs.Meaning.{call_of, tables_of, global_scope}
 use Rattle.c_model.specs.Meaning.{definition_at, main_with, function_named}
 use Rattle.std.proofs.Common.{◌^◌, nat_le, subst}
@@ -39,7 +43,7 @@ use Rattle.c_model.proofs.SoundStores.{value_onward, filled_born, IsPlain, sound
 use Rattle.c_model.proofs.SoundRuns.{vals_onward, after_bind, after_give, after_over, after_cond, after_changed, after_write, after_scalar, after_stuck}
 use Rattle.c_model.specs.Memory.{standard_sizes}
 use Rattle.c_model.specs.TypedTrees.{WhereAny}
-use Rattle.c_model.proofs.SoundSteps.{Keeps, keeps_bind, keeps_then, keeps_step, keeps_entry, keeps_ending, keeps_alone, keeps_mark, keeps_frame, keeps_birth, keeps_births}
+use Rattle.c_model.proofs.SoundSteps.{Keeps, keeps_bind, keeps_then, keeps_done, keeps_step, keeps_entry, keeps_ending, keeps_alone, keeps_mark, keeps_frame, keeps_birth, keeps_births}
 use Rattle.c_model.specs.Memory.{Room}
 use Rattle.c_model.specs.Meaning.{result_with, is_definition}
 use Rattle.c_model.proofs.SoundSteps.{answered_after, answered_any}
@@ -139,15 +143,49 @@ keeps_if : {source : TranslationUnit} {A : Type 0} (P : A → State → Type 0) 
 keeps_if P true a b f g = f
 keeps_if P false a b f g = g
 
-keeps_library : {source : TranslationUnit} (at : Place) (name : Option (List ℕ)) (vs : List Value) → Keeps source Placed (library_call at name vs)
-keeps_library at None vs = keeps_undefined Placed at
-keeps_library at (Some name) vs =
+keeps_print : {source : TranslationUnit} (b : ℕ) → Keeps source Any (print b)
+keeps_print b s st = record { stay = stay_same s.store; sound = record { now = st.now; past = st.past }; gives = tt }
+
+keeps_print_all : {source : TranslationUnit} (bytes : List ℕ) → Keeps source Any (print_all bytes)
+keeps_print_all [] = keeps_done
+keeps_print_all (b ∷ bs) = keeps_then Any Any (print b) (print_all bs) (keeps_print b) (keeps_print_all bs)
+
+keeps_end_of_string : {source : TranslationUnit} (at : Place) (ends : Bool) → Keeps source Any (at_end_of_string at ends)
+keeps_end_of_string at true = keeps_done
+keeps_end_of_string at false = keeps_undefined Any at
+
+keeps_string : {source : TranslationUnit} (at : Place) (p : Pointer) → Keeps source Any (print_string at p)
+keeps_string at p s =
+    let string = string_at s.store p in keeps_then Any Any (print_all string.0) (at_end_of_string at string.1) (keeps_print_all string.0) (keeps_end_of_string at string.1) s
+
+keeps_pieces : {source : TranslationUnit} (at : Place) (ps : List Piece) (vs : List Value) → Keeps source Placed (print_pieces at ps vs)
+keeps_pieces at [] vs = λ s st. after_give Placed s NoValue st tt
+keeps_pieces at (Bytes bs ∷ ps) vs = keeps_then Any Placed (print_all bs) (print_pieces at ps vs) (keeps_print_all bs) (keeps_pieces at ps vs)
+keeps_pieces at (NumberPiece k ∷ ps) (Integer z ∷ vs) = keeps_then Any Placed (print_all (signed_decimal z)) (print_pieces at ps vs) (keeps_print_all (signed_decimal z)) (keeps_pieces at ps vs)
+keeps_pieces at (Character ∷ ps) (Integer z ∷ vs) = keeps_then Any Placed (print (byte_of z)) (print_pieces at ps vs) (keeps_print (byte_of z)) (keeps_pieces at ps vs)
+keeps_pieces at (String ∷ ps) (Points p ∷ vs) = keeps_then Any Placed (print_string at p) (print_pieces at ps vs) (keeps_string at p) (keeps_pieces at ps vs)
+keeps_pieces at (piece ∷ ps) _ = keeps_undefined Placed at
+
+keeps_defined : {source : TranslationUnit} {A : Type 0} (at : Place) (o : Option A) → Keeps source Any (defined at o)
+keeps_defined at None = keeps_undefined Any at
+keeps_defined at (Some a) = λ s st. after_give Any s a st tt
+
+keeps_printf : {source : TranslationUnit} (T : Tables) (at : Place) (vs : List Value) → Keeps source Placed (printf_with T at vs)
+keeps_printf T at (Points p ∷ vs) =
+    keeps_bind Any Placed (defined at (text_at_pointer T p)) _ (keeps_defined at (text_at_pointer T p)) (λ bytes t st u.
+    keeps_bind Any Placed (defined at (pieces_of bytes)) (λ ps. print_pieces at ps vs) (keeps_defined at (pieces_of bytes)) (λ ps t st u. keeps_pieces at ps vs t st) t st)
+keeps_printf T at _ = keeps_undefined Placed at
+
+keeps_library : {source : TranslationUnit} (T : Tables) (at : Place) (name : Option (List ℕ)) (vs : List Value) → Keeps source Placed (library_call T at name vs)
+keeps_library T at None vs = keeps_undefined Placed at
+keeps_library T at (Some name) vs =
     keeps_if Placed (bytes_eq name (codes "putchar")) _ _ (keeps_put_char at vs)
     (keeps_if Placed (bytes_eq name (codes "getchar")) _ _ (keeps_get_char at vs)
     (keeps_if Placed (bytes_eq name (codes "exit")) _ _ (keeps_exit at vs)
     (keeps_if Placed (bytes_eq name (codes "malloc")) _ _ (keeps_malloc at vs)
     (keeps_if Placed (bytes_eq name (codes "calloc")) _ _ (keeps_calloc at vs)
-    (keeps_if Placed (bytes_eq name (codes "free")) _ _ (keeps_free at vs) (keeps_undefined Placed at))))))
+    (keeps_if Placed (bytes_eq name (codes "free")) _ _ (keeps_free at vs)
+    (keeps_if Placed (bytes_eq name (codes "printf")) _ _ (keeps_printf T at vs) (keeps_undefined Placed at)))))))
 
 -- ---- calls
 
@@ -279,10 +317,10 @@ after_if P s true m n h k = h
 after_if P s false m n h k = k
 
 pub calls_keep_sound : (p : TranslationUnit) → IsDirect p → (n : ℕ) → CallsKeepSound p (call_of p n)
-calls_keep_sound p d zero at f vs s st g = keeps_if Placed (is_of_library f) _ _ (keeps_library at (slice_get p.names f.name) vs) (keeps_over Placed Spent) s st
+calls_keep_sound p d zero at f vs s st g = keeps_if Placed (is_of_library f) _ _ (keeps_library (tables_of p) at (slice_get p.names f.name) vs) (keeps_over Placed Spent) s st
 calls_keep_sound p d (suc n) at f vs s st g =
-    after_if Placed s (is_of_library f) (library_call at (slice_get p.names f.name) vs) (call_with (tables_of p) (global_scope p) (definition_at f.decl p.funcs) (call_of p n) n at vs)
-    (keeps_library at (slice_get p.names f.name) vs s st)
+    after_if Placed s (is_of_library f) (library_call (tables_of p) at (slice_get p.names f.name) vs) (call_with (tables_of p) (global_scope p) (definition_at f.decl p.funcs) (call_of p n) n at vs)
+    (keeps_library (tables_of p) at (slice_get p.names f.name) vs s st)
     (after_call_with (call_of p n) (calls_keep_sound p d n) d.octets (definition_at f.decl p.funcs) n at vs (own_at p f.decl p.funcs d.bodies (in_functions p)) s st g)
 
 -- ---- whole runs

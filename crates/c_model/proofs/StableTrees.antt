@@ -99,6 +99,8 @@ module _ (s : Sight) (new : List StructType) (levels tags enums : List ℕ) (g :
       not_main = h.not_main;
       decl = h.decl;
       result = h.result;
+      params = h.params;
+      asked = h.asked;
       arguments = h.arguments;
     }
 

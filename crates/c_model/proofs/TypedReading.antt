@@ -21,6 +21,7 @@ use Rattle.c_model.specs.ExpressionTyping.{is_scalar, is_void, pointed, is_place
 use Rattle.c_model.specs.ExpressionTyping.{choice_type, choice_of, is_struct, is_step, is_equality, is_difference, where_elements, on_pointers, on_pointer_and_integer, on_integer_and_pointer, knows_elements, operated, is_null, are_compatible}
 use Rattle.c_model.specs.ExpressionTyping.{binary, operated_in_place, element}
 use Rattle.c_model.specs.ExpressionTyping.{is_assigned, assigned_struct, assigned_scalar, compounded, assign, bump, is_cast, cast, index, member, dot, arrow, size_of_type, size_of_expression}
+use Rattle.c_model.specs.ExpressionTyping.{callee_for, with_directives, is_printf, is_passed}
 use Rattle.c_model.specs.ExpressionTyping.{or_else, no_function, callee, first_type, rest_types, argument_for, argument_count, call, params_of, two, typed, typed_arguments, typed_type, known_type, limited}
 use Rattle.c_model.specs.TypedTrees.{TypingLaws, AsUse, AsNumber, TypedAs, KindTypedAs, AllTypedAs}
 use Rattle.c_model.proofs.TypedSoundness.{called_name, named_of_library, gives_limited, typed_well}
@@ -271,9 +272,12 @@ module _ (s : Sight)
         by (Some b) = tt
         by None = by_function (or_else (function_called x s.functions) (library_function x (name_at s.names x))) refl
 
-    argument_as : (r : Expression) (ts : List PlainType) (e : Expression) → TypedAs r e → Gives (TypedAs r) (argument_for s (first_type ts) e)
-    argument_as r [] e h = h
-    argument_as r (t ∷ ts) e h = gives_where (TypedAs r) (is_assigned s e t) _ _ (λ c. in_type_as r e t h)
+    callee_for_named : (at : Place) (x : ℕ) (es : Expressions) → Gives (λ g. x ≡ g.name) (callee_for s at x es)
+    callee_for_named at x es = gives_one (λ (g : Signature). x ≡ g.name) (λ (g : Signature). x ≡ g.name) (callee s at x) (λ f. Good (with_directives s es f)) (callee_named at x) (λ f e. e)
+
+    argument_as : (r : Expression) (printed : Bool) (ts : List PlainType) (e : Expression) → TypedAs r e → Gives (TypedAs r) (argument_for s printed (first_type ts) e)
+    argument_as r printed [] e h = h
+    argument_as r printed (t ∷ ts) e h = gives_where (TypedAs r) (is_passed s printed e t) _ _ (λ c. in_type_as r e t h)
 
     call_as : (at : Place) (u : PlainType) (f : Use) (g : Signature) (es fs : Expressions) → f.name ≡ g.name → AllTypedAs es fs → Gives (TypedAs (Node at u (Call f es))) (call at g fs)
     call_as at u f g es fs e h = gives_where _ (nat_eq (argument_count fs) (length g.params)) _ _ (λ t.
@@ -311,8 +315,9 @@ module _ (s : Sight)
           (typed_as a) (value_as b (typed s b) (typed_as b)) (λ x y v w. assign_as s at t a b x y v w op)
       typed_as (Node at t (Bump op a)) = gives_one (TypedAs a) (TypedAs (Node at t (Bump op a))) (typed s a) (bump s at op) (typed_as a) (λ x v. bump_as s at t a a x x v v op)
       typed_as (Node at t (Call f es)) =
-          gives_both (λ g. f.name ≡ g.name) (AllTypedAs es) (TypedAs (Node at t (Call f es))) (callee s at f.name) (typed_arguments s (params_of (callee s at f.name)) es) (call at)
-          (callee_named at f.name) (arguments_as (params_of (callee s at f.name)) es) (λ g fs e h. call_as at t f g es fs e h)
+          let c = callee_for s at f.name es in
+          gives_both (λ g. f.name ≡ g.name) (AllTypedAs es) (TypedAs (Node at t (Call f es))) c (typed_arguments s (is_printf s f.name) (params_of c) es) (call at)
+          (callee_for_named at f.name es) (arguments_as (is_printf s f.name) (params_of c) es) (λ g fs e h. call_as at t f g es fs e h)
       typed_as (Node at t (Cast to a)) = limited_as (TypedAs (Node at t (Cast to a))) at (known_type s to) (both_parts (typed_type s at to) (decayed_of (typed s a)) (cast s at))
           (gives_both (λ u. Unit {0}) (TypedAs a) (TypedAs (Node at t (Cast to a))) (typed_type s at to) (decayed_of (typed s a)) (cast s at) (anything (typed_type s at to))
           (value_as a (typed s a) (typed_as a)) (λ u x i v. cast_to_as s at t a x v to u))
@@ -328,13 +333,13 @@ module _ (s : Sight)
       typed_as (Node at t (Comma a b)) = gives_both (TypedAs a) (TypedAs b) (TypedAs (Node at t (Comma a b))) (typed s a) (decayed_of (typed s b)) (λ a b. Good (Node at (type_of b) (Comma a b)))
           (typed_as a) (value_as b (typed s b) (typed_as b)) (λ x y v w. form_as at t (type_of y) (Comma a b) (Comma x y) (x, y, refl, v, w))
 
-      arguments_as : (ts : List PlainType) (es : Expressions) → Gives (AllTypedAs es) (typed_arguments s ts es)
-      arguments_as ts NoExpression = refl
-      arguments_as ts (Following e es) =
-          gives_both (TypedAs e) (AllTypedAs es) (AllTypedAs (Following e es)) (one_part (decayed_of (typed s e)) (argument_for s (first_type ts))) (typed_arguments s (rest_types ts) es)
-          (λ e es. Good (Following e es))
-          (gives_one (TypedAs e) (TypedAs e) (decayed_of (typed s e)) (argument_for s (first_type ts)) (value_as e (typed s e) (typed_as e)) (λ x v. argument_as e ts x v))
-          (arguments_as (rest_types ts) es)
+      arguments_as : (printed : Bool) (ts : List PlainType) (es : Expressions) → Gives (AllTypedAs es) (typed_arguments s printed ts es)
+      arguments_as printed ts NoExpression = refl
+      arguments_as printed ts (Following e es) =
+          gives_both (TypedAs e) (AllTypedAs es) (AllTypedAs (Following e es)) (one_part (decayed_of (typed s e)) (argument_for s printed (first_type ts)))
+          (typed_arguments s printed (rest_types ts) es) (λ e es. Good (Following e es))
+          (gives_one (TypedAs e) (TypedAs e) (decayed_of (typed s e)) (argument_for s printed (first_type ts)) (value_as e (typed s e) (typed_as e)) (λ x v. argument_as e printed ts x v))
+          (arguments_as printed (rest_types ts) es)
           (λ x xs v w. (x, xs, refl, v, w))
 
 -- the laws of typing

@@ -37,7 +37,7 @@ use Rattle.c_model.specs.ExpressionTyping.{no_name, no_type, Sight, Entity, AnOb
 use Rattle.c_model.specs.ExpressionTyping.{use_as, literal_at, same_type, is_void, is_scalar, pointed, is_struct, where_sized}
 use Rattle.c_model.specs.ExpressionTyping.{decayed, in_type, in_int, is_place, is_null, are_compatible, is_assigned, literal, text, is_null_word, library_name, typed_name, unary_on, on_integers, is_step, is_equality, is_difference}
 use Rattle.c_model.specs.ExpressionTyping.{where_elements, on_pointers, on_pointer_and_integer, on_integer_and_pointer, binary, both_of, either_of, choice_type, choice_of, assigned_scalar, assigned_struct, assigned, compounded}
-use Rattle.c_model.specs.ExpressionTyping.{assign, bump, is_cast, cast, index, member, dot, arrow, size_of_type, size_of_expression, callee, first_type, rest_types, argument_for, argument_count, call, params_of}
+use Rattle.c_model.specs.ExpressionTyping.{assign, bump, is_cast, cast, index, member, dot, arrow, size_of_type, size_of_expression, callee_for, is_printf, is_passed, first_type, rest_types, argument_for, argument_count, call, params_of}
 use Rattle.c_model.specs.ExpressionTyping.{two, decayed_of, typed, typed_arguments, typed_type, known_type, limited, knows_elements, operated, operated_in_place, element}
 use Rattle.c_model.specs.Sizes.{weight_of, weight_of_all, forms_of, forms_of_all, IsSmall}
 use Rattle.c_model.proofs.TypedParts.{Gives, gives_one, gives_both, gives_given, gives_where, gives_sized, gives_elements}
@@ -443,9 +443,9 @@ comma_light at n m a b h v =
 
 -- ---- calls
 
-argument_light : (s : Sight) (o : Option PlainType) (n : ℕ) (e : Expression) → IsLightValue n e → Gives (IsLightOperand n) (argument_for s o e)
-argument_light s None n e h = let f = h.few in let w = h.light in record { few = f; light = omega (arith, w) }
-argument_light s (Some t) n e h = gives_if (IsLightOperand n) (is_assigned s e t) (no_type (place_of e)) (Good (in_type t e)) (operand_light n t e h)
+argument_light : (s : Sight) (printed : Bool) (o : Option PlainType) (n : ℕ) (e : Expression) → IsLightValue n e → Gives (IsLightOperand n) (argument_for s printed o e)
+argument_light s printed None n e h = let f = h.few in let w = h.light in record { few = f; light = omega (arith, w) }
+argument_light s printed (Some t) n e h = gives_if (IsLightOperand n) (is_passed s printed e t) (no_type (place_of e)) (Good (in_type t e)) (operand_light n t e h)
 
 call_light : (at : Place) (f : Signature) (n : ℕ) (es : Expressions) → AreLight n es → Gives (IsLight (suc n)) (call at f es)
 call_light at f n es h =
@@ -485,9 +485,9 @@ mutual
       (λ x y h v. assign_light s at op (nodes_of a) (nodes_of b) x y h v)
   typed_light s (Node at t (Bump op a)) = gives_one (IsLight (nodes_of a)) (IsLight (suc (nodes_of a))) (typed s a) (bump s at op) (typed_light s a) (λ x h. bump_light s at op (nodes_of a) x h)
   typed_light s (Node at t (Call f es)) =
-      let ts = params_of (callee s at f.name) in
-      gives_both (λ g. Unit {0}) (AreLight (nodes_of_all es)) (IsLight (suc (nodes_of_all es))) (callee s at f.name) (typed_arguments s ts es) (call at) (anything (callee s at f.name)) (arguments_light s ts es)
-      (λ g xs u h. call_light at g (nodes_of_all es) xs h)
+      let c = callee_for s at f.name es in
+      gives_both (λ g. Unit {0}) (AreLight (nodes_of_all es)) (IsLight (suc (nodes_of_all es))) c (typed_arguments s (is_printf s f.name) (params_of c) es) (call at) (anything c)
+      (arguments_light s (is_printf s f.name) (params_of c) es) (λ g xs u h. call_light at g (nodes_of_all es) xs h)
   typed_light s (Node at t (Cast to a)) =
       gives_limited (IsLight (suc (nodes_of a))) s at (known_type s to) (both_parts (typed_type s at to) (decayed_of (typed s a)) (cast s at))
       (gives_both (λ u. Unit {0}) (IsLightValue (nodes_of a)) (IsLight (suc (nodes_of a))) (typed_type s at to) (decayed_of (typed s a)) (cast s at) (anything (typed_type s at to)) (value_of (nodes_of a) (typed s a) (typed_light s a))
@@ -508,13 +508,14 @@ mutual
       gives_both (IsLight (nodes_of a)) (IsLightValue (nodes_of b)) (IsLight (suc (nodes_of a + nodes_of b))) (typed s a) (decayed_of (typed s b)) (λ a b. Good (Node at (type_of b) (Comma a b))) (typed_light s a)
       (value_of (nodes_of b) (typed s b) (typed_light s b)) (λ x y h v. comma_light at (nodes_of a) (nodes_of b) x y h v)
 
-  arguments_light : (s : Sight) (ts : List PlainType) (es : Expressions) → Gives (AreLight (nodes_of_all es)) (typed_arguments s ts es)
-  arguments_light s ts NoExpression = record { few = omega arith; light = omega arith }
-  arguments_light s ts (Following e es) =
-      gives_both (IsLightOperand (nodes_of e)) (AreLight (nodes_of_all es)) (AreLight (nodes_of e + nodes_of_all es)) (one_part (decayed_of (typed s e)) (argument_for s (first_type ts))) (typed_arguments s (rest_types ts) es)
+  arguments_light : (s : Sight) (printed : Bool) (ts : List PlainType) (es : Expressions) → Gives (AreLight (nodes_of_all es)) (typed_arguments s printed ts es)
+  arguments_light s printed ts NoExpression = record { few = omega arith; light = omega arith }
+  arguments_light s printed ts (Following e es) =
+      gives_both (IsLightOperand (nodes_of e)) (AreLight (nodes_of_all es)) (AreLight (nodes_of e + nodes_of_all es)) (one_part (decayed_of (typed s e)) (argument_for s printed (first_type ts))) (typed_arguments s printed (rest_types ts) es)
       (λ e es. Good (Following e es))
-      (gives_one (IsLightValue (nodes_of e)) (IsLightOperand (nodes_of e)) (decayed_of (typed s e)) (argument_for s (first_type ts)) (value_of (nodes_of e) (typed s e) (typed_light s e)) (λ x h. argument_light s (first_type ts) (nodes_of e) x h))
-      (arguments_light s (rest_types ts) es) (λ x xs h v. let f = h.few in let g = v.few in let w = h.light in let z = v.light in record { few = omega (arith, f, g); light = omega (arith, w, z) })
+      (gives_one (IsLightValue (nodes_of e)) (IsLightOperand (nodes_of e)) (decayed_of (typed s e)) (argument_for s printed (first_type ts)) (value_of (nodes_of e) (typed s e) (typed_light s e))
+      (λ x h. argument_light s printed (first_type ts) (nodes_of e) x h))
+      (arguments_light s printed (rest_types ts) es) (λ x xs h v. let f = h.few in let g = v.few in let w = h.light in let z = v.light in record { few = omega (arith, f, g); light = omega (arith, w, z) })
 
 -- ---- full expressions
 

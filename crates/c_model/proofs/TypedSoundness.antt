@@ -1,5 +1,5 @@
 -- What typing makes of an expression is well typed.
-use Rattle.std.proofs.Common.{◌≡◌, ℕ, ℤ, suc, ◌+◌, refl, sym, ap, ◌∙◌, subst, List, [], ◌∷◌, length, Option, Some, None, Bool, true, false, cond, not, ◌&&◌, ◌||◌, if◌then◌else◌, nat_eq, nat_le, arith, slice_get, codes, bytes_eq}
+use Rattle.std.proofs.Common.{◌≡◌, ℕ, ℤ, suc, ◌+◌, refl, sym, ap, ◌∙◌, subst, List, [], ◌∷◌, length, Option, Some, None, Bool, true, false, cond, not, ◌&&◌, ◌||◌, if◌then◌else◌, nat_eq, nat_le, arith, slice_get, codes, bytes_eq, option_map}
 use Rattle.std.proofs.lemmas.Bool.Decides.{nat_tests}
 use Rattle.c_syntax.specs.declared.place.Place.{Place}
 use Rattle.c_syntax.specs.declared.types.CInt.{CInt}
@@ -11,14 +11,16 @@ use Rattle.c_syntax.specs.Layouts.{Scalar, scalar_of, size_of}
 use Rattle.c_model.specs.Integers.{fits, integer_type}
 use Rattle.c_model.specs.Conversions.{common}
 use Rattle.c_model.specs.Meaning.{is_pointer}
+use Rattle.c_model.specs.Formats.{Piece, pieces_of, types_of}
 use Rattle.c_model.specs.Library.{Constants, constants, constant_in, library_constant, is_there}
-use Rattle.c_model.specs.Checked.{Fault, Checked, Good, Bad, faulty, one_part, both_parts, where_so}
+use Rattle.c_model.specs.Checked.{Fault, Checked, Good, Bad, faulty, given, one_part, both_parts, where_so}
 use Rattle.c_model.specs.ExpressionTyping.{no_name, no_type, too_large, Sight, Entity, AnObject, AnEnumerator, Signature, name_at, or_else, entity_named, function_called}
 use Rattle.c_model.specs.ExpressionTyping.{of_library, library_function, use_as, literal_at, HasSize, sized, is_void, is_scalar, has_small_parts, levels_of, most_levels, most_bytes, is_within_limits}
-use Rattle.c_model.specs.ExpressionTyping.{besides, limited, decayed, is_null, points_to_void, are_compatible, is_assigned, text, is_null_word, library_name, typed_name, pointer_choice}
+use Rattle.c_model.specs.ExpressionTyping.{besides, limited, decayed, is_null, points_to_void, are_compatible, text, is_null_word, library_name, typed_name, pointer_choice}
+use Rattle.c_model.specs.ExpressionTyping.{callee_for, with_directives, is_printf, is_printed, is_passed, format_of, format_params}
 use Rattle.c_model.specs.ExpressionTyping.{choice_type, choice_of, no_function, callee, first_type, rest_types, argument_for, argument_count, call, params_of, two, decayed_of, typed}
 use Rattle.c_model.specs.ExpressionTyping.{typed_arguments, typed_type, known_type, unary_on, binary, both_of, either_of, assign, bump, cast, index, dot, arrow, size_of_type, size_of_expression}
-use Rattle.c_model.specs.TypedTrees.{IsPointer, IsResult, GivesNothing, GivesScalar, HasKnownSize, OfObject, OfNull, CastTypes, ToVoid, OfPointer, HaveTypes, WellTyped, AreWellTyped, IsSight}
+use Rattle.c_model.specs.TypedTrees.{IsPointer, IsResult, GivesNothing, GivesScalar, HasKnownSize, OfObject, OfNull, CastTypes, ToVoid, OfPointer, HaveTypes, literal_in, format_types, literal_types, WellTyped, AreWellTyped, IsSight}
 use Rattle.c_model.proofs.TypedParts.{Gives, gives_of, gives_one, gives_both, gives_given, gives_where, gives_self, gives_sized, and_true, scalar_is, pointer_is}
 use Rattle.c_model.proofs.TypedOperators.{is_aggregate, Sound, IsSoundValue, decayed_sound, in_type_well, in_type_type, int_cast, literal_sound, unary_sound}
 use Rattle.c_model.proofs.TypedExpressions.{null_casts, compatible_pointers, assigned_casts, binary_sound, both_sound, either_sound, index_sound, comma_sound, assign_sound, bump_sound}
@@ -140,7 +142,7 @@ pub record IsNamed (x : ℕ) (f : Signature) : Type 0 where
 pub named_of_library : (x : ℕ) (w : List ℕ) (f : Signature) → library_function x w ≡ Some f → IsNamed x f
 named_of_library x w f e =
     let flat_named : (params : List PlainType) (result : PlainType) → is_aggregate result ≡ false → IsNamed x (of_library x params result) = λ params result flat. record { name = refl; flat = flat } in
-    each_of_library (IsNamed x) f x w (flat_named _ _ refl) (flat_named _ _ refl) (flat_named _ _ refl) (flat_named _ _ refl) (flat_named _ _ refl) (flat_named _ _ refl) e
+    each_of_library (IsNamed x) f x w (flat_named _ _ refl) (flat_named _ _ refl) (flat_named _ _ refl) (flat_named _ _ refl) (flat_named _ _ refl) (flat_named _ _ refl) (flat_named _ _ refl) e
 
 scalar_result : (t : PlainType) (k : Scalar) → scalar_of t ≡ Some k → is_aggregate t ≡ false
 scalar_result (Int l) k e = refl
@@ -262,7 +264,8 @@ module _ (s : Sight) (known : IsSight s)
 
     -- ---- calls
 
-    record IsCallee (f : Signature) : Type 0 where
+    record IsCallee (x : ℕ) (f : Signature) : Type 0 where
+      named : x ≡ f.name
       found : or_else (function_called f.name s.functions) (library_function f.name (name_at s.names f.name)) ≡ Some f
       defined : f.defined ≡ true
       not_main : bytes_eq (name_at s.names f.name) (codes "main") ≡ false
@@ -280,27 +283,28 @@ module _ (s : Sight) (known : IsSight s)
     not_true true e = absurd cc
     not_true false e = refl
 
-    callee_is : (at : Place) (x : ℕ) → Gives IsCallee (callee s at x)
+    callee_is : (at : Place) (x : ℕ) → Gives (IsCallee x) (callee s at x)
     callee_is at x = by (entity_named x s.entities)
       where
-        unknown : (b : Bool) → Gives IsCallee (cond b (faulty (no_type at)) (faulty (no_name at)))
+        unknown : (b : Bool) → Gives (IsCallee x) (cond b (faulty (no_type at)) (faulty (no_name at)))
         unknown true = tt
         unknown false = tt
 
-        by_function : (o : Option Signature) → or_else (function_called x s.functions) (library_function x (name_at s.names x)) ≡ o → Gives IsCallee (elim o [
+        by_function : (o : Option Signature) → or_else (function_called x s.functions) (library_function x (name_at s.names x)) ≡ o → Gives (IsCallee x) (elim o [
           | None ↦ no_function s at x
           | Some f ↦ where_so f.defined (no_name at) (where_so (not (bytes_eq (name_at s.names x) (codes "main"))) (no_type at) (Good f))
         ])
         by_function None e = unknown (is_there (library_constant (name_at s.names x)) || is_null_word s x)
-        by_function (Some f) e = gives_where IsCallee f.defined _ _ (λ d. gives_where IsCallee (not (bytes_eq (name_at s.names x) (codes "main"))) _ _ (λ t.
+        by_function (Some f) e = gives_where (IsCallee x) f.defined _ _ (λ d. gives_where (IsCallee x) (not (bytes_eq (name_at s.names x) (codes "main"))) _ _ (λ t.
             let n = found_named x f e in record {
+              named = n.name;
               found = subst (λ y. or_else (function_called y s.functions) (library_function y (name_at s.names y)) ≡ Some f) n.name e;
               defined = d;
               not_main = subst (λ y. bytes_eq (name_at s.names y) (codes "main") ≡ false) n.name (not_true (bytes_eq (name_at s.names x) (codes "main")) t);
               flat = n.flat;
             }))
 
-        by : (o : Option Entity) → Gives IsCallee (elim o [
+        by : (o : Option Entity) → Gives (IsCallee x) (elim o [
           | Some b ↦ faulty (no_type at)
           | None ↦ elim (or_else (function_called x s.functions) (library_function x (name_at s.names x))) [
             | None ↦ no_function s at x
@@ -319,25 +323,118 @@ module _ (s : Sight) (known : IsSight s)
     none_argued [] = record { well = tt; types = λ e. tt }
     none_argued (t ∷ ts) = record { well = tt; types = λ e. absurd (omega (arith, e)) }
 
-    first_argued : (ts : List PlainType) (e : Expression) → WellTyped s e
-        → Gives (λ e. (es : Expressions) → IsArgued (rest_types ts) es → IsArgued ts (Following e es)) (argument_for s (first_type ts) e)
-    first_argued [] e w = λ es a. record { well = (w, a.well); types = λ n. absurd (omega (arith, n)) }
-    first_argued (t ∷ ts) e w =
-        gives_where (λ e. (es : Expressions) → IsArgued ts es → IsArgued (t ∷ ts) (Following e es)) (is_assigned s e t) _ _ (λ c es a.
-        record { well = (in_type_well s t e w (assigned_casts s known t e w c), a.well); types = λ n. (in_type_type t e, a.types (omega (arith, n))) })
+    printed_casts : (u t : PlainType) (e : Expression) → type_of e ≡ u → is_printed u t ≡ true → CastTypes s t e
+    printed_casts (Int k) (Int l) e is c = int_cast s l k e (ap integer_type is)
+    printed_casts (Ptr u) (Ptr t) e is c = OfPointer (pointer_is (Ptr t) refl) (pointer_is (type_of e) (ap is_pointer is))
+    printed_casts _ _ e is c = absurd cc
 
-    call_sound : (at : Place) (f : Signature) (es : Expressions) → IsCallee f → IsArgued f.params es → Gives (Sound s) (call at f es)
-    call_sound at f es c a = gives_where (Sound s) (nat_eq (argument_count es) (length f.params)) _ _ (λ t.
-        let n : argument_count es ≡ length f.params = grind (arith, nat_tests, t) in record {
-          well = (a.well, record { callee = f; found = c.found; defined = c.defined; not_main = c.not_main; decl = refl; result = refl; arguments = a.types n });
-          object = λ o. absurd (clash (is_aggregate f.result) o c.flat);
-        })
+    passed_casts : (printed : Bool) (t : PlainType) (e : Expression) → WellTyped s e → is_passed s printed e t ≡ true → CastTypes s t e
+    passed_casts true t e w c = printed_casts (type_of e) t e refl c
+    passed_casts false t e w c = assigned_casts s known t e w c
 
-    -- ---- expressions
+    first_argued : (printed : Bool) (ts : List PlainType) (e : Expression) → WellTyped s e
+        → Gives (λ e. (es : Expressions) → IsArgued (rest_types ts) es → IsArgued ts (Following e es)) (argument_for s printed (first_type ts) e)
+    first_argued printed [] e w = λ es a. record { well = (w, a.well); types = λ n. absurd (omega (arith, n)) }
+    first_argued printed (t ∷ ts) e w =
+        gives_where (λ e. (es : Expressions) → IsArgued ts es → IsArgued (t ∷ ts) (Following e es)) (is_passed s printed e t) _ _ (λ c es a.
+        record { well = (in_type_well s t e w (passed_casts printed t e w c), a.well); types = λ n. (in_type_type t e, a.types (omega (arith, n))) })
 
     anything : {A : Type 0} (c : Checked A) → Gives (λ u. Unit {0}) c
     anything (Good a) = tt
     anything (Bad f fs) = tt
+
+    -- ---- the format of printf
+
+    prints_no_void : (t : PlainType) → is_printed t Void ≡ false
+    prints_no_void (Int k) = refl
+    prints_no_void (Ptr t) = refl
+    prints_no_void _ = refl
+
+    void_takes_none : (c : Checked Expression) → Gives (λ e. ⊥) (one_part c (argument_for s true (Some Void)))
+    void_takes_none c =
+        gives_one (λ e. Unit {0}) (λ e. ⊥) c (argument_for s true (Some Void)) (anything c) (λ e u.
+        gives_where (λ e. ⊥) (is_printed (type_of e) Void) _ _ (λ h. absurd (clash (is_printed (type_of e) Void) h (prints_no_void (type_of e)))))
+
+    nothing_right : (R : Expressions → Type 0) (c : Checked Expression) (es : Expressions)
+        → Gives R (both_parts (one_part c (argument_for s true (Some Void))) (typed_arguments s true [] es) (λ e es. Good (Following e es)))
+    nothing_right R c es =
+        gives_both (λ e. ⊥) (λ es. Unit {0}) R (one_part c (argument_for s true (Some Void))) (typed_arguments s true [] es) (λ e es. Good (Following e es))
+        (void_takes_none c) (anything (typed_arguments s true [] es)) (λ e es b u. absurd b)
+
+    -- the arguments of printf have the types that the typed format asks for
+    abbrev Asks : Option (List Piece) → Expressions → Type 0
+    Asks o fs = argument_count fs ≡ length (format_params o) → literal_types s (literal_in fs) ≡ Some (format_params o)
+
+    literal_asks : (at : Place) (offset : ℕ) (ps : List Piece) (o : Option (ℕ × List ℕ)) → literal_at offset 0 s.texts ≡ o → (elim o [ None ↦ None | Some l ↦ pieces_of l.1 ]) ≡ Some ps
+        → Gives (λ e. (es : Expressions) → literal_types s (literal_in (Following e es)) ≡ Some (format_params (Some ps)))
+        (one_part (decayed_of (given o (no_type at) (λ l. Good (Node at (Array (Int I8) (Count (length l.1 + 1))) (Text l.0))))) (argument_for s true (Some (Ptr (Int I8)))))
+    literal_asks at offset ps None e f = tt
+    literal_asks at offset ps (Some l) e f = λ es.
+        let i = literal_is offset 0 s.texts l e in
+        let same : l.0 ≡ i.index = omega (arith, i.is) in
+        ap format_types (ap (slice_get s.texts) same ∙ i.found) ∙ ap (λ bytes. option_map (λ pieces. Ptr (Int I8) ∷ types_of pieces) (pieces_of bytes)) i.bytes
+        ∙ ap (option_map (λ pieces. Ptr (Int I8) ∷ types_of pieces)) f
+
+    printed_asks : (es : Expressions) → Gives (Asks (format_of s es)) (typed_arguments s true (format_params (format_of s es)) es)
+    printed_asks NoExpression = λ n. absurd (omega (arith, n))
+    printed_asks (Following (Node at t (Text offset)) es) = by (format_of s (Following (Node at t (Text offset)) es)) refl
+      where
+        by : (o : Option (List Piece)) → format_of s (Following (Node at t (Text offset)) es) ≡ o
+            → Gives (Asks o) (typed_arguments s true (format_params o) (Following (Node at t (Text offset)) es))
+        by None e = nothing_right (Asks None) (decayed_of (text s at offset)) es
+        by (Some ps) e =
+            gives_both (λ e. (es : Expressions) → literal_types s (literal_in (Following e es)) ≡ Some (format_params (Some ps))) (λ es. Unit {0}) (Asks (Some ps))
+            (one_part (decayed_of (text s at offset)) (argument_for s true (Some (Ptr (Int I8))))) (typed_arguments s true (types_of ps) es) (λ e es. Good (Following e es))
+            (literal_asks at offset ps (literal_at offset 0 s.texts) refl e) (anything (typed_arguments s true (types_of ps) es)) (λ e es h u n. h es)
+    printed_asks (Following e es) = nothing_right (Asks None) (decayed_of (typed s e)) es
+
+    are_asked : (b : Bool) (f : Signature) (es fs : Expressions) → typed_arguments s b (cond b (format_params (format_of s es)) f.params) es ≡ Good fs
+        → argument_count fs ≡ length (cond b (format_params (format_of s es)) f.params)
+        → cond b (literal_types s (literal_in fs)) (Some f.params) ≡ Some (cond b (format_params (format_of s es)) f.params)
+    are_asked true f es fs e n = gives_of (Asks (format_of s es)) (typed_arguments s true (format_params (format_of s es)) es) fs (printed_asks es) e n
+    are_asked false f es fs e n = refl
+
+    -- a callee as its call sees it
+    record IsCalleeFor (x : ℕ) (es : Expressions) (g : Signature) : Type 0 where
+      plain : Signature
+      is_callee : IsCallee x plain
+      is : g ≡ with_directives s es plain
+
+    callee_for_is : (at : Place) (x : ℕ) (es : Expressions) → Gives (IsCalleeFor x es) (callee_for s at x es)
+    callee_for_is at x es =
+        gives_one (IsCallee x) (IsCalleeFor x es) (callee s at x) (λ f. Good (with_directives s es f)) (callee_is at x) (λ f c. record { plain = f; is_callee = c; is = refl })
+
+    call_sound : (at : Place) (x : ℕ) (f : Signature) (es fs : Expressions) → IsCallee x f → IsArgued (with_directives s es f).params fs
+        → typed_arguments s (is_printf s f.name) (with_directives s es f).params es ≡ Good fs → Gives (Sound s) (call at (with_directives s es f) fs)
+    call_sound at x f es fs c a e = gives_where (Sound s) (nat_eq (argument_count fs) (length (with_directives s es f).params)) _ _ (λ t.
+        let n : argument_count fs ≡ length (with_directives s es f).params = grind (arith, nat_tests, t) in record {
+          well = (
+            a.well,
+            record {
+              callee = f;
+              found = c.found;
+              defined = c.defined;
+              not_main = c.not_main;
+              decl = refl;
+              result = refl;
+              params = (with_directives s es f).params;
+              asked = are_asked (is_printf s f.name) f es fs e n;
+              arguments = a.types n;
+            },
+          );
+          object = λ o. absurd (clash (is_aggregate f.result) o c.flat);
+        })
+
+    called_sound : (at : Place) (x : ℕ) (es : Expressions) (c : Checked Signature) (g : Signature) (fs : Expressions) → IsCalleeFor x es g × (c ≡ Good g)
+        → IsArgued (params_of c) fs × (typed_arguments s (is_printf s x) (params_of c) es ≡ Good fs) → Gives (Sound s) (call at g fs)
+    called_sound at x es c g fs k a =
+        let i = k.0 in
+        let same : c ≡ Good (with_directives s es i.plain) = k.1 ∙ ap Good i.is in
+        subst (λ h. Gives (Sound s) (call at h fs)) (sym i.is) (call_sound at x i.plain es fs i.is_callee (subst (λ d. IsArgued (params_of d) fs) same a.0)
+        (subst (λ y. typed_arguments s (is_printf s y) (with_directives s es i.plain).params es ≡ Good fs) i.is_callee.named
+        (subst (λ d. typed_arguments s (is_printf s x) (params_of d) es ≡ Good fs) same a.1)))
+
+    -- ---- expressions
 
     abbrev IsTwo : Expression × Expression → Type 0
     IsTwo p = Sound s p.0 × Sound s p.1
@@ -368,11 +465,12 @@ module _ (s : Sight) (known : IsSight s)
           (typed_sound a) (value_of (typed s b) (typed_sound b)) (λ a b v w. assign_sound s known at op a b v w.sound)
       typed_sound (Node at t (Bump op a)) = gives_one (Sound s) (Sound s) (typed s a) (bump s at op) (typed_sound a) (bump_sound s known at op)
       typed_sound (Node at t (Call f es)) =
-          gives_both (λ g. IsCallee g × (callee s at f.name ≡ Good g)) (IsArgued (params_of (callee s at f.name))) (Sound s)
-          (callee s at f.name) (typed_arguments s (params_of (callee s at f.name)) es) (call at)
-          (gives_self IsCallee (callee s at f.name) (callee_is at f.name))
-          (arguments_sound (params_of (callee s at f.name)) es)
-          (λ g es c a. call_sound at g es c.0 (subst (λ x. IsArgued (params_of x) es) c.1 a))
+          let c = callee_for s at f.name es in
+          let typed_ones = typed_arguments s (is_printf s f.name) (params_of c) es in
+          gives_both (λ g. IsCalleeFor f.name es g × (c ≡ Good g)) (λ fs. IsArgued (params_of c) fs × (typed_ones ≡ Good fs)) (Sound s) c typed_ones (call at)
+          (gives_self (IsCalleeFor f.name es) c (callee_for_is at f.name es))
+          (gives_self (IsArgued (params_of c)) typed_ones (arguments_sound (is_printf s f.name) (params_of c) es))
+          (λ g fs k a. called_sound at f.name es c g fs k a)
       typed_sound (Node at t (Cast to a)) = gives_limited (Sound s) s at (known_type s to) (both_parts (typed_type s at to) (decayed_of (typed s a)) (cast s at))
           (gives_both (λ u. Unit {0}) (IsSoundValue s) (Sound s) (typed_type s at to) (decayed_of (typed s a)) (cast s at) (anything (typed_type s at to)) (value_of (typed s a) (typed_sound a))
           (λ u a i v. cast_sound s known at u a v.sound))
@@ -389,14 +487,14 @@ module _ (s : Sight) (known : IsSight s)
           gives_both (Sound s) (IsSoundValue s) (Sound s) (typed s a) (decayed_of (typed s b)) (λ a b. Good (Node at (type_of b) (Comma a b)))
           (typed_sound a) (value_of (typed s b) (typed_sound b)) (λ a b v w. comma_sound s known at a b v w.sound w.flat)
 
-      arguments_sound : (ts : List PlainType) (es : Expressions) → Gives (IsArgued ts) (typed_arguments s ts es)
-      arguments_sound ts NoExpression = none_argued ts
-      arguments_sound ts (Following e es) =
+      arguments_sound : (printed : Bool) (ts : List PlainType) (es : Expressions) → Gives (IsArgued ts) (typed_arguments s printed ts es)
+      arguments_sound printed ts NoExpression = none_argued ts
+      arguments_sound printed ts (Following e es) =
           gives_both (λ e. (es : Expressions) → IsArgued (rest_types ts) es → IsArgued ts (Following e es)) (IsArgued (rest_types ts)) (IsArgued ts)
-          (one_part (decayed_of (typed s e)) (argument_for s (first_type ts))) (typed_arguments s (rest_types ts) es) (λ e es. Good (Following e es))
-          (gives_one (IsSoundValue s) (λ e. (es : Expressions) → IsArgued (rest_types ts) es → IsArgued ts (Following e es)) (decayed_of (typed s e)) (argument_for s (first_type ts))
-          (value_of (typed s e) (typed_sound e)) (λ e v. first_argued ts e v.sound.well))
-          (arguments_sound (rest_types ts) es)
+          (one_part (decayed_of (typed s e)) (argument_for s printed (first_type ts))) (typed_arguments s printed (rest_types ts) es) (λ e es. Good (Following e es))
+          (gives_one (IsSoundValue s) (λ e. (es : Expressions) → IsArgued (rest_types ts) es → IsArgued ts (Following e es)) (decayed_of (typed s e)) (argument_for s printed (first_type ts))
+          (value_of (typed s e) (typed_sound e)) (λ e v. first_argued printed ts e v.sound.well))
+          (arguments_sound printed (rest_types ts) es)
           (λ e es k a. k es a)
 
     -- a typed expression is well typed

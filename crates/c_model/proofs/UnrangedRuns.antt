@@ -35,9 +35,9 @@ module _ (T : Tables) (call : Callee) (n : ℕ) where
 module _ (p : TranslationUnit) where
   one_deeper : (n : ℕ) → call_of (unranged_unit p) n ≡ call_of p n → (at : Place) (f : Use) (vs : List Value) → call_of (unranged_unit p) (suc n) at f vs ≡ call_of p (suc n) at f vs
   one_deeper n e at f vs =
-      (λ i. if is_of_library f then library_call at (slice_get p.names f.name) vs
+      (λ i. if is_of_library f then library_call (tables_of p) at (slice_get p.names f.name) vs
       else call_with (tables_of p) (global_scope p) (same_definition_at f.decl p.funcs i) (e i) n at vs)
-      ∙ ap (λ g. if is_of_library f then library_call at (slice_get p.names f.name) vs else g at vs)
+      ∙ ap (λ g. if is_of_library f then library_call (tables_of p) at (slice_get p.names f.name) vs else g at vs)
       (same_call_with (tables_of p) (call_of p n) n (global_scope p) (definition_at f.decl p.funcs))
 
   same_call : (n : ℕ) → call_of (unranged_unit p) n ≡ call_of p n

@@ -20,8 +20,9 @@ use Rattle.c_syntax.specs.Expressions.{SizeOfType, SizeOfExpr, Index, Dot, Arrow
 use Rattle.c_syntax.specs.Statements.{Declaration}
 use Rattle.c_syntax.specs.Programs.{StructType, StringLiteral}
 use Rattle.c_syntax.specs.Layouts.{scalar_of, size_of, members_of, member_among}
-use Rattle.c_model.specs.Integers.{fits, integer_type}
+use Rattle.c_model.specs.Integers.{fits, integer_type, width}
 use Rattle.c_model.specs.Conversions.{promoted, common, is_shift, is_relation, result_type}
+use Rattle.c_model.specs.Formats.{Piece, pieces_of, types_of}
 use Rattle.c_model.specs.Memory.{Value, Integer}
 use Rattle.c_model.specs.State.{EndOfInput, State, Outcome, Normal, Stuck, stop}
 use Rattle.c_model.specs.Meaning.{Tables, Callee, eval_with, is_pointer, is_of_library}
@@ -139,7 +140,7 @@ declared_here s x = entity_named x (drop s.innermost s.entities)
 abbrev pub of_library : ℕ → List PlainType → PlainType → Signature
 of_library x params result = record { name = x; decl = 4294967295; defined = true; params = params; result = result }
 
--- the functions of the library that are built (C99 7.19.7.9, 7.19.7.6, 7.20.4.3, 7.20.3.3, 7.20.3.1, 7.20.3.2)
+-- the functions of the library that are built (C99 7.19.7.9, 7.19.7.6, 7.20.4.3, 7.20.3.3, 7.20.3.1, 7.20.3.2, 7.19.6.3); printf gives no value
 abbrev pub library_function : ℕ → List ℕ → Option Signature
 library_function x w =
     if bytes_eq w (codes "putchar") then Some (of_library x (int_type ∷ []) int_type)
@@ -147,7 +148,8 @@ library_function x w =
     else (if bytes_eq w (codes "exit") then Some (of_library x (int_type ∷ []) Void)
     else (if bytes_eq w (codes "malloc") then Some (of_library x (Int U64 ∷ []) (Ptr Void))
     else (if bytes_eq w (codes "calloc") then Some (of_library x (Int U64 ∷ Int U64 ∷ []) (Ptr Void))
-    else (if bytes_eq w (codes "free") then Some (of_library x (Ptr Void ∷ []) Void) else None)))))
+    else (if bytes_eq w (codes "free") then Some (of_library x (Ptr Void ∷ []) Void)
+    else (if bytes_eq w (codes "printf") then Some (of_library x (Ptr (Int I8) ∷ []) Void) else None))))))
 
 abbrev pub use_as : ℕ → ℕ → Use
 use_as x decl = record { name = x; decl = decl }
@@ -614,9 +616,39 @@ callee s at x = elim (entity_named x s.entities) [
   ]
 ]
 
+-- printf, whose format asks for the arguments behind it (C99 7.19.6.1 p2)
+abbrev pub is_printf : Sight → ℕ → Bool
+is_printf s x = bytes_eq (name_at s.names x) (codes "printf")
+
+-- the pieces of the format where the first argument is a string literal
+abbrev pub format_of : Sight → Expressions → Option (List Piece)
+format_of s (Following (Node at t (Text offset)) es) = elim (literal_at offset 0 s.texts) [ None ↦ None | Some l ↦ pieces_of l.1 ]
+format_of s _ = None
+
+-- the format's type and those of its directives; what is no format has a type that no argument has
+abbrev pub format_params : Option (List Piece) → List PlainType
+format_params None = Void ∷ []
+format_params (Some pieces) = Ptr (Int I8) ∷ types_of pieces
+
+-- a function as this call of it sees it
+abbrev pub with_directives : Sight → Expressions → Signature → Signature
+with_directives s es f = record f { params = cond (is_printf s f.name) (format_params (format_of s es)) f.params }
+
+abbrev pub callee_for : Sight → Place → ℕ → Expressions → Checked Signature
+callee_for s at x es = one_part (callee s at x) (λ f. Good (with_directives s es f))
+
+-- whether a value goes to a format or a directive: an integer whose promoted type is as wide, or a pointer of the same type (C99 7.19.6.1 p7, p8)
+abbrev pub is_printed : PlainType → PlainType → Bool
+is_printed (Int k) (Int l) = nat_eq (width (promoted k)) (width l)
+is_printed (Ptr t) (Ptr u) = same_type t u
+is_printed _ _ = false
+
 -- an argument in the type of its parameter (C99 6.5.2.2 p7)
-abbrev pub argument : Sight → PlainType → Expression → Checked Expression
-argument s t e = where_so (is_assigned s e t) (no_type (place_of e)) (Good (in_type t e))
+abbrev pub is_passed : Sight → Bool → Expression → PlainType → Bool
+is_passed s printed e t = cond printed (is_printed (type_of e) t) (is_assigned s e t)
+
+abbrev pub argument : Sight → Bool → PlainType → Expression → Checked Expression
+argument s printed t e = where_so (is_passed s printed e t) (no_type (place_of e)) (Good (in_type t e))
 
 -- the parameter after those of the list
 abbrev pub first_type : List PlainType → Option PlainType
@@ -628,9 +660,9 @@ rest_types [] = []
 rest_types (t ∷ ts) = ts
 
 -- an argument without a parameter has no demand of its own
-abbrev pub argument_for : Sight → Option PlainType → Expression → Checked Expression
-argument_for s None e = Good e
-argument_for s (Some t) e = argument s t e
+abbrev pub argument_for : Sight → Bool → Option PlainType → Expression → Checked Expression
+argument_for s printed None e = Good e
+argument_for s printed (Some t) e = argument s printed t e
 
 abbrev pub argument_count : Expressions → ℕ
 argument_count NoExpression = 0
@@ -699,7 +731,8 @@ abbrev mutual
       both_parts (decayed_of (typed s a)) (both_parts (decayed_of (typed s b)) (decayed_of (typed s c)) two) (λ x p. choice_of s at x p.0 p.1)
   typed s (Node at t (Assign op a b)) = both_parts (typed s a) (decayed_of (typed s b)) (assign s at op)
   typed s (Node at t (Bump op a)) = one_part (typed s a) (bump s at op)
-  typed s (Node at t (Call f es)) = both_parts (callee s at f.name) (typed_arguments s (params_of (callee s at f.name)) es) (call at)
+  typed s (Node at t (Call f es)) =
+      both_parts (callee_for s at f.name es) (typed_arguments s (is_printf s f.name) (params_of (callee_for s at f.name es)) es) (call at)
   typed s (Node at t (Cast to a)) = limited s at (known_type s to) (both_parts (typed_type s at to) (decayed_of (typed s a)) (cast s at))
   typed s (Node at t (SizeOfType u)) = limited s at (known_type s u) (one_part (typed_type s at u) (size_of_type s at))
   typed s (Node at t (SizeOfExpr a)) = one_part (typed s a) (λ e. limited s at (type_of e) (size_of_expression s at e))
@@ -708,11 +741,12 @@ abbrev mutual
   typed s (Node at t (Arrow a m)) = one_part (decayed_of (typed s a)) (arrow s at m)
   typed s (Node at t (Comma a b)) = both_parts (typed s a) (decayed_of (typed s b)) (λ a b. Good (Node at (type_of b) (Comma a b)))
 
-  -- arguments, each with the demand of its parameter
-  pub typed_arguments : Sight → List PlainType → Expressions → Checked Expressions
-  typed_arguments s ts NoExpression = Good NoExpression
-  typed_arguments s ts (Following e es) =
-      both_parts (one_part (decayed_of (typed s e)) (argument_for s (first_type ts))) (typed_arguments s (rest_types ts) es) (λ e es. Good (Following e es))
+  -- arguments, each with the demand of its parameter, to printf or to another function
+  pub typed_arguments : Sight → Bool → List PlainType → Expressions → Checked Expressions
+  typed_arguments s printed ts NoExpression = Good NoExpression
+  typed_arguments s printed ts (Following e es) =
+      both_parts (one_part (decayed_of (typed s e)) (argument_for s printed (first_type ts))) (typed_arguments s printed (rest_types ts) es)
+      (λ e es. Good (Following e es))
 
   -- a type that is written at this place (C99 6.7.5, 6.7.6)
   pub typed_type : Sight → Place → PlainType → Checked PlainType

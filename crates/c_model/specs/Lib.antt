@@ -4,7 +4,10 @@ pub mod Conversions
 pub mod Memory
 pub mod MemoryQuestions
 pub mod Together
+pub mod Strings
+pub mod Formats
 pub mod State
+pub mod Printing
 pub mod StaticObjects
 pub mod ObjectsLeft
 pub mod Logic
@@ -21,6 +24,7 @@ pub mod WordLaws
 pub mod Growth
 pub mod Steps
 pub mod Laws
+pub mod PrintingLaws
 pub mod HeapLaws
 pub mod Characters
 pub mod Places

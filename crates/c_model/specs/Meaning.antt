@@ -29,6 +29,8 @@ use Rattle.c_model.specs.Conversions.{operation_type, is_shift}
 use Rattle.c_model.specs.Operators.{quotient}
 use Rattle.c_model.specs.Memory.{Pointer, Null, Into, Value, Integer, Points, NoValue, Byte, Unwritten, Number as NumberByte}
 use Rattle.c_model.specs.Memory.{Block as MemoryBlock, block_of, Store, freed, moved, distance, equal_pointers, shifted}
+use Rattle.c_model.specs.Formats.{pieces_of}
+use Rattle.c_model.specs.Printing.{print_pieces}
 use Rattle.c_model.specs.State.{Scope, Input, State, Breaks, Continues, Returns, Final, Exits, Undefined, Spent, Leaves, Over, Stuck, Outcome, Normal}
 use Rattle.c_model.specs.State.{Stop, Evaluation, ◌>>=◌, ◌>>◌, give, done, stop, defined, step, print, read_byte, computed, as_scalar, find, object, read}
 use Rattle.c_model.specs.State.{read_any, changed, write, write_bytes, copy_object, allocate, tested, write_youngest, birth, births, alone, frame, mark, within}
@@ -470,16 +472,34 @@ abbrev pub free_with : Place → List Value → Evaluation Value
 free_with at (Points p ∷ []) = changed at (λ store. freed store p) >> give NoValue
 free_with at vs = stop (Over (Undefined at))
 
+-- the bytes of the string literal whose block has this number
+abbrev pub text_of_block : ℕ → List ℕ → List (List ℕ) → Option (List ℕ)
+text_of_block n [] texts = None
+text_of_block n (k ∷ ks) [] = None
+text_of_block n (k ∷ ks) (bytes ∷ texts) = if nat_eq k n then Some bytes else text_of_block n ks texts
+
+-- those of the literal to whose start a pointer points
+abbrev pub text_at_pointer : Tables → Pointer → Option (List ℕ)
+text_at_pointer T Null = None
+text_at_pointer T (Into n zero) = text_of_block n T.literals T.texts
+text_at_pointer T (Into n (suc i)) = None
+
+-- printf prints what its format, a string literal, makes of the other arguments (C99 7.19.6.3); by the profile it gives no value
+abbrev pub printf_with : Tables → Place → List Value → Evaluation Value
+printf_with T at (Points p ∷ vs) = defined at (text_at_pointer T p) >>= λ bytes. defined at (pieces_of bytes) >>= λ ps. print_pieces at ps vs
+printf_with T at vs = stop (Over (Undefined at))
+
 -- a call of a library function, by its name
-abbrev pub library_call : Place → Option (List ℕ) → List Value → Evaluation Value
-library_call at None vs = stop (Over (Undefined at))
-library_call at (Some name) vs =
+abbrev pub library_call : Tables → Place → Option (List ℕ) → List Value → Evaluation Value
+library_call T at None vs = stop (Over (Undefined at))
+library_call T at (Some name) vs =
     if bytes_eq name (codes "putchar") then put_char at vs
     else (if bytes_eq name (codes "getchar") then get_char at vs
     else (if bytes_eq name (codes "exit") then exit_with at vs
     else (if bytes_eq name (codes "malloc") then malloc_with at vs
     else (if bytes_eq name (codes "calloc") then calloc_with at vs
-    else (if bytes_eq name (codes "free") then free_with at vs else stop (Over (Undefined at)))))))
+    else (if bytes_eq name (codes "free") then free_with at vs
+    else (if bytes_eq name (codes "printf") then printf_with T at vs else stop (Over (Undefined at))))))))
 
 -- the definition with this number
 abbrev pub definition_at : ℕ → List Function → Option Function
@@ -642,9 +662,9 @@ block_of_object structs (OfLiteral l) = block_of block.Literal (map NumberByte l
 
 -- what calls do in a program, at most n deep
 abbrev pub call_of : TranslationUnit → ℕ → Callee
-call_of p zero at f vs = if is_of_library f then library_call at (slice_get p.names f.name) vs else stop (Over Spent)
+call_of p zero at f vs = if is_of_library f then library_call (tables_of p) at (slice_get p.names f.name) vs else stop (Over Spent)
 call_of p (suc n) at f vs =
-    if is_of_library f then library_call at (slice_get p.names f.name) vs
+    if is_of_library f then library_call (tables_of p) at (slice_get p.names f.name) vs
     else call_with (tables_of p) (global_scope p) (definition_at f.decl p.funcs) (call_of p n) n at vs
 
 abbrev pub eval : TranslationUnit → ℕ → Expression → Evaluation Value

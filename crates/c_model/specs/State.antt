@@ -126,6 +126,11 @@ read_byte (b ∷ bs) tail = λ s. Normal (Integer (pos (b % 256))) (record s { i
 abbrev pub print : ℕ → Evaluation (Unit {0})
 print byte = λ s. Normal tt (record s { output = s.output ++ byte ∷ [] })
 
+-- bytes, one after another (C99 7.19.3 p11)
+abbrev pub print_all : List ℕ → Evaluation (Unit {0})
+print_all [] = done
+print_all (b ∷ bs) = print b >> print_all bs
+
 -- the block of a declaration
 abbrev pub find : ℕ → Scope → Option ℕ
 find x [] = None

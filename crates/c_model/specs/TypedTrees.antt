@@ -2,7 +2,7 @@
 -- their operator takes, a value is read where its type is scalar, what is written or pointed to is an object, and values go to objects
 -- of their type. And the law that typing changes nothing but types, casts and constants.
 use Rattle.std.specs.Prelude.{◌≡◌, ℕ, ◌+◌, ℤ, pos, true, false, cond, List, [], ◌∷◌, length, Option, Some, None, slice_get, codes}
-use Rattle.std.specs.Prelude.{bytes_eq, nat_le, nat_eq}
+use Rattle.std.specs.Prelude.{bytes_eq, nat_le, nat_eq, option_map}
 use Rattle.c_syntax.specs.declared.place.Place.{Place}
 use Rattle.c_syntax.specs.declared.types.CInt.{CInt}
 use Rattle.c_syntax.specs.declared.types.CInt.TheVariants.{I8, I32, I64, U64}
@@ -25,11 +25,12 @@ use Rattle.c_syntax.specs.Programs.{StructMember, StringLiteral, Function}
 use Rattle.c_syntax.specs.Layouts.{Scalar, scalar_of, size_of, members_of, member_among}
 use Rattle.c_model.specs.Integers.{fits}
 use Rattle.c_model.specs.Conversions.{promoted, is_shift, is_relation}
+use Rattle.c_model.specs.Formats.{pieces_of, types_of}
 use Rattle.c_model.specs.Meaning.{is_array, parts_or_itself, string_in}
 use Rattle.c_model.specs.Library.{is_library_name}
 use Rattle.c_model.specs.ExpressionTyping.{Object, AnObject, Signature, Sight, name_at, or_else, entity_named, function_called, library_function}
 use Rattle.c_model.specs.ExpressionTyping.{HasSize, sized, most_bytes, constant, tables_in, is_step, is_difference, is_place, has_object, is_struct}
-use Rattle.c_model.specs.ExpressionTyping.{with_object}
+use Rattle.c_model.specs.ExpressionTyping.{is_printf, with_object}
 use Rattle.c_model.specs.ExpressionTyping.{inner, declared_here, is_character, Enumerator, AnEnumerator, use_as, typed}
 use Rattle.c_model.specs.Checked.{Good}
 use Rattle.c_model.specs.UnitTyping.{with_parameter, with_parameters}
@@ -157,6 +158,23 @@ HaveTypes [] (Following e es) = ⊥
 HaveTypes (t ∷ ts) NoExpression = ⊥
 HaveTypes (t ∷ ts) (Following e es) = (type_of e ≡ t) × HaveTypes ts es
 
+-- the number of the string literal that is the first of these values
+abbrev pub literal_in : Expressions → Option ℕ
+literal_in (Following (Node at t (Cast to (Node behind u (Text n)))) es) = Some n
+literal_in _ = None
+
+-- the types of the arguments of a call: those of the parameters, and for printf a format's and those of its directives
+abbrev pub format_types : Option StringLiteral → Option (List PlainType)
+format_types None = None
+format_types (Some l) = option_map (λ pieces. Ptr (Int I8) ∷ types_of pieces) (pieces_of l.bytes)
+
+abbrev pub literal_types : Sight → Option ℕ → Option (List PlainType)
+literal_types s None = None
+literal_types s (Some n) = format_types (slice_get s.texts n)
+
+abbrev pub argument_types : Sight → Signature → Expressions → Option (List PlainType)
+argument_types s f es = cond (is_printf s f.name) (literal_types s (literal_in es)) (Some f.params)
+
 -- a call of a function in sight that is not `main`, with an argument of each parameter's type (C99 6.5.2.2)
 pub record Calls (s : Sight) (f : Use) (t : PlainType) (es : Expressions) : Type 0 where
   pub callee : Signature
@@ -165,7 +183,9 @@ pub record Calls (s : Sight) (f : Use) (t : PlainType) (es : Expressions) : Type
   pub not_main : bytes_eq (name_at s.names f.name) (codes "main") ≡ false
   pub decl : f.decl ≡ callee.decl
   pub result : t ≡ callee.result
-  pub arguments : HaveTypes callee.params es
+  pub params : List PlainType
+  pub asked : argument_types s callee es ≡ Some params
+  pub arguments : HaveTypes params es
 
 -- ---- expressions
 

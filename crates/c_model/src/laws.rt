@@ -10,6 +10,7 @@ ghost use Rattle.c_model.specs.HeapLaws.{HeapPlacesFit, HeapPlacesAreLeast, Full
 ghost use Rattle.c_model.specs.HeapLaws.{AllocatedBlocksAreNew, NoBytesGiveNull, FreedBlocksDie, LiveBlocksCanBeFreed, FreeLetsNullBe, DeadBlocksHaveNoUse};
 ghost use Rattle.c_model.specs.HeapLaws.{StatementsKeepBlocks, StatementsKeepPlaces, ScalarsStandInOrder, AssignedStructsAreCopies, AssignedStructsKeepTheRest};
 ghost use Rattle.c_model.specs.Laws.{FuelIsEnough, StepsFall, LoopsTurn, DoLoopsTurn, ForLoopsTurn, RunsNeedNoFuel, RunsSpendSteps, OutputGrows};
+ghost use Rattle.c_model.specs.PrintingLaws.{BytesArePrinted, FormatsAreSpelled, LiteralsAreFound};
 ghost use Rattle.c_model.specs.SoundJudgements.{GivenResultsFit, JudgedStatesAreSound, JudgementsAreSound};
 ghost use Rattle.c_model.specs.SoundStates.{BirthsKeepSound, BodiesKeepSound, CopiesKeepSound, DeathsKeepSound, ExpressionsKeepSound, FreesKeepSound};
 ghost use Rattle.c_model.specs.SoundStates.{ItemsKeepSound, NumbersAreOne, PlacedAreNear, ProgramCallsKeepSound, ProgramsAreDirect, RunsAreSound};
@@ -82,6 +83,13 @@ pub fn runs()
     ensures run { RunsNeedNoFuel }
     ensures left { RunsSpendSteps }
     ensures output { OutputGrows }
+{}
+
+/// Printing: bytes come one after another, a format is found by the pointer to it, and its pieces say all of it.
+pub fn printing()
+    ensures bytes { BytesArePrinted }
+    ensures literals { LiteralsAreFound }
+    ensures formats { FormatsAreSpelled }
 {}
 
 /// Programs of accepted texts: no run of one comes to what typing rules out.

@@ -1,8 +1,8 @@
 -- Strings over blocks and over flat memory: as far as a block's bytes are numbers, the region has the same.
-use Rattle.std.proofs.Common.{◌≡◌, ℕ, zero, suc, ◌+◌, ◌*◌, ◌%◌, ◌<◌, ◌≤◌, Bool, true, false, ◌&&◌, if◌then◌else◌, nat_eq, nat_le, List, [], length, take, drop, Option, Some, None, slice_get}
+use Rattle.std.proofs.Common.{◌≡◌, ℕ, zero, suc, ◌+◌, ◌*◌, ◌%◌, ◌≤◌, Bool, true, false, ◌&&◌, if◌then◌else◌, nat_eq, nat_le, List, [], length, take, drop, Option, Some, None, slice_get}
 use Rattle.std.proofs.Common.{refl, sym, ap, ◌∙◌, subst, arith}
 use Rattle.std.proofs.lemmas.Bool.{lt-leb}
-use Rattle.c_model.specs.Memory.{Pointer, Null, Into, Integer, Points, NoValue, Byte, Block, bytes_in, is_accessible, number_of}
+use Rattle.c_model.specs.Memory.{Pointer, Null, Into, Integer, Points, NoValue, Byte, Block, bytes_in, is_accessible, number_of, ◌>>=◌}
 use Rattle.raw_seg.specs.Bytes as raw
 use Rattle.mon_syntax.specs.declared.spot.Spot.{Spot}
 use Rattle.mon_syntax.specs.declared.spot.Spot.TheVariants.{Nowhere, In}
@@ -10,7 +10,6 @@ use Rattle.mon_syntax.specs.Regions.{Region, region_load}
 use Rattle.mon_syntax.specs.Flat.{Flat, region, ask, spot_of, flat_byte, region_length, flat_string}
 use Rattle.mon_syntax.specs.FlatMemory.{pointer_in}
 use Rattle.mon_syntax.specs.BlockMemory.{Blocks, byte_after, size_in, size_around}
-use Rattle.mon_syntax.specs.Meaning.{◌>>=◌}
 use Rattle.mon_syntax.specs.Strings.{GoesWith}
 use Rattle.mon_syntax.specs.Laws.{BlockStrings, FlatStrings}
 use Rattle.mon_syntax.specs.FlatLaws.{StringsKeep}

@@ -11,7 +11,7 @@ use Rattle.c_model.specs.Integers.{truth}
 use Rattle.c_model.specs.Limits.{most_frames}
 use Rattle.c_model.specs.Memory.{Pointer, Null, Into, Value, Integer, Points, NoValue, Byte, Unwritten, Number, Block, Store, block_of, new_block, is_stack}
 use Rattle.c_model.specs.Memory.{standard_sizes, full_at_stack_birth, number_of, bytes_of, load_bytes, save_bytes, load, save, moved, distance, equal_pointers}
-use Rattle.c_model.specs.Memory.{block_at, shifted, copy, Room, At, NoRoom, heap_room, heap_block, freed}
+use Rattle.c_model.specs.Memory.{copy, Room, At, NoRoom, heap_room, heap_block, freed}
 use Rattle.c_model.specs.State.{Input}
 use Rattle.c_model.specs.MonitoredRuns.{Ran}
 use Rattle.mon_syntax.specs.declared.tree.MonType.{MonType}
@@ -26,7 +26,8 @@ use Rattle.mon_syntax.specs.Arithmetic.{access_bytes, copy_bytes, lowest_bits, w
 use Rattle.mon_syntax.specs.Trees.{PlainContent, MonitoredGlobal, MonitoredProgram}
 use Rattle.mon_syntax.specs.Globals.{kind_of_content, size_of_content, first_bytes}
 use Rattle.mon_syntax.specs.Memory.{Memory, Reply, Gives, IsFull, Faults}
-use Rattle.mon_syntax.specs.Strings.{string_from}
+pub use Rattle.c_model.specs.Strings.{byte_after, size_in, size_around}
+use Rattle.c_model.specs.Strings.{string_at}
 use Rattle.mon_syntax.specs.Meaning.{◌>>=◌, run}
 
 pub record Blocks : Type 0 where
@@ -134,22 +135,9 @@ number_question a _ b = Faults
 
 -- ---- strings
 
--- the byte so far after a pointer, where it holds a number
-abbrev pub byte_after : Store → Pointer → ℕ → Option ℕ
-byte_after store p i = load_bytes store (shifted p i) 1 >>= number_of
-
-abbrev pub size_in : Option Block → ℕ
-size_in None = 0
-size_in (Some b) = b.size
-
--- how many bytes the block of a pointer has
-abbrev pub size_around : Store → Pointer → ℕ
-size_around store Null = 0
-size_around store (Into n i) = size_in (block_at store n)
-
 -- a string ends inside its block, or breaks off there
 abbrev pub string_in : Value → Blocks → List ℕ × Bool
-string_in (Points p) b = string_from (byte_after b.store p) (size_around b.store p) 0
+string_in (Points p) b = string_at b.store p
 string_in v b = ([], false)
 
 -- ---- frames, births and deaths

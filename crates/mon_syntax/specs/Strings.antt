@@ -1,18 +1,8 @@
 -- C99 7.1.1: a string goes up to the first 0.
--- The string at a place whose bytes are told one by one.
-use Rattle.std.specs.Prelude.{◌≡◌, ℕ, zero, suc, ◌+◌, ◌<◌, Bool, true, false, List, [], ◌∷◌, length, get_or, Option, Some, None, if◌then◌else◌}
+-- What is known of the string at a place whose bytes are told one by one, and of two such strings.
+use Rattle.std.specs.Prelude.{◌≡◌, ℕ, ◌<◌, Bool, true, false, List, length, get_or, Option, Some, None, if◌then◌else◌}
 use Rattle.c_model.specs.Reports.{Extends}
-
--- a byte before what follows it: a 0 ends the string, and it breaks off where there is no byte
-abbrev pub byte_before : Option ℕ → List ℕ × Bool → List ℕ × Bool
-byte_before None rest = ([], false)
-byte_before (Some zero) rest = ([], true)
-byte_before (Some (suc b)) rest = (suc b ∷ rest.0, rest.1)
-
--- the bytes from here up to the first 0, at most so many, and whether it is there
-abbrev pub string_from : (ℕ → Option ℕ) → ℕ → ℕ → List ℕ × Bool
-string_from byte zero at = ([], false)
-string_from byte (suc n) at = byte_before (byte at) (string_from byte n (at + 1))
+pub use Rattle.c_model.specs.Strings.{byte_before, string_from}
 
 -- bytes that are no 0, and then a 0 or none, whatever the number that were looked for
 pub record IsString (byte : ℕ → Option ℕ) (string : List ℕ × Bool) : Type 0 where

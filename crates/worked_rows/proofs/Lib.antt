@@ -46,6 +46,7 @@ mod WorkedHeap
 mod WorkedEffects
 mod WorkedExpressions
 mod WorkedSwitches
+mod WorkedFormats
 mod WorkedRuns
 mod WorkedCalls
 pub mod WorkedContracts
