@@ -7,7 +7,7 @@ use Rattle.c_syntax.specs.Expressions.{Expression, ExpressionKind, Expressions, 
 use Rattle.c_syntax.specs.Expressions.{Both, Either, Choice, Assign, Bump, Call, Cast, SizeOfType, SizeOfExpr, Text, Index, Dot, Arrow, Comma}
 use Rattle.c_model.specs.Checked.{Checked, Good, faulty, one_part, both_parts}
 use Rattle.c_model.specs.ExpressionTyping as plain
-use Rattle.c_model.specs.ExpressionTyping.{Sight, decayed_of, known_type, limited, params_of, two, typed, typed_arguments, typed_type}
+use Rattle.c_model.specs.ExpressionTyping.{Sight, Signature, decayed_of, known_type, limited, params_of, two, typed, typed_arguments, typed_type}
 
 -- the parts of forms with several
 abbrev pub typed_two : Sight → Expression → Expression → Checked (Expression × Expression)
@@ -35,12 +35,13 @@ size_of_written s at u = limited s at (known_type s u) (size_of_parts s at u)
 abbrev pub size_of_expr : Sight → Place → Expression → Checked Expression
 size_of_expr s at a = one_part (typed s a) (λ e. limited s at (type_of e) (plain.size_of_expression s at e))
 
--- the arguments of a call, whose function has a fault of its own
-abbrev pub typed_call_parts : Sight → Place → ℕ → Expressions → Checked Expressions
-typed_call_parts s at x es = both_parts (plain.callee s at x) (typed_arguments s (params_of (plain.callee s at x)) es) (λ f es. Good es)
+-- the function and the arguments of a call
+abbrev pub typed_call_parts : Sight → Place → ℕ → Expressions → Checked (Signature × Expressions)
+typed_call_parts s at x es =
+    both_parts (plain.callee_for s at x es) (typed_arguments s (plain.is_printf s x) (params_of (plain.callee_for s at x es)) es) two
 
 abbrev pub typed_call : Sight → Place → ℕ → Expressions → Checked Expression
-typed_call s at x es = one_part (typed_call_parts s at x es) (λ es. one_part (plain.callee s at x) (λ f. plain.call at f es))
+typed_call s at x es = one_part (typed_call_parts s at x es) (λ p. plain.call at p.0 p.1)
 
 -- the elements of an array
 abbrev pub typed_elements : Sight → Place → PlainType → Checked PlainType

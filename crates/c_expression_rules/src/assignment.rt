@@ -4,12 +4,13 @@ ghost use Rattle.std.specs.Prelude.{◌≡◌, None, map, true};
 ghost use Rattle.c_syntax.specs.Ctypes.{plain_type};
 ghost use Rattle.c_syntax.specs.Expressions.{Assign, Cast, Node, plain_expr};
 ghost use Rattle.c_model.specs.ExpressionTyping.{argument, argument_for, assign, assigned, assigned_scalar};
-ghost use Rattle.c_model.specs.ExpressionTyping.{assigned_struct, cast, first_type, is_assigned, is_cast};
+ghost use Rattle.c_model.specs.ExpressionTyping.{assigned_struct, cast, first_type, is_assigned, is_cast, is_passed};
 ghost use Rattle.c_scopes.specs.Answers.{Answers};
 ghost use Rattle.c_scopes.specs.Sights.{plain_sight};
 ghost use Rattle.c_expression_rules.specs.Constants.{has_small_sizes};
 
 use crate::constant::is_null;
+use crate::format::is_printed;
 use crate::operator::{compounded, has_size, in_type, is_place};
 use c_conversions::conversion::{
     are_compatible, are_integers, is_pointer, is_scalar, is_struct, is_void, same_type,
@@ -59,12 +60,30 @@ pub fn cast(
     }
 }
 
-/// Puts an argument in the type of its parameter (C99 6.5.2.2 p7).
-fn argument(alloc: Global, sight: &Sight, ctype: &CType, e: &mut Expr) -> Result<(), TypeFault>
-    requires { has_small_sizes (plain_sight sight.now).structs (plain_expr e.old) ≡ true }
-    ensures { Answers (λ _. plain_expr e.new) (argument (plain_sight sight.now) (plain_type ctype.now) (plain_expr e.old)) result }
+/// Whether a value is passed to printf, or to a parameter of another function.
+fn is_passed(sight: &Sight, printed: bool, e: &Expr, t: &CType) -> bool
+    requires { has_small_sizes (plain_sight sight.now).structs (plain_expr e.now) ≡ true }
+    ensures { result ≡ is_passed (plain_sight sight.now) printed (plain_expr e.now) (plain_type t.now) }
 {
-    if is_assigned(sight, e, ctype) {
+    if printed {
+        is_printed(&e.ctype, t)
+    } else {
+        is_assigned(sight, e, t)
+    }
+}
+
+/// Puts an argument in the type of its parameter (C99 6.5.2.2 p7).
+fn argument(
+    alloc: Global,
+    sight: &Sight,
+    printed: bool,
+    ctype: &CType,
+    e: &mut Expr,
+) -> Result<(), TypeFault>
+    requires { has_small_sizes (plain_sight sight.now).structs (plain_expr e.old) ≡ true }
+    ensures { Answers (λ _. plain_expr e.new) (argument (plain_sight sight.now) printed (plain_type ctype.now) (plain_expr e.old)) result }
+{
+    if is_passed(sight, printed, e, ctype) {
         in_type(alloc, ctype, e)?;
         Ok(())
     } else {
@@ -76,16 +95,17 @@ fn argument(alloc: Global, sight: &Sight, ctype: &CType, e: &mut Expr) -> Result
 pub fn argument_for(
     alloc: Global,
     sight: &Sight,
+    printed: bool,
     params: &[CType],
     e: &mut Expr,
 ) -> Result<(), TypeFault>
     requires { has_small_sizes (plain_sight sight.now).structs (plain_expr e.old) ≡ true }
     ensures { Answers (λ _. plain_expr e.new)
-        (argument_for (plain_sight sight.now) (first_type (map plain_type params.now)) (plain_expr e.old)) result }
+        (argument_for (plain_sight sight.now) printed (first_type (map plain_type params.now)) (plain_expr e.old)) result }
 {
     match params {
         [] => Ok(()),
-        [t, ..] => argument(alloc, sight, t, e),
+        [t, ..] => argument(alloc, sight, printed, t, e),
     }
 }
 

@@ -3,7 +3,6 @@
 ghost use Rattle.std.specs.Prelude.{◌≡◌, ℕ, [], ◌∷◌, IfErr, IfOk, map};
 ghost use Rattle.c_syntax.specs.Ctypes.{Ptr, Void, plain_type};
 ghost use Rattle.c_syntax.specs.Expressions.{Arrow, Call, Dot, Node, plain_expr, plain_exprs, plain_kind};
-ghost use Rattle.c_model.specs.Checked.{one_part};
 ghost use Rattle.c_model.specs.ExpressionTyping.{arrow, call, callee, dot, is_null_word, library_name, member, typed_name, no_function, use_as};
 ghost use Rattle.c_scopes.specs.Answers.{Answers, IsRefusal};
 ghost use Rattle.c_scopes.specs.Library.{signature_of};
@@ -11,6 +10,7 @@ ghost use Rattle.c_scopes.specs.Signatures.{plain_signature};
 ghost use Rattle.c_scopes.specs.Sights.{plain_sight};
 ghost use Rattle.c_expression_rules.specs.Callees.{callable, known_params, library_callee};
 
+use crate::format::pointer_to_char;
 use crate::operator::{has_size, put};
 use c_conversions::conversion::{is_struct, pointed};
 use c_scopes::entity::Entity;
@@ -102,7 +102,7 @@ pub fn mean(
 }
 
 /// A type alone.
-fn one_type(alloc: Global, t: CType) -> Result<Vec<CType>, AllocError>
+pub fn one_type(alloc: Global, t: CType) -> Result<Vec<CType>, AllocError>
     ensures { IfOk result (λ ts. map plain_type ts.items ≡ plain_type t ∷ []) }
 {
     Ok(vec![in alloc; t]?)
@@ -123,6 +123,10 @@ fn library_params(alloc: Global, f: LibraryFunction) -> Result<Vec<CType>, Alloc
             let t = pointer_to_void(alloc)?;
             one_type(alloc, t)
         }
+        LibraryFunction::Printf => {
+            let t = pointer_to_char(alloc)?;
+            one_type(alloc, t)
+        }
     }
 }
 
@@ -132,7 +136,7 @@ fn library_result(alloc: Global, f: LibraryFunction) -> Result<CType, AllocError
 {
     match f {
         LibraryFunction::Putchar | LibraryFunction::Getchar => Ok(CType::Int(CInt::I32)),
-        LibraryFunction::Exit | LibraryFunction::Free => Ok(CType::Void),
+        LibraryFunction::Exit | LibraryFunction::Free | LibraryFunction::Printf => Ok(CType::Void),
         LibraryFunction::Malloc | LibraryFunction::Calloc => pointer_to_void(alloc),
     }
 }
@@ -277,7 +281,7 @@ pub fn arrow(
 }
 
 /// The number of arguments is that of the parameters.
-fn called(
+pub fn called(
     alloc: Global,
     place: Place,
     f: &Signature,
@@ -292,21 +296,4 @@ fn called(
     } else {
         Err(no_type(place))
     }
-}
-
-/// A call, whose arguments have no fault.
-pub fn call(
-    alloc: Global,
-    sight: &Sight,
-    place: Place,
-    x: &mut Use,
-    arguments: &[Expr],
-) -> Result<CType, TypeFault>
-    ensures { Answers (λ t. Node place (plain_type t) (Call x.new (plain_exprs arguments.now)))
-        (one_part (callee (plain_sight sight.now) place x.old.name) (λ f. call place f (plain_exprs arguments.now))) result }
-{
-    let f = callee(alloc, sight, place, x.name)?;
-    x.name = f.name;
-    x.decl = f.decl;
-    called(alloc, place, &f, arguments)
 }

@@ -8,6 +8,7 @@ ghost use Rattle.c_model.specs.ExpressionTyping.{argument_for, constant, counted
 ghost use Rattle.c_model.specs.ExpressionTyping.{typed_arguments, typed_length, typed_type};
 ghost use Rattle.c_scopes.specs.Answers.{Answers, IfTold};
 ghost use Rattle.c_scopes.specs.Sights.{plain_sight};
+ghost use Rattle.c_scopes.specs.Signatures.{plain_signature};
 ghost use Rattle.c_expression_rules.specs.Constants.{has_small_sizes};
 ghost use Rattle.c_expression_rules.specs.Forms.{cast_of, cast_parts, size_of_expr, size_of_parts, size_of_written};
 ghost use Rattle.c_expression_rules.specs.Forms.{typed_call, typed_call_parts, typed_elements};
@@ -16,8 +17,9 @@ ghost use Rattle.c_expression_rules.specs.Forms.{typed_one, typed_place_and_valu
 
 use crate::assignment::{argument_for, assign, cast};
 use crate::binary::{binary, choice_of};
-use crate::call::{arrow, call, callee, dot, known_params, mean};
+use crate::call::{arrow, called, dot, known_params, mean};
 use crate::constant::constant;
+use crate::format::{callee_for, is_printf};
 use crate::operator::{
     bump, decay, has_size, index, literal, size_of_expression, size_of_type, truth_of, unary,
 };
@@ -25,6 +27,7 @@ use crate::text::text;
 use crate::types::{counted, known_struct, limited};
 use c_scopes::fault::{TypeFault, both, no_name, no_type};
 use c_scopes::sight::Sight;
+use c_scopes::signature::Signature;
 use c_syntax::copy::copy_type;
 use c_syntax::{CInt, CType, Expr, ExprKind, Length, Place, Use};
 use std::alloc::Global;
@@ -322,7 +325,7 @@ fn type_size_of_expr(
     limited(sight, place, &a.ctype, size)
 }
 
-/// Types the arguments of a call, each for its parameter, whether or not its function has a fault.
+/// Finds the function of a call, and types the arguments, each for its parameter, whether or not the function has a fault.
 #[cycle(expression)]
 fn type_call_parts(
     alloc: Global,
@@ -330,14 +333,14 @@ fn type_call_parts(
     place: Place,
     name: u32,
     arguments: &mut Vec<Expr>,
-) -> Result<(), TypeFault>
-    ensures { Answers (λ _. plain_exprs arguments.new.items)
+) -> Result<Signature, TypeFault>
+    ensures { Answers (λ f. (plain_signature f, plain_exprs arguments.new.items))
         (typed_call_parts (plain_sight sight.now) place name (plain_exprs arguments.old.items)) result }
 {
-    let f = callee(alloc, sight, place, name);
-    let typed = type_arguments(alloc, sight, arguments, known_params(&f));
-    both(f, typed)?;
-    Ok(())
+    let f = callee_for(alloc, sight, place, name, arguments);
+    let printed = is_printf(sight, name);
+    let typed = type_arguments(alloc, sight, arguments, printed, known_params(&f));
+    both(f, typed)
 }
 
 /// Types a call (C99 6.5.2.2).
@@ -352,8 +355,10 @@ fn type_call(
     ensures { Answers (λ t. Node place (plain_type t) (Call x.new (plain_exprs arguments.new.items)))
         (typed_call (plain_sight sight.now) place x.old.name (plain_exprs arguments.old.items)) result }
 {
-    type_call_parts(alloc, sight, place, x.name, arguments)?;
-    call(alloc, sight, place, x, arguments)
+    let f = type_call_parts(alloc, sight, place, x.name, arguments)?;
+    x.name = f.name;
+    x.decl = f.decl;
+    called(alloc, place, &f, arguments)
 }
 
 /// Types arguments, each for its parameter.
@@ -362,15 +367,16 @@ fn type_arguments(
     alloc: Global,
     sight: &Sight,
     arguments: &mut Vec<Expr>,
+    printed: bool,
     params: &[CType],
 ) -> Result<(), TypeFault>
     ensures { Answers (λ _. plain_exprs arguments.new.items)
-        (typed_arguments (plain_sight sight.now) (map plain_type params.now) (plain_exprs arguments.old.items)) result }
+        (typed_arguments (plain_sight sight.now) printed (map plain_type params.now) (plain_exprs arguments.old.items)) result }
 {
     let mut done = Ok(());
     let mut rest = params;
     for i in 0..arguments.len() {
-        let e = type_argument(alloc, sight, &mut arguments[i], rest);
+        let e = type_argument(alloc, sight, &mut arguments[i], printed, rest);
         done = both(done, e);
         rest = behind_first(rest);
     }
@@ -383,14 +389,15 @@ fn type_argument(
     alloc: Global,
     sight: &Sight,
     e: &mut Expr,
+    printed: bool,
     params: &[CType],
 ) -> Result<(), TypeFault>
     ensures { Answers (λ _. plain_expr e.new)
         (one_part (decayed_of (typed (plain_sight sight.now) (plain_expr e.old)))
-        (argument_for (plain_sight sight.now) (first_type (map plain_type params.now)))) result }
+        (argument_for (plain_sight sight.now) printed (first_type (map plain_type params.now)))) result }
 {
     type_value(alloc, sight, e)?;
-    argument_for(alloc, sight, params, e)
+    argument_for(alloc, sight, printed, params, e)
 }
 
 /// The parameters after the first.

@@ -9,6 +9,7 @@ pub mod binary;
 pub mod call;
 pub mod constant;
 pub mod expression;
+pub mod format;
 pub mod operator;
 pub mod text;
 pub mod types;

@@ -9,3 +9,4 @@ pub mod Firsts
 pub mod Named
 pub mod Tags
 pub mod Told
+pub mod FormatParts

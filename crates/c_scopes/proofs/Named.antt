@@ -73,6 +73,15 @@ literal_found ts firsts x n t bytes first e at same =
     let number : n ≡ 0 + n = omega arith in
     (λ i. counted (Some (number i, same i))) ∙ ap counted (found offset_of_literal literal_with x ts firsts n 0 t first e at ∙ literal_is x 0 ts)
 
+pub bytes_found : (ts : List Text) (firsts : List (ℕ × ℕ)) (x n : ℕ) (t : Text) (bytes : List ℕ) → AreFirst (map offset_of_literal ts) firsts → Some n ≡ lookup (nat_eq x) firsts → t ≡ get_or ts n t
+    → bytes ≡ (plain_text t).bytes → Some bytes ≡ option_map (λ (l : ℕ × List ℕ). l.1) (literal_at x 0 (map plain_text ts))
+bytes_found ts firsts x n t bytes first e at same =
+    ap Some same ∙ ap (option_map (λ (l : ℕ × List ℕ). l.1)) (found offset_of_literal literal_with x ts firsts n 0 t first e at ∙ literal_is x 0 ts)
+
+pub no_bytes : (ts : List Text) (firsts : List (ℕ × ℕ)) (x : ℕ) → AreFirst (map offset_of_literal ts) firsts → None ≡ lookup (nat_eq x) firsts
+    → None ≡ option_map (λ (l : ℕ × List ℕ). l.1) (literal_at x 0 (map plain_text ts))
+no_bytes ts firsts x first e = ap (option_map (λ (l : ℕ × List ℕ). l.1)) (not_found offset_of_literal literal_with x ts firsts 0 first e ∙ literal_is x 0 ts)
+
 pub no_literal : (ts : List Text) (firsts : List (ℕ × ℕ)) (x : ℕ) → AreFirst (map offset_of_literal ts) firsts → None ≡ lookup (nat_eq x) firsts
     → counted None ≡ counted (literal_at x 0 (map plain_text ts))
 no_literal ts firsts x first e = ap counted (not_found offset_of_literal literal_with x ts firsts 0 first e ∙ literal_is x 0 ts)

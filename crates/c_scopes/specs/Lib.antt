@@ -7,6 +7,7 @@ pub mod Limits
 pub mod Literals
 pub mod Newest
 pub mod Objects
+pub mod Pieces
 pub mod Sights
 pub mod Signatures
 pub mod Tags

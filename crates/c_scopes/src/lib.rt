@@ -11,6 +11,7 @@ pub mod fault;
 pub mod entities;
 pub mod entity;
 pub mod first;
+pub mod format;
 pub mod library;
 pub mod literal;
 pub mod object;

@@ -102,9 +102,10 @@ pub enum LibraryFunction {
     Malloc,
     Calloc,
     Free,
+    Printf,
 }
 
-/// The built function of a name, where it is one (C99 7.19.7.9, 7.19.7.6, 7.20.4.3, 7.20.3).
+/// The built function of a name, where it is one (C99 7.19.7.9, 7.19.7.6, 7.20.4.3, 7.20.3, 7.19.6.3).
 pub fn library_function(bytes: &[u8]) -> Option<LibraryFunction>
     ensures { (x : ℕ) → library_function x bytes.now ≡ option_map (signature_of x) result }
 {
@@ -120,6 +121,8 @@ pub fn library_function(bytes: &[u8]) -> Option<LibraryFunction>
         Some(LibraryFunction::Calloc)
     } else if bytes == b"free".as_slice() {
         Some(LibraryFunction::Free)
+    } else if bytes == b"printf".as_slice() {
+        Some(LibraryFunction::Printf)
     } else {
         None
     }

@@ -55,6 +55,16 @@ pub fn literal_at(texts: &Literals, offset: u32) -> Option<(usize, usize)>
     }
 }
 
+/// The bytes of the string literal at an offset.
+pub fn bytes_at(texts: &Literals, offset: u32) -> Option<&[u8]>
+    ensures { option_map (λ bytes. bytes.now) result ≡ option_map (λ l. l.1) (literal_at offset 0 (map plain_text texts.now.list.items)) }
+{
+    match texts.firsts.get(&offset) {
+        Some(number) => Some(texts.list[*number].bytes.bytes()),
+        None => None,
+    }
+}
+
 /// The number of the string literal that a typed expression is, where it is one.
 pub fn string_in(e: &Expr) -> Option<u32>
     ensures { result ≡ string_in (plain_expr e.now) }

@@ -18,10 +18,14 @@ use Rattle.c_syntax.specs.Programs.{StructType, Function, TranslationUnit}
 use Rattle.c_model.specs.Integers.{bits_of, truth, byte_of}
 use Rattle.c_model.specs.Memory.{Pointer, Null, Into, Value, Integer, Points, NoValue, Byte, Unwritten, Number as NumberByte, Store, load, moved, shifted, freed}
 use Rattle.c_model.specs.Memory.{Room, At, NoRoom, heap_room, standard_sizes}
-use Rattle.c_model.specs.State.{Scope, InputTail, EndOfInput, InputFault, ReadFault, Exits, print, read_byte, State, Breaks, Continues, Returns, End, Leaves, Over, Stuck, Undefined}
+use Rattle.c_model.specs.State.{print_all, Scope, InputTail, EndOfInput, InputFault, ReadFault, Exits, print, read_byte, State, Breaks, Continues, Returns, End, Leaves, Over, Stuck, Undefined}
 use Rattle.c_model.specs.State.{Spent, Outcome, Normal, Stop, Evaluation, on_outcome, ◌>>=◌, ◌>>◌, give, done, stop, defined, computed, as_scalar, step_from, step, find, start_of}
 use Rattle.c_model.specs.State.{object, read, read_any, put_store, changed, write, write_bytes, copy_object, tested, heap_birth, allocate, write_youngest, mark, restored, within}
 use Rattle.c_model.specs.Limits.{most_frames}
+use Rattle.c_model.specs.Strings.{string_at}
+use Rattle.c_model.specs.Formats.{Piece, Bytes, Number as NumberPiece, Character, String, pieces_of}
+use Rattle.c_model.specs.Printing.{at_end_of_string, print_string, print_pieces}
+use Rattle.std.specs.Fmt.{signed_decimal}
 use Rattle.c_model.specs.State.{answered, called, frame, Full}
 use Rattle.c_syntax.specs.declared.types.Segment.TheVariants.{Frames}
 use Rattle.c_model.specs.Logic.{TermValue, Mathematical, Addressed, Environment, Answer, Says, SaysNothing, OutOfSteps, judged}
@@ -30,7 +34,7 @@ use Rattle.c_model.specs.Meaning.{Tables, literal, Callee, is_zero, choose, trut
 use Rattle.c_model.specs.Meaning.{is_array, pointed_to, assigned, compound, bump_operator, bump_value, eval_with, place_with, evals_with, after_body, turn_with, turns}
 use Rattle.c_model.specs.Meaning.{do_turns, zero_scalars, zero_parts, string_in, write_each, fill_one, parts_or_itself, fill, fill_parts}
 use Rattle.c_model.specs.Meaning.{initialise, initialise_all, condition_with, effect_with, exec_with, else_with, first_with, item_with, items_with, put_char, get_char}
-use Rattle.c_model.specs.Meaning.{exit_with, malloc_with, calloc_with, free_with, library_call, call_with, chosen_case, after_switch, cases_with, call_of, tables_of, global_scope, definition_at}
+use Rattle.c_model.specs.Meaning.{exit_with, malloc_with, calloc_with, free_with, text_at_pointer, printf_with, library_call, call_with, chosen_case, after_switch, cases_with, call_of, tables_of, global_scope, definition_at}
 
 -- the scope at an outcome
 abbrev pub scope_after : {A : Type 0} → Outcome A → Scope
@@ -421,15 +425,42 @@ stays_exit at (Points p ∷ []) = stays_stop (Over (Undefined at))
 stays_exit at (Integer z ∷ []) = stays_stop (Over (Exits z))
 stays_exit at (v ∷ w ∷ vs) = stays_stop (Over (Undefined at))
 
-stays_library_call : (at : Place) (name : Option (List ℕ)) (vs : List Value) → Stays (library_call at name vs)
-stays_library_call at None vs = stays_stop (Over (Undefined at))
-stays_library_call at (Some name) vs =
+stays_print : (b : ℕ) → Stays (print b)
+stays_print b = record { at = λ s. refl }
+
+stays_print_all : (bytes : List ℕ) → Stays (print_all bytes)
+stays_print_all [] = stays_give tt
+stays_print_all (b ∷ bs) = stays_then (print b) (print_all bs) (stays_print b) (stays_print_all bs)
+
+stays_end_of_string : (at : Place) (ends : Bool) → Stays (at_end_of_string at ends)
+stays_end_of_string at true = stays_give tt
+stays_end_of_string at false = stays_stop (Over (Undefined at))
+
+stays_string : (at : Place) (p : Pointer) → Stays (print_string at p)
+stays_string at p = record { at = λ s. (stays_then _ _ (stays_print_all (string_at s.store p).0) (stays_end_of_string at (string_at s.store p).1)).at s }
+
+stays_pieces : (at : Place) (ps : List Piece) (vs : List Value) → Stays (print_pieces at ps vs)
+stays_pieces at [] vs = stays_give NoValue
+stays_pieces at (Bytes bs ∷ ps) vs = stays_then _ _ (stays_print_all bs) (stays_pieces at ps vs)
+stays_pieces at (NumberPiece k ∷ ps) (Integer z ∷ vs) = stays_then _ _ (stays_print_all (signed_decimal z)) (stays_pieces at ps vs)
+stays_pieces at (Character ∷ ps) (Integer z ∷ vs) = stays_then _ _ (stays_print (byte_of z)) (stays_pieces at ps vs)
+stays_pieces at (String ∷ ps) (Points p ∷ vs) = stays_then _ _ (stays_string at p) (stays_pieces at ps vs)
+stays_pieces at (piece ∷ ps) _ = stays_stop (Over (Undefined at))
+
+stays_printf : (T : Tables) (at : Place) (vs : List Value) → Stays (printf_with T at vs)
+stays_printf T at (Points p ∷ vs) = stays_bind _ _ (defined_stays at (text_at_pointer T p)) (λ bytes. stays_bind _ _ (defined_stays at (pieces_of bytes)) (λ ps. stays_pieces at ps vs))
+stays_printf T at _ = stays_stop (Over (Undefined at))
+
+stays_library_call : (T : Tables) (at : Place) (name : Option (List ℕ)) (vs : List Value) → Stays (library_call T at name vs)
+stays_library_call T at None vs = stays_stop (Over (Undefined at))
+stays_library_call T at (Some name) vs =
     stays_if (bytes_eq name (codes "putchar")) _ _ (stays_put_char at vs)
     (stays_if (bytes_eq name (codes "getchar")) _ _ (stays_get_char at vs)
     (stays_if (bytes_eq name (codes "exit")) _ _ (stays_exit at vs)
     (stays_if (bytes_eq name (codes "malloc")) _ _ (stays_malloc at vs)
     (stays_if (bytes_eq name (codes "calloc")) _ _ (stays_calloc at vs)
-    (stays_if (bytes_eq name (codes "free")) _ _ (stays_free at vs) (stays_stop (Over (Undefined at))))))))
+    (stays_if (bytes_eq name (codes "free")) _ _ (stays_free at vs)
+    (stays_if (bytes_eq name (codes "printf")) _ _ (stays_printf T at vs) (stays_stop (Over (Undefined at)))))))))
 
 -- ---- calls of a program
 
@@ -438,7 +469,7 @@ call_with_stays T globals None call n at vs = stays_stop (Over (Undefined at))
 call_with_stays T globals (Some f) call n at vs = stays_then _ _ stays_step (stays_called _)
 
 pub stays_call : (p : TranslationUnit) (n : ℕ) (at : Place) (f : Use) (vs : List Value) → Stays (call_of p n at f vs)
-stays_call p zero at f vs = stays_if (is_of_library f) _ _ (stays_library_call at (slice_get p.names f.name) vs) (stays_stop (Over Spent))
+stays_call p zero at f vs = stays_if (is_of_library f) _ _ (stays_library_call (tables_of p) at (slice_get p.names f.name) vs) (stays_stop (Over Spent))
 stays_call p (suc n) at f vs =
-    stays_if (is_of_library f) _ _ (stays_library_call at (slice_get p.names f.name) vs)
+    stays_if (is_of_library f) _ _ (stays_library_call (tables_of p) at (slice_get p.names f.name) vs)
     (call_with_stays (tables_of p) (global_scope p) (definition_at f.decl p.funcs) (call_of p n) n at vs)

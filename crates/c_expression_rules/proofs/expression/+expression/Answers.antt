@@ -10,7 +10,7 @@ use Rattle.c_expression_rules.specs.Forms.{cast_parts, size_of_parts, typed_call
 use Rattle.c_scopes.specs.Sights.{plain_sight}
 use Rattle.c_expression_rules.specs.Structs.{limit_answer}
 use Rattle.c_expression_rules.proofs.Besides.{asked_answers, limit_is, limited_told}
-use Rattle.c_expression_rules.proofs.Expressions.{call_form, call_refused, arguments_step, form_is, params_step}
+use Rattle.c_expression_rules.proofs.Expressions.{call_form, call_parts, arguments_step, form_is, params_step}
 use Rattle.c_scopes.proofs.InPlace.{done, seen, unvisited_step, within_step}
 use Rattle.c_scopes.proofs.Least.{both_answers, both_made, both_refused, one_refused}
 use Rattle.c_expression_rules.proofs.Small.{small_decayed}
@@ -18,11 +18,10 @@ use Rattle.c_expression_rules.proofs.SmallForms.{small_typed}
 use Rattle.c_scopes.proofs.Told.{array_known}
 use Rattle.c_expression_rules.proofs.expression.+expression.Goals as goal
 
-pub type_call_parts-returns-in_err-both : goal.type_call_parts-returns-in_err-both
-type_call_parts-returns-in_err-both t c =
-    let e : c.from_residual.result ≡ Err c.in_err-both.field-0.0 = search rules in
-    rw e (call_refused (plain_sight c.args.sight.now) c.args.place c.args.name (plain_exprs c.args.arguments.now.items) (plain_exprs c.type_arguments-typed.new.arguments.items) c.callee-f.result
-    c.type_arguments-typed.result c.in_err-both.field-0.0 c.callee-f.ensures (rw c.known_params.ensures at c.type_arguments-typed.ensures) (sym c.in_err-both.ensures.is))
+pub type_call_parts-returns : goal.type_call_parts-returns
+type_call_parts-returns t c =
+    rw c.both.ensures.is (call_parts (plain_sight c.args.sight.now) c.args.place c.args.name (plain_exprs c.args.arguments.now.items) (plain_exprs c.type_arguments-typed.new.arguments.items) c.callee_for-f.result
+    c.type_arguments-typed.result (rw c.deref.ensures.value at c.callee_for-f.ensures) (rw (c.known_params.ensures, c.is_printf-printed.ensures) at c.type_arguments-typed.ensures))
 
 pub type_arguments-loop-i-preserved : goal.type_arguments-loop-i-preserved
 type_arguments-loop-i-preserved t c =
@@ -39,7 +38,7 @@ type_arguments-loop-i-preserved t c =
       unvisited = unvisited_step old cur i y c.loop-i.invariant.unvisited;
       within = within_step cur i y lt;
       rest = params_step ts (take i old) (take (i + 1) old) x (map plain_type c.loop-i.rest.now) (map plain_type c.behind_first-rest.result.now) was c.loop-i.invariant.rest c.behind_first-rest.ensures;
-      done = rw c.both-done.ensures.is (arguments_step s ts (take i old) (take (i + 1) old) (take i cur) (take (i + 1) (slice_set cur i y)) x y c.loop-i.done c.type_argument-e.result was
+      done = rw c.both-done.ensures.is (arguments_step s c.args.printed ts (take i old) (take (i + 1) old) (take i cur) (take (i + 1) (slice_set cur i y)) x y c.loop-i.done c.type_argument-e.result was
           (done cur i y lt) c.loop-i.invariant.done (rw c.loop-i.invariant.rest at c.type_argument-e.ensures));
     }
 
@@ -60,7 +59,7 @@ type_argument-returns-in_err-type_value t c =
     let s = plain_sight c.args.sight.now in
     let e : c.from_residual.result ≡ Err c.in_err-type_value.field-0.0 = search rules in
     let x = plain_expr c.type_value.new.e in
-    rw e (one_refused (argument_for s (first_type (map plain_type c.args.params.now))) (λ (u : Unit {0}). x) (λ (u : Unit {0}). x) (decayed_of (typed s (plain_expr c.args.e.now)))
+    rw e (one_refused (argument_for s c.args.printed (first_type (map plain_type c.args.params.now))) (λ (u : Unit {0}). x) (λ (u : Unit {0}). x) (decayed_of (typed s (plain_expr c.args.e.now)))
     c.in_err-type_value.field-0.0 c.in_err-type_value.ensures.typed)
 
 pub type_value-returns-in_err-type_expr-clause-typed : goal.type_value-returns-in_err-type_expr-clause-typed

@@ -17,7 +17,7 @@ invariant-type_arguments-loop-i l = record {
   unvisited : goal.unvisited-type_arguments-loop-i l;
   within : l.i ≤ length l.arguments.items;
   rest : map plain_type l.rest ≡ params_behind (take l.i l.initial.arguments.items) (map plain_type l.fn.params);
-  done : Answers (λ u. plain_exprs (take l.i l.arguments.items)) (typed_arguments (plain_sight l.sight) (map plain_type l.fn.params) (plain_exprs (take l.i l.initial.arguments.items))) l.done;
+  done : Answers (λ u. plain_exprs (take l.i l.arguments.items)) (typed_arguments (plain_sight l.sight) l.printed (map plain_type l.fn.params) (plain_exprs (take l.i l.initial.arguments.items))) l.done;
 }
 
 abbrev pub decreases-type_expr : goal.decreases-type_expr
