@@ -6,3 +6,4 @@ pub mod Objects
 pub mod Depths
 pub mod ScalarTrees
 pub mod ZeroRuns
+pub mod Prints

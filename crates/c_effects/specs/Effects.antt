@@ -22,6 +22,8 @@ use Rattle.mon_syntax.specs.Registers.{Bindings, register_of}
 pub use Rattle.mon_syntax.specs.Indices.{index_of}
 use Rattle.c_effects.specs.Expressions.{register_type, value_type, converted, compound, farther, global_index, temporaries}
 use Rattle.c_effects.specs.Expressions.{value, place, before, one, set, setup}
+pub use Rattle.c_effects.specs.Printing.{first_of}
+use Rattle.c_effects.specs.Printing.{print_call}
 
 -- ---- full expressions: one without effects, or a call, whose value a temporary register takes, perhaps in a cast
 
@@ -51,11 +53,7 @@ full_value p bound rs (Node at t (source.Cast to (Node at2 u (source.Call f es))
     converted u to (Register (length (rs ++ arguments_temporaries es)))
 full_value p bound rs e = value p bound rs e
 
-abbrev pub first_of : List MonExpression → MonExpression
-first_of [] = Constant I32 (pos 0)
-first_of (e ∷ es) = e
-
--- a call of a function of the library, by its name; nothing else is in the library
+-- a call of a function of the library but printf, by its name; nothing else is in the library
 abbrev pub library_call : Option ℕ → List ℕ → List MonExpression → MonStatements
 library_call r name args =
     if bytes_eq name (codes "putchar") then one (PutChar r (first_of args))
@@ -65,9 +63,13 @@ library_call r name args =
     else (if bytes_eq name (codes "calloc") then one (Act r Calloc args)
     else (if bytes_eq name (codes "free") then one (Act r Free args) else NoStatement)))))
 
--- a call, and the register that takes its value
-abbrev pub call : TranslationUnit → Option ℕ → Use → List MonExpression → MonStatements
-call p r f args = if is_of_library f then library_call r (name_at p.names f.name) args else one (Call r (index_of f.decl p.funcs) args)
+-- the same and printf, by its name and its arguments
+abbrev pub named_call : TranslationUnit → Option ℕ → List ℕ → Expressions → List MonExpression → MonStatements
+named_call p r name es args = if bytes_eq name (codes "printf") then print_call p es args else library_call r name args
+
+-- a call by its arguments and their values, and the register that takes its own
+abbrev pub call : TranslationUnit → Option ℕ → Use → Expressions → List MonExpression → MonStatements
+call p r f es args = if is_of_library f then named_call p r (name_at p.names f.name) es args else one (Call r (index_of f.decl p.funcs) args)
 
 -- ---- objects that are assigned to
 
@@ -219,7 +221,7 @@ zero_parts structs r k d cs = zeros_at r k d 0 (scalars_in structs d cs)
 module _ (p : TranslationUnit) (bound : Bindings) where
   -- a call with its arguments, and the register that takes its value
   abbrev pub called : List MonType → Option ℕ → Use → Expressions → MonStatements
-  called rs r f es = before (arguments_setup p bound rs es) (call p r f (arguments p bound rs es))
+  called rs r f es = before (arguments_setup p bound rs es) (call p r f es (arguments p bound rs es))
 
   -- what stands before the value of a full expression
   abbrev pub full_setup : List MonType → Expression → MonStatements

@@ -396,7 +396,7 @@ module _ (p : TranslationUnit) where
           (prepare (rs ++ changed_front (value_type t) a b) b)
       prepare rs (Node at t (source.Bump op a)) =
           bumped_setup rs (gives_old op) true op t a (object_setup (is_direct p a) (length (rs ++ takes a)) (prepare rs a) (origin rs a))
-      prepare rs (Node at t (source.Call f es)) = before (prepare_all rs es) (call p (Some (length (rs ++ all_takes es))) f (all_results rs es))
+      prepare rs (Node at t (source.Call f es)) = before (prepare_all rs es) (call p (Some (length (rs ++ all_takes es))) f es (all_results rs es))
       prepare rs (Node at t (source.Cast to a)) = prepare rs a
       prepare rs (Node at t (source.SizeOfType u)) = NoStatement
       prepare rs (Node at t (source.SizeOfExpr a)) = NoStatement
@@ -436,7 +436,7 @@ module _ (p : TranslationUnit) where
           (prepare (rs ++ changed_front (value_type t) a b) b)
       act rs (Node at t (source.Bump op a)) =
           bumped_setup rs false false op t a (object_setup (is_direct p a) (length (rs ++ takes a)) (prepare rs a) (origin rs a))
-      act rs (Node at t (source.Call f es)) = before (prepare_all rs es) (call p None f (all_results rs es))
+      act rs (Node at t (source.Call f es)) = before (prepare_all rs es) (call p None f es (all_results rs es))
       act rs (Node at t (source.Cast to a)) = act rs a
       act rs (Node at t (source.SizeOfType u)) = NoStatement
       act rs (Node at t (source.SizeOfExpr a)) = NoStatement

@@ -1,4 +1,5 @@
 pub mod Expressions
+pub mod Printing
 pub mod Effects
 pub mod Full
 pub mod Letters

@@ -1,49 +1,39 @@
 //! Calls (C99 6.5.2.2).
 
 ghost use Rattle.std.specs.Prelude.{◌≡◌, IfOk, None, OnOk, map};
+ghost use Rattle.c_syntax.specs.Expressions.{plain_exprs};
 ghost use Rattle.c_syntax.specs.Programs.{plain_program};
 ghost use Rattle.mon_syntax.specs.Trees.{Exit, PutChar, plain_expr as plain_monitored, plain_stmts};
 ghost use Rattle.c_effects.specs.Expressions.{before, one};
-ghost use Rattle.c_effects.specs.Effects.{call, first_of, library_call};
+ghost use Rattle.c_effects.specs.Effects.{call, first_of, library_call, named_call};
 
-use crate::operator::constant;
 use crate::part::then;
+use crate::print::{print_call, take_first};
 use c_scopes::sight::name_at;
-use c_syntax::Use;
-use mon_syntax::{MemoryCall, MonExpr, MonStmt, MonStmtKind, MonType, Registers, numbered};
+use c_syntax::{Expr, Use};
+use mon_syntax::{MemoryCall, MonExpr, MonStmt, MonStmtKind, Registers, numbered};
 use std::alloc::{AllocError, Global};
-
-// The first argument, 0 where there is none.
-fn first_of(alloc: Global, mut args: Vec<MonExpr>) -> Result<MonExpr, AllocError>
-    ensures { IfOk result (λ e. plain_monitored e ≡ first_of (map plain_monitored args.items)) }
-{
-    if args.is_empty() {
-        constant(alloc, MonType::I32, 0)
-    } else {
-        Ok(args.swap_remove(0))
-    }
-}
 
 fn put_char(
     alloc: Global,
     into: Option<u32>,
-    args: Vec<MonExpr>,
+    mut args: Vec<MonExpr>,
     to: &mut Vec<MonStmt>,
 ) -> Result<(), AllocError>
     ensures { OnOk result (plain_stmts to.new.items ≡ before (plain_stmts to.old.items) (one (PutChar into (first_of (map plain_monitored args.items))))) }
 {
-    let e = first_of(alloc, args)?;
+    let e = take_first(alloc, &mut args)?;
     then(alloc, to, MonStmtKind::PutChar(into, e))
 }
 
-fn exit(alloc: Global, args: Vec<MonExpr>, to: &mut Vec<MonStmt>) -> Result<(), AllocError>
+fn exit(alloc: Global, mut args: Vec<MonExpr>, to: &mut Vec<MonStmt>) -> Result<(), AllocError>
     ensures { OnOk result (plain_stmts to.new.items ≡ before (plain_stmts to.old.items) (one (Exit (first_of (map plain_monitored args.items))))) }
 {
-    let e = first_of(alloc, args)?;
+    let e = take_first(alloc, &mut args)?;
     then(alloc, to, MonStmtKind::Exit(e))
 }
 
-// A call of a function of the library, by its name.
+// A call of a function of the library but printf, by its name.
 #[tactic(auto, using(crate::proofs::Sequences::before_none))]
 fn library_call(
     alloc: Global,
@@ -71,20 +61,48 @@ fn library_call(
     }
 }
 
-/// A call with the values of its arguments, and the register that takes its own.
-pub fn call(
+// The same and printf, by its name and its arguments.
+fn named_call(
     alloc: Global,
     names: &Registers<'_>,
     into: Option<u32>,
-    f: Use,
+    called: (&[u8], &[Expr]),
     args: Vec<MonExpr>,
     to: &mut Vec<MonStmt>,
 ) -> Result<(), AllocError>
     ensures { OnOk result (plain_stmts to.new.items ≡ before (plain_stmts to.old.items)
-        (call (plain_program names.now.program) into f (map plain_monitored args.items))) }
+        (named_call (plain_program names.now.program) into called.entry.0.now (plain_exprs called.entry.1.now) (map plain_monitored args.items))) }
 {
+    let (name, source) = called;
+    if name == b"printf".as_slice() {
+        print_call(alloc, names, source, args, to)
+    } else {
+        library_call(alloc, into, name, args, to)
+    }
+}
+
+/// A call by its arguments and their values, and the register that takes its own.
+pub fn call(
+    alloc: Global,
+    names: &Registers<'_>,
+    into: Option<u32>,
+    called: (Use, &[Expr]),
+    args: Vec<MonExpr>,
+    to: &mut Vec<MonStmt>,
+) -> Result<(), AllocError>
+    ensures { OnOk result (plain_stmts to.new.items ≡ before (plain_stmts to.old.items)
+        (call (plain_program names.now.program) into called.entry.0 (plain_exprs called.entry.1.now) (map plain_monitored args.items))) }
+{
+    let (f, source) = called;
     if f.decl == Use::LIBRARY {
-        library_call(alloc, into, name_at(names.names(), f.name), args, to)
+        named_call(
+            alloc,
+            names,
+            into,
+            (name_at(names.names(), f.name), source),
+            args,
+            to,
+        )
     } else {
         let index = numbered(names.index_of(f.decl))?;
         then(alloc, to, MonStmtKind::Call(into, index, args))

@@ -19,6 +19,7 @@ pub mod call;
 pub mod inner;
 pub mod leaf;
 pub mod object;
+pub mod print;
 
 // which values are kept
 pub mod settled;

@@ -81,10 +81,10 @@ either_code_by n test e = one (If test (set (length (n.table.kinds ++ takes_by n
 
 abbrev pub called_value_by : Names → Use → Expressions → MonStatements
 called_value_by n f es =
-    before (prepare_all_by n es) (call (unit_of n) (Some (length (n.table.kinds ++ all_takes (unit_of n) es))) f (all_results_by n es))
+    before (prepare_all_by n es) (call (unit_of n) (Some (length (n.table.kinds ++ all_takes (unit_of n) es))) f es (all_results_by n es))
 
 abbrev pub called_alone_by : Names → Use → Expressions → MonStatements
-called_alone_by n f es = before (prepare_all_by n es) (call (unit_of n) None f (all_results_by n es))
+called_alone_by n f es = before (prepare_all_by n es) (call (unit_of n) None f es (all_results_by n es))
 
 abbrev pub act_if_any_by : Names → Option Expression → MonStatements
 act_if_any_by n None = NoStatement

@@ -67,7 +67,7 @@ pub fn called(
     let (f, t) = callee;
     let values = arguments(alloc, args, names, to)?;
     let number = names.fresh(value_type(t))?;
-    call(alloc, names, Some(number), f, values, to)?;
+    call(alloc, names, Some(number), (f, args), values, to)?;
     register(alloc, number)
 }
 
@@ -86,7 +86,7 @@ fn call_alone(
     ensures letters { OnOk result (ValuesHaveLetters (plain_exprs args.now)) }
 {
     let values = arguments(alloc, args, names, to)?;
-    call(alloc, names, None, f, values, to)
+    call(alloc, names, None, (f, args), values, to)
 }
 
 /// Translates an expression that stands for its effects. Nothing is left of one that has none.
