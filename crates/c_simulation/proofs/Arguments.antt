@@ -4,28 +4,30 @@ use Rattle.std.proofs.lemmas.List.{append-nil, length-append}
 use Rattle.c_syntax.specs.declared.place.Place.{Place}
 use Rattle.c_syntax.specs.declared.expression.Use.{Use}
 use Rattle.c_syntax.specs.Ctypes.{PlainType}
-use Rattle.c_syntax.specs.Expressions.{Expression, Node, Call, Expressions, NoExpression, Following, type_of}
+use Rattle.c_syntax.specs.Expressions.{Expression, Node, Call, Cast, Text, Expressions, NoExpression, Following, type_of}
 use Rattle.c_syntax.specs.Layouts.{Scalar, scalar_of}
 use Rattle.c_model.specs.Memory.{Value}
 use Rattle.c_model.specs.State.{State, Outcome, Evaluation, on_outcome, ◌>>=◌, give}
-use Rattle.c_model.specs.Meaning.{Tables, tables_of, eval_with, evals_with}
-use Rattle.c_model.specs.TypedTrees.{HaveTypes}
+use Rattle.c_model.specs.Meaning.{Tables, tables_of, eval_with, evals_with, is_array}
+use Rattle.c_model.specs.ExpressionTyping.{Sight}
+use Rattle.c_model.specs.TypedTrees.{HaveTypes, AreWellTyped}
 use Rattle.c_model.specs.AcceptedPrograms.{AreScalar}
 use Rattle.c_model.proofs.Agreement.{extends_trans}
 use Rattle.mon_syntax.specs.declared.tree.MonType.{MonType}
 use Rattle.mon_syntax.specs.Registers.{Bindings}
+use Rattle.mon_syntax.specs.Checking.{same_type}
 use Rattle.mon_syntax.specs.Meaning.{Done, Next, then_do, eval_all}
 use Rattle.mon_syntax.specs.Meaning.{◌>>=◌ as bind}
 use Rattle.mon_syntax.specs.BlockMemory.{Blocks, over_blocks}
 use Rattle.mon_syntax.specs.Trees.{MonExpression, Register, MonStatements}
-use Rattle.c_effects.specs.Expressions.{value_type, before, set}
+use Rattle.c_effects.specs.Expressions.{value_type, before, set, literal, converted}
 use Rattle.c_effects.specs.Effects.{call}
-use Rattle.c_effects.specs.Full.{are_pure, is_settled, keeps_all, takes, all_takes, result, all_results, prepare, prepare_all}
+use Rattle.c_effects.specs.Full.{are_pure, is_settled, kept_value, keeps_all, takes, all_takes, result, all_results, prepare, prepare_all}
 use Rattle.c_simulation.specs.SameRegisters.{Same}
 use Rattle.c_simulation.specs.Standing.{Setting, Target, Did, runs, Has, IsOf, Here, Standing, Beside}
 use Rattle.c_simulation.specs.Following.{Later, IsResultOf, written}
 use Rattle.c_simulation.specs.Reaching.{Reaches, Arrives, IsOver, IsUndefined, Valued}
-use Rattle.c_simulation.specs.Calls.{AreOf, HaveAll, CallDoes, DoesCall, CallsNothing, Called, Gives, EndsRun, HasNoMeaning, IsCalled, value_of, takes as takes_value}
+use Rattle.c_simulation.specs.Calls.{AreOf, HaveAll, CallDoes, DoesCall, CallsNothing, Called, Gives, EndsRun, HasNoMeaning, Begin, IsCalled, value_of, takes as takes_value}
 use Rattle.c_simulation.proofs.Results.{written_then}
 use Rattle.c_simulation.proofs.Registers.{same_all, same_trans, same_set, get-set_same, longer}
 use Rattle.c_simulation.proofs.Following.{later_same}
@@ -209,7 +211,17 @@ module _ (w : Setting) (n : ℕ) (h : Here) (low : ℕ) (bound : Bindings) where
         by (EndsRun e z to o d2 a l f) = IsOver e z to o d2 a l (ap (λ q. then_do q (takes_value None after)) f)
         by (HasNoMeaning at to o a l ext) = IsUndefined at to o a l (extends_trans o (written q) _ ext (written_then q (takes_value None after)))
 
-  module _ (at : Place) (u : PlainType) (f : Use) (es : Expressions) (rs : List MonType) (behind : low ≤ length rs) (called : IsCalled w n f u es) (each : EachComputes es) where
+  -- the address of a literal is the value of an argument as it stands
+  pub begins : (sight : Sight) (es : Expressions) → AreWellTyped sight es → (rs : List MonType) → Begin w es (all_results w.unit bound rs es)
+  begins sight (Following (Node at t (Cast to (Node at2 u (Text j)))) es) well rs k e =
+      let same : j ≡ k = cc in
+      let array : is_array u ≡ true = ap is_array well.0.0.ctype in
+      ap (λ b. kept_value (not (if b then true else (same_type (value_type u) (value_type to) && true)) && not (are_pure es)) (length (rs ++ [])) (if b then literal w.unit j else converted u to (literal w.unit j))) array
+      ∙ ap (literal w.unit) same
+  begins sight _ well rs k e = absurd cc
+
+  module _ (at : Place) (u : PlainType) (f : Use) (es : Expressions) (rs : List MonType) (behind : low ≤ length rs) (called : IsCalled w n f u es) (each : EachComputes es)
+      (begin : Begin w es (all_results w.unit bound rs es)) where
     abbrev r : ℕ
     r = length (rs ++ all_takes w.unit es)
 
@@ -219,13 +231,13 @@ module _ (w : Setting) (n : ℕ) (h : Here) (low : ℕ) (bound : Bindings) where
     -- the arguments, and then the call
     call_reaches : (P : Value → List Value → State → Target → Type 0) (into : Option ℕ)
         → ((x : Outcome Value) (to : State) (after : List Value) (d : Did) → to.calls ≡ w.active → length after ≡ w.registers → CallDoes to u x into after d → Reaches w P (length rs) after to x d)
-        → FromHere w n h low bound P r rs (eval_with T this w.call) (before (prepare_all w.unit bound rs es) (call w.unit into f (all_results w.unit bound rs es)))
+        → FromHere w n h low bound P r rs (eval_with T this w.call) (before (prepare_all w.unit bound rs es) (call w.unit into f es (all_results w.unit bound rs es)))
     call_reaches P into go s t regs le m be room =
-        reaches_before w n (AreValued w called.types r (all_results w.unit bound rs es)) P (length rs) regs s t (evals_with T es w.call s) (prepare_all w.unit bound rs es) (call w.unit into f (all_results w.unit bound rs es)) (λ vs. w.call at f vs)
-        (arguments_reach es called.types rs called.scalars called.arguments each behind s t regs le m be room) (λ vs to after v o same later be2 p.
+        reaches_before w n (AreValued w called.types r (all_results w.unit bound rs es)) P (length rs) regs s t (evals_with T es w.call s) (prepare_all w.unit bound rs es) (call w.unit into f es (all_results w.unit bound rs es))
+        (λ vs. w.call at f vs) (arguments_reach es called.types rs called.scalars called.arguments each behind s t regs le m be room) (λ vs to after v o same later be2 p.
         let active : to.calls ≡ w.active = later.calls ∙ m.active in
-        go (w.call at f vs to) to after (runs w n v (call w.unit into f (all_results w.unit bound rs es)) after) active (same.long ∙ m.registers)
-        (called.does vs p.0 to v (even w to v active be2) later.bounded (omega (arith, le, later.spent)) at into after (all_results w.unit bound rs es) (p.1 after (same_all r after))))
+        go (w.call at f vs to) to after (runs w n v (call w.unit into f es (all_results w.unit bound rs es)) after) active (same.long ∙ m.registers)
+        (called.does vs p.0 to v (even w to v active be2) later.bounded (omega (arith, le, later.spent)) at into after (all_results w.unit bound rs es) (p.1 after (same_all r after)) begin))
 
     pub call_computes : (k : Scalar) → scalar_of u ≡ Some k → Computes w n h low bound this k rs
     call_computes k is s t regs le m be room =

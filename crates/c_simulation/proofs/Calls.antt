@@ -1,7 +1,7 @@
 -- Between calls and statements.
 use Rattle.std.proofs.Common.{◌≡◌, sym, ◌∙◌}
 use Rattle.c_model.specs.State.{State}
-pub use Rattle.c_simulation.specs.Calls.{Even, value_of, Alike, Called, Gives, EndsRun, HasNoMeaning, AreOf, HaveAll, takes, CallDoes, DoesCall, CallsNothing, AllDo, IsCalled}
+pub use Rattle.c_simulation.specs.Calls.{Even, value_of, Alike, Called, Gives, EndsRun, HasNoMeaning, AreOf, HaveAll, Begin, takes, CallDoes, DoesCall, CallsNothing, AllDo, IsCalled}
 use Rattle.c_simulation.specs.Standing.{Target, Setting, Beside}
 
 pub even : (w : Setting) (s : State) (t : Target) → s.calls ≡ w.active → Beside w s.store s t → Even s t

@@ -19,7 +19,7 @@ use Rattle.c_model.specs.Pure.{IsPure}
 use Rattle.c_model.specs.State.{State, Over, Undefined, Stop, on_outcome, defined, start_of, find}
 use Rattle.c_model.specs.Meaning.{Tables, tables_of, eval_with, place_with, operate_value, literal, is_member}
 use Rattle.c_model.specs.ExpressionTyping.{Sight, is_place, has_object, is_struct}
-use Rattle.c_model.specs.TypedTrees.{WellTyped, IsScalar, IsInteger, IsPromoted, BinaryTypes, IndexTypes, CastTypes, Calls, Assigns, ToScalar, ToStruct, CompoundTypes, ToInteger, ToPointer}
+use Rattle.c_model.specs.TypedTrees.{WellTyped, AreWellTyped, IsScalar, IsInteger, IsPromoted, BinaryTypes, IndexTypes, CastTypes, Calls, Assigns, ToScalar, ToStruct, CompoundTypes, ToInteger, ToPointer}
 use Rattle.mon_syntax.specs.declared.tree.MonType.{MonType}
 use Rattle.mon_syntax.specs.Registers.{Bindings}
 use Rattle.mon_syntax.specs.Trees.{NoStatement}
@@ -40,7 +40,7 @@ use Rattle.c_simulation.proofs.Members.{inner_array}
 use Rattle.c_simulation.proofs.Operands.{FromHere, Computes, Locates, Acts, ActsAt, Kinded, binary_computes}
 use Rattle.c_simulation.proofs.Conditions.{both_reaches, either_reaches, choice_computes, not_computes, number_typed}
 use Rattle.c_simulation.proofs.Designated.{deref_locates, deref_computes, dot_locates, dot_computes, arrow_locates, arrow_computes, index_locates, index_computes, address_computes}
-use Rattle.c_simulation.proofs.Arguments.{EachComputes, call_computes, call_acts}
+use Rattle.c_simulation.proofs.Arguments.{EachComputes, begins, call_computes, call_acts}
 use Rattle.c_simulation.proofs.AssignedObjects.{Originates, ObjectReached, place_originates, dot_originates, arrow_originates, object_reached, comma_computes, comma_locates, comma_originates, comma_acts}
 use Rattle.c_simulation.proofs.Assignments.{assign_computes, assign_acts, assign_acts_at, struct_locates, struct_originates, struct_acts, struct_acts_at}
 use Rattle.c_simulation.proofs.Changes.{compound_computes, compound_acts, bump_computes, bump_acts}
@@ -398,8 +398,8 @@ module _ (w : Setting) (n : ℕ) (h : Here) (sight : Sight) (scene : Scene w n s
       (λ k rs is l behind. bump_computes w n h low bound sight at t a k is rs behind (object rs l behind) op (bump_types sight op t int_type types))
       (λ rs l behind. bump_acts w n h low bound sight at t a x.scalar x.is rs behind (object rs l behind) op (bump_types sight op t int_type types))
 
-  pub of_call : (at : Place) (t : PlainType) (f : Use) (es : Expressions) → Calls sight f t es → (ValuesHaveLetters es → EachComputes w n h low bound es) → Does (Node at t (Call f es))
-  of_call at t f es c each =
+  pub of_call : (at : Place) (t : PlainType) (f : Use) (es : Expressions) → AreWellTyped sight es → Calls sight f t es → (ValuesHaveLetters es → EachComputes w n h low bound es) → Does (Node at t (Call f es))
+  of_call at t f es well c each =
       value_only (Node at t (Call f es)) refl (λ s. refl)
-      (λ k rs is l behind. call_computes w n h low bound at t f es rs behind (scene.calls f t es c) (each l) k is)
-      (λ rs l behind. call_acts w n h low bound at t f es rs behind (scene.calls f t es c) (each l))
+      (λ k rs is l behind. call_computes w n h low bound at t f es rs behind (scene.calls f t es c) (each l) (begins w n h low bound sight es well rs) k is)
+      (λ rs l behind. call_acts w n h low bound at t f es rs behind (scene.calls f t es c) (each l) (begins w n h low bound sight es well rs))

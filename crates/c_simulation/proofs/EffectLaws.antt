@@ -49,7 +49,7 @@ module _ (w : Setting) (n : ℕ) (h : Here) (sight : Sight) (scene : Scene w n s
     does (Node at t (Assign None a b)) q = of_assign w n h sight scene low bound at t a b q.2 q.4 q.5 (does a q.0) (does b q.1)
     does (Node at t (Assign (Some op) a b)) q = of_compound w n h sight scene low bound at t op a b q.2 q.4 (does a q.0) (does b q.1)
     does (Node at t (Bump op a)) q = of_bump w n h sight scene low bound at t op a q.1 q.3 (does a q.0)
-    does (Node at t (Call f es)) q = of_call w n h sight scene low bound at t f es q.1 (each es q.0)
+    does (Node at t (Call f es)) q = of_call w n h sight scene low bound at t f es q.0 q.1 (each es q.0)
 
     each : (es : Expressions) → AreWellTyped sight es → ValuesHaveLetters es → EachComputes w n h low bound es
     each NoExpression q l = tt

@@ -11,6 +11,7 @@ pub mod Following
 pub mod Calls
 -- expressions
 pub mod Values
+pub mod Printing
 pub mod PointerValues
 pub mod Evaluating
 pub mod Reaching

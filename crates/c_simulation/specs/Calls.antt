@@ -11,12 +11,13 @@ use Rattle.c_model.specs.MonitoredRuns.{machine_end}
 use Rattle.c_model.specs.MonitoredRuns as machine
 use Rattle.c_model.specs.Reports.{Extends}
 use Rattle.c_model.specs.ExpressionTyping.{Sight}
-use Rattle.c_model.specs.TypedTrees.{HaveTypes, Calls}
+use Rattle.c_model.specs.TypedTrees.{HaveTypes, Calls, literal_in}
 use Rattle.c_model.specs.AcceptedPrograms.{AreScalar}
 use Rattle.mon_syntax.specs.Meaning.{Result, Done, Stops, Next, then_do, given_to, eval_all}
 use Rattle.mon_syntax.specs.BlockMemory.{Blocks, over_blocks}
 use Rattle.mon_syntax.specs.Trees.{MonExpression}
-use Rattle.c_effects.specs.Effects.{call}
+use Rattle.c_effects.specs.Expressions.{literal}
+use Rattle.c_effects.specs.Effects.{call, first_of}
 use Rattle.c_simulation.specs.Following.{written, Later, IsResult}
 use Rattle.c_simulation.specs.Standing.{Target, Did, Setting, Knows, runs, Bounded}
 
@@ -65,19 +66,23 @@ pub data CallDoes (s : State) (result : PlainType) (r : Outcome Value) (into : O
   DoesCall : (q : Result Target Value) → d ≡ then_do q (takes into regs) → Called s result r q → CallDoes s result r into regs d
   CallsNothing : (at : Place) → r ≡ Stop (Over (Undefined at)) s → CallDoes s result r into regs d
 
--- what a call with arguments of these types does
-abbrev pub AllDo : Setting → ℕ → Use → PlainType → List PlainType → Type 0
-AllDo w n f result types =
+-- the values of these arguments begin with the address of a literal, where the first of them is that
+abbrev pub Begin : Setting → Expressions → List MonExpression → Type 0
+Begin w es args = (k : ℕ) → literal_in es ≡ Some k → first_of args ≡ literal w.unit k
+
+-- what a call with these arguments, of these types, does
+abbrev pub AllDo : Setting → ℕ → Use → Expressions → PlainType → List PlainType → Type 0
+AllDo w n f es result types =
     (vs : List Value) → AreOf types vs → (s : State) (t : Target) → Even s t → Bounded s.store → s.steps ≤ n → (at : Place) (into : Option ℕ)
-    (regs : List Value) (args : List MonExpression) → HaveAll w args regs t.mem vs
-    → CallDoes s result (w.call at f vs s) into regs (runs w n t (call w.unit into f args) regs)
+    (regs : List Value) (args : List MonExpression) → HaveAll w args regs t.mem vs → Begin w es args
+    → CallDoes s result (w.call at f vs s) into regs (runs w n t (call w.unit into f es args) regs)
 
 -- a function that is called with arguments of these types
 pub record IsCalled (w : Setting) (n : ℕ) (f : Use) (result : PlainType) (es : Expressions) : Type 0 where
   pub types : List PlainType
   pub scalars : AreScalar types
   pub arguments : HaveTypes types es
-  pub does : AllDo w n f result types
+  pub does : AllDo w n f es result types
 
 -- where a part of the program stands: what typing knows of the program there, and that the functions in sight do what the source's calls do
 pub record Scene (w : Setting) (n : ℕ) (sight : Sight) : Type 0 where
