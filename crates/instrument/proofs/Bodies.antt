@@ -166,7 +166,7 @@ sizes_fit p s same t h = lt-ltb (size_of p.structs t) 18446744073709551616 (know
 
 module _ (p : TranslationUnit) (globals : List Value) (main index : ℕ) (f : Function) (part : Part p f) (body : HasBody p f part) (call : Callee) (calls : monitored.Calls over_blocks) (n : ℕ)
     (literals : LiteralsStand p globals)
-    (all_calls : (store : Store) (active : ℕ) (s : Sight) → s.names ≡ part.sight.names → s.functions ≡ part.sight.functions → (u : Use) (t : PlainType) (es : Expressions) → Calls s u t es
+    (all_calls : (store : Store) (active : ℕ) (s : Sight) → s.names ≡ part.sight.names → s.texts ≡ part.sight.texts → s.functions ≡ part.sight.functions → (u : Use) (t : PlainType) (es : Expressions) → Calls s u t es
     → IsCalled (setting p globals main index f call calls n store active) n u t es) where
   abbrev T : Tables
   T = tables_of p
@@ -202,7 +202,7 @@ module _ (p : TranslationUnit) (globals : List Value) (main index : ℕ) (f : Fu
     }
 
     scene : Scene w n sight
-    scene = scene_parameters w n outer f.params (record { knows = knows; calls = λ u t es c. all_calls store active outer refl refl u t es c })
+    scene = scene_parameters w n outer f.params (record { knows = knows; calls = λ u t es c. all_calls store active outer refl refl refl u t es c })
 
     abbrev living : List ℕ
     living = with_numbers f.params names

@@ -4,7 +4,7 @@ use Rattle.std.proofs.lemmas.List.{append-nil}
 use Rattle.std.proofs.lemmas.Bool.Decides.{nat_tests}
 use Rattle.std.specs.Prelude.{slice_get, bytes_eq, codes}
 use Rattle.c_syntax.specs.declared.place.Place.{Place}
-use Rattle.c_syntax.specs.declared.types.CInt.TheVariants.{I32, U64}
+use Rattle.c_syntax.specs.declared.types.CInt.TheVariants.{I8, I32, U64}
 use Rattle.c_syntax.specs.declared.expression.Use.{Use}
 use Rattle.c_syntax.specs.Ctypes.{PlainType, Void, Int, Ptr, int_type}
 use Rattle.c_syntax.specs.Expressions.{Expressions}
@@ -34,20 +34,23 @@ use Rattle.c_simulation.proofs.Results.{one_is}
 use Rattle.c_model.specs.AcceptedPrograms.{AreScalar}
 use Rattle.c_simulation.proofs.Calls.{Called, EndsRun, HaveAll, takes, DoesCall, AllDo, IsCalled}
 use Rattle.instrument.proofs.Functions.{setting, call_follows}
-use Rattle.instrument.proofs.LibraryNames.{IsLibrary, IsPutChar, IsGetChar, IsExit, IsMalloc, IsCalloc, IsFree, library_is}
-use Rattle.instrument.proofs.Library.{putchar_does, getchar_does, exit_does, malloc_does, calloc_does, free_does}
+use Rattle.c_model.specs.Library.{is_library_name}
+use Rattle.c_model.specs.Formats.{types_of as directives}
+use Rattle.instrument.proofs.Formats.{Asks, format_scalar, not_printf}
+use Rattle.instrument.proofs.LibraryNames.{IsLibrary, IsPutChar, IsGetChar, IsExit, IsMalloc, IsCalloc, IsFree, IsPrintf, library_is}
+use Rattle.instrument.proofs.Library.{putchar_does, getchar_does, exit_does, malloc_does, calloc_does, free_does, printf_does}
 use Rattle.instrument.proofs.Resolved.{IsResolved, IsFunction, IsOfLibrary}
 use Rattle.instrument.proofs.Programs.{Part, Parts, picked, index_by, IsPicked, is_picked, has_number, definition_is, index_is}
 use Rattle.instrument.proofs.Bodies.{LiteralsStand, first_of, has_body, body_follows, has_room, parameters_are, parameters_own, parameters_scalars}
 use Rattle.instrument.proofs.Parameters.{AreScalars}
 
 -- by the signature that is called
-called_as : (w : Setting) (n : ℕ) (f : Use) (t : PlainType) (es : Expressions) (params : List PlainType) (result : PlainType) → AreScalar params → HaveTypes params es → t ≡ result → AllDo w n f result params → IsCalled w n f t es
+called_as : (w : Setting) (n : ℕ) (f : Use) (t : PlainType) (es : Expressions) (params : List PlainType) (result : PlainType) → AreScalar params → HaveTypes params es → t ≡ result → AllDo w n f es result params → IsCalled w n f t es
 called_as w n f t es params result scalars types same does = record {
   types = params;
   scalars = scalars;
   arguments = types;
-  does = subst (λ r. AllDo w n f r params) (sym same) does;
+  does = subst (λ r. AllDo w n f es r params) (sym same) does;
 }
 
 parameters_scalar : (ds : List Declaration) → AreScalars ds → AreScalar (types_of ds)
@@ -116,7 +119,7 @@ module _ (p : TranslationUnit) (parts : Parts p p.funcs) (gs : List Value)
 
   -- the calls of all functions do the same
   abbrev pub CallsAt : ℕ → Type 0
-  CallsAt k = (registers base : ℕ) (around : List LiveBlock) (active : ℕ) (current : Function) (part : Part p current) (s : Sight) → s.names ≡ part.sight.names → s.functions ≡ part.sight.functions
+  CallsAt k = (registers base : ℕ) (around : List LiveBlock) (active : ℕ) (current : Function) (part : Part p current) (s : Sight) → s.names ≡ part.sight.names → s.texts ≡ part.sight.texts → s.functions ≡ part.sight.functions
       → (f : Use) (t : PlainType) (es : Expressions) → Calls s f t es → IsCalled (at_depth k registers base around active) k f t es
 
   module _ (registers base : ℕ) (around : List LiveBlock) (active : ℕ) where
@@ -124,28 +127,37 @@ module _ (p : TranslationUnit) (parts : Parts p p.funcs) (gs : List Value)
     w k = at_depth k registers base around active
 
     -- calls of the library
-    library_called : (k : ℕ) (f : Use) (t : PlainType) (es : Expressions) (callee : Signature) → is_of_library f ≡ true → library_function f.name (name_at p.names f.name) ≡ Some callee → t ≡ callee.result → HaveTypes callee.params es
-        → IsCalled (w k) k f t es
-    library_called k f t es callee l e result types = by (library_is f.name name callee e)
+    library_called : (k : ℕ) (f : Use) (t : PlainType) (es : Expressions) (callee : Signature) (params : List PlainType) → is_of_library f ≡ true → library_function f.name (name_at p.names f.name) ≡ Some callee → t ≡ callee.result
+        → Asks p (name_at p.names f.name) es callee.params params → HaveTypes params es → IsCalled (w k) k f t es
+    library_called k f t es callee params l e result asks types = by (library_is f.name name callee e)
       where
         name : List ℕ
         name = name_at p.names f.name
 
-        called : (g : Signature) → callee ≡ g → AreScalar g.params → AllDo (w k) k f g.result g.params → IsCalled (w k) k f t es
-        called g same scalars does =
-            called_as (w k) k f t es g.params g.result scalars (subst (λ (g : Signature). HaveTypes g.params es) same types) (result ∙ ap (λ (g : Signature). g.result) same) does
+        -- but printf
+        called : (y : List ℕ) (g : Signature) → name ≡ y → callee ≡ g → bytes_eq y (codes "printf") ≡ false → AreScalar g.params → AllDo (w k) k f es g.result g.params → IsCalled (w k) k f t es
+        called y g is same other scalars does =
+            let plain : params ≡ g.params = asks.plain (ap (λ x. bytes_eq x (codes "printf")) is ∙ other) ∙ ap (λ (g : Signature). g.params) same in
+            called_as (w k) k f t es g.params g.result scalars (subst (λ ts. HaveTypes ts es) plain types) (result ∙ ap (λ (g : Signature). g.result) same) does
+
+        printf_called : name ≡ codes "printf" → callee ≡ of_library f.name (Ptr (Int I8) ∷ []) Void → IsCalled (w k) k f t es
+        printf_called is same =
+            let format = asks.format (ap (λ x. bytes_eq x (codes "printf")) is) in
+            called_as (w k) k f t es (Ptr (Int I8) ∷ directives format.pieces) Void (format_scalar format.pieces) (subst (λ ts. HaveTypes ts es) format.types types) (result ∙ ap (λ (g : Signature). g.result) same)
+            (printf_does (w k) k (suc k) refl f l es is format.number format.literal format.pieces format.first format.there format.said (literals.points format.number format.literal format.there))
 
         by : IsLibrary f.name name callee → IsCalled (w k) k f t es
-        by (IsPutChar is same) = called (of_library f.name (int_type ∷ []) int_type) same (an_int, tt) (putchar_does (w k) k (suc k) refl f l is)
-        by (IsGetChar is same) = called (of_library f.name [] int_type) same tt (getchar_does (w k) k (suc k) refl f l is)
-        by (IsExit is same) = called (of_library f.name (int_type ∷ []) Void) same (an_int, tt) (exit_does (w k) k (suc k) refl f l is)
-        by (IsMalloc is same) = called (of_library f.name (Int U64 ∷ []) (Ptr Void)) same (a_size, tt) (malloc_does (w k) k (suc k) refl f l is)
-        by (IsCalloc is same) = called (of_library f.name (Int U64 ∷ Int U64 ∷ []) (Ptr Void)) same (a_size, (a_size, tt)) (calloc_does (w k) k (suc k) refl f l is)
-        by (IsFree is same) = called (of_library f.name (Ptr Void ∷ []) Void) same (a_pointer, tt) (free_does (w k) k (suc k) refl f l is)
+        by (IsPutChar is same) = called (codes "putchar") (of_library f.name (int_type ∷ []) int_type) is same refl (an_int, tt) (putchar_does (w k) k (suc k) refl f l es is)
+        by (IsGetChar is same) = called (codes "getchar") (of_library f.name [] int_type) is same refl tt (getchar_does (w k) k (suc k) refl f l es is)
+        by (IsExit is same) = called (codes "exit") (of_library f.name (int_type ∷ []) Void) is same refl (an_int, tt) (exit_does (w k) k (suc k) refl f l es is)
+        by (IsMalloc is same) = called (codes "malloc") (of_library f.name (Int U64 ∷ []) (Ptr Void)) is same refl (a_size, tt) (malloc_does (w k) k (suc k) refl f l es is)
+        by (IsCalloc is same) = called (codes "calloc") (of_library f.name (Int U64 ∷ Int U64 ∷ []) (Ptr Void)) is same refl (a_size, (a_size, tt)) (calloc_does (w k) k (suc k) refl f l es is)
+        by (IsFree is same) = called (codes "free") (of_library f.name (Ptr Void ∷ []) Void) is same refl (a_pointer, tt) (free_does (w k) k (suc k) refl f l es is)
+        by (IsPrintf is same) = printf_called is same
 
     -- ---- a call of a function of the program
 
-    module _ (f : Use) (g : Function) (l : is_of_library f ≡ false) (found : definition_at f.decl p.funcs ≡ Some g) (picked : IsPicked p (has_number f.decl) main 0 p.funcs g)
+    module _ (f : Use) (es : Expressions) (g : Function) (l : is_of_library f ≡ false) (found : definition_at f.decl p.funcs ≡ Some g) (picked : IsPicked p (has_number f.decl) main 0 p.funcs g)
         (not_main : nat_eq (0 + index_by (has_number f.decl) p.funcs) main ≡ false) where
       abbrev index : ℕ
       index = 0 + index_by (has_number f.decl) p.funcs
@@ -153,19 +165,19 @@ module _ (p : TranslationUnit) (parts : Parts p p.funcs) (gs : List Value)
       -- the source's call, and the target's
       source_is : (k : ℕ) (at : Place) (vs : List Value) (s : State) → call_of p (suc k) at f vs s ≡ call_with T (global_scope p) (Some g) (call_of p k) k at vs s
       source_is k at vs s =
-          ap (λ b. (if b then library_call at (slice_get p.names f.name) vs else call_with T (global_scope p) (definition_at f.decl p.funcs) (call_of p k) k at vs) s) l
+          ap (λ b. (if b then library_call T at (slice_get p.names f.name) vs else call_with T (global_scope p) (definition_at f.decl p.funcs) (call_of p k) k at vs) s) l
           ∙ ap (λ o. call_with T (global_scope p) o (call_of p k) k at vs s) found
 
-      code_is : (k : ℕ) (into : Option ℕ) (args : List MonExpression) (regs : List Value) (t : Target) → runs (w k) k t (call p into f args) regs ≡ monitored.exec over_blocks gs (tree.Call into (index_of f.decl p.funcs) args) (w k).calls k regs t
+      code_is : (k : ℕ) (into : Option ℕ) (args : List MonExpression) (regs : List Value) (t : Target) → runs (w k) k t (call p into f es args) regs ≡ monitored.exec over_blocks gs (tree.Call into (index_of f.decl p.funcs) args) (w k).calls k regs t
       code_is k into args regs t =
-          ap (λ b. runs (w k) k t (if b then effects.library_call into (name_at p.names f.name) args else one (tree.Call into (index_of f.decl p.funcs) args)) regs) l
+          ap (λ b. runs (w k) k t (if b then effects.named_call p into (name_at p.names f.name) es args else one (tree.Call into (index_of f.decl p.funcs) args)) regs) l
           ∙ one_is gs (tree.Call into (index_of f.decl p.funcs) args) (w k).calls k regs t
 
       function_is : slice_get functions (index_of f.decl p.funcs) ≡ Some (function_of p main index g)
       function_is = ap (slice_get functions) (index_is f.decl p.funcs) ∙ picked.translated
 
       calls_run : (k : ℕ) (into : Option ℕ) (args : List MonExpression) (vs : List Value) (regs : List Value) (t : Target) → HaveAll (w k) args regs t.mem vs
-          → runs (w k) k t (call p into f args) regs ≡ then_do (level over_blocks gs functions k (index_of f.decl p.funcs) vs t) (takes into regs)
+          → runs (w k) k t (call p into f es args) regs ≡ then_do (level over_blocks gs functions k (index_of f.decl p.funcs) vs t) (takes into regs)
       calls_run k into args vs regs t has =
           code_is k into args regs t
           ∙ ap (λ o. with_value o t.steps (λ vs. then_do (level over_blocks gs functions k (index_of f.decl p.funcs) vs t) (takes into regs))) has
@@ -174,8 +186,8 @@ module _ (p : TranslationUnit) (parts : Parts p p.funcs) (gs : List Value)
       part = picked.part
 
       -- no call is made where no step is left
-      function_zero : AllDo (w 0) 0 f g.result (types_of g.params)
-      function_zero vs types s t even bounded le at into regs args has =
+      function_zero : AllDo (w 0) 0 f es g.result (types_of g.params)
+      function_zero vs types s t even bounded le at into regs args has begin =
           DoesCall (Stops machine.Spent 0 []) (calls_run 0 into args vs regs t has)
           (EndsRun Spent machine.Spent s [] refl
           (source_is 0 at vs s ∙ spent s.steps (omega (arith, le)))
@@ -187,14 +199,15 @@ module _ (p : TranslationUnit) (parts : Parts p p.funcs) (gs : List Value)
           spent : (k : ℕ) → k ≡ 0 → on_outcome (step_from k s) (λ _. inside) ≡ Stop (Over Spent) s
           spent k e = ap (λ i. on_outcome (step_from i s) (λ _. inside)) e
 
-      function_more : (k : ℕ) → CallsAt k → AllDo (w (suc k)) (suc k) f g.result (types_of g.params)
-      function_more k below vs types s t even bounded le at into regs args has =
+      function_more : (k : ℕ) → CallsAt k → AllDo (w (suc k)) (suc k) f es g.result (types_of g.params)
+      function_more k below vs types s t even bounded le at into regs args has begin =
           let body = has_body p g part picked.definition in
           let deeper = level over_blocks gs functions k in
           let there = λ (store : Store) (active : ℕ). setting p gs main index g (call_of p (suc k)) deeper k store active in
-          let calls_below = λ (store : Store) (active : ℕ) (s : Sight) (names : s.names ≡ part.sight.names) (signatures : s.functions ≡ part.sight.functions) (u : Use) (t : PlainType) (es : Expressions) (c : Calls s u t es).
+          let calls_below = λ (store : Store) (active : ℕ) (s : Sight) (names : s.names ≡ part.sight.names) (texts : s.texts ≡ part.sight.texts) (signatures : s.functions ≡ part.sight.functions)
+          (u : Use) (t : PlainType) (es : Expressions) (c : Calls s u t es).
           let inner = there store active in
-          below inner.registers inner.base inner.around active g part s names signatures u t es c in
+          below inner.registers inner.base inner.around active g part s names texts signatures u t es c in
           DoesCall (level over_blocks gs functions (suc k) (index_of f.decl p.funcs) vs t) (calls_run (suc k) into args vs regs t has)
           (subst (λ r. Called s g.result r (level over_blocks gs functions (suc k) (index_of f.decl p.funcs) vs t)) (sym (source_is (suc k) at vs s))
           (subst (λ o. Called s g.result (call_with T (global_scope p) (Some g) (call_of p (suc k)) (suc k) at vs s)
@@ -209,26 +222,33 @@ module _ (p : TranslationUnit) (parts : Parts p p.funcs) (gs : List Value)
           vs types at part.read.no_contract s t even bounded le)))
 
     -- what is called, so deep
-    called_at : (k : ℕ) (f : Use) (t : PlainType) (es : Expressions) (callee : Signature) → HaveTypes callee.params es → bytes_eq (name_at p.names f.name) (codes "main") ≡ false
-        → ((g : Function) → is_of_library f ≡ false → definition_at f.decl p.funcs ≡ Some g → IsPicked p (has_number f.decl) main 0 p.funcs g → nat_eq (0 + index_by (has_number f.decl) p.funcs) main ≡ false → AllDo (w k) k f g.result
+    called_at : (k : ℕ) (f : Use) (t : PlainType) (es : Expressions) (callee : Signature) (params : List PlainType) → Asks p (name_at p.names f.name) es callee.params params → HaveTypes params es
+        → bytes_eq (name_at p.names f.name) (codes "main") ≡ false
+        → ((g : Function) → is_of_library f ≡ false → definition_at f.decl p.funcs ≡ Some g → IsPicked p (has_number f.decl) main 0 p.funcs g → nat_eq (0 + index_by (has_number f.decl) p.funcs) main ≡ false → AllDo (w k) k f es g.result
         (types_of g.params))
         → IsResolved p f t callee → IsCalled (w k) k f t es
-    called_at k f t es callee types other go (IsFunction g l found name params result) =
+    called_at k f t es callee params asks types other go (IsFunction g l found name own result) =
         let first : picked (has_number f.decl) p.funcs ≡ Some g = sym (definition_is f.decl p.funcs) ∙ found in
         let pick = is_picked p (has_number f.decl) main p.funcs g parts first 0 in
         let not_main : nat_eq (0 + index_by (has_number f.decl) p.funcs) main ≡ false = ap (λ i. nat_eq i main) (nothing_before (index_by (has_number f.decl) p.funcs)) ∙ differs p f.decl p.funcs g first
         (ap (λ x. bytes_eq (name_at p.names x) (codes "main")) name ∙ other) in
-        called_as (w k) k f t es (types_of g.params) g.result (parameters_scalar g.params (parameters_scalars (inner pick.part.sight) g.params pick.part.typed.params)) (subst (λ ts. HaveTypes ts es) params types) result (go g l found pick not_main)
-    called_at k f t es callee types other go (IsOfLibrary l found result) = library_called k f t es callee l found result types
+        let own_name : is_library_name (name_at p.names f.name) ≡ false =
+        ap (λ x. is_library_name (name_at p.names x)) (sym name) ∙ ap (λ l. is_library_name (name_at l g.name)) (sym pick.part.names) ∙ pick.part.typed.own_name in
+        let printf = not_printf (name_at p.names f.name) own_name in
+        called_as (w k) k f t es (types_of g.params) g.result (parameters_scalar g.params (parameters_scalars (inner pick.part.sight) g.params pick.part.typed.params)) (subst (λ ts. HaveTypes ts es) (asks.plain printf ∙ own) types)
+        result (go g l found pick not_main)
+    called_at k f t es callee params asks types other go (IsOfLibrary l found result) = library_called k f t es callee params l found result asks types
 
   -- a call in this part isn't one of main
   no_main : (current : Function) (part : Part p current) (s : Sight) (f : Use) (t : PlainType) (es : Expressions) → s.names ≡ part.sight.names → Calls s f t es → bytes_eq (name_at p.names f.name) (codes "main") ≡ false
   no_main current part s f t es names c = ap (λ l. bytes_eq (name_at l f.name) (codes "main")) (sym (names ∙ part.names)) ∙ c.not_main
 
   pub calls_at : (k : ℕ) → CallsAt k
-  calls_at zero registers base around active current part s names signatures f t es c =
-      called_at registers base around active 0 f t es c.callee c.arguments (no_main current part s f t es names c) (λ g l found picked not_main. function_zero registers base around active f g l found picked not_main)
+  calls_at zero registers base around active current part s names texts signatures f t es c =
+      called_at registers base around active 0 f t es c.callee c.params (part.asks s names texts f t es c) c.arguments (no_main current part s f t es names c)
+      (λ g l found picked not_main. function_zero registers base around active f es g l found picked not_main)
       (part.resolves s names signatures f t es c)
-  calls_at (suc k) registers base around active current part s names signatures f t es c =
-      called_at registers base around active (suc k) f t es c.callee c.arguments (no_main current part s f t es names c) (λ g l found picked not_main. function_more registers base around active f g l found picked not_main k (calls_at k))
+  calls_at (suc k) registers base around active current part s names texts signatures f t es c =
+      called_at registers base around active (suc k) f t es c.callee c.params (part.asks s names texts f t es c) c.arguments (no_main current part s f t es names c)
+      (λ g l found picked not_main. function_more registers base around active f es g l found picked not_main k (calls_at k))
       (part.resolves s names signatures f t es c)

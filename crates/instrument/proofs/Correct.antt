@@ -303,11 +303,11 @@ module _ (p : TranslationUnit) (parts : Parts p p.funcs) (main_is : main_fault p
   body_of_main : HasBody p f main_picked.part
   body_of_main = has_body p f main_picked.part main_picked.definition
 
-  abbrev calls_below : (store : Store) (active : ℕ) (s : Sight) → s.names ≡ main_picked.part.sight.names → s.functions ≡ main_picked.part.sight.functions → (u : Use) (t : PlainType) (es : Expressions) → Calls s u t es
-      → IsCalled (setting p gs m m f call calls n store active) n u t es
-  calls_below = λ store active s names signatures u t es c.
+  abbrev calls_below : (store : Store) (active : ℕ) (s : Sight) → s.names ≡ main_picked.part.sight.names → s.texts ≡ main_picked.part.sight.texts → s.functions ≡ main_picked.part.sight.functions
+      → (u : Use) (t : PlainType) (es : Expressions) → Calls s u t es → IsCalled (setting p gs m m f call calls n store active) n u t es
+  calls_below = λ store active s names texts signatures u t es c.
       let inner = setting p gs m m f call calls n store active in
-      calls_at p parts gs anchored literals n inner.registers inner.base inner.around active f main_picked.part s names signatures u t es c
+      calls_at p parts gs anchored literals n inner.registers inner.base inner.around active f main_picked.part s names texts signatures u t es c
 
   room : length (all_global_temporaries p p.globals) ≤ length opens
   room =

@@ -1,17 +1,17 @@
 -- How many parentheses are open at once in the values and places of expressions with effects: no more than these weigh.
-use Rattle.std.proofs.Common.{ℕ, suc, ◌+◌, ◌≤◌, Bool, true, false, not, List, ◌++◌, Option, Some, None, length, if◌then◌else◌, arith}
+use Rattle.std.proofs.Common.{ℕ, suc, ◌+◌, ◌≤◌, ◌<◌, Bool, true, false, not, List, [], ◌∷◌, ◌++◌, Option, Some, None, length, if◌then◌else◌, arith}
 use Rattle.c_syntax.specs.declared.expression.UnOp.TheVariants as prefix
-use Rattle.c_syntax.specs.Expressions.{Expression, Node, Number, Letter, Variable, Unary, Binary, Both, Either, Choice, Assign, Bump, Call, Cast, SizeOfType, SizeOfExpr, Text, Index, Dot, Arrow, Comma, type_of}
+use Rattle.c_syntax.specs.Expressions.{Expression, Node, Number, Letter, Variable, Unary, Binary, Both, Either, Choice, Assign, Bump, Call, Cast, SizeOfType, SizeOfExpr, Text, Index, Dot, Arrow, Comma, Expressions, NoExpression, Following, type_of}
 use Rattle.c_syntax.specs.Programs.{StructType, TranslationUnit}
 use Rattle.c_syntax.specs.Layouts.{Scalar, scalar_of, offset_of, target_of}
 use Rattle.c_model.specs.Meaning.{is_array, is_of_library}
-use Rattle.c_model.specs.Sizes.{weight_of}
+use Rattle.c_model.specs.Sizes.{weight_of, weight_of_all, most_weight}
 use Rattle.mon_syntax.specs.declared.tree.MonType.{MonType}
 use Rattle.mon_syntax.specs.Registers.{Bindings}
 use Rattle.mon_syntax.specs.Trees.{MonExpression, Register}
-use Rattle.mon_syntax.specs.Valid.{open_parens}
+use Rattle.mon_syntax.specs.Valid.{open_parens, most_open_parens}
 use Rattle.c_effects.specs.Expressions.{value_type, farther, indexed}
-use Rattle.c_effects.specs.Full.{act_takes, inner_offset, is_inner, is_settled, keeps, kept_takes, kept_value, location, member_type, object_of, object_takes, origin, result, stepped, takes, value_of}
+use Rattle.c_effects.specs.Full.{act_takes, all_results, inner_offset, is_inner, is_settled, keeps, keeps_all, kept_takes, kept_types, kept_value, location, member_type, object_of, object_takes, origin, result, stepped, takes, value_of}
 use Rattle.instrument.proofs.Parentheses.{few_parens_of_pointer, few_parens_of_variable, parens_cast, parens_farther, parens_indexed, parens_loaded, parens_operated, parens_unary, some_weight}
 
 parens_kept : (kept : Bool) (r : ℕ) (e : MonExpression) (n : ℕ) → open_parens e ≤ n → open_parens (kept_value kept r e) ≤ n
@@ -28,6 +28,11 @@ parens_stepped structs a r n le = by (is_inner a)
     by : (b : Bool) → open_parens (if b then farther (Register r) (inner_offset structs a) else Register r) ≤ n
     by true = let p = parens_farther (Register r) (inner_offset structs a) 1 (omega arith) (omega arith) in omega (arith, p, le)
     by false = omega arith
+
+-- expressions that may open one more
+abbrev pub AreShallow : List MonExpression → Type 0
+AreShallow [] = Unit {0}
+AreShallow (e ∷ es) = (open_parens e < most_open_parens) × AreShallow es
 
 module _ (p : TranslationUnit) (bound : Bindings) where
   -- an element, from the bounds of both operands
@@ -115,6 +120,16 @@ module _ (p : TranslationUnit) (bound : Bindings) where
     few_parens_location rs (Node at t (SizeOfExpr a)) = omega arith
     few_parens_location rs (Node at t (Bump op a)) = omega arith
     few_parens_location rs (Node at t (Call f es)) = omega arith
+
+  -- of arguments
+  pub few_parens_results : (rs : List MonType) (es : Expressions) → weight_of_all es ≤ most_weight → AreShallow (all_results p bound rs es)
+  few_parens_results rs NoExpression light = tt
+  few_parens_results rs (Following e es) light =
+      let kept = keeps_all e es in
+      let m = parens_kept kept (length (rs ++ takes p e)) (result p bound rs e) (weight_of e) (few_parens_result rs e) in (
+        omega (arith, m, light),
+        few_parens_results (rs ++ kept_types kept (takes p e) (value_type (type_of e))) es (omega (arith, light)),
+      )
 
   pub few_parens_origin : (rs : List MonType) (e : Expression) → open_parens (origin p bound rs e) ≤ weight_of e
   few_parens_origin rs (Node at t (Dot a m)) = let q = few_parens_origin rs a in omega (arith, q)

@@ -42,7 +42,7 @@ some_forms (Node at t (Comma a b)) = omega arith
 module _ (Q : ℕ → MonStatements → Type 0) (nothing : (n : ℕ) → Q n NoStatement) (joined : (n : ℕ) (a b : MonStatements) → Q n a → Q n b → Q n (before a b))
     (chosen : (n : ℕ) (c : MonExpression) (a b : MonStatements) → Q n a → Q n b → Q (suc n) (one (If c a b))) (more : (n m : ℕ) (a : MonStatements) → n ≤ m → Q n a → Q m a) (sets : (r : ℕ) (e : MonExpression) → Q 1 (set r e))
     (stores : (r : ℕ) (t : PlainType) (e : MonExpression) → Q 1 (store r t e)) (copies : (r d q e : ℕ) (cs : List (ℕ × Scalar)) → Q 1 (copies_at r d q e cs))
-    (calls : (p : TranslationUnit) (r : Option ℕ) (f : Use) (args : List MonExpression) → Q 1 (call p r f args)) where
+    (calls : (p : TranslationUnit) (r : Option ℕ) (f : Use) (es : Expressions) (args : List MonExpression) → Q 1 (call p r f es args)) where
   -- ---- parts
 
   sets_in : (n r : ℕ) (e : MonExpression) → 1 ≤ n → Q n (set r e)
@@ -153,8 +153,8 @@ module _ (Q : ℕ → MonStatements → Type 0) (nothing : (n : ℕ) → Q n NoS
         → Q (suc (forms_of a)) (bumped_setup p bound rs old kept op t a (object_setup (is_direct p a) (length (rs ++ takes p a)) (prepare p bound rs a) (origin p bound rs a)))
     bump_in rs old kept op t a h = bumped_in (suc (forms_of a)) rs old kept op t a _ (omega arith) (target_in (suc (forms_of a)) rs a (omega arith) h)
 
-    called_in : (p : TranslationUnit) (r : Option ℕ) (f : Use) (args : List MonExpression) (front : MonStatements) (n : ℕ) → Q n front → Q (suc n) (before front (call p r f args))
-    called_in unit r f args front n h = let last = call unit r f args in joined (suc n) front last (more n (suc n) front (omega arith) h) (more 1 (suc n) last (omega arith) (calls unit r f args))
+    called_in : (p : TranslationUnit) (r : Option ℕ) (f : Use) (es : Expressions) (args : List MonExpression) (front : MonStatements) (n : ℕ) → Q n front → Q (suc n) (before front (call p r f es args))
+    called_in unit r f es args front n h = let last = call unit r f es args in joined (suc n) front last (more n (suc n) front (omega arith) h) (more 1 (suc n) last (omega arith) (calls unit r f es args))
 
     both_act_in : (rs : List MonType) (a b : Expression) → Acted a → Acted b → Q (suc (forms_of a + forms_of b)) (before (act p bound rs a) (act p bound (rs ++ act_takes p a) b))
     both_act_in rs a b h k =
@@ -199,7 +199,7 @@ module _ (Q : ℕ → MonStatements → Type 0) (nothing : (n : ℕ) → Q n NoS
       prepare_in rs (Node at t (Assign None a b)) = assign_in rs (not (is_settled b)) t a b (λ r. prepare_in r a) (λ r. prepare_in r b)
       prepare_in rs (Node at t (Assign (Some op) a b)) = change_in rs true op t a b (λ r. prepare_in r a) (λ r. prepare_in r b)
       prepare_in rs (Node at t (Bump op a)) = bump_in rs (gives_old op) true op t a (λ r. prepare_in r a)
-      prepare_in rs (Node at t (Call f es)) = called_in p (Some (length (rs ++ all_takes p es))) f (all_results p bound rs es) (prepare_all p bound rs es) (forms_of_all es) (prepare_all_in rs es)
+      prepare_in rs (Node at t (Call f es)) = called_in p (Some (length (rs ++ all_takes p es))) f es (all_results p bound rs es) (prepare_all p bound rs es) (forms_of_all es) (prepare_all_in rs es)
       prepare_in rs (Node at t (Cast to a)) = prepare_in rs a
       prepare_in rs (Node at t (SizeOfType u)) = nothing 1
       prepare_in rs (Node at t (SizeOfExpr a)) = nothing (suc (forms_of a))
@@ -248,7 +248,7 @@ module _ (Q : ℕ → MonStatements → Type 0) (nothing : (n : ℕ) → Q n NoS
       act_in rs (Node at t (Assign None a b)) = assign_in rs false t a b (λ r. prepare_in r a) (λ r. prepare_in r b)
       act_in rs (Node at t (Assign (Some op) a b)) = change_in rs false op t a b (λ r. prepare_in r a) (λ r. prepare_in r b)
       act_in rs (Node at t (Bump op a)) = bump_in rs false false op t a (λ r. prepare_in r a)
-      act_in rs (Node at t (Call f es)) = called_in p None f (all_results p bound rs es) (prepare_all p bound rs es) (forms_of_all es) (prepare_all_in rs es)
+      act_in rs (Node at t (Call f es)) = called_in p None f es (all_results p bound rs es) (prepare_all p bound rs es) (forms_of_all es) (prepare_all_in rs es)
       act_in rs (Node at t (Cast to a)) = act_in rs a
       act_in rs (Node at t (SizeOfType u)) = nothing 1
       act_in rs (Node at t (SizeOfExpr a)) = nothing (suc (forms_of a))

@@ -38,7 +38,7 @@ use Rattle.instrument.proofs.Parentheses.{parens_compared, parens_compound_of, p
 use Rattle.instrument.proofs.Typed.{Knows, begins_left, begins_right, bytes_constant, compound_scalar, compound_typed, condition_typed, count_of_globals}
 use Rattle.instrument.proofs.Typed.{index_scalar, integer_scalar, operands_scalar, pointer_scalar, promoted_scalar, register_at, scalar_is, truth_typed}
 use Rattle.instrument.proofs.Parts.{ScalarsInside, all_scalars_inside, struct_small}
-use Rattle.instrument.proofs.FullParentheses.{few_parens_origin, few_parens_result}
+use Rattle.instrument.proofs.FullParentheses.{AreShallow, few_parens_origin, few_parens_result, few_parens_results}
 use Rattle.instrument.proofs.FullTyped.{behind_four, behind_three, behind_two, inner_ends_as, inner_near, last_register, object_points, origin_typed, result_typed, three_in_one}
 
 -- ---- what is evaluated has a value, or designates an object
@@ -71,8 +71,8 @@ pub record CallValid (p : TranslationUnit) (gs : List Signature) (ts : Types) (f
   pub types : List PlainType
   pub scalar : AreScalar types
   pub arguments : HaveTypes types es
-  pub valid : (result : Option MonType) (ls : Labels) (into : Option ℕ) (args : List MonExpression) → TakesValue ts into (result_of t) → AreArguments (count_of_globals p) ts args (map value_type types)
-      → AreStatements (count_of_globals p) gs ts result ls (call p into f args)
+  pub valid : (result : Option MonType) (ls : Labels) (into : Option ℕ) (args : List MonExpression) → TakesValue ts into (result_of t) → AreArguments (count_of_globals p) ts args (map value_type types) → AreShallow args
+      → AreStatements (count_of_globals p) gs ts result ls (call p into f es args)
 
 abbrev pub CallsValid : TranslationUnit → List Signature → Types → Sight → Type 0
 CallsValid p gs ts s = (f : Use) (t : PlainType) (es : Expressions) → Calls s f t es → CallValid p gs ts f t es
@@ -531,20 +531,20 @@ module _ (p : TranslationUnit) (gs : List Signature) (ts : Types) (outcome : Opt
         (subst (λ t. Is (kept_value kept r (result p bound rs e)) (value_type t)) same v.1, rest.1),
       )
 
-  called_are : (f : Use) (t : PlainType) (es : Expressions) (into : Option ℕ) (rs : Types) → Calls s f t es → ArgumentsAre es → Begins (rs ++ all_takes p es) ts → TakesValue ts into (result_of t)
-      → Are (before (prepare_all p bound rs es) (call p into f (all_results p bound rs es)))
-  called_are f t es into rs c arguments b takes_it =
+  called_are : (f : Use) (t : PlainType) (es : Expressions) (into : Option ℕ) (rs : Types) → Calls s f t es → weight_of_all es ≤ most_weight → ArgumentsAre es → Begins (rs ++ all_takes p es) ts → TakesValue ts into (result_of t)
+      → Are (before (prepare_all p bound rs es) (call p into f es (all_results p bound rs es)))
+  called_are f t es into rs c light arguments b takes_it =
       let v = calls f t es c in
       let args = arguments v.types rs v.scalar v.arguments b in
-      joined (prepare_all p bound rs es) (call p into f (all_results p bound rs es)) args.0 (v.valid outcome ls into (all_results p bound rs es) takes_it args.1)
+      joined (prepare_all p bound rs es) (call p into f es (all_results p bound rs es)) args.0 (v.valid outcome ls into (all_results p bound rs es) takes_it args.1 (few_parens_results p bound rs es light))
 
   -- a call whose value a register takes
-  value_called_are : (f : Use) (t : PlainType) (es : Expressions) (rs : Types) → IsScalar t → Calls s f t es → ArgumentsAre es → Begins (rs ++ (all_takes p es ++ value_type t ∷ [])) ts
-      → Are (before (prepare_all p bound rs es) (call p (Some (length (rs ++ all_takes p es))) f (all_results p bound rs es)))
-  value_called_are f t es rs scalar c arguments b =
+  value_called_are : (f : Use) (t : PlainType) (es : Expressions) (rs : Types) → IsScalar t → Calls s f t es → weight_of_all es ≤ most_weight → ArgumentsAre es → Begins (rs ++ (all_takes p es ++ value_type t ∷ [])) ts
+      → Are (before (prepare_all p bound rs es) (call p (Some (length (rs ++ all_takes p es))) f es (all_results p bound rs es)))
+  value_called_are f t es rs scalar c light arguments b =
       let n = length (rs ++ all_takes p es) in
       let reg = last_register rs (all_takes p es) (value_type t) ts n refl b in
-      called_are f t es (Some n) rs c arguments (begins_left rs (all_takes p es) (value_type t ∷ []) ts b) (subst (TakesValue ts (Some n)) (sym (result_scalar t scalar)) reg)
+      called_are f t es (Some n) rs c light arguments (begins_left rs (all_takes p es) (value_type t ∷ []) ts b) (subst (TakesValue ts (Some n)) (sym (result_scalar t scalar)) reg)
 
   -- ---- for their effects alone
 
@@ -625,7 +625,7 @@ module _ (p : TranslationUnit) (gs : List Signature) (ts : Types) (outcome : Opt
     prepare_valid (Node at t (Assign (Some op) x y)) q parts l light rs h b =
         change_are true op t x y rs q.2 q.4 parts.0 (known_as x q.0 parts.1.0 l.0 (omega (arith, light)) (prepare_valid x)) (known_as y q.1 parts.1.1 l.1 (omega (arith, light)) (prepare_valid y)) b
     prepare_valid (Node at t (Bump op a)) q parts l light rs h b = bump_given_are op t a rs q.1 q.3 parts.0 (known_as a q.0 parts.1 l (omega (arith, light)) (prepare_valid a)) b
-    prepare_valid (Node at t (Call f es)) q parts l light rs h b = value_called_are f t es rs (evaluated_scalar (Node at t (Call f es)) refl h) q.1 (arguments_valid es q.0 parts.1 l (omega (arith, light))) b
+    prepare_valid (Node at t (Call f es)) q parts l light rs h b = value_called_are f t es rs (evaluated_scalar (Node at t (Call f es)) refl h) q.1 (omega (arith, light)) (arguments_valid es q.0 parts.1 l (omega (arith, light))) b
     prepare_valid (Node at t (Cast to a)) q parts l light rs h b =
         prepare_valid a q.0 parts.1 l (omega (arith, light)) rs (operand_evaluated s to a (subst IsScalar q.1 (evaluated_scalar (Node at t (Cast to a)) refl h)) q.2) b
     prepare_valid (Node at t (Comma a c)) q parts l light rs h b =
@@ -673,7 +673,7 @@ module _ (p : TranslationUnit) (gs : List Signature) (ts : Types) (outcome : Opt
     act_valid (Node at t (Assign (Some op) x y)) q parts l light rs b =
         change_are false op t x y rs q.2 q.4 parts.0 (known_as x q.0 parts.1.0 l.0 (omega (arith, light)) (prepare_valid x)) (known_as y q.1 parts.1.1 l.1 (omega (arith, light)) (prepare_valid y)) b
     act_valid (Node at t (Bump op a)) q parts l light rs b = bump_acts op t a rs q.1 q.3 parts.0 (known_as a q.0 parts.1 l (omega (arith, light)) (prepare_valid a)) b
-    act_valid (Node at t (Call f es)) q parts l light rs b = called_are f t es None rs q.1 (arguments_valid es q.0 parts.1 l (omega (arith, light))) b tt
+    act_valid (Node at t (Call f es)) q parts l light rs b = called_are f t es None rs q.1 (omega (arith, light)) (arguments_valid es q.0 parts.1 l (omega (arith, light))) b tt
     act_valid (Node at t (Number z k)) q parts l light rs b = tt
     act_valid (Node at t (Letter z)) q parts l light rs b = tt
     act_valid (Node at t (Variable x)) q parts l light rs b = tt

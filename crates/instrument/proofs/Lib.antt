@@ -23,6 +23,7 @@ pub mod Library
 -- places of the file, and globals
 pub mod Sights
 pub mod FileNumbers
+pub mod Formats
 pub mod Resolved
 pub mod Objects
 pub mod Starts
@@ -67,6 +68,7 @@ pub mod Names
 pub mod Depths
 pub mod ValidStatements
 pub mod ValidRegisters
+pub mod ValidPrints
 pub mod ValidCalls
 pub mod ValidPrograms
 pub mod ProgramValidity

@@ -2,7 +2,7 @@
 use Rattle.std.proofs.Common.{◌≡◌, ℕ, Bool, true, false, if◌then◌else◌, List, [], ◌∷◌, Option, Some, None, refl, sym, ap, subst}
 use Rattle.std.proofs.lemmas.Slice.Eq.{bytes_eq-Decides}
 use Rattle.std.specs.Prelude.{slice_get, bytes_eq, codes}
-use Rattle.c_syntax.specs.declared.types.CInt.TheVariants.{U64}
+use Rattle.c_syntax.specs.declared.types.CInt.TheVariants.{I8, U64}
 use Rattle.c_syntax.specs.Ctypes.{Void, Int, Ptr, int_type}
 use Rattle.c_model.specs.ExpressionTyping.{Signature, name_at, library_function, of_library}
 
@@ -14,6 +14,7 @@ pub data IsLibrary (x : ℕ) (w : List ℕ) (g : Signature) : Type 0 where
   IsMalloc : w ≡ codes "malloc" → g ≡ of_library x (Int U64 ∷ []) (Ptr Void) → IsLibrary x w g
   IsCalloc : w ≡ codes "calloc" → g ≡ of_library x (Int U64 ∷ Int U64 ∷ []) (Ptr Void) → IsLibrary x w g
   IsFree : w ≡ codes "free" → g ≡ of_library x (Ptr Void ∷ []) Void → IsLibrary x w g
+  IsPrintf : w ≡ codes "printf" → g ≡ of_library x (Ptr (Int I8) ∷ []) Void → IsLibrary x w g
 
 -- the function with the first of the names, or one of the others
 first_or : (x : ℕ) (w n : List ℕ) (g h : Signature) (others : Option Signature) → (w ≡ n → g ≡ h → IsLibrary x w g) → (others ≡ Some g → IsLibrary x w g) → (if bytes_eq w n then Some h else others) ≡ Some g → IsLibrary x w g
@@ -30,7 +31,8 @@ library_is x w g =
     first_or x w (codes "exit") g _ _ IsExit (
     first_or x w (codes "malloc") g _ _ IsMalloc (
     first_or x w (codes "calloc") g _ _ IsCalloc (
-    first_or x w (codes "free") g _ _ IsFree (λ e. absurd cc))))))
+    first_or x w (codes "free") g _ _ IsFree (
+    first_or x w (codes "printf") g _ _ IsPrintf (λ e. absurd cc)))))))
 
 -- a name that is not empty stands in the table
 pub name_there : (names : List (List ℕ)) (x : ℕ) (w : List ℕ) → bytes_eq w [] ≡ false → name_at names x ≡ w → slice_get names x ≡ Some w

@@ -15,7 +15,7 @@ use Rattle.instrument.specs.Translation.{index_of_main, translated}
 use Rattle.instrument.proofs.RangedTrees.{AreRangedAsserts, functions_ranged}
 use Rattle.c_simulation.specs.Standing.{AreOctets}
 use Rattle.instrument.proofs.FileScope.{AreTexts}
-use Rattle.instrument.proofs.Resolved.{resolved}
+use Rattle.instrument.proofs.Resolved.{resolved, resolved_asks}
 use Rattle.instrument.proofs.Programs.{Part, Parts}
 use Rattle.instrument.proofs.Sights.{FunctionInPlace, function_in_place, globals_in_place}
 use Rattle.instrument.proofs.FileNumbers.{IsNumbered, function_is_numbered, globals_apart, globals_own}
@@ -46,6 +46,7 @@ module _ (p : TranslationUnit) (q : IsProgram p) where
     below = n.below;
     apart = globals_apart p q.numbered f n [] p.globals refl;
     resolves = λ s names functions u t es c. resolved p s (names ∙ here.place.names) (subst (AreDefined p) (sym functions) here.defined) u t es c;
+    asks = λ s names texts u t es c. resolved_asks p s (names ∙ here.place.names) (texts ∙ here.place.texts) u t es c;
   }
 
   parts_of : (main k : ℕ) (front fs : List Function) → front ++ fs ≡ p.funcs → FunctionsRead AreRangedAsserts fs → FunctionsHaveNumbers p main k fs → Parts p fs

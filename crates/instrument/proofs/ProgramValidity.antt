@@ -1,13 +1,14 @@
 -- The translation of an accepted program is valid.
-use Rattle.std.proofs.Common.{◌≡◌, ℕ, suc, ◌<◌, Bool, true, false, cond, if◌then◌else◌, nat_eq, List, [], ◌∷◌, ◌++◌, length, Option, Some, None, append_assoc, refl, ap, ◌∙◌, subst, arith}
+use Rattle.std.proofs.Common.{◌≡◌, ℕ, suc, ◌<◌, Bool, true, false, cond, if◌then◌else◌, nat_eq, List, [], ◌∷◌, ◌++◌, length, Option, Some, None, append_assoc, refl, sym, ap, ◌∙◌, subst, arith}
 use Rattle.std.proofs.lemmas.Bool.{eqb-true, lt-ltb}
 use Rattle.c_syntax.specs.declared.place.Place.{Place}
 use Rattle.c_syntax.specs.Statements.{Declaration, Statement, Empty, Eval, Block, If, While, Do, For, Break, Continue, Return, BlockItems}
 use Rattle.c_syntax.specs.Programs.{Function, TranslationUnit}
+use Rattle.c_model.specs.Library.{is_library_name}
 use Rattle.c_model.specs.State.{find}
 use Rattle.c_model.specs.Meaning.{is_definition}
 use Rattle.c_model.specs.Formed.{number_of, FunctionNamed, FunctionsNamed, declared_in_body, declared_in_items}
-use Rattle.c_model.specs.ExpressionTyping.{Sight, AnObject, inner, with_object}
+use Rattle.c_model.specs.ExpressionTyping.{Sight, AnObject, inner, name_at, with_object}
 use Rattle.c_model.specs.UnitTyping.{items_of_file, with_parameters}
 use Rattle.c_model.specs.TypedTrees.{BodyTyped}
 use Rattle.c_model.specs.TypedAnnotations.{BodyNoted}
@@ -121,6 +122,7 @@ module _ (p : TranslationUnit) (q : IsProgram p) where
             sight = here.sight;
             file = file_sight p here.sight own here.place here.defined;
             named = named;
+            own_name = ap (λ l. is_library_name (name_at l f.name)) (sym here.place.names) ∙ here.typed.own_name;
             params = here.typed.params;
             own = parts.0;
             place = at;

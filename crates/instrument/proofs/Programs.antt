@@ -21,6 +21,7 @@ use Rattle.instrument.proofs.Sight.{scope_for}
 use Rattle.c_model.specs.TypedAnnotations.{BodyNoted}
 use Rattle.instrument.proofs.Numbers.{numbers_in, AllOutside}
 use Rattle.c_model.specs.TextOrder.{Between}
+use Rattle.instrument.proofs.Formats.{Asks}
 use Rattle.instrument.proofs.Resolved.{IsResolved}
 use Rattle.c_syntax.specs.Statements.{Declaration}
 
@@ -45,6 +46,7 @@ pub record Part (p : TranslationUnit) (f : Function) : Type 0 where
   pub apart : AllOutside (suc f.place.offset) high (numbers_in p.globals)
   -- what is called in it
   pub resolves : (s : Sight) → s.names ≡ sight.names → s.functions ≡ sight.functions → (u : Use) (t : PlainType) (es : Expressions) (c : Calls s u t es) → IsResolved p u t c.callee
+  pub asks : (s : Sight) → s.names ≡ sight.names → s.texts ≡ sight.texts → (u : Use) (t : PlainType) (es : Expressions) (c : Calls s u t es) → Asks p (name_at p.names u.name) es c.callee.params c.params
 
 -- of each function
 abbrev pub Parts : TranslationUnit → List Function → Type 0

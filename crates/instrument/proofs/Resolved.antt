@@ -1,7 +1,7 @@
 -- What a call calls: a definition of the program, or a function of the library.
 use Rattle.std.proofs.Common.{◌≡◌, ℕ, true, false, nat_eq, List, [], ◌∷◌, Option, Some, None, refl, sym, ap, ◌∙◌}
 use Rattle.c_syntax.specs.declared.expression.Use.{Use}
-use Rattle.c_syntax.specs.declared.types.CInt.TheVariants.{U64}
+use Rattle.c_syntax.specs.declared.types.CInt.TheVariants.{I8, U64}
 use Rattle.c_syntax.specs.Ctypes.{PlainType, Void, Int, Ptr, int_type}
 use Rattle.c_syntax.specs.Expressions.{Expressions}
 use Rattle.c_syntax.specs.Programs.{Function, TranslationUnit}
@@ -10,7 +10,9 @@ use Rattle.c_model.specs.ExpressionTyping.{Sight, Signature, name_at, or_else, f
 use Rattle.c_model.specs.UnitTyping.{types_of}
 use Rattle.c_model.specs.TypedTrees.{Calls}
 use Rattle.c_model.specs.AcceptedPrograms.{AreDefined}
-use Rattle.instrument.proofs.LibraryNames.{IsLibrary, IsPutChar, IsGetChar, IsExit, IsMalloc, IsCalloc, IsFree, library_is}
+use Rattle.c_model.proofs.TypedSoundness.{called_name, named_of_library}
+use Rattle.instrument.proofs.Formats.{Asks, asks}
+use Rattle.instrument.proofs.LibraryNames.{IsLibrary, IsPutChar, IsGetChar, IsExit, IsMalloc, IsCalloc, IsFree, IsPrintf, library_is}
 
 -- the function that a call calls, by its signature: a definition, or a function of the library
 pub data IsResolved (p : TranslationUnit) (f : Use) (t : PlainType) (callee : Signature) : Type 0 where
@@ -31,6 +33,7 @@ library_number x w g e = by (library_is x w g e)
     by (IsMalloc named same) = number (of_library x (Int U64 ∷ []) (Ptr Void)) refl same
     by (IsCalloc named same) = number (of_library x (Int U64 ∷ Int U64 ∷ []) (Ptr Void)) refl same
     by (IsFree named same) = number (of_library x (Ptr Void ∷ []) Void) refl same
+    by (IsPrintf named same) = number (of_library x (Ptr (Int I8) ∷ []) Void) refl same
 
 -- a call is resolved where functions are in sight that are defined so
 pub resolved : (p : TranslationUnit) (s : Sight) → s.names ≡ p.names → AreDefined p s.functions → (u : Use) (t : PlainType) (es : Expressions) (c : Calls s u t es) → IsResolved p u t c.callee
@@ -44,3 +47,11 @@ resolved p s names known u t es c = by (function_called u.name s.functions) refl
     by None e found =
         let here : library_function u.name (name_at p.names u.name) ≡ Some c.callee = ap (λ l. library_function u.name (name_at l u.name)) (sym names) ∙ found in
         IsOfLibrary (ap (λ n. nat_eq n 4294967295) c.decl ∙ library_number u.name (name_at p.names u.name) c.callee here) here c.result
+
+-- what it asks for
+pub resolved_asks : (p : TranslationUnit) (s : Sight) → s.names ≡ p.names → s.texts ≡ p.texts → (u : Use) (t : PlainType) (es : Expressions) (c : Calls s u t es) → Asks p (name_at p.names u.name) es c.callee.params c.params
+resolved_asks p s names texts u t es c = asks p s names texts u.name c.callee (by (function_called u.name s.functions) refl c.found) es c.params c.asked
+  where
+    by : (o : Option Signature) → function_called u.name s.functions ≡ o → or_else o (library_function u.name (name_at s.names u.name)) ≡ Some c.callee → u.name ≡ c.callee.name
+    by (Some g) e found = let same : g ≡ c.callee = cc in called_name u.name s.functions c.callee (e ∙ ap Some same)
+    by None e found = (named_of_library u.name (name_at s.names u.name) c.callee found).name

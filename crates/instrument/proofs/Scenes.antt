@@ -26,6 +26,8 @@ scene_with w n sight d scene = record {
     not_main = c.not_main;
     decl = c.decl;
     result = c.result;
+    params = c.params;
+    asked = c.asked;
     arguments = c.arguments;
   });
 }
@@ -50,6 +52,8 @@ module _ (w : Setting) (n : ℕ) where
       not_main = c.not_main;
       decl = c.decl;
       result = c.result;
+      params = c.params;
+      asked = c.asked;
       arguments = c.arguments;
     });
   }

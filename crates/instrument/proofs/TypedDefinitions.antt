@@ -8,8 +8,9 @@ use Rattle.c_syntax.specs.Programs.{Function, TranslationUnit}
 use Rattle.c_syntax.specs.Layouts.{size_of}
 use Rattle.c_model.specs.Formed as form
 use Rattle.c_model.specs.Formed.{AreNamed, FunctionNamed}
+use Rattle.c_model.specs.Library.{is_library_name}
 use Rattle.c_model.specs.Meaning.{is_definition}
-use Rattle.c_model.specs.ExpressionTyping.{Sight, Object, AnObject, entity_named, inner}
+use Rattle.c_model.specs.ExpressionTyping.{Sight, Object, AnObject, entity_named, inner, name_at}
 use Rattle.c_model.specs.UnitTyping.{main_fault, room_fault, with_parameters}
 use Rattle.c_model.specs.TypedPrograms.{AreLaidOut}
 use Rattle.mon_syntax.specs.Valid.{Types}
@@ -60,6 +61,7 @@ pub record DefinitionTyped (p : TranslationUnit) (front : Types) (f : Function) 
   pub sight : Sight
   pub file : IsFileSight p sight
   pub named : FunctionNamed p.names f
+  pub own_name : is_library_name (name_at p.names f.name) ≡ false
   pub params : AreParameters (inner sight) f.params
   pub own : AreOwn f.params
   pub place : Place

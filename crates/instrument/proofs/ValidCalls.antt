@@ -1,7 +1,13 @@
 -- Calls in translated programs are valid: the callee is a function of the program that isn't `main`, or one of the library.
 use Rattle.c_model.specs.AcceptedPrograms.{IsDefined, AreDefined, AreScalar}
-use Rattle.instrument.proofs.Resolved.{library_number}
-use Rattle.instrument.proofs.LibraryNames.{IsLibrary, IsPutChar, IsGetChar, IsExit, IsMalloc, IsCalloc, IsFree, library_is}
+use Rattle.c_model.specs.Library.{is_library_name}
+use Rattle.c_model.specs.Formats.{types_of as directives}
+use Rattle.c_model.specs.ReadTree.{TextsAreBytes}
+use Rattle.instrument.proofs.Resolved.{library_number, resolved_asks}
+use Rattle.instrument.proofs.Formats.{Asks, HasFormat, format_scalar, not_printf}
+use Rattle.instrument.proofs.ValidPrints.{printf_valid}
+use Rattle.instrument.proofs.FullParentheses.{AreShallow}
+use Rattle.instrument.proofs.LibraryNames.{IsLibrary, IsPutChar, IsGetChar, IsExit, IsMalloc, IsCalloc, IsFree, IsPrintf, library_is}
 use Rattle.std.proofs.Common.{◌≡◌, ℕ, zero, suc, ◌+◌, Bool, true, false, ◌&&◌, if◌then◌else◌, nat_eq, List, [], ◌∷◌, map, Option, Some, None, option_map, slice_get, refl, sym, ap, ◌∙◌, subst, arith}
 use Rattle.std.specs.Prelude.{bytes_eq, codes}
 use Rattle.std.proofs.lemmas.Bool.Decides.{nat_tests}
@@ -24,7 +30,7 @@ use Rattle.mon_syntax.specs.Valid.{Types, Labels, Signature, TakesValue, AreArgu
 use Rattle.c_model.specs.TypedTrees.{HaveTypes, Calls, IsScalar}
 use Rattle.c_effects.specs.Expressions.{value_type, one}
 use Rattle.instrument.specs.Translation.{function_name, index_of_main, result_of, value_types, arguments_from, function_of, functions_from, translated}
-use Rattle.c_effects.specs.Effects.{index_of, first_of, library_call, call}
+use Rattle.c_effects.specs.Effects.{index_of, first_of, named_call, call}
 use Rattle.instrument.proofs.Typed.{count_of_globals}
 use Rattle.instrument.proofs.FullValid.{CallValid, CallsValid}
 use Rattle.instrument.proofs.ValidRegisters.{types_of_arguments}
@@ -70,7 +76,11 @@ types_are : (ds : List Declaration) → map value_type (map (λ (d : Declaration
 types_are [] = refl
 types_are (d ∷ ds) = ap (λ l. value_type d.ctype ∷ l) (types_are ds)
 
-module _ (p : TranslationUnit) where
+-- the functions that a program defines have names of their own
+abbrev pub HaveOwnNames : TranslationUnit → Type 0
+HaveOwnNames p = (n : ℕ) (f : Function) → definition_at n p.funcs ≡ Some f → is_library_name (name_at p.names f.name) ≡ false
+
+module _ (p : TranslationUnit) (own_names : HaveOwnNames p) (texts : TextsAreBytes p.texts) where
   abbrev m : ℕ
   m = index_of_main p.names p.funcs
 
@@ -118,9 +128,9 @@ module _ (p : TranslationUnit) where
         parameters : map value_type callee.params ≡ types_of (arguments_from p.names 0 d.function.params)
         parameters = ap (λ l. map value_type l) d.params ∙ types_are d.function.params ∙ sym (types_of_arguments p.names 0 d.function.params)
 
-        valid : (into_result : Option MonType) (ls : Labels) (into : Option ℕ) (args : List MonExpression) → TakesValue ts into (result_of t) → AreArguments (count_of_globals p) ts args (map value_type callee.params)
-            → AreStatements (count_of_globals p) (signatures p) ts into_result ls (call p into f args)
-        valid into_result ls into args takes given =
+        valid : (into_result : Option MonType) (ls : Labels) (into : Option ℕ) (args : List MonExpression) → TakesValue ts into (result_of t) → AreArguments (count_of_globals p) ts args (map value_type callee.params) → AreShallow args
+            → AreStatements (count_of_globals p) (signatures p) ts into_result ls (call p into f es args)
+        valid into_result ls into args takes given few =
             let is_call : IsCall (count_of_globals p) (signatures p) ts into index args = record {
               callee = signature_of code;
               has = has;
@@ -128,7 +138,7 @@ module _ (p : TranslationUnit) where
               arguments = subst (AreArguments (count_of_globals p) ts args) parameters given;
               takes = subst (λ u. TakesValue ts into (result_of u)) (result ∙ d.result) takes;
             } in
-            subst (λ b. AreStatements (count_of_globals p) (signatures p) ts into_result ls (if b then library_call into (name_at p.names f.name) args else one (tree.Call into index args))) (sym own) (is_call, tt)
+            subst (λ b. AreStatements (count_of_globals p) (signatures p) ts into_result ls (if b then named_call p into (name_at p.names f.name) es args else one (tree.Call into index args))) (sym own) (is_call, tt)
 
     -- ---- functions of the library
 
@@ -136,28 +146,40 @@ module _ (p : TranslationUnit) where
     first_valid [] h = absurd h
     first_valid (e ∷ args) h = h.0
 
-    library_called : (f : Use) (t : PlainType) (es : Expressions) (callee : Known) → is_of_library f ≡ true → library_function f.name (name_at p.names f.name) ≡ Some callee → t ≡ callee.result → HaveTypes callee.params es
-        → CallValid p (signatures p) ts f t es
-    library_called f t es callee own found result types = by (library_is f.name name callee found)
+    library_called : (f : Use) (t : PlainType) (es : Expressions) (callee : Known) (params : List PlainType) → is_of_library f ≡ true → library_function f.name (name_at p.names f.name) ≡ Some callee → t ≡ callee.result
+        → Asks p (name_at p.names f.name) es callee.params params → HaveTypes params es → CallValid p (signatures p) ts f t es
+    library_called f t es callee params own found result asks types = by (library_is f.name name callee found)
       where
         name : List ℕ
         name = name_at p.names f.name
 
-        -- statements that stand for a call with these arguments, whose value this register takes, are valid
-        Valid : Known → List ℕ → Type 0
-        Valid g y = (r : Option MonType) (ls : Labels) (into : Option ℕ) (args : List MonExpression) → TakesValue ts into (result_of g.result) → AreArguments (count_of_globals p) ts args (map value_type g.params)
-            → AreStatements (count_of_globals p) (signatures p) ts r ls (library_call into y args)
+        -- statements that stand for a call with arguments of these types, whose value this register takes, are valid
+        Valid : List PlainType → PlainType → List ℕ → Type 0
+        Valid us u y = (r : Option MonType) (ls : Labels) (into : Option ℕ) (args : List MonExpression) → TakesValue ts into (result_of u) → AreArguments (count_of_globals p) ts args (map value_type us) → AreShallow args
+            → AreStatements (count_of_globals p) (signatures p) ts r ls (named_call p into y es args)
 
-        called : (g : Known) (y : List ℕ) → callee ≡ g → name ≡ y → AreScalar g.params → Valid g y → CallValid p (signatures p) ts f t es
-        called g y same is scalars valid = record {
-          types = g.params;
+        called : (us : List PlainType) (u : PlainType) (y : List ℕ) → params ≡ us → callee.result ≡ u → name ≡ y → AreScalar us → Valid us u y → CallValid p (signatures p) ts f t es
+        called us u y asked gives is scalars valid = record {
+          types = us;
           scalar = scalars;
-          arguments = subst (λ (g : Known). HaveTypes g.params es) same types;
-          valid = λ r ls into args takes given.
-              subst (λ b. AreStatements (count_of_globals p) (signatures p) ts r ls (if b then library_call into name args else one (tree.Call into (index_of f.decl p.funcs) args))) (sym own)
-              (subst (λ y. AreStatements (count_of_globals p) (signatures p) ts r ls (library_call into y args)) (sym is)
-              (valid r ls into args (subst (λ u. TakesValue ts into (result_of u)) (result ∙ ap (λ (g : Known). g.result) same) takes) given));
+          arguments = subst (λ us. HaveTypes us es) asked types;
+          valid = λ r ls into args takes given few.
+              subst (λ b. AreStatements (count_of_globals p) (signatures p) ts r ls (if b then named_call p into name es args else one (tree.Call into (index_of f.decl p.funcs) args))) (sym own)
+              (subst (λ y. AreStatements (count_of_globals p) (signatures p) ts r ls (named_call p into y es args)) (sym is)
+              (valid r ls into args (subst (λ u. TakesValue ts into (result_of u)) (result ∙ gives) takes) given few));
         }
+
+        -- but printf
+        plain : (g : Known) (y : List ℕ) → callee ≡ g → name ≡ y → bytes_eq y (codes "printf") ≡ false → AreScalar g.params → Valid g.params g.result y → CallValid p (signatures p) ts f t es
+        plain g y same is other scalars valid =
+            called g.params g.result y (asks.plain (ap (λ x. bytes_eq x (codes "printf")) is ∙ other) ∙ ap (λ (g : Known). g.params) same) (ap (λ (g : Known). g.result) same) is scalars valid
+
+        printf_called : name ≡ codes "printf" → callee ≡ of_library f.name (Ptr (Int c.I8) ∷ []) Void → CallValid p (signatures p) ts f t es
+        printf_called is same =
+            let format = asks.format (ap (λ x. bytes_eq x (codes "printf")) is) in
+            let us = Ptr (Int c.I8) ∷ directives format.pieces in
+            called us Void (codes "printf") format.types (ap (λ (g : Known). g.result) same) is (format_scalar format.pieces)
+            (λ r ls into args takes given few. printf_valid p (signatures p) ts r ls es us args (subst (HasFormat p.texts es) format.types format) texts given few)
 
         an_int : IsScalar int_type
         an_int = record { scalar = IntegerType c.I32; is = refl }
@@ -169,23 +191,29 @@ module _ (p : TranslationUnit) where
         a_pointer = record { scalar = PointerType; is = refl }
 
         by : IsLibrary f.name name callee → CallValid p (signatures p) ts f t es
-        by (IsPutChar is same) = called (of_library f.name (int_type ∷ []) int_type) (codes "putchar") same is (an_int, tt) (λ r ls into args takes given. ((takes, first_valid args given), tt))
-        by (IsGetChar is same) = called (of_library f.name [] int_type) (codes "getchar") same is tt (λ r ls into args takes given. (takes, tt))
-        by (IsExit is same) = called (of_library f.name (int_type ∷ []) Void) (codes "exit") same is (an_int, tt) (λ r ls into args takes given. (first_valid args given, tt))
-        by (IsMalloc is same) = called (of_library f.name (Int c.U64 ∷ []) (Ptr Void)) (codes "malloc") same is (a_size, tt) (λ r ls into args takes given. ((given, takes), tt))
-        by (IsCalloc is same) = called (of_library f.name (Int c.U64 ∷ Int c.U64 ∷ []) (Ptr Void)) (codes "calloc") same is (a_size, (a_size, tt)) (λ r ls into args takes given. ((given, takes), tt))
-        by (IsFree is same) = called (of_library f.name (Ptr Void ∷ []) Void) (codes "free") same is (a_pointer, tt) (λ r ls into args takes given. ((given, takes), tt))
+        by (IsPutChar is same) =
+            plain (of_library f.name (int_type ∷ []) int_type) (codes "putchar") same is refl (an_int, tt) (λ r ls into args takes given few. ((takes, first_valid args given), tt))
+        by (IsGetChar is same) = plain (of_library f.name [] int_type) (codes "getchar") same is refl tt (λ r ls into args takes given few. (takes, tt))
+        by (IsExit is same) = plain (of_library f.name (int_type ∷ []) Void) (codes "exit") same is refl (an_int, tt) (λ r ls into args takes given few. (first_valid args given, tt))
+        by (IsMalloc is same) = plain (of_library f.name (Int c.U64 ∷ []) (Ptr Void)) (codes "malloc") same is refl (a_size, tt) (λ r ls into args takes given few. ((given, takes), tt))
+        by (IsCalloc is same) =
+            plain (of_library f.name (Int c.U64 ∷ Int c.U64 ∷ []) (Ptr Void)) (codes "calloc") same is refl (a_size, (a_size, tt)) (λ r ls into args takes given few. ((given, takes), tt))
+        by (IsFree is same) = plain (of_library f.name (Ptr Void ∷ []) Void) (codes "free") same is refl (a_pointer, tt) (λ r ls into args takes given few. ((given, takes), tt))
+        by (IsPrintf is same) = printf_called is same
 
-    chosen_callee : (s : Sight) (f : Use) (t : PlainType) (es : Expressions) (o : Option Known) → typing.function_called f.name s.functions ≡ o → s.names ≡ p.names → AreDefined p s.functions → (k : Calls s f t es)
+    chosen_callee : (s : Sight) (f : Use) (t : PlainType) (es : Expressions) (o : Option Known) → typing.function_called f.name s.functions ≡ o → s.names ≡ p.names → s.texts ≡ p.texts → AreDefined p s.functions → (k : Calls s f t es)
         → or_else o (library_function f.name (typing.name_at s.names f.name)) ≡ Some k.callee → CallValid p (signatures p) ts f t es
-    chosen_callee s f t es (Some g) e names known k found =
+    chosen_callee s f t es (Some g) e names literals known k found =
         let same : g ≡ k.callee = cc in
         let other : bytes_eq (name_at p.names f.name) (codes "main") ≡ false = ap (λ l. bytes_eq (name_at l f.name) (codes "main")) (sym names) ∙ k.not_main in
-        function_called f t es k.callee (known f.name k.callee (e ∙ ap Some same) k.defined) k.decl other k.result k.arguments
-    chosen_callee s f t es None e names known k found =
+        let d = known f.name k.callee (e ∙ ap Some same) k.defined in
+        let printf = not_printf (name_at p.names f.name) (ap (λ x. is_library_name (name_at p.names x)) (sym d.name) ∙ own_names k.callee.decl d.function d.at) in
+        let asks = resolved_asks p s names literals f t es k in
+        function_called f t es k.callee d k.decl other k.result (subst (λ us. HaveTypes us es) (asks.plain printf) k.arguments)
+    chosen_callee s f t es None e names literals known k found =
         let here : library_function f.name (name_at p.names f.name) ≡ Some k.callee = ap (λ l. library_function f.name (name_at l f.name)) (sym names) ∙ found in
-        library_called f t es k.callee (ap (λ n. nat_eq n 4294967295) k.decl ∙ library_number f.name (name_at p.names f.name) k.callee here) here k.result k.arguments
+        library_called f t es k.callee k.params (ap (λ n. nat_eq n 4294967295) k.decl ∙ library_number f.name (name_at p.names f.name) k.callee here) here k.result (resolved_asks p s names literals f t es k) k.arguments
 
     -- calls are valid where functions are in sight that are defined so
-    pub calls_valid : (s : Sight) → s.names ≡ p.names → AreDefined p s.functions → CallsValid p (signatures p) ts s
-    calls_valid s names known f t es k = chosen_callee s f t es (typing.function_called f.name s.functions) refl names known k k.found
+    pub calls_valid : (s : Sight) → s.names ≡ p.names → s.texts ≡ p.texts → AreDefined p s.functions → CallsValid p (signatures p) ts s
+    calls_valid s names literals known f t es k = chosen_callee s f t es (typing.function_called f.name s.functions) refl names literals known k k.found

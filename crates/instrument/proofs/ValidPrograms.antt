@@ -14,7 +14,8 @@ use Rattle.c_syntax.specs.Statements.{Initialiser, Declaration, Block}
 use Rattle.c_syntax.specs.Programs.{Function, TranslationUnit}
 use Rattle.c_syntax.specs.Layouts.{size_of}
 use Rattle.c_model.specs.Formed.{FunctionNamed, number_of}
-use Rattle.c_model.specs.Meaning.{is_definition, declared_in}
+use Rattle.c_model.specs.Library.{is_library_name}
+use Rattle.c_model.specs.Meaning.{is_definition, declared_in, definition_at}
 use Rattle.c_model.specs.ExpressionTyping.{name_at}
 use Rattle.c_model.specs.ExpressionTyping.{Sight, inner, with_object}
 use Rattle.c_model.specs.ExpressionTyping.{same_type}
@@ -46,7 +47,7 @@ use Rattle.instrument.proofs.Typed.{begins_left, begins_right, register_at, is_g
 use Rattle.instrument.proofs.LaidOut.{structs_fit}
 use Rattle.instrument.proofs.Tables.{begins_itself, begins_then, entered_begins, items_begin, HavePointers, entered_keep, entered_have, AllPoint, PointFrom, entered_from, point_born}
 use Rattle.instrument.proofs.FullDepths.{deep_set}
-use Rattle.instrument.proofs.ValidCalls.{signatures, calls_valid}
+use Rattle.instrument.proofs.ValidCalls.{HaveOwnNames, signatures, calls_valid}
 use Rattle.instrument.proofs.ValidInitialisers.{initialise_valid, deep_initialise}
 use Rattle.instrument.proofs.ValidBlocks.{Sees, AreSmall, sees_one, sees_later, deep_deaths, birth_valid, deaths_valid, alive_valid}
 use Rattle.instrument.proofs.Depths.{deep}
@@ -126,9 +127,23 @@ deep_globals p rs (d ∷ ds) h =
         deep_before (set (length rs) (tree.Global g)) (initialise p [] (rs ++ Ptr ∷ []) (length rs) d.ctype (Some i)) (suc most_forms) (deep_set (length rs) (tree.Global g) (suc most_forms) (omega arith))
         (deep_initialise p [] (rs ++ Ptr ∷ []) (length rs) d.ctype (Some i) f)
 
+-- what is defined has a name of its own
+own_name_at : (p : TranslationUnit) (main k : ℕ) (fs : List Function) → DefinitionsTyped p main k fs → (n : ℕ) (f : Function) → definition_at n fs ≡ Some f → is_library_name (name_at p.names f.name) ≡ false
+own_name_at p main k [] h n f e = absurd cc
+own_name_at p main k (g ∷ fs) h n f e = by (is_definition g) (nat_eq g.place.offset n) refl h.1 e (λ j rest i. own_name_at p main j fs rest n f i)
+  where
+    by : (a b : Bool) → is_definition g ≡ a → DefinitionsTyped p main (if a then suc k else k) fs → (if a && b then Some g else definition_at n fs) ≡ Some f
+        → ((j : ℕ) → DefinitionsTyped p main j fs → definition_at n fs ≡ Some f → is_library_name (name_at p.names f.name) ≡ false) → is_library_name (name_at p.names f.name) ≡ false
+    by true true definition rest e go = let same : g ≡ f = cc in subst (λ (g : Function). is_library_name (name_at p.names g.name) ≡ false) same (h.0 definition).own_name
+    by true false definition rest e go = go (suc k) rest e
+    by false b definition rest e go = go k rest e
+
 module _ (p : TranslationUnit) (q : IsTypedProgram p) where
   abbrev gs : List Signature
   gs = signatures p
+
+  own_names : HaveOwnNames p
+  own_names n f e = own_name_at p (index_of_main p.names p.funcs) 0 p.funcs q.definitions n f e
 
   file_knows : (ts : Types) (s : Sight) → IsFileSight p s → Knows p ts [] s
   file_knows ts s f = record {
@@ -150,7 +165,8 @@ module _ (p : TranslationUnit) (q : IsTypedProgram p) where
         let pointer : IsExpression (count_of_globals p) ts (tree.Global g) Ptr = record { typed = (refl, omega (arith, lt)); within = omega arith } in
         before_valid (count_of_globals p) gs ts result [] (set (length rs) (tree.Global g)) (initialise p [] (rs ++ Ptr ∷ []) (length rs) d.ctype (Some i))
         (set_valid (count_of_globals p) gs ts result [] (length rs) (tree.Global g) Ptr points pointer)
-        (initialise_valid p gs ts result [] k.sight (file_knows ts k.sight k.file) (calls_valid p ts k.sight k.file.names_are k.file.functions) [] (structs_fit p.structs q.structs) q.texts (rs ++ Ptr ∷ []) (length rs) d.ctype (Some i) points k.size
+        (initialise_valid p gs ts result [] k.sight (file_knows ts k.sight k.file) (calls_valid p own_names q.texts ts k.sight k.file.names_are k.file.texts_are k.file.functions) [] (structs_fit p.structs q.structs) q.texts (rs ++ Ptr ∷ [])
+        (length rs) d.ctype (Some i) points k.size
         (subst (WhereAny (λ (i : Place × Initialiser). Initialises k.sight d.ctype i.1)) e k.init) (subst (InitialFormed p.structs) e k.formed) (subst (WhereAny (λ (i : Place × Initialiser). InitialiserHasLetters i.1)) e k.letters)
         (begins_right rs (Ptr ∷ []) (initial_temporaries p (Some i)) ts b))
 
@@ -250,9 +266,10 @@ module _ (p : TranslationUnit) (q : IsTypedProgram p) where
         let deeper = with_variables (next_register r) own spot in
         let shallow = part.shallow in
         alive_valid (count_of_globals p) gs ts (result_of f.result) [] p (next_register r) own (items p deeper inside part.items)
-        (items_small p gs ts f.result part.sight.functions (λ s names seen. calls_valid p ts s names (subst (AreDefined p) (sym seen) part.file.functions)) (structs_fit p.structs q.structs) q.texts part.items sight
+        (items_small p gs ts f.result part.sight.functions (λ s names literals seen. calls_valid p own_names q.texts ts s names literals (subst (AreDefined p) (sym seen) part.file.functions)) (structs_fit p.structs q.structs) q.texts part.items sight
         (around_body f.result) sees.knows.structs_are part.typed) (entered_from ts own r born)
-        (items_valid p gs ts f.result part.sight.functions (λ s names seen. calls_valid p ts s names (subst (AreDefined p) (sym seen) part.file.functions)) (structs_fit p.structs q.structs) q.texts part.items sight (around_body f.result) [] deeper
+        (items_valid p gs ts f.result part.sight.functions (λ s names literals seen. calls_valid p own_names q.texts ts s names literals (subst (AreDefined p) (sym seen) part.file.functions)) (structs_fit p.structs q.structs) q.texts
+        part.items sight (around_body f.result) [] deeper
         (record { inside = point_born ts (next_register r) own live (entered_from ts own r born) live_point; between = tt; outside = tt })
         inside (sees_later p ts part.sight.functions r inside sight (λ x g h. entered_keep ts x g own r born h) sees) refl (outside_all 0) (entered_have ts own r born) part.formed part.typed part.noted part.numbers part.letters
         (omega (arith, shallow)) within_items)

@@ -119,8 +119,8 @@ pub record Points (ts : Types) (spot : Spot) : Type 0 where
   pub between : AllPoint ts spot.between
   pub outside : AllPoint ts spot.outside
 
-module _ (p : TranslationUnit) (gs : List Signature) (ts : Types) (result : PlainType) (functions : List Known) (calls : (s : Sight) → s.names ≡ p.names → s.functions ≡ functions → CallsValid p gs ts s) (fits : StructsFit p.structs)
-    (texts : TextsAreBytes p.texts) where
+module _ (p : TranslationUnit) (gs : List Signature) (ts : Types) (result : PlainType) (functions : List Known) (calls : (s : Sight) → s.names ≡ p.names → s.texts ≡ p.texts → s.functions ≡ functions → CallsValid p gs ts s)
+    (fits : StructsFit p.structs) (texts : TextsAreBytes p.texts) where
   abbrev Are : Labels → MonStatements → Type 0
   Are ls a = AreStatements (count_of_globals p) gs ts (result_of result) ls a
 
@@ -138,7 +138,7 @@ module _ (p : TranslationUnit) (gs : List Signature) (ts : Types) (result : Plai
   and_then ls a b h k = before_valid (count_of_globals p) gs ts (result_of result) ls a b h k
 
   effect_at : (s : Sight) (r : RegisterTable) (v : See r s) (ls : Labels) (e : Expression) → IsFull p.structs e → WellTyped s e → ActHasLetters e → Begins (r.kinds ++ act_takes p e) ts → Are ls (act p r.bound r.kinds e)
-  effect_at s r v ls e f q l b = act_valid p gs ts (result_of result) r.bound s v.knows (calls s v.names_are v.functions_are) ls e q f.types l f.small.light r.kinds b
+  effect_at s r v ls e f q l b = act_valid p gs ts (result_of result) r.bound s v.knows (calls s v.names_are v.knows.texts_are v.functions_are) ls e q f.types l f.small.light r.kinds b
 
   effect_if_any_at : (s : Sight) (r : RegisterTable) (v : See r s) (ls : Labels) (e : Option Expression) → WhereAny (IsFull p.structs) e → WhereAny (WellTyped s) e → Any ActHasLetters e
       → Begins (r.kinds ++ any_temporaries (act_takes p) e) ts → Are ls (act_if_any p r.bound r.kinds e)
@@ -148,7 +148,7 @@ module _ (p : TranslationUnit) (gs : List Signature) (ts : Types) (result : Plai
   test_at : (s : Sight) (r : RegisterTable) (v : See r s) (ls : Labels) (loops : ℕ) (e : Expression) → has_label ls (end_label loops) ≡ true → IsFull p.structs e → IsCondition s e → ValueHasLetters e → Begins (r.kinds ++ takes p e) ts
       → Are ls (test p r.bound r.kinds loops e)
   test_at s r v ls loops e jump f q l b =
-      let known = calls s v.names_are v.functions_are in
+      let known = calls s v.names_are v.knows.texts_are v.functions_are in
       and_then ls (prepare p r.bound r.kinds e) (leave_where_zero loops (condition_result p r.bound r.kinds e))
       (prepare_valid p gs ts (result_of result) r.bound s v.knows known ls e q.typed f.types l f.small.light r.kinds (HasValue q.scalar) b)
       ((condition_valid p gs ts (result_of result) r.bound s v.knows known ls e r.kinds q.scalar q.typed f.types l f.small.light b, tt, (jump, tt)), tt)
@@ -179,7 +179,7 @@ module _ (p : TranslationUnit) (gs : List Signature) (ts : Types) (result : Plai
       let w = sees_one p ts functions bound s d own.0 h.0 v in
       and_then ls (initialise_local p bound rs d) (initialise_all p bound (rs ++ here) ds)
       (where_born ls (may_be_born (size_of p.structs d.ctype)) (initialise p bound rs (block_of bound (number_of d)) d.ctype d.init)
-      (initialise_valid p gs ts (result_of result) bound (with_object s d) w.knows (calls (with_object s d) w.names_are w.functions_are) ls fits texts rs
+      (initialise_valid p gs ts (result_of result) bound (with_object s d) w.knows (calls (with_object s d) w.names_are w.knows.texts_are w.functions_are) ls fits texts rs
       (block_of bound (number_of d)) d.ctype d.init
       (block_points ts bound (number_of d) h.0) (declared_small s (d ∷ ds) v.knows.structs_are q).0 q.0.init f.0 (initial_letters d.init l.0) (begins_left rs here (declaration_temporaries p ds) ts b)))
       (initials_valid ds (with_object s d) bound w ls (rs ++ here) h.1 own.1 f.1 q.1 l.1 (begins_right rs here (declaration_temporaries p ds) ts b))
@@ -228,7 +228,7 @@ module _ (p : TranslationUnit) (gs : List Signature) (ts : Types) (result : Plai
       let live = target.all_live spot in
       let te = takes p e in
       let last = length (r.kinds ++ te) in
-      let x = full_valid p gs ts (result_of result) r.bound s v.knows (calls s v.names_are v.functions_are) ls e r.kinds (subst IsScalar (sym q.ctype) q.scalar) q.typed f.types l f.small.light
+      let x = full_valid p gs ts (result_of result) r.bound s v.knows (calls s v.names_are v.knows.texts_are v.functions_are) ls e r.kinds (subst IsScalar (sym q.ctype) q.scalar) q.typed f.types l f.small.light
       (begins_left r.kinds te (value_type (type_of e) ∷ []) ts b) in
       let register : slice_get ts last ≡ Some (value_type (type_of e)) = register_at (r.kinds ++ te) ts (value_type (type_of e)) (begins_right r.kinds te (value_type (type_of e) ∷ []) ts b) in
       let leaves = one (tree.Return (Some (tree.Register last))) in
@@ -271,7 +271,7 @@ module _ (p : TranslationUnit) (gs : List Signature) (ts : Types) (result : Plai
       let te = takes p e in
       let t = value_type (type_of e) in
       let scalar : IsScalar (type_of e) = record { scalar = IntegerType k; is = ap scalar_of type } in
-      let x = full_valid p gs ts (result_of result) r.bound s v.knows (calls s v.names_are v.functions_are) ls e r.kinds scalar q f.types l f.small.light (begins_left r.kinds te (t ∷ []) ts b) in
+      let x = full_valid p gs ts (result_of result) r.bound s v.knows (calls s v.names_are v.knows.texts_are v.functions_are) ls e r.kinds scalar q f.types l f.small.light (begins_left r.kinds te (t ∷ []) ts b) in
       let register : slice_get ts (length (r.kinds ++ te)) ≡ Some t = register_at (r.kinds ++ te) ts t (begins_right r.kinds te (t ∷ []) ts b) in
       record { setup = x.setup; set = ((t, register, x.value), tt); register = register }
 
@@ -382,7 +382,7 @@ module _ (p : TranslationUnit) (gs : List Signature) (ts : Types) (result : Plai
         let first = begins_then z.kinds z2.kinds ts (statement_begins p x z) second in
         let left = le-max_left (form.depth x) (form.depth_of_else y) in
         let right = le-max_right (form.depth x) (form.depth_of_else y) in
-        let known = calls s v.names_are v.functions_are in
+        let known = calls s v.names_are v.knows.texts_are v.functions_are in
         and_then ls (prepare p r.bound r.kinds e) (one (tree.If (condition_result p r.bound r.kinds e) (statement p spot z x) (else_part p spot z2 y)))
         (prepare_valid p gs ts (result_of result) r.bound s v.knows known ls e q.0.typed f.0.types l.0 f.0.small.light r.kinds (HasValue q.0.scalar) first) (
           (

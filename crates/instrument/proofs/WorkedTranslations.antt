@@ -15,7 +15,7 @@ use Rattle.mon_syntax.specs.declared.tree.MemoryCall.TheVariants.{Malloc, Free}
 use Rattle.mon_syntax.specs.declared.tree.MonOp.TheVariants as mon
 use Rattle.mon_syntax.specs.declared.tree.MonType.TheVariants as kind
 use Rattle.mon_syntax.specs.Registers.{Bindings, RegisterTable}
-use Rattle.mon_syntax.specs.Trees.{Register, Global, Constant, Binary, Minus, Cast, Load, Set, Store, Act, If, Labelled, Goto, Return, MonStatement, MonStatements, Then, NoStatement, Zeros, Literal}
+use Rattle.mon_syntax.specs.Trees.{Register, Global, Constant, Binary, Minus, Cast, Load, Set, Store, PutChar, PrintText, PrintSigned, PrintString, Act, If, Labelled, Goto, Return, MonStatement, MonStatements, Then, NoStatement, Zeros, Literal}
 use Rattle.mon_syntax.specs.Valid.{open_parens}
 use Rattle.c_effects.specs.Expressions.{literal, pointer_to, one}
 use Rattle.c_simulation.specs.Labels.{end_label}
@@ -104,6 +104,25 @@ malloc_is = refl
 -- `free(p)`
 free_is : act heap_program bound [] (library 1 Void (variable (Ptr Void) 1)) ≡ Then (Act None Free (Load kind.Ptr (Register 0) ∷ [])) NoStatement
 free_is = refl
+
+-- ---- `printf("%d%% of %c: %s\n", n, n, s)`, whose literal is the one of the text: a statement for each piece of its format
+
+abbrev print_program : TranslationUnit
+print_program = record program { names = codes "printf" ∷ []; texts = record { place = here; bytes = codes "%d%% of %c: %s\n" } ∷ [] }
+
+abbrev string : PlainType
+string = Ptr (Int c.I8)
+
+abbrev format : Expression
+format = Node here string (source.Cast string (Node here (Array (Int c.I8) (Count 16)) (source.Text 0)))
+
+abbrev printed : source.Expressions
+printed = source.Following format (source.Following (int 2) (source.Following (int 2) (source.Following (variable string 1) source.NoExpression)))
+
+printf_is : act print_program bound [] (Node here Void (source.Call (record { name = 0; decl = 4294967295 }) printed))
+    ≡ Then (PrintSigned (Cast kind.I64 (Load kind.I32 (Register 1)))) (Then (PrintText (codes "% of ")) (Then (PutChar None (Load kind.I32 (Register 1)))
+    (Then (PrintText (codes ": ")) (Then (PrintString (Load kind.Ptr (Register 0))) (Then (PrintText (codes "\n")) NoStatement)))))
+printf_is = refl
 
 -- ---- globals and literals in the order of the text
 
