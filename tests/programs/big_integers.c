@@ -52,16 +52,12 @@ static void add(struct big *a, const struct big *b) {
 }
 
 static void print(const struct big *b) {
-  int i = b->used, first = b->digits[--i], unit = 1;
-  while (first / unit > 9)
-    unit *= 10;
-  do
-    putchar('0' + first / unit % 10);
-  while (unit /= 10);
+  int i = b->used - 1;
+  printf("%d", b->digits[i]);
   while (i-- > 0)
-    for (unit = BASE / 10; unit; unit /= 10)
-      putchar('0' + b->digits[i] / unit % 10);
-  putchar('\n');
+    for (int unit = BASE / 10; unit; unit /= 10)
+      printf("%d", b->digits[i] / unit % 10);
+  printf("\n");
 }
 
 int main(void) {

@@ -46,7 +46,7 @@ int main(void) {
     case '\n':
       all ^= s = apply(op, s, now);
       print(s);
-      putchar('0' + size(s) / 10), putchar('0' + size(s) % 10), putchar('\n');
+      printf("%d%d\n", size(s) / 10, size(s) % 10);
       s = now = op = 0;
       lines++;
       break;

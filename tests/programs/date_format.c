@@ -49,10 +49,12 @@ static int read_date(struct date *d, int *c) {
     && d->day <= (d->month == 12 ? 31 : before[d->month] - before[d->month - 1] + (d->month == 2 && leap(d->year)));
 }
 
+/* with zeros in front */
 static void put(int n, int width) {
-  if (n > 9 || width > 1)
-    put(n / 10, width - 1);
-  putchar('0' + n % 10);
+  for (int least = 1; --width > 0; )
+    if (n < (least *= 10))
+      putchar('0');
+  printf("%d", n);
 }
 
 int main(void) {
@@ -61,12 +63,12 @@ int main(void) {
   while ((c = getchar()) != EOF) {
     if (read_date(&d, &c)) {
       int day = before[d.month - 1] + d.day + (d.month > 2 && leap(d.year));
-      put(d.year, 4), putchar('/'), put(day, 3), putchar(' ');
       int y = d.year - 1, weekday = (y + y / 4 - y / 100 + y / 400 + day) % 7;
-      putchar("SMTWTFS"[weekday]), putchar("uouehra"[weekday]), putchar('\n');
+      put(d.year, 4), putchar('/'), put(day, 3);
+      printf(" %c%c\n", "SMTWTFS"[weekday], "uouehra"[weekday]);
       good++;
     } else
-      putchar('?'), putchar('\n'), bad++;
+      printf("?\n"), bad++;
     while (c != '\n' && c != EOF)
       c = getchar();
   }

@@ -57,12 +57,6 @@ static int pop(int *d) {
   return node;
 }
 
-static void print_number(int n) {
-  if (n > 9)
-    print_number(n / 10);
-  putchar('0' + n % 10);
-}
-
 int main(void) {
   int a, b, cost, d, reached = 0;
   while ((a = number()) >= 0 && (b = number()) >= 0 && (cost = number()) >= 0) {
@@ -82,14 +76,11 @@ int main(void) {
       if (d + e->cost < distance[e->to])
         push(e->to, distance[e->to] = d + e->cost);
   }
-  for (int i = 0; i < NODES; i++) {
-    print_number(i), putchar(' ');
+  for (int i = 0; i < NODES; i++)
     if (distance[i] < INT_MAX)
-      print_number(distance[i]), reached++;
+      printf("%d %d\n", i, distance[i]), reached++;
     else
-      putchar('-');
-    putchar('\n');
-  }
+      printf("%d -\n", i);
   for (int i = 0; i < NODES; i++)
     for (struct edge *e = edges[i], *next; e; e = next)
       next = e->next, free(e);

@@ -33,13 +33,13 @@ static void steps(const char *a, int i, const char *b, int j) {
     if (a[i - 1] == b[j - 1])
       putchar(a[i - 1]);
     else
-      putchar('['), putchar(a[i - 1]), putchar('>'), putchar(b[j - 1]), putchar(']');
+      printf("[%c>%c]", a[i - 1], b[j - 1]);
   } else if (i && table[i][j] == table[i - 1][j] + 1) {
     steps(a, i - 1, b, j);
-    putchar('-'), putchar(a[i - 1]);
+    printf("-%c", a[i - 1]);
   } else {
     steps(a, i, b, j - 1);
-    putchar('+'), putchar(b[j - 1]);
+    printf("+%c", b[j - 1]);
   }
 }
 
@@ -49,7 +49,7 @@ int main(void) {
   while ((n = read(a)) && (m = read(b))) {
     total += fill(a, n, b, m);
     steps(a, n, b, m);
-    putchar('\n');
+    printf("\n");
   }
   return total;
 }

@@ -59,17 +59,6 @@ static int read_word(char *word) {
   return n;
 }
 
-static void print(const char *s) {
-  while (*s)
-    putchar(*s++);
-}
-
-static void print_number(int n) {
-  if (n > 9)
-    print_number(n / 10);
-  putchar('0' + n % 10);
-}
-
 int main(void) {
   char word[LONGEST];
   int most = 0, different = 0;
@@ -84,9 +73,8 @@ int main(void) {
     for (int i = 0; i < BUCKETS; i++)
       for (struct entry *e = table[i]; e; e = e->next)
         if (e->count == n)
-          print(e->word), putchar(' '), print_number(n), putchar('\n');
-  print_number(different);
-  print(" words\n");
+          printf("%s %d\n", e->word, n);
+  printf("%d words\n", different);
   for (int i = 0; i < BUCKETS; i++)
     while (table[i]) {
       struct entry *e = table[i];

@@ -15,10 +15,6 @@ static int number(void) {
   return n;
 }
 
-static void print_number(int n) {
-  n < 10 ? (void)putchar('0' + n) : (print_number(n / 10), (void)putchar('0' + n % 10));
-}
-
 static void choose(int i, int room) {
   if (!i)
     return;
@@ -26,7 +22,7 @@ static void choose(int i, int room) {
     choose(i - 1, room);
   else {
     choose(i - 1, room - weights[i - 1]);
-    print_number(weights[i - 1]), putchar(':'), print_number(values[i - 1]), putchar(' ');
+    printf("%d:%d ", weights[i - 1], values[i - 1]);
   }
 }
 
@@ -44,9 +40,6 @@ int main(void) {
         best[i][r] = with;
     }
   choose(count, room);
-  putchar('=');
-  putchar(' ');
-  print_number(best[count][room]);
-  putchar('\n');
+  printf("= %d\n", best[count][room]);
   return count;
 }

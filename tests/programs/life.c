@@ -35,9 +35,9 @@ static void show(char from[HEIGHT][WIDTH]) {
   for (int y = 0; y < HEIGHT; y++) {
     for (int x = 0; x < WIDTH; x++)
       putchar(from[y][x] ? '#' : '.');
-    putchar('\n');
+    printf("\n");
   }
-  putchar('\n');
+  printf("\n");
 }
 
 int main(void) {

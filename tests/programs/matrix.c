@@ -3,22 +3,11 @@
 
 enum { N = 4 };
 
-static void print_number(long n) {
-  if (n < 0) {
-    putchar('-');
-    n = -n;
-  }
-  if (n > 9)
-    print_number(n / 10);
-  putchar('0' + (int)(n % 10));
-}
-
 static void print(long m[N][N]) {
-  for (int i = 0; i < N; i++) {
+  for (int i = 0; i < N; i++)
     for (int j = 0; j < N; j++)
-      print_number(m[i][j]), putchar(j < N - 1 ? ' ' : '\n');
-  }
-  putchar('\n');
+      printf("%ld%c", m[i][j], j < N - 1 ? ' ' : '\n');
+  printf("\n");
 }
 
 static void multiply(long to[N][N], long a[N][N], long b[N][N]) {
@@ -78,7 +67,6 @@ int main(void) {
   print(c);
   power(c, a, 20);
   print(c);
-  print_number(determinant(b));
-  putchar('\n');
+  printf("%ld\n", determinant(b));
   return 0;
 }

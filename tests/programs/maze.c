@@ -54,14 +54,12 @@ static int search(int start, int goal) {
 int main(void) {
   int start, goal, steps = 0, height = read_maze(&start, &goal);
   if (start < 0 || goal < 0 || !search(start, goal)) {
-    putchar('-');
-    putchar('\n');
+    printf("-\n");
     return 255;
   }
   for (int at = from[goal]; at != start; at = from[at], steps++)
     maze[at / WIDTH][at % WIDTH] = '*';
-  for (int y = 0; y < height; putchar('\n'), y++)
-    for (char *p = maze[y]; *p; putchar(*p++))
-      ;
+  for (int y = 0; y < height; printf("%s\n", maze[y++]))
+    ;
   return steps;
 }

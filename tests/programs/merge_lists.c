@@ -41,8 +41,7 @@ static int compare(const char *a, const char *b) {
 static struct line *merge(struct line *a, struct line *b) {
   struct line *first = NULL, **end = &first;
   while (a && b) {
-    int order = compare(a->text, b->text);
-    if (order <= 0)
+    if (compare(a->text, b->text) <= 0)
       *end = a, a = a->next;
     else
       *end = b, b = b->next;
@@ -88,9 +87,7 @@ int main(void) {
   list = sort(list);
   int dropped = drop_doubles(list);
   for (; list; list = next) {
-    for (char *s = list->text; *s; )
-      putchar(*s++);
-    putchar('\n');
+    printf("%s\n", list->text);
     next = list->next;
     free(list->text);
     free(list);

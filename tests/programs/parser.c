@@ -98,24 +98,15 @@ static long sum(void) {
   return x;
 }
 
-static void print_number(long n) {
-  if (n < 0)
-    putchar('-'), n = -n;
-  if (n > 9)
-    print_number(n / 10);
-  putchar('0' + (int)(n % 10));
-}
-
 int main(void) {
   int lines = 0;
   while (next(), ahead != EOF) {
     failed = 0;
     long x = sum();
     if (failed || ahead != '\n')
-      putchar('?');
+      printf("?\n");
     else
-      print_number(x);
-    putchar('\n');
+      printf("%ld\n", x);
     while (ahead != '\n' && ahead != EOF)
       next();
     ++lines;

@@ -49,12 +49,6 @@ static int same(const char *a, const char *b) {
   return *a == *b;
 }
 
-static void print(const char *s, char end) {
-  while (*s)
-    putchar(*s++);
-  putchar(end);
-}
-
 int main(void) {
   char first[16], other[16], sorted[16];
   int count = 0, found = 0;
@@ -62,9 +56,9 @@ int main(void) {
     return 1;
   sort(first);
   do
-    print(first, ++count % 6 ? ' ' : '\n');
+    printf("%s%c", first, ++count % 6 ? ' ' : '\n');
   while (next(first));
-  putchar('\n');
+  printf("\n");
   sort(first);
   while (word(other)) {
     int i = 0;
@@ -73,7 +67,7 @@ int main(void) {
     while (other[i++]);
     sort(sorted);
     if (same(sorted, first))
-      print(other, '\n'), found++;
+      printf("%s\n", other), found++;
   }
   return 10 * found + (count == 12);
 }

@@ -29,16 +29,11 @@ static void place(int n, int y, unsigned columns, unsigned left, unsigned right)
   }
 }
 
-static void print_number(unsigned long n) {
-  n > 9 ? print_number(n / 10) : (void)0;
-  putchar('0' + (int)(n % 10));
-}
-
 int main(void) {
   for (int n = 1; n <= MOST; n++) {
     found = 0;
     place(n, 0, 0, 0, 0);
-    print_number(found), putchar(n < MOST ? ' ' : '\n');
+    printf("%lu%c", found, n < MOST ? ' ' : '\n');
   }
   return 0;
 }

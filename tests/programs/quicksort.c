@@ -50,14 +50,6 @@ static void sort(int *from, int *to) {
   insertion(from, to);
 }
 
-static void print_number(int n) {
-  if (n < 0)
-    putchar('-'), n = -n;
-  if (n > 9)
-    print_number(n / 10);
-  putchar('0' + n % 10);
-}
-
 int main(void) {
   int i, sum = 0, after = 0;
   for (i = 0; i < COUNT; sum += numbers[i++])
@@ -69,6 +61,6 @@ int main(void) {
   if (sum != after)
     return 2;
   for (i = 0; i < COUNT; i += 10)
-    print_number(numbers[i]), putchar(i % 50 == 40 ? '\n' : ' ');
+    printf("%d%c", numbers[i], i % 50 == 40 ? '\n' : ' ');
   return swaps == 0;
 }

@@ -45,11 +45,7 @@ int main(void) {
   if (!line(pattern))
     return 255;
   while (line(text))
-    if (match(pattern, text)) {
-      for (char *s = text; *s; putchar(*s++))
-        ;
-      putchar('\n');
-      found++;
-    }
+    if (match(pattern, text))
+      printf("%s\n", text), found++;
   return found;
 }

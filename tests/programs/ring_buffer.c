@@ -23,12 +23,6 @@ static int take(struct ring *r) {
   return count(r) ? r->bytes[r->tail++ % SIZE] : -1;
 }
 
-static void line(const char *s) {
-  while (*s)
-    putchar(*s++);
-  putchar('\n');
-}
-
 int main(void) {
   struct ring ring;
   int c, failed = 0;
@@ -40,23 +34,22 @@ int main(void) {
       if ((c = getchar()) == EOF)
         return 2;
       if (!put(&ring, c))
-        line("full"), failed++;
+        printf("full\n"), failed++;
       break;
     case '-':
       if ((c = take(&ring)) == -1)
-        line("empty"), failed++;
+        printf("empty\n"), failed++;
       else
-        putchar(c), putchar('\n');
+        printf("%c\n", c);
       break;
     case '?':
-      putchar('0' + (int)count(&ring));
-      putchar('\n');
+      printf("%u\n", count(&ring));
       break;
     case ' ':
     case '\n':
       continue;
     default:
-      line("what?");
+      printf("what?\n");
       return 2;
     }
   return failed != 3;

@@ -17,21 +17,10 @@ static int digit(int c) {
   }
 }
 
-static void print(const char *s) {
-  while (*s)
-    putchar(*s++);
-}
-
-static void print_number(int n) {
-  if (n > 9)
-    print_number(n / 10);
-  putchar('0' + n % 10);
-}
-
 static void print_roman(int n) {
   for (int i = 0; n; i++)
     for (; n >= values[i]; n -= values[i])
-      print(words[i]);
+      printf("%s", words[i]);
 }
 
 int main(void) {
@@ -42,13 +31,16 @@ int main(void) {
       do
         n = n * 10 + c - '0';
       while ((c = getchar()) >= '0' && c <= '9');
-      n < 4000 ? print_roman(n) : print("too large");
+      if (n < 4000)
+        print_roman(n);
+      else
+        printf("too large");
     } else {
       for (; (d = digit(c)); c = getchar())
         n += (d > last && last ? d - 2 * last : d), last = d;
-      print_number(n);
+      printf("%d", n);
     }
-    putchar('\n');
+    printf("\n");
     while (c != '\n' && c != EOF)
       c = getchar();
   }

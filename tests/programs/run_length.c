@@ -52,12 +52,6 @@ static void unpack(struct buffer *to, const struct buffer *from) {
   }
 }
 
-static void print_number(unsigned long n) {
-  if (n > 9)
-    print_number(n / 10);
-  putchar('0' + (int)(n % 10));
-}
-
 int main(void) {
   struct buffer text = {NULL, 0, 0}, packed = {NULL}, back = {0};
   int c;
@@ -70,9 +64,9 @@ int main(void) {
   for (unsigned long i = 0; i < back.length; i++)
     if (back.bytes[i] != text.bytes[i])
       return 2;
-  print_number(text.length), putchar(' '), print_number(packed.length), putchar('\n');
+  printf("%lu %lu\n", text.length, packed.length);
   for (unsigned long i = 0; i < packed.length; i++)
-    print_number(packed.bytes[i]), putchar(i % 16 == 15 || i + 1 == packed.length ? '\n' : ' ');
+    printf("%d%c", packed.bytes[i], i % 16 == 15 || i + 1 == packed.length ? '\n' : ' ');
   free(text.bytes), free(packed.bytes), free(back.bytes);
   return 0;
 }

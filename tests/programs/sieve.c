@@ -25,12 +25,6 @@ static void sieve(void) {
   }
 }
 
-static void print_number(unsigned n) {
-  if (n > 9)
-    print_number(n / 10);
-  putchar('0' + n % 10);
-}
-
 static int read_number(unsigned *n) {
   int c;
   while ((c = getchar()) != EOF && (c < '0' || c > '9'))
@@ -43,20 +37,19 @@ static int read_number(unsigned *n) {
 }
 
 static void factor(unsigned n) {
-  print_number(n);
-  putchar(':');
+  printf("%u:", n);
   for (int i = 0; i < count && (unsigned)primes[i] * primes[i] <= n; i++)
     for (; n % primes[i] == 0; n /= primes[i])
-      putchar(' '), print_number(primes[i]);
+      printf(" %d", primes[i]);
   if (n > 1)
-    putchar(' '), print_number(n);
-  putchar('\n');
+    printf(" %u", n);
+  printf("\n");
 }
 
 int main(void) {
   unsigned n;
   sieve();
-  print_number(count), putchar('\n');
+  printf("%d\n", count);
   while (read_number(&n))
     factor(n);
   return primes[count - 1] != 4999;

@@ -23,14 +23,6 @@ struct machine {
   unsigned long steps;
 };
 
-static void print_number(int n) {
-  if (n < 0)
-    putchar('-'), n = -n;
-  if (n > 9)
-    print_number(n / 10);
-  putchar('0' + n % 10);
-}
-
 static enum fault step(struct machine *m) {
   int *top = m->stack + m->top, t;
   switch (m->code[m->at++]) {
@@ -62,7 +54,7 @@ static enum fault step(struct machine *m) {
   case PRINT:
     if (!m->top)
       return TOO_EMPTY;
-    print_number(top[-1]), putchar('\n');
+    printf("%d\n", top[-1]);
   case DROP:
     return m->top ? m->top--, NONE : TOO_EMPTY;
   case UNLESS:
@@ -103,10 +95,10 @@ static enum fault run(struct machine *m, const int *code, int length) {
 int main(void) {
   struct machine m;
   enum fault f = run(&m, powers, sizeof powers / sizeof powers[0]);
-  print_number(f), putchar(' '), print_number(m.steps), putchar('\n');
+  printf("%d %lu\n", f, m.steps);
   f = run(&m, squares, sizeof squares / sizeof *squares);
-  print_number(f), putchar(' '), print_number(m.steps), putchar('\n');
+  printf("%d %lu\n", f, m.steps);
   for (int i = 0; i < m.top; i++)
-    print_number(m.stack[i]), putchar(i + 1 < m.top ? ' ' : '\n');
+    printf("%d%c", m.stack[i], i + 1 < m.top ? ' ' : '\n');
   return 0;
 }

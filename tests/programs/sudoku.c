@@ -58,6 +58,6 @@ int main(void) {
     return 2;
   for (int y = 0; y < 9; y++)
     for (int x = 0; x < 9; x++)
-      putchar('0' + cell[y][x]), putchar(x < 8 ? ' ' : '\n');
+      printf("%d%c", cell[y][x], x < 8 ? ' ' : '\n');
   return tried > 60 ? 60 : tried;
 }

@@ -86,25 +86,19 @@ static enum kind token(void) {
   return MARK;
 }
 
-static void print(const char *s) {
-  while (*s)
-    putchar(*s++);
-}
-
 int main(void) {
   enum kind k;
   int count = 0;
   ahead = getchar();
   while ((k = token()) != END) {
     switch (k) {
-    case NAME: print("name   "); break;
-    case NUMBER: print("number "); break;
-    case STRING: print("string "); break;
-    case MARK: print("mark   "); break;
-    default: print("broken\n"); return 1;
+    case NAME: printf("name   "); break;
+    case NUMBER: printf("number "); break;
+    case STRING: printf("string "); break;
+    case MARK: printf("mark   "); break;
+    default: printf("broken\n"); return 1;
     }
-    print(text);
-    putchar('\n');
+    printf("%s\n", text);
     ++count;
   }
   return count != 37;

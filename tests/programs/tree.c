@@ -45,20 +45,13 @@ static int remove_key(int key) {
   return 1;
 }
 
-static void print_number(int n) {
-  if (n > 9)
-    print_number(n / 10);
-  putchar('0' + n % 10);
-}
-
 static int show(struct node *t, int depth) {
   if (!t)
     return 0;
   int right = show(t->right, depth + 1);
   for (int i = 0; i < depth; i++)
-    putchar(' '), putchar(' ');
-  print_number(t->key);
-  putchar('\n');
+    printf("  ");
+  printf("%d\n", t->key);
   int left = show(t->left, depth + 1);
   return 1 + (left > right ? left : right);
 }

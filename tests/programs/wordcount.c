@@ -1,12 +1,6 @@
 /* Counts lines, words and bytes of the input, as `wc` does. */
 #include <stdio.h>
 
-static void put_number(unsigned long n) {
-  if (n >= 10)
-    put_number(n / 10);
-  putchar('0' + (int)(n % 10));
-}
-
 static int is_blank(int c) {
   return c == ' ' || (c >= '\t' && c <= '\r');
 }
@@ -23,8 +17,6 @@ int main(void) {
     else if (!inside++)
       words++;
   }
-  put_number(lines), putchar(' ');
-  put_number(words), putchar(' ');
-  put_number(bytes), putchar('\n');
+  printf("%lu %lu %lu\n", lines, words, bytes);
   return 0;
 }

@@ -25,7 +25,7 @@ static void flush(int last) {
     }
   }
   if (words)
-    putchar('\n');
+    printf("\n");
   words = used = 0;
 }
 
