@@ -1,4 +1,6 @@
 // sorts numbers where they stand, and checks the order before it prints them
+#include <stdio.h>
+
 int numbers[] = {31, 41, 59, 26, 53, 58, 97, 93, 23, 84, 62, 64};
 
 enum { COUNT = sizeof numbers / sizeof numbers[0] };
@@ -10,21 +12,14 @@ void swap(int *a, int *b) {
 }
 
 void sort(int *from, int *end) {
-  for (int sorted = 0; !sorted;) {
+  for (int sorted = 0; !sorted; end--) {
     sorted = 1;
     for (int *at = from; at + 1 < end; at++)
       if (at[0] > at[1]) {
         swap(at, at + 1);
         sorted = 0;
       }
-    end--;
   }
-}
-
-void print(int n) {
-  putchar('0' + n / 10);
-  putchar('0' + n % 10);
-  putchar('\n');
 }
 
 int main(void) {
@@ -33,8 +28,7 @@ int main(void) {
   for (int i = 0; i < COUNT; i++) {
     int next = numbers[i];
     //@ assert least <= next;
-    print(next);
-    least = next;
+    printf("%d\n", least = next);
   }
   return COUNT;
 }

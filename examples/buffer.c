@@ -9,19 +9,15 @@ struct buffer {
 int put(struct buffer *buffer, unsigned char byte) {
   unsigned count = buffer->count;
   //@ assert count < SIZE;
-  buffer->bytes[count] = byte;
-  buffer->count++;
+  buffer->bytes[buffer->count++] = byte;
   return buffer->count == SIZE;
 }
 
 int main(void) {
   struct buffer buffer = {{0}, 0};
-  int byte = getchar();
-  while (byte != EOF) {
-    int full = put(&buffer, byte);
-    if (full)
-      putchar('!');
-    byte = getchar();
-  }
+  int byte;
+  while ((byte = getchar()) != EOF)
+    if (put(&buffer, byte))
+      printf("full\n");
   return 0;
 }

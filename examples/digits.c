@@ -1,22 +1,16 @@
+#include <stdio.h>
+
 int main(void) {
-  int number = 300;
-  int rest = number;
-  int hundreds = 0;
-  int tens = 0;
-  while (rest > 100) {
-    rest = rest - 100;
-    hundreds = hundreds + 1;
-  }
+  int rest = 300, hundreds = 0, tens = 0;
+  for (; rest > 100; rest -= 100)
+    hundreds++;
   //@ assert hundreds < 10;
-  putchar('0' + hundreds);
-  while (rest > 10) {
-    rest = rest - 10;
-    tens = tens + 1;
-  }
+  printf("%d", hundreds);
+  for (; rest > 10; rest -= 10)
+    tens++;
   //@ assert tens < 10;
-  putchar('0' + tens);
+  printf("%d", tens);
   //@ assert rest < 10;
-  putchar('0' + rest);
-  putchar(10);
+  printf("%d\n", rest);
   return 0;
 }

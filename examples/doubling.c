@@ -1,17 +1,12 @@
+#include <stdio.h>
+
 int main(void) {
-  int power = 1;
-  int doublings = 0;
-  while (0 < power) {
+  int power = 1, doublings = 0;
+  while (power > 0) {
     //@ assert power < power + power;
-    power = power + power;
-    doublings = doublings + 1;
-    if (doublings == 10) {
-      putchar('|');
-      doublings = 0;
-    } else {
-      putchar('+');
-    }
+    power *= 2;
+    putchar(++doublings % 10 ? '+' : '|');
   }
-  putchar(10);
+  putchar('\n');
   return 0;
 }

@@ -1,16 +1,17 @@
+#include <stdio.h>
+
 int main(void) {
-  int a = 84;
-  int b = 0;
+  int a = 84, b = 0;
   while (a != b) {
-    //@ assert 0 < a + b;
+    //@ assert a + b > 0;
     if (a > b) {
-      a = a - b;
+      a -= b;
       putchar('a');
     } else {
-      b = b - a;
+      b -= a;
       putchar('b');
     }
   }
-  putchar(10);
+  putchar('\n');
   return 0;
 }

@@ -7,44 +7,31 @@ struct node {
   struct node *next;
 };
 
-int living = 0;
+int living;
 
-// puts a letter before the first one that isn't less, and gives the list's first node
-struct node *inserted(struct node *list, char letter) {
-  struct node *node = malloc(sizeof(struct node));
+// puts a letter before the first one that isn't less
+void insert(struct node **list, char letter) {
+  while (*list && (*list)->letter < letter)
+    list = &(*list)->next;
+  struct node *node = malloc(sizeof *node);
   living++;
   node->letter = letter;
-  if (list == NULL || letter <= list->letter) {
-    node->next = list;
-    return node;
-  }
-  struct node *before = list;
-  while (before->next != NULL && before->next->letter < letter)
-    before = before->next;
-  node->next = before->next;
-  before->next = node;
-  return list;
+  node->next = *list;
+  *list = node;
 }
 
 int main(void) {
-  struct node *list = NULL;
-  int c = getchar();
-  while (c != EOF) {
-    if ('a' <= c && c <= 'z')
-      list = inserted(list, c);
-    c = getchar();
-  }
-  char last = 'a';
-  while (list != NULL) {
-    struct node node;
+  struct node *list = NULL, node;
+  int c;
+  while ((c = getchar()) != EOF)
+    if (c >= 'a' && c <= 'z')
+      insert(&list, c);
+  for (char last = 'a'; list; list = node.next) {
     node = *list;
-    free(list);
-    living--;
+    free(list), living--;
     char letter = node.letter;
     //@ assert last <= letter;
-    putchar(letter);
-    last = letter;
-    list = node.next;
+    putchar(last = letter);
   }
   putchar('\n');
   //@ assert living == 0;

@@ -1,38 +1,29 @@
 // turns a string around where it stands
+#include <stdio.h>
+
 char text[] = "a man, a plan";
 
-int length(char *s) {
-  char *end = s;
+int length(const char *s) {
+  const char *end = s;
   while (*end)
     end++;
   return end - s;
 }
 
 void mirror(char *s) {
-  int count = length(s);
-  char *last = s + count - 1;
-  while (s < last) {
+  for (char *last = s + length(s) - 1; s < last; ) {
     char kept = *s;
-    *s = *last;
-    *last = kept;
-    s++;
-    last--;
+    *s++ = *last;
+    *last-- = kept;
   }
-}
-
-void print(char *s) {
-  for (; *s; s++)
-    putchar(*s);
-  putchar('\n');
 }
 
 int main(void) {
   mirror(text);
-  print(text);
+  printf("%s\n", text);
   mirror(text);
-  print(text);
-  int whole = sizeof text;
-  int found = length(text);
+  printf("%s\n", text);
+  int whole = sizeof text, found = length(text);
   //@ assert found + 1 == whole;
   return found;
 }

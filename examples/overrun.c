@@ -1,12 +1,12 @@
 // fills one element more than there is
+#include <stdio.h>
+
 int squares[10];
 
 int main(void) {
-  putchar('A');
-  putchar('\n');
+  printf("A\n");
   for (int i = 0; i <= 10; i++)
     squares[i] = i * i;
-  putchar('B');
-  putchar('\n');
+  printf("B\n");
   return 0;
 }

@@ -1,10 +1,10 @@
 // prints the rest of a line of the input backwards, and says whether a line comes behind it
+#include <stdio.h>
+
 int reverse(int length) {
   int c = getchar();
-  if (c == EOF)
-    return 0;
-  if (c == '\n')
-    return 1;
+  if (c == EOF || c == '\n')
+    return c == '\n';
   int more = reverse(length + 1);
   putchar(c);
   //@ assert length >= 0;
@@ -13,11 +13,7 @@ int reverse(int length) {
 
 int main(void) {
   int lines = 0;
-  int more = reverse(0);
-  while (more) {
+  for (; reverse(0); lines++)
     putchar('\n');
-    lines++;
-    more = reverse(0);
-  }
   return lines;
 }

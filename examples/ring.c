@@ -1,4 +1,6 @@
 // prints who is left when of twelve that stand in a ring each fifth goes
+#include <stdio.h>
+
 struct person {
   char name;
   struct person *next;
@@ -26,9 +28,7 @@ int main(void) {
     left--;
     //@ assert left >= 1;
   }
-  putchar('\n');
-  putchar(before->name);
-  putchar('\n');
+  printf("\n%c\n", before->name);
   //@ assert left == 1;
   return 0;
 }
