@@ -3,41 +3,15 @@
 #include <ctype.h>
 
 void truth(int is) {
-  putchar(is != 0 ? '1' : '0');
+  putchar(is ? '1' : '0');
 }
 
 int main(void) {
   for (int c = EOF; c < 256; c++) {
-    int is;
-    is = isalnum(c);
-    truth(is);
-    is = isalpha(c);
-    truth(is);
-    is = isblank(c);
-    truth(is);
-    is = iscntrl(c);
-    truth(is);
-    is = isdigit(c);
-    truth(is);
-    is = isgraph(c);
-    truth(is);
-    is = islower(c);
-    truth(is);
-    is = isprint(c);
-    truth(is);
-    is = ispunct(c);
-    truth(is);
-    is = isspace(c);
-    truth(is);
-    is = isupper(c);
-    truth(is);
-    is = isxdigit(c);
-    truth(is);
-    is = tolower(c);
-    put(is);
-    is = toupper(c);
-    put(is);
-    end_line();
+    truth(isalnum(c)), truth(isalpha(c)), truth(isblank(c)), truth(iscntrl(c));
+    truth(isdigit(c)), truth(isgraph(c)), truth(islower(c)), truth(isprint(c));
+    truth(ispunct(c)), truth(isspace(c)), truth(isupper(c)), truth(isxdigit(c));
+    printf(" %d %d\n", tolower(c), toupper(c));
   }
   return 0;
 }

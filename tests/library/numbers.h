@@ -3,18 +3,9 @@
 #define NUMBERS_H
 #include <stdio.h>
 
-void put_natural(unsigned long number) {
-  if (number > 9)
-    put_natural(number / 10);
-  putchar('0' + (int)(number % 10));
-}
-
 /* a number and a blank */
 void put(long number) {
-  if (number < 0)
-    putchar('-');
-  put_natural(number < 0 ? 0ul - number : number);
-  putchar(' ');
+  printf("%ld ", number);
 }
 
 void put_sign(int number) {
@@ -24,10 +15,6 @@ void put_sign(int number) {
 void put_bytes(const char *from, int count) {
   for (int i = 0; i < count; i++)
     put(from[i]);
-}
-
-void end_line(void) {
-  putchar('\n');
 }
 
 unsigned int seed = 1;

@@ -6,17 +6,14 @@
   put(sizeof(int##NAME##_t)); \
   put(sizeof(uint##NAME##_t))
 #define LIMITS(NAME) \
-  put(INT##NAME##_MIN); \
-  put(INT##NAME##_MAX); \
-  put_natural(UINT##NAME##_MAX); \
-  end_line()
+  printf("%ld %ld %lu\n", (long)INT##NAME##_MIN, (long)INT##NAME##_MAX, (unsigned long)UINT##NAME##_MAX)
 
 void sizes(void) {
   SIZES(8); SIZES(16); SIZES(32); SIZES(64);
   SIZES(_least8); SIZES(_least16); SIZES(_least32); SIZES(_least64);
   SIZES(_fast8); SIZES(_fast16); SIZES(_fast32); SIZES(_fast64);
   SIZES(max);
-  end_line();
+  printf("\n");
 }
 
 void limits(void) {
@@ -24,10 +21,7 @@ void limits(void) {
   LIMITS(_LEAST8); LIMITS(_LEAST16); LIMITS(_LEAST32); LIMITS(_LEAST64);
   LIMITS(_FAST8); LIMITS(_FAST16); LIMITS(_FAST32); LIMITS(_FAST64);
   LIMITS(MAX);
-  put(PTRDIFF_MIN);
-  put(PTRDIFF_MAX);
-  put_natural(SIZE_MAX);
-  end_line();
+  printf("%ld %ld %lu\n", PTRDIFF_MIN, PTRDIFF_MAX, SIZE_MAX);
 }
 
 /* The sign of a limit less 1 tells how the type of the limit is promoted. */
@@ -43,19 +37,11 @@ void constants(void) {
   put(-1 < UINT32_C(7));
   put(-1 < UINT8_C(7));
   put(UINT64_C(18446744073709551615) == UINT64_MAX);
-  end_line();
+  printf("\n");
 }
 
 void conversions(int64_t number) {
-  put((int8_t)number);
-  put((uint8_t)number);
-  put((int16_t)number);
-  put((uint16_t)number);
-  put((int32_t)number);
-  put((uint32_t)number);
-  put(number);
-  put_natural((uint64_t)number);
-  end_line();
+  printf("%d %u %d %u %d %u %ld %lu\n", (int8_t)number, (uint8_t)number, (int16_t)number, (uint16_t)number, (int32_t)number, (uint32_t)number, number, (uint64_t)number);
 }
 
 int main(void) {
@@ -63,10 +49,7 @@ int main(void) {
   limits();
   constants();
   for (int round = 0; round < 200; round++) {
-    int high = next(65536);
-    int low = next(65536);
-    int shift = next(32);
-    uint64_t number = ((uint64_t)high << shift) * 65536u + (uint64_t)low;
+    uint64_t high = next(65536), low = next(65536), number = (high << next(32)) * 65536u + low;
     conversions((int64_t)number);
     conversions((int64_t)(0u - number));
   }
