@@ -1,5 +1,5 @@
 -- Flat memory stands for numbered blocks, so that what agrees with a run over blocks is translated.
-use Rattle.std.proofs.Common.{ℕ, ℤ, List, refl}
+use Rattle.std.proofs.Common.{ℕ, ℤ, pos, List, refl, ap}
 use Rattle.c_syntax.specs.Programs.{TranslationUnit}
 use Rattle.c_model.specs.Memory.{Value}
 use Rattle.c_model.specs.State.{Input}
@@ -21,6 +21,13 @@ use Rattle.mon_syntax.proofs.FlatWorlds.{later_refl, later_trans, same_later, sa
 use Rattle.mon_syntax.proofs.FlatValues.{load_alike}
 use Rattle.mon_syntax.proofs.FlatStores.{store_alike}
 use Rattle.mon_syntax.proofs.FlatOperators.{pointed_alike}
+use Rattle.c_model.specs.Integers.{truth}
+use Rattle.mon_syntax.specs.BlockMemory as blocks
+use Rattle.mon_syntax.specs.FlatMemory as flat
+use Rattle.c_model.specs.MemoryQuestions.{is_valid, is_readable, is_initialized}
+use Rattle.mon_syntax.specs.Flat.{flat_valid, flat_valid_read, flat_initialized, flat_base_addr}
+use Rattle.mon_syntax.proofs.FlatQuestions.{valid_alike, readable_alike, initialized_alike, pointer_alike, inside_alike, base_alike, length_alike, offset_alike}
+use Rattle.mon_syntax.proofs.FlatAnswers.{range_question_alike, place_question_alike, separated_question_alike}
 use Rattle.mon_syntax.proofs.FlatNumbers.{number_alike}
 use Rattle.mon_syntax.proofs.FlatFrames.{Answers, enter_alike, leave_alike}
 use Rattle.mon_syntax.proofs.FlatStack.{store_block_alike, delete_block_alike}
@@ -35,6 +42,15 @@ act_alike w call.StoreBlock xs ys m n k h = store_block_alike w xs ys m n k h
 act_alike w call.DeleteBlock xs ys m n k h = delete_block_alike w xs ys m n k h
 act_alike w (call.Copy a) xs ys m n k h = copy_alike w a xs ys m n k h
 act_alike w (call.Number a) xs ys m n k h = number_alike w a xs ys m n k h
+act_alike w (call.Valid a) xs ys m n k h = range_question_alike w is_valid flat_valid (λ m f o h p x s. valid_alike w m f o h p x s) a xs ys m n k h
+act_alike w (call.ValidRead a) xs ys m n k h = range_question_alike w is_readable flat_valid_read (λ m f o h p x s. readable_alike w m f o h p x s) a xs ys m n k h
+act_alike w (call.Initialized a) xs ys m n k h = range_question_alike w is_initialized flat_initialized (λ m f o h p x s. initialized_alike w m f o h p x s) a xs ys m n k h
+act_alike w call.Pointer xs ys m n k h = place_question_alike w blocks.told_pointer flat.told_pointer (λ m f o h p x s. ap truth (pointer_alike w m f o h p x s)) xs ys m n k h
+act_alike w call.Inside xs ys m n k h = place_question_alike w blocks.told_inside flat.told_inside (λ m f o h p x s. ap truth (inside_alike w m f o h p x s)) xs ys m n k h
+act_alike w call.BaseAddr xs ys m n k h = place_question_alike w blocks.told_base flat.told_base (λ m f o h p x s. (flat_base_addr f x o, refl, base_alike w m f o h p x s)) xs ys m n k h
+act_alike w call.BlockLength xs ys m n k h = place_question_alike w blocks.told_length flat.told_length (λ m f o h p x s. ap pos (length_alike w m f o h p x s)) xs ys m n k h
+act_alike w call.Offset xs ys m n k h = place_question_alike w blocks.told_offset flat.told_offset (λ m f o h p x s. ap pos (offset_alike w m f o h p x s)) xs ys m n k h
+act_alike w call.Separated xs ys m n k h = separated_question_alike w xs ys m n k h
 act_alike w call.Malloc xs ys m n k h = malloc_alike w xs ys m n k h
 act_alike w call.Calloc xs ys m n k h = calloc_alike w xs ys m n k h
 act_alike w call.Free xs ys m n k h = free_alike w xs ys m n k h

@@ -53,7 +53,7 @@ value_is cint.I64 n lt = signed_value 9223372036854775808 18446744073709551616 n
 value_is cint.U64 n lt = ap pos (sym (mod-eq_of_lt lt))
 
 -- the number of bytes that are read
-number_of_read : (w : World) (n : ℕ) (ys : List Byte) (v : ℕ) → ReadBytes w n ys v → Kept (SameNumber n) (number_of ys) (Some v)
+pub number_of_read : (w : World) (n : ℕ) (ys : List Byte) (v : ℕ) → ReadBytes w n ys v → Kept (SameNumber n) (number_of ys) (Some v)
 number_of_read w n ys v r =
     subst (λ i. Kept (SameNumber i) (number_of ys) (Some v)) r.long (subst (λ i. Kept (SameNumber (length ys)) (number_of ys) (Some i)) (sym r.is) (number_read w ys r.bytes r.all))
 

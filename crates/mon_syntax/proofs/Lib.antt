@@ -27,6 +27,9 @@ pub mod FlatLoads
 pub mod FlatValues
 pub mod FlatFinds
 pub mod FlatNumbers
+pub mod FlatRanges
+pub mod FlatQuestions
+pub mod FlatAnswers
 pub mod Strings
 pub mod FlatStrings
 pub mod FlatPlaces

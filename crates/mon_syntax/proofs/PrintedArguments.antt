@@ -35,7 +35,7 @@ use Rattle.mon_syntax.specs.Valid.{Types, IsExpression, AreArguments, Signature,
 use Rattle.mon_syntax.specs.Parsed as parsed
 use Rattle.mon_syntax.specs.Parsed.{NameUse, ParsedExpression, ParsedArgument, ParsedCall}
 use Rattle.mon_syntax.specs.Grammar.{Vocabulary, kind, first_argument, is_step_word, has_no_argument, arguments, call_of}
-use Rattle.mon_syntax.specs.Checking.{Scope, Header, scope_of, find_function, checked_expression, kind_named, size_named, copy_size_named, small_number, bytes_of, value_of_type, one_value, arguments_of, runtime_call, call_of_word}
+use Rattle.mon_syntax.specs.Checking.{range_call, Scope, Header, scope_of, find_function, checked_expression, kind_named, size_named, copy_size_named, small_number, bytes_of, value_of_type, one_value, arguments_of, runtime_call, call_of_word}
 use Rattle.mon_syntax.proofs.PrintedPieces.{AreTokens}
 use Rattle.mon_syntax.proofs.PrintedForms.{Pieces, argument_is, arguments_are, sized_is, assert_is}
 use Rattle.mon_syntax.proofs.PrintedExpressions.{AreWords, AreFound, IsReadAs, expression_is, same_types}
@@ -94,6 +94,15 @@ memory_runtime memory_call.StoreBlock = runtime.StoreBlock
 memory_runtime memory_call.DeleteBlock = runtime.DeleteBlock
 memory_runtime (memory_call.Copy a) = runtime.Copy
 memory_runtime (memory_call.Number a) = runtime.Number
+memory_runtime (memory_call.Valid a) = runtime.Valid
+memory_runtime (memory_call.ValidRead a) = runtime.ValidRead
+memory_runtime (memory_call.Initialized a) = runtime.Initialized
+memory_runtime memory_call.Pointer = runtime.Pointer
+memory_runtime memory_call.Inside = runtime.Inside
+memory_runtime memory_call.BaseAddr = runtime.BaseAddr
+memory_runtime memory_call.BlockLength = runtime.BlockLength
+memory_runtime memory_call.Offset = runtime.Offset
+memory_runtime memory_call.Separated = runtime.Separated
 memory_runtime memory_call.Malloc = runtime.Malloc
 memory_runtime memory_call.Calloc = runtime.Calloc
 memory_runtime memory_call.Free = runtime.Free
@@ -104,6 +113,15 @@ memory_word_is memory_call.StoreBlock = refl
 memory_word_is memory_call.DeleteBlock = refl
 memory_word_is (memory_call.Copy a) = refl
 memory_word_is (memory_call.Number a) = refl
+memory_word_is (memory_call.Valid a) = refl
+memory_word_is (memory_call.ValidRead a) = refl
+memory_word_is (memory_call.Initialized a) = refl
+memory_word_is memory_call.Pointer = refl
+memory_word_is memory_call.Inside = refl
+memory_word_is memory_call.BaseAddr = refl
+memory_word_is memory_call.BlockLength = refl
+memory_word_is memory_call.Offset = refl
+memory_word_is memory_call.Separated = refl
 memory_word_is memory_call.Malloc = refl
 memory_word_is memory_call.Calloc = refl
 memory_word_is memory_call.Free = refl
@@ -455,6 +473,59 @@ module _ (names : List (List ℕ)) (ws : Vocabulary) (words : AreWords names ws)
         step = and_false (is_step_word (word.Runtime (memory_runtime f)));
       }
 
+  range_checked : (f : AccessSize → MemoryCall) (r : Runtime) (p o n : MonExpression) (a : AccessSize)
+      → ((u : NameUse) (at : Place) (xs : List ParsedArgument) → runtime_call scope u at xs r ≡ range_call scope at xs f)
+      → (u : NameUse) (at size_at : Place) (x y z : ParsedExpression) → checked_expression scope x ≡ Ok (p, Ptr) → checked_expression scope y ≡ Ok (o, I128) → checked_expression scope z ≡ Ok (n, I128)
+      → runtime_call scope u at (parsed.Value x ∷ parsed.Value y ∷ parsed.Value z ∷ parsed.Number size_at (pos (access_bytes a)) ∷ []) r ≡ Ok (Act None (f a) (p ∷ o ∷ n ∷ []))
+  range_checked f r p o n a is u at size_at x y z h k l =
+      is u at (parsed.Value x ∷ parsed.Value y ∷ parsed.Value z ∷ parsed.Number size_at (pos (access_bytes a)) ∷ [])
+      ∙ rw (condition_checked p Ptr x h, condition_checked o I128 y k, condition_checked n I128 z l, size_checked size_at a) refl
+
+  -- a pointer, an offset, a length and an alignment
+  range_call_is : (f : MemoryCall) (b : AccessSize) (p o n : MonExpression) (more : Pieces) (ts : List PlainToken)
+      → size_argument f ≡ text.Mark (codes ",") ∷ text.blank ∷ text.Number (access_bytes b) ∷ []
+      → ((u : NameUse) (at size_at : Place) (x y z : ParsedExpression) → checked_expression scope x ≡ Ok (p, Ptr) → checked_expression scope y ≡ Ok (o, I128) → checked_expression scope z ≡ Ok (n, I128)
+      → runtime_call scope u at (parsed.Value x ∷ parsed.Value y ∷ parsed.Value z ∷ parsed.Number size_at (pos (access_bytes b)) ∷ []) (memory_runtime f) ≡ Ok (Act None f (p ∷ o ∷ n ∷ [])))
+      → IsExpression count types p Ptr → IsExpression count types o I128 → IsExpression count types n I128
+      → AreTokens names (text.left_paren ∷ (((arguments_pieces rs (p ∷ o ∷ n ∷ []) ++ size_argument f) ++ (text.right_paren ∷ text.semicolon ∷ [])) ++ more)) ts
+      → IsCallAs (memory_word f) (word.Runtime (memory_runtime f)) (Act None f (p ∷ o ∷ n ∷ [])) more ts
+  range_call_is f b p o n more ts sized checks hp ho hn g0 =
+      let end : Pieces = text.Mark (codes ",") ∷ text.blank ∷ text.Number (access_bytes b) ∷ text.right_paren ∷ text.semicolon ∷ more in
+      let joined = sized_is rs more (arguments_pieces rs (p ∷ o ∷ n ∷ [])) f
+      ∙ ap (λ (l : Pieces). arguments_pieces rs (p ∷ o ∷ n ∷ []) ++ (l ++ (text.right_paren ∷ text.semicolon ∷ more))) sized ∙ argument_is rs end p (o ∷ n ∷ [])
+      ∙ ap (λ (l : Pieces). expression_pieces rs p ++ (text.Mark (codes ",") ∷ text.blank ∷ l)) (argument_is rs end o (n ∷ []))
+      ∙ ap (λ (l : Pieces). expression_pieces rs p ++ (text.Mark (codes ",") ∷ text.blank ∷ (expression_pieces rs o ++ (text.Mark (codes ",") ∷ text.blank ∷ l)))) (argument_is rs end n []) in
+      let g = subst (λ (l : Pieces). AreTokens names (text.left_paren ∷ l) ts) joined g0 in
+      let x = whole p Ptr _ g.1 hp g.3 in
+      let y = whole o I128 _ x.after.1 ho x.after.3 in
+      let z = whole n I128 _ y.after.1 hn y.after.3 in
+      let size = z.after.3 in
+      let close = size.3 in
+      let one : List ParsedArgument = parsed.Value x.tree ∷ [] in
+      let two : List ParsedArgument = parsed.Value x.tree ∷ parsed.Value y.tree ∷ [] in
+      let three : List ParsedArgument = parsed.Value x.tree ∷ parsed.Value y.tree ∷ parsed.Value z.tree ∷ [] in
+      let four : List ParsedArgument = parsed.Value x.tree ∷ parsed.Value y.tree ∷ parsed.Value z.tree ∷ parsed.Number size.0 (pos (access_bytes b)) ∷ [] in
+      let others =
+      next_read ws one x.after.2 (value_read ws x.after.1 y.begins y.parsed)
+      ∙ next_read ws two y.after.2 (value_read ws y.after.1 z.begins z.parsed)
+      ∙ next_read ws three z.after.2 (number_read ws (access_bytes b) size.2)
+      ∙ no_more_read ws four close.2 in
+      let all = arguments_read ws g.1 (x.begins first_argument true refl refl refl) (value_read ws g.1 x.begins x.parsed) others in
+      record {
+        opening = g.0;
+        inner = g.1;
+        is = g.2;
+        arguments_list = four;
+        behind = close.1;
+        read = λ u. call_read ws u g.2 all close.2;
+        end = close.3.0;
+        rest = close.3.1;
+        ends = close.3.2;
+        after = close.3.3;
+        checked = λ _ at. checks (record { place = at; number = number (memory_word f) }) g.0 size.0 x.tree y.tree z.tree x.checked y.checked z.checked;
+        step = and_false (is_step_word (word.Runtime (memory_runtime f)));
+      }
+
   pub memory_call_is : (f : MemoryCall) (es : List MonExpression) (more : Pieces) (ts : List PlainToken) → AreArguments count types es (memory_parameters f)
       → AreTokens names (text.left_paren ∷ (((arguments_pieces rs es ++ size_argument f) ++ (text.right_paren ∷ text.semicolon ∷ [])) ++ more)) ts
       → IsCallAs (memory_word f) (word.Runtime (memory_runtime f)) (Act None f es) more ts
@@ -468,6 +539,27 @@ module _ (names : List (List ℕ)) (ws : Vocabulary) (words : AreWords names ws)
   memory_call_is (memory_call.Number b) (p ∷ []) more ts h a = absurd h.1
   memory_call_is (memory_call.Number b) (p ∷ o ∷ []) more ts h a = sized_call_is (memory_call.Number b) I128 (access_bytes b) p o more ts refl (question_checked p o b) h.0 h.1.0 a
   memory_call_is (memory_call.Number b) (p ∷ o ∷ q ∷ es) more ts h a = absurd h.1.1
+  memory_call_is (memory_call.Valid b) [] more ts h a = absurd h
+  memory_call_is (memory_call.Valid b) (p ∷ []) more ts h a = absurd h.1
+  memory_call_is (memory_call.Valid b) (p ∷ o ∷ []) more ts h a = absurd h.1.1
+  memory_call_is (memory_call.Valid b) (p ∷ o ∷ n ∷ []) more ts h a = range_call_is (memory_call.Valid b) b p o n more ts refl (range_checked memory_call.Valid runtime.Valid p o n b (λ u at xs. refl)) h.0 h.1.0 h.1.1.0 a
+  memory_call_is (memory_call.Valid b) (p ∷ o ∷ n ∷ e ∷ es) more ts h a = absurd h.1.1.1
+  memory_call_is (memory_call.ValidRead b) [] more ts h a = absurd h
+  memory_call_is (memory_call.ValidRead b) (p ∷ []) more ts h a = absurd h.1
+  memory_call_is (memory_call.ValidRead b) (p ∷ o ∷ []) more ts h a = absurd h.1.1
+  memory_call_is (memory_call.ValidRead b) (p ∷ o ∷ n ∷ []) more ts h a = range_call_is (memory_call.ValidRead b) b p o n more ts refl (range_checked memory_call.ValidRead runtime.ValidRead p o n b (λ u at xs. refl)) h.0 h.1.0 h.1.1.0 a
+  memory_call_is (memory_call.ValidRead b) (p ∷ o ∷ n ∷ e ∷ es) more ts h a = absurd h.1.1.1
+  memory_call_is (memory_call.Initialized b) [] more ts h a = absurd h
+  memory_call_is (memory_call.Initialized b) (p ∷ []) more ts h a = absurd h.1
+  memory_call_is (memory_call.Initialized b) (p ∷ o ∷ []) more ts h a = absurd h.1.1
+  memory_call_is (memory_call.Initialized b) (p ∷ o ∷ n ∷ []) more ts h a = range_call_is (memory_call.Initialized b) b p o n more ts refl (range_checked memory_call.Initialized runtime.Initialized p o n b (λ u at xs. refl)) h.0 h.1.0 h.1.1.0 a
+  memory_call_is (memory_call.Initialized b) (p ∷ o ∷ n ∷ e ∷ es) more ts h a = absurd h.1.1.1
+  memory_call_is memory_call.Pointer es more ts h a = values_call_is memory_call.Pointer es more ts refl refl (λ u at xs k. rw k refl) h a
+  memory_call_is memory_call.Inside es more ts h a = values_call_is memory_call.Inside es more ts refl refl (λ u at xs k. rw k refl) h a
+  memory_call_is memory_call.BaseAddr es more ts h a = values_call_is memory_call.BaseAddr es more ts refl refl (λ u at xs k. rw k refl) h a
+  memory_call_is memory_call.BlockLength es more ts h a = values_call_is memory_call.BlockLength es more ts refl refl (λ u at xs k. rw k refl) h a
+  memory_call_is memory_call.Offset es more ts h a = values_call_is memory_call.Offset es more ts refl refl (λ u at xs k. rw k refl) h a
+  memory_call_is memory_call.Separated es more ts h a = values_call_is memory_call.Separated es more ts refl refl (λ u at xs k. rw k refl) h a
   memory_call_is memory_call.Malloc es more ts h a = values_call_is memory_call.Malloc es more ts refl refl (λ u at xs k. rw k refl) h a
   memory_call_is memory_call.Calloc es more ts h a = values_call_is memory_call.Calloc es more ts refl refl (λ u at xs k. rw k refl) h a
   memory_call_is memory_call.Free es more ts h a = values_call_is memory_call.Free es more ts refl refl (λ u at xs k. rw k refl) h a

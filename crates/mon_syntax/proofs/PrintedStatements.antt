@@ -365,6 +365,15 @@ module _ (names : List (List ℕ)) (ws : Vocabulary) (words : AreWords names ws)
       no_step_word memory_call.DeleteBlock = refl
       no_step_word (memory_call.Copy a) = refl
       no_step_word (memory_call.Number a) = refl
+      no_step_word (memory_call.Valid a) = refl
+      no_step_word (memory_call.ValidRead a) = refl
+      no_step_word (memory_call.Initialized a) = refl
+      no_step_word memory_call.Pointer = refl
+      no_step_word memory_call.Inside = refl
+      no_step_word memory_call.BaseAddr = refl
+      no_step_word memory_call.BlockLength = refl
+      no_step_word memory_call.Offset = refl
+      no_step_word memory_call.Separated = refl
       no_step_word memory_call.Malloc = refl
       no_step_word memory_call.Calloc = refl
       no_step_word memory_call.Free = refl

@@ -25,6 +25,8 @@ use Rattle.mon_syntax.specs.declared.tree.MemoryCall.TheVariants as call
 use Rattle.mon_syntax.specs.Arithmetic.{access_bytes, copy_bytes, lowest_bits, wrap}
 use Rattle.mon_syntax.specs.Trees.{PlainContent, MonitoredGlobal, MonitoredProgram}
 use Rattle.mon_syntax.specs.Globals.{kind_of_content, size_of_content, first_bytes}
+use Rattle.c_model.specs.MemoryQuestions.{Address, address_of, address_farther, is_valid, is_readable, is_initialized, has_pointer, is_inside, base_of}
+use Rattle.c_model.specs.MemoryQuestions.{length_of, offset_in_block, are_separated}
 use Rattle.mon_syntax.specs.Memory.{Memory, Reply, Gives, IsFull, Faults}
 pub use Rattle.c_model.specs.Strings.{byte_after, size_in, size_around}
 use Rattle.c_model.specs.Strings.{string_at}
@@ -133,6 +135,38 @@ abbrev pub number_question : AccessSize → List Value → Blocks → Reply Bloc
 number_question a (Points p ∷ Integer o ∷ []) b = Gives (Integer (truth (holds_number b.store p o (access_bytes a)))) b
 number_question a _ b = Faults
 
+-- a question about a range of bytes, at an offset from a pointer
+abbrev pub range_question : (Store → Address → ℤ → ℕ → Bool) → AccessSize → List Value → Blocks → Reply Blocks Value
+range_question asked a (Points p ∷ Integer o ∷ Integer n ∷ []) b =
+    Gives (Integer (truth (asked b.store (address_farther (address_of p) o) n (access_bytes a)))) b
+range_question asked a _ b = Faults
+
+-- what is told of a place, at an offset from a pointer
+abbrev pub place_question : (Store → Address → Value) → List Value → Blocks → Reply Blocks Value
+place_question told (Points p ∷ Integer o ∷ []) b = Gives (told b.store (address_farther (address_of p) o)) b
+place_question told _ b = Faults
+
+abbrev pub told_pointer : Store → Address → Value
+told_pointer store x = Integer (truth (has_pointer store x))
+
+abbrev pub told_inside : Store → Address → Value
+told_inside store x = Integer (truth (is_inside store x))
+
+abbrev pub told_base : Store → Address → Value
+told_base store x = Points (base_of store x)
+
+abbrev pub told_length : Store → Address → Value
+told_length store x = Integer (pos (length_of store x))
+
+abbrev pub told_offset : Store → Address → Value
+told_offset store x = Integer (pos (offset_in_block store x))
+
+-- whether two ranges share no byte, each at an offset from a pointer
+abbrev pub separated_question : List Value → Blocks → Reply Blocks Value
+separated_question (Points p ∷ Integer o ∷ Integer n ∷ Points q ∷ Integer u ∷ Integer m ∷ []) b =
+    Gives (Integer (truth (are_separated (address_farther (address_of p) o) n (address_farther (address_of q) u) m))) b
+separated_question _ b = Faults
+
 -- ---- strings
 
 -- a string ends inside its block, or breaks off there
@@ -221,6 +255,15 @@ act_on_blocks call.StoreBlock args b = store_block args b
 act_on_blocks call.DeleteBlock args b = delete_block args b
 act_on_blocks (call.Copy a) args b = copy_block a args b
 act_on_blocks (call.Number a) args b = number_question a args b
+act_on_blocks (call.Valid a) args b = range_question is_valid a args b
+act_on_blocks (call.ValidRead a) args b = range_question is_readable a args b
+act_on_blocks (call.Initialized a) args b = range_question is_initialized a args b
+act_on_blocks call.Pointer args b = place_question told_pointer args b
+act_on_blocks call.Inside args b = place_question told_inside args b
+act_on_blocks call.BaseAddr args b = place_question told_base args b
+act_on_blocks call.BlockLength args b = place_question told_length args b
+act_on_blocks call.Offset args b = place_question told_offset args b
+act_on_blocks call.Separated args b = separated_question args b
 act_on_blocks call.Malloc args b = malloc_block args b
 act_on_blocks call.Calloc args b = calloc_block args b
 act_on_blocks call.Free args b = free_block args b

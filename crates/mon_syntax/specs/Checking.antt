@@ -276,6 +276,12 @@ copy_call s at xs =
     next s at (value_of_type s Ptr) xs (λ p xs1. next s at (value_of_type s Ptr) xs1 (λ q xs2. next s at (copy_size_named s) xs2 (λ a xs3.
     no_more s at xs3 (tree.Act None (memory_call.Copy a) (p ∷ q ∷ [])))))
 
+-- a question about a range of bytes
+abbrev pub range_call : Scope → Place → List ParsedArgument → (AccessSize → MemoryCall) → Checked MonStatement
+range_call s at xs f =
+    next s at (value_of_type s Ptr) xs (λ p xs1. next s at (value_of_type s I128) xs1 (λ o xs2. next s at (value_of_type s I128) xs2 (λ n xs3.
+    next s at (size_named s) xs3 (λ a xs4. no_more s at xs4 (tree.Act None (f a) (p ∷ o ∷ n ∷ []))))))
+
 -- a call of the runtime, whose value is not taken
 abbrev pub runtime_call : Scope → NameUse → Place → List ParsedArgument → Runtime → Checked MonStatement
 runtime_call s f at xs runtime.Step = no_more s at xs tree.Step
@@ -291,6 +297,15 @@ runtime_call s f at xs runtime.StoreBlock = simple_call s at xs memory_call.Stor
 runtime_call s f at xs runtime.DeleteBlock = simple_call s at xs memory_call.DeleteBlock
 runtime_call s f at xs runtime.Copy = copy_call s at xs
 runtime_call s f at xs runtime.Number = number_call s at xs
+runtime_call s f at xs runtime.Valid = range_call s at xs memory_call.Valid
+runtime_call s f at xs runtime.ValidRead = range_call s at xs memory_call.ValidRead
+runtime_call s f at xs runtime.Initialized = range_call s at xs memory_call.Initialized
+runtime_call s f at xs runtime.Pointer = simple_call s at xs memory_call.Pointer
+runtime_call s f at xs runtime.Inside = simple_call s at xs memory_call.Inside
+runtime_call s f at xs runtime.BaseAddr = simple_call s at xs memory_call.BaseAddr
+runtime_call s f at xs runtime.BlockLength = simple_call s at xs memory_call.BlockLength
+runtime_call s f at xs runtime.Offset = simple_call s at xs memory_call.Offset
+runtime_call s f at xs runtime.Separated = simple_call s at xs memory_call.Separated
 runtime_call s f at xs runtime.Malloc = simple_call s at xs memory_call.Malloc
 runtime_call s f at xs runtime.Calloc = simple_call s at xs memory_call.Calloc
 runtime_call s f at xs runtime.Free = simple_call s at xs memory_call.Free

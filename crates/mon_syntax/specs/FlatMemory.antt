@@ -1,6 +1,6 @@
 -- Ours: what the machine does.
 -- Monitored programs over flat memory: each register holds a number, a pointer being the number of a block above an address of 32 bits.
-use Rattle.std.specs.Prelude.{ℕ, ◌+◌, ◌*◌, ◌%◌, ◌^◌, nat_eq, nat_lt, nat_le, not, ℤ, pos, ◌+ℤ◌, ◌-ℤ◌, List, [], ◌∷◌, Option, Some, None, option_map}
+use Rattle.std.specs.Prelude.{Bool, ℕ, ◌+◌, ◌*◌, ◌%◌, ◌^◌, nat_eq, nat_lt, nat_le, not, ℤ, pos, ◌+ℤ◌, ◌-ℤ◌, List, [], ◌∷◌, Option, Some, None, option_map}
 use Rattle.c_model.specs.Integers.{truth}
 use Rattle.c_model.specs.Limits.{globals_bytes, stack_bytes, heap_bytes, most_frames}
 use Rattle.c_model.specs.Memory.{rounded}
@@ -19,6 +19,10 @@ use Rattle.mon_syntax.specs.Globals.{kind_of_content, size_of_content, first_byt
 use Rattle.mon_syntax.specs.Memory.{Memory, Reply, Gives, IsFull, Faults}
 use Rattle.mon_syntax.specs.Flat.{Flat, flat_empty, flat_load, flat_store, flat_enter, flat_leave, flat_store_block, flat_delete_block, flat_begin, flat_number}
 use Rattle.mon_syntax.specs.Flat.{flat_copy, flat_malloc, flat_calloc, flat_free, flat_string, number_in, pointer_to}
+use Rattle.mon_syntax.specs.Flat.{flat_valid, flat_valid_read, flat_initialized, flat_pointer, flat_inside, flat_base_addr, flat_block_length, flat_offset}
+use Rattle.mon_syntax.specs.Flat.{flat_separated}
+use Rattle.mon_syntax.specs.Questions.{is_some}
+use Rattle.mon_syntax.specs.declared.tree.AccessSize.{AccessSize}
 use Rattle.mon_syntax.specs.Meaning.{run}
 
 -- a value as a pointer: its lowest 64 bits
@@ -79,11 +83,49 @@ abbrev pub changed : Option Flat → Reply Flat ℤ
 changed None = Faults
 changed (Some f) = Gives (pos 0) f
 
+-- a question about a range of bytes, at an offset from a pointer
+abbrev pub range_question : (Flat → ℕ → ℤ → ℤ → ℕ → Bool) → AccessSize → List ℤ → Flat → Reply Flat ℤ
+range_question asked a (p ∷ o ∷ n ∷ []) f = Gives (truth (asked f (pointer_in p) o n (access_bytes a))) f
+range_question asked a _ f = Faults
+
+-- what is told of a place, at an offset from a pointer
+abbrev pub place_question : (Flat → ℕ → ℤ → ℤ) → List ℤ → Flat → Reply Flat ℤ
+place_question told (p ∷ o ∷ []) f = Gives (told f (pointer_in p) o) f
+place_question told _ f = Faults
+
+abbrev pub told_pointer : Flat → ℕ → ℤ → ℤ
+told_pointer f p o = truth (flat_pointer f p o)
+
+abbrev pub told_inside : Flat → ℕ → ℤ → ℤ
+told_inside f p o = truth (is_some (flat_inside f p o))
+
+abbrev pub told_base : Flat → ℕ → ℤ → ℤ
+told_base f p o = pos (flat_base_addr f p o)
+
+abbrev pub told_length : Flat → ℕ → ℤ → ℤ
+told_length f p o = pos (flat_block_length f p o)
+
+abbrev pub told_offset : Flat → ℕ → ℤ → ℤ
+told_offset f p o = pos (flat_offset f p o)
+
+abbrev pub separated_question : List ℤ → Flat → Reply Flat ℤ
+separated_question (p ∷ o ∷ n ∷ q ∷ u ∷ m ∷ []) f = Gives (truth (flat_separated (pointer_in p) o n (pointer_in q) u m)) f
+separated_question _ f = Faults
+
 abbrev pub act_on_flat : MemoryCall → List ℤ → Flat → Reply Flat ℤ
 act_on_flat call.StoreBlock (n ∷ []) f = valued (flat_store_block f (lowest_bits U64 n))
 act_on_flat call.DeleteBlock (p ∷ []) f = changed (flat_delete_block f (pointer_in p))
 act_on_flat (call.Copy a) (p ∷ q ∷ []) f = changed (flat_copy f (pointer_in p) (pointer_in q) (copy_bytes a))
 act_on_flat (call.Number a) (p ∷ o ∷ []) f = Gives (truth (flat_number f (pointer_in p) o (access_bytes a))) f
+act_on_flat (call.Valid a) args f = range_question flat_valid a args f
+act_on_flat (call.ValidRead a) args f = range_question flat_valid_read a args f
+act_on_flat (call.Initialized a) args f = range_question flat_initialized a args f
+act_on_flat call.Pointer args f = place_question told_pointer args f
+act_on_flat call.Inside args f = place_question told_inside args f
+act_on_flat call.BaseAddr args f = place_question told_base args f
+act_on_flat call.BlockLength args f = place_question told_length args f
+act_on_flat call.Offset args f = place_question told_offset args f
+act_on_flat call.Separated args f = separated_question args f
 act_on_flat call.Malloc (n ∷ []) f = valued (flat_malloc f (lowest_bits U64 n))
 act_on_flat call.Calloc (n ∷ m ∷ []) f = valued (flat_calloc f (lowest_bits U64 n) (lowest_bits U64 m))
 act_on_flat call.Free (p ∷ []) f = changed (flat_free f (pointer_in p))

@@ -11,6 +11,7 @@ use Rattle.mon_syntax.specs.declared.tree.MonOp.{MonOp}
 use Rattle.mon_syntax.specs.declared.tree.MonOp.TheVariants.{Add, Sub, Mul, Div, Rem, Shl, Shr, And, Or, Xor, Eq, Ne, Lt, Le, Gt, Ge}
 use Rattle.mon_syntax.specs.declared.tree.MemoryCall.{MemoryCall}
 use Rattle.mon_syntax.specs.declared.tree.MemoryCall.TheVariants.{StoreBlock, DeleteBlock, Copy, Number, Malloc, Calloc, Free}
+use Rattle.mon_syntax.specs.declared.tree.MemoryCall.TheVariants.{Valid, ValidRead, Initialized, Pointer, Inside, BaseAddr, BlockLength, Offset, Separated}
 use Rattle.mon_syntax.specs.Trees.{MonExpression, Register, Global, Constant, Binary, Minus, Flip, Cast, Load, MonStatement, Set, Store, Step, Assert}
 use Rattle.mon_syntax.specs.Trees.{PutChar, GetChar, Exit, PlainContent, Zeros, Literal, MonitoredGlobal, PrintString}
 use Rattle.mon_syntax.specs.Trees.{PrintText, PrintSigned, PrintUnsigned, Act, Call, If, Loop, Labelled, Goto, Return, MonStatements, NoStatement, Then}
@@ -165,6 +166,15 @@ memory_parameters StoreBlock = U64 ∷ []
 memory_parameters DeleteBlock = Ptr ∷ []
 memory_parameters (Copy a) = Ptr ∷ Ptr ∷ []
 memory_parameters (Number a) = Ptr ∷ I128 ∷ []
+memory_parameters (Valid a) = Ptr ∷ I128 ∷ I128 ∷ []
+memory_parameters (ValidRead a) = Ptr ∷ I128 ∷ I128 ∷ []
+memory_parameters (Initialized a) = Ptr ∷ I128 ∷ I128 ∷ []
+memory_parameters Pointer = Ptr ∷ I128 ∷ []
+memory_parameters Inside = Ptr ∷ I128 ∷ []
+memory_parameters BaseAddr = Ptr ∷ I128 ∷ []
+memory_parameters BlockLength = Ptr ∷ I128 ∷ []
+memory_parameters Offset = Ptr ∷ I128 ∷ []
+memory_parameters Separated = Ptr ∷ I128 ∷ I128 ∷ Ptr ∷ I128 ∷ I128 ∷ []
 memory_parameters Malloc = U64 ∷ []
 memory_parameters Calloc = U64 ∷ U64 ∷ []
 memory_parameters Free = Ptr ∷ []
@@ -174,6 +184,15 @@ memory_result StoreBlock = Some Ptr
 memory_result DeleteBlock = None
 memory_result (Copy a) = None
 memory_result (Number a) = Some I32
+memory_result (Valid a) = Some I32
+memory_result (ValidRead a) = Some I32
+memory_result (Initialized a) = Some I32
+memory_result Pointer = Some I32
+memory_result Inside = Some I32
+memory_result BaseAddr = Some Ptr
+memory_result BlockLength = Some I64
+memory_result Offset = Some I64
+memory_result Separated = Some I32
 memory_result Malloc = Some Ptr
 memory_result Calloc = Some Ptr
 memory_result Free = None

@@ -34,12 +34,12 @@ runtime_words =
     ∷ (codes "exit", Runtime runtime.Exit) ∷ (codes "__e_acsl_print_text", Runtime runtime.PrintText)
     ∷ (codes "__e_acsl_print_i64", Runtime runtime.PrintSigned) ∷ (codes "__e_acsl_print_u64", Runtime runtime.PrintUnsigned)
     ∷ (codes "__e_acsl_store_block", Runtime runtime.StoreBlock) ∷ (codes "__e_acsl_delete_block", Runtime runtime.DeleteBlock)
-    ∷ (codes "__e_acsl_copy", Runtime runtime.Copy) ∷ (codes "__e_acsl_valid", Runtime runtime.Kept)
-    ∷ (codes "__e_acsl_valid_read", Runtime runtime.Kept) ∷ (codes "__e_acsl_initialized", Runtime runtime.Kept)
-    ∷ (codes "__e_acsl_number", Runtime runtime.Number) ∷ (codes "__e_acsl_pointer", Runtime runtime.Kept)
-    ∷ (codes "__e_acsl_inside", Runtime runtime.Kept) ∷ (codes "__e_acsl_base_addr", Runtime runtime.Kept)
-    ∷ (codes "__e_acsl_block_length", Runtime runtime.Kept) ∷ (codes "__e_acsl_offset", Runtime runtime.Kept)
-    ∷ (codes "__e_acsl_separated", Runtime runtime.Kept) ∷ (codes "__e_acsl_malloc", Runtime runtime.Malloc)
+    ∷ (codes "__e_acsl_copy", Runtime runtime.Copy) ∷ (codes "__e_acsl_valid", Runtime runtime.Valid)
+    ∷ (codes "__e_acsl_valid_read", Runtime runtime.ValidRead) ∷ (codes "__e_acsl_initialized", Runtime runtime.Initialized)
+    ∷ (codes "__e_acsl_number", Runtime runtime.Number) ∷ (codes "__e_acsl_pointer", Runtime runtime.Pointer)
+    ∷ (codes "__e_acsl_inside", Runtime runtime.Inside) ∷ (codes "__e_acsl_base_addr", Runtime runtime.BaseAddr)
+    ∷ (codes "__e_acsl_block_length", Runtime runtime.BlockLength) ∷ (codes "__e_acsl_offset", Runtime runtime.Offset)
+    ∷ (codes "__e_acsl_separated", Runtime runtime.Separated) ∷ (codes "__e_acsl_malloc", Runtime runtime.Malloc)
     ∷ (codes "__e_acsl_calloc", Runtime runtime.Calloc) ∷ (codes "__e_acsl_free", Runtime runtime.Free)
     ∷ (codes "__e_acsl_print_str", Runtime runtime.PrintString) ∷ (codes "getchar", Runtime runtime.GetChar) ∷ []
 

@@ -72,6 +72,24 @@ pub enum MemoryCall {
     Copy(CopySize),
     /// `__e_acsl_number(p, o, A)`: whether so many bytes at an offset from a pointer hold a number.
     Number(AccessSize),
+    /// `__e_acsl_valid(p, o, n, A)`: whether n bytes at an offset from a pointer can be written, at an alignment. No bytes always can.
+    Valid(AccessSize),
+    /// `__e_acsl_valid_read(p, o, n, A)`: whether they can be read.
+    ValidRead(AccessSize),
+    /// `__e_acsl_initialized(p, o, n, A)`: whether they can be read and all are written.
+    Initialized(AccessSize),
+    /// `__e_acsl_pointer(p, o)`: whether eight bytes at an offset from a pointer hold a pointer.
+    Pointer,
+    /// `__e_acsl_inside(p, o)`: whether an offset from a pointer lies in its block, which lives, or one past its end.
+    Inside,
+    /// `__e_acsl_base_addr(p, o)`: the pointer to the start of the block, or null if the offset isn't inside.
+    BaseAddr,
+    /// `__e_acsl_block_length(p, o)`: the bytes of the block, or 0.
+    BlockLength,
+    /// `__e_acsl_offset(p, o)`: the offset in the block, or 0.
+    Offset,
+    /// `__e_acsl_separated(p, o, n, q, u, m)`: whether n bytes at an offset from a pointer and m bytes at one from another share none.
+    Separated,
     /// `__e_acsl_malloc(n)`: the birth of a heap block of so many bytes. It gives the pointer to its start, or null for no bytes.
     Malloc,
     /// `__e_acsl_calloc(n, m)`: the birth of a heap block of n times m bytes, all of them 0.
