@@ -6,6 +6,7 @@ use Rattle.std.specs.List.{AllByRecursion}
 use Rattle.c_syntax.specs.declared.place.Place.{Place}
 use Rattle.mon_syntax.specs.declared.tree.MonType.{MonType}
 use Rattle.mon_syntax.specs.declared.tree.MonType.TheVariants.{I8, U8, I16, U16, I32, U32, I64, U64, I128, Ptr}
+use Rattle.mon_syntax.specs.declared.tree.AccessSize.{AccessSize}
 use Rattle.mon_syntax.specs.declared.tree.MemoryCall.{MemoryCall}
 use Rattle.mon_syntax.specs.declared.tree.MemoryCall.TheVariants as memory_call
 use Rattle.mon_syntax.specs.declared.word.Runtime.{Runtime}
@@ -21,7 +22,7 @@ use Rattle.mon_syntax.specs.Valid.{Types, HasType, IsExpression, Labels, TakesVa
 use Rattle.mon_syntax.specs.Valid.{result_type, has_constant, greatest_number}
 use Rattle.mon_syntax.specs.Checking.{Header, Scope, Typed, Checked, ◌>>=◌, ◌>>◌, demanded, same_type, type_fault, find_register, find_global, find_function, or_fault, function_called, bytes_of, word_bytes, result_of, place_of, checked_expression}
 use Rattle.mon_syntax.specs.Checking.{of_type, value_of_type, small_number, size_named, copy_size_named, string, kind_named, others, wrong_number, no_more, next, assert_call, one_value}
-use Rattle.mon_syntax.specs.Checking.{arguments_of, simple_call, number_call, copy_call, runtime_call, named_call}
+use Rattle.mon_syntax.specs.Checking.{arguments_of, simple_call, number_call, range_call, copy_call, runtime_call, named_call}
 use Rattle.mon_syntax.specs.Checking.{call_of_word, checked_call, taken, returned, global_or_fault, register_or_global, target_or_fault, target_of, register_or_fault}
 use Rattle.mon_typing.specs.Within.{open_parens, HasFewParens, IsArgumentWithin, HasFewParensWhereAny}
 use Rattle.mon_typing.proofs.Headers.{Stands, stands}
@@ -274,6 +275,14 @@ module _ (s : Scope) where
         next_valid (λ a. Unit {0}) (IsCall false) at (size_named s) xs2 (λ a xs3. no_more s at xs3 (tree.Act None (memory_call.Number a) (p ∷ o ∷ []))) w2 size_valid (λ a xs3 u w3.
         more_valid (IsCall false) at xs3 (tree.Act None (memory_call.Number a) (p ∷ o ∷ [])) (((q, (r, tt)), tt), refl, refl))))
 
+    range_call_valid : (at : Place) (xs : List ParsedArgument) (f : AccessSize → MemoryCall) → ((a : AccessSize) → memory_parameters (f a) ≡ Ptr ∷ I128 ∷ I128 ∷ []) → Within xs → Holds (IsCall false) (range_call s at xs f)
+    range_call_valid at xs f takes w =
+        next_valid (λ e. IsExpression count types e Ptr) (IsCall false) at (value_of_type s Ptr) xs _ w (value_valid Ptr) (λ p xs1 q w1.
+        next_valid (λ e. IsExpression count types e I128) (IsCall false) at (value_of_type s I128) xs1 _ w1 (value_valid I128) (λ o xs2 r w2.
+        next_valid (λ e. IsExpression count types e I128) (IsCall false) at (value_of_type s I128) xs2 _ w2 (value_valid I128) (λ n xs3 v w3.
+        next_valid (λ a. Unit {0}) (IsCall false) at (size_named s) xs3 (λ a xs4. no_more s at xs4 (tree.Act None (f a) (p ∷ o ∷ n ∷ []))) w3 size_valid (λ a xs4 u w4.
+        more_valid (IsCall false) at xs4 (tree.Act None (f a) (p ∷ o ∷ n ∷ [])) ((subst (AreArguments count types (p ∷ o ∷ n ∷ [])) (sym (takes a)) (q, (r, (v, tt))), tt), refl, refl)))))
+
     copy_call_valid : (at : Place) (xs : List ParsedArgument) → Within xs → Holds (IsCall false) (copy_call s at xs)
     copy_call_valid at xs w =
         next_valid (λ e. IsExpression count types e Ptr) (IsCall false) at (value_of_type s Ptr) xs _ w (value_valid Ptr) (λ p xs1 q w1.
@@ -296,6 +305,15 @@ module _ (s : Scope) where
     runtime_valid f at xs runtime.DeleteBlock w = simple_valid at xs memory_call.DeleteBlock w
     runtime_valid f at xs runtime.Copy w = copy_call_valid at xs w
     runtime_valid f at xs runtime.Number w = number_call_valid at xs w
+    runtime_valid f at xs runtime.Valid w = range_call_valid at xs memory_call.Valid (λ a. refl) w
+    runtime_valid f at xs runtime.ValidRead w = range_call_valid at xs memory_call.ValidRead (λ a. refl) w
+    runtime_valid f at xs runtime.Initialized w = range_call_valid at xs memory_call.Initialized (λ a. refl) w
+    runtime_valid f at xs runtime.Pointer w = simple_valid at xs memory_call.Pointer w
+    runtime_valid f at xs runtime.Inside w = simple_valid at xs memory_call.Inside w
+    runtime_valid f at xs runtime.BaseAddr w = simple_valid at xs memory_call.BaseAddr w
+    runtime_valid f at xs runtime.BlockLength w = simple_valid at xs memory_call.BlockLength w
+    runtime_valid f at xs runtime.Offset w = simple_valid at xs memory_call.Offset w
+    runtime_valid f at xs runtime.Separated w = simple_valid at xs memory_call.Separated w
     runtime_valid f at xs runtime.Malloc w = simple_valid at xs memory_call.Malloc w
     runtime_valid f at xs runtime.Calloc w = simple_valid at xs memory_call.Calloc w
     runtime_valid f at xs runtime.Free w = simple_valid at xs memory_call.Free w

@@ -6,7 +6,11 @@ use Rattle.c_syntax.specs.declared.place.Place.{Place}
 use Rattle.mon_syntax.specs.declared.tree.AccessSize.{AccessSize}
 use Rattle.mon_syntax.specs.declared.tree.CopySize.{CopySize}
 use Rattle.mon_syntax.specs.declared.tree.MemoryCall.TheVariants as memory_call
+use Rattle.mon_syntax.specs.declared.tree.MemoryCall.{MemoryCall}
 use Rattle.mon_syntax.specs.declared.tree.MonType.{MonType}
+use Rattle.mon_syntax.specs.declared.tree.MonType.TheVariants.{I128}
+use Rattle.mon_typing.specs.declared.call.RangeQuestion.{RangeQuestion}
+use Rattle.mon_typing.specs.declared.call.RangeQuestion.TheVariants as question
 use Rattle.mon_syntax.specs.Trees as tree
 use Rattle.mon_syntax.specs.Trees.{MonExpression, MonStatement}
 use Rattle.mon_syntax.specs.Parsed.{ParsedArgument}
@@ -39,6 +43,20 @@ only_copy_size s at xs = next s at (copy_size_named s) xs (λ a more. no_more s 
 -- the number of bytes of a question whether they hold a number, after its other arguments
 abbrev pub number_size : Scope → Place → MonExpression → MonExpression → List ParsedArgument → Checked MonStatement
 number_size s at p o xs = next s at (size_named s) xs (λ a more. no_more s at more (tree.Act None (memory_call.Number a) (p ∷ o ∷ [])))
+
+-- the call of a question about a range, by its alignment
+abbrev pub range_question : RangeQuestion → AccessSize → MemoryCall
+range_question question.Valid a = memory_call.Valid a
+range_question question.ValidRead a = memory_call.ValidRead a
+range_question question.Initialized a = memory_call.Initialized a
+
+-- the alignment of a question about a range, after its other arguments
+abbrev pub range_size : Scope → Place → MonExpression → MonExpression → MonExpression → List ParsedArgument → (AccessSize → MemoryCall) → Checked MonStatement
+range_size s at p o n xs f = next s at (size_named s) xs (λ a more. no_more s at more (tree.Act None (f a) (p ∷ o ∷ n ∷ [])))
+
+-- its length and its alignment
+abbrev pub range_length : Scope → Place → MonExpression → MonExpression → List ParsedArgument → (AccessSize → MemoryCall) → Checked MonStatement
+range_length s at p o xs f = next s at (value_of_type s I128) xs (λ n more. range_size s at p o n more f)
 
 -- that of a copy
 abbrev pub copy_size : Scope → Place → MonExpression → MonExpression → List ParsedArgument → Checked MonStatement

@@ -5,12 +5,13 @@ ghost use Rattle.mon_syntax.specs.Trees as tree;
 ghost use Rattle.mon_syntax.specs.Trees.{plain_expr, plain_stmt};
 ghost use Rattle.mon_syntax.specs.declared.tree.MonType.TheVariants.{I32, I64, U64, Ptr};
 ghost use Rattle.mon_syntax.specs.Valid.{memory_parameters};
-ghost use Rattle.mon_syntax.specs.Checking.{no_more, string, next, one_value, assert_call, simple_call, number_call, copy_call};
+ghost use Rattle.mon_syntax.specs.Checking.{no_more, string, next, one_value, assert_call, simple_call, number_call, range_call, copy_call};
 ghost use Rattle.mon_syntax.specs.Checking.{runtime_call, named_call, call_of_word};
 ghost use Rattle.mon_syntax.specs.Checking.{checked_call};
 ghost use Rattle.mon_parser.specs.ParsedTrees as read;
 ghost use Rattle.mon_typing.specs.Answers.{Gives};
-ghost use Rattle.mon_typing.specs.Arguments.{assert_kind, assert_numbers, number_size, copy_size, call_of_number};
+ghost use Rattle.mon_typing.specs.Arguments.{assert_kind, assert_numbers, number_size, range_question, range_size, range_length, copy_size};
+ghost use Rattle.mon_typing.specs.Arguments.{call_of_number};
 ghost use Rattle.mon_typing.specs.Scopes.{plain_scope};
 
 use crate::argument::{
@@ -22,7 +23,7 @@ use crate::scope::{Scope, function_called, is_main};
 use c_syntax::{Name, Place};
 use mon_parser::parsed::{NameUse, ParsedArg, ParsedCall};
 use mon_parser::word_at;
-use mon_syntax::{MemoryCall, MonExpr, MonStmt, MonStmtKind, MonType, Runtime, Word};
+use mon_syntax::{AccessSize, MemoryCall, MonExpr, MonStmt, MonStmtKind, MonType, Runtime, Word};
 use std::alloc::{AllocError, Global};
 
 /// Whether an annotation is defined, and whether it is true.
@@ -88,6 +89,22 @@ fn memory_parameters(f: MemoryCall) -> &'static [MonType]
         MemoryCall::DeleteBlock => &[MonType::Ptr],
         MemoryCall::Copy(_) => &[MonType::Ptr, MonType::Ptr],
         MemoryCall::Number(_) => &[MonType::Ptr, MonType::I128],
+        MemoryCall::Valid(_) => &[MonType::Ptr, MonType::I128, MonType::I128],
+        MemoryCall::ValidRead(_) => &[MonType::Ptr, MonType::I128, MonType::I128],
+        MemoryCall::Initialized(_) => &[MonType::Ptr, MonType::I128, MonType::I128],
+        MemoryCall::Pointer => &[MonType::Ptr, MonType::I128],
+        MemoryCall::Inside => &[MonType::Ptr, MonType::I128],
+        MemoryCall::BaseAddr => &[MonType::Ptr, MonType::I128],
+        MemoryCall::BlockLength => &[MonType::Ptr, MonType::I128],
+        MemoryCall::Offset => &[MonType::Ptr, MonType::I128],
+        MemoryCall::Separated => &[
+            MonType::Ptr,
+            MonType::I128,
+            MonType::I128,
+            MonType::Ptr,
+            MonType::I128,
+            MonType::I128,
+        ],
         MemoryCall::Malloc => &[MonType::U64],
         MemoryCall::Calloc => &[MonType::U64, MonType::U64],
         MemoryCall::Free => &[MonType::Ptr],
@@ -171,6 +188,93 @@ fn number_call(
         second: offset,
     };
     number_size(alloc, scope, place, values, more)
+}
+
+/// A question about a range of bytes.
+#[derive(Clone, Copy)]
+enum RangeQuestion {
+    Valid,
+    ValidRead,
+    Initialized,
+}
+
+/// The call that asks it, at an alignment.
+fn range_question(question: RangeQuestion, size: AccessSize) -> MemoryCall
+    ensures { result ≡ range_question question size }
+{
+    match question {
+        RangeQuestion::Valid => MemoryCall::Valid(size),
+        RangeQuestion::ValidRead => MemoryCall::ValidRead(size),
+        RangeQuestion::Initialized => MemoryCall::Initialized(size),
+    }
+}
+
+/// The call on the memory with three values.
+fn act_on_three(
+    alloc: Global,
+    f: MemoryCall,
+    values: Pair,
+    length: MonExpr,
+) -> Result<MonStmt, AllocError>
+    ensures { IfOk result (λ a. plain_stmt a ≡ tree.Act None f (plain_expr values.first ∷ plain_expr values.second ∷ plain_expr length ∷ [])) }
+{
+    let mut list = Vec::new(alloc);
+    list.push(values.first)?;
+    list.push(values.second)?;
+    list.push(length)?;
+    MonStmt::new(alloc, MonStmtKind::Act(None, f, list))
+}
+
+/// The alignment of a question about a range, after its other arguments.
+fn range_size(
+    alloc: Global,
+    scope: &Scope,
+    place: Place,
+    values: Pair,
+    length: MonExpr,
+    arguments: &[ParsedArg],
+    question: RangeQuestion,
+) -> Result<MonStmt, CheckFault>
+    ensures { Gives plain_stmt result (range_size (plain_scope scope.now) place (plain_expr values.first) (plain_expr values.second) (plain_expr length)
+        (map read.plain_arg arguments.now) (range_question question)) }
+{
+    let size = only_size(alloc, scope, place, arguments)?;
+    Ok(act_on_three(alloc, range_question(question, size), values, length)?)
+}
+
+/// The length and the alignment of a question about a range.
+fn range_length(
+    alloc: Global,
+    scope: &Scope,
+    place: Place,
+    values: Pair,
+    arguments: &[ParsedArg],
+    question: RangeQuestion,
+) -> Result<MonStmt, CheckFault>
+    ensures { Gives plain_stmt result (range_length (plain_scope scope.now) place (plain_expr values.first) (plain_expr values.second)
+        (map read.plain_arg arguments.now) (range_question question)) }
+{
+    let (length, more) = next_value(alloc, scope, place, MonType::I128, arguments)?;
+    range_size(alloc, scope, place, values, length, more, question)
+}
+
+/// `__e_acsl_valid(p, o, n, A);` and its kin
+fn range_call(
+    alloc: Global,
+    scope: &Scope,
+    place: Place,
+    arguments: &[ParsedArg],
+    question: RangeQuestion,
+) -> Result<MonStmt, CheckFault>
+    ensures { Gives plain_stmt result (range_call (plain_scope scope.now) place (map read.plain_arg arguments.now) (range_question question)) }
+{
+    let (pointer, more) = next_value(alloc, scope, place, MonType::Ptr, arguments)?;
+    let (offset, more) = next_value(alloc, scope, place, MonType::I128, more)?;
+    let values = Pair {
+        first: pointer,
+        second: offset,
+    };
+    range_length(alloc, scope, place, values, more, question)
 }
 
 /// `__e_acsl_copy(p, q, A);`
@@ -326,6 +430,21 @@ fn runtime_call(
         }
         Runtime::Copy => copy_call(alloc, scope, place, arguments),
         Runtime::Number => number_call(alloc, scope, place, arguments),
+        Runtime::Valid => range_call(alloc, scope, place, arguments, RangeQuestion::Valid),
+        Runtime::ValidRead => {
+            range_call(alloc, scope, place, arguments, RangeQuestion::ValidRead)
+        }
+        Runtime::Initialized => {
+            range_call(alloc, scope, place, arguments, RangeQuestion::Initialized)
+        }
+        Runtime::Pointer => simple_call(alloc, scope, place, arguments, MemoryCall::Pointer),
+        Runtime::Inside => simple_call(alloc, scope, place, arguments, MemoryCall::Inside),
+        Runtime::BaseAddr => simple_call(alloc, scope, place, arguments, MemoryCall::BaseAddr),
+        Runtime::BlockLength => {
+            simple_call(alloc, scope, place, arguments, MemoryCall::BlockLength)
+        }
+        Runtime::Offset => simple_call(alloc, scope, place, arguments, MemoryCall::Offset),
+        Runtime::Separated => simple_call(alloc, scope, place, arguments, MemoryCall::Separated),
         Runtime::Malloc => simple_call(alloc, scope, place, arguments, MemoryCall::Malloc),
         Runtime::Calloc => simple_call(alloc, scope, place, arguments, MemoryCall::Calloc),
         Runtime::Free => simple_call(alloc, scope, place, arguments, MemoryCall::Free),

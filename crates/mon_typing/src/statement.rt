@@ -41,6 +41,11 @@ fn memory_result(f: MemoryCall) -> Option<MonType>
         MemoryCall::DeleteBlock => None,
         MemoryCall::Copy(_) => None,
         MemoryCall::Number(_) => Some(MonType::I32),
+        MemoryCall::Valid(_) | MemoryCall::ValidRead(_) => Some(MonType::I32),
+        MemoryCall::Initialized(_) => Some(MonType::I32),
+        MemoryCall::Pointer | MemoryCall::Inside | MemoryCall::Separated => Some(MonType::I32),
+        MemoryCall::BaseAddr => Some(MonType::Ptr),
+        MemoryCall::BlockLength | MemoryCall::Offset => Some(MonType::I64),
         MemoryCall::Malloc | MemoryCall::Calloc => Some(MonType::Ptr),
         MemoryCall::Free => None,
     }
