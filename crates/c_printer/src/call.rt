@@ -144,6 +144,11 @@ fn size_argument<O: Sink>(f: MemoryCall, to: &mut Writer, out: &mut O)
         MemoryCall::StoreBlock | MemoryCall::DeleteBlock => {}
         MemoryCall::Copy(size) => last_number(copy_bytes(size), to, out),
         MemoryCall::Number(size) => last_number(access_bytes(size), to, out),
+        MemoryCall::Valid(size) => last_number(access_bytes(size), to, out),
+        MemoryCall::ValidRead(size) => last_number(access_bytes(size), to, out),
+        MemoryCall::Initialized(size) => last_number(access_bytes(size), to, out),
+        MemoryCall::Pointer | MemoryCall::Inside | MemoryCall::Separated => {}
+        MemoryCall::BaseAddr | MemoryCall::BlockLength | MemoryCall::Offset => {}
         MemoryCall::Malloc | MemoryCall::Calloc | MemoryCall::Free => {}
     }
 }

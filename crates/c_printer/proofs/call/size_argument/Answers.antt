@@ -15,3 +15,17 @@ returns-in-Malloc g c = elim c.in-Malloc.is [
   | inr (inl e) ↦ shown (ap (λ f. spelled (size_argument f)) e) (nothing _)
   | inr (inr e) ↦ shown (ap (λ f. spelled (size_argument f)) e) (nothing _)
 ]
+
+pub returns-in-Pointer : goal.returns-in-Pointer
+returns-in-Pointer g c = elim c.in-Pointer.is [
+  | inl e ↦ shown (ap (λ f. spelled (size_argument f)) e) (nothing _)
+  | inr (inl e) ↦ shown (ap (λ f. spelled (size_argument f)) e) (nothing _)
+  | inr (inr e) ↦ shown (ap (λ f. spelled (size_argument f)) e) (nothing _)
+]
+
+pub returns-in-BaseAddr : goal.returns-in-BaseAddr
+returns-in-BaseAddr g c = elim c.in-BaseAddr.is [
+  | inl e ↦ shown (ap (λ f. spelled (size_argument f)) e) (nothing _)
+  | inr (inl e) ↦ shown (ap (λ f. spelled (size_argument f)) e) (nothing _)
+  | inr (inr e) ↦ shown (ap (λ f. spelled (size_argument f)) e) (nothing _)
+]
