@@ -14,6 +14,7 @@ pub mod Acted
 pub mod Beginnings
 pub mod Pointing
 pub mod Calling
+pub mod Asked
 pub mod Kept
 -- runs
 pub mod Measure

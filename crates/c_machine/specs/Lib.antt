@@ -3,6 +3,7 @@ pub mod Inputs
 pub mod Reading
 pub mod Held
 pub mod Acts
+pub mod Questions
 pub mod Whole
 pub mod Runs
 pub mod Leaps

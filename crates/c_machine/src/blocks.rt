@@ -1,12 +1,14 @@
 //! Calls of the runtime on the memory.
 
-ghost use Rattle.std.specs.Prelude.{◌≡◌, ◌<◌, ◌^◌};
+ghost use Rattle.std.specs.Prelude.{◌≡◌, ◌<◌, ◌^◌, false};
 ghost use Rattle.c_machine.specs.Acts.{Acts, ended_by};
 ghost use Rattle.c_machine.specs.Held.{IsFit, Links};
+ghost use Rattle.c_machine.specs.Questions.{is_question};
 ghost use Rattle.c_machine.specs.Reading.{Ports};
 
 use crate::machine::{Cursor, Machine};
 use crate::memory::{act_on_one, act_on_two};
+use crate::questions::is_question;
 use crate::stop::Stop;
 use c_lower::Instr;
 use mon_syntax::MemoryCall;
@@ -41,6 +43,7 @@ impl Machine {
     fn act_on_two(&mut self, f: MemoryCall, stop: &mut Stop) -> bool
         requires fit { IsFit self.old.cursor self.old }
         requires place { self.old.cursor.place < 2 ^ 63 }
+        requires change { is_question f ≡ false }
         ensures { (links : Links) (ports : Ports) → Acts links (Instr.Act f 2) self.old.cursor self.old self.new.cursor self.new ports ports
             (ended_by result stop.new) }
     {
@@ -66,11 +69,12 @@ impl Machine {
         }
     }
 
-    /// `Act`
+    /// `Act` of a call that changes the memory.
     #[inline(never)]
     pub fn act(&mut self, f: MemoryCall, count: usize, stop: &mut Stop) -> bool
         requires fit { IsFit self.old.cursor self.old }
         requires place { self.old.cursor.place < 2 ^ 63 }
+        requires change { is_question f ≡ false }
         ensures { (links : Links) (ports : Ports) → Acts links (Instr.Act f count) self.old.cursor self.old self.new.cursor self.new ports ports
             (ended_by result stop.new) }
     {
@@ -103,11 +107,12 @@ impl Cursor {
     {
         match f {
             MemoryCall::Number(size) => self.ask(size, count, machine, stop),
+            _ if is_question(f) => self.question(f, count, machine, stop),
             _ => self.change(f, count, machine, stop),
         }
     }
 
-    // `Act`, out of line.
+    // `Act` of a call that changes the memory, out of line.
     #[inline(always)]
     fn change(
         &mut self,
@@ -118,6 +123,7 @@ impl Cursor {
     ) -> bool
         requires fit { IsFit self.old machine.old }
         requires place { self.old.place < 2 ^ 63 }
+        requires change { is_question f ≡ false }
         ensures { (links : Links) (ports : Ports) → Acts links (Instr.Act f count) self.old machine.old self.new machine.new ports ports
             (ended_by result stop.new) }
     {

@@ -12,6 +12,7 @@ mod arithmetic;
 mod blocks;
 mod calls;
 mod pointers;
+mod questions;
 mod quiet;
 mod reading;
 mod turn;

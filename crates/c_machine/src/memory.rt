@@ -1,6 +1,6 @@
 //! The flat memory of a run: how it begins, and what instructions do with values as pointers.
 
-ghost use Rattle.std.specs.Prelude.{◌≡◌, ℕ, ◌+◌, ◌≤◌, ◌<◌, [], ◌∷◌, pos, IfOk, OnOk, length, map};
+ghost use Rattle.std.specs.Prelude.{◌≡◌, ℕ, ◌+◌, ◌≤◌, ◌<◌, [], ◌∷◌, pos, IfOk, OnOk, length, map, false};
 ghost use Rattle.c_model.specs.Integers.{truth};
 ghost use Rattle.c_model.specs.Limits.{globals_bytes};
 ghost use Rattle.c_model.specs.Memory.{greatest_number, rounded};
@@ -11,6 +11,7 @@ ghost use Rattle.mon_syntax.specs.FlatMemory.{act_on_flat, begun_with, farther, 
 ghost use Rattle.mon_syntax.specs.Globals.{globals_taken, size_of_global};
 ghost use Rattle.mon_syntax.specs.Memory.{Gives};
 ghost use Rattle.mon_syntax.specs.Trees.{plain_global};
+ghost use Rattle.c_machine.specs.Questions.{is_question};
 ghost use Rattle.c_machine.specs.Replies.{Replies, Yields, Stores, stop_by};
 
 use crate::arithmetic::wrap;
@@ -400,25 +401,33 @@ pub fn act_on_one(memory: &mut Runtime, f: MemoryCall, argument: i128) -> Result
         MemoryCall::DeleteBlock => delete_block(memory, argument),
         MemoryCall::Malloc => malloc(memory, argument),
         MemoryCall::Free => free(memory, argument),
-        MemoryCall::Copy(_) | MemoryCall::Number(_) | MemoryCall::Calloc => Err(Stop::Fault),
+        MemoryCall::Copy(_) | MemoryCall::Calloc => Err(Stop::Fault),
+        MemoryCall::Number(_) | MemoryCall::Valid(_) | MemoryCall::ValidRead(_) => Err(Stop::Fault),
+        MemoryCall::Initialized(_) | MemoryCall::Pointer | MemoryCall::Inside => Err(Stop::Fault),
+        MemoryCall::BaseAddr | MemoryCall::BlockLength | MemoryCall::Offset => Err(Stop::Fault),
+        MemoryCall::Separated => Err(Stop::Fault),
     }
 }
 
-/// A call of the runtime with two arguments.
+/// A call of the runtime with two arguments that changes the memory.
 pub fn act_on_two(
     memory: &mut Runtime,
     f: MemoryCall,
     first: i128,
     second: i128,
 ) -> Result<i128, Stop>
+    requires { is_question f ≡ false }
     ensures { Replies (act_on_flat f (first ∷ second ∷ []) memory.old) memory.new result }
 {
     match f {
         MemoryCall::Copy(size) => copy(memory, size, first, second),
-        MemoryCall::Number(size) => Ok(number(memory, size, first, second)),
         MemoryCall::Calloc => calloc(memory, first, second),
         MemoryCall::StoreBlock | MemoryCall::DeleteBlock => Err(Stop::Fault),
         MemoryCall::Malloc | MemoryCall::Free => Err(Stop::Fault),
+        MemoryCall::Number(_) | MemoryCall::Valid(_) | MemoryCall::ValidRead(_) => Err(Stop::Fault),
+        MemoryCall::Initialized(_) | MemoryCall::Pointer | MemoryCall::Inside => Err(Stop::Fault),
+        MemoryCall::BaseAddr | MemoryCall::BlockLength | MemoryCall::Offset => Err(Stop::Fault),
+        MemoryCall::Separated => Err(Stop::Fault),
     }
 }
 

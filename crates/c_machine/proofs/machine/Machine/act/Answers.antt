@@ -10,4 +10,4 @@ returns-in-2 c links ports = rw c.in-2.is (c.act_on_two.ensures links ports)
 
 pub returns-in_default : goal.returns-in_default
 returns-in_default c links ports =
-    neither links c.args.f c.args.count c.args.self.now.cursor c.args.self.now (λ one. omega (arith, one, c.in_default)) (λ two. omega (arith, two, c.in_default)) ports
+    neither links c.args.f c.args.count c.args.self.now.cursor c.args.self.now c.requires.change (λ one. omega (arith, one, c.in_default)) (λ two. omega (arith, two, c.in_default)) ports
