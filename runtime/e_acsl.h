@@ -226,7 +226,7 @@ struct Record {
   u32 number;
   u32 start;
   u32 length;
-  u32 unused;
+  u32 is_literal;
 };
 static_assert(sizeof(Record) == unit_bytes);
 
@@ -280,11 +280,11 @@ E_ACSL_INLINE void demand_number() {
 }
 
 // A birth clears the marks of its units and leaves the bytes.
-E_ACSL_INLINE ptr birth(u32 start, u32 length) {
+E_ACSL_INLINE ptr birth(u32 start, u32 length, bool is_literal = false) {
   const u32 number = births + 1;
   const u32 room = rounded(length);
   births = number;
-  for (u32 at = 0; at < room; at += unit_bytes) *record_at(start + at) = {number, start, length, 0};
+  for (u32 at = 0; at < room; at += unit_bytes) *record_at(start + at) = {number, start, length, is_literal};
   std::memset(mark_at(start), unwritten, room);
   return ptr(number, start);
 }
@@ -316,7 +316,7 @@ constexpr ptr first_global = ptr(1, globals_start);
 constexpr ptr next_global(ptr global, u32 length) { return ptr(global.number + 1, global.address + rounded(length)); }
 
 inline void begin(const Content &content) {
-  const ptr place = birth(content.place.address, content.length);
+  const ptr place = birth(content.place.address, content.length, content.bytes != nullptr);
   std::memset(mark_at(place.address), number_byte, content.length);
   if (content.bytes != nullptr) std::memcpy(byte_at(place.address), content.bytes, content.length);
 }
@@ -498,6 +498,26 @@ E_ACSL_INLINE bool is_number(ptr p, i128 offset, u32 size) {
   return place + size <= block.length && place % size == 0 && are_number_bytes(block.start + place, size);
 }
 
+// so many bytes from an offset on, if they lie in the pointer's live block, at a multiple of the alignment in it
+struct Range {
+  Record block;
+  i128 offset;
+  bool is_there;
+
+  E_ACSL_INLINE Range(ptr p, i128 from, i128 bytes, u32 alignment) : block(block_of(p)), offset((p.address - block.start) + from) {
+    is_there = block.start != 0 && offset >= 0 && offset <= block.length && bytes <= block.length - offset && offset % alignment == 0;
+  }
+  u32 address() const { return block.start + static_cast<u32>(offset); }
+};
+
+// One past the end is inside too.
+struct Place : Range {
+  E_ACSL_INLINE Place(ptr p, i128 from) : Range(p, from, 0, 1) {}
+};
+
+E_ACSL_INLINE u128 above_zero(i128 number) { return number > 0 ? static_cast<u128>(number) : 0; }
+E_ACSL_INLINE u128 below_zero(i128 number) { return number < 0 ? -static_cast<u128>(number) : 0; }
+
 }  // namespace eacsl
 
 E_ACSL_INLINE void __e_acsl_copy(eacsl::ptr to, eacsl::ptr from, eacsl::u32 size) {
@@ -511,6 +531,62 @@ E_ACSL_INLINE void __e_acsl_copy(eacsl::ptr to, eacsl::ptr from, eacsl::u32 size
 }
 
 E_ACSL_INLINE eacsl::i32 __e_acsl_number(eacsl::ptr p, eacsl::i128 offset, eacsl::u32 size) { return eacsl::is_number(p, offset, size); }
+
+// No bytes are always valid.
+E_ACSL_INLINE eacsl::i32 __e_acsl_valid(eacsl::ptr p, eacsl::i128 offset, eacsl::i128 bytes, eacsl::u32 alignment) {
+  if (bytes <= 0) return true;
+  const eacsl::Range range(p, offset, bytes, alignment);
+  return range.is_there && !range.block.is_literal;
+}
+
+E_ACSL_INLINE eacsl::i32 __e_acsl_valid_read(eacsl::ptr p, eacsl::i128 offset, eacsl::i128 bytes, eacsl::u32 alignment) {
+  return bytes <= 0 || eacsl::Range(p, offset, bytes, alignment).is_there;
+}
+
+inline eacsl::i32 __e_acsl_initialized(eacsl::ptr p, eacsl::i128 offset, eacsl::i128 bytes, eacsl::u32 alignment) {
+  using namespace eacsl;
+  if (bytes <= 0) return true;
+  const Range range(p, offset, bytes, alignment);
+  return range.is_there && std::memchr(mark_at(range.address()), unwritten, static_cast<std::size_t>(bytes)) == nullptr;
+}
+
+// eight pieces of pointers, or the number 0
+E_ACSL_INLINE eacsl::i32 __e_acsl_pointer(eacsl::ptr p, eacsl::i128 offset) {
+  using namespace eacsl;
+  const Range range(p, offset, 8, 8);
+  if (!range.is_there) return false;
+  u64 marks, value;
+  std::memcpy(&marks, mark_at(range.address()), sizeof marks);
+  std::memcpy(&value, byte_at(range.address()), sizeof value);
+  return marks == 0x0202020202020202 || (marks == 0x0101010101010101 && value == 0);
+}
+
+E_ACSL_INLINE eacsl::i32 __e_acsl_inside(eacsl::ptr p, eacsl::i128 offset) { return eacsl::Place(p, offset).is_there; }
+
+E_ACSL_INLINE eacsl::ptr __e_acsl_base_addr(eacsl::ptr p, eacsl::i128 offset) {
+  const eacsl::Place place(p, offset);
+  return place.is_there ? eacsl::ptr(p.number, place.block.start) : eacsl::ptr();
+}
+
+E_ACSL_INLINE eacsl::i64 __e_acsl_block_length(eacsl::ptr p, eacsl::i128 offset) {
+  const eacsl::Place place(p, offset);
+  return place.is_there ? place.block.length : 0;
+}
+
+E_ACSL_INLINE eacsl::i64 __e_acsl_offset(eacsl::ptr p, eacsl::i128 offset) {
+  const eacsl::Place place(p, offset);
+  return place.is_there ? static_cast<eacsl::i64>(place.offset) : 0;
+}
+
+// Parts of the beginnings that are below zero stand on the other side; a sum that passes 128 bits is farther away than a range is long.
+inline eacsl::i32 __e_acsl_separated(eacsl::ptr p, eacsl::i128 o, eacsl::i128 n, eacsl::ptr q, eacsl::i128 u, eacsl::i128 m) {
+  using namespace eacsl;
+  if (n <= 0 || m <= 0 || p.number != q.number) return true;
+  u128 first, second;
+  if (__builtin_add_overflow(p.address + above_zero(o), below_zero(u), &first)) return true;
+  if (__builtin_add_overflow(q.address + above_zero(u), below_zero(o), &second)) return true;
+  return first <= second ? second - first >= above_zero(n) : first - second >= above_zero(m);
+}
 
 inline eacsl::ptr __e_acsl_malloc(eacsl::u64 length) { return length == 0 ? eacsl::ptr() : eacsl::heap_block(length); }
 
