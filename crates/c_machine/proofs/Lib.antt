@@ -25,6 +25,7 @@ pub mod Finished
 pub mod Pieces
 pub mod Leaping
 pub mod Sequence
+pub mod Cases
 pub mod Valued
 pub mod Ends
 pub mod Alone

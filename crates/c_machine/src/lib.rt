@@ -20,9 +20,11 @@ mod writing;
 
 // runs of instructions at once
 mod asserted;
+mod case_tests;
 mod elements;
 mod forms;
 mod frames;
+mod kept_values;
 mod leaps;
 mod sequences;
 mod series;
