@@ -1,10 +1,9 @@
 #!/bin/bash
-# Prints what effects inside expressions, `switch` and `printf` take. First the processor's instructions, counted by valgrind: of a call of fib, written
+# Prints what effects inside expressions and `switch` take. First the processor's instructions, counted by valgrind: of a call of fib, written
 # as one sum of two calls and with two variables; of an element that a loop adds by `s += a[i++]` in its step, and written out; of one that
 # `a[i++] = b[j++]` copies, and written out; of a `switch` that takes the first, the middle and the last of 256 cases, and none of them, without the
 # loop around it; of a case that the search passes, with the sixteenth part of a test in front of 16 cases; and of a test in front of a case's items.
-# Then nanoseconds and instructions of a line of `printf("%d %s\n", i, "abc")` to a file, among 1,000,000, and the seconds in which a `switch` of
-# 60,000 cases is read, typed and translated. It measures through ./eacsl and crates/bench_c_machine.
+# Then the seconds in which a `switch` of 60,000 cases is read, typed and translated. It measures the proved program; `printf` has bench/print.sh.
 set -euo pipefail
 
 top=$(cd -- "$(dirname -- "${BASH_SOURCE[0]}")/.." && pwd)
@@ -125,18 +124,6 @@ last_of_16_of() {
   turns_of "$1" 15 "$(cases 16)"
 }
 
-# so many lines
-lines_of() {
-  cat <<C
-#include <stdio.h>
-int main(void) {
-  for (int i = 0; i < $1; i++)
-    printf("%d %s\n", i, "abc");
-  return 0;
-}
-C
-}
-
 # the processor's instructions of a command
 instructions_of() {
   valgrind --tool=callgrind --callgrind-out-file=/dev/null "$@" 2>&1 >"$scratch/out" | sed -n 's/.*Collected : \([0-9]*\).*/\1/p'
@@ -180,15 +167,6 @@ figure 'a case that the search passes' "$search"
 nearest=$(unit_takes first_of_16 1000 2000 1000)
 farthest=$(unit_takes last_of_16 1000 2000 1000)
 figure 'a test in front of items that is passed' "$(awk -v a="$farthest" -v b="$nearest" -v s="$search" 'BEGIN { print (a - b) / 15 - s }')"
-figure 'a line of printf' "$(unit_takes lines 1000 11000 10000)"
-
-lines_of 1000000 >"$scratch/lines.c"
-best=
-for _ in 1 2 3 4 5; do
-  ms=$( { TIMEFORMAT=%U; time "$program" run "$scratch/lines.c" >"$scratch/lines" 2>/dev/null; } 2>&1 | awk '{ print $1 * 1000 }')
-  [[ -n $best ]] && awk -v a="$best" -v b="$ms" 'BEGIN { exit !(a <= b) }' || best=$ms
-done
-figure 'a line of printf to a file, nanoseconds' "$best"
 
 {
   echo 'int main(void) { int x = 0; switch (x) {'
