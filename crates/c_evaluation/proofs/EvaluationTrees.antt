@@ -1,10 +1,12 @@
 -- The translation of expressions with effects, from its parts.
 use Rattle.std.proofs.Common.{◌≡◌, ◌⊎◌, inl, inr, ℕ, ℤ, Bool, [], ◌∷◌, ◌++◌, length, refl, ap, subst, sym, ◌∙◌, append_assoc}
-use Rattle.std.specs.Prelude.{Option, None, Some, Vec}
+use Rattle.std.specs.Prelude.{IfOk, List, OnOk, Option, None, Result, Some, Vec}
+use Rattle.std.specs.declared.alloc.AllocError.{AllocError}
 use Rattle.std.specs.declared.alloc.Global.{Global}
 use Rattle.c_syntax.specs.declared.expression.BinOp.{BinOp}
 use Rattle.c_syntax.specs.declared.expression.BumpOp.{BumpOp}
 use Rattle.c_syntax.specs.declared.expression.UnOp.{UnOp}
+use Rattle.c_syntax.specs.declared.expression.UnOp.TheVariants as prefix
 use Rattle.c_syntax.specs.declared.expression.Use.{Use}
 use Rattle.c_syntax.specs.declared.types.CInt.{CInt}
 use Rattle.c_syntax.specs.declared.types.CType.{CType}
@@ -13,13 +15,15 @@ use Rattle.c_syntax.specs.declared.expression.Expr.{Expr}
 use Rattle.c_syntax.specs.declared.expression.ExprKind.{ExprKind}
 use Rattle.c_syntax.specs.declared.expression.ExprKind as code
 use Rattle.c_syntax.specs.Ctypes.{PlainType, plain_type}
-use Rattle.c_syntax.specs.Expressions.{Expression, Node, Assign, Binary, Index, Both, Either, Choice, Comma, plain_expr, plain_kind}
+use Rattle.c_syntax.specs.Expressions.{Expression, Expressions, Node, Assign, Unary, Binary, Index, Both, Either, Choice, Comma, plain_expr, plain_kind}
+use Rattle.mon_syntax.specs.declared.tree.MonExpr.{MonExpr}
 use Rattle.mon_syntax.specs.declared.tree.MonType.{MonType}
 use Rattle.mon_syntax.specs.Registers.{Names, next_register}
-use Rattle.mon_syntax.specs.Trees.{MonExpression, MonStatements, If, Register}
+use Rattle.mon_syntax.specs.Trees.{MonExpression, MonStatements, If, Register, plain_expr as plain_monitored}
 use Rattle.c_effects.specs.Expressions.{before, one, set}
-use Rattle.c_effects.specs.Full.{act_takes, keeps, takes}
-use Rattle.c_evaluation.specs.Evaluated.{act_by, both_code_by, condition_result_by, either_code_by, location_by, operand_setup_by, origin_by, operand_takes, prepare_by, result_by}
+use Rattle.c_effects.specs.Effects.{call}
+use Rattle.c_effects.specs.Full.{act_takes, all_takes, keeps, takes}
+use Rattle.c_evaluation.specs.Evaluated.{act_by, all_results_by, both_code_by, condition_result_by, either_code_by, location_by, operand_setup_by, origin_by, operand_takes, prepare_all_by, prepare_by, result_by}
 use Rattle.c_effects.specs.Named.{unit_of, with_registers}
 use Rattle.c_effects.proofs.Sequences.{before_assoc, registers_then}
 use Rattle.c_evaluation.proofs.Acts.{taken_then}
@@ -27,6 +31,26 @@ use Rattle.c_evaluation.proofs.Acts.{taken_then}
 -- two parts, of which the second begins with other names
 pub two : (n1 m : Names) (t : MonStatements) {t1 t2 : MonStatements} (x : MonStatements) (y : Names → MonStatements) → t1 ≡ before t x → n1 ≡ m → t2 ≡ before t1 (y n1) → t2 ≡ before t (before x (y m))
 two n1 m t x y first names second = second ∙ (λ i. before (first i) (y (names i))) ∙ before_assoc t x (y m)
+
+-- the register behind those of an expression, which is set behind its statements
+pub register_behind : (n n1 : Names) (e : Expression) → n1 ≡ with_registers (takes (unit_of n) e) n → {r : ℕ} → r ≡ next_register n1.table → r ≡ length (n.table.kinds ++ takes (unit_of n) e)
+register_behind n n1 e names last = last ∙ ap (λ (m : Names). next_register m.table) names
+
+pub set_behind : (n n1 : Names) (t : MonStatements) {t1 t2 : MonStatements} (e : Expression) (v w : MonExpression) → t1 ≡ before t (prepare_by n e) → n1 ≡ with_registers (takes (unit_of n) e) n → v ≡ w
+    → t2 ≡ before t1 (set (next_register n1.table) v) → t2 ≡ before t (before (prepare_by n e) (set (length (n.table.kinds ++ takes (unit_of n) e)) w))
+set_behind n n1 t e v w first names v_is last =
+    last ∙ (λ i. before (first i) (set (next_register (names i).table) (v_is i))) ∙ before_assoc t (prepare_by n e) (set (length (n.table.kinds ++ takes (unit_of n) e)) w)
+
+-- a call behind its arguments
+pub called_is : (n n1 n2 : Names) (t : MonStatements) {t1 t2 : MonStatements} (es : Expressions) (f : Use) {to into : Option ℕ} {vs : List MonExpression} → t1 ≡ before t (prepare_all_by n es)
+    → n1 ≡ with_registers (all_takes (unit_of n) es) n → unit_of n2 ≡ unit_of n1 → to ≡ into → vs ≡ all_results_by n es → t2 ≡ before t1 (call (unit_of n2) to f es vs)
+    → t2 ≡ before t (before (prepare_all_by n es) (call (unit_of n) into f es (all_results_by n es)))
+called_is n n1 n2 t es f {into = into} first names same to_is values last =
+    let here : unit_of n2 ≡ unit_of n = same ∙ ap unit_of names in
+    last ∙ (λ i. before (first i) (call (here i) (to_is i) f es (values i))) ∙ before_assoc t (prepare_all_by n es) (call (unit_of n) into f es (all_results_by n es))
+
+pub last_register : {m : MonExpression} {r q : ℕ} → m ≡ Register r → r ≡ q → m ≡ Register q
+last_register is same = is ∙ ap Register same
 
 module _ (n n1 : Names) (t t1 t2 : MonStatements) (at : Place) (u : PlainType) (a b : Expression) where
   -- the left operand may be kept
@@ -132,6 +156,63 @@ module _ (n : Names) (at to : Place) (u : PlainType) where
   pub act_placed : (op : Option BinOp) (a b : Expression) → act_by n (Node at u (Assign op a b)) ≡ act_by n (Node to u (Assign op a b))
   act_placed None a b = refl
   act_placed (Some op) a b = refl
+
+  pub takes_placed : (op : Option BinOp) (a b : Expression) → takes (unit_of n) (Node at u (Assign op a b)) ≡ takes (unit_of n) (Node to u (Assign op a b))
+  takes_placed None a b = refl
+  takes_placed (Some op) a b = refl
+
+  pub act_takes_placed : (op : Option BinOp) (a b : Expression) → act_takes (unit_of n) (Node at u (Assign op a b)) ≡ act_takes (unit_of n) (Node to u (Assign op a b))
+  act_takes_placed None a b = refl
+  act_takes_placed (Some op) a b = refl
+
+  -- and so do those of a prefix operator and of what it gives
+  pub unary_placed : (op : UnOp) (a : Expression) → result_by n (Node at u (Unary op a)) ≡ result_by n (Node to u (Unary op a))
+  unary_placed prefix.Deref a = refl
+  unary_placed prefix.Address a = refl
+  unary_placed prefix.Plus a = refl
+  unary_placed prefix.Minus a = refl
+  unary_placed prefix.Not a = refl
+  unary_placed prefix.Flip a = refl
+
+  pub pointed_placed : (v : PlainType) (op : UnOp) (a : Expression) → location_by n (Node at u (Unary op a)) ≡ location_by n (Node to v (Unary op a))
+  pointed_placed v prefix.Deref a = refl
+  pointed_placed v prefix.Address a = refl
+  pointed_placed v prefix.Plus a = refl
+  pointed_placed v prefix.Minus a = refl
+  pointed_placed v prefix.Not a = refl
+  pointed_placed v prefix.Flip a = refl
+
+-- ---- what a function gives of an expression, by what one for its form gives
+
+module _ (n : Names) (e : Expr) {k : ExprKind} (is : e.kind.value ≡ k) where
+  abbrev formed : Expression
+  formed = Node e.place (plain_type e.ctype) (plain_kind k)
+
+  is_formed : formed ≡ plain_expr e
+  is_formed = ap (λ x. Node e.place (plain_type e.ctype) (plain_kind x)) (sym is)
+
+  module _ (r : Result MonExpr AllocError) where
+    pub value_at : IfOk r (λ (m : MonExpr). plain_monitored m ≡ result_by n formed) → IfOk r (λ (m : MonExpr). plain_monitored m ≡ result_by n (plain_expr e))
+    value_at = subst (λ (x : Expression). IfOk r (λ (m : MonExpr). plain_monitored m ≡ result_by n x)) is_formed
+
+    pub location_at : IfOk r (λ (m : MonExpr). plain_monitored m ≡ location_by n formed) → IfOk r (λ (m : MonExpr). plain_monitored m ≡ location_by n (plain_expr e))
+    location_at = subst (λ (x : Expression). IfOk r (λ (m : MonExpr). plain_monitored m ≡ location_by n x)) is_formed
+
+    pub origin_at : IfOk r (λ (m : MonExpr). plain_monitored m ≡ origin_by n formed) → IfOk r (λ (m : MonExpr). plain_monitored m ≡ origin_by n (plain_expr e))
+    origin_at = subst (λ (x : Expression). IfOk r (λ (m : MonExpr). plain_monitored m ≡ origin_by n x)) is_formed
+
+  module _ {A : Type 0} (r : Result A AllocError) where
+    pub prepare_at : (t t1 : MonStatements) → OnOk r (t1 ≡ before t (prepare_by n formed)) → OnOk r (t1 ≡ before t (prepare_by n (plain_expr e)))
+    prepare_at t t1 = subst (λ (x : Expression). OnOk r (t1 ≡ before t (prepare_by n x))) is_formed
+
+    pub act_at : (t t1 : MonStatements) → OnOk r (t1 ≡ before t (act_by n formed)) → OnOk r (t1 ≡ before t (act_by n (plain_expr e)))
+    act_at t t1 = subst (λ (x : Expression). OnOk r (t1 ≡ before t (act_by n x))) is_formed
+
+    pub takes_at : (n1 : Names) → OnOk r (n1 ≡ with_registers (takes (unit_of n) formed) n) → OnOk r (n1 ≡ with_registers (takes (unit_of n) (plain_expr e)) n)
+    takes_at n1 = subst (λ (x : Expression). OnOk r (n1 ≡ with_registers (takes (unit_of n) x) n)) is_formed
+
+    pub act_takes_at : (n1 : Names) → OnOk r (n1 ≡ with_registers (act_takes (unit_of n) formed) n) → OnOk r (n1 ≡ with_registers (act_takes (unit_of n) (plain_expr e)) n)
+    act_takes_at n1 = subst (λ (x : Expression). OnOk r (n1 ≡ with_registers (act_takes (unit_of n) x) n)) is_formed
 
 -- ---- expressions that are no members of objects
 

@@ -18,7 +18,7 @@ ghost use Rattle.c_evaluation.specs.Ready.{right_new, right_part, right_setup, r
 ghost use Rattle.c_effects.specs.Named.{unit_of, with_registers};
 ghost use Rattle.c_effects.specs.Objects.{assign_of, bump_of};
 
-use crate::evaluation::{kept, origin, value};
+use crate::evaluation::{in_register, kept, origin, value};
 use c_conversions::conversion::is_scalar;
 use c_effects::conversion::value_type;
 use c_effects::copy::copy_of;
@@ -26,11 +26,10 @@ use c_effects::inner::{inner_part, member_in, stepped};
 use c_effects::leaf::direct;
 use c_effects::object::{current, store};
 use c_effects::operator::{compound, constant, register};
-use c_effects::part::then;
 use c_effects::scalars::copy_all;
 use c_effects::settled::{bump_operator, gives_old, is_pure, is_settled};
 use c_syntax::{BinOp, BumpOp, CInt, CType, Expr};
-use mon_syntax::{MonExpr, MonStmt, MonStmtKind, MonType, Registers};
+use mon_syntax::{MonExpr, MonStmt, MonType, Registers};
 use std::alloc::{AllocError, Global};
 
 /// What is ready to be stored: the register of the object, that of the part of it to which the value is stored, and the
@@ -52,7 +51,6 @@ pub struct Old {
 
 // The register that points to the object in which an expression designates a part, or else to its object.
 #[cycle(evaluation)]
-#[tactic(auto, using(c_effects::proofs::Sequences::before_assoc))]
 fn pointing(
     alloc: Global,
     e: &Expr,
@@ -66,9 +64,7 @@ fn pointing(
     ensures letters { OnOk result (ValueHasLetters (plain_expr e.now)) }
 {
     let object = origin(alloc, e, names, to)?;
-    let number = names.fresh(MonType::Ptr)?;
-    then(alloc, to, MonStmtKind::Set(number, object))?;
-    Ok(number)
+    in_register(alloc, MonType::Ptr, object, names, to)
 }
 
 // The register that points to the object that an expression designates, or to the one in which it is a member: that of
@@ -139,12 +135,11 @@ fn old_ready(
     let object = object(alloc, left, names, to)?;
     let part = member_in(alloc, object, left, names, to)?;
     let old = current(alloc, part, t)?;
-    let number = names.fresh(value_type(t))?;
-    then(alloc, to, MonStmtKind::Set(number, old))?;
+    let value = in_register(alloc, value_type(t), old, names, to)?;
     Ok(Old {
         object,
         part,
-        value: number,
+        value,
     })
 }
 

@@ -7,11 +7,11 @@ ghost use Rattle.c_syntax.specs.Ctypes.{plain_type};
 ghost use Rattle.c_syntax.specs.Expressions.{plain_expr};
 ghost use Rattle.mon_syntax.specs.declared.tree.MonType.TheVariants.{I32, Ptr};
 ghost use Rattle.mon_syntax.specs.Registers.{next_register};
-ghost use Rattle.mon_syntax.specs.Trees.{Constant, Register, plain_expr as plain_monitored, plain_stmts};
-ghost use Rattle.c_effects.specs.Expressions.{before, loaded};
+ghost use Rattle.mon_syntax.specs.Trees.{Constant, If, Register, plain_expr as plain_monitored, plain_stmts};
+ghost use Rattle.c_effects.specs.Expressions.{before, loaded, one, set};
 ghost use Rattle.c_effects.specs.Full.{kept_setup, kept_types, kept_value, takes};
 ghost use Rattle.c_effects.specs.Letters.{ValueHasLetters};
-ghost use Rattle.c_evaluation.specs.Evaluated.{both_code_by, comma_of, condition_result_by, either_code_by, location_by, origin_by};
+ghost use Rattle.c_evaluation.specs.Evaluated.{comma_of, condition_result_by, location_by, origin_by};
 ghost use Rattle.c_evaluation.specs.Evaluated.{operand_by, operand_setup_by, operand_takes, prepare_by, result_by, truth_code_by};
 ghost use Rattle.c_effects.specs.Named.{unit_of, with_registers};
 ghost use Rattle.c_effects.specs.Parts.{arrow_of, binary_of, both_of, cast_of, choice_of, dot_of, either_of, index_of, unary_of};
@@ -347,6 +347,23 @@ fn cast(
     }
 }
 
+/// A further register of the type, which is set to a value.
+pub fn in_register(
+    alloc: Global,
+    t: MonType,
+    e: MonExpr,
+    names: &mut Registers<'_>,
+    to: &mut Vec<MonStmt>,
+) -> Result<u32, AllocError>
+    ensures register { IfOk result (λ r. r ≡ next_register names.old.table) }
+    ensures setup { OnOk result (plain_stmts to.new.items ≡ before (plain_stmts to.old.items) (set (next_register names.old.table) (plain_monitored e))) }
+    ensures names { OnOk result (names.new ≡ with_registers (t ∷ []) names.old) }
+{
+    let number = names.fresh(t)?;
+    then(alloc, to, MonStmtKind::Set(number, e))?;
+    Ok(number)
+}
+
 /// A value, in a further register of the type if it is kept.
 #[tactic(auto, using(c_effects::proofs::Sequences::before_none))]
 pub fn kept(
@@ -362,8 +379,7 @@ pub fn kept(
     ensures names { OnOk result (names.new ≡ with_registers (kept_types keep [] t) names.old) }
 {
     if keep {
-        let number = names.fresh(t)?;
-        then(alloc, to, MonStmtKind::Set(number, e))?;
+        let number = in_register(alloc, t, e, names, to)?;
         register(alloc, number)
     } else {
         Ok(e)
@@ -491,7 +507,8 @@ fn and(
     ensures letters { OnOk result (ValueHasLetters (both_of a.now b.now)) }
 {
     let test = condition_of(alloc, a, names, to)?;
-    both(alloc, b, test, names, to)
+    let right = truth_set(alloc, b, names)?;
+    both(alloc, test, right, to)
 }
 
 // `a || b`, whose value is in a register.
@@ -509,7 +526,8 @@ fn or(
     ensures letters { OnOk result (ValueHasLetters (either_of a.now b.now)) }
 {
     let test = condition_of(alloc, a, names, to)?;
-    either(alloc, b, test, names, to)
+    let right = truth_set(alloc, b, names)?;
+    either(alloc, test, right, to)
 }
 
 // `a ? b : c`, whose value is in a register.
@@ -583,49 +601,44 @@ fn truth_set(
 {
     let (mut code, operand) = apart(alloc, e, names)?;
     let operand = truth(alloc, value_type(&e.ctype), operand)?;
-    let number = names.fresh(MonType::I32)?;
-    then(alloc, &mut code, MonStmtKind::Set(number, operand))?;
+    let number = in_register(alloc, MonType::I32, operand, names, &mut code)?;
     Ok((number, code))
 }
 
-// Whether both sides of `&&` aren't 0, by the right side and a test of the left one: a register is set to it.
-#[cycle(evaluation)]
+// Whether both sides of `&&` aren't 0, by a test of the left one and the statements that set a register to the right one:
+// that register is set to it.
+#[tactic(auto, using(mon_syntax::proofs::Rows::if_is))]
 fn both(
     alloc: Global,
-    right: &Expr,
     test: MonExpr,
-    names: &mut Registers<'_>,
+    right: (u32, Vec<MonStmt>),
     to: &mut Vec<MonStmt>,
 ) -> Result<MonExpr, AllocError>
-    ensures value { IfOk result (λ m. plain_monitored m ≡ Register (length (names.old.table.kinds ++ takes (unit_of names.old) (plain_expr right.now)))) }
+    ensures value { IfOk result (λ m. plain_monitored m ≡ Register right.0) }
     ensures setup { OnOk result (plain_stmts to.new.items ≡ before (plain_stmts to.old.items)
-        (both_code_by names.old (plain_monitored test) (plain_expr right.now))) }
-    ensures names { OnOk result (names.new ≡ with_registers (takes (unit_of names.old) (plain_expr right.now) ++ I32 ∷ []) names.old) }
-    ensures letters { OnOk result (ValueHasLetters (plain_expr right.now)) }
+        (one (If (plain_monitored test) (plain_stmts right.1.items) (set right.0 (Constant I32 (pos 0)))))) }
 {
-    let (number, on) = truth_set(alloc, right, names)?;
+    let (number, on) = right;
     let known = constant(alloc, MonType::I32, 0)?;
     let off = alone(alloc, MonStmtKind::Set(number, known))?;
     then(alloc, to, MonStmtKind::If(test, on, off))?;
     register(alloc, number)
 }
 
-// Whether a side of `||` isn't 0, by the right side and a test of the left one: a register is set to it.
-#[cycle(evaluation)]
+// Whether a side of `||` isn't 0, by a test of the left one and the statements that set a register to the right one: that
+// register is set to it.
+#[tactic(auto, using(mon_syntax::proofs::Rows::if_is))]
 fn either(
     alloc: Global,
-    right: &Expr,
     test: MonExpr,
-    names: &mut Registers<'_>,
+    right: (u32, Vec<MonStmt>),
     to: &mut Vec<MonStmt>,
 ) -> Result<MonExpr, AllocError>
-    ensures value { IfOk result (λ m. plain_monitored m ≡ Register (length (names.old.table.kinds ++ takes (unit_of names.old) (plain_expr right.now)))) }
+    ensures value { IfOk result (λ m. plain_monitored m ≡ Register right.0) }
     ensures setup { OnOk result (plain_stmts to.new.items ≡ before (plain_stmts to.old.items)
-        (either_code_by names.old (plain_monitored test) (plain_expr right.now))) }
-    ensures names { OnOk result (names.new ≡ with_registers (takes (unit_of names.old) (plain_expr right.now) ++ I32 ∷ []) names.old) }
-    ensures letters { OnOk result (ValueHasLetters (plain_expr right.now)) }
+        (one (If (plain_monitored test) (set right.0 (Constant I32 (pos 1))) (plain_stmts right.1.items)))) }
 {
-    let (number, off) = truth_set(alloc, right, names)?;
+    let (number, off) = right;
     let known = constant(alloc, MonType::I32, 1)?;
     let on = alone(alloc, MonStmtKind::Set(number, known))?;
     then(alloc, to, MonStmtKind::If(test, on, off))?;

@@ -57,12 +57,6 @@ evaluation::or-returns-clause-setup = evaluations.evaluation::or-returns-clause-
 pub evaluation::choice-returns-clause-setup : goal.evaluation::choice-returns-clause-setup
 evaluation::choice-returns-clause-setup = evaluations.evaluation::choice-returns-clause-setup
 
-pub evaluation::both-returns-clause-setup : goal.evaluation::both-returns-clause-setup
-evaluation::both-returns-clause-setup = evaluations.evaluation::both-returns-clause-setup
-
-pub evaluation::either-returns-clause-setup : goal.evaluation::either-returns-clause-setup
-evaluation::either-returns-clause-setup = evaluations.evaluation::either-returns-clause-setup
-
 pub evaluation::operand-returns-clause-value : goal.evaluation::operand-returns-clause-value
 evaluation::operand-returns-clause-value = evaluations.evaluation::operand-returns-clause-value
 
@@ -165,6 +159,15 @@ evaluation::value-returns-in-Index-clause-value = evaluations.evaluation::value-
 pub evaluation::origin-returns-in-Number-clause-value : goal.evaluation::origin-returns-in-Number-clause-value
 evaluation::origin-returns-in-Number-clause-value = evaluations.evaluation::origin-returns-in-Number-clause-value
 
+pub assignment::pointing-returns-clause-register : goal.assignment::pointing-returns-clause-register
+assignment::pointing-returns-clause-register = assignments.assignment::pointing-returns-clause-register
+
+pub assignment::pointing-returns-clause-setup : goal.assignment::pointing-returns-clause-setup
+assignment::pointing-returns-clause-setup = assignments.assignment::pointing-returns-clause-setup
+
+pub assignment::pointing-returns-clause-names : goal.assignment::pointing-returns-clause-names
+assignment::pointing-returns-clause-names = assignments.assignment::pointing-returns-clause-names
+
 pub assignment::assigned-returns-in-None-clause-value : goal.assignment::assigned-returns-in-None-clause-value
 assignment::assigned-returns-in-None-clause-value = assignments.assignment::assigned-returns-in-None-clause-value
 
@@ -239,6 +242,9 @@ assignment::old_ready-returns-clause-part = assignments.assignment::old_ready-re
 
 pub assignment::old_ready-returns-clause-value : goal.assignment::old_ready-returns-clause-value
 assignment::old_ready-returns-clause-value = assignments.assignment::old_ready-returns-clause-value
+
+pub assignment::old_ready-returns-clause-names : goal.assignment::old_ready-returns-clause-names
+assignment::old_ready-returns-clause-names = assignments.assignment::old_ready-returns-clause-names
 
 pub assignment::old_ready-returns-clause-setup : goal.assignment::old_ready-returns-clause-setup
 assignment::old_ready-returns-clause-setup = assignments.assignment::old_ready-returns-clause-setup
@@ -470,3 +476,315 @@ act::arguments-expressions-preserved = acts.act::arguments-expressions-preserved
 
 pub act::act-returns-in-Assign-clause-setup : goal.act::act-returns-in-Assign-clause-setup
 act::act-returns-in-Assign-clause-setup = acts.act::act-returns-in-Assign-clause-setup
+
+pub evaluation::value-returns-in-Unary-clause-value : goal.evaluation::value-returns-in-Unary-clause-value
+evaluation::value-returns-in-Unary-clause-value = evaluations.evaluation::value-returns-in-Unary-clause-value
+
+pub evaluation::value-returns-in-Unary-clause-setup : goal.evaluation::value-returns-in-Unary-clause-setup
+evaluation::value-returns-in-Unary-clause-setup = evaluations.evaluation::value-returns-in-Unary-clause-setup
+
+pub evaluation::value-returns-in-Unary-clause-names : goal.evaluation::value-returns-in-Unary-clause-names
+evaluation::value-returns-in-Unary-clause-names = evaluations.evaluation::value-returns-in-Unary-clause-names
+
+pub evaluation::value-returns-in-Binary-clause-setup : goal.evaluation::value-returns-in-Binary-clause-setup
+evaluation::value-returns-in-Binary-clause-setup = evaluations.evaluation::value-returns-in-Binary-clause-setup
+
+pub evaluation::value-returns-in-Binary-clause-names : goal.evaluation::value-returns-in-Binary-clause-names
+evaluation::value-returns-in-Binary-clause-names = evaluations.evaluation::value-returns-in-Binary-clause-names
+
+pub evaluation::value-returns-in-Both-clause-value : goal.evaluation::value-returns-in-Both-clause-value
+evaluation::value-returns-in-Both-clause-value = evaluations.evaluation::value-returns-in-Both-clause-value
+
+pub evaluation::value-returns-in-Both-clause-setup : goal.evaluation::value-returns-in-Both-clause-setup
+evaluation::value-returns-in-Both-clause-setup = evaluations.evaluation::value-returns-in-Both-clause-setup
+
+pub evaluation::value-returns-in-Both-clause-names : goal.evaluation::value-returns-in-Both-clause-names
+evaluation::value-returns-in-Both-clause-names = evaluations.evaluation::value-returns-in-Both-clause-names
+
+pub evaluation::value-returns-in-Either-clause-value : goal.evaluation::value-returns-in-Either-clause-value
+evaluation::value-returns-in-Either-clause-value = evaluations.evaluation::value-returns-in-Either-clause-value
+
+pub evaluation::value-returns-in-Either-clause-setup : goal.evaluation::value-returns-in-Either-clause-setup
+evaluation::value-returns-in-Either-clause-setup = evaluations.evaluation::value-returns-in-Either-clause-setup
+
+pub evaluation::value-returns-in-Either-clause-names : goal.evaluation::value-returns-in-Either-clause-names
+evaluation::value-returns-in-Either-clause-names = evaluations.evaluation::value-returns-in-Either-clause-names
+
+pub evaluation::value-returns-in-Choice-clause-value : goal.evaluation::value-returns-in-Choice-clause-value
+evaluation::value-returns-in-Choice-clause-value = evaluations.evaluation::value-returns-in-Choice-clause-value
+
+pub evaluation::value-returns-in-Choice-clause-names : goal.evaluation::value-returns-in-Choice-clause-names
+evaluation::value-returns-in-Choice-clause-names = evaluations.evaluation::value-returns-in-Choice-clause-names
+
+pub evaluation::value-returns-in-Assign-clause-names : goal.evaluation::value-returns-in-Assign-clause-names
+evaluation::value-returns-in-Assign-clause-names = evaluations.evaluation::value-returns-in-Assign-clause-names
+
+pub evaluation::value-returns-in-Bump-clause-value : goal.evaluation::value-returns-in-Bump-clause-value
+evaluation::value-returns-in-Bump-clause-value = evaluations.evaluation::value-returns-in-Bump-clause-value
+
+pub evaluation::value-returns-in-Bump-clause-setup : goal.evaluation::value-returns-in-Bump-clause-setup
+evaluation::value-returns-in-Bump-clause-setup = evaluations.evaluation::value-returns-in-Bump-clause-setup
+
+pub evaluation::value-returns-in-Bump-clause-names : goal.evaluation::value-returns-in-Bump-clause-names
+evaluation::value-returns-in-Bump-clause-names = evaluations.evaluation::value-returns-in-Bump-clause-names
+
+pub evaluation::value-returns-in-Cast-clause-value : goal.evaluation::value-returns-in-Cast-clause-value
+evaluation::value-returns-in-Cast-clause-value = evaluations.evaluation::value-returns-in-Cast-clause-value
+
+pub evaluation::value-returns-in-Cast-clause-setup : goal.evaluation::value-returns-in-Cast-clause-setup
+evaluation::value-returns-in-Cast-clause-setup = evaluations.evaluation::value-returns-in-Cast-clause-setup
+
+pub evaluation::value-returns-in-Cast-clause-names : goal.evaluation::value-returns-in-Cast-clause-names
+evaluation::value-returns-in-Cast-clause-names = evaluations.evaluation::value-returns-in-Cast-clause-names
+
+pub evaluation::value-returns-in-Index-clause-setup : goal.evaluation::value-returns-in-Index-clause-setup
+evaluation::value-returns-in-Index-clause-setup = evaluations.evaluation::value-returns-in-Index-clause-setup
+
+pub evaluation::value-returns-in-Index-clause-names : goal.evaluation::value-returns-in-Index-clause-names
+evaluation::value-returns-in-Index-clause-names = evaluations.evaluation::value-returns-in-Index-clause-names
+
+pub evaluation::value-returns-in-Dot-clause-value : goal.evaluation::value-returns-in-Dot-clause-value
+evaluation::value-returns-in-Dot-clause-value = evaluations.evaluation::value-returns-in-Dot-clause-value
+
+pub evaluation::value-returns-in-Dot-clause-setup : goal.evaluation::value-returns-in-Dot-clause-setup
+evaluation::value-returns-in-Dot-clause-setup = evaluations.evaluation::value-returns-in-Dot-clause-setup
+
+pub evaluation::value-returns-in-Dot-clause-names : goal.evaluation::value-returns-in-Dot-clause-names
+evaluation::value-returns-in-Dot-clause-names = evaluations.evaluation::value-returns-in-Dot-clause-names
+
+pub evaluation::value-returns-in-Arrow-clause-value : goal.evaluation::value-returns-in-Arrow-clause-value
+evaluation::value-returns-in-Arrow-clause-value = evaluations.evaluation::value-returns-in-Arrow-clause-value
+
+pub evaluation::value-returns-in-Arrow-clause-setup : goal.evaluation::value-returns-in-Arrow-clause-setup
+evaluation::value-returns-in-Arrow-clause-setup = evaluations.evaluation::value-returns-in-Arrow-clause-setup
+
+pub evaluation::value-returns-in-Arrow-clause-names : goal.evaluation::value-returns-in-Arrow-clause-names
+evaluation::value-returns-in-Arrow-clause-names = evaluations.evaluation::value-returns-in-Arrow-clause-names
+
+pub evaluation::value-returns-in-Comma-clause-value : goal.evaluation::value-returns-in-Comma-clause-value
+evaluation::value-returns-in-Comma-clause-value = evaluations.evaluation::value-returns-in-Comma-clause-value
+
+pub evaluation::value-returns-in-Comma-clause-setup : goal.evaluation::value-returns-in-Comma-clause-setup
+evaluation::value-returns-in-Comma-clause-setup = evaluations.evaluation::value-returns-in-Comma-clause-setup
+
+pub evaluation::value-returns-in-Comma-clause-names : goal.evaluation::value-returns-in-Comma-clause-names
+evaluation::value-returns-in-Comma-clause-names = evaluations.evaluation::value-returns-in-Comma-clause-names
+
+pub evaluation::location-returns-in-Unary-clause-value : goal.evaluation::location-returns-in-Unary-clause-value
+evaluation::location-returns-in-Unary-clause-value = evaluations.evaluation::location-returns-in-Unary-clause-value
+
+pub evaluation::location-returns-in-Unary-clause-setup : goal.evaluation::location-returns-in-Unary-clause-setup
+evaluation::location-returns-in-Unary-clause-setup = evaluations.evaluation::location-returns-in-Unary-clause-setup
+
+pub evaluation::location-returns-in-Unary-clause-names : goal.evaluation::location-returns-in-Unary-clause-names
+evaluation::location-returns-in-Unary-clause-names = evaluations.evaluation::location-returns-in-Unary-clause-names
+
+pub evaluation::location-returns-in-Index-clause-value : goal.evaluation::location-returns-in-Index-clause-value
+evaluation::location-returns-in-Index-clause-value = evaluations.evaluation::location-returns-in-Index-clause-value
+
+pub evaluation::location-returns-in-Index-clause-setup : goal.evaluation::location-returns-in-Index-clause-setup
+evaluation::location-returns-in-Index-clause-setup = evaluations.evaluation::location-returns-in-Index-clause-setup
+
+pub evaluation::location-returns-in-Index-clause-names : goal.evaluation::location-returns-in-Index-clause-names
+evaluation::location-returns-in-Index-clause-names = evaluations.evaluation::location-returns-in-Index-clause-names
+
+pub evaluation::location-returns-in-Dot-clause-value : goal.evaluation::location-returns-in-Dot-clause-value
+evaluation::location-returns-in-Dot-clause-value = evaluations.evaluation::location-returns-in-Dot-clause-value
+
+pub evaluation::location-returns-in-Dot-clause-setup : goal.evaluation::location-returns-in-Dot-clause-setup
+evaluation::location-returns-in-Dot-clause-setup = evaluations.evaluation::location-returns-in-Dot-clause-setup
+
+pub evaluation::location-returns-in-Dot-clause-names : goal.evaluation::location-returns-in-Dot-clause-names
+evaluation::location-returns-in-Dot-clause-names = evaluations.evaluation::location-returns-in-Dot-clause-names
+
+pub evaluation::location-returns-in-Arrow-clause-value : goal.evaluation::location-returns-in-Arrow-clause-value
+evaluation::location-returns-in-Arrow-clause-value = evaluations.evaluation::location-returns-in-Arrow-clause-value
+
+pub evaluation::location-returns-in-Arrow-clause-setup : goal.evaluation::location-returns-in-Arrow-clause-setup
+evaluation::location-returns-in-Arrow-clause-setup = evaluations.evaluation::location-returns-in-Arrow-clause-setup
+
+pub evaluation::location-returns-in-Arrow-clause-names : goal.evaluation::location-returns-in-Arrow-clause-names
+evaluation::location-returns-in-Arrow-clause-names = evaluations.evaluation::location-returns-in-Arrow-clause-names
+
+pub evaluation::location-returns-in-Assign-clause-value : goal.evaluation::location-returns-in-Assign-clause-value
+evaluation::location-returns-in-Assign-clause-value = evaluations.evaluation::location-returns-in-Assign-clause-value
+
+pub evaluation::location-returns-in-Assign-clause-names : goal.evaluation::location-returns-in-Assign-clause-names
+evaluation::location-returns-in-Assign-clause-names = evaluations.evaluation::location-returns-in-Assign-clause-names
+
+pub evaluation::location-returns-in-Comma-clause-value : goal.evaluation::location-returns-in-Comma-clause-value
+evaluation::location-returns-in-Comma-clause-value = evaluations.evaluation::location-returns-in-Comma-clause-value
+
+pub evaluation::location-returns-in-Comma-clause-setup : goal.evaluation::location-returns-in-Comma-clause-setup
+evaluation::location-returns-in-Comma-clause-setup = evaluations.evaluation::location-returns-in-Comma-clause-setup
+
+pub evaluation::location-returns-in-Comma-clause-names : goal.evaluation::location-returns-in-Comma-clause-names
+evaluation::location-returns-in-Comma-clause-names = evaluations.evaluation::location-returns-in-Comma-clause-names
+
+pub act::act-returns-in-Assign-clause-names : goal.act::act-returns-in-Assign-clause-names
+act::act-returns-in-Assign-clause-names = acts.act::act-returns-in-Assign-clause-names
+
+pub act::act-returns-in-Bump-clause-setup : goal.act::act-returns-in-Bump-clause-setup
+act::act-returns-in-Bump-clause-setup = acts.act::act-returns-in-Bump-clause-setup
+
+pub act::act-returns-in-Bump-clause-names : goal.act::act-returns-in-Bump-clause-names
+act::act-returns-in-Bump-clause-names = acts.act::act-returns-in-Bump-clause-names
+
+pub act::act-returns-in-Both-clause-setup : goal.act::act-returns-in-Both-clause-setup
+act::act-returns-in-Both-clause-setup = acts.act::act-returns-in-Both-clause-setup
+
+pub act::act-returns-in-Both-clause-names : goal.act::act-returns-in-Both-clause-names
+act::act-returns-in-Both-clause-names = acts.act::act-returns-in-Both-clause-names
+
+pub act::act-returns-in-Either-clause-setup : goal.act::act-returns-in-Either-clause-setup
+act::act-returns-in-Either-clause-setup = acts.act::act-returns-in-Either-clause-setup
+
+pub act::act-returns-in-Either-clause-names : goal.act::act-returns-in-Either-clause-names
+act::act-returns-in-Either-clause-names = acts.act::act-returns-in-Either-clause-names
+
+pub act::act-returns-in-Choice-clause-setup : goal.act::act-returns-in-Choice-clause-setup
+act::act-returns-in-Choice-clause-setup = acts.act::act-returns-in-Choice-clause-setup
+
+pub act::act-returns-in-Choice-clause-names : goal.act::act-returns-in-Choice-clause-names
+act::act-returns-in-Choice-clause-names = acts.act::act-returns-in-Choice-clause-names
+
+pub act::act-returns-in-Unary-clause-setup : goal.act::act-returns-in-Unary-clause-setup
+act::act-returns-in-Unary-clause-setup = acts.act::act-returns-in-Unary-clause-setup
+
+pub act::act-returns-in-Unary-clause-names : goal.act::act-returns-in-Unary-clause-names
+act::act-returns-in-Unary-clause-names = acts.act::act-returns-in-Unary-clause-names
+
+pub act::act-returns-in-Cast-clause-setup : goal.act::act-returns-in-Cast-clause-setup
+act::act-returns-in-Cast-clause-setup = acts.act::act-returns-in-Cast-clause-setup
+
+pub act::act-returns-in-Cast-clause-names : goal.act::act-returns-in-Cast-clause-names
+act::act-returns-in-Cast-clause-names = acts.act::act-returns-in-Cast-clause-names
+
+pub act::act-returns-in-Dot-clause-setup : goal.act::act-returns-in-Dot-clause-setup
+act::act-returns-in-Dot-clause-setup = acts.act::act-returns-in-Dot-clause-setup
+
+pub act::act-returns-in-Dot-clause-names : goal.act::act-returns-in-Dot-clause-names
+act::act-returns-in-Dot-clause-names = acts.act::act-returns-in-Dot-clause-names
+
+pub act::act-returns-in-Arrow-clause-setup : goal.act::act-returns-in-Arrow-clause-setup
+act::act-returns-in-Arrow-clause-setup = acts.act::act-returns-in-Arrow-clause-setup
+
+pub act::act-returns-in-Arrow-clause-names : goal.act::act-returns-in-Arrow-clause-names
+act::act-returns-in-Arrow-clause-names = acts.act::act-returns-in-Arrow-clause-names
+
+pub act::act-returns-in-Binary-clause-setup : goal.act::act-returns-in-Binary-clause-setup
+act::act-returns-in-Binary-clause-setup = acts.act::act-returns-in-Binary-clause-setup
+
+pub act::act-returns-in-Binary-clause-names : goal.act::act-returns-in-Binary-clause-names
+act::act-returns-in-Binary-clause-names = acts.act::act-returns-in-Binary-clause-names
+
+pub act::act-returns-in-Index-clause-setup : goal.act::act-returns-in-Index-clause-setup
+act::act-returns-in-Index-clause-setup = acts.act::act-returns-in-Index-clause-setup
+
+pub act::act-returns-in-Index-clause-names : goal.act::act-returns-in-Index-clause-names
+act::act-returns-in-Index-clause-names = acts.act::act-returns-in-Index-clause-names
+
+pub act::act-returns-in-Comma-clause-setup : goal.act::act-returns-in-Comma-clause-setup
+act::act-returns-in-Comma-clause-setup = acts.act::act-returns-in-Comma-clause-setup
+
+pub act::act-returns-in-Comma-clause-names : goal.act::act-returns-in-Comma-clause-names
+act::act-returns-in-Comma-clause-names = acts.act::act-returns-in-Comma-clause-names
+
+pub evaluation::value-returns-in-Number-clause-setup : goal.evaluation::value-returns-in-Number-clause-setup
+evaluation::value-returns-in-Number-clause-setup = evaluations.evaluation::value-returns-in-Number-clause-setup
+
+pub evaluation::value-returns-in-Letter-clause-setup : goal.evaluation::value-returns-in-Letter-clause-setup
+evaluation::value-returns-in-Letter-clause-setup = evaluations.evaluation::value-returns-in-Letter-clause-setup
+
+pub evaluation::value-returns-in-Text-clause-setup : goal.evaluation::value-returns-in-Text-clause-setup
+evaluation::value-returns-in-Text-clause-setup = evaluations.evaluation::value-returns-in-Text-clause-setup
+
+pub evaluation::value-returns-in-Variable-clause-setup : goal.evaluation::value-returns-in-Variable-clause-setup
+evaluation::value-returns-in-Variable-clause-setup = evaluations.evaluation::value-returns-in-Variable-clause-setup
+
+pub evaluation::value-returns-in-SizeOfType-clause-setup : goal.evaluation::value-returns-in-SizeOfType-clause-setup
+evaluation::value-returns-in-SizeOfType-clause-setup = evaluations.evaluation::value-returns-in-SizeOfType-clause-setup
+
+pub evaluation::value-returns-in-SizeOfExpr-clause-setup : goal.evaluation::value-returns-in-SizeOfExpr-clause-setup
+evaluation::value-returns-in-SizeOfExpr-clause-setup = evaluations.evaluation::value-returns-in-SizeOfExpr-clause-setup
+
+pub evaluation::binary-returns-clause-letters : goal.evaluation::binary-returns-clause-letters
+evaluation::binary-returns-clause-letters = evaluations.evaluation::binary-returns-clause-letters
+
+pub evaluation::element-returns-clause-letters : goal.evaluation::element-returns-clause-letters
+evaluation::element-returns-clause-letters = evaluations.evaluation::element-returns-clause-letters
+
+pub evaluation::and-returns-clause-letters : goal.evaluation::and-returns-clause-letters
+evaluation::and-returns-clause-letters = evaluations.evaluation::and-returns-clause-letters
+
+pub evaluation::or-returns-clause-letters : goal.evaluation::or-returns-clause-letters
+evaluation::or-returns-clause-letters = evaluations.evaluation::or-returns-clause-letters
+
+pub evaluation::choice-returns-clause-letters : goal.evaluation::choice-returns-clause-letters
+evaluation::choice-returns-clause-letters = evaluations.evaluation::choice-returns-clause-letters
+
+pub evaluation::second_value-returns-clause-letters : goal.evaluation::second_value-returns-clause-letters
+evaluation::second_value-returns-clause-letters = evaluations.evaluation::second_value-returns-clause-letters
+
+pub evaluation::second_location-returns-clause-letters : goal.evaluation::second_location-returns-clause-letters
+evaluation::second_location-returns-clause-letters = evaluations.evaluation::second_location-returns-clause-letters
+
+pub evaluation::second_origin-returns-clause-letters : goal.evaluation::second_origin-returns-clause-letters
+evaluation::second_origin-returns-clause-letters = evaluations.evaluation::second_origin-returns-clause-letters
+
+pub assignment::right_ready-returns-clause-letters : goal.assignment::right_ready-returns-clause-letters
+assignment::right_ready-returns-clause-letters = assignments.assignment::right_ready-returns-clause-letters
+
+pub assignment::read_before-returns-clause-letters : goal.assignment::read_before-returns-clause-letters
+assignment::read_before-returns-clause-letters = assignments.assignment::read_before-returns-clause-letters
+
+pub assignment::assign_object-returns-clause-letters : goal.assignment::assign_object-returns-clause-letters
+assignment::assign_object-returns-clause-letters = assignments.assignment::assign_object-returns-clause-letters
+
+pub act::act_both_sides-returns-clause-letters : goal.act::act_both_sides-returns-clause-letters
+act::act_both_sides-returns-clause-letters = acts.act::act_both_sides-returns-clause-letters
+
+pub act::called-returns-clause-value : goal.act::called-returns-clause-value
+act::called-returns-clause-value = acts.act::called-returns-clause-value
+
+pub act::called-returns-clause-setup : goal.act::called-returns-clause-setup
+act::called-returns-clause-setup = acts.act::called-returns-clause-setup
+
+pub act::called-returns-clause-names : goal.act::called-returns-clause-names
+act::called-returns-clause-names = acts.act::called-returns-clause-names
+
+pub act::call_alone-returns-clause-setup : goal.act::call_alone-returns-clause-setup
+act::call_alone-returns-clause-setup = acts.act::call_alone-returns-clause-setup
+
+pub evaluation::origin-returns-in-Dot-clause-value : goal.evaluation::origin-returns-in-Dot-clause-value
+evaluation::origin-returns-in-Dot-clause-value = evaluations.evaluation::origin-returns-in-Dot-clause-value
+
+pub evaluation::origin-returns-in-Dot-clause-setup : goal.evaluation::origin-returns-in-Dot-clause-setup
+evaluation::origin-returns-in-Dot-clause-setup = evaluations.evaluation::origin-returns-in-Dot-clause-setup
+
+pub evaluation::origin-returns-in-Dot-clause-names : goal.evaluation::origin-returns-in-Dot-clause-names
+evaluation::origin-returns-in-Dot-clause-names = evaluations.evaluation::origin-returns-in-Dot-clause-names
+
+pub evaluation::origin-returns-in-Arrow-clause-value : goal.evaluation::origin-returns-in-Arrow-clause-value
+evaluation::origin-returns-in-Arrow-clause-value = evaluations.evaluation::origin-returns-in-Arrow-clause-value
+
+pub evaluation::origin-returns-in-Arrow-clause-setup : goal.evaluation::origin-returns-in-Arrow-clause-setup
+evaluation::origin-returns-in-Arrow-clause-setup = evaluations.evaluation::origin-returns-in-Arrow-clause-setup
+
+pub evaluation::origin-returns-in-Arrow-clause-names : goal.evaluation::origin-returns-in-Arrow-clause-names
+evaluation::origin-returns-in-Arrow-clause-names = evaluations.evaluation::origin-returns-in-Arrow-clause-names
+
+pub evaluation::origin-returns-in-Assign-clause-value : goal.evaluation::origin-returns-in-Assign-clause-value
+evaluation::origin-returns-in-Assign-clause-value = evaluations.evaluation::origin-returns-in-Assign-clause-value
+
+pub evaluation::origin-returns-in-Assign-clause-names : goal.evaluation::origin-returns-in-Assign-clause-names
+evaluation::origin-returns-in-Assign-clause-names = evaluations.evaluation::origin-returns-in-Assign-clause-names
+
+pub evaluation::origin-returns-in-Comma-clause-value : goal.evaluation::origin-returns-in-Comma-clause-value
+evaluation::origin-returns-in-Comma-clause-value = evaluations.evaluation::origin-returns-in-Comma-clause-value
+
+pub evaluation::origin-returns-in-Comma-clause-setup : goal.evaluation::origin-returns-in-Comma-clause-setup
+evaluation::origin-returns-in-Comma-clause-setup = evaluations.evaluation::origin-returns-in-Comma-clause-setup
+
+pub evaluation::origin-returns-in-Comma-clause-names : goal.evaluation::origin-returns-in-Comma-clause-names
+evaluation::origin-returns-in-Comma-clause-names = evaluations.evaluation::origin-returns-in-Comma-clause-names

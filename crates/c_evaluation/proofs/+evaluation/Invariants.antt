@@ -62,12 +62,6 @@ decreases-evaluation::apart l = 16 * size-Expr l.e.now + 1
 abbrev pub decreases-evaluation::truth_set : goal.decreases-evaluation::truth_set
 decreases-evaluation::truth_set l = 16 * size-Expr l.e.now + 2
 
-abbrev pub decreases-evaluation::both : goal.decreases-evaluation::both
-decreases-evaluation::both l = 16 * size-Expr l.right.now + 3
-
-abbrev pub decreases-evaluation::either : goal.decreases-evaluation::either
-decreases-evaluation::either l = 16 * size-Expr l.right.now + 3
-
 abbrev pub decreases-assignment::pointing : goal.decreases-assignment::pointing
 decreases-assignment::pointing l = 16 * size-Expr l.e.now + 4
 

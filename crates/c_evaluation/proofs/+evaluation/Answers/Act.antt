@@ -1,22 +1,25 @@
 -- Calls, and expressions that stand for their effects.
 use Rattle.std.proofs.Common.{◌≡◌, ◌+◌, drop, ◌∷◌, [], ◌++◌, map, refl, ap, sym, subst, ◌∙◌, arith}
 use Rattle.std.proofs.lemmas.List.{map-append}
-use Rattle.std.specs.Prelude.{OnOk}
+use Rattle.std.specs.Prelude.{None, OnOk, Some}
 use Rattle.c_syntax.specs.Ctypes.{plain_type}
 use Rattle.c_syntax.specs.Expressions.{Expression, plain_expr, plain_exprs}
+use Rattle.mon_syntax.specs.declared.tree.MonExpr.{MonExpr}
+use Rattle.mon_syntax.specs.Registers.{Names, next_register}
 use Rattle.mon_syntax.specs.Trees.{If, plain_expr as plain_monitored, plain_stmts}
 use Rattle.mon_syntax.proofs.Rows.{if_is}
-use Rattle.c_effects.specs.Expressions.{before, one}
+use Rattle.c_effects.specs.Expressions.{before, one, value_type}
 use Rattle.c_effects.specs.Full.{act_takes, all_takes, keeps_all, takes}
 use Rattle.c_effects.specs.Named.{unit_of, with_registers}
 use Rattle.c_effects.specs.Objects.{assign_of}
 use Rattle.c_effects.proofs.Sequences.{all_there, complete, left_at, none_left, registers_complete}
-use Rattle.c_effects.proofs.Trees.{call_expr, on_ok, on_ok_then}
+use Rattle.c_effects.proofs.Trees.{call_expr, if_ok_then, on_ok, on_ok_then}
 use Rattle.c_effects.specs.Letters.{ActHasLetters, ValuesHaveLetters}
 use Rattle.c_evaluation.specs.Evaluated.{act_by, all_results_by, prepare_all_by}
 use Rattle.c_evaluation.proofs.Acts.{both_acted, both_pure, choice_acted, choice_letters, choice_pure, choice_pure_letters, choice_pure_takes, choice_takes, either_acted, either_pure, one_letters}
 use Rattle.c_evaluation.proofs.Acts.{one_pure_letters, one_pure_takes, one_takes, taken_then}
-use Rattle.c_evaluation.proofs.EvaluationTrees.{act_placed, assign_expr, of_both_sides}
+use Rattle.c_evaluation.proofs.EvaluationTrees.{act_at, act_takes_at, act_takes_placed}
+use Rattle.c_evaluation.proofs.EvaluationTrees.{act_placed, assign_expr, called_is, last_register, of_both_sides}
 use Rattle.c_evaluation.proofs.Operands.{argument_letters, argument_names, argument_setup, argument_values}
 use Rattle.c_evaluation.proofs.Operands.{rest_all}
 use Rattle.c_evaluation.proofs.Sizes.{assign_size, binary_size, both_size, choice_size, comma_size, either_size, index_size}
@@ -266,3 +269,135 @@ act::act-returns-in-Assign-clause-setup t c =
     let is = assign_expr e op a b (sym c.deref.ensures ∙ c.in-Assign.is) in
     on_ok_then c.assign_alone.result (λ (h : plain_stmts c.assign_alone.new.to.items ≡ before (plain_stmts c.args.to.now.items) (act_by n (assign_of op e.ctype a b))).
     h ∙ ap (λ x. before (plain_stmts c.args.to.now.items) x) (act_placed n a.place e.place (plain_type e.ctype) op (plain_expr a) (plain_expr b) ∙ ap (act_by n) (sym is))) c.assign_alone.ensures.setup
+
+-- ---- two sides, and calls
+
+pub act::act_both_sides-returns-clause-letters : goal.act::act_both_sides-returns-clause-letters
+act::act_both_sides-returns-clause-letters t c = on_ok_then c.act-2.result (λ l. (c.in_ok-act.ensures.letters, l)) c.act-2.ensures.letters
+
+pub act::called-returns-clause-value : goal.act::called-returns-clause-value
+act::called-returns-clause-value t c =
+    let number = c.in_ok-number.ensures.number ∙ ap (λ (l : Names). next_register l.table) c.in_ok-values.ensures.names in
+    if_ok_then c.register.result (λ (m : MonExpr) last. last_register {m = plain_monitored m} last number) c.register.ensures
+
+pub act::called-returns-clause-setup : goal.act::called-returns-clause-setup
+act::called-returns-clause-setup t c =
+    let n = c.args.names.now in
+    let es = plain_exprs c.args.args.now in
+    let number = ap Some (c.in_ok-number.ensures.number ∙ ap (λ (l : Names). next_register l.table) c.in_ok-values.ensures.names) in
+    on_ok c.register.result (called_is n c.arguments.new.names c.fresh.new.self (plain_stmts c.args.to.now.items) es c.args.callee.0 c.in_ok-values.ensures.setup c.in_ok-values.ensures.names (ap unit_of c.in_ok-number.ensures.names)
+    number c.in_ok-values.ensures.values c.in_ok-call.ensures)
+
+pub act::called-returns-clause-names : goal.act::called-returns-clause-names
+act::called-returns-clause-names t c =
+    let n = c.args.names.now in
+    let us = all_takes (unit_of n) (plain_exprs c.args.args.now) in
+    on_ok c.register.result (taken_then n us (λ p. value_type (plain_type c.args.callee.1.now) ∷ []) c.in_ok-values.ensures.names
+    (c.in_ok-number.ensures.names ∙ ap (λ u. with_registers (u ∷ []) c.arguments.new.names) c.value_type.ensures))
+
+pub act::call_alone-returns-clause-setup : goal.act::call_alone-returns-clause-setup
+act::call_alone-returns-clause-setup t c =
+    let n = c.args.names.now in
+    on_ok_then c.call.result (λ last. called_is n c.arguments.new.names c.arguments.new.names (plain_stmts c.args.to.now.items) {t2 = plain_stmts c.call.new.to.items} (plain_exprs c.args.args.now) c.args.f
+    {to = None} {into = None} c.in_ok-values.ensures.setup c.in_ok-values.ensures.names refl refl c.in_ok-values.ensures.values last) c.call.ensures
+
+-- ---- what a function for the form of an expression does
+
+pub act::act-returns-in-Assign-clause-names : goal.act::act-returns-in-Assign-clause-names
+act::act-returns-in-Assign-clause-names t c =
+    act_takes_at c.args.names.now c.args.e.now (sym c.deref.ensures ∙ c.in-Assign.is) c.assign_alone.result c.assign_alone.new.names
+    (on_ok_then c.assign_alone.result (λ (h : c.assign_alone.new.names ≡ with_registers (act_takes (unit_of c.args.names.now) (assign_of c.in-Assign.op c.args.e.now.ctype c.in-Assign.a c.in-Assign.b)) c.args.names.now).
+    h ∙ ap (λ ts. with_registers ts c.args.names.now) (act_takes_placed c.args.names.now c.in-Assign.a.place c.args.e.now.place (plain_type c.args.e.now.ctype)
+    c.in-Assign.op (plain_expr c.in-Assign.a) (plain_expr c.in-Assign.b))) c.assign_alone.ensures.names)
+
+pub act::act-returns-in-Bump-clause-setup : goal.act::act-returns-in-Bump-clause-setup
+act::act-returns-in-Bump-clause-setup t c =
+    act_at c.args.names.now c.args.e.now (sym c.deref.ensures ∙ c.in-Bump.is) c.bump_alone.result (plain_stmts c.args.to.now.items) (plain_stmts c.bump_alone.new.to.items) c.bump_alone.ensures.setup
+
+pub act::act-returns-in-Bump-clause-names : goal.act::act-returns-in-Bump-clause-names
+act::act-returns-in-Bump-clause-names t c =
+    act_takes_at c.args.names.now c.args.e.now (sym c.deref.ensures ∙ c.in-Bump.is) c.bump_alone.result c.bump_alone.new.names c.bump_alone.ensures.names
+
+pub act::act-returns-in-Both-clause-setup : goal.act::act-returns-in-Both-clause-setup
+act::act-returns-in-Both-clause-setup t c =
+    act_at c.args.names.now c.args.e.now (sym c.deref.ensures ∙ c.in-Both.is) c.act_both.result (plain_stmts c.args.to.now.items) (plain_stmts c.act_both.new.to.items) c.act_both.ensures.setup
+
+pub act::act-returns-in-Both-clause-names : goal.act::act-returns-in-Both-clause-names
+act::act-returns-in-Both-clause-names t c =
+    act_takes_at c.args.names.now c.args.e.now (sym c.deref.ensures ∙ c.in-Both.is) c.act_both.result c.act_both.new.names c.act_both.ensures.names
+
+pub act::act-returns-in-Either-clause-setup : goal.act::act-returns-in-Either-clause-setup
+act::act-returns-in-Either-clause-setup t c =
+    act_at c.args.names.now c.args.e.now (sym c.deref.ensures ∙ c.in-Either.is) c.act_either.result (plain_stmts c.args.to.now.items) (plain_stmts c.act_either.new.to.items) c.act_either.ensures.setup
+
+pub act::act-returns-in-Either-clause-names : goal.act::act-returns-in-Either-clause-names
+act::act-returns-in-Either-clause-names t c =
+    act_takes_at c.args.names.now c.args.e.now (sym c.deref.ensures ∙ c.in-Either.is) c.act_either.result c.act_either.new.names c.act_either.ensures.names
+
+pub act::act-returns-in-Choice-clause-setup : goal.act::act-returns-in-Choice-clause-setup
+act::act-returns-in-Choice-clause-setup t c =
+    act_at c.args.names.now c.args.e.now (sym c.deref.ensures ∙ c.in-Choice.is) c.act_choice.result (plain_stmts c.args.to.now.items) (plain_stmts c.act_choice.new.to.items) c.act_choice.ensures.setup
+
+pub act::act-returns-in-Choice-clause-names : goal.act::act-returns-in-Choice-clause-names
+act::act-returns-in-Choice-clause-names t c =
+    act_takes_at c.args.names.now c.args.e.now (sym c.deref.ensures ∙ c.in-Choice.is) c.act_choice.result c.act_choice.new.names c.act_choice.ensures.names
+
+pub act::act-returns-in-Unary-clause-setup : goal.act::act-returns-in-Unary-clause-setup
+act::act-returns-in-Unary-clause-setup t c =
+    act_at c.args.names.now c.args.e.now (sym c.deref.ensures ∙ c.in-Unary.is) c.act.result (plain_stmts c.args.to.now.items) (plain_stmts c.act.new.to.items) c.act.ensures.setup
+
+pub act::act-returns-in-Unary-clause-names : goal.act::act-returns-in-Unary-clause-names
+act::act-returns-in-Unary-clause-names t c =
+    act_takes_at c.args.names.now c.args.e.now (sym c.deref.ensures ∙ c.in-Unary.is) c.act.result c.act.new.names c.act.ensures.names
+
+pub act::act-returns-in-Cast-clause-setup : goal.act::act-returns-in-Cast-clause-setup
+act::act-returns-in-Cast-clause-setup t c =
+    act_at c.args.names.now c.args.e.now (sym c.deref.ensures ∙ c.in-Cast.is) c.act-in-Cast.result (plain_stmts c.args.to.now.items) (plain_stmts c.act-in-Cast.new.to.items) c.act-in-Cast.ensures.setup
+
+pub act::act-returns-in-Cast-clause-names : goal.act::act-returns-in-Cast-clause-names
+act::act-returns-in-Cast-clause-names t c =
+    act_takes_at c.args.names.now c.args.e.now (sym c.deref.ensures ∙ c.in-Cast.is) c.act-in-Cast.result c.act-in-Cast.new.names c.act-in-Cast.ensures.names
+
+pub act::act-returns-in-Dot-clause-setup : goal.act::act-returns-in-Dot-clause-setup
+act::act-returns-in-Dot-clause-setup t c =
+    act_at c.args.names.now c.args.e.now (sym c.deref.ensures ∙ c.in-Dot.is) c.act-in-Dot.result (plain_stmts c.args.to.now.items) (plain_stmts c.act-in-Dot.new.to.items) c.act-in-Dot.ensures.setup
+
+pub act::act-returns-in-Dot-clause-names : goal.act::act-returns-in-Dot-clause-names
+act::act-returns-in-Dot-clause-names t c =
+    act_takes_at c.args.names.now c.args.e.now (sym c.deref.ensures ∙ c.in-Dot.is) c.act-in-Dot.result c.act-in-Dot.new.names c.act-in-Dot.ensures.names
+
+pub act::act-returns-in-Arrow-clause-setup : goal.act::act-returns-in-Arrow-clause-setup
+act::act-returns-in-Arrow-clause-setup t c =
+    act_at c.args.names.now c.args.e.now (sym c.deref.ensures ∙ c.in-Arrow.is) c.act-in-Arrow.result (plain_stmts c.args.to.now.items) (plain_stmts c.act-in-Arrow.new.to.items)
+    c.act-in-Arrow.ensures.setup
+
+pub act::act-returns-in-Arrow-clause-names : goal.act::act-returns-in-Arrow-clause-names
+act::act-returns-in-Arrow-clause-names t c =
+    act_takes_at c.args.names.now c.args.e.now (sym c.deref.ensures ∙ c.in-Arrow.is) c.act-in-Arrow.result c.act-in-Arrow.new.names c.act-in-Arrow.ensures.names
+
+pub act::act-returns-in-Binary-clause-setup : goal.act::act-returns-in-Binary-clause-setup
+act::act-returns-in-Binary-clause-setup t c =
+    act_at c.args.names.now c.args.e.now (sym c.deref.ensures ∙ c.in-Binary.is) c.act_both_sides.result (plain_stmts c.args.to.now.items) (plain_stmts c.act_both_sides.new.to.items)
+    c.act_both_sides.ensures.setup
+
+pub act::act-returns-in-Binary-clause-names : goal.act::act-returns-in-Binary-clause-names
+act::act-returns-in-Binary-clause-names t c =
+    act_takes_at c.args.names.now c.args.e.now (sym c.deref.ensures ∙ c.in-Binary.is) c.act_both_sides.result c.act_both_sides.new.names c.act_both_sides.ensures.names
+
+pub act::act-returns-in-Index-clause-setup : goal.act::act-returns-in-Index-clause-setup
+act::act-returns-in-Index-clause-setup t c =
+    act_at c.args.names.now c.args.e.now (sym c.deref.ensures ∙ c.in-Index.is) c.act_both_sides-in-Index.result (plain_stmts c.args.to.now.items) (plain_stmts c.act_both_sides-in-Index.new.to.items)
+    c.act_both_sides-in-Index.ensures.setup
+
+pub act::act-returns-in-Index-clause-names : goal.act::act-returns-in-Index-clause-names
+act::act-returns-in-Index-clause-names t c =
+    act_takes_at c.args.names.now c.args.e.now (sym c.deref.ensures ∙ c.in-Index.is) c.act_both_sides-in-Index.result c.act_both_sides-in-Index.new.names c.act_both_sides-in-Index.ensures.names
+
+pub act::act-returns-in-Comma-clause-setup : goal.act::act-returns-in-Comma-clause-setup
+act::act-returns-in-Comma-clause-setup t c =
+    act_at c.args.names.now c.args.e.now (sym c.deref.ensures ∙ c.in-Comma.is) c.act_both_sides-in-Comma.result (plain_stmts c.args.to.now.items) (plain_stmts c.act_both_sides-in-Comma.new.to.items)
+    c.act_both_sides-in-Comma.ensures.setup
+
+pub act::act-returns-in-Comma-clause-names : goal.act::act-returns-in-Comma-clause-names
+act::act-returns-in-Comma-clause-names t c =
+    act_takes_at c.args.names.now c.args.e.now (sym c.deref.ensures ∙ c.in-Comma.is) c.act_both_sides-in-Comma.result c.act_both_sides-in-Comma.new.names c.act_both_sides-in-Comma.ensures.names

@@ -1,5 +1,5 @@
 -- Assignments and increments.
-use Rattle.std.proofs.Common.{◌≡◌, Bool, ◌++◌, length, map, refl, ap, sym, subst, ◌∙◌}
+use Rattle.std.proofs.Common.{◌≡◌, ℕ, Bool, [], ◌∷◌, ◌++◌, length, map, refl, ap, sym, subst, ◌∙◌}
 use Rattle.std.specs.Prelude.{IfOk, OnOk, Option, if◌then◌else◌, pos}
 use Rattle.c_syntax.specs.declared.expression.BinOp.{BinOp}
 use Rattle.c_syntax.specs.Ctypes.{int_type, plain_type}
@@ -8,10 +8,11 @@ use Rattle.c_syntax.specs.Layouts.{scalars_of}
 use Rattle.c_syntax.specs.Programs.{plain_layout}
 use Rattle.mon_syntax.specs.declared.tree.MonExpr.{MonExpr}
 use Rattle.c_model.specs.Meaning.{bump_operator}
-use Rattle.mon_syntax.specs.declared.tree.MonType.TheVariants.{I32}
+use Rattle.mon_syntax.specs.declared.tree.MonType.TheVariants.{I32, Ptr}
+use Rattle.mon_syntax.specs.Registers.{next_register}
 use Rattle.mon_syntax.specs.Trees.{Constant, plain_expr as plain_monitored, plain_stmts}
-use Rattle.c_effects.specs.Expressions.{before, compound}
-use Rattle.c_effects.specs.Full.{act_takes, inner_offset, object_register, object_setup, object_takes, object_type, takes}
+use Rattle.c_effects.specs.Expressions.{before, compound, value_type}
+use Rattle.c_effects.specs.Full.{act_takes, inner_offset, member_type, object_register, object_setup, object_takes, object_type, takes}
 use Rattle.c_effects.specs.Effects.{copies_at, variable_register}
 use Rattle.c_effects.specs.Named.{unit_of, with_registers}
 use Rattle.c_effects.specs.Objects.{assign_of}
@@ -24,7 +25,7 @@ use Rattle.c_evaluation.specs.Ready.{early_new, early_setup, early_types, late_n
 use Rattle.c_evaluation.proofs.Acts.{taken_then}
 use Rattle.c_evaluation.proofs.Assignments.{bump_setup_is, direct_letters, objects_are, old_part_is, old_register_is, old_taken_is, right_part_is, right_setup_is}
 use Rattle.c_evaluation.proofs.Assignments.{struct_alone_code, struct_alone_takes, struct_code, struct_takes, struct_value}
-use Rattle.c_evaluation.proofs.EvaluationTrees.{two}
+use Rattle.c_evaluation.proofs.EvaluationTrees.{register_behind, set_behind, two}
 use Rattle.c_evaluation.proofs.Operands.{bumped_is, early_is, late_is}
 use Rattle.c_evaluation.proofs.Operands.{layouts_of, right_names_are, right_new_is, stepped_is}
 use Rattle.c_evaluation.proofs.Stored.{assign_alone_is, assign_alone_names, assign_names_are, assign_setup_is, assign_value_is, bump_alone_is, bump_names_are, bump_new_is, bump_old_is, bump_value_is}
@@ -146,6 +147,20 @@ assignment::object-returns-in-None-clause-names t c =
     let d = not_direct n e (sym c.in-None.is ∙ c.direct.ensures) in
     subst (λ (b : Bool). OnOk c.pointing.result (c.pointing.new.names ≡ with_registers (object_type b (takes (unit_of n) e)) n)) (sym d) c.pointing.ensures.names
 
+pub assignment::pointing-returns-clause-register : goal.assignment::pointing-returns-clause-register
+assignment::pointing-returns-clause-register t c =
+    if_ok_then c.in_register.result (λ (r : ℕ) last. register_behind c.args.names.now c.origin.new.names (plain_expr c.args.e.now) c.in_ok-object.ensures.names {r = r} last) c.in_register.ensures.register
+
+pub assignment::pointing-returns-clause-setup : goal.assignment::pointing-returns-clause-setup
+assignment::pointing-returns-clause-setup t c =
+    let object = c.in_ok-object in
+    on_ok_then c.in_register.result (set_behind c.args.names.now c.origin.new.names (plain_stmts c.args.to.now.items) (plain_expr c.args.e.now) (plain_monitored object.object) (origin_by c.args.names.now (plain_expr c.args.e.now))
+    object.ensures.setup object.ensures.names object.ensures.value) c.in_register.ensures.setup
+
+pub assignment::pointing-returns-clause-names : goal.assignment::pointing-returns-clause-names
+assignment::pointing-returns-clause-names t c =
+    on_ok_then c.in_register.result (taken_then c.args.names.now (takes (unit_of c.args.names.now) (plain_expr c.args.e.now)) (λ p. Ptr ∷ []) c.in_ok-object.ensures.names) c.in_register.ensures.names
+
 -- ---- what is ready to be stored
 
 pub assignment::right_ready-returns-clause-part : goal.assignment::right_ready-returns-clause-part
@@ -174,15 +189,23 @@ pub assignment::old_ready-returns-clause-value : goal.assignment::old_ready-retu
 assignment::old_ready-returns-clause-value t c =
     let object = c.in_ok-object in
     old_register_is c.args.names.now c.object.new.names (plain_stmts c.args.to.now.items) (plain_stmts c.object.new.to.items) (plain_expr c.args.left.0.now) object.object object.ensures.register
-    object.ensures.setup object.ensures.names (plain_stmts c.member_in.new.to.items) c.member_in.new.names c.in_ok-number.number c.in_ok-part.ensures.names c.in_ok-number.ensures.number
+    object.ensures.setup object.ensures.names (plain_stmts c.member_in.new.to.items) c.member_in.new.names c.in_ok-value.value c.in_ok-part.ensures.names c.in_ok-value.ensures.register
 
 pub assignment::old_ready-returns-clause-setup : goal.assignment::old_ready-returns-clause-setup
 assignment::old_ready-returns-clause-setup t c =
     let object = c.in_ok-object in
     let part = c.in_ok-part in
     old_taken_is c.args.names.now c.object.new.names (plain_stmts c.args.to.now.items) (plain_stmts c.object.new.to.items) (plain_expr c.args.left.0.now) object.object object.ensures.register
-    object.ensures.setup object.ensures.names (plain_stmts c.member_in.new.to.items) c.member_in.new.names (plain_stmts c.then.new.to.items) (plain_type c.args.left.1.now) part.part c.in_ok-number.number
-    (plain_monitored c.in_ok-old.old) part.ensures.setup part.ensures.register part.ensures.names c.in_ok-number.ensures.number c.in_ok-old.ensures c.in_ok-then.ensures
+    object.ensures.setup object.ensures.names (plain_stmts c.member_in.new.to.items) c.member_in.new.names (plain_stmts c.in_register.new.to.items) (plain_type c.args.left.1.now) part.part
+    (next_register c.member_in.new.names.table) (plain_monitored c.in_ok-old.old) part.ensures.setup part.ensures.register part.ensures.names refl c.in_ok-old.ensures c.in_ok-value.ensures.setup
+
+pub assignment::old_ready-returns-clause-names : goal.assignment::old_ready-returns-clause-names
+assignment::old_ready-returns-clause-names t c =
+    let n = c.args.names.now in
+    let a = plain_expr c.args.left.0.now in
+    let reached = taken_then n (object_takes (unit_of n) a) (λ p. member_type a) c.in_ok-object.ensures.names c.in_ok-part.ensures.names in
+    taken_then n (object_takes (unit_of n) a ++ member_type a) (λ p. value_type (plain_type c.args.left.1.now) ∷ []) reached
+    (c.in_ok-value.ensures.names ∙ ap (λ u. with_registers (u ∷ []) c.member_in.new.names) c.value_type.ensures)
 
 pub assignment::bump_ready-returns-clause-part : goal.assignment::bump_ready-returns-clause-part
 assignment::bump_ready-returns-clause-part t c =
@@ -530,3 +553,14 @@ assignment::assigned_location-returns-clause-value t c =
     let made = c.in_ok-object in
     let layouts = c.layouts.ensures ∙ ap layouts_of made.ensures.names in
     if_ok_then c.stepped.result (λ (m : MonExpr) last. stepped_is n (plain_expr c.args.left.0.now) {m = plain_monitored m} made.object (ap (map plain_layout) layouts) made.ensures.object last) c.stepped.ensures
+
+-- ---- letters of two sides
+
+pub assignment::right_ready-returns-clause-letters : goal.assignment::right_ready-returns-clause-letters
+assignment::right_ready-returns-clause-letters t c = (c.in_ok-object.ensures.letters, c.in_ok-right.ensures.letters)
+
+pub assignment::read_before-returns-clause-letters : goal.assignment::read_before-returns-clause-letters
+assignment::read_before-returns-clause-letters t c = (c.in_ok-taken.ensures.letters, c.in_ok-right.ensures.letters)
+
+pub assignment::assign_object-returns-clause-letters : goal.assignment::assign_object-returns-clause-letters
+assignment::assign_object-returns-clause-letters t c = (c.in_ok-place.ensures.letters, c.in_ok-source.ensures.letters)
