@@ -1,0 +1,12 @@
+use Rattle.mon_syntax.specs.Trees.{plain_program}
+use Rattle.eacsl_engine.proofs.Runs.{exec_ends, unused}
+use Rattle.eacsl_engine.proofs.engine.exec_text.Goals as goal
+
+pub returns-in-Ok : goal.returns-in-Ok
+returns-in-Ok g c = exec_ends _ _ _ _ _ (plain_program c.in-Ok.monitored) c.executed.result c.in-Ok.ensures.spelled c.executed.ensures
+
+pub returns-in-Err-Refused : goal.returns-in-Err-Refused
+returns-in-Err-Refused g c = rw c.in-Err-Refused.field-0-is (rw c.in-Err-Refused.field-0-is at c.in-Err-Refused.ensures.spelled, unused)
+
+pub returns-in-Err-Memory : goal.returns-in-Err-Memory
+returns-in-Err-Memory g c = unused
