@@ -183,12 +183,6 @@ pub data Answered (Due : Answer → Type 0) (Begin : List ℕ → Type 0) (out e
   NoMemory : (sent line : List ℕ) (k : ℕ) → status ≡ no_memory_status → Begin sent → out.told' ≡ more out.told sent → out.faults' ≡ out.faults
       → IsLine Due sent line → err.told' ≡ more err.told (take k line) → err.faults' ≡ err.faults → Answered Due Begin out err status
 
--- the program translates that of an accepted text
-pub record IsTranslated (text : List ℕ) (m : MonitoredProgram) : Type 0 where
-  pub program : TranslationUnit
-  pub accepted : AcceptedText text program
-  pub translates : Translates program m
-
 -- How one line is put with a status: wholly, or the sink failed (8), or memory ran out (9), with a beginning of the line.
 pub data IsSaid (line : List ℕ) (status : ℕ) (err : Change) (result : ℕ) : Type 0 where
   Whole : result ≡ status → err.told' ≡ more err.told line → err.faults' ≡ err.faults → IsSaid line status err result

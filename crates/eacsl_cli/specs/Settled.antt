@@ -1,11 +1,16 @@
 -- Ours: steps on the way to the answers of Answers.
 -- How a line was said, where there may be no memory for it, and what the end of a run reports.
 use Rattle.std.specs.Prelude.{◌≡◌, ℕ, List, Option, Some, None}
+use Rattle.c_syntax.specs.Programs.{plain_refusal}
 use Rattle.c_model.specs.MonitoredRuns.{Exits, Broken, Fault, Spent, Full, ReadFault}
-use Rattle.c_model.specs.Statuses.{write_fault_status, no_memory_status}
-use Rattle.c_model.specs.Reports.{Report, machine_report}
+use Rattle.c_model.specs.Statuses.{exited_status, refused_status, write_fault_status, no_memory_status}
+use Rattle.c_model.specs.Reports.{Report, machine_report, line_of, refused_words}
 use Rattle.c_machine.specs.declared.stop.Stop.{Stop}
 use Rattle.c_machine.specs.declared.stop.Stop.TheVariants as stop
+use Rattle.eacsl_engine.specs.declared.ended.Done.{Done}
+use Rattle.eacsl_engine.specs.declared.ended.Done.TheVariants as done_as
+use Rattle.eacsl_engine.specs.declared.ended.Ended.{Ended}
+use Rattle.eacsl_engine.specs.declared.ended.Ended.TheVariants as ended
 use Rattle.eacsl_cli.specs.Answers.{Change, IsSaid, memory_line}
 
 -- a line that is made when it is said: it was said with the status, or there was no memory for it, and that was said
@@ -36,16 +41,16 @@ pub record IsReported (end : Stop) (err : Change) (result : ℕ) : Type 0 where
   pub is : report_of end ≡ Some said
   pub settled : IsSettled said.line said.status err result
 
--- nothing is said where the output failed
-pub record IsSilent (err : Change) (result : ℕ) : Type 0 where
-  pub status : result ≡ write_fault_status
+-- nothing is said beside this status
+pub record IsSilent (given : ℕ) (err : Change) (result : ℕ) : Type 0 where
+  pub status : result ≡ given
   pub told : err.told' ≡ err.told
   pub faults : err.faults' ≡ err.faults
 
 -- What is said of an end. Only the line of an exit and that of a broken annotation take memory, since numbers stand in them;
 -- any other line becomes that of status 9 only by the sink's own answer.
 abbrev pub Reported : Stop → Change → ℕ → Type 0
-Reported stop.WriteFault err result = IsSilent err result
+Reported stop.WriteFault err result = IsSilent write_fault_status err result
 Reported stop.OutOfMemory err result = IsSaid memory_line no_memory_status err result
 Reported (stop.Exit z) err result = IsReported (stop.Exit z) err result
 Reported (stop.Broken number line kind how) err result = IsReported (stop.Broken number line kind how) err result
@@ -53,3 +58,16 @@ Reported stop.Spent err result = IsTold stop.Spent err result
 Reported (stop.Full segment) err result = IsTold (stop.Full segment) err result
 Reported stop.Fault err result = IsTold stop.Fault err result
 Reported stop.ReadFault err result = IsTold stop.ReadFault err result
+
+-- what is said of how a text was run
+abbrev pub EndedSaid : Ended → Change → ℕ → Type 0
+EndedSaid (ended.Finished ran annotations monitored code) err result = Reported ran.stop err result
+EndedSaid (ended.Refused r) err result = IsSettled (line_of (refused_words (plain_refusal r))) refused_status err result
+EndedSaid ended.OutOfMemory err result = IsSaid memory_line no_memory_status err result
+
+-- what is said of how its translation was written
+abbrev pub DoneSaid : Done → Change → ℕ → Type 0
+DoneSaid done_as.Written err result = IsSilent exited_status err result
+DoneSaid (done_as.Refused r) err result = IsSettled (line_of (refused_words (plain_refusal r))) refused_status err result
+DoneSaid done_as.WriteFault err result = IsSilent write_fault_status err result
+DoneSaid done_as.OutOfMemory err result = IsSaid memory_line no_memory_status err result

@@ -1,36 +1,28 @@
 //! The top call.
 
-ghost use Rattle.std.specs.Prelude.{◌≡◌, ◌≤◌, List, MatchResult, None, Some, length, map, string_bytes};
+ghost use Rattle.std.specs.Prelude.{◌≡◌, ◌≤◌, List, None, Some, length, map, string_bytes};
 ghost use Rattle.c_syntax.specs.Programs.{plain_refusal};
-ghost use Rattle.c_model.specs.Limits.{globals_bytes, most_annotated, most_monitored};
+ghost use Rattle.c_model.specs.Limits.{most_annotated, most_monitored};
 ghost use Rattle.c_model.specs.Reports.{line_of, refused_words};
 ghost use Rattle.c_model.specs.Statuses.{fault_status, no_memory_status, refused_status};
 ghost use Rattle.c_model.specs.WordLaws.{file_named};
 ghost use Rattle.c_model.specs.Words.{job_of};
-ghost use Rattle.mon_syntax.specs.Globals.{globals_taken};
-ghost use Rattle.mon_syntax.specs.Trees.{plain_program};
-ghost use Rattle.c_reader.specs.Answers.{Refuses};
 ghost use Rattle.c_machine.specs.Inputs.{taking};
-ghost use Rattle.eacsl_cli.specs.Answers.{Answered, AnswersOnInput, Begins, BeginsOnInput, ExecBegins, ExecDue, InstrumentBegins, InstrumentDue, IsDue, IsSaid};
-ghost use Rattle.eacsl_cli.specs.Answers.{IsTranslated, RunBegins, RunDue, TextBegins, TextDue, change, file_limit, memory_line};
-ghost use Rattle.eacsl_cli.specs.Settled.{IsReported, IsSettled, IsTold, Reported};
+ghost use Rattle.eacsl_cli.specs.Answers.{Answered, Begins, ExecBegins, ExecDue, InstrumentBegins, InstrumentDue, IsDue, IsSaid, RunBegins, RunDue};
+ghost use Rattle.eacsl_cli.specs.Answers.{TextBegins, TextDue, change, file_limit, memory_line};
+ghost use Rattle.eacsl_cli.specs.Settled.{DoneSaid, EndedSaid, IsReported, IsSettled, IsTold, Reported};
 ghost use Rattle.eacsl_cli.specs.Complete.{Complete, IsStatus, LeavesSource};
 ghost use Rattle.eacsl_cli.specs.Faults.{ShowsFault};
 
 use crate::lines::{broken_line, exit_line, refused_line, say};
 use crate::status;
-use c_lower::lower;
-use c_machine::{Stop, run};
+use c_machine::Stop;
 use c_model::limits::{MOST_ANNOTATED, MOST_MONITORED};
 use c_model::{FileName, Job};
-use c_printer::print;
-use c_reader::read_text;
-use c_syntax::{FrontFault, How, Kind, Refusal, Segment};
+use c_syntax::{How, Kind, Refusal, Segment};
 use command_words::read_words;
-use ea_ports::{FetchFault, Folder, Sink, SinkFault, Source};
-use instrument::instrument;
-use mon_reader::read_monitored;
-use mon_syntax::MonProgram;
+use ea_ports::{FetchFault, Folder, Sink, Source};
+use eacsl_engine::{Done, Ended, exec_text, instrument_text, run_text};
 use std::alloc::{AllocError, Global};
 
 // Says that memory ran out.
@@ -109,44 +101,31 @@ fn refuse<E: Sink>(alloc: Global, refusal: &Refusal, err: &mut E) -> u8
     }
 }
 
-// Runs a program in monitored C with so many steps, and says how it ended.
-fn execute<I: Source, O: Sink, E: Sink>(
-    alloc: Global,
-    m: &MonProgram,
-    steps: u64,
-    input: &mut I,
-    out: &mut O,
-    err: &mut E,
-) -> u8
-    requires { globals_taken (plain_program m.now).globals ≤ globals_bytes }
-    ensures { Answered (AnswersOnInput (taking (I.left input.old) (I.left input.new) (I.faults input.old) (I.faults input.new)) (plain_program m.now) steps)
-        (BeginsOnInput (taking (I.left input.old) (I.left input.new) (I.faults input.old) (I.faults input.new)) (plain_program m.now) steps)
-        (change (O.told out.old) (O.told out.new) (O.faults out.old) (O.faults out.new)) (change (E.told err.old) (E.told err.new) (E.faults err.old)
-        (E.faults err.new)) result }
+// Says how a text was run, or why it is refused.
+fn report_ended<E: Sink>(alloc: Global, ended: &Ended, err: &mut E) -> u8
+    ensures { EndedSaid ended.now (change (E.told err.old) (E.told err.new) (E.faults err.old) (E.faults err.new)) result }
 {
-    let code = match lower(alloc, m) {
-        Ok(code) => code,
-        Err(_) => return out_of_memory(err),
-    };
-    let ran = run(alloc, &code, steps, input, out);
-    report_stop(alloc, ran.stop, err)
+    match ended {
+        Ended::Finished { ran, .. } => report_stop(alloc, ran.stop, err),
+        Ended::Refused(refusal) => refuse(alloc, refusal, err),
+        Ended::OutOfMemory => out_of_memory(err),
+    }
 }
 
-// Translates the annotated program that a text spells into monitored C.
-fn translated(alloc: Global, text: &[u8]) -> Result<MonProgram, FrontFault>
-    requires { length text.now ≤ most_annotated }
-    ensures { MatchResult result (λ m. IsTranslated text.now (plain_program m)) (λ fault. Refuses fault text.now) }
+// Says why a text isn't written; nothing where it is, and where the output failed.
+fn report_done<E: Sink>(alloc: Global, done: &Done, err: &mut E) -> u8
+    ensures { DoneSaid done.now (change (E.told err.old) (E.told err.new) (E.faults err.old) (E.faults err.new)) result }
 {
-    let program = match read_text(alloc, text) {
-        Ok(program) => program,
-        Err(fault) => return Err(fault),
-    };
-    let m = instrument(alloc, &program)?;
-    Ok(m)
+    match done {
+        Done::Written => status::EXITED,
+        Done::Refused(refusal) => refuse(alloc, refusal, err),
+        Done::WriteFault => status::WRITE_FAULT,
+        Done::OutOfMemory => out_of_memory(err),
+    }
 }
 
-/// Runs the annotated program that a text spells with so many steps, or says why the text is refused.
-pub fn run_text<I: Source, O: Sink, E: Sink>(
+// Runs the annotated program that a text spells with so many steps, and says how it ended.
+fn run_file<I: Source, O: Sink, E: Sink>(
     alloc: Global,
     text: &[u8],
     steps: u64,
@@ -160,33 +139,22 @@ pub fn run_text<I: Source, O: Sink, E: Sink>(
         (change (O.told out.old) (O.told out.new) (O.faults out.old) (O.faults out.new)) (change (E.told err.old) (E.told err.new) (E.faults err.old)
         (E.faults err.new)) result }
 {
-    match translated(alloc, text) {
-        Ok(m) => execute(alloc, &m, steps, input, out, err),
-        Err(FrontFault::Refused(refusal)) => refuse(alloc, &refusal, err),
-        Err(FrontFault::Memory) => out_of_memory(err),
-    }
+    let ended = run_text(alloc, text, steps, input, out);
+    report_ended(alloc, &ended, err)
 }
 
-/// Writes the monitored text of the annotated program that a text spells, or says why the text is refused.
-pub fn instrument_text<O: Sink, E: Sink>(alloc: Global, text: &[u8], out: &mut O, err: &mut E) -> u8
+// Writes the monitored text of the annotated program that a text spells, or says why the text is refused.
+fn instrument_file<O: Sink, E: Sink>(alloc: Global, text: &[u8], out: &mut O, err: &mut E) -> u8
     requires { length text.now ≤ most_annotated }
     ensures { Answered (InstrumentDue text.now) (InstrumentBegins text.now) (change (O.told out.old) (O.told out.new) (O.faults out.old) (O.faults out.new))
         (change (E.told err.old) (E.told err.new) (E.faults err.old) (E.faults err.new)) result }
 {
-    let m = match translated(alloc, text) {
-        Ok(m) => m,
-        Err(FrontFault::Refused(refusal)) => return refuse(alloc, &refusal, err),
-        Err(FrontFault::Memory) => return out_of_memory(err),
-    };
-    match print(&m, out) {
-        Ok(()) => status::EXITED,
-        Err(SinkFault::Failed) => status::WRITE_FAULT,
-        Err(SinkFault::Memory) => out_of_memory(err),
-    }
+    let done = instrument_text(alloc, text, out);
+    report_done(alloc, &done, err)
 }
 
-/// Runs the program in monitored C that a text spells with so many steps, or says why the text is refused.
-pub fn exec_text<I: Source, O: Sink, E: Sink>(
+// Runs the program in monitored C that a text spells with so many steps, and says how it ended.
+fn exec_file<I: Source, O: Sink, E: Sink>(
     alloc: Global,
     text: &[u8],
     steps: u64,
@@ -200,11 +168,8 @@ pub fn exec_text<I: Source, O: Sink, E: Sink>(
         (change (O.told out.old) (O.told out.new) (O.faults out.old) (O.faults out.new)) (change (E.told err.old) (E.told err.new) (E.faults err.old)
         (E.faults err.new)) result }
 {
-    match read_monitored(alloc, text) {
-        Ok(m) => execute(alloc, &m, steps, input, out, err),
-        Err(FrontFault::Refused(refusal)) => refuse(alloc, &refusal, err),
-        Err(FrontFault::Memory) => out_of_memory(err),
-    }
+    let ended = exec_text(alloc, text, steps, input, out);
+    report_ended(alloc, &ended, err)
 }
 
 // Does a job on the text of its file.
@@ -224,9 +189,9 @@ fn do_job<I: Source, O: Sink, E: Sink>(
     ensures unread { LeavesSource (Some job.now) (taking (I.left input.old) (I.left input.new) (I.faults input.old) (I.faults input.new)) }
 {
     match job {
-        Job::Run { steps, .. } => run_text(alloc, text, *steps, input, out, err),
-        Job::Instrument { .. } => instrument_text(alloc, text, out, err),
-        Job::Exec { steps, .. } => exec_text(alloc, text, *steps, input, out, err),
+        Job::Run { steps, .. } => run_file(alloc, text, *steps, input, out, err),
+        Job::Instrument { .. } => instrument_file(alloc, text, out, err),
+        Job::Exec { steps, .. } => exec_file(alloc, text, *steps, input, out, err),
     }
 }
 

@@ -5,5 +5,5 @@ mod answer;
 mod lines;
 pub mod status;
 
-pub use answer::{eacsl, exec_text, instrument_text, run_text};
+pub use answer::eacsl;
 pub use command_words::read_words;
