@@ -42,6 +42,10 @@ mod ports;
 
 // the whole
 #[cfg(test)]
+mod broken;
+#[cfg(test)]
+mod engine;
+#[cfg(test)]
 mod program;
 
 // what the tests compare with
