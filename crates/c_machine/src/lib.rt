@@ -26,6 +26,7 @@ mod forms;
 mod frames;
 mod kept_values;
 mod leaps;
+mod lone_forms;
 mod sequences;
 mod series;
 mod singles;
