@@ -1,7 +1,7 @@
 #!/bin/bash
 # Prints what effects inside expressions and `switch` take. First the processor's instructions, counted by valgrind: of a call of fib, written
 # as one sum of two calls and with two variables; of an element that a loop adds by `s += a[i++]` in its step, and written out; of one that
-# `a[i++] = b[j++]` copies, and written out; of a `switch` that takes the first, the middle and the last of 256 cases, and none of them, without the
+# `a[i++] = b[j++]` copies, and written out; of a byte that `while ((c = getchar()) != EOF)` reads; of a `switch` that takes the first, the middle and the last of 256 cases, and none of them, without the
 # loop around it; of a case that the search passes, with the sixteenth part of a test in front of 16 cases; and of a test in front of a case's items.
 # Then the seconds in which a `switch` of 60,000 cases is read, typed and translated. It measures the proved program; `printf` has bench/print.sh.
 set -euo pipefail
@@ -140,6 +140,15 @@ unit_takes() {
   awk -v units="$units" -v a="$few" -v b="$many" 'BEGIN { printf "%.1f", (b - a) / units }'
 }
 
+# those of a byte that a loop reads, by inputs of two lengths
+byte_takes() {
+  local few many
+  printf '#include <stdio.h>\nint main(void) {\n  int c;\n  while ((c = getchar()) != EOF) ;\n  return 0;\n}\n' >"$scratch/reads.c"
+  few=$(head -c 1000 /dev/zero | instructions_of "$program" run "$scratch/reads.c")
+  many=$(head -c 101000 /dev/zero | instructions_of "$program" run "$scratch/reads.c")
+  awk -v a="$few" -v b="$many" 'BEGIN { print (b - a) / 100000 }'
+}
+
 figure() {
   awk -v name="$1" -v z="$2" 'BEGIN { printf "%-56s %10.1f\n", name, z }'
 }
@@ -155,6 +164,7 @@ figure 'an element by s += a[i++] in the step' "$(unit_takes in_step 10 110 1000
 figure 'the same written out' "$(unit_takes in_body 10 110 100000)"
 figure 'an element by a[i++] = b[j++]' "$(unit_takes copied_in_one 10 110 100000)"
 figure 'the same written out' "$(unit_takes copied_by_index 10 110 100000)"
+figure 'a byte that while ((c = getchar()) != EOF) reads' "$(byte_takes)"
 
 without=$(unit_takes no_switch 1000 2000 1000)
 for which in first middle last none; do
