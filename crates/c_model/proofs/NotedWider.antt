@@ -5,14 +5,14 @@ use Rattle.c_syntax.specs.declared.expression.Use.{Use}
 use Rattle.c_syntax.specs.Ctypes.{PlainType}
 use Rattle.c_syntax.specs.Logic.{LogicTerm, Number, Letter, Variable, Unary, Binary, Cast, Choice, Named, Links, NoLink, Linked, Predicate, Truth, NonZero}
 use Rattle.c_syntax.specs.Logic.{Chain, Not, Connected, Branch, Quantified, ClauseBody, Raw, Holds, Value, Annotation, At, Behaviors, Null, Deref, Member}
-use Rattle.c_syntax.specs.Logic.{Address, Moved, Difference, Told, Asks, Separated}
+use Rattle.c_syntax.specs.Logic.{Address, Moved, Difference, Told, Asks, Separated, Zone, Object, Elements, Zones, NoZone, Another}
 use Rattle.c_syntax.specs.Statements.{Statement, Empty, Eval, Block, If, While, Do, For, Break, Continue, Return, ElsePart, NoElse, Else, BlockItem, Declare, Specify}
 use Rattle.c_syntax.specs.Statements.{Run, Asserts, BlockItems, NoItem, Then, Labelled, Switch, Cases, NoCase, AnotherCase}
 use Rattle.c_syntax.specs.Programs.{StructType, Function}
 use Rattle.c_model.specs.ExpressionTyping.{Sight, inner}
 use Rattle.c_model.specs.StatementTyping.{behind, behind_first}
 use Rattle.c_model.specs.UnitTyping.{with_parameters}
-use Rattle.c_model.specs.TypedPredicates.{TermDenotes, TermTyped, LinksTyped, PredicateTyped, ClauseTyped, AnnotationsTyped}
+use Rattle.c_model.specs.TypedPredicates.{TermDenotes, TermTyped, LinksTyped, ZoneTyped, ZonesTyped, PredicateTyped, ClauseTyped, AnnotationsTyped}
 use Rattle.c_model.specs.TypedAnnotations.{StatementNoted, ElseNoted, ItemNoted, ItemsNoted, BodyNoted, FunctionNoted}
 use Rattle.c_model.proofs.StableStatements.{at_last, behind_last, first_last, parameters_last}
 
@@ -27,7 +27,6 @@ module _ (structs : List StructType) (levels tags enums : List ℕ)
     denotes_wider s t x h = record {
       ctype = h.ctype;
       is = h.is;
-      int = h.int;
       denotes = record { object = h.denotes.object; found = h.denotes.found; decl = h.denotes.decl; ctype = h.denotes.ctype };
     }
 
@@ -36,34 +35,42 @@ module _ (structs : List StructType) (levels tags enums : List ℕ)
       term_wider s (Number at t r n) h = h
       term_wider s (Letter at t r n) h = h
       term_wider s (Variable at t r x) h = denotes_wider s t x h
-      term_wider s (Unary at t r op a) h = (h.0, h.1, term_wider s a h.2)
-      term_wider s (Binary at t r op a b) h = (h.0, term_wider s a h.1, term_wider s b h.2)
-      term_wider s (Cast at t r to a) h = (h.0, h.1, term_wider s a h.2)
+      term_wider s (Unary at t r op a) h = (h.0, h.1, h.2, term_wider s a h.3)
+      term_wider s (Binary at t r op a b) h = (h.0, h.1, h.2, term_wider s a h.3, term_wider s b h.4)
+      term_wider s (Cast at t r to a) h = (h.0, term_wider s a h.1)
       term_wider s (Choice at t r c a b) h = (h.0, predicate_wider s c h.1, term_wider s a h.2, term_wider s b h.3)
       term_wider s (Named at t r x) h = absurd h
       term_wider s (At at t r l a) h = absurd h
-      term_wider s (Null at t r) h = absurd h
-      term_wider s (Deref at t r a) h = absurd h
-      term_wider s (Member at t r d a) h = absurd h
-      term_wider s (Address at t r a) h = absurd h
-      term_wider s (Moved at t r op n a b) h = absurd h
-      term_wider s (Difference at t r n a b) h = absurd h
-      term_wider s (Told at t r f a) h = absurd h
+      term_wider s (Null at t r) h = h
+      term_wider s (Deref at t r a) h = (h.0, h.1, h.2, term_wider s a h.3)
+      term_wider s (Member at t r d a) h = (h.0, h.1, h.2, h.3, h.4, term_wider s a h.5, h.6)
+      term_wider s (Address at t r a) h = (h.0, h.1, h.2, h.3, term_wider s a h.4)
+      term_wider s (Moved at t r op n a b) h = (h.0, h.1, h.2, h.3, term_wider s a h.4, term_wider s b h.5, h.6)
+      term_wider s (Difference at t r n a b) h = (h.0, h.1, h.2, term_wider s a h.3, term_wider s b h.4, h.5)
+      term_wider s (Told at t r f a) h = (h.0, h.1, term_wider s a h.2)
 
-      links_wider : (s : Sight) (links : Links) → LinksTyped (narrow s) links → LinksTyped s links
-      links_wider s NoLink h = tt
-      links_wider s (Linked at r t rest) h = (term_wider s t h.0, links_wider s rest h.1)
+      links_wider : (s : Sight) (a : LogicTerm) (links : Links) → LinksTyped (narrow s) a links → LinksTyped s a links
+      links_wider s a NoLink h = tt
+      links_wider s a (Linked at r t rest) h = (h.0, term_wider s t h.1, links_wider s t rest h.2)
+
+      zone_wider : (s : Sight) (z : Zone) → ZoneTyped (narrow s) z → ZoneTyped s z
+      zone_wider s (Object at n m a) h = (h.0, term_wider s a h.1, h.2, h.3)
+      zone_wider s (Elements at n m a lo hi) h = (h.0, h.1, h.2, term_wider s a h.3, term_wider s lo h.4, term_wider s hi h.5, h.6, h.7)
+
+      zones_wider : (s : Sight) (zs : Zones) → ZonesTyped (narrow s) zs → ZonesTyped s zs
+      zones_wider s NoZone h = tt
+      zones_wider s (Another z rest) h = (zone_wider s z h.0, zones_wider s rest h.1)
 
       predicate_wider : (s : Sight) (p : Predicate) → PredicateTyped (narrow s) p → PredicateTyped s p
       predicate_wider s (Truth at b) h = tt
-      predicate_wider s (NonZero at t) h = term_wider s t h
-      predicate_wider s (Chain at t links) h = (term_wider s t h.0, links_wider s links h.1)
+      predicate_wider s (NonZero at t) h = (h.0, term_wider s t h.1)
+      predicate_wider s (Chain at t links) h = (term_wider s t h.0, links_wider s t links h.1, h.2)
       predicate_wider s (Not at p) h = predicate_wider s p h
       predicate_wider s (Connected at c p q) h = (predicate_wider s p h.0, predicate_wider s q h.1)
       predicate_wider s (Branch at c p q) h = (predicate_wider s c h.0, predicate_wider s p h.1, predicate_wider s q h.2)
       predicate_wider s (Quantified at q gs p) h = absurd h
-      predicate_wider s (Asks at f z) h = absurd h
-      predicate_wider s (Separated at zs) h = absurd h
+      predicate_wider s (Asks at f z) h = zone_wider s z h
+      predicate_wider s (Separated at zs) h = zones_wider s zs h
 
     clause_wider : (s : Sight) (b : ClauseBody) → ClauseTyped (narrow s) b → ClauseTyped s b
     clause_wider s (Raw f) h = absurd h

@@ -1,86 +1,404 @@
 -- Annotations that are typed are well typed.
-use Rattle.std.proofs.Common.{◌≡◌, ℕ, refl, List, [], ◌∷◌, Option, Some, None, Bool, true, false}
+use Rattle.std.proofs.Common.{◌≡◌, ℕ, ◌≤◌, ◌⊎◌, ◌&&◌, ◌||◌, ℤ, pos, refl, sym, ap, subst, arith, inl, inr, List, [], ◌∷◌, Option, Some, None, Bool, true, false, cond, not}
+use Rattle.std.proofs.lemmas.Bool.{leb-true}
+use Rattle.std.proofs.lemmas.Bool.Decides.{Decides-int_eq, nat_tests}
+use Rattle.std.specs.Ordering.{int_eq}
+use Rattle.std.specs.Prelude.{nat_le, nat_eq}
 use Rattle.c_syntax.specs.declared.place.Place.{Place}
+use Rattle.c_syntax.specs.declared.types.CInt.{CInt}
 use Rattle.c_syntax.specs.declared.expression.UnOp.{UnOp}
 use Rattle.c_syntax.specs.declared.expression.UnOp.TheVariants as unary
 use Rattle.c_syntax.specs.declared.expression.BinOp.{BinOp}
-use Rattle.c_syntax.specs.Ctypes.{PlainType}
+use Rattle.c_syntax.specs.declared.expression.BinOp.TheVariants as operator
+use Rattle.c_syntax.specs.declared.logic.BlockFact.{BlockFact}
+use Rattle.c_syntax.specs.declared.logic.Connective.{Connective}
+use Rattle.c_syntax.specs.declared.logic.MemoryQuestion.{MemoryQuestion}
+use Rattle.c_syntax.specs.declared.logic.MemoryQuestion.TheVariants.{Valid, ValidRead, Initialized}
+use Rattle.c_syntax.specs.declared.logic.PointerOp.TheVariants.{Plus, Minus}
+use Rattle.c_syntax.specs.Ctypes.{PlainType, Void, Int, Ptr, Array, Struct, StructTag, EnumTag}
+use Rattle.c_syntax.specs.Ctypes as ctype
 use Rattle.c_syntax.specs.Formulas as read
-use Rattle.c_syntax.specs.Formulas.{CastType, Integers, OfC, Form, FormLinks}
-use Rattle.c_syntax.specs.Logic.{Links, Linked, ClauseBody, Raw, Holds, Value, Annotation, Behaviors}
+use Rattle.c_syntax.specs.Formulas.{CastType, Integers, OfC, Form, FormLinks, FormZone, FormZones}
+use Rattle.c_syntax.specs.Logic.{LogicTerm, Number, Chain, Deref, Links, NoLink, Linked, Predicate, Asks, Separated, Zone, Zones, Another, ClauseBody, Raw, Holds, Value, Annotation, Behaviors}
+use Rattle.c_syntax.specs.Layouts.{size_of, align_of, member_among, members_of}
 use Rattle.c_model.specs.Integers.{integer_type}
 use Rattle.c_model.specs.Library.{library_constant, is_there}
-use Rattle.c_model.specs.Checked.{Fault, Checked, Good, Bad, given, one_part, pair_of}
-use Rattle.c_model.specs.ExpressionTyping.{no_name, no_type, Entity, AnObject, AnEnumerator, Sight, name_at, entity_named, besides, is_within_limits, too_large, limited, typed_type, known_type}
-use Rattle.c_model.specs.PredicateTyping.{Sorted, ATerm, APredicate, as_term, as_predicate, object_term, number, term_named, on_integer, unary_on, on_integers, cast_as, cast, size_in, connected, chosen}
-use Rattle.c_model.specs.PredicateTyping.{is_predicate, right_side, related, typed_form, typed_links, typed_clause, typed_annotations}
-use Rattle.c_model.specs.TypedPredicates.{IsOnInteger, IsCastType, TermTyped, LinksTyped, PredicateTyped, ClauseTyped, AnnotationsTyped, IsRead, AreRead, TypedAnnotationsAreKnown}
-use Rattle.c_model.proofs.TypedParts.{Gives, gives_of, gives_one, gives_both, gives_given, gives_where, gives_sized, there_is}
+use Rattle.c_model.specs.Checked.{Fault, Checked, Good, Bad, faulty, given, where_so, one_part, pair_of}
+use Rattle.c_model.specs.ExpressionTyping as c
+use Rattle.c_model.specs.ExpressionTyping.{no_name, no_type, Entity, AnObject, AnEnumerator, Sight, name_at, entity_named, is_null_word, is_void, is_struct, is_scalar, besides, is_within_limits, most_bytes, too_large, limited, typed_type, known_type}
+use Rattle.c_model.specs.PredicateTyping.{range_to_infer, place_of_term, Sorted, ATerm, APredicate, APlace, ValueSort, AnInteger, APointer, NoValue, type_of_term, sort_of_term, is_integer, pointee, as_value, value_in, as_term, as_integer, as_pointer}
+use Rattle.c_model.specs.PredicateTyping.{integer_holds, as_predicate, object_place, number, null, library_term, term_named, on_integer, on_integers, deref, address, address_at, member_at, member_of, dot, arrow, are_known, with_terms}
+use Rattle.c_model.specs.PredicateTyping.{sum_of, difference_of, element_of, sum, difference, index, unary_on, binary_on, cast_integer, cast_pointer, cast, size_in, connected, choice_target, pointer_choice, choice_of_terms, branch, choice_between}
+use Rattle.c_model.specs.PredicateTyping.{chosen, Side, AnySide, IntegerSide, ZeroSide, PointerSide, OtherSide, side_of_sort, side_of_sorted, side_of, are_related, right_side, related, told, where_asked, object_zone, elements_zone}
+use Rattle.c_model.specs.PredicateTyping.{is_alignment, is_measured, where_measured, typed_form, typed_links, typed_zone, typed_zones, clause_holds, typed_clause, typed_annotations}
+use Rattle.c_model.specs.TypedPredicates.{IsIntegerTerm, IsPointerTerm, PointsTo, IsPlace, IsZeroTerm, AreRelated, IsOnInteger, IsCastType, OfInteger, OfPointer, BetweenIntegers, BetweenPointers, TermTyped, LinksTyped, ZoneTyped, ZonesTyped}
+use Rattle.c_model.specs.TypedPredicates.{IsSize, IsExtent, IsAlignment, HasLink, PredicateTyped, ClauseTyped, AnnotationsTyped, IsRead, AreRead, TypedAnnotationsAreKnown}
+use Rattle.c_model.proofs.TypedParts.{Gives, gives_of, gives_one, gives_both, gives_given, gives_where, gives_sized, and_true, there_is}
 
 -- what is known of a form by its sort
 abbrev SortedTyped : Sight → Sorted → Type 0
 SortedTyped s (ATerm t) = TermTyped s t
 SortedTyped s (APredicate p) = PredicateTyped s p
+SortedTyped s (APlace t) = IsPlace t × TermTyped s t
+
+abbrev IntegerTyped : Sight → LogicTerm → Type 0
+IntegerTyped s t = IsIntegerTerm t × TermTyped s t
+
+abbrev PointerTyped : Sight → PlainType × LogicTerm → Type 0
+PointerTyped s p = PointsTo p.0 p.1 × TermTyped s p.1
+
+-- ---- tests of sorts
+
+integer_is : (k : ValueSort) → is_integer k ≡ true → k ≡ AnInteger
+integer_is AnInteger e = refl
+integer_is (APointer t) e = absurd cc
+integer_is NoValue e = absurd cc
+
+pointee_is : (k : ValueSort) (u : PlainType) → pointee k ≡ Some u → k ≡ APointer u
+pointee_is AnInteger u e = absurd cc
+pointee_is (APointer t) u e = let f : t ≡ u = cc in ap APointer f
+pointee_is NoValue u e = absurd cc
+
+struct_is : (u : PlainType) → is_struct u ≡ true → (n : ℕ) × (u ≡ Struct n)
+struct_is (Struct n) e = (n, refl)
+struct_is Void e = absurd cc
+struct_is (Int k) e = absurd cc
+struct_is (Ptr t) e = absurd cc
+struct_is (Array t n) e = absurd cc
+struct_is (ctype.Named x) e = absurd cc
+struct_is (StructTag x tag) e = absurd cc
+struct_is (EnumTag x at) e = absurd cc
 
 -- ---- what forms demand of their parts
+
+value_well : (s : Sight) (a : Sorted) → SortedTyped s a → Gives (SortedTyped s) (as_value a)
+value_well s (ATerm t) w = w
+value_well s (APredicate p) w = w
+value_well s (APlace t) w = by (sort_of_term t)
+  where
+    by : (k : ValueSort) → Gives (SortedTyped s) (elim k [ AnInteger ↦ Good (ATerm t) | APointer u ↦ Good (ATerm t) | NoValue ↦ faulty (no_type (place_of_term t)) ])
+    by AnInteger = w.1
+    by (APointer u) = w.1
+    by NoValue = tt
+
+values_well : (s : Sight) (k : Checked Sorted) → Gives (SortedTyped s) k → Gives (SortedTyped s) (value_in k)
+values_well s k w = gives_one (SortedTyped s) (SortedTyped s) k as_value w (value_well s)
 
 term_well : (s : Sight) (at : Place) (a : Sorted) → SortedTyped s a → Gives (TermTyped s) (as_term at a)
 term_well s at (ATerm t) w = w
 term_well s at (APredicate p) w = tt
+term_well s at (APlace t) w = w.1
 
-predicate_well : (s : Sight) (a : Sorted) → SortedTyped s a → PredicateTyped s (as_predicate a)
-predicate_well s (ATerm t) w = w
-predicate_well s (APredicate p) w = w
+integer_well : (s : Sight) (at : Place) (a : Sorted) → SortedTyped s a → Gives (IntegerTyped s) (as_integer at a)
+integer_well s at a w =
+    gives_one (TermTyped s) (IntegerTyped s) (as_term at a) _ (term_well s at a w) (λ t v. gives_where (IntegerTyped s) (is_integer (sort_of_term t)) (no_type at) (Good t) (λ e. (integer_is (sort_of_term t) e, v)))
+
+pointer_well : (s : Sight) (at : Place) (a : Sorted) → SortedTyped s a → Gives (PointerTyped s) (as_pointer at a)
+pointer_well s at a w =
+    gives_one (TermTyped s) (PointerTyped s) (as_term at a) _ (term_well s at a w) (λ t v. gives_given (PointerTyped s) (pointee (sort_of_term t)) (no_type at) (λ u. Good (u, t)) (λ u e. (pointee_is (sort_of_term t) u e, v)))
+
+holds_well : (s : Sight) (at : Place) (t : LogicTerm) → TermTyped s t → Gives (PredicateTyped s) (integer_holds at t)
+holds_well s at t w = gives_where (PredicateTyped s) (is_integer (sort_of_term t)) (no_type at) _ (λ e. (integer_is (sort_of_term t) e, w))
+
+predicate_well : (s : Sight) (at : Place) (a : Sorted) → SortedTyped s a → Gives (PredicateTyped s) (as_predicate at a)
+predicate_well s at (ATerm t) w = holds_well s at t w
+predicate_well s at (APredicate p) w = w
+predicate_well s at (APlace t) w = holds_well s at t w.1
+
+-- ---- sizes that trees keep
+
+either_true : (a b : Bool) → (a || b) ≡ true → (a ≡ true) ⊎ (b ≡ true)
+either_true true b e = inl refl
+either_true false b e = inr e
+
+equal_is : (n m : ℕ) → nat_eq n m ≡ true → n ≡ m
+equal_is n m e = grind (arith, nat_tests)
+
+alignment_is : (n : ℕ) → is_alignment n ≡ true → IsAlignment n
+alignment_is n e = elim (either_true (nat_eq n 1 || nat_eq n 2 || nat_eq n 4) (nat_eq n 8) e) [
+  | inr d ↦ inr (inr (inr (equal_is n 8 d)))
+  | inl d ↦ elim (either_true (nat_eq n 1 || nat_eq n 2) (nat_eq n 4) d) [
+    | inr c ↦ inr (inr (inl (equal_is n 4 c)))
+    | inl c ↦ elim (either_true (nat_eq n 1) (nat_eq n 2) c) [ inr b ↦ inr (inl (equal_is n 2 b)) | inl b ↦ inl (equal_is n 1 b) ]
+  ]
+]
+
+abbrev pub Measured : Sight → PlainType → Type 0
+Measured s u = IsSize (size_of s.structs u) × IsAlignment (align_of s.structs u)
+
+measured_is : (n m : ℕ) → (nat_le 1 n && nat_le n most_bytes && is_alignment m) ≡ true → IsSize n × IsAlignment m
+measured_is n m e =
+    let both = and_true (nat_le 1 n && nat_le n most_bytes) (is_alignment m) e in
+    let size = and_true (nat_le 1 n) (nat_le n most_bytes) both.0 in
+    ((leb-true 1 n size.0, leb-true n most_bytes size.1), alignment_is m both.1)
+
+pub gives_measured : {B : Type 0} (R : B → Type 0) (s : Sight) (at : Place) (u : PlainType) (c : Checked B) → (Measured s u → Gives R c) → Gives R (where_measured s at u c)
+gives_measured R s at u c h =
+    gives_sized R s at u (where_so (is_measured s u) (too_large at) c) (λ e.
+    gives_where R (is_measured s u) (too_large at) c (λ m. h (measured_is (size_of s.structs u) (align_of s.structs u) m)))
+
+-- ---- names
+
+null_well : (s : Sight) (at : Place) (b : Bool) → Gives (SortedTyped s) (cond b (Good (null at)) (faulty (no_name at)))
+null_well s at true = refl
+null_well s at false = tt
+
+library_well : (s : Sight) (at : Place) (x : ℕ) → Gives (SortedTyped s) (library_term s at x)
+library_well s at x = by (library_constant (name_at s.names x))
+  where
+    by : (o : Option (CInt × ℤ)) → Gives (SortedTyped s) (elim o [ Some k ↦ Good (number at k.1) | None ↦ cond (is_null_word s x) (Good (null at)) (faulty (no_name at)) ])
+    by (Some k) = refl
+    by None = null_well s at (is_null_word s x)
 
 named_well : (s : Sight) (at : Place) (x : ℕ) → Gives (SortedTyped s) (term_named s at x)
 named_well s at x = by (entity_named x s.entities) refl
   where
     by : (o : Option Entity) → entity_named x s.entities ≡ o → Gives (SortedTyped s) (elim o [
-      | Some e ↦ elim e [ AnObject b ↦ object_term at x b | AnEnumerator c ↦ Good (number at c.value) ]
-      | None ↦ given (library_constant (name_at s.names x)) (no_name at) (λ c. Good (number at c.1))
+      | Some e ↦ elim e [ AnObject b ↦ Good (object_place at x b) | AnEnumerator k ↦ Good (number at k.value) ]
+      | None ↦ library_term s at x
     ])
-    by (Some (AnObject b)) e = gives_where (SortedTyped s) (is_there (integer_type b.ctype)) (no_type at) _ (λ t. record {
-      ctype = b.ctype;
-      is = refl;
-      int = there_is b.ctype t;
-      denotes = record { object = b; found = e; decl = refl; ctype = refl };
-    })
-    by (Some (AnEnumerator c)) e = refl
-    by None e = gives_given (SortedTyped s) (library_constant (name_at s.names x)) (no_name at) (λ c. Good (number at c.1)) (λ c e. refl)
+    by (Some (AnObject b)) e = (tt, record { ctype = b.ctype; is = refl; denotes = record { object = b; found = e; decl = refl; ctype = refl } })
+    by (Some (AnEnumerator k)) e = refl
+    by None e = library_well s at x
+
+-- ---- operators
 
 on_integer_well : (s : Sight) (at : Place) (op : UnOp) → IsOnInteger op → (a : Sorted) → SortedTyped s a → Gives (SortedTyped s) (on_integer at op a)
-on_integer_well s at op is a w = gives_one (TermTyped s) (SortedTyped s) (as_term at a) _ (term_well s at a w) (λ t v. (refl, is, v))
+on_integer_well s at op is a w = gives_one (IntegerTyped s) (SortedTyped s) (as_integer at a) _ (integer_well s at a w) (λ t v. (refl, is, v.0, v.1))
+
+on_integers_well : (s : Sight) (at : Place) (op : BinOp) (a b : Sorted) → SortedTyped s a → SortedTyped s b → Gives (SortedTyped s) (on_integers at op a b)
+on_integers_well s at op a b v w =
+    gives_one (IntegerTyped s) (SortedTyped s) (as_integer at a) _ (integer_well s at a v) (λ t x.
+    gives_one (IntegerTyped s) (SortedTyped s) (as_integer at b) _ (integer_well s at b w) (λ u y. (refl, x.0, y.0, x.1, y.1)))
+
+deref_well : (s : Sight) (at : Place) (a : Sorted) → SortedTyped s a → Gives (SortedTyped s) (deref at a)
+deref_well s at a w =
+    gives_one (PointerTyped s) (SortedTyped s) (as_pointer at a) _ (pointer_well s at a w) (λ p v. gives_where (SortedTyped s) (not (is_void p.0)) (no_type at) _ (λ e. (tt, (p.0, refl, v.0, v.1))))
+
+address_well : (s : Sight) (at : Place) (a : Sorted) → SortedTyped s a → Gives (SortedTyped s) (address at a)
+address_well s at (ATerm t) w = tt
+address_well s at (APredicate p) w = tt
+address_well s at (APlace t) w = gives_given (SortedTyped s) (type_of_term t) (no_type at) (address_at at t) (λ u e. (u, refl, e, w.0, w.1))
+
+member_well : (s : Sight) (at : Place) (m : ℕ) (t : LogicTerm) (u : PlainType) → type_of_term t ≡ Some u → IsPlace t → TermTyped s t → Gives (SortedTyped s) (member_of s at m t u)
+member_well s at m t u e p w =
+    gives_where (SortedTyped s) (is_struct u) (no_type at) _ (λ h.
+    gives_sized (SortedTyped s) s at u _ (λ k.
+    gives_given (SortedTyped s) (member_among m (members_of s.structs u)) (no_name at) (member_at at t) (λ f g.
+    gives_where (SortedTyped s) (nat_le f.offset most_bytes) (too_large at) _ (λ j.
+    let is = struct_is u h in
+    (tt, (f.ctype, refl, is.0, subst (λ (v : PlainType). type_of_term t ≡ Some v) is.1 e, p, w, leb-true f.offset most_bytes j))))))
+
+dot_well : (s : Sight) (at : Place) (m : ℕ) (a : Sorted) → SortedTyped s a → Gives (SortedTyped s) (dot s at m a)
+dot_well s at m (ATerm t) w = tt
+dot_well s at m (APredicate p) w = tt
+dot_well s at m (APlace t) w = gives_given (SortedTyped s) (type_of_term t) (no_type at) (member_of s at m t) (λ u e. member_well s at m t u e w.0 w.1)
+
+arrow_well : (s : Sight) (at : Place) (m : ℕ) (a : Sorted) → SortedTyped s a → Gives (SortedTyped s) (arrow s at m a)
+arrow_well s at m a w =
+    gives_one (PointerTyped s) (SortedTyped s) (as_pointer at a) _ (pointer_well s at a w) (λ p v. member_well s at m (Deref at (Some p.0) range_to_infer p.1) p.0 refl tt (p.0, refl, v.0, v.1))
+
+-- ---- pointers and integers
+
+-- goes on with two terms where what they point to is known
+known_well : (s : Sight) (at : Place) (a b : Sorted) (k : LogicTerm → LogicTerm → Checked Sorted) → SortedTyped s a → SortedTyped s b
+    → ((t u : LogicTerm) → TermTyped s t → TermTyped s u → Gives (SortedTyped s) (k t u))
+    → Gives (SortedTyped s) (with_terms s at a b k)
+known_well s at a b k v w h =
+    gives_where (SortedTyped s) (are_known s a b) (no_name at) (one_part (as_term at a) (λ t. one_part (as_term at b) (k t))) (λ e.
+    gives_one (TermTyped s) (SortedTyped s) (as_term at a) (λ t. one_part (as_term at b) (k t)) (term_well s at a v) (λ t x.
+    gives_one (TermTyped s) (SortedTyped s) (as_term at b) (k t) (term_well s at b w) (λ u y. h t u x y)))
+
+module _ (s : Sight) (at : Place) (t u : LogicTerm) (v : TermTyped s t) (w : TermTyped s u) where
+  sum_by : (k l : ValueSort) → sort_of_term t ≡ k → sort_of_term u ≡ l → Gives (SortedTyped s) (sum_of s at t u k l)
+  sum_by AnInteger AnInteger e f = (refl, e, f, v, w)
+  sum_by (APointer x) AnInteger e f = gives_measured (SortedTyped s) s at x _ (λ h. (x, refl, e, f, v, w, h.0))
+  sum_by AnInteger (APointer x) e f = gives_measured (SortedTyped s) s at x _ (λ h. (x, refl, f, e, w, v, h.0))
+  sum_by (APointer x) (APointer y) e f = tt
+  sum_by NoValue l e f = tt
+  sum_by AnInteger NoValue e f = tt
+  sum_by (APointer x) NoValue e f = tt
+
+  difference_by : (k l : ValueSort) → sort_of_term t ≡ k → sort_of_term u ≡ l → Gives (SortedTyped s) (difference_of s at t u k l)
+  difference_by AnInteger AnInteger e f = (refl, e, f, v, w)
+  difference_by (APointer x) AnInteger e f = gives_measured (SortedTyped s) s at x _ (λ h. (x, refl, e, f, v, w, h.0))
+  difference_by (APointer x) (APointer y) e f = gives_where (SortedTyped s) (c.same_type x y) (no_type at) _ (λ g. gives_measured (SortedTyped s) s at x _ (λ h. (refl, (x, e), (y, f), v, w, h.0)))
+  difference_by AnInteger (APointer x) e f = tt
+  difference_by NoValue l e f = tt
+  difference_by AnInteger NoValue e f = tt
+  difference_by (APointer x) NoValue e f = tt
+
+  element_by : (k l : ValueSort) → sort_of_term t ≡ k → sort_of_term u ≡ l → Gives (SortedTyped s) (element_of s at t u k l)
+  element_by AnInteger AnInteger e f = tt
+  element_by (APointer x) AnInteger e f = gives_measured (SortedTyped s) s at x _ (λ h. (tt, (x, refl, refl, (x, refl, e, f, v, w, h.0))))
+  element_by AnInteger (APointer x) e f = gives_measured (SortedTyped s) s at x _ (λ h. (tt, (x, refl, refl, (x, refl, f, e, w, v, h.0))))
+  element_by (APointer x) (APointer y) e f = tt
+  element_by NoValue l e f = tt
+  element_by AnInteger NoValue e f = tt
+  element_by (APointer x) NoValue e f = tt
+
+  choice_by : (p : Predicate) → PredicateTyped s p → (k l : ValueSort) → sort_of_term t ≡ k → sort_of_term u ≡ l → Gives (SortedTyped s) (choice_of_terms at p t u k l)
+  choice_by p z AnInteger AnInteger e f = (BetweenIntegers refl e f, z, v, w)
+  choice_by p z (APointer x) (APointer y) e f = gives_given (SortedTyped s) (choice_target x y) (no_type at) (λ a. Good (pointer_choice at p t u a)) (λ a g. (BetweenPointers a x y refl e f, z, v, w))
+  choice_by p z AnInteger (APointer x) e f = tt
+  choice_by p z (APointer x) AnInteger e f = tt
+  choice_by p z NoValue l e f = tt
+  choice_by p z AnInteger NoValue e f = tt
+  choice_by p z (APointer x) NoValue e f = tt
+
+sum_well : (s : Sight) (at : Place) (a b : Sorted) → SortedTyped s a → SortedTyped s b → Gives (SortedTyped s) (sum s at a b)
+sum_well s at a b v w = known_well s at a b _ v w (λ t u x y. sum_by s at t u x y (sort_of_term t) (sort_of_term u) refl refl)
+
+difference_well : (s : Sight) (at : Place) (a b : Sorted) → SortedTyped s a → SortedTyped s b → Gives (SortedTyped s) (difference s at a b)
+difference_well s at a b v w = known_well s at a b _ v w (λ t u x y. difference_by s at t u x y (sort_of_term t) (sort_of_term u) refl refl)
+
+index_well : (s : Sight) (at : Place) (a b : Sorted) → SortedTyped s a → SortedTyped s b → Gives (SortedTyped s) (index s at a b)
+index_well s at a b v w = known_well s at a b _ v w (λ t u x y. element_by s at t u x y (sort_of_term t) (sort_of_term u) refl refl)
+
+binary_well : (s : Sight) (at : Place) (op : BinOp) (a b : Sorted) → SortedTyped s a → SortedTyped s b → Gives (SortedTyped s) (binary_on s at op a b)
+binary_well s at operator.Add a b v w = sum_well s at a b v w
+binary_well s at operator.Sub a b v w = difference_well s at a b v w
+binary_well s at operator.Mul a b v w = on_integers_well s at operator.Mul a b v w
+binary_well s at operator.Div a b v w = on_integers_well s at operator.Div a b v w
+binary_well s at operator.Rem a b v w = on_integers_well s at operator.Rem a b v w
+binary_well s at operator.Shl a b v w = on_integers_well s at operator.Shl a b v w
+binary_well s at operator.Shr a b v w = on_integers_well s at operator.Shr a b v w
+binary_well s at operator.BitAnd a b v w = on_integers_well s at operator.BitAnd a b v w
+binary_well s at operator.BitOr a b v w = on_integers_well s at operator.BitOr a b v w
+binary_well s at operator.BitXor a b v w = on_integers_well s at operator.BitXor a b v w
+binary_well s at operator.Eq a b v w = on_integers_well s at operator.Eq a b v w
+binary_well s at operator.Ne a b v w = on_integers_well s at operator.Ne a b v w
+binary_well s at operator.Lt a b v w = on_integers_well s at operator.Lt a b v w
+binary_well s at operator.Le a b v w = on_integers_well s at operator.Le a b v w
+binary_well s at operator.Gt a b v w = on_integers_well s at operator.Gt a b v w
+binary_well s at operator.Ge a b v w = on_integers_well s at operator.Ge a b v w
+
+not_well : (s : Sight) (at : Place) (a : Sorted) → SortedTyped s a → Gives (SortedTyped s) (unary_on at unary.Not a)
+not_well s at a w =
+    gives_one (SortedTyped s) (SortedTyped s) (as_value a) _ (value_well s a w) (λ b v. gives_one (PredicateTyped s) (SortedTyped s) (as_predicate at b) _ (predicate_well s at b v) (λ p x. x))
 
 unary_well : (s : Sight) (at : Place) (op : UnOp) (a : Sorted) → SortedTyped s a → Gives (SortedTyped s) (unary_on at op a)
-unary_well s at unary.Plus a w = on_integer_well s at unary.Plus tt a w
-unary_well s at unary.Minus a w = on_integer_well s at unary.Minus tt a w
-unary_well s at unary.Flip a w = on_integer_well s at unary.Flip tt a w
-unary_well s at unary.Not a w = predicate_well s a w
-unary_well s at unary.Deref a w = tt
-unary_well s at unary.Address a w = tt
+unary_well s at unary.Plus a w = gives_one (SortedTyped s) (SortedTyped s) (as_value a) _ (value_well s a w) (on_integer_well s at unary.Plus tt)
+unary_well s at unary.Minus a w = gives_one (SortedTyped s) (SortedTyped s) (as_value a) _ (value_well s a w) (on_integer_well s at unary.Minus tt)
+unary_well s at unary.Flip a w = gives_one (SortedTyped s) (SortedTyped s) (as_value a) _ (value_well s a w) (on_integer_well s at unary.Flip tt)
+unary_well s at unary.Not a w = not_well s at a w
+unary_well s at unary.Deref a w = gives_one (SortedTyped s) (SortedTyped s) (as_value a) _ (value_well s a w) (deref_well s at)
+unary_well s at unary.Address a w = address_well s at a w
 
-binary_well : (s : Sight) (at : Place) (op : BinOp) (a b : Sorted) → SortedTyped s a → SortedTyped s b → Gives (SortedTyped s) (on_integers at op a b)
-binary_well s at op a b v w =
-    gives_one (TermTyped s) (SortedTyped s) (as_term at a) _ (term_well s at a v) (λ t x.
-    gives_one (TermTyped s) (SortedTyped s) (as_term at b) _ (term_well s at b w) (λ u y. (refl, x, y)))
+-- ---- casts
 
-cast_as_well : (s : Sight) (at : Place) (to : CastType) → IsCastType to → (a : Sorted) → SortedTyped s a → Gives (SortedTyped s) (cast_as at to a)
-cast_as_well s at to is a w = gives_one (TermTyped s) (SortedTyped s) (as_term at a) _ (term_well s at a w) (λ t v. (refl, is, v))
+cast_integer_well : (s : Sight) (at : Place) (to : CastType) → IsCastType to → (a : Sorted) → SortedTyped s a → Gives (SortedTyped s) (cast_integer at to a)
+cast_integer_well s at to is a w = gives_one (IntegerTyped s) (SortedTyped s) (as_integer at a) _ (integer_well s at a w) (λ t v. (OfInteger refl is v.0, v.1))
+
+cast_pointer_well : (s : Sight) (at : Place) (u : PlainType) (a : Sorted) → SortedTyped s a → Gives (SortedTyped s) (cast_pointer at u a)
+cast_pointer_well s at u a w = gives_one (PointerTyped s) (SortedTyped s) (as_pointer at a) _ (pointer_well s at a w) (λ p v. (OfPointer u p.0 refl refl v.0, v.1))
 
 cast_well : (s : Sight) (at : Place) (to : PlainType) (a : Sorted) → SortedTyped s a → Gives (SortedTyped s) (cast at to a)
-cast_well s at to a w = gives_where (SortedTyped s) (is_there (integer_type to)) (no_type at) (cast_as at (OfC to) a) (λ t. cast_as_well s at (OfC to) (there_is to t) a w)
+cast_well s at to a w = by (integer_type to) refl
+  where
+    by : (o : Option CInt) → integer_type to ≡ o → Gives (SortedTyped s) (elim o [ Some k ↦ cast_integer at (OfC to) a | None ↦ given (c.pointed to) (no_type at) (λ u. cast_pointer at u a) ])
+    by (Some k) e = cast_integer_well s at (OfC to) (there_is to (ap is_there e)) a w
+    by None e = gives_given (SortedTyped s) (c.pointed to) (no_type at) (λ u. cast_pointer at u a) (λ u g. cast_pointer_well s at u a w)
 
-choice_well : (s : Sight) (at : Place) (c a b : Sorted) → SortedTyped s c → SortedTyped s a → SortedTyped s b → SortedTyped s (chosen at c a b)
-choice_well s at c (ATerm a) (ATerm b) u v w = (refl, predicate_well s c u, v, w)
-choice_well s at c (ATerm a) (APredicate b) u v w = (predicate_well s c u, v, w)
-choice_well s at c (APredicate a) b u v w = (predicate_well s c u, v, predicate_well s b w)
+-- ---- predicates and choices
 
-right_well : (s : Sight) (at : Place) (left : Bool) (a : Sorted) → SortedTyped s a → Gives (TermTyped s) (right_side at left a)
-right_well s at true a w = tt
-right_well s at false a w = term_well s at a w
+connected_well : (s : Sight) (at : Place) (k : Connective) (a b : Sorted) → SortedTyped s a → SortedTyped s b → Gives (SortedTyped s) (connected at k a b)
+connected_well s at k a b v w =
+    gives_one (PredicateTyped s) (SortedTyped s) (as_predicate at a) _ (predicate_well s at a v) (λ p x.
+    gives_one (PredicateTyped s) (SortedTyped s) (as_predicate at b) _ (predicate_well s at b w) (λ q y. (x, y)))
 
-chain_well : (s : Sight) (at : Place) (a : Sorted) (links : Links) → SortedTyped s a → LinksTyped s links → Gives (SortedTyped s) (related at a links)
-chain_well s at a links v w = gives_one (TermTyped s) (SortedTyped s) (as_term at a) _ (term_well s at a v) (λ t x. (x, w))
+branch_well : (s : Sight) (at : Place) (p : Predicate) (a b : Sorted) → PredicateTyped s p → SortedTyped s a → SortedTyped s b → Gives (SortedTyped s) (branch at p a b)
+branch_well s at p a b z v w =
+    gives_one (PredicateTyped s) (SortedTyped s) (as_predicate at a) _ (predicate_well s at a v) (λ q x.
+    gives_one (PredicateTyped s) (SortedTyped s) (as_predicate at b) _ (predicate_well s at b w) (λ r y. (z, x, y)))
+
+between_well : (s : Sight) (at : Place) (p : Predicate) (a b : Sorted) → PredicateTyped s p → SortedTyped s a → SortedTyped s b → Gives (SortedTyped s) (choice_between at p a b)
+between_well s at p (ATerm t) (ATerm u) z v w = choice_by s at t u v w p z (sort_of_term t) (sort_of_term u) refl refl
+between_well s at p (ATerm t) (APredicate q) z v w = branch_well s at p (ATerm t) (APredicate q) z v w
+between_well s at p (ATerm t) (APlace u) z v w = branch_well s at p (ATerm t) (APlace u) z v w
+between_well s at p (APredicate q) b z v w = branch_well s at p (APredicate q) b z v w
+between_well s at p (APlace t) b z v w = branch_well s at p (APlace t) b z v w
+
+chosen_well : (s : Sight) (at : Place) (k a b : Sorted) → SortedTyped s k → SortedTyped s a → SortedTyped s b → Gives (SortedTyped s) (chosen at k a b)
+chosen_well s at k a b u v w = gives_one (PredicateTyped s) (SortedTyped s) (as_predicate at k) _ (predicate_well s at k u) (λ p z. between_well s at p a b z v w)
+
+-- ---- sides of relations
+
+abbrev SideSays : Side → LogicTerm → Type 0
+SideSays AnySide t = ⊥
+SideSays IntegerSide t = IsIntegerTerm t
+SideSays ZeroSide t = IsZeroTerm t × IsIntegerTerm t
+SideSays PointerSide t = IsPointerTerm t
+SideSays OtherSide t = Unit {0}
+
+related_well : (l r : Side) (a b : LogicTerm) → SideSays l a → SideSays r b → are_related l r ≡ true → AreRelated a b
+related_well AnySide r a b h k e = absurd h
+related_well OtherSide r a b h k e = absurd cc
+related_well IntegerSide AnySide a b h k e = absurd k
+related_well IntegerSide IntegerSide a b h k e = inl (h, k)
+related_well IntegerSide ZeroSide a b h k e = inl (h, k.1)
+related_well IntegerSide PointerSide a b h k e = absurd cc
+related_well IntegerSide OtherSide a b h k e = absurd cc
+related_well ZeroSide AnySide a b h k e = absurd k
+related_well ZeroSide IntegerSide a b h k e = inl (h.1, k)
+related_well ZeroSide ZeroSide a b h k e = inl (h.1, k.1)
+related_well ZeroSide PointerSide a b h k e = inr (inr (inr (h.0, k)))
+related_well ZeroSide OtherSide a b h k e = absurd cc
+related_well PointerSide AnySide a b h k e = absurd k
+related_well PointerSide IntegerSide a b h k e = absurd cc
+related_well PointerSide ZeroSide a b h k e = inr (inr (inl (h, k.0)))
+related_well PointerSide PointerSide a b h k e = inr (inl (h, k))
+related_well PointerSide OtherSide a b h k e = absurd cc
+
+sort_says : (t : LogicTerm) (k : ValueSort) → sort_of_term t ≡ k → SideSays (side_of_sort k) t
+sort_says t AnInteger e = e
+sort_says t (APointer u) e = (u, e)
+sort_says t NoValue e = tt
+
+sorted_says : (at : Place) (a : Sorted) (t : LogicTerm) → as_term at a ≡ Good t → SideSays (side_of_sorted a) t
+sorted_says at (ATerm u) t e = let f : u ≡ t = cc in subst (λ (x : LogicTerm). SideSays (side_of_sort (sort_of_term u)) x) f (sort_says u (sort_of_term u) refl)
+sorted_says at (APredicate p) t e = absurd cc
+sorted_says at (APlace u) t e = let f : u ≡ t = cc in subst (λ (x : LogicTerm). SideSays (side_of_sort (sort_of_term u)) x) f (sort_says u (sort_of_term u) refl)
+
+zero_is : (z : ℤ) → int_eq z (pos 0) ≡ true → z ≡ pos 0
+zero_is z e = (Decides-int_eq z (pos 0)).0 e
+
+zero_says : (at : Place) (n : ℤ) (b : Bool) → int_eq n (pos 0) ≡ b → SideSays (cond b ZeroSide IntegerSide) (Number at None range_to_infer n)
+zero_says at n true e = (zero_is n e, refl)
+zero_says at n false e = refl
+
+-- what typing makes of a form that is a number
+abbrev MadeOf : Form → Sorted → Type 0
+MadeOf (read.Number at n) a = a ≡ number at n
+MadeOf _ a = Unit {0}
+
+side_says : (f : Form) (at : Place) (a : Sorted) (t : LogicTerm) → MadeOf f a → as_term at a ≡ Good t → SideSays (side_of f (Good a)) t
+side_says (read.Number place n) at a t m e =
+    let f : as_term at (number place n) ≡ Good t = subst (λ (x : Sorted). as_term at x ≡ Good t) m e in
+    let g : Number place None range_to_infer n ≡ t = cc in
+    subst (λ (x : LogicTerm). SideSays (side_of (read.Number place n) (Good a)) x) g (subst (λ (x : Sorted). SideSays (side_of (read.Number place n) (Good x)) (Number place None range_to_infer n)) (sym m) (zero_says place n (int_eq n (pos 0)) refl))
+side_says (read.Letter place n) at a t m e = sorted_says at a t e
+side_says (read.Truth place b) at a t m e = sorted_says at a t e
+side_says (read.Name place x) at a t m e = sorted_says at a t e
+side_says (read.Unary place op x) at a t m e = sorted_says at a t e
+side_says (read.Binary place op x y) at a t m e = sorted_says at a t e
+side_says (read.Cast place to x) at a t m e = sorted_says at a t e
+side_says (read.SizeOf place u) at a t m e = sorted_says at a t e
+side_says (read.Chain place x links) at a t m e = sorted_says at a t e
+side_says (read.Connected place k x y) at a t m e = sorted_says at a t e
+side_says (read.Choice place k x y) at a t m e = sorted_says at a t e
+side_says (read.Null place) at a t m e = sorted_says at a t e
+side_says (read.Index place x y) at a t m e = sorted_says at a t e
+side_says (read.Dot place x j) at a t m e = sorted_says at a t e
+side_says (read.Arrow place x j) at a t m e = sorted_says at a t e
+side_says (read.Told place f x) at a t m e = sorted_says at a t e
+side_says (read.Asks place q z) at a t m e = sorted_says at a t e
+side_says (read.Separated place zs) at a t m e = sorted_says at a t e
+
+-- a checked value, and that it is this one
+known : {A : Type 0} (P : A → Type 0) (k : Checked A) → Gives P k → Gives (λ a. P a × (k ≡ Good a)) k
+known P (Good a) w = (w, refl)
+known P (Bad f fs) w = tt
 
 -- ---- parts
 
@@ -106,6 +424,84 @@ anything (Bad f fs) = tt
 abbrev pub Any : PlainType → Type 0
 Any t = Unit {0}
 
+made : (s : Sight) (f : Form) → Gives (MadeOf f) (value_in (typed_form s f))
+made s (read.Number at n) = refl
+made s (read.Letter at n) = anything (value_in (typed_form s (read.Letter at n)))
+made s (read.Truth at b) = anything (value_in (typed_form s (read.Truth at b)))
+made s (read.Name at x) = anything (value_in (typed_form s (read.Name at x)))
+made s (read.Unary at op x) = anything (value_in (typed_form s (read.Unary at op x)))
+made s (read.Binary at op x y) = anything (value_in (typed_form s (read.Binary at op x y)))
+made s (read.Cast at to x) = anything (value_in (typed_form s (read.Cast at to x)))
+made s (read.SizeOf at u) = anything (value_in (typed_form s (read.SizeOf at u)))
+made s (read.Chain at x links) = anything (value_in (typed_form s (read.Chain at x links)))
+made s (read.Connected at k x y) = anything (value_in (typed_form s (read.Connected at k x y)))
+made s (read.Choice at k x y) = anything (value_in (typed_form s (read.Choice at k x y)))
+made s (read.Null at) = anything (value_in (typed_form s (read.Null at)))
+made s (read.Index at x y) = anything (value_in (typed_form s (read.Index at x y)))
+made s (read.Dot at x m) = anything (value_in (typed_form s (read.Dot at x m)))
+made s (read.Arrow at x m) = anything (value_in (typed_form s (read.Arrow at x m)))
+made s (read.Told at f x) = anything (value_in (typed_form s (read.Told at f x)))
+made s (read.Asks at q z) = anything (value_in (typed_form s (read.Asks at q z)))
+made s (read.Separated at zs) = anything (value_in (typed_form s (read.Separated at zs)))
+
+-- the right side of a relation
+abbrev RightTyped : Sight → Side → Side → LogicTerm → Type 0
+RightTyped s left right t = (are_related left right ≡ true) × SideSays right t × TermTyped s t
+
+right_well : (s : Sight) (at : Place) (left : Side) (f : Form) (k : Checked Sorted) → Gives (MadeOf f) k → Gives (SortedTyped s) k → Gives (RightTyped s left (side_of f k)) (one_part k (right_side at left (side_of f k)))
+right_well s at left f (Bad x xs) m w = tt
+right_well s at left f (Good a) m w =
+    gives_where (RightTyped s left (side_of f (Good a))) (are_related left (side_of f (Good a))) (no_type at) (as_term at a) (λ e. by (as_term at a) refl (term_well s at a w) e)
+  where
+    by : (o : Checked LogicTerm) → as_term at a ≡ o → Gives (TermTyped s) o → are_related left (side_of f (Good a)) ≡ true → Gives (RightTyped s left (side_of f (Good a))) o
+    by (Good t) h v e = (e, side_says f at a t m h, v)
+    by (Bad x xs) h v e = tt
+
+-- what is known of links behind a side
+abbrev LinksFit : Sight → Side → Links → Type 0
+LinksFit s left links = (a : LogicTerm) → SideSays left a → LinksTyped s a links
+
+chain_well : (s : Sight) (at : Place) (f : Form) (k : Checked Sorted) (a : Sorted) (links : Links) → Gives (MadeOf f) k → k ≡ Good a → SortedTyped s a → LinksFit s (side_of f k) links → Gives (SortedTyped s) (related at a links)
+chain_well s at f k a NoLink m e v w = tt
+chain_well s at f k a (Linked place r b rest) m e v w = by (as_term at a) refl (term_well s at a v)
+  where
+    by : (o : Checked LogicTerm) → as_term at a ≡ o → Gives (TermTyped s) o → Gives (SortedTyped s) (one_part o (λ t. Good (APredicate (Chain at t (Linked place r b rest)))))
+    by (Good t) h x = (x, w t (subst (λ (j : Checked Sorted). SideSays (side_of f j) t) (sym e) (side_says f at a t (gives_of (MadeOf f) k a m e) h)), tt)
+    by (Bad x xs) h y = tt
+
+-- ---- zones
+
+asked_well : {A : Type 0} (P : A → Type 0) (s : Sight) (at : Place) (q : MemoryQuestion) (u : PlainType) (k : Checked A) → (Measured s u → Gives P k) → Gives P (where_asked s at q u k)
+asked_well P s at Valid u k w = gives_measured P s at u k w
+asked_well P s at ValidRead u k w = gives_measured P s at u k w
+asked_well P s at Initialized u k w = gives_where P (is_scalar u) (no_type at) (where_measured s at u k) (λ e. gives_measured P s at u k w)
+
+object_well : (s : Sight) (q : MemoryQuestion) (at : Place) (a : Sorted) → SortedTyped s a → Gives (ZoneTyped s) (object_zone s q at a)
+object_well s q at a w = gives_one (PointerTyped s) (ZoneTyped s) (as_pointer at a) _ (pointer_well s at a w) (λ p v. asked_well (ZoneTyped s) s at q p.0 _ (λ g. ((p.0, v.0), v.1, g.0, g.1)))
+
+elements_well : (s : Sight) (q : MemoryQuestion) (at : Place) (a lo hi : Sorted) → SortedTyped s a → SortedTyped s lo → SortedTyped s hi → Gives (ZoneTyped s) (elements_zone s q at a lo hi)
+elements_well s q at a lo hi u v w =
+    gives_one (PointerTyped s) (ZoneTyped s) (as_pointer at a) _ (pointer_well s at a u) (λ p x. asked_well (ZoneTyped s) s at q p.0 _ (λ g.
+    gives_one (IntegerTyped s) (ZoneTyped s) (as_integer at lo) _ (integer_well s at lo v) (λ l y.
+    gives_one (IntegerTyped s) (ZoneTyped s) (as_integer at hi) _ (integer_well s at hi w) (λ h z. ((p.0, x.0), y.0, z.0, x.1, y.1, z.1, g.0, g.1)))))
+
+-- parts that are values, from what is known of the parts
+value_of_form : (s : Sight) (f : Form) → Gives (SortedTyped s) (typed_form s f) → Gives (SortedTyped s) (value_in (typed_form s f))
+value_of_form s f w = values_well s (typed_form s f) w
+
+one_well : (s : Sight) (a : Form) (k : Sorted → Checked Sorted) → Gives (SortedTyped s) (typed_form s a) → ((x : Sorted) → SortedTyped s x → Gives (SortedTyped s) (k x)) → Gives (SortedTyped s) (one_part (value_in (typed_form s a)) k)
+one_well s a k v h = gives_one (SortedTyped s) (SortedTyped s) (value_in (typed_form s a)) k (value_of_form s a v) h
+
+two_well : (s : Sight) (a b : Form) (k : Sorted × Sorted → Checked Sorted) → Gives (SortedTyped s) (typed_form s a) → Gives (SortedTyped s) (typed_form s b) → ((x y : Sorted) → SortedTyped s x → SortedTyped s y → Gives (SortedTyped s) (k (x, y)))
+    → Gives (SortedTyped s) (one_part (pair_of (value_in (typed_form s a)) (value_in (typed_form s b))) k)
+two_well s a b k v w h = gives_pair (SortedTyped s) (SortedTyped s) (SortedTyped s) (value_in (typed_form s a)) (value_in (typed_form s b)) k (value_of_form s a v) (value_of_form s b w) h
+
+pair_well : (s : Sight) (a b : Form) → Gives (SortedTyped s) (typed_form s a) → Gives (SortedTyped s) (typed_form s b)
+    → Gives (λ (p : Sorted × Sorted). SortedTyped s p.0 × SortedTyped s p.1) (pair_of (value_in (typed_form s a)) (value_in (typed_form s b)))
+pair_well s a b v w =
+    gives_both (SortedTyped s) (SortedTyped s) (λ (p : Sorted × Sorted). SortedTyped s p.0 × SortedTyped s p.1) (value_in (typed_form s a)) (value_in (typed_form s b)) (λ a b. Good (a, b)) (value_of_form s a v) (value_of_form s b w)
+    (λ a b v w. (v, w))
+
 -- ---- forms
 
 mutual
@@ -115,34 +511,58 @@ mutual
   form_well s (read.Truth at b) = tt
   form_well s (read.Name at x) = named_well s at x.name
   form_well s (read.Unary at op a) = gives_one (SortedTyped s) (SortedTyped s) (typed_form s a) (unary_on at op) (form_well s a) (unary_well s at op)
-  form_well s (read.Binary at op a b) =
-      gives_pair (SortedTyped s) (SortedTyped s) (SortedTyped s) (typed_form s a) (typed_form s b) (λ p. on_integers at op p.0 p.1) (form_well s a) (form_well s b) (binary_well s at op)
-  form_well s (read.Cast at Integers a) = gives_one (SortedTyped s) (SortedTyped s) (typed_form s a) (cast_as at Integers) (form_well s a) (cast_as_well s at Integers tt)
+  form_well s (read.Binary at op a b) = two_well s a b (λ p. binary_on s at op p.0 p.1) (form_well s a) (form_well s b) (binary_well s at op)
+  form_well s (read.Cast at Integers a) = one_well s a (cast_integer at Integers) (form_well s a) (cast_integer_well s at Integers tt)
   form_well s (read.Cast at (OfC to) a) =
-      gives_limited (SortedTyped s) s at (known_type s to) _ (gives_pair Any (SortedTyped s) (SortedTyped s) (typed_type s at to) (typed_form s a) (λ p. cast at p.0 p.1) (anything (typed_type s at to)) (form_well s a)
+      gives_limited (SortedTyped s) s at (known_type s to) _ (gives_pair Any (SortedTyped s) (SortedTyped s) (typed_type s at to) (value_in (typed_form s a)) (λ p. cast at p.0 p.1) (anything (typed_type s at to)) (value_of_form s a (form_well s a))
       (λ t x v w. cast_well s at t x w))
   form_well s (read.SizeOf at u) =
       gives_limited (SortedTyped s) s at (known_type s u) _ (gives_one Any (SortedTyped s) (typed_type s at u) (size_in s at) (anything (typed_type s at u)) (λ t v. gives_sized (SortedTyped s) s at t _ (λ e. refl)))
   form_well s (read.Chain at a links) =
-      gives_pair (SortedTyped s) (LinksTyped s) (SortedTyped s) (typed_form s a) (typed_links s (is_predicate (typed_form s a)) links) (λ p. related at p.0 p.1) (form_well s a) (links_well s (is_predicate (typed_form s a)) links)
-      (chain_well s at)
-  form_well s (read.Connected at c a b) =
-      gives_pair (SortedTyped s) (SortedTyped s) (SortedTyped s) (typed_form s a) (typed_form s b) (λ p. Good (connected at c p.0 p.1)) (form_well s a) (form_well s b) (λ x y v w. (predicate_well s x v, predicate_well s y w))
-  form_well s (read.Choice at c a b) =
-      gives_pair (SortedTyped s) (λ (p : Sorted × Sorted). SortedTyped s p.0 × SortedTyped s p.1) (SortedTyped s) (typed_form s c) (pair_of (typed_form s a) (typed_form s b)) (λ p. Good (chosen at p.0 (p.1).0 (p.1).1)) (form_well s c)
-      (gives_both (SortedTyped s) (SortedTyped s) (λ (p : Sorted × Sorted). SortedTyped s p.0 × SortedTyped s p.1) (typed_form s a) (typed_form s b) (λ a b. Good (a, b)) (form_well s a) (form_well s b) (λ a b v w. (v, w)))
-      (λ x p u w. choice_well s at x p.0 p.1 u w.0 w.1)
+      let side = side_of a (value_in (typed_form s a)) in
+      gives_pair (λ x. SortedTyped s x × (value_in (typed_form s a) ≡ Good x)) (LinksFit s side) (SortedTyped s) (value_in (typed_form s a)) (typed_links s side links) (λ p. related at p.0 p.1)
+      (known (SortedTyped s) (value_in (typed_form s a)) (value_of_form s a (form_well s a))) (links_well s side links) (λ x ls v w. chain_well s at a (value_in (typed_form s a)) x ls (made s a) v.1 v.0 w)
+  form_well s (read.Connected at k a b) = two_well s a b (λ p. connected at k p.0 p.1) (form_well s a) (form_well s b) (connected_well s at k)
+  form_well s (read.Choice at k a b) =
+      gives_pair (SortedTyped s) (λ (p : Sorted × Sorted). SortedTyped s p.0 × SortedTyped s p.1) (SortedTyped s) (value_in (typed_form s k)) (pair_of (value_in (typed_form s a)) (value_in (typed_form s b))) (λ p. chosen at p.0 (p.1).0 (p.1).1)
+      (value_of_form s k (form_well s k)) (pair_well s a b (form_well s a) (form_well s b)) (λ x p u w. chosen_well s at x p.0 p.1 u w.0 w.1)
+  form_well s (read.Null at) = refl
+  form_well s (read.Index at a b) = two_well s a b (λ p. index s at p.0 p.1) (form_well s a) (form_well s b) (index_well s at)
+  form_well s (read.Dot at a m) = gives_one (SortedTyped s) (SortedTyped s) (typed_form s a) (dot s at m) (form_well s a) (dot_well s at m)
+  form_well s (read.Arrow at a m) = one_well s a (arrow s at m) (form_well s a) (arrow_well s at m)
+  form_well s (read.Told at f a) =
+      one_well s a (told at f) (form_well s a) (λ b w. gives_one (PointerTyped s) (SortedTyped s) (as_pointer at b) _ (pointer_well s at b w) (λ p v. (refl, (p.0, v.0), v.1)))
+  form_well s (read.Asks at q z) = gives_one (ZoneTyped s) (SortedTyped s) (typed_zone s q at z) _ (zone_well s q at z) (λ z w. w)
+  form_well s (read.Separated at zs) = gives_one (ZonesTyped s) (SortedTyped s) (typed_zones s at zs) _ (zones_well s at zs) (λ zs w. w)
 
-  links_well : (s : Sight) (left : Bool) (links : FormLinks) → Gives (LinksTyped s) (typed_links s left links)
-  links_well s left read.NoLink = tt
+  links_well : (s : Sight) (left : Side) (links : FormLinks) → Gives (LinksFit s left) (typed_links s left links)
+  links_well s left read.NoLink = λ a h. tt
   links_well s left (read.Linked at r b rest) =
-      gives_pair (TermTyped s) (LinksTyped s) (LinksTyped s) (one_part (typed_form s b) (right_side at left)) (typed_links s (is_predicate (typed_form s b)) rest) (λ p. Good (Linked at r p.0 p.1))
-      (gives_one (SortedTyped s) (TermTyped s) (typed_form s b) (right_side at left) (form_well s b) (right_well s at left)) (links_well s (is_predicate (typed_form s b)) rest) (λ t rest v w. (v, w))
+      let side = side_of b (value_in (typed_form s b)) in
+      gives_pair (RightTyped s left side) (LinksFit s side) (LinksFit s left) (one_part (value_in (typed_form s b)) (right_side at left side)) (typed_links s side rest) (λ p. Good (Linked at r p.0 p.1))
+      (right_well s at left b (value_in (typed_form s b)) (made s b) (value_of_form s b (form_well s b))) (links_well s side rest) (λ t ls v w a h. (related_well left side a t h v.1 v.0, v.2, w t v.1))
+
+  zone_well : (s : Sight) (q : MemoryQuestion) (at : Place) (z : FormZone) → Gives (ZoneTyped s) (typed_zone s q at z)
+  zone_well s q at (read.Object a) = gives_one (SortedTyped s) (ZoneTyped s) (value_in (typed_form s a)) (object_zone s q at) (value_of_form s a (form_well s a)) (object_well s q at)
+  zone_well s q at (read.Elements plus a lo hi) =
+      gives_pair (SortedTyped s) (λ (p : Sorted × Sorted). SortedTyped s p.0 × SortedTyped s p.1) (ZoneTyped s) (value_in (typed_form s a)) (pair_of (value_in (typed_form s lo)) (value_in (typed_form s hi)))
+      (λ p. elements_zone s q plus p.0 (p.1).0 (p.1).1) (value_of_form s a (form_well s a)) (pair_well s lo hi (form_well s lo) (form_well s hi)) (λ x p u w. elements_well s q plus x p.0 p.1 u w.0 w.1)
+
+  zones_well : (s : Sight) (at : Place) (zs : FormZones) → Gives (ZonesTyped s) (typed_zones s at zs)
+  zones_well s at read.NoZone = tt
+  zones_well s at (read.Another z rest) =
+      gives_pair (ZoneTyped s) (ZonesTyped s) (ZonesTyped s) (typed_zone s ValidRead at z) (typed_zones s at rest) (λ p. Good (Another p.0 p.1)) (zone_well s ValidRead at z) (zones_well s at rest) (λ z zs v w. (v, w))
 
 -- ---- clauses
 
+clause_holds_well : (s : Sight) (a : Sorted) → SortedTyped s a → Gives (PredicateTyped s) (clause_holds a)
+clause_holds_well s (ATerm t) w = holds_well s (place_of_term t) t w
+clause_holds_well s (APredicate p) w = w
+clause_holds_well s (APlace t) w = holds_well s (place_of_term t) t w.1
+
 clause_well : (s : Sight) (b : ClauseBody) → IsRead b → Gives (ClauseTyped s) (typed_clause s b)
-clause_well s (Raw f) r = gives_one (SortedTyped s) (ClauseTyped s) (typed_form s f) (λ a. Good (Holds (as_predicate a))) (form_well s f) (predicate_well s)
+clause_well s (Raw f) r =
+    gives_one (SortedTyped s) (ClauseTyped s) (value_in (typed_form s f)) _ (value_of_form s f (form_well s f)) (λ a v. gives_one (PredicateTyped s) (ClauseTyped s) (clause_holds a) (λ p. Good (Holds p)) (clause_holds_well s a v) (λ p w. w))
 clause_well s (Holds p) r = absurd r
 clause_well s (Value t) r = absurd r
 clause_well s (Behaviors names) r = absurd r

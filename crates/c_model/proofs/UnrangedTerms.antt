@@ -1,7 +1,8 @@
 -- What is known of annotations doesn't look at their ranges: it is the same without them.
-use Rattle.std.proofs.Common.{◌≡◌, ℕ, suc, ◌+◌, ◌≤◌, ℤ, List, [], ◌∷◌, length, Option, Some, None, refl, ap, ◌∙◌, sym, subst}
+use Rattle.std.proofs.Common.{◌≡◌, ℕ, suc, ◌+◌, ◌≤◌, ℤ, List, [], ◌∷◌, length, Option, Some, None, refl, ap, ◌∙◌, ◌⊎◌, sym, subst}
 use Rattle.std.specs.Prelude.{true, false}
 use mathlib.Core.Path.{fun_ext}
+use Rattle.c_syntax.specs.Ctypes.{PlainType, Ptr, Struct}
 use Rattle.c_syntax.specs.Logic.{LogicTerm, Number, Letter, Variable, Unary, Binary, Cast, Choice, Named, Links, NoLink, Linked, Predicate, Truth, NonZero}
 use Rattle.c_syntax.specs.Logic.{Chain, Not, Connected, Branch, Quantified, Guards, NoGuard, Guarded, ClauseBody, Raw, Holds, Value, Annotation, At}
 use Rattle.c_syntax.specs.Logic.{Behaviors, Null, Deref, Member, Address, Moved, Difference, Told, Asks, Separated, Zone, Object, Elements, Zones, NoZone}
@@ -12,7 +13,9 @@ use Rattle.c_model.specs.Predicates.{term, clause, check_in, checks_in, checks, 
 use Rattle.c_model.specs.Predicates.{compared}
 use Rattle.c_model.specs.Meaning.{after_body, turn_with}
 use Rattle.c_model.specs.ExpressionTyping.{Sight}
-use Rattle.c_model.specs.TypedPredicates.{IsOnInteger, IsCastType, TermTyped, LinksTyped, PredicateTyped, ClauseTyped, AnnotationsTyped}
+use Rattle.c_model.specs.PredicateTyping.{AnInteger, APointer, sort_of, type_of_term, told_type}
+use Rattle.c_model.specs.TypedPredicates.{IsSize, IsExtent, IsAlignment, HasLink, IsOnInteger, IsCast, IsChoice, IsIntegerTerm, IsPointerTerm, IsPlace, IsZeroTerm, AreRelated, TermTyped, LinksTyped}
+use Rattle.c_model.specs.TypedPredicates.{ZoneTyped, ZonesTyped, PredicateTyped, ClauseTyped, AnnotationsTyped}
 use Rattle.c_model.specs.Formed.{level_of, parentheses_around, operator_of_term, tokens_of_term, tokens_of_links, tokens_of_predicate, tokens_of_guards, TermNumbered, LinksNumbered, PredicateNumbered}
 use Rattle.c_model.specs.Formed.{GuardsNumbered, IsShortPredicate, IsShortClause, IsAssert, AreAsserts, tokens_of_zone, tokens_of_zones, ZoneNumbered}
 use Rattle.c_model.specs.Formed.{ZonesNumbered}
@@ -37,39 +40,115 @@ beside h k = record { to = λ x. (h.to x.0, k.to x.1); from = λ x. (h.from x.0,
 
 -- ---- typing
 
+type_kept : (t : LogicTerm) → type_of_term (unranged_term t) ≡ type_of_term t
+type_kept (Number at c r n) = refl
+type_kept (Letter at c r n) = refl
+type_kept (Variable at c r x) = refl
+type_kept (Unary at c r op a) = refl
+type_kept (Binary at c r op a b) = refl
+type_kept (Cast at c r to a) = refl
+type_kept (Choice at c r p a b) = refl
+type_kept (Named at c r x) = refl
+type_kept (At at c r l a) = refl
+type_kept (Null at c r) = refl
+type_kept (Deref at c r a) = refl
+type_kept (Member at c r d a) = refl
+type_kept (Address at c r a) = refl
+type_kept (Moved at c r op n a b) = refl
+type_kept (Difference at c r n a b) = refl
+type_kept (Told at c r f a) = refl
+
+place_kept : (t : LogicTerm) → IsPlace (unranged_term t) ≡ IsPlace t
+place_kept (Number at c r n) = refl
+place_kept (Letter at c r n) = refl
+place_kept (Variable at c r x) = refl
+place_kept (Unary at c r op a) = refl
+place_kept (Binary at c r op a b) = refl
+place_kept (Cast at c r to a) = refl
+place_kept (Choice at c r p a b) = refl
+place_kept (Named at c r x) = refl
+place_kept (At at c r l a) = refl
+place_kept (Null at c r) = refl
+place_kept (Deref at c r a) = refl
+place_kept (Member at c r d a) = refl
+place_kept (Address at c r a) = refl
+place_kept (Moved at c r op n a b) = refl
+place_kept (Difference at c r n a b) = refl
+place_kept (Told at c r f a) = refl
+
+zero_kept : (t : LogicTerm) → IsZeroTerm (unranged_term t) ≡ IsZeroTerm t
+zero_kept (Number at c r n) = refl
+zero_kept (Letter at c r n) = refl
+zero_kept (Variable at c r x) = refl
+zero_kept (Unary at c r op a) = refl
+zero_kept (Binary at c r op a b) = refl
+zero_kept (Cast at c r to a) = refl
+zero_kept (Choice at c r p a b) = refl
+zero_kept (Named at c r x) = refl
+zero_kept (At at c r l a) = refl
+zero_kept (Null at c r) = refl
+zero_kept (Deref at c r a) = refl
+zero_kept (Member at c r d a) = refl
+zero_kept (Address at c r a) = refl
+zero_kept (Moved at c r op n a b) = refl
+zero_kept (Difference at c r n a b) = refl
+zero_kept (Told at c r f a) = refl
+
+integer_kept : (t : LogicTerm) → IsIntegerTerm (unranged_term t) ≡ IsIntegerTerm t
+integer_kept t i = sort_of (type_kept t i) ≡ AnInteger
+
+pointer_kept : (t : LogicTerm) → IsPointerTerm (unranged_term t) ≡ IsPointerTerm t
+pointer_kept t i = (u : PlainType) × (sort_of (type_kept t i) ≡ APointer u)
+
+link_kept : (links : Links) → HasLink (unranged_links links) ≡ HasLink links
+link_kept NoLink = refl
+link_kept (Linked at r t rest) = refl
+
+related_kept : (a b : LogicTerm) → AreRelated (unranged_term a) (unranged_term b) ≡ AreRelated a b
+related_kept a b i =
+    (integer_kept a i × integer_kept b i) ⊎ (pointer_kept a i × pointer_kept b i) ⊎ (pointer_kept a i × zero_kept b i) ⊎ (zero_kept a i × pointer_kept b i)
+
 mutual
   term_typed : (s : Sight) (t : LogicTerm) → TermTyped s (unranged_term t) ≡ TermTyped s t
   term_typed s (Number at c r n) = refl
   term_typed s (Letter at c r n) = refl
   term_typed s (Variable at c r x) = refl
-  term_typed s (Unary at c r op a) = λ i. (c ≡ None) × IsOnInteger op × term_typed s a i
-  term_typed s (Binary at c r op a b) = λ i. (c ≡ None) × term_typed s a i × term_typed s b i
-  term_typed s (Cast at c r to a) = λ i. (c ≡ None) × IsCastType to × term_typed s a i
-  term_typed s (Choice at c r p a b) = λ i. (c ≡ None) × predicate_typed s p i × term_typed s a i × term_typed s b i
+  term_typed s (Unary at c r op a) = λ i. (c ≡ None) × IsOnInteger op × integer_kept a i × term_typed s a i
+  term_typed s (Binary at c r op a b) = λ i. (c ≡ None) × integer_kept a i × integer_kept b i × term_typed s a i × term_typed s b i
+  term_typed s (Cast at c r to a) = λ i. IsCast c to (sort_of (type_kept a i)) × term_typed s a i
+  term_typed s (Choice at c r p a b) = λ i. IsChoice c (sort_of (type_kept a i)) (sort_of (type_kept b i)) × predicate_typed s p i × term_typed s a i × term_typed s b i
   term_typed s (Named at c r x) = refl
   term_typed s (At at c r l a) = refl
   term_typed s (Null at c r) = refl
-  term_typed s (Deref at c r a) = refl
-  term_typed s (Member at c r d a) = refl
-  term_typed s (Address at c r a) = refl
-  term_typed s (Moved at c r op n a b) = refl
-  term_typed s (Difference at c r n a b) = refl
-  term_typed s (Told at c r f a) = refl
+  term_typed s (Deref at c r a) = λ i. (u : PlainType) × (c ≡ Some u) × (sort_of (type_kept a i) ≡ APointer u) × term_typed s a i
+  term_typed s (Member at c r d a) = λ i. (u : PlainType) × (c ≡ Some u) × (n : ℕ) × (type_kept a i ≡ Some (Struct n)) × place_kept a i × term_typed s a i × IsExtent d
+  term_typed s (Address at c r a) = λ i. (u : PlainType) × (c ≡ Some (Ptr u)) × (type_kept a i ≡ Some u) × place_kept a i × term_typed s a i
+  term_typed s (Moved at c r op n a b) = λ i. (u : PlainType) × (c ≡ Some (Ptr u)) × (sort_of (type_kept a i) ≡ APointer u) × integer_kept b i × term_typed s a i × term_typed s b i × IsSize n
+  term_typed s (Difference at c r n a b) = λ i. (c ≡ None) × pointer_kept a i × pointer_kept b i × term_typed s a i × term_typed s b i × IsSize n
+  term_typed s (Told at c r f a) = λ i. (c ≡ told_type f) × pointer_kept a i × term_typed s a i
 
-  links_typed : (s : Sight) (l : Links) → LinksTyped s (unranged_links l) ≡ LinksTyped s l
-  links_typed s NoLink = refl
-  links_typed s (Linked at r t rest) = λ i. term_typed s t i × links_typed s rest i
+  links_typed : (s : Sight) (a : LogicTerm) (l : Links) → LinksTyped s (unranged_term a) (unranged_links l) ≡ LinksTyped s a l
+  links_typed s a NoLink = refl
+  links_typed s a (Linked at r t rest) = λ i. related_kept a t i × term_typed s t i × links_typed s t rest i
+
+  zone_typed : (s : Sight) (z : Zone) → ZoneTyped s (unranged_zone z) ≡ ZoneTyped s z
+  zone_typed s (Object at n m a) = λ i. pointer_kept a i × term_typed s a i × IsSize n × IsAlignment m
+  zone_typed s (Elements at n m a lo hi) = λ i. pointer_kept a i × integer_kept lo i × integer_kept hi i × term_typed s a i × term_typed s lo i × term_typed s hi i × IsSize n × IsAlignment m
+
+  zones_typed : (s : Sight) (zs : Zones) → ZonesTyped s (unranged_zones zs) ≡ ZonesTyped s zs
+  zones_typed s NoZone = refl
+  zones_typed s (Another z rest) = λ i. zone_typed s z i × zones_typed s rest i
 
   predicate_typed : (s : Sight) (p : Predicate) → PredicateTyped s (unranged_pred p) ≡ PredicateTyped s p
   predicate_typed s (Truth at b) = refl
-  predicate_typed s (NonZero at t) = term_typed s t
-  predicate_typed s (Chain at t links) = λ i. term_typed s t i × links_typed s links i
+  predicate_typed s (NonZero at t) = λ i. integer_kept t i × term_typed s t i
+  predicate_typed s (Chain at t links) = λ i. term_typed s t i × links_typed s t links i × link_kept links i
   predicate_typed s (Not at p) = predicate_typed s p
   predicate_typed s (Connected at c p q) = λ i. predicate_typed s p i × predicate_typed s q i
   predicate_typed s (Branch at c p q) = λ i. predicate_typed s c i × predicate_typed s p i × predicate_typed s q i
   predicate_typed s (Quantified at q gs p) = refl
-  predicate_typed s (Asks at f z) = refl
-  predicate_typed s (Separated at zs) = refl
+  predicate_typed s (Asks at f z) = zone_typed s z
+  predicate_typed s (Separated at zs) = zones_typed s zs
 
 clause_typed : (s : Sight) (b : ClauseBody) → ClauseTyped s (unranged_clause b) ≡ ClauseTyped s b
 clause_typed s (Raw f) = refl

@@ -1,4 +1,4 @@
--- The grammar of annotations, with the forms that are read (ACSL 2.2, 2.4.1):
+-- The grammar of annotations, with the forms that are read (ACSL 2.2, 2.4.1, 2.7):
 --
 --   annotation  = ANNOT-OPEN assert { assert } ANNOT-CLOSE
 --   assert      = "assert" form ";"
@@ -15,29 +15,42 @@
 --   shift       = sum { ( "<<" | ">>" ) sum }
 --   sum         = product { ( "+" | "-" ) product }
 --   product     = prefix { ( "*" | "/" | "%" ) prefix }
---   prefix      = ( "+" | "-" | "!" | "~" ) prefix | "(" ( type | "integer" ) ")" prefix | primary
---   primary     = NAME | NUMBER | CHAR | "\true" | "\false" | "(" form ")" | "sizeof" "(" type ")"
+--   prefix      = ( "+" | "-" | "!" | "~" | "*" | "&" ) prefix | "(" ( type | "integer" ) ")" prefix | "sizeof" "(" type ")" | postfix
+--   postfix     = primary { "[" form "]" | "." ANYNAME | "->" ANYNAME }
+--   primary     = NAME | NUMBER | CHAR | "\true" | "\false" | "\null" | "(" form ")"
+--               | ( "\base_addr" | "\block_length" | "\offset" ) "(" form ")"
+--               | ( "\valid" | "\valid_read" | "\initialized" ) "(" zone ")" | "\separated" "(" zone "," zone { "," zone } ")"
+--   zone        = form [ "+" "(" form ".." form ")" ]
 --
--- The type of a cast and of `sizeof` is C's. `integer` is no NAME, and `assert` is one. A clause is told by its word also where a typedef
--- makes that the name of a type. A clause has at most 400 tokens. Relations bind closer than `&`, as in C. Names and their declarations are
--- set by typing.
+-- The type of a cast and of `sizeof` is C's. `integer` is no NAME, and `assert` is one; each of them may be the name of a member. A clause is
+-- told by its word also where a typedef makes that the name of a type. A clause has at most 400 tokens. Relations bind closer than `&`, as in C.
+-- Names and their declarations are set by typing.
+--
+-- Only behind a form in parentheses is it seen whether a `+` before it adds, or begins the range of a zone, whose form is then the whole one before
+-- the `+`. So a form is read in one of two modes. In that of a zone a sum goes on with a range too, and nothing goes on behind one; it is handed on
+-- to what may stand last in a form: the right operand of each level, and the last part of a choice.
 use Rattle.std.specs.Prelude.{ℕ, ◌+◌, List, [], ◌∷◌, ◌++◌, Option, Some, None, Bool, cond, eqb}
-use Rattle.grammar.specs.Syntax.{Syntax, gives, one, ◌then◌, choice, many, knot, at_most}
+use Rattle.grammar.specs.Syntax.{Syntax, none, gives, one, ◌then◌, choice, many, knot, at_most}
 use Rattle.c_syntax.specs.declared.place.Place.{Place}
 use Rattle.c_syntax.specs.declared.expression.BinOp.TheVariants.{Add, Sub, Mul, Div, Rem, Shl, Shr, BitAnd, BitOr, BitXor}
 use Rattle.c_syntax.specs.declared.expression.UnOp.{UnOp}
-use Rattle.c_syntax.specs.declared.expression.UnOp.TheVariants.{Plus, Minus, Not, Flip}
+use Rattle.c_syntax.specs.declared.expression.UnOp.TheVariants.{Plus, Minus, Not, Flip, Deref, Address}
 use Rattle.c_syntax.specs.declared.annotation.Kind.TheVariants as clause
 use Rattle.c_syntax.specs.declared.annotation.Relation.{Relation}
 use Rattle.c_syntax.specs.declared.annotation.Relation.TheVariants as relation
+use Rattle.c_syntax.specs.declared.logic.BlockFact.{BlockFact}
 use Rattle.c_syntax.specs.declared.logic.Connective.TheVariants as connective
+use Rattle.c_syntax.specs.declared.logic.MemoryQuestion.{MemoryQuestion}
 use Rattle.c_syntax.specs.Formulas.{CastType, Integers, OfC, Form, Number, Letter, Truth, Name, Unary, Binary, Cast, SizeOf, Chain, Connected, Choice}
-use Rattle.c_syntax.specs.Formulas.{FormLinks, NoLink, Linked}
+use Rattle.c_syntax.specs.Formulas.{FormLinks, NoLink, Linked, Null, Index, Dot, Arrow, Told, Asks, Separated, FormZone, Object, Elements, FormZones, NoZone}
+use Rattle.c_syntax.specs.Formulas.{Another}
 use Rattle.c_syntax.specs.Logic.{Annotation, Raw}
 use Rattle.c_syntax.specs.Tokens as token
 use Rattle.c_syntax.specs.Tokens.{PlainTokenKind, PlainToken}
 use Rattle.c_model.specs.declared.formulas.FormulaOperator.{FormulaOperator}
 use Rattle.c_model.specs.declared.formulas.FormulaOperator.TheVariants.{Term, Predicate}
+use Rattle.c_model.specs.declared.formulas.FormulaMode.{FormulaMode}
+use Rattle.c_model.specs.declared.formulas.FormulaMode.TheVariants.{Alone, Zone}
 use Rattle.c_model.specs.declared.formulas.ChainDirection.{ChainDirection}
 use Rattle.c_model.specs.declared.formulas.ChainDirection.TheVariants.{Start, Equal, Up, Down, Ended}
 use Rattle.c_model.specs.declared.vocabulary.Keyword.TheVariants as keyword
@@ -48,11 +61,12 @@ use Rattle.c_model.specs.declared.vocabulary.Word.TheVariants as word
 use Rattle.c_model.specs.Vocabulary.{Vocabulary, word_at}
 use Rattle.c_model.specs.Punctuators.{shift_left, shift_right, less_equal, greater_equal, equal, not_equal, and_and, or_or, plus, minus, times, divide}
 use Rattle.c_model.specs.Punctuators.{percent, less, greater, exclamation, tilde, ampersand, bar, caret, question, colon, semicolon, left_paren}
-use Rattle.c_model.specs.Punctuators.{right_paren, equivalent, implies, caret_caret}
+use Rattle.c_model.specs.Punctuators.{right_paren, equivalent, implies, caret_caret, comma, dot, arrow, left_bracket, right_bracket, dots}
 use Rattle.c_model.specs.Terminals.{placed, mark_entry, expression_limit}
 use Rattle.c_model.specs.ExpressionGrammar.{name_kind, type_name_kind, number_kind, letter_kind, annot_open_kind, annot_close_kind, keyword_kind, mark_kind}
 use Rattle.c_model.specs.ExpressionGrammar.{word_kind, token_kind, letter_of, number_of, kinds_of, first_type, use_of, most_in_expression}
-use Rattle.c_model.specs.ExpressionGrammar.{fixed, mark, reserved, closed, type_name, expression}
+use Rattle.c_model.specs.ExpressionGrammar.{null_kind, fact_kind, question_kind, separated_kind, fixed, mark, reserved, closed, type_name, expression}
+use Rattle.c_model.specs.ExpressionGrammar.{any_name}
 
 -- ---- kinds of tokens in annotations: those of C, but that `integer` has a kind of its own
 
@@ -76,6 +90,14 @@ abbrev pub truth_word : Word → Option Bool
 truth_word (word.Logic (logic.Truth b)) = Some b
 truth_word _ = None
 
+abbrev pub fact_word : Word → Option BlockFact
+fact_word (word.Logic (logic.Told f)) = Some f
+fact_word _ = None
+
+abbrev pub question_word : Word → Option MemoryQuestion
+question_word (word.Logic (logic.Asks q)) = Some q
+question_word _ = None
+
 abbrev pub assert_word_of : Word → Option (Unit {0})
 assert_word_of word.Assert = Some tt
 assert_word_of (word.TypeName DeclaredAssert) = Some tt
@@ -85,16 +107,23 @@ assert_word_of _ = None
 abbrev pub first_clause : List ℕ
 first_clause = name_kind ∷ type_name_kind ∷ []
 
+-- what a postfix form goes on with; it serves `parse` alone
+abbrev pub first_behind : List ℕ
+first_behind = mark_kind left_bracket ∷ mark_kind dot ∷ mark_kind arrow ∷ []
+
 -- ---- operators, by their punctuators (ACSL 2.2.1)
 
 abbrev pub prefix_operators : List (ℕ × UnOp)
-prefix_operators = (plus, Plus) ∷ (minus, Minus) ∷ (exclamation, Not) ∷ (tilde, Flip) ∷ []
+prefix_operators = (plus, Plus) ∷ (minus, Minus) ∷ (exclamation, Not) ∷ (tilde, Flip) ∷ (times, Deref) ∷ (ampersand, Address) ∷ []
 
 abbrev pub product_operators : List (ℕ × FormulaOperator)
 product_operators = (times, Term Mul) ∷ (divide, Term Div) ∷ (percent, Term Rem) ∷ []
 
 abbrev pub sum_operators : List (ℕ × FormulaOperator)
 sum_operators = (plus, Term Add) ∷ (minus, Term Sub) ∷ []
+
+abbrev pub difference_operators : List (ℕ × FormulaOperator)
+difference_operators = (minus, Term Sub) ∷ []
 
 abbrev pub shift_operators : List (ℕ × FormulaOperator)
 shift_operators = (shift_left, Term Shl) ∷ (shift_right, Term Shr) ∷ []
@@ -149,6 +178,19 @@ direction_behind d relation.Ne = Ended
 
 -- ---- forms
 
+-- a range `+ (lo .. hi)`, at its `+`
+pub record FormRange : Type 0 where
+  pub place : Place
+  pub lo : Form
+  pub hi : Form
+
+abbrev pub range_at : Place → Form → Form → FormRange
+range_at at lo hi = record { place = at; lo = lo; hi = hi }
+
+-- what is read, and the range that ends it, which stands in a zone alone
+abbrev pub Spanned : Type 0 → Type 0
+Spanned A = A × Option FormRange
+
 -- two forms and what joins them
 abbrev pub joined_forms : FormulaOperator × Place → Form → Form → Form
 joined_forms (Term op, at) a b = Binary at op a b
@@ -158,6 +200,29 @@ joined_forms (Predicate c, at) a b = Connected at c a b
 abbrev pub chained : Form → FormLinks → Form
 chained a NoLink = a
 chained a (Linked at r b links) = Chain at a (Linked at r b links)
+
+-- the zone of a form: the elements of its range, or what the form points to
+abbrev pub zone_of : Spanned Form → FormZone
+zone_of x = elim x.1 [ None ↦ Object x.0 | Some r ↦ Elements r.place x.0 r.lo r.hi ]
+
+abbrev pub zones_of : List FormZone → FormZones
+zones_of [] = NoZone
+zones_of (z ∷ zs) = Another z (zones_of zs)
+
+-- the kinds with which something goes on that no range ends
+abbrev pub unended_kinds : {A : Type 0} → List ℕ → Spanned A → List ℕ
+unended_kinds ks x = elim x.1 [ None ↦ ks | Some r ↦ [] ]
+
+-- goes on behind a form that no range ends
+abbrev pub unended : {A B : Type 0} → (A → Syntax PlainToken (Spanned B)) → (A → B) → Spanned A → Syntax PlainToken (Spanned B)
+unended G f x = elim x.1 [ None ↦ G x.0 | Some r ↦ gives (f x.0, Some r) ]
+
+-- the same, where there is nothing else
+abbrev pub unended_only : (Form → Syntax PlainToken (Spanned Form)) → Spanned Form → Syntax PlainToken (Spanned Form)
+unended_only G x = elim x.1 [ None ↦ G x.0 | Some r ↦ none ]
+
+abbrev pub as_it_is : {A : Type 0} → A → A
+as_it_is a = a
 
 -- the assert with the number n at this place
 abbrev pub assertion : ℕ → Place → Form → Annotation
@@ -175,6 +240,16 @@ module _ (ws : Vocabulary) where
   truth_of (token.Word n) = truth_word (word_at ws n)
   truth_of _ = None
 
+  -- `\base_addr`, `\block_length` and `\offset`
+  abbrev pub fact_of : PlainTokenKind → Option BlockFact
+  fact_of (token.Word n) = fact_word (word_at ws n)
+  fact_of _ = None
+
+  -- `\valid`, `\valid_read` and `\initialized`
+  abbrev pub question_of : PlainTokenKind → Option MemoryQuestion
+  question_of (token.Word n) = question_word (word_at ws n)
+  question_of _ = None
+
   -- the word `integer`, by its place
   abbrev pub integer_word : Syntax PlainToken Place
   integer_word = one (λ t. cond (eqb (formula_kind ws t) integer_kind) (Some t.place) None)
@@ -184,7 +259,17 @@ module _ (ws : Vocabulary) where
   assert_word (token.Word n) = assert_word_of (word_at ws n)
   assert_word _ = None
 
-  -- ---- prefix and primary forms; E stands for a form inside another, P for what follows a prefix
+  -- ---- what stands in a form; F stands for a form inside another, in each mode
+
+  -- a form that no range ends
+  unfoldable pub whole : (FormulaMode → Syntax PlainToken (Spanned Form)) → Syntax PlainToken Form
+  whole F = F Alone then λ x. gives x.0
+
+  -- form [ "+" "(" form ".." form ")" ]
+  unfoldable pub zone : (FormulaMode → Syntax PlainToken (Spanned Form)) → Syntax PlainToken FormZone
+  zone F = F Zone then λ x. gives (zone_of x)
+
+  -- ---- primary forms; E stands for a form inside another, Z for a zone
 
   -- NAME
   unfoldable pub named_form : Syntax PlainToken Form
@@ -202,11 +287,71 @@ module _ (ws : Vocabulary) where
   sized_form =
       reserved ws keyword.Sizeof then λ at. mark ws left_paren then λ _. type_name ws (expression ws) then λ t. closed ws (SizeOf at t)
 
-  -- NAME | "sizeof" "(" type ")" | NUMBER | CHAR | "\true" | "\false"
+  -- "\null"
+  unfoldable pub null_form : Syntax PlainToken Form
+  null_form = fixed ws null_kind then λ at. gives (Null at)
+
+  -- ( "\base_addr" | "\block_length" | "\offset" ) "(" form ")"
+  unfoldable pub told_form : Syntax PlainToken Form → Syntax PlainToken Form
+  told_form E = one (placed fact_of) then λ f. mark ws left_paren then λ _. E then λ x. closed ws (Told f.1 f.0 x)
+
+  -- ( "\valid" | "\valid_read" | "\initialized" ) "(" zone ")"
+  unfoldable pub asked_form : Syntax PlainToken FormZone → Syntax PlainToken Form
+  asked_form Z = one (placed question_of) then λ q. mark ws left_paren then λ _. Z then λ z. closed ws (Asks q.1 q.0 z)
+
+  -- "," zone, behind others
+  unfoldable pub next_zone : Syntax PlainToken FormZone → List FormZone → Syntax PlainToken (List FormZone)
+  next_zone Z zs = mark ws comma then λ _. Z then λ z. gives (zs ++ z ∷ [])
+
+  -- zone "," zone { "," zone }
+  unfoldable pub some_zones : Syntax PlainToken FormZone → Syntax PlainToken (List FormZone)
+  some_zones Z = Z then λ z. next_zone Z (z ∷ []) then λ zs. many (formula_kind ws) (λ _. mark_kind comma ∷ []) (next_zone Z) zs
+
+  -- "\separated" "(" zone "," zone { "," zone } ")"
+  unfoldable pub separated_form : Syntax PlainToken FormZone → Syntax PlainToken Form
+  separated_form Z = fixed ws separated_kind then λ at. mark ws left_paren then λ _. some_zones Z then λ zs. closed ws (Separated at (zones_of zs))
+
+  -- NAME | NUMBER | CHAR | "\true" | "\false" | "\null"
   unfoldable pub atom : Syntax PlainToken Form
   atom =
       choice (formula_kind ws) (name_kind ∷ []) named_form
-      (choice (formula_kind ws) (keyword_kind keyword.Sizeof ∷ []) sized_form literal_form)
+      (choice (formula_kind ws) (null_kind ∷ []) null_form literal_form)
+
+  -- a primary form that begins with no parenthesis
+  unfoldable pub worded : Syntax PlainToken Form → Syntax PlainToken FormZone → Syntax PlainToken Form
+  worded E Z =
+      choice (formula_kind ws) (fact_kind ∷ []) (told_form E)
+      (choice (formula_kind ws) (question_kind ∷ []) (asked_form Z)
+      (choice (formula_kind ws) (separated_kind ∷ []) (separated_form Z) atom))
+
+  -- ---- postfix forms
+
+  -- "[" form "]", after a form
+  unfoldable pub indexed : Syntax PlainToken Form → Form → Syntax PlainToken Form
+  indexed E x = mark ws left_bracket then λ at. E then λ y. mark ws right_bracket then λ _. gives (Index at x y)
+
+  -- "." ANYNAME, after a form
+  unfoldable pub dotted : Form → Syntax PlainToken Form
+  dotted x = mark ws dot then λ at. any_name ws then λ m. gives (Dot at x m.0)
+
+  -- "->" ANYNAME, after a form
+  unfoldable pub pointed : Form → Syntax PlainToken Form
+  pointed x = mark ws arrow then λ at. any_name ws then λ m. gives (Arrow at x m.0)
+
+  unfoldable pub postfix_once : Syntax PlainToken Form → Form → Syntax PlainToken Form
+  postfix_once E x =
+      choice (formula_kind ws) (mark_kind left_bracket ∷ []) (indexed E x)
+      (choice (formula_kind ws) (mark_kind dot ∷ []) (dotted x) (pointed x))
+
+  -- { "[" form "]" | "." ANYNAME | "->" ANYNAME }, after a form
+  unfoldable pub postfixes : Syntax PlainToken Form → Form → Syntax PlainToken Form
+  postfixes E x = many (formula_kind ws) (λ _. first_behind) (postfix_once E) x
+
+  -- a postfix form that begins with no parenthesis
+  unfoldable pub worded_postfix : Syntax PlainToken Form → Syntax PlainToken FormZone → Syntax PlainToken Form
+  worded_postfix E Z = worded E Z then λ x. postfixes E x
+
+  -- ---- prefix forms; P stands for what follows a prefix
 
   -- ")" prefix, after "(" and the type
   unfoldable pub cast_behind : Syntax PlainToken Form → Place → CastType → Syntax PlainToken Form
@@ -220,9 +365,13 @@ module _ (ws : Vocabulary) where
   unfoldable pub cast_to_integer : Syntax PlainToken Form → Place → Syntax PlainToken Form
   cast_to_integer P at = integer_word then λ _. cast_behind P at Integers
 
-  -- form ")", after "("
+  -- ")" and what may stand behind a form in parentheses
+  unfoldable pub closed_postfix : Syntax PlainToken Form → Form → Syntax PlainToken Form
+  closed_postfix E x = mark ws right_paren then λ _. postfixes E x
+
+  -- form ")" and what may stand behind it, after "("
   unfoldable pub parenthesised : Syntax PlainToken Form → Syntax PlainToken Form
-  parenthesised E = E then λ x. closed ws x
+  parenthesised E = E then λ x. closed_postfix E x
 
   -- what stands after "("
   unfoldable pub behind_parenthesis : Syntax PlainToken Form → Syntax PlainToken Form → Place → Syntax PlainToken Form
@@ -230,100 +379,171 @@ module _ (ws : Vocabulary) where
       choice (formula_kind ws) first_type (cast_to_type P at)
       (choice (formula_kind ws) (integer_kind ∷ []) (cast_to_integer P at) (parenthesised E))
 
-  -- ( "+" | "-" | "!" | "~" ) prefix
+  -- ( "+" | "-" | "!" | "~" | "*" | "&" ) prefix
   unfoldable pub prefixed : Syntax PlainToken Form → Syntax PlainToken Form
   prefixed P = one (placed (mark_entry prefix_operators)) then λ o. P then λ x. gives (Unary o.1 o.0 x)
 
-  unfoldable pub prefix_of : Syntax PlainToken Form → Syntax PlainToken Form → Syntax PlainToken Form
-  prefix_of E P =
-      choice (formula_kind ws) (mark_kind left_paren ∷ []) (mark ws left_paren then λ at. behind_parenthesis E P at)
-      (choice (formula_kind ws) (kinds_of prefix_operators) (prefixed P) atom)
+  -- one that begins with no parenthesis
+  unfoldable pub bare_prefix : Syntax PlainToken Form → Syntax PlainToken FormZone → Syntax PlainToken Form → Syntax PlainToken Form
+  bare_prefix E Z P =
+      choice (formula_kind ws) (kinds_of prefix_operators) (prefixed P)
+      (choice (formula_kind ws) (keyword_kind keyword.Sizeof ∷ []) sized_form (worded_postfix E Z))
 
-  unfoldable pub prefix : Syntax PlainToken Form → Syntax PlainToken Form
-  prefix E = knot {S = Unit {0}} (λ P u. prefix_of E (P u)) tt
+  unfoldable pub prefix_of : Syntax PlainToken Form → Syntax PlainToken FormZone → Syntax PlainToken Form → Syntax PlainToken Form
+  prefix_of E Z P =
+      choice (formula_kind ws) (mark_kind left_paren ∷ []) (mark ws left_paren then λ at. behind_parenthesis E P at) (bare_prefix E Z P)
 
-  -- ---- operators, from the one that binds closest
+  unfoldable pub prefix : Syntax PlainToken Form → Syntax PlainToken FormZone → Syntax PlainToken Form
+  prefix E Z = knot {S = Unit {0}} (λ P u. prefix_of E Z (P u)) tt
 
-  -- an operator of the table with its right operand R, after the left one
-  unfoldable pub joined_once : List (ℕ × FormulaOperator) → Syntax PlainToken Form → Form → Syntax PlainToken Form
-  joined_once table R left = one (placed (mark_entry table)) then λ o. R then λ right. gives (joined_forms o left right)
+  -- ---- operators, from the one that binds closest; R stands for their operands
+
+  -- an operator of the table with its right operand, after the left one
+  unfoldable pub joined_once : List (ℕ × FormulaOperator) → Syntax PlainToken (Spanned Form) → Form → Syntax PlainToken (Spanned Form)
+  joined_once table R left = one (placed (mark_entry table)) then λ o. R then λ right. gives (joined_forms o left right.0, right.1)
 
   -- operators of the table with their right operands, after the left one
-  unfoldable pub joined_more : List (ℕ × FormulaOperator) → Syntax PlainToken Form → Form → Syntax PlainToken Form
-  joined_more table R left = many (formula_kind ws) (λ _. kinds_of table) (joined_once table R) left
+  unfoldable pub joined_more : List (ℕ × FormulaOperator) → Syntax PlainToken (Spanned Form) → Spanned Form → Syntax PlainToken (Spanned Form)
+  joined_more table R left = many (formula_kind ws) (unended_kinds (kinds_of table)) (unended_only (joined_once table R)) left
 
-  -- operands R joined from the left by operators of the table
-  unfoldable pub joined : List (ℕ × FormulaOperator) → Syntax PlainToken Form → Syntax PlainToken Form
+  -- operands joined from the left by operators of the table
+  unfoldable pub joined : List (ℕ × FormulaOperator) → Syntax PlainToken (Spanned Form) → Syntax PlainToken (Spanned Form)
   joined table R = R then λ left. joined_more table R left
 
-  -- a relation, the operand R after it, and those that go on with them; L stands for what goes on
-  unfoldable pub linked : Syntax PlainToken Form → (ChainDirection → Syntax PlainToken FormLinks) → ChainDirection → Syntax PlainToken FormLinks
-  linked R L d =
-      one (placed (mark_entry (relations_behind d))) then λ r. R then λ x. L (direction_behind d r.0) then λ links. gives (Linked r.1 r.0 x links)
+  -- a prefix form, which no range ends
+  unfoldable pub factor : Syntax PlainToken Form → Syntax PlainToken FormZone → Syntax PlainToken (Spanned Form)
+  factor E Z = prefix E Z then λ x. gives (x, None)
 
-  unfoldable pub links_of : Syntax PlainToken Form → (ChainDirection → Syntax PlainToken FormLinks) → ChainDirection → Syntax PlainToken FormLinks
-  links_of R L d = choice (formula_kind ws) (kinds_of (relations_behind d)) (linked R L d) (gives NoLink)
+  abbrev pub product : Syntax PlainToken Form → Syntax PlainToken FormZone → Syntax PlainToken (Spanned Form)
+  product E Z = joined product_operators (factor E Z)
+
+  -- ---- sums in the mode of a zone
+
+  -- the rest of a right operand of the `+` at this place that begins with this form
+  unfoldable pub added_rest : Syntax PlainToken Form → Syntax PlainToken FormZone → Form → Place → Form → Syntax PlainToken (Spanned Form)
+  added_rest E Z left at x = joined_more product_operators (factor E Z) (x, None) then λ y. gives (Binary at Add left y.0, y.1)
+
+  -- ".." form ")", after the form that begins a range
+  unfoldable pub ranged : Syntax PlainToken Form → Form → Place → Form → Syntax PlainToken (Spanned Form)
+  ranged E left at lo = mark ws dots then λ _. E then λ hi. closed ws (left, Some (range_at at lo hi))
+
+  -- what stands behind the form after "+" "(": a range, or the rest of an operand
+  unfoldable pub behind_first : Syntax PlainToken Form → Syntax PlainToken FormZone → Form → Place → Form → Syntax PlainToken (Spanned Form)
+  behind_first E Z left at x =
+      choice (formula_kind ws) (mark_kind dots ∷ []) (ranged E left at x) (closed_postfix E x then λ y. added_rest E Z left at y)
+
+  -- what stands after "+" "(", where the `(` stands at the second place
+  unfoldable pub added_parenthesis : Syntax PlainToken Form → Syntax PlainToken FormZone → Form → Place → Place → Syntax PlainToken (Spanned Form)
+  added_parenthesis E Z left at paren =
+      choice (formula_kind ws) first_type (cast_to_type (prefix E Z) paren then λ x. added_rest E Z left at x)
+      (choice (formula_kind ws) (integer_kind ∷ []) (cast_to_integer (prefix E Z) paren then λ x. added_rest E Z left at x)
+      (E then λ x. behind_first E Z left at x))
+
+  -- what stands after "+"
+  unfoldable pub added : Syntax PlainToken Form → Syntax PlainToken FormZone → Form → Place → Syntax PlainToken (Spanned Form)
+  added E Z left at =
+      choice (formula_kind ws) (mark_kind left_paren ∷ []) (mark ws left_paren then λ paren. added_parenthesis E Z left at paren)
+      (bare_prefix E Z (prefix E Z) then λ x. added_rest E Z left at x)
+
+  -- "+" or "-" with its right operand, or a range, after the left operand
+  unfoldable pub sum_once : Syntax PlainToken Form → Syntax PlainToken FormZone → Form → Syntax PlainToken (Spanned Form)
+  sum_once E Z left =
+      choice (formula_kind ws) (mark_kind plus ∷ []) (mark ws plus then λ at. added E Z left at) (joined_once difference_operators (product E Z) left)
+
+  unfoldable pub sum_more : Syntax PlainToken Form → Syntax PlainToken FormZone → Spanned Form → Syntax PlainToken (Spanned Form)
+  sum_more E Z left = many (formula_kind ws) (unended_kinds (kinds_of sum_operators)) (unended_only (sum_once E Z)) left
+
+  unfoldable pub zone_sum : Syntax PlainToken Form → Syntax PlainToken FormZone → Syntax PlainToken (Spanned Form)
+  zone_sum E Z = product E Z then λ left. sum_more E Z left
+
+  -- ---- chains
+
+  -- a relation, the operand R after it, and those that go on with them; L stands for what goes on
+  unfoldable pub linked : Syntax PlainToken (Spanned Form) → (ChainDirection → Syntax PlainToken (Spanned FormLinks)) → ChainDirection
+      → Syntax PlainToken (Spanned FormLinks)
+  linked R L d =
+      one (placed (mark_entry (relations_behind d))) then λ r. R then λ x. unended (λ _. L (direction_behind d r.0)) (λ _. NoLink) x then λ links.
+      gives (Linked r.1 r.0 x.0 links.0, links.1)
+
+  unfoldable pub links_of : Syntax PlainToken (Spanned Form) → (ChainDirection → Syntax PlainToken (Spanned FormLinks)) → ChainDirection
+      → Syntax PlainToken (Spanned FormLinks)
+  links_of R L d = choice (formula_kind ws) (kinds_of (relations_behind d)) (linked R L d) (gives (NoLink, None))
 
   -- relations and their operands, after a chain that goes this way
-  unfoldable pub links : Syntax PlainToken Form → ChainDirection → Syntax PlainToken FormLinks
+  unfoldable pub links : Syntax PlainToken (Spanned Form) → ChainDirection → Syntax PlainToken (Spanned FormLinks)
   links R = knot (links_of R)
 
+  -- the relations after an operand
+  unfoldable pub chain_behind : Syntax PlainToken (Spanned Form) → Form → Syntax PlainToken (Spanned Form)
+  chain_behind R x = links R Start then λ ls. gives (chained x ls.0, ls.1)
+
   -- an operand R with the relations after it
-  unfoldable pub chain_of : Syntax PlainToken Form → Syntax PlainToken Form
-  chain_of R = R then λ x. links R Start then λ ls. gives (chained x ls)
+  unfoldable pub chain_of : Syntax PlainToken (Spanned Form) → Syntax PlainToken (Spanned Form)
+  chain_of R = R then λ x. unended (chain_behind R) as_it_is x
+
+  -- ---- implications and choices
 
   -- "==>" and the right operand I, after the left one
-  unfoldable pub implied : Syntax PlainToken Form → Form → Syntax PlainToken Form
-  implied I x = mark ws implies then λ at. I then λ y. gives (Connected at connective.Implies x y)
+  unfoldable pub implied : Syntax PlainToken (Spanned Form) → Form → Syntax PlainToken (Spanned Form)
+  implied I x = mark ws implies then λ at. I then λ y. gives (Connected at connective.Implies x y.0, y.1)
 
-  unfoldable pub implication_of : Syntax PlainToken Form → Syntax PlainToken Form → Syntax PlainToken Form
-  implication_of D I = D then λ x. choice (formula_kind ws) (mark_kind implies ∷ []) (implied I x) (gives x)
+  unfoldable pub implication_behind : Syntax PlainToken (Spanned Form) → Form → Syntax PlainToken (Spanned Form)
+  implication_behind I x = choice (formula_kind ws) (mark_kind implies ∷ []) (implied I x) (gives (x, None))
 
-  -- "?" form ":" form, after the condition
-  unfoldable pub choice_behind : Syntax PlainToken Form → Form → Syntax PlainToken Form
-  choice_behind E c = mark ws question then λ at. E then λ x. mark ws colon then λ _. E then λ y. gives (Choice at c x y)
+  unfoldable pub implication_of : Syntax PlainToken (Spanned Form) → Syntax PlainToken (Spanned Form) → Syntax PlainToken (Spanned Form)
+  implication_of D I = D then λ x. unended (implication_behind I) as_it_is x
 
-  abbrev pub product : Syntax PlainToken Form → Syntax PlainToken Form
-  product E = joined product_operators (prefix E)
+  -- "?" form ":" form, after the condition; L stands for its last part
+  unfoldable pub chosen_behind : Syntax PlainToken Form → Syntax PlainToken (Spanned Form) → Form → Syntax PlainToken (Spanned Form)
+  chosen_behind E L c = mark ws question then λ at. E then λ x. mark ws colon then λ _. L then λ y. gives (Choice at c x y.0, y.1)
 
-  abbrev pub sum : Syntax PlainToken Form → Syntax PlainToken Form
-  sum E = joined sum_operators (product E)
+  unfoldable pub choice_behind : Syntax PlainToken Form → Syntax PlainToken (Spanned Form) → Form → Syntax PlainToken (Spanned Form)
+  choice_behind E L c = choice (formula_kind ws) (mark_kind question ∷ []) (chosen_behind E L c) (gives (c, None))
 
-  abbrev pub shift : Syntax PlainToken Form → Syntax PlainToken Form
-  shift E = joined shift_operators (sum E)
+  -- ---- forms, level by level, in each mode
 
-  abbrev pub chain : Syntax PlainToken Form → Syntax PlainToken Form
-  chain E = chain_of (shift E)
+  abbrev pub sum : Syntax PlainToken Form → Syntax PlainToken FormZone → FormulaMode → Syntax PlainToken (Spanned Form)
+  sum E Z Alone = joined sum_operators (product E Z)
+  sum E Z Zone = zone_sum E Z
 
-  abbrev pub bit_and : Syntax PlainToken Form → Syntax PlainToken Form
-  bit_and E = joined bit_and_operators (chain E)
+  abbrev pub shift : Syntax PlainToken Form → Syntax PlainToken FormZone → FormulaMode → Syntax PlainToken (Spanned Form)
+  shift E Z m = joined shift_operators (sum E Z m)
 
-  abbrev pub bit_xor : Syntax PlainToken Form → Syntax PlainToken Form
-  bit_xor E = joined bit_xor_operators (bit_and E)
+  abbrev pub chain : Syntax PlainToken Form → Syntax PlainToken FormZone → FormulaMode → Syntax PlainToken (Spanned Form)
+  chain E Z m = chain_of (shift E Z m)
 
-  abbrev pub bit_or : Syntax PlainToken Form → Syntax PlainToken Form
-  bit_or E = joined bit_or_operators (bit_xor E)
+  abbrev pub bit_and : Syntax PlainToken Form → Syntax PlainToken FormZone → FormulaMode → Syntax PlainToken (Spanned Form)
+  bit_and E Z m = joined bit_and_operators (chain E Z m)
 
-  abbrev pub conjunction : Syntax PlainToken Form → Syntax PlainToken Form
-  conjunction E = joined conjunction_operators (bit_or E)
+  abbrev pub bit_xor : Syntax PlainToken Form → Syntax PlainToken FormZone → FormulaMode → Syntax PlainToken (Spanned Form)
+  bit_xor E Z m = joined bit_xor_operators (bit_and E Z m)
 
-  abbrev pub exclusion : Syntax PlainToken Form → Syntax PlainToken Form
-  exclusion E = joined exclusion_operators (conjunction E)
+  abbrev pub bit_or : Syntax PlainToken Form → Syntax PlainToken FormZone → FormulaMode → Syntax PlainToken (Spanned Form)
+  bit_or E Z m = joined bit_or_operators (bit_xor E Z m)
 
-  abbrev pub disjunction : Syntax PlainToken Form → Syntax PlainToken Form
-  disjunction E = joined disjunction_operators (exclusion E)
+  abbrev pub conjunction : Syntax PlainToken Form → Syntax PlainToken FormZone → FormulaMode → Syntax PlainToken (Spanned Form)
+  conjunction E Z m = joined conjunction_operators (bit_or E Z m)
 
-  unfoldable pub implication : Syntax PlainToken Form → Syntax PlainToken Form
-  implication E = knot {S = Unit {0}} (λ I u. implication_of (disjunction E) (I u)) tt
+  abbrev pub exclusion : Syntax PlainToken Form → Syntax PlainToken FormZone → FormulaMode → Syntax PlainToken (Spanned Form)
+  exclusion E Z m = joined exclusion_operators (conjunction E Z m)
 
-  abbrev pub equivalence : Syntax PlainToken Form → Syntax PlainToken Form
-  equivalence E = joined equivalence_operators (implication E)
+  abbrev pub disjunction : Syntax PlainToken Form → Syntax PlainToken FormZone → FormulaMode → Syntax PlainToken (Spanned Form)
+  disjunction E Z m = joined disjunction_operators (exclusion E Z m)
 
-  unfoldable pub form_of : Syntax PlainToken Form → Syntax PlainToken Form
-  form_of E = equivalence E then λ c. choice (formula_kind ws) (mark_kind question ∷ []) (choice_behind E c) (gives c)
+  unfoldable pub implication : Syntax PlainToken Form → Syntax PlainToken FormZone → FormulaMode → Syntax PlainToken (Spanned Form)
+  implication E Z m = knot {S = Unit {0}} (λ I u. implication_of (disjunction E Z m) (I u)) tt
 
-  unfoldable pub form : Syntax PlainToken Form
-  form = knot {S = Unit {0}} (λ E u. form_of (E u)) tt
+  abbrev pub equivalence : Syntax PlainToken Form → Syntax PlainToken FormZone → FormulaMode → Syntax PlainToken (Spanned Form)
+  equivalence E Z m = joined equivalence_operators (implication E Z m)
+
+  unfoldable pub form_of : (FormulaMode → Syntax PlainToken (Spanned Form)) → FormulaMode → Syntax PlainToken (Spanned Form)
+  form_of F m = equivalence (whole F) (zone F) m then λ c. unended (choice_behind (whole F) (F m)) as_it_is c
+
+  unfoldable pub forms : FormulaMode → Syntax PlainToken (Spanned Form)
+  forms = knot form_of
+
+  abbrev pub form : Syntax PlainToken Form
+  form = whole forms
 
   -- ---- annotations
 

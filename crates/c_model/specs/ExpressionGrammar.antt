@@ -42,6 +42,8 @@ use Rattle.c_model.specs.declared.operands.Connective.{Connective}
 use Rattle.c_model.specs.declared.operands.Connective.TheVariants.{Operator, And, Or}
 use Rattle.c_model.specs.declared.vocabulary.Keyword.{Keyword}
 use Rattle.c_model.specs.declared.vocabulary.Keyword.TheVariants as keyword
+use Rattle.c_model.specs.declared.vocabulary.LogicWord.{LogicWord}
+use Rattle.c_model.specs.declared.vocabulary.LogicWord.TheVariants as logic
 use Rattle.c_model.specs.declared.vocabulary.Word.{Word}
 use Rattle.c_model.specs.declared.vocabulary.Word.TheVariants as word
 use Rattle.c_model.specs.declared.vocabulary.TypeName.{TypeName}
@@ -125,6 +127,27 @@ keyword_kind keyword.Case = 32
 keyword_kind keyword.Default = 33
 keyword_kind keyword.Kept = 34
 
+-- the words of annotations that begin a form of their own have kinds of their own
+abbrev pub null_kind : ℕ
+null_kind = 35
+
+abbrev pub fact_kind : ℕ
+fact_kind = 36
+
+abbrev pub question_kind : ℕ
+question_kind = 37
+
+abbrev pub separated_kind : ℕ
+separated_kind = 38
+
+abbrev pub logic_word_kind : LogicWord → ℕ
+logic_word_kind (logic.Truth b) = logic_kind
+logic_word_kind logic.Null = null_kind
+logic_word_kind (logic.Told f) = fact_kind
+logic_word_kind (logic.Asks q) = question_kind
+logic_word_kind logic.Separated = separated_kind
+logic_word_kind logic.Kept = logic_kind
+
 abbrev pub mark_kind : ℕ → ℕ
 mark_kind m = 40 + m
 
@@ -133,7 +156,7 @@ word_kind (word.Keyword k) = keyword_kind k
 word_kind (word.TypeName t) = type_name_kind
 word_kind word.Assert = name_kind
 word_kind word.Integer = name_kind
-word_kind (word.Logic w) = logic_kind
+word_kind (word.Logic w) = logic_word_kind w
 word_kind word.Name = name_kind
 
 abbrev pub token_kind : Vocabulary → PlainTokenKind → ℕ

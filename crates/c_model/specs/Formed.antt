@@ -9,7 +9,7 @@ use Rattle.c_syntax.specs.declared.expression.BinOp.TheVariants as operator
 use Rattle.c_syntax.specs.Expressions.{Expression, Node, Number, Letter, Variable, Unary, Binary, Both, Either, Choice, Assign, Bump, Call, Cast, SizeOfType}
 use Rattle.c_syntax.specs.Expressions.{SizeOfExpr, Text, Index, Dot, Arrow, Comma, Expressions, NoExpression, Following}
 use Rattle.c_syntax.specs.Formulas as formula
-use Rattle.c_syntax.specs.Formulas.{Form, FormLinks}
+use Rattle.c_syntax.specs.Formulas.{Form, FormLinks, FormZone, FormZones}
 use Rattle.c_syntax.specs.Logic as logic
 use Rattle.c_syntax.specs.Logic.{LogicTerm, Predicate, Links, NoLink, Linked, Guards, NoGuard, Guarded, ClauseBody, Raw, Holds, Annotation, Behaviors, Zone}
 use Rattle.c_syntax.specs.Logic.{Zones}
@@ -248,7 +248,7 @@ abbrev pub operator_of_form : Form → Option BinOp
 operator_of_form (formula.Binary at op a b) = Some op
 operator_of_form _ = None
 
--- how many tokens one has at least, as above; typing keeps the number
+-- how many tokens one has at least, as above; what typing makes of it has no more
 abbrev mutual
   pub tokens_of_form : Form → ℕ
   tokens_of_form (formula.Number at n) = 1
@@ -262,10 +262,26 @@ abbrev mutual
   tokens_of_form (formula.Chain at a links) = tokens_of_form a + tokens_of_form_links links
   tokens_of_form (formula.Connected at c a b) = suc (tokens_of_form a + tokens_of_form b)
   tokens_of_form (formula.Choice at c a b) = suc (tokens_of_form c + tokens_of_form a + tokens_of_form b)
+  tokens_of_form (formula.Null at) = 1
+  -- two brackets, and an arrow and a name
+  tokens_of_form (formula.Index at a b) = suc (suc (tokens_of_form a + tokens_of_form b))
+  tokens_of_form (formula.Dot at a m) = suc (tokens_of_form a)
+  tokens_of_form (formula.Arrow at a m) = suc (suc (tokens_of_form a))
+  tokens_of_form (formula.Told at f a) = suc (tokens_of_form a)
+  tokens_of_form (formula.Asks at q z) = suc (tokens_of_form_zone z)
+  tokens_of_form (formula.Separated at zs) = suc (tokens_of_form_zones zs)
 
   pub tokens_of_form_links : FormLinks → ℕ
   tokens_of_form_links formula.NoLink = 0
   tokens_of_form_links (formula.Linked at r a rest) = suc (tokens_of_form a + tokens_of_form_links rest)
+
+  pub tokens_of_form_zone : FormZone → ℕ
+  tokens_of_form_zone (formula.Object a) = tokens_of_form a
+  tokens_of_form_zone (formula.Elements at a lo hi) = suc (tokens_of_form a + tokens_of_form lo + tokens_of_form hi)
+
+  pub tokens_of_form_zones : FormZones → ℕ
+  tokens_of_form_zones formula.NoZone = 0
+  tokens_of_form_zones (formula.Another z rest) = suc (tokens_of_form_zone z + tokens_of_form_zones rest)
 
 abbrev mutual
   pub FormNumbered : Form → Type 0
@@ -280,10 +296,25 @@ abbrev mutual
   FormNumbered (formula.Chain at a links) = FormNumbered a × FormLinksNumbered links
   FormNumbered (formula.Connected at c a b) = FormNumbered a × FormNumbered b
   FormNumbered (formula.Choice at c a b) = FormNumbered c × FormNumbered a × FormNumbered b
+  FormNumbered (formula.Null at) = Unit {0}
+  FormNumbered (formula.Index at a b) = FormNumbered a × FormNumbered b
+  FormNumbered (formula.Dot at a m) = FormNumbered a
+  FormNumbered (formula.Arrow at a m) = FormNumbered a
+  FormNumbered (formula.Told at f a) = FormNumbered a
+  FormNumbered (formula.Asks at q z) = FormZoneNumbered z
+  FormNumbered (formula.Separated at zs) = FormZonesNumbered zs
 
   pub FormLinksNumbered : FormLinks → Type 0
   FormLinksNumbered formula.NoLink = Unit {0}
   FormLinksNumbered (formula.Linked at r a rest) = FormNumbered a × FormLinksNumbered rest
+
+  pub FormZoneNumbered : FormZone → Type 0
+  FormZoneNumbered (formula.Object a) = FormNumbered a
+  FormZoneNumbered (formula.Elements at a lo hi) = FormNumbered a × FormNumbered lo × FormNumbered hi
+
+  pub FormZonesNumbered : FormZones → Type 0
+  FormZonesNumbered formula.NoZone = Unit {0}
+  FormZonesNumbered (formula.Another z rest) = FormZoneNumbered z × FormZonesNumbered rest
 
 -- what a clause of at most 400 tokens is read as
 pub record IsShortForm (f : Form) : Type 0 where

@@ -1,32 +1,50 @@
--- The typing of annotations (ACSL 2.2, 2.3), after that of the text's C: of each form that is read, whether it is a term of unbounded integers
--- or a predicate. A name denotes an object of an integer type that is in sight where the annotation stands, or an integer that an enumerator
--- or a constant of the library stands for. In the typed tree each use has its declaration and its type, and each constant is its value.
--- Faults are of code 5 for a name, of code 6 for a sort or a type, of code 11 for a type that passes a limit.
-use Rattle.std.specs.Prelude.{ℕ, ℤ, pos, List, [], ◌∷◌, Some, None, Bool, true, false, not}
+-- The typing of annotations (ACSL 2.2, 2.3, 2.7), after that of the text's C: of each form that is read, whether it is a term, of unbounded
+-- integers or of pointers, a predicate, or a place, which a term reads and `&` and `.` take as it is. A name denotes an object that is in sight where
+-- the annotation stands, or an integer that an enumerator or a constant of the library stands for; `NULL` is a null pointer. In the typed tree each
+-- use has its declaration, each place and each pointer its type, each step of a pointer the size of its elements, each member its offset, and each
+-- constant is its value. Where C99 has a form too, the demands are those of its expressions (6.5.2.1, 6.5.2.3, 6.5.3.2, 6.5.6), with one aside: any two
+-- pointers are compared, and a literal of value 0 is a null pointer beside one.
+-- Faults are of code 5 for a name and for a struct whose members aren't known, of code 6 for a sort or a type, of code 11 for a type that passes a limit:
+-- also where a size, an alignment or an offset is kept, whose types are within limits by their declarations.
+use Rattle.std.specs.Prelude.{ℕ, ℤ, pos, List, [], ◌∷◌, Option, Some, None, Bool, true, false, not, ◌||◌, ◌&&◌, cond, nat_le, nat_eq}
+use Rattle.std.specs.Ordering.{int_eq}
 use Rattle.c_syntax.specs.declared.place.Place.{Place}
+use Rattle.c_syntax.specs.declared.types.CInt.TheVariants.{I8}
 use Rattle.c_syntax.specs.declared.annotation.Range.{Range}
 use Rattle.c_syntax.specs.declared.expression.BinOp.{BinOp}
+use Rattle.c_syntax.specs.declared.expression.BinOp.TheVariants as operator
 use Rattle.c_syntax.specs.declared.expression.UnOp.{UnOp}
 use Rattle.c_syntax.specs.declared.expression.UnOp.TheVariants as unary
+use Rattle.c_syntax.specs.declared.logic.BlockFact.{BlockFact}
+use Rattle.c_syntax.specs.declared.logic.BlockFact.TheVariants.{BaseAddr, BlockLength, Offset}
 use Rattle.c_syntax.specs.declared.logic.Connective.{Connective}
-use Rattle.c_syntax.specs.Ctypes.{PlainType}
+use Rattle.c_syntax.specs.declared.logic.MemoryQuestion.{MemoryQuestion}
+use Rattle.c_syntax.specs.declared.logic.MemoryQuestion.TheVariants.{Valid, ValidRead, Initialized}
+use Rattle.c_syntax.specs.declared.logic.PointerOp.{PointerOp}
+use Rattle.c_syntax.specs.declared.logic.PointerOp.TheVariants.{Plus, Minus}
+use Rattle.c_syntax.specs.Ctypes.{PlainType, Void, Int, Ptr, Array, Struct, StructTag, EnumTag}
+use Rattle.c_syntax.specs.Ctypes as ctype
+use Rattle.c_syntax.specs.Programs.{StructMember}
 use Rattle.c_syntax.specs.Formulas as read
-use Rattle.c_syntax.specs.Formulas.{CastType, Integers, OfC, Form, FormLinks}
+use Rattle.c_syntax.specs.Formulas.{CastType, Integers, OfC, Form, FormLinks, FormZone, FormZones}
 use Rattle.c_syntax.specs.Logic.{LogicTerm, Number, Letter, Variable, Unary, Binary, Cast, Choice, Named, Links, NoLink, Linked, Predicate, Truth, NonZero}
 use Rattle.c_syntax.specs.Logic.{Chain, Not, Connected, Branch, ClauseBody, Raw, Holds, Value, Annotation, At, Behaviors, Null, Deref, Member, Address, Moved}
-use Rattle.c_syntax.specs.Logic.{Difference, Told}
-use Rattle.c_syntax.specs.Layouts.{size_of}
+use Rattle.c_syntax.specs.Logic.{Difference, Told, Asks, Separated, Zone, Object, Elements, Zones, NoZone, Another}
+use Rattle.c_syntax.specs.Layouts.{size_of, align_of, member_among, members_of}
 use Rattle.c_model.specs.Integers.{integer_type}
 use Rattle.c_model.specs.Library.{library_constant, is_there}
 use Rattle.c_model.specs.Ranges.{from_to}
 use Rattle.c_model.specs.Checked.{Checked, Good, Bad, faulty, given, where_so, one_part, pair_of}
-use Rattle.c_model.specs.ExpressionTyping.{no_name, no_type, Object, AnObject, AnEnumerator, Sight, name_at, entity_named, use_as}
-use Rattle.c_model.specs.ExpressionTyping.{limited, known_type, typed_type, where_sized}
+use Rattle.c_model.specs.ExpressionTyping as c
+use Rattle.c_model.specs.ExpressionTyping.{no_name, no_type, AnObject, AnEnumerator, Sight, name_at, entity_named, use_as, same_type, is_void, is_unknown}
+use Rattle.c_model.specs.ExpressionTyping.{limited, known_type, typed_type, sized, where_sized, most_bytes, too_large, is_struct, is_scalar, is_null_word}
 
 -- what a form is by its sort
 pub data Sorted : Type 0 where
   ATerm : LogicTerm → Sorted
   APredicate : Predicate → Sorted
+  -- a place of any type, which a term reads
+  APlace : LogicTerm → Sorted
 
 -- the range of a term, until ranges are inferred
 abbrev pub range_to_infer : Range
@@ -50,79 +68,395 @@ place_of_term (Moved at t r op n a b) = at
 place_of_term (Difference at t r n a b) = at
 place_of_term (Told at t r f a) = at
 
+-- the type that a term keeps: of what it reads, or of the pointer that it is
+abbrev pub type_of_term : LogicTerm → Option PlainType
+type_of_term (Number at t r n) = t
+type_of_term (Letter at t r n) = t
+type_of_term (Variable at t r x) = t
+type_of_term (Unary at t r op a) = t
+type_of_term (Binary at t r op a b) = t
+type_of_term (Cast at t r to a) = t
+type_of_term (Choice at t r c a b) = t
+type_of_term (Named at t r x) = t
+type_of_term (At at t r l a) = t
+type_of_term (Null at t r) = t
+type_of_term (Deref at t r a) = t
+type_of_term (Member at t r d a) = t
+type_of_term (Address at t r a) = t
+type_of_term (Moved at t r op n a b) = t
+type_of_term (Difference at t r n a b) = t
+type_of_term (Told at t r f a) = t
+
+-- ---- sorts of values
+
+-- what a value is; a struct is none
+pub data ValueSort : Type 0 where
+  AnInteger : ValueSort
+  APointer : PlainType → ValueSort
+  NoValue : ValueSort
+
+-- an array is the pointer to its first element (C99 6.3.2.1 p3)
+abbrev pub sort_of_type : PlainType → ValueSort
+sort_of_type (Int k) = AnInteger
+sort_of_type (Ptr t) = APointer t
+sort_of_type (Array t n) = APointer t
+sort_of_type (Struct n) = NoValue
+sort_of_type Void = NoValue
+sort_of_type (ctype.Named x) = NoValue
+sort_of_type (StructTag x tag) = NoValue
+sort_of_type (EnumTag x at) = NoValue
+
+abbrev pub sort_of : Option PlainType → ValueSort
+sort_of None = AnInteger
+sort_of (Some t) = sort_of_type t
+
+abbrev pub sort_of_term : LogicTerm → ValueSort
+sort_of_term t = sort_of (type_of_term t)
+
+-- a predicate is no value
+abbrev pub sort_of_sorted : Sorted → ValueSort
+sort_of_sorted (ATerm t) = sort_of_term t
+sort_of_sorted (APredicate p) = NoValue
+sort_of_sorted (APlace t) = sort_of_term t
+
+abbrev pub is_integer : ValueSort → Bool
+is_integer AnInteger = true
+is_integer (APointer t) = false
+is_integer NoValue = false
+
+abbrev pub pointee : ValueSort → Option PlainType
+pointee AnInteger = None
+pointee (APointer t) = Some t
+pointee NoValue = None
+
 -- ---- what a form demands of its parts, which have no fault
 
--- an integer, which this place wants
+-- a value: no struct, which is a fault at the struct's own place
+abbrev pub as_value : Sorted → Checked Sorted
+as_value (ATerm t) = Good (ATerm t)
+as_value (APredicate p) = Good (APredicate p)
+as_value (APlace t) = elim (sort_of_term t) [
+  | AnInteger ↦ Good (ATerm t)
+  | APointer u ↦ Good (ATerm t)
+  | NoValue ↦ faulty (no_type (place_of_term t))
+]
+
+abbrev pub value_in : Checked Sorted → Checked Sorted
+value_in c = one_part c as_value
+
+-- a term, which this place wants
 abbrev pub as_term : Place → Sorted → Checked LogicTerm
 as_term at (ATerm t) = Good t
 as_term at (APredicate p) = faulty (no_type at)
+as_term at (APlace t) = Good t
 
--- a predicate; an integer is one where it isn't 0 (ACSL 2.2)
-abbrev pub as_predicate : Sorted → Predicate
-as_predicate (ATerm t) = NonZero (place_of_term t) t
-as_predicate (APredicate p) = p
+-- an integer
+abbrev pub as_integer : Place → Sorted → Checked LogicTerm
+as_integer at a = one_part (as_term at a) (λ t. where_so (is_integer (sort_of_term t)) (no_type at) (Good t))
 
--- an object of an integer type, whose value is a mathematical integer
-abbrev pub object_term : Place → ℕ → Object → Checked Sorted
-object_term at x b = where_so (is_there (integer_type b.ctype)) (no_type at) (Good (ATerm (Variable at (Some b.ctype) range_to_infer (use_as x b.decl))))
+-- a pointer, with the type of what it points to
+abbrev pub as_pointer : Place → Sorted → Checked (PlainType × LogicTerm)
+as_pointer at a = one_part (as_term at a) (λ t. given (pointee (sort_of_term t)) (no_type at) (λ u. Good (u, t)))
+
+-- a predicate, which this place wants; an integer is one where it isn't 0 (ACSL 2.2)
+abbrev pub integer_holds : Place → LogicTerm → Checked Predicate
+integer_holds at t = where_so (is_integer (sort_of_term t)) (no_type at) (Good (NonZero (place_of_term t) t))
+
+abbrev pub as_predicate : Place → Sorted → Checked Predicate
+as_predicate at (ATerm t) = integer_holds at t
+as_predicate at (APredicate p) = Good p
+as_predicate at (APlace t) = integer_holds at t
+
+-- ---- names
+
+abbrev pub object_place : Place → ℕ → c.Object → Sorted
+object_place at x b = APlace (Variable at (Some b.ctype) range_to_infer (use_as x b.decl))
 
 abbrev pub number : Place → ℤ → Sorted
 number at n = ATerm (Number at None range_to_infer n)
 
+abbrev pub null : Place → Sorted
+null at = ATerm (Null at (Some (Ptr Void)) range_to_infer)
+
+-- a name of the library: a constant, or `NULL`
+abbrev pub library_term : Sight → Place → ℕ → Checked Sorted
+library_term s at x = elim (library_constant (name_at s.names x)) [
+  | Some k ↦ Good (number at k.1)
+  | None ↦ cond (is_null_word s x) (Good (null at)) (faulty (no_name at))
+]
+
 -- a name; that of a function has no meaning in annotations
 abbrev pub term_named : Sight → Place → ℕ → Checked Sorted
 term_named s at x = elim (entity_named x s.entities) [
-  | Some e ↦ elim e [ AnObject b ↦ object_term at x b | AnEnumerator c ↦ Good (number at c.value) ]
-  | None ↦ given (library_constant (name_at s.names x)) (no_name at) (λ c. Good (number at c.1))
+  | Some e ↦ elim e [ AnObject b ↦ Good (object_place at x b) | AnEnumerator k ↦ Good (number at k.value) ]
+  | None ↦ library_term s at x
 ]
 
--- an operator on one integer; no pointer and no address is there
+-- ---- operators on integers
+
 abbrev pub on_integer : Place → UnOp → Sorted → Checked Sorted
-on_integer at op a = one_part (as_term at a) (λ t. Good (ATerm (Unary at None range_to_infer op t)))
+on_integer at op a = one_part (as_integer at a) (λ t. Good (ATerm (Unary at None range_to_infer op t)))
+
+abbrev pub on_integers : Place → BinOp → Sorted → Sorted → Checked Sorted
+on_integers at op a b = one_part (as_integer at a) (λ t. one_part (as_integer at b) (λ u. Good (ATerm (Binary at None range_to_infer op t u))))
+
+-- ---- sizes that trees keep
+
+-- an alignment of a type of C (C99 3.2)
+abbrev pub is_alignment : ℕ → Bool
+is_alignment n = nat_eq n 1 || nat_eq n 2 || nat_eq n 4 || nat_eq n 8
+
+abbrev pub is_measured : Sight → PlainType → Bool
+is_measured s u = nat_le 1 (size_of s.structs u) && nat_le (size_of s.structs u) most_bytes && is_alignment (align_of s.structs u)
+
+-- goes on with a type whose size and alignment are kept
+abbrev pub where_measured : {A : Type 0} → Sight → Place → PlainType → Checked A → Checked A
+where_measured s at u c = where_sized s at u (where_so (is_measured s u) (too_large at) c)
+
+-- ---- places
+
+-- what a pointer points to, unless that is void
+abbrev pub deref : Place → Sorted → Checked Sorted
+deref at a = one_part (as_pointer at a) (λ p. where_so (not (is_void p.0)) (no_type at) (Good (APlace (Deref at (Some p.0) range_to_infer p.1))))
+
+-- a pointer to a place
+abbrev pub address_at : Place → LogicTerm → PlainType → Checked Sorted
+address_at at t u = Good (ATerm (Address at (Some (Ptr u)) range_to_infer t))
+
+abbrev pub address : Place → Sorted → Checked Sorted
+address at (ATerm t) = faulty (no_type at)
+address at (APredicate p) = faulty (no_type at)
+address at (APlace t) = given (type_of_term t) (no_type at) (address_at at t)
+
+-- the place of a member in that of a struct
+abbrev pub member_at : Place → LogicTerm → StructMember → Checked Sorted
+member_at at t f = where_so (nat_le f.offset most_bytes) (too_large at) (Good (APlace (Member at (Some f.ctype) range_to_infer f.offset t)))
+
+-- a member of the struct of this type, whose place is given
+abbrev pub member_of : Sight → Place → ℕ → LogicTerm → PlainType → Checked Sorted
+member_of s at m t u =
+    where_so (is_struct u) (no_type at) (where_sized s at u (
+    given (member_among m (members_of s.structs u)) (no_name at) (member_at at t)))
+
+abbrev pub dot : Sight → Place → ℕ → Sorted → Checked Sorted
+dot s at m (ATerm t) = faulty (no_type at)
+dot s at m (APredicate p) = faulty (no_type at)
+dot s at m (APlace t) = given (type_of_term t) (no_type at) (member_of s at m t)
+
+-- `p->m` is `(*p).m`
+abbrev pub arrow : Sight → Place → ℕ → Sorted → Checked Sorted
+arrow s at m a = one_part (as_pointer at a) (λ p. member_of s at m (Deref at (Some p.0) range_to_infer p.1) p.0)
+
+-- ---- pointers that go on by elements
+
+-- so many elements on, or back
+abbrev pub moved : Sight → Place → PointerOp → PlainType → LogicTerm → LogicTerm → LogicTerm
+moved s at op u p i = Moved at (Some (Ptr u)) range_to_infer op (size_of s.structs u) p i
+
+abbrev pub stepped : Sight → Place → PointerOp → PlainType → LogicTerm → LogicTerm → Checked Sorted
+stepped s at op u p i = where_measured s at u (Good (ATerm (moved s at op u p i)))
+
+-- two pointers to one type
+abbrev pub distance : Sight → Place → PlainType → PlainType → LogicTerm → LogicTerm → Checked Sorted
+distance s at u v p q =
+    where_so (same_type u v) (no_type at) (where_measured s at u (Good (ATerm (Difference at None range_to_infer (size_of s.structs u) p q))))
+
+abbrev pub points_to_unknown : Sight → ValueSort → Bool
+points_to_unknown s AnInteger = false
+points_to_unknown s (APointer t) = is_unknown (sized s.structs t)
+points_to_unknown s NoValue = false
+
+-- whether what pointers among two operands point to is known
+abbrev pub are_known : Sight → Sorted → Sorted → Bool
+are_known s a b = not (points_to_unknown s (sort_of_sorted a) || points_to_unknown s (sort_of_sorted b))
+
+-- goes on with two terms of which that is so; of two demands at one place that of names comes first
+abbrev pub with_terms : Sight → Place → Sorted → Sorted → (LogicTerm → LogicTerm → Checked Sorted) → Checked Sorted
+with_terms s at a b k = where_so (are_known s a b) (no_name at) (one_part (as_term at a) (λ t. one_part (as_term at b) (k t)))
+
+-- the sum of two terms: of integers, or of a pointer and an integer, where the pointer comes first in the tree
+abbrev pub sum_of : Sight → Place → LogicTerm → LogicTerm → ValueSort → ValueSort → Checked Sorted
+sum_of s at t u AnInteger AnInteger = Good (ATerm (Binary at None range_to_infer operator.Add t u))
+sum_of s at t u (APointer v) AnInteger = stepped s at Plus v t u
+sum_of s at t u AnInteger (APointer v) = stepped s at Plus v u t
+sum_of s at t u (APointer v) (APointer w) = faulty (no_type at)
+sum_of s at t u NoValue b = faulty (no_type at)
+sum_of s at t u AnInteger NoValue = faulty (no_type at)
+sum_of s at t u (APointer v) NoValue = faulty (no_type at)
+
+-- their difference: of integers, of a pointer and an integer, or of two pointers
+abbrev pub difference_of : Sight → Place → LogicTerm → LogicTerm → ValueSort → ValueSort → Checked Sorted
+difference_of s at t u AnInteger AnInteger = Good (ATerm (Binary at None range_to_infer operator.Sub t u))
+difference_of s at t u (APointer v) AnInteger = stepped s at Minus v t u
+difference_of s at t u (APointer v) (APointer w) = distance s at v w t u
+difference_of s at t u AnInteger (APointer v) = faulty (no_type at)
+difference_of s at t u NoValue b = faulty (no_type at)
+difference_of s at t u AnInteger NoValue = faulty (no_type at)
+difference_of s at t u (APointer v) NoValue = faulty (no_type at)
+
+abbrev pub sum : Sight → Place → Sorted → Sorted → Checked Sorted
+sum s at a b = with_terms s at a b (λ t u. sum_of s at t u (sort_of_term t) (sort_of_term u))
+
+abbrev pub difference : Sight → Place → Sorted → Sorted → Checked Sorted
+difference s at a b = with_terms s at a b (λ t u. difference_of s at t u (sort_of_term t) (sort_of_term u))
+
+-- `p[i]` is `*(p + i)`, where either side is the pointer
+abbrev pub element : Sight → Place → PlainType → LogicTerm → LogicTerm → Checked Sorted
+element s at u p i = where_measured s at u (Good (APlace (Deref at (Some u) range_to_infer (moved s at Plus u p i))))
+
+abbrev pub element_of : Sight → Place → LogicTerm → LogicTerm → ValueSort → ValueSort → Checked Sorted
+element_of s at t u (APointer v) AnInteger = element s at v t u
+element_of s at t u AnInteger (APointer v) = element s at v u t
+element_of s at t u AnInteger AnInteger = faulty (no_type at)
+element_of s at t u (APointer v) (APointer w) = faulty (no_type at)
+element_of s at t u NoValue b = faulty (no_type at)
+element_of s at t u AnInteger NoValue = faulty (no_type at)
+element_of s at t u (APointer v) NoValue = faulty (no_type at)
+
+abbrev pub index : Sight → Place → Sorted → Sorted → Checked Sorted
+index s at a b = with_terms s at a b (λ t u. element_of s at t u (sort_of_term t) (sort_of_term u))
+
+-- ---- operators
 
 abbrev pub unary_on : Place → UnOp → Sorted → Checked Sorted
-unary_on at unary.Plus a = on_integer at unary.Plus a
-unary_on at unary.Minus a = on_integer at unary.Minus a
-unary_on at unary.Flip a = on_integer at unary.Flip a
-unary_on at unary.Not a = Good (APredicate (Not at (as_predicate a)))
-unary_on at unary.Deref a = faulty (no_type at)
-unary_on at unary.Address a = faulty (no_type at)
+unary_on at unary.Plus a = one_part (as_value a) (on_integer at unary.Plus)
+unary_on at unary.Minus a = one_part (as_value a) (on_integer at unary.Minus)
+unary_on at unary.Flip a = one_part (as_value a) (on_integer at unary.Flip)
+unary_on at unary.Not a = one_part (as_value a) (λ v. one_part (as_predicate at v) (λ p. Good (APredicate (Not at p))))
+unary_on at unary.Deref a = one_part (as_value a) (deref at)
+unary_on at unary.Address a = address at a
 
--- an operator on two integers
-abbrev pub on_integers : Place → BinOp → Sorted → Sorted → Checked Sorted
-on_integers at op a b = one_part (as_term at a) (λ t. one_part (as_term at b) (λ u. Good (ATerm (Binary at None range_to_infer op t u))))
+abbrev pub binary_on : Sight → Place → BinOp → Sorted → Sorted → Checked Sorted
+binary_on s at operator.Add a b = sum s at a b
+binary_on s at operator.Sub a b = difference s at a b
+binary_on s at op a b = on_integers at op a b
+
+-- ---- casts and sizes
 
 -- a cast of an integer (ACSL 2.2.3), to the unbounded integers or to an integer type of C
-abbrev pub cast_as : Place → CastType → Sorted → Checked Sorted
-cast_as at to a = one_part (as_term at a) (λ t. Good (ATerm (Cast at None range_to_infer to t)))
+abbrev pub cast_integer : Place → CastType → Sorted → Checked Sorted
+cast_integer at to a = one_part (as_integer at a) (λ t. Good (ATerm (Cast at None range_to_infer to t)))
+
+-- a cast of a pointer, to a type of pointers
+abbrev pub cast_pointer : Place → PlainType → Sorted → Checked Sorted
+cast_pointer at u a = one_part (as_pointer at a) (λ p. Good (ATerm (Cast at (Some (Ptr u)) range_to_infer (OfC (Ptr u)) p.1)))
 
 abbrev pub cast : Place → PlainType → Sorted → Checked Sorted
-cast at to a = where_so (is_there (integer_type to)) (no_type at) (cast_as at (OfC to) a)
+cast at to a = elim (integer_type to) [ Some k ↦ cast_integer at (OfC to) a | None ↦ given (c.pointed to) (no_type at) (λ u. cast_pointer at u a) ]
 
 -- the size of a type that has one (C99 6.5.3.4)
 abbrev pub size_in : Sight → Place → PlainType → Checked Sorted
 size_in s at u = where_sized s at u (Good (number at (pos (size_of s.structs u))))
 
-abbrev pub connected : Place → Connective → Sorted → Sorted → Sorted
-connected at c a b = APredicate (Connected at c (as_predicate a) (as_predicate b))
+-- ---- what joins predicates
 
--- a choice is a term where both branches are terms
-abbrev pub chosen : Place → Sorted → Sorted → Sorted → Sorted
-chosen at c (ATerm a) (ATerm b) = ATerm (Choice at None range_to_infer (as_predicate c) a b)
-chosen at c a b = APredicate (Branch at (as_predicate c) (as_predicate a) (as_predicate b))
+abbrev pub connected : Place → Connective → Sorted → Sorted → Checked Sorted
+connected at k a b = one_part (as_predicate at a) (λ p. one_part (as_predicate at b) (λ q. Good (APredicate (Connected at k p q))))
 
--- whether a side of a relation has no fault and is a predicate
-abbrev pub is_predicate : Checked Sorted → Bool
-is_predicate (Good (ATerm t)) = false
-is_predicate (Good (APredicate p)) = true
-is_predicate (Bad f fs) = false
+-- a choice between terms is one: of two integers, or of two pointers to one type, or of which one points to void
+abbrev pub integer_choice : Place → Predicate → LogicTerm → LogicTerm → Sorted
+integer_choice at p t u = ATerm (Choice at None range_to_infer p t u)
 
--- the right side of a relation, which wants an integer on its left too
-abbrev pub right_side : Place → Bool → Sorted → Checked LogicTerm
-right_side at left b = where_so (not left) (no_type at) (as_term at b)
+abbrev pub choice_target : PlainType → PlainType → Option PlainType
+choice_target v w = cond (same_type v w || is_void w) (Some v) (cond (is_void v) (Some w) None)
 
+abbrev pub pointer_choice : Place → Predicate → LogicTerm → LogicTerm → PlainType → Sorted
+pointer_choice at p t u v = ATerm (Choice at (Some (Ptr v)) range_to_infer p t u)
+
+abbrev pub choice_of_terms : Place → Predicate → LogicTerm → LogicTerm → ValueSort → ValueSort → Checked Sorted
+choice_of_terms at p t u AnInteger AnInteger = Good (integer_choice at p t u)
+choice_of_terms at p t u (APointer v) (APointer w) = given (choice_target v w) (no_type at) (λ x. Good (pointer_choice at p t u x))
+choice_of_terms at p t u AnInteger (APointer v) = faulty (no_type at)
+choice_of_terms at p t u (APointer v) AnInteger = faulty (no_type at)
+choice_of_terms at p t u NoValue b = faulty (no_type at)
+choice_of_terms at p t u AnInteger NoValue = faulty (no_type at)
+choice_of_terms at p t u (APointer v) NoValue = faulty (no_type at)
+
+abbrev pub branch : Place → Predicate → Sorted → Sorted → Checked Sorted
+branch at p a b = one_part (as_predicate at a) (λ q. one_part (as_predicate at b) (λ r. Good (APredicate (Branch at p q r))))
+
+-- a choice is a term where both parts are terms, which are values here
+abbrev pub choice_between : Place → Predicate → Sorted → Sorted → Checked Sorted
+choice_between at p (ATerm t) (ATerm u) = choice_of_terms at p t u (sort_of_term t) (sort_of_term u)
+choice_between at p a b = branch at p a b
+
+abbrev pub chosen : Place → Sorted → Sorted → Sorted → Checked Sorted
+chosen at k a b = one_part (as_predicate at k) (λ p. choice_between at p a b)
+
+-- ---- relations
+
+-- what a side of a relation is; one with a fault goes with any
+pub data Side : Type 0 where
+  AnySide : Side
+  IntegerSide : Side
+  -- a literal of value 0, in any parentheses
+  ZeroSide : Side
+  PointerSide : Side
+  -- a predicate, or what is no value
+  OtherSide : Side
+
+abbrev pub side_of_sort : ValueSort → Side
+side_of_sort AnInteger = IntegerSide
+side_of_sort (APointer t) = PointerSide
+side_of_sort NoValue = OtherSide
+
+abbrev pub side_of_sorted : Sorted → Side
+side_of_sorted a = side_of_sort (sort_of_sorted a)
+
+abbrev pub side_of_value : Checked Sorted → Side
+side_of_value (Good a) = side_of_sorted a
+side_of_value (Bad f fs) = AnySide
+
+-- a form that typing makes this of
+abbrev pub side_of : Form → Checked Sorted → Side
+side_of (read.Number at n) v = cond (int_eq n (pos 0)) ZeroSide (side_of_value v)
+side_of f v = side_of_value v
+
+abbrev pub are_related : Side → Side → Bool
+are_related AnySide b = true
+are_related OtherSide b = false
+are_related a AnySide = true
+are_related a OtherSide = false
+are_related IntegerSide PointerSide = false
+are_related PointerSide IntegerSide = false
+are_related a b = true
+
+-- the right side of a relation, which is this one, as its left side wants it
+abbrev pub right_side : Place → Side → Side → Sorted → Checked LogicTerm
+right_side at left right b = where_so (are_related left right) (no_type at) (as_term at b)
+
+-- a chain has a relation
 abbrev pub related : Place → Sorted → Links → Checked Sorted
-related at a links = one_part (as_term at a) (λ t. Good (APredicate (Chain at t links)))
+related at a NoLink = faulty (no_type at)
+related at a (Linked place r b rest) = one_part (as_term at a) (λ t. Good (APredicate (Chain at t (Linked place r b rest))))
+
+-- ---- questions about memory
+
+-- any pointer
+abbrev pub told_type : BlockFact → Option PlainType
+told_type BaseAddr = Some (Ptr (Int I8))
+told_type BlockLength = None
+told_type Offset = None
+
+abbrev pub told : Place → BlockFact → Sorted → Checked Sorted
+told at f a = one_part (as_pointer at a) (λ p. Good (ATerm (Told at (told_type f) range_to_infer f p.1)))
+
+-- goes on where a question may be asked of what a pointer points to: of bytes of a known size, `\initialized` of a scalar
+abbrev pub where_asked : {A : Type 0} → Sight → Place → MemoryQuestion → PlainType → Checked A → Checked A
+where_asked s at Valid u k = where_measured s at u k
+where_asked s at ValidRead u k = where_measured s at u k
+where_asked s at Initialized u k = where_so (is_scalar u) (no_type at) (where_measured s at u k)
+
+-- `\separated` asks as `\valid_read` does
+abbrev pub object_zone : Sight → MemoryQuestion → Place → Sorted → Checked Zone
+object_zone s q at a =
+    one_part (as_pointer at a) (λ p.
+    where_asked s at q p.0 (Good (Object (place_of_term p.1) (size_of s.structs p.0) (align_of s.structs p.0) p.1)))
+
+abbrev pub elements_zone : Sight → MemoryQuestion → Place → Sorted → Sorted → Sorted → Checked Zone
+elements_zone s q at a lo hi =
+    one_part (as_pointer at a) (λ p. where_asked s at q p.0 (one_part (as_integer at lo) (λ l. one_part (as_integer at hi) (λ h.
+    Good (Elements at (size_of s.structs p.0) (align_of s.structs p.0) p.1 l h)))))
 
 -- ---- forms
 
@@ -133,28 +467,54 @@ abbrev mutual
   typed_form s (read.Truth at b) = Good (APredicate (Truth at b))
   typed_form s (read.Name at x) = term_named s at x.name
   typed_form s (read.Unary at op a) = one_part (typed_form s a) (unary_on at op)
-  typed_form s (read.Binary at op a b) = one_part (pair_of (typed_form s a) (typed_form s b)) (λ p. on_integers at op p.0 p.1)
-  typed_form s (read.Cast at Integers a) = one_part (typed_form s a) (cast_as at Integers)
+  typed_form s (read.Binary at op a b) =
+      one_part (pair_of (value_in (typed_form s a)) (value_in (typed_form s b))) (λ p. binary_on s at op p.0 p.1)
+  typed_form s (read.Cast at Integers a) = one_part (value_in (typed_form s a)) (cast_integer at Integers)
   typed_form s (read.Cast at (OfC to) a) =
-      limited s at (known_type s to) (one_part (pair_of (typed_type s at to) (typed_form s a)) (λ p. cast at p.0 p.1))
+      limited s at (known_type s to) (one_part (pair_of (typed_type s at to) (value_in (typed_form s a))) (λ p. cast at p.0 p.1))
   typed_form s (read.SizeOf at u) = limited s at (known_type s u) (one_part (typed_type s at u) (size_in s at))
   typed_form s (read.Chain at a links) =
-      one_part (pair_of (typed_form s a) (typed_links s (is_predicate (typed_form s a)) links)) (λ p. related at p.0 p.1)
-  typed_form s (read.Connected at c a b) = one_part (pair_of (typed_form s a) (typed_form s b)) (λ p. Good (connected at c p.0 p.1))
-  typed_form s (read.Choice at c a b) =
-      one_part (pair_of (typed_form s c) (pair_of (typed_form s a) (typed_form s b))) (λ p. Good (chosen at p.0 (p.1).0 (p.1).1))
+      one_part (pair_of (value_in (typed_form s a)) (typed_links s (side_of a (value_in (typed_form s a))) links)) (λ p. related at p.0 p.1)
+  typed_form s (read.Connected at k a b) = one_part (pair_of (value_in (typed_form s a)) (value_in (typed_form s b))) (λ p. connected at k p.0 p.1)
+  typed_form s (read.Choice at k a b) =
+      one_part (pair_of (value_in (typed_form s k)) (pair_of (value_in (typed_form s a)) (value_in (typed_form s b)))) (λ p. chosen at p.0 (p.1).0 (p.1).1)
+  typed_form s (read.Null at) = Good (null at)
+  typed_form s (read.Index at a b) = one_part (pair_of (value_in (typed_form s a)) (value_in (typed_form s b))) (λ p. index s at p.0 p.1)
+  typed_form s (read.Dot at a m) = one_part (typed_form s a) (dot s at m)
+  typed_form s (read.Arrow at a m) = one_part (value_in (typed_form s a)) (arrow s at m)
+  typed_form s (read.Told at f a) = one_part (value_in (typed_form s a)) (told at f)
+  typed_form s (read.Asks at q z) = one_part (typed_zone s q at z) (λ z. Good (APredicate (Asks at q z)))
+  typed_form s (read.Separated at zs) = one_part (typed_zones s at zs) (λ zs. Good (APredicate (Separated at zs)))
 
-  -- the relations of a chain behind a side, which is a predicate or isn't; each wants integers on both sides, where its right one has no
-  -- fault, and all faults of its left side come before it
-  pub typed_links : Sight → Bool → FormLinks → Checked Links
+  -- the relations of a chain behind a side; each wants sides that go together, where its right one has no fault, and all faults of its left side
+  -- come before it
+  pub typed_links : Sight → Side → FormLinks → Checked Links
   typed_links s left read.NoLink = Good NoLink
   typed_links s left (read.Linked at r b rest) =
-      one_part (pair_of (one_part (typed_form s b) (right_side at left)) (typed_links s (is_predicate (typed_form s b)) rest)) (λ p. Good (Linked at r p.0 p.1))
+      one_part (pair_of (one_part (value_in (typed_form s b)) (right_side at left (side_of b (value_in (typed_form s b)))))
+      (typed_links s (side_of b (value_in (typed_form s b))) rest)) (λ p. Good (Linked at r p.0 p.1))
+
+  -- the zone of a predicate whose word stands at this place
+  pub typed_zone : Sight → MemoryQuestion → Place → FormZone → Checked Zone
+  typed_zone s q at (read.Object a) = one_part (value_in (typed_form s a)) (object_zone s q at)
+  typed_zone s q at (read.Elements plus a lo hi) =
+      one_part (pair_of (value_in (typed_form s a)) (pair_of (value_in (typed_form s lo)) (value_in (typed_form s hi)))) (λ p.
+      elements_zone s q plus p.0 (p.1).0 (p.1).1)
+
+  pub typed_zones : Sight → Place → FormZones → Checked Zones
+  typed_zones s at read.NoZone = Good NoZone
+  typed_zones s at (read.Another z rest) = one_part (pair_of (typed_zone s ValidRead at z) (typed_zones s at rest)) (λ p. Good (Another p.0 p.1))
 
 -- ---- clauses, which are predicates
 
+-- a pointer is a fault at its own place
+abbrev pub clause_holds : Sorted → Checked Predicate
+clause_holds (ATerm t) = integer_holds (place_of_term t) t
+clause_holds (APredicate p) = Good p
+clause_holds (APlace t) = integer_holds (place_of_term t) t
+
 abbrev pub typed_clause : Sight → ClauseBody → Checked ClauseBody
-typed_clause s (Raw f) = one_part (typed_form s f) (λ a. Good (Holds (as_predicate a)))
+typed_clause s (Raw f) = one_part (value_in (typed_form s f)) (λ a. one_part (clause_holds a) (λ p. Good (Holds p)))
 typed_clause s (Holds p) = Good (Holds p)
 typed_clause s (Value t) = Good (Value t)
 typed_clause s (Behaviors names) = Good (Behaviors names)

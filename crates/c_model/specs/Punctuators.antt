@@ -146,3 +146,6 @@ implies = 46
 
 abbrev pub caret_caret : ℕ
 caret_caret = 47
+
+abbrev pub dots : ℕ
+dots = 48

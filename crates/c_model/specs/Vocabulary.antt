@@ -2,6 +2,8 @@
 use Rattle.std.specs.Prelude.{ℕ, List, [], ◌∷◌, true, false, Option, Some, None, option_map, if◌then◌else◌, nat_eq, slice_get, codes}
 use Rattle.c_syntax.specs.declared.types.CInt.{CInt}
 use Rattle.c_syntax.specs.declared.types.CInt.TheVariants.{I8, U8, I16, U16, I32, U32, I64, U64}
+use Rattle.c_syntax.specs.declared.logic.BlockFact.TheVariants.{BaseAddr, BlockLength, Offset}
+use Rattle.c_syntax.specs.declared.logic.MemoryQuestion.TheVariants.{Valid, ValidRead, Initialized}
 use Rattle.c_model.specs.declared.vocabulary.Keyword.{Keyword}
 use Rattle.c_model.specs.declared.vocabulary.Keyword.TheVariants.{Char, Short, Int, Long, Signed, Unsigned, Void, Const, Static, If, Else, While, Do, For}
 use Rattle.c_model.specs.declared.vocabulary.Keyword.TheVariants.{Break, Continue, Return, Sizeof, Struct, Enum, Typedef, Switch, Case, Default, Kept}
@@ -47,7 +49,10 @@ other_words =
 
 -- the words that begin with `\`, by what stands after it (ACSL 2.2)
 abbrev pub logic_words : List (List ℕ × LogicWord)
-logic_words = (codes "true", logic.Truth true) ∷ (codes "false", logic.Truth false) ∷ []
+logic_words =
+    (codes "true", logic.Truth true) ∷ (codes "false", logic.Truth false) ∷ (codes "null", logic.Null) ∷ (codes "base_addr", logic.Told BaseAddr)
+    ∷ (codes "block_length", logic.Told BlockLength) ∷ (codes "offset", logic.Told Offset) ∷ (codes "valid", logic.Asks Valid)
+    ∷ (codes "valid_read", logic.Asks ValidRead) ∷ (codes "initialized", logic.Asks Initialized) ∷ (codes "separated", logic.Separated) ∷ []
 
 -- a word that begins with `\` stands in annotations alone
 abbrev pub name_or_logic : List ℕ → Word

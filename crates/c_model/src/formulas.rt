@@ -12,6 +12,15 @@ pub enum FormulaOperator {
     Predicate(Connective),
 }
 
+/// Where a form stands.
+#[derive(Clone, Copy, PartialEq, Eq, Debug)]
+pub enum FormulaMode {
+    /// Where no range ends it.
+    Alone,
+    /// Where a zone stands: a range may end it, `+ (lo .. hi)`.
+    Zone,
+}
+
 /// How a chain of relations goes on, by those that were read.
 #[derive(Clone, Copy, PartialEq, Eq, Debug)]
 pub enum ChainDirection {

@@ -147,6 +147,9 @@ pub const IMPLIES: u8 = 46;
 /// `^^`
 pub const CARET_CARET: u8 = 47;
 
+/// `..`
+pub const DOTS: u8 = 48;
+
 /// How those of C are spelled.
 pub const SPELLINGS: &[&[u8]] = &[
     b"<<=", b">>=", b"++", b"--", b"->", b"<<", b">>", b"<=", b">=", b"==", b"!=", b"&&", b"||",

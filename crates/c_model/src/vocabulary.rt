@@ -1,6 +1,7 @@
 //! The words of C (C99 6.4.1), and those that name an integer type (C99 6.7.2).
 
 use c_syntax::CInt;
+use c_syntax::logic::{BlockFact, MemoryQuestion};
 
 /// A keyword (C99 6.4.1).
 #[derive(Clone, Copy, PartialEq, Eq, Debug)]
@@ -49,6 +50,14 @@ pub enum TypeName {
 pub enum LogicWord {
     /// `\true` or `\false`.
     Truth(bool),
+    /// `\null`
+    Null,
+    /// `\base_addr`, `\block_length` or `\offset`.
+    Told(BlockFact),
+    /// `\valid`, `\valid_read` or `\initialized`.
+    Asks(MemoryQuestion),
+    /// `\separated`
+    Separated,
     /// A word that no production has.
     Kept,
 }

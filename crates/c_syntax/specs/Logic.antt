@@ -17,6 +17,9 @@ use Rattle.c_syntax.specs.declared.logic.Links as code_links
 use Rattle.c_syntax.specs.declared.logic.Quantifier.{Quantifier}
 use Rattle.c_syntax.specs.declared.logic.MemoryQuestion.{MemoryQuestion}
 use Rattle.c_syntax.specs.declared.logic.PointerOp.{PointerOp}
+use Rattle.c_syntax.specs.declared.logic.ZoneKind.{ZoneKind}
+use Rattle.c_syntax.specs.declared.logic.ZoneKind as zone
+use Rattle.c_syntax.specs.declared.logic.Zones as code_zones
 use Rattle.c_syntax.specs.declared.logic.Pred.{Pred}
 use Rattle.c_syntax.specs.declared.logic.PredKind.{PredKind}
 use Rattle.c_syntax.specs.declared.logic.PredKind as pred
@@ -130,6 +133,15 @@ abbrev mutual
   plain_term_kind at (term.Cast' to pa p a ta ra) t r = Cast at t r (plain_cast_type to) (plain_term_kind pa a (option_map plain_type ta) ra)
   plain_term_kind at (term.Choice' pc o c pa p a ta ra pb q b tb rb) t r = Choice at t r (plain_pred_kind pc c)
       (plain_term_kind pa a (option_map plain_type ta) ra) (plain_term_kind pb b (option_map plain_type tb) rb)
+  plain_term_kind at term.Null t r = Null at t r
+  plain_term_kind at (term.Deref' pa p a ta ra) t r = Deref at t r (plain_term_kind pa a (option_map plain_type ta) ra)
+  plain_term_kind at (term.Member' d pa p a ta ra) t r = Member at t r d (plain_term_kind pa a (option_map plain_type ta) ra)
+  plain_term_kind at (term.Address' pa p a ta ra) t r = Address at t r (plain_term_kind pa a (option_map plain_type ta) ra)
+  plain_term_kind at (term.Moved' op n pa p a ta ra pb q b tb rb) t r = Moved at t r op n (plain_term_kind pa a (option_map plain_type ta) ra)
+      (plain_term_kind pb b (option_map plain_type tb) rb)
+  plain_term_kind at (term.Difference' n pa p a ta ra pb q b tb rb) t r = Difference at t r n (plain_term_kind pa a (option_map plain_type ta) ra)
+      (plain_term_kind pb b (option_map plain_type tb) rb)
+  plain_term_kind at (term.Told' f pa p a ta ra) t r = Told at t r f (plain_term_kind pa a (option_map plain_type ta) ra)
 
   pub plain_links : code_links.Links → Links
   plain_links code_links.End = NoLink
@@ -142,6 +154,17 @@ abbrev mutual
   plain_pred_kind at (pred.Not' pa p a) = Not at (plain_pred_kind pa a)
   plain_pred_kind at (pred.Connected' c pa p a pb q b) = Connected at c (plain_pred_kind pa a) (plain_pred_kind pb b)
   plain_pred_kind at (pred.Choice' pc o c pa p a pb q b) = Branch at (plain_pred_kind pc c) (plain_pred_kind pa a) (plain_pred_kind pb b)
+  plain_pred_kind at (pred.Asks' f pz n m p z) = Asks at f (plain_zone_kind pz n m z)
+  plain_pred_kind at (pred.Separated zs) = Separated at (plain_zones zs)
+
+  pub plain_zone_kind : Place → ℕ → ℕ → ZoneKind → Zone
+  plain_zone_kind at n m (zone.Object' pa p a ta ra) = Object at n m (plain_term_kind pa a (option_map plain_type ta) ra)
+  plain_zone_kind at n m (zone.Elements' pa p a ta ra pb q b tb rb pc o c tc rc) = Elements at n m (plain_term_kind pa a (option_map plain_type ta) ra)
+      (plain_term_kind pb b (option_map plain_type tb) rb) (plain_term_kind pc c (option_map plain_type tc) rc)
+
+  pub plain_zones : code_zones.Zones → Zones
+  plain_zones code_zones.End = NoZone
+  plain_zones (code_zones.More' pz n m p z q rest) = Another (plain_zone_kind pz n m z) (plain_zones rest)
 
 abbrev pub plain_term : Term → LogicTerm
 plain_term t = plain_term_kind t.place t.kind.value (option_map plain_type t.ctype) t.range

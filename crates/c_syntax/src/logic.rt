@@ -1,7 +1,8 @@
-//! Annotations (ACSL 2.2, 2.3): forms as they are read, terms of unbounded integers, predicates, and the clauses that they stand in.
+//! Annotations (ACSL 2.2, 2.3, 2.7): forms as they are read, terms of unbounded integers and of pointers, predicates, and the
+//! clauses that they stand in.
 //!
 //! The place of a form is that of an expression of the same form: an operator's token for a binary one and for `?:`, the first
-//! token of a prefix operator or a cast, the first relation of a chain, and else its token.
+//! token of a prefix operator or a cast, the operator of a postfix one, the first relation of a chain, and else its token.
 
 use crate::annotation::{Kind, Range, Relation};
 use crate::expression::{BinOp, UnOp, Use};
@@ -110,6 +111,38 @@ pub enum FormulaKind {
     Connected(Connective, Formula, Formula),
     /// `condition ? first : second`
     Choice(Formula, Formula, Formula),
+    /// `\null`
+    Null,
+    /// `left[right]`
+    Index(Formula, Formula),
+    /// `left.name`, by the number of the member's name.
+    Dot(Formula, u32),
+    /// `left->name`, by the number of the member's name.
+    Arrow(Formula, u32),
+    /// `\base_addr`, `\block_length` or `\offset`.
+    Told(BlockFact, Formula),
+    /// `\valid`, `\valid_read` or `\initialized`.
+    Asks(MemoryQuestion, FormulaZone),
+    /// `\separated`
+    Separated(FormulaZones),
+}
+
+/// Bytes that a predicate is about, as they are read.
+#[derive(Drop)]
+#[cycle(formula)]
+pub enum FormulaZone {
+    /// What a pointer points to.
+    Object(Formula),
+    /// `p + (lo .. hi)`: the elements from one to another, both included. The place is that of the `+`.
+    Elements(Place, Formula, Formula, Formula),
+}
+
+/// Zones in their order.
+#[derive(Drop)]
+#[cycle(formula)]
+pub enum FormulaZones {
+    End,
+    More(FormulaZone, Box<FormulaZones>),
 }
 
 /// The relations of a chain, each with its token's place and the form after it.
@@ -146,6 +179,20 @@ pub enum TermKind {
     Cast(LogicType, Term),
     /// `condition ? first : second`
     Choice(Pred, Term, Term),
+    /// `\null`, or `NULL`.
+    Null,
+    /// The place that a pointer points to, `*p`. `p[i]` is `*(p + i)`, and `p->m` is `(*p).m`.
+    Deref(Term),
+    /// The member at an offset in bytes of a struct's place.
+    Member(u32, Term),
+    /// The address of a place, `&x`.
+    Address(Term),
+    /// `p + i` or `p - i`, of elements of this size.
+    Moved(PointerOp, u32, Term, Term),
+    /// `p - q`, of elements of this size.
+    Difference(u32, Term, Term),
+    /// `\base_addr`, `\block_length` or `\offset`.
+    Told(BlockFact, Term),
 }
 
 /// The relations of a chain, each with its token's place and the term after it.
@@ -177,6 +224,38 @@ pub enum PredKind {
     Connected(Connective, Pred, Pred),
     /// `condition ? first : second`
     Choice(Pred, Pred, Pred),
+    /// `\valid`, `\valid_read` or `\initialized`.
+    Asks(MemoryQuestion, Zone),
+    /// `\separated`, of zones of which no two share a byte.
+    Separated(Zones),
+}
+
+/// Bytes that a predicate is about. Its place is that of its pointer, or of the `+` before a range.
+#[derive(Drop)]
+#[cycle(logic)]
+pub struct Zone {
+    pub place: Place,
+    /// Of what the pointer points to, in bytes.
+    pub size: u32,
+    pub align: u32,
+    pub kind: Box<ZoneKind>,
+}
+
+#[derive(Drop)]
+#[cycle(logic)]
+pub enum ZoneKind {
+    /// What the pointer points to.
+    Object(Term),
+    /// `p + (lo .. hi)`: the elements from one to another, both included.
+    Elements(Term, Term, Term),
+}
+
+/// Zones in their order.
+#[derive(Drop)]
+#[cycle(logic)]
+pub enum Zones {
+    End,
+    More(Zone, Box<Zones>),
 }
 
 /// What a clause says.

@@ -7,6 +7,7 @@ pub mod WorkedTerms
 pub mod WorkedClauses
 -- the grammar
 mod WorkedAnnotationGrammar
+mod WorkedZoneForms
 -- typing
 mod WorkedSight
 mod WorkedLiterals
@@ -31,6 +32,7 @@ mod WorkedAnnotationTyping
 mod WorkedAnnotationTypes
 mod WorkedPredicateTyping
 mod WorkedFormSorts
+mod WorkedPointerTyping
 -- the meaning
 mod WorkedOperators
 mod WorkedMemory

@@ -18,8 +18,11 @@ use Rattle.c_model.specs.Vocabulary.{Vocabulary}
 use Rattle.c_model.specs.Punctuators.{shift_left, less_equal, equal, not_equal, and_and, or_or, plus, minus, times, less, greater, exclamation, ampersand}
 use Rattle.c_model.specs.Punctuators.{bar, question, colon, semicolon, left_paren, right_paren, equivalent, implies, caret_caret}
 use Rattle.c_model.specs.ExpressionGrammar.{use_of, integer_words, integer_word, untagged_base, base, consts, type_words, star_words, brackets, type_name, closed}
-use Rattle.c_model.specs.AnnotationGrammar.{named_form, literal_form, sized_form, atom, cast_behind, cast_to_type, cast_to_integer, parenthesised, behind_parenthesis, prefixed, prefix_of, prefix, joined_once, joined_more, joined, linked}
-use Rattle.c_model.specs.AnnotationGrammar.{links_of, links, chain_of, implied, implication_of, choice_behind, implication, form_of, form}
+use Rattle.c_model.specs.AnnotationGrammar.{whole, zone, named_form, literal_form, sized_form, null_form, told_form, asked_form, next_zone, some_zones, separated_form, atom, worded, indexed, dotted, pointed, postfix_once, postfixes, worded_postfix}
+use Rattle.c_model.specs.AnnotationGrammar.{cast_behind, cast_to_type, cast_to_integer, closed_postfix, parenthesised, behind_parenthesis, prefixed, bare_prefix, prefix_of, prefix, joined_once, joined_more, joined, factor, added_rest}
+use Rattle.c_model.specs.AnnotationGrammar.{ranged, behind_first}
+use Rattle.c_model.specs.AnnotationGrammar.{added_parenthesis, added, sum_once, sum_more, zone_sum, linked, links_of, links, chain_behind, chain_of, implied, implication_behind, implication_of, chosen_behind, choice_behind, implication}
+use Rattle.c_model.specs.AnnotationGrammar.{form_of, forms, form}
 use Rattle.c_model.specs.AnnotationGrammar.{assertion, assert_clause, full_clause, next_assert, asserts, annotations}
 
 -- a place in a text of one line in which each token has one column
@@ -96,8 +99,9 @@ operators_bind : AreRead (
     ∷ (a ∷ token.Mark bar ∷ b ∷ token.Mark ampersand ∷ c ∷ [], Binary (at 1) BitOr (name 0 0) (Binary (at 3) BitAnd (name 1 2) (name 2 4)))
     ∷ (token.Mark exclamation ∷ a ∷ token.Mark and_and ∷ b ∷ [], Connected (at 2) And (Unary (at 0) Not (name 0 1)) (name 1 3))
     ∷ [])
-unfolding named_form literal_form sized_form atom cast_behind cast_to_type cast_to_integer parenthesised behind_parenthesis prefixed prefix_of prefix joined_once joined_more joined linked links_of links chain_of implied implication_of
-    choice_behind implication form_of form
+unfolding whole zone named_form literal_form sized_form null_form told_form asked_form next_zone some_zones separated_form atom worded indexed dotted pointed postfix_once postfixes worded_postfix cast_behind cast_to_type cast_to_integer
+    closed_postfix parenthesised behind_parenthesis prefixed bare_prefix prefix_of prefix joined_once joined_more joined factor added_rest ranged behind_first added_parenthesis added sum_once sum_more zone_sum linked links_of links
+    chain_behind chain_of implied implication_behind implication_of chosen_behind choice_behind implication form_of forms
 operators_bind = (refl, (refl, (refl, (refl, (refl, (refl, (refl, (refl, tt))))))))
 
 -- a || b && c, a ^^ b || c, a || b ==> c, a ==> b ==> c, a <==> b <==> c, a ==> b <==> c
@@ -109,8 +113,9 @@ connectives_bind : AreRead (
     ∷ (a ∷ token.Mark equivalent ∷ b ∷ token.Mark equivalent ∷ c ∷ [], Connected (at 3) Iff (Connected (at 1) Iff (name 0 0) (name 1 2)) (name 2 4))
     ∷ (a ∷ token.Mark implies ∷ b ∷ token.Mark equivalent ∷ c ∷ [], Connected (at 3) Iff (Connected (at 1) Implies (name 0 0) (name 1 2)) (name 2 4))
     ∷ [])
-unfolding named_form literal_form sized_form atom cast_behind cast_to_type cast_to_integer parenthesised behind_parenthesis prefixed prefix_of prefix joined_once joined_more joined linked links_of links chain_of implied implication_of
-    choice_behind implication form_of form
+unfolding whole zone named_form literal_form sized_form null_form told_form asked_form next_zone some_zones separated_form atom worded indexed dotted pointed postfix_once postfixes worded_postfix cast_behind cast_to_type cast_to_integer
+    closed_postfix parenthesised behind_parenthesis prefixed bare_prefix prefix_of prefix joined_once joined_more joined factor added_rest ranged behind_first added_parenthesis added sum_once sum_more zone_sum linked links_of links
+    chain_behind chain_of implied implication_behind implication_of chosen_behind choice_behind implication form_of forms
 connectives_bind = (refl, (refl, (refl, (refl, (refl, (refl, tt))))))
 
 -- a ? b : c ? a : d, and a ==> b ? c : d
@@ -118,8 +123,9 @@ choices_bind : AreRead (
     (a ∷ token.Mark question ∷ b ∷ token.Mark colon ∷ c ∷ token.Mark question ∷ a ∷ token.Mark colon ∷ d ∷ [], Choice (at 1) (name 0 0) (name 1 2) (Choice (at 5) (name 2 4) (name 0 6) (name 3 8)))
     ∷ (a ∷ token.Mark implies ∷ b ∷ token.Mark question ∷ c ∷ token.Mark colon ∷ d ∷ [], Choice (at 3) (Connected (at 1) Implies (name 0 0) (name 1 2)) (name 2 4) (name 3 6))
     ∷ [])
-unfolding named_form literal_form sized_form atom cast_behind cast_to_type cast_to_integer parenthesised behind_parenthesis prefixed prefix_of prefix joined_once joined_more joined linked links_of links chain_of implied implication_of
-    choice_behind implication form_of form
+unfolding whole zone named_form literal_form sized_form null_form told_form asked_form next_zone some_zones separated_form atom worded indexed dotted pointed postfix_once postfixes worded_postfix cast_behind cast_to_type cast_to_integer
+    closed_postfix parenthesised behind_parenthesis prefixed bare_prefix prefix_of prefix joined_once joined_more joined factor added_rest ranged behind_first added_parenthesis added sum_once sum_more zone_sum linked links_of links
+    chain_behind chain_of implied implication_behind implication_of chosen_behind choice_behind implication form_of forms
 choices_bind = (refl, (refl, tt))
 
 -- ---- chains of relations
@@ -131,8 +137,9 @@ chains_are_read : AreRead (
     ∷ (a ∷ token.Mark not_equal ∷ b ∷ [], Chain (at 1) (name 0 0) (Linked (at 1) Ne (name 1 2) NoLink))
     ∷ (token.Mark left_paren ∷ a ∷ token.Mark less ∷ b ∷ token.Mark right_paren ∷ token.Mark greater ∷ c ∷ [], Chain (at 5) (Chain (at 2) (name 0 1) (Linked (at 2) Lt (name 1 3) NoLink)) (Linked (at 5) Gt (name 2 6) NoLink))
     ∷ [])
-unfolding named_form literal_form sized_form atom cast_behind cast_to_type cast_to_integer parenthesised behind_parenthesis prefixed prefix_of prefix joined_once joined_more joined linked links_of links chain_of implied implication_of
-    choice_behind implication form_of form closed
+unfolding whole zone named_form literal_form sized_form null_form told_form asked_form next_zone some_zones separated_form atom worded indexed dotted pointed postfix_once postfixes worded_postfix cast_behind cast_to_type cast_to_integer
+    closed_postfix parenthesised behind_parenthesis prefixed bare_prefix prefix_of prefix joined_once joined_more joined factor added_rest ranged behind_first added_parenthesis added sum_once sum_more zone_sum linked links_of links
+    chain_behind chain_of implied implication_behind implication_of chosen_behind choice_behind implication form_of forms closed
 chains_are_read = (refl, (refl, (refl, (refl, tt))))
 
 -- at the second relation: a < b > c, a == b != c, a != b == c, a != b != c
@@ -142,8 +149,9 @@ chains_go_one_way : AreRefused (
     ∷ (a ∷ token.Mark not_equal ∷ b ∷ token.Mark equal ∷ c ∷ [], 4)
     ∷ (a ∷ token.Mark not_equal ∷ b ∷ token.Mark not_equal ∷ c ∷ [], 4)
     ∷ [])
-unfolding named_form literal_form sized_form atom cast_behind cast_to_type cast_to_integer parenthesised behind_parenthesis prefixed prefix_of prefix joined_once joined_more joined linked links_of links chain_of implied implication_of
-    choice_behind implication form_of form full_clause next_assert asserts annotations assert_clause
+unfolding whole zone named_form literal_form sized_form null_form told_form asked_form next_zone some_zones separated_form atom worded indexed dotted pointed postfix_once postfixes worded_postfix cast_behind cast_to_type cast_to_integer
+    closed_postfix parenthesised behind_parenthesis prefixed bare_prefix prefix_of prefix joined_once joined_more joined factor added_rest ranged behind_first added_parenthesis added sum_once sum_more zone_sum linked links_of links
+    chain_behind chain_of implied implication_behind implication_of chosen_behind choice_behind implication form_of forms full_clause next_assert asserts annotations assert_clause
 chains_go_one_way = (refl, (refl, (refl, (refl, tt))))
 
 -- ---- casts, `sizeof` and words
@@ -155,28 +163,30 @@ casts_and_words : AreRead (
     ∷ (sizeof_word ∷ token.Mark left_paren ∷ int ∷ token.Mark right_paren ∷ [], SizeOf (at 0) (Int I32))
     ∷ (true_word ∷ token.Mark and_and ∷ assert ∷ [], Connected (at 1) And (Truth (at 0) true) (name 7 2))
     ∷ [])
-unfolding named_form literal_form sized_form atom cast_behind cast_to_type cast_to_integer parenthesised behind_parenthesis prefixed prefix_of prefix joined_once joined_more joined linked links_of links chain_of implied implication_of
-    choice_behind implication form_of form closed type_name type_words consts base untagged_base integer_words integer_word star_words brackets
+unfolding whole zone named_form literal_form sized_form null_form told_form asked_form next_zone some_zones separated_form atom worded indexed dotted pointed postfix_once postfixes worded_postfix cast_behind cast_to_type cast_to_integer
+    closed_postfix parenthesised behind_parenthesis prefixed bare_prefix prefix_of prefix joined_once joined_more joined factor added_rest ranged behind_first added_parenthesis added sum_once sum_more zone_sum linked links_of links
+    chain_behind chain_of implied implication_behind implication_of chosen_behind choice_behind implication form_of forms closed type_name type_words consts base untagged_base integer_words integer_word star_words brackets
 casts_and_words = (refl, (refl, (refl, (refl, tt))))
 
--- a word that can't stand there: integer, a == integer, int, (a) b, a pointer's place, \old (a)
+-- a word that can't stand there: integer, a == integer, int, (a) b, \old (a)
 words_are_refused : AreRefused (
     (integer ∷ [], 3)
     ∷ (a ∷ token.Mark equal ∷ integer ∷ [], 3)
     ∷ (int ∷ [], 3)
     ∷ (token.Mark left_paren ∷ a ∷ token.Mark right_paren ∷ b ∷ [], 3)
-    ∷ (token.Mark times ∷ a ∷ [], 4)
     ∷ (old_word ∷ token.Mark left_paren ∷ a ∷ token.Mark right_paren ∷ [], 6)
     ∷ [])
-unfolding named_form literal_form sized_form atom cast_behind cast_to_type cast_to_integer parenthesised behind_parenthesis prefixed prefix_of prefix joined_once joined_more joined linked links_of links chain_of implied implication_of
-    choice_behind implication form_of form closed full_clause next_assert asserts annotations assert_clause
-words_are_refused = (refl, (refl, (refl, (refl, (refl, (refl, tt))))))
+unfolding whole zone named_form literal_form sized_form null_form told_form asked_form next_zone some_zones separated_form atom worded indexed dotted pointed postfix_once postfixes worded_postfix cast_behind cast_to_type cast_to_integer
+    closed_postfix parenthesised behind_parenthesis prefixed bare_prefix prefix_of prefix joined_once joined_more joined factor added_rest ranged behind_first added_parenthesis added sum_once sum_more zone_sum linked links_of links
+    chain_behind chain_of implied implication_behind implication_of chosen_behind choice_behind implication form_of forms closed full_clause next_assert asserts annotations assert_clause
+words_are_refused = (refl, (refl, (refl, (refl, (refl, tt)))))
 
 -- ---- annotations
 
 -- the asserts of an annotation take numbers one after another: assert a; assert b;
 two_asserts : (annotations words 3).parse (tokens_from 0 (token.AnnotOpen ∷ assert ∷ a ∷ token.Mark semicolon ∷ assert ∷ b ∷ token.Mark semicolon ∷ token.AnnotClose ∷ [])) ≡
     Ok ((assertion 3 (at 1) (name 0 2) ∷ assertion 4 (at 4) (name 1 5) ∷ [], 5), [])
-unfolding named_form literal_form sized_form atom cast_behind cast_to_type cast_to_integer parenthesised behind_parenthesis prefixed prefix_of prefix joined_once joined_more joined linked links_of links chain_of implied implication_of
-    choice_behind implication form_of form full_clause next_assert asserts annotations assert_clause
+unfolding whole zone named_form literal_form sized_form null_form told_form asked_form next_zone some_zones separated_form atom worded indexed dotted pointed postfix_once postfixes worded_postfix cast_behind cast_to_type cast_to_integer
+    closed_postfix parenthesised behind_parenthesis prefixed bare_prefix prefix_of prefix joined_once joined_more joined factor added_rest ranged behind_first added_parenthesis added sum_once sum_more zone_sum linked links_of links
+    chain_behind chain_of implied implication_behind implication_of chosen_behind choice_behind implication form_of forms full_clause next_assert asserts annotations assert_clause
 two_asserts = refl

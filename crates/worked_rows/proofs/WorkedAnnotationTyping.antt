@@ -83,17 +83,22 @@ noted_unit-asserts_of_a_hiding = refl
 
 -- ---- refused
 
--- a pointer, an array and a struct
-noted_unit-asserts_of_a_pointer : refusing (noted_unit (asserts_of 1)) ≡ Some (record { code = 6; place = place 9 14 112 })
+-- a pointer and an array beside 1, at the relation, and a struct at its own place
+noted_unit-asserts_of_a_pointer : refusing (noted_unit (asserts_of 1)) ≡ Some (record { code = 6; place = place 9 16 114 })
 noted_unit-asserts_of_a_pointer = refl
 
-noted_unit-asserts_of_an_array : refusing (noted_unit (asserts_of 3)) ≡ Some (record { code = 6; place = place 9 14 112 })
+noted_unit-asserts_of_an_array : refusing (noted_unit (asserts_of 3)) ≡ Some (record { code = 6; place = place 9 16 114 })
 noted_unit-asserts_of_an_array = refl
 
 noted_unit-asserts_of_a_struct : refusing (noted_unit (asserts_of 4)) ≡ Some (record { code = 6; place = place 9 14 112 })
 noted_unit-asserts_of_a_struct = refl
 
--- a function, a member, `NULL`, and an object that is declared behind the assert
+-- `NULL` beside 1
+noted_unit-asserts_of_null : refusing (noted_unit (asserts_of 11)) ≡ Some (record { code = 6; place = place 9 16 114 })
+unfolding library_constant
+noted_unit-asserts_of_null = refl
+
+-- a function, a member, and an object that is declared behind the assert
 noted_unit-asserts_of_a_function : refusing (noted_unit (asserts_of 5)) ≡ Some (record { code = 5; place = place 9 14 112 })
 unfolding library_constant
 noted_unit-asserts_of_a_function = refl
@@ -101,10 +106,6 @@ noted_unit-asserts_of_a_function = refl
 noted_unit-asserts_of_a_member : refusing (noted_unit (asserts_of 6)) ≡ Some (record { code = 5; place = place 9 14 112 })
 unfolding library_constant
 noted_unit-asserts_of_a_member = refl
-
-noted_unit-asserts_of_null : refusing (noted_unit (asserts_of 11)) ≡ Some (record { code = 5; place = place 9 14 112 })
-unfolding library_constant
-noted_unit-asserts_of_null = refl
 
 noted_unit-asserts_of_a_later_one : refusing (noted_unit (asserts_of 9)) ≡ Some (record { code = 5; place = place 9 14 112 })
 unfolding library_constant

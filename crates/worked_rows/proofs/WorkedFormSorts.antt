@@ -12,21 +12,30 @@ use Rattle.c_syntax.specs.declared.logic.Connective.{Connective}
 use Rattle.c_syntax.specs.declared.logic.Connective.TheVariants.{And, Or, Xor, Implies, Iff}
 use Rattle.c_syntax.specs.declared.types.CInt.TheVariants.{I8, U8, I16, U16, I32, U32, I64, U64}
 use Rattle.c_syntax.specs.Ctypes.{PlainType, Void, Int, Ptr, Array, StructTag, Named, Written, Count}
-use Rattle.c_syntax.specs.Formulas.{Form, Name, Number, Letter, Truth, Unary, Binary, Connected, Choice, Chain, Linked, NoLink, Cast, SizeOf, Integers, OfC}
+use Rattle.c_syntax.specs.Formulas.{Form, Name, Number, Letter, Truth, Unary, Binary, Connected, Choice, Chain, Linked, NoLink, Cast, SizeOf, Integers, OfC, Null}
 use Rattle.c_syntax.specs.Logic as logic
 use Rattle.c_syntax.specs.Logic.{LogicTerm, Raw, Holds}
 use Rattle.c_model.specs.Checked.{Checked, Good, Bad, one_part}
 use Rattle.c_model.specs.Library.{library_constant}
-use Rattle.c_model.specs.PredicateTyping.{Sorted, ATerm, APredicate, range_to_infer, typed_form, typed_clause}
+use Rattle.c_model.specs.PredicateTyping as typing
+use Rattle.c_model.specs.PredicateTyping.{Sorted, ATerm, APredicate, APlace, ValueSort, sort_of_term, range_to_infer, typed_form, typed_clause}
 use Rattle.worked_rows.proofs.WorkedSight.{at, fault, int, char, unsigned_long, struct_s, struct_u, sight, three, f}
 
 data Sort : Type 0 where
   AnInteger : Sort
+  IsPointer : Sort
+  IsStruct : Sort
   IsPredicate : Sort
 
+abbrev sort_of_value : ValueSort → Sort
+sort_of_value typing.AnInteger = AnInteger
+sort_of_value (typing.APointer t) = IsPointer
+sort_of_value typing.NoValue = IsStruct
+
 abbrev sort : Sorted → Sort
-sort (ATerm t) = AnInteger
+sort (ATerm t) = sort_of_value (sort_of_term t)
 sort (APredicate p) = IsPredicate
+sort (APlace t) = sort_of_value (sort_of_term t)
 
 abbrev sort_of : Form → Checked Sort
 sort_of g = one_part (typed_form sight g) (λ s. Good (sort s))
@@ -71,7 +80,7 @@ truths = refl
 objects : map (λ (x : ℕ). sort_of (named x 0)) (0 ∷ 1 ∷ 2 ∷ 3 ∷ 4 ∷ 5 ∷ 6 ∷ 7 ∷ []) ≡ replicate 8 (Good AnInteger)
 objects = refl
 
-an_object_keeps_its_type : typed_form sight (c 0) ≡ Good (ATerm (c_at 0))
+an_object_keeps_its_type : typed_form sight (c 0) ≡ Good (APlace (c_at 0))
 an_object_keeps_its_type = refl
 
 -- N, EOF
@@ -83,11 +92,16 @@ unfolding library_constant
 a_constant_is_its_value = refl
 
 -- p, v, a, t, r, x
-no_integers : map (λ (x : ℕ). sort_of (named x 0)) (8 ∷ 11 ∷ 12 ∷ 13 ∷ 14 ∷ 15 ∷ []) ≡ replicate 6 (fault 6 0)
+no_integers : map (λ (x : ℕ). sort_of (named x 0)) (8 ∷ 11 ∷ 12 ∷ 13 ∷ 14 ∷ 15 ∷ [])
+    ≡ Good IsPointer ∷ Good IsPointer ∷ Good IsPointer ∷ Good IsPointer ∷ Good IsStruct ∷ Good IsPointer ∷ []
 no_integers = refl
 
--- unknown, f, a function without a definition, putchar, NULL, a member, a tag
-no_names : map (λ (x : ℕ). sort_of (named x 0)) (37 ∷ f ∷ 23 ∷ 28 ∷ 25 ∷ 31 ∷ 34 ∷ []) ≡ replicate 7 (fault 5 0)
+null_is_a_pointer : map sort_of (named 25 0 ∷ Null (at 0) ∷ []) ≡ replicate 2 (Good IsPointer)
+unfolding library_constant
+null_is_a_pointer = refl
+
+-- unknown, f, a function without a definition, putchar, a member, a tag
+no_names : map (λ (x : ℕ). sort_of (named x 0)) (37 ∷ f ∷ 23 ∷ 28 ∷ 31 ∷ 34 ∷ []) ≡ replicate 6 (fault 5 0)
 unfolding library_constant
 no_names = refl
 
@@ -125,7 +139,7 @@ no_predicate_on_the_right = refl
 an_operator_keeps_its_operands : typed_form sight (Binary (at 2) Sub (c 0) (one 4)) ≡ Good (ATerm (logic.Binary (at 2) None range_to_infer Sub (c_at 0) (number (pos 1) 4)))
 an_operator_keeps_its_operands = refl
 
--- ---- relations want integers and give predicates
+-- ---- relations want two integers, or two pointers, and give predicates
 
 abbrev relations : List Relation
 relations = relation.Lt ∷ relation.Le ∷ relation.Gt ∷ relation.Ge ∷ relation.Eq ∷ relation.Ne ∷ []
@@ -146,8 +160,8 @@ no_relation_with_a_predicate = refl
 no_predicate_in_the_middle : sort_of (Chain (at 2) (one 0) (Linked (at 2) relation.Eq (less 6) (Linked (at 11) relation.Eq (c 14) NoLink))) ≡ Bad (record { code = 6; place = at 2 }) (record { code = 6; place = at 11 } ∷ [])
 no_predicate_in_the_middle = refl
 
-no_relation_of_pointers : related (named 8 0) (named 8 4) ≡ map (λ (r : Relation). Bad (record { code = 6; place = at 0 }) (record { code = 6; place = at 4 } ∷ [])) relations
-no_relation_of_pointers = refl
+relations_of_pointers : related (named 8 0) (named 8 4) ≡ every relations (Good IsPredicate)
+relations_of_pointers = refl
 
 -- 1 <= c < 1
 a_chain_is_one_predicate : typed_form sight (Chain (at 2) (one 0) (Linked (at 2) relation.Le (c 5) (Linked (at 7) relation.Lt (one 9) NoLink)))
@@ -168,7 +182,7 @@ predicates_are_connected = refl
 integers_are_connected : connected (c 0) (l 5) ≡ every connectives (Good IsPredicate)
 integers_are_connected = refl
 
-no_pointer_is_connected : connected (named 8 0) (c 5) ≡ every connectives (fault 6 0)
+no_pointer_is_connected : connected (named 8 0) (c 5) ≡ every connectives (fault 6 2)
 no_pointer_is_connected = refl
 
 -- c ==> !1
@@ -193,10 +207,10 @@ an_integer_and_a_predicate = refl
 a_predicate_and_an_integer : chosen (c 0) (less 5) (one 8) ≡ Good IsPredicate
 a_predicate_and_an_integer = refl
 
-no_choice_of_a_pointer : chosen (c 0) (one 4) (named 8 8) ≡ fault 6 8
+no_choice_of_a_pointer : chosen (c 0) (one 4) (named 8 8) ≡ fault 6 2
 no_choice_of_a_pointer = refl
 
--- ---- casts want an integer, and an integer type of C or `integer`
+-- ---- casts of an integer want an integer type of C or `integer`
 
 abbrev cast_to : List PlainType → Form → List (Checked Sort)
 cast_to ts g = map (λ (t : PlainType). sort_of (Cast (at 0) (OfC t) g)) ts

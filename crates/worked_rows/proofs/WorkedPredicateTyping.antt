@@ -14,7 +14,7 @@ use Rattle.c_syntax.specs.Logic.{Truth, NonZero, Chain, Not, Connected, Branch, 
 use Rattle.c_model.specs.Checked.{Fault, Good, refusing}
 use Rattle.c_model.specs.Library.{library_constant}
 use Rattle.c_model.specs.ExpressionTyping.{AnObject, AnEnumerator, Sight}
-use Rattle.c_model.specs.PredicateTyping.{Sorted, ATerm, APredicate, range_to_infer, typed_form, typed_clause}
+use Rattle.c_model.specs.PredicateTyping.{Sorted, ATerm, APredicate, APlace, range_to_infer, typed_form, typed_clause}
 
 abbrev pub at : ℕ → Place
 at offset = record { line = 1; column = offset + 1; offset = offset }
@@ -68,7 +68,7 @@ abbrev n_less : ℕ → Sorted
 n_less offset = APredicate (Chain (at offset) (n_at 0) (Linked (at offset) relation.Lt (number 9 1) NoLink))
 
 -- an object, an enumerator, a constant of the library
-typed-object : typed_form sight (name 0 0) ≡ Good (ATerm (n_at 0))
+typed-object : typed_form sight (name 0 0) ≡ Good (APlace (n_at 0))
 typed-object = refl
 
 typed-enumerator : typed_form sight (name 0 2) ≡ Good (ATerm (number 0 3))
@@ -125,9 +125,9 @@ typed_clause-term = refl
 
 -- ---- refused
 
--- a pointer, an unknown name, a function's name
-typed-pointer : refusing (typed_form sight (name 0 1)) ≡ fault 6 0
-typed-pointer = refl
+-- a pointer that should hold, an unknown name, a function's name
+typed_clause-pointer : refusing (typed_clause sight (Raw (name 0 1))) ≡ fault 6 0
+typed_clause-pointer = refl
 
 typed-unknown : refusing (typed_form sight (name 0 6)) ≡ fault 5 0
 unfolding library_constant
@@ -163,8 +163,8 @@ typed-unknown_further_on : refusing (typed_form sight (read.Chain (at 6) (less 2
 unfolding library_constant
 typed-unknown_further_on = refl
 
--- `u + p`, `p + u`: the first of two faults
-typed-two_faults : refusing (typed_form sight (read.Binary (at 2) operator.Add (name 0 1) (name 4 6))) ≡ fault 6 0
+-- `u + f`: the first of two faults
+typed-two_faults : refusing (typed_form sight (read.Binary (at 2) operator.Add (name 0 6) (name 4 7))) ≡ fault 5 0
 unfolding library_constant
 typed-two_faults = refl
 
