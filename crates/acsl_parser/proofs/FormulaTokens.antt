@@ -4,16 +4,22 @@ use Rattle.std.proofs.lemmas.Bool.{eqb-true}
 use Rattle.grammar.specs.Syntax.{Syntax, among, sees, one}
 use Rattle.grammar.specs.Exact.{IsExact, IsGood}
 use Rattle.grammar.proofs.Productions.{token, same, recast}
+use Rattle.grammar.proofs.Sets.{within_among}
 use Rattle.c_syntax.specs.declared.place.Place.{Place}
 use Rattle.c_syntax.specs.Tokens as tokens
 use Rattle.c_syntax.specs.Tokens.{PlainTokenKind, PlainToken}
+use Rattle.c_syntax.specs.declared.logic.BlockFact.{BlockFact}
+use Rattle.c_syntax.specs.declared.logic.MemoryQuestion.{MemoryQuestion}
+use Rattle.c_model.specs.declared.vocabulary.LogicWord.TheVariants as logic
 use Rattle.c_model.specs.declared.vocabulary.Word.{Word}
 use Rattle.c_model.specs.declared.vocabulary.TypeName.TheVariants.{DeclaredAssert}
 use Rattle.c_model.specs.declared.vocabulary.Word.TheVariants as word
 use Rattle.c_model.specs.Vocabulary.{Vocabulary, word_at}
 use Rattle.c_model.specs.Terminals.{placed, mark_entry}
-use Rattle.c_model.specs.ExpressionGrammar.{name_kind, number_kind, letter_kind, logic_kind, mark_kind, word_kind, token_kind, kind, number_of, letter_of, kinds_of, first_type, fixed}
-use Rattle.c_model.specs.AnnotationGrammar.{integer_kind, formula_word_kind, formula_token_kind, formula_kind, formula_name_of, truth_word, truth_of, integer_word, first_clause, assert_word_of, assert_word}
+use Rattle.c_model.specs.ExpressionGrammar.{type_name_kind, fact_kind, question_kind, first_any_name, any_name_of, any_name, name_kind, number_kind, letter_kind, logic_kind, mark_kind, word_kind, token_kind, kind, number_of, letter_of}
+use Rattle.c_model.specs.ExpressionGrammar.{kinds_of, first_type, fixed}
+use Rattle.c_model.specs.AnnotationGrammar.{fact_word, fact_of, question_word, question_of, integer_kind, formula_word_kind, formula_token_kind, formula_kind, formula_name_of, truth_word, truth_of, integer_word, first_clause}
+use Rattle.c_model.specs.AnnotationGrammar.{assert_word_of, assert_word}
 use Rattle.c_expr_parser.proofs.ExactTokens.{fixed_good, number_good, letter_good, marks_good}
 
 -- a production of annotations is read exactly, with these sets
@@ -23,6 +29,10 @@ IsForm ws G null first more = IsGood (formula_kind ws) 0 G G null first (λ _. m
 -- the same of two productions, on texts below n tokens
 abbrev pub AreForms : {A : Type 0} → Vocabulary → ℕ → Syntax PlainToken A → Syntax PlainToken A → Bool → List ℕ → List ℕ → Type 0
 AreForms ws n G H null first more = IsGood (formula_kind ws) n G H null first (λ _. more)
+
+-- what may be the name of a member
+abbrev pub first_member : List ℕ
+first_member = name_kind ∷ type_name_kind ∷ integer_kind ∷ []
 
 -- neither a name nor `integer` is of these kinds
 pub record NoName (ks : List ℕ) : Type 0 where
@@ -141,7 +151,7 @@ module _ (ws : Vocabulary) where
   name_form = placed_form (formula_name_of ws) (name_kind ∷ []) name_among
 
   truth_is_logic : (w : Word) (b : Bool) → truth_word w ≡ Some b → among (formula_word_kind w) (logic_kind ∷ []) ≡ true
-  truth_is_logic (word.Logic w) b e = refl
+  truth_is_logic (word.Logic (logic.Truth c)) b e = refl
   truth_is_logic _ b e = absurd cc
 
   truth_among : (t : PlainTokenKind) (b : Bool) → truth_of ws t ≡ Some b → among (formula_token_kind ws t) (logic_kind ∷ []) ≡ true
@@ -150,6 +160,48 @@ module _ (ws : Vocabulary) where
 
   pub truth_form : {n : ℕ} → AreForms ws n (one (placed (truth_of ws))) (one (placed (truth_of ws))) false (logic_kind ∷ []) []
   truth_form = placed_form (truth_of ws) (logic_kind ∷ []) truth_among
+
+  fact_is_fact : (w : Word) (f : BlockFact) → fact_word w ≡ Some f → among (formula_word_kind w) (fact_kind ∷ []) ≡ true
+  fact_is_fact (word.Logic (logic.Told g)) f e = refl
+  fact_is_fact _ f e = absurd cc
+
+  fact_among : (t : PlainTokenKind) (f : BlockFact) → fact_of ws t ≡ Some f → among (formula_token_kind ws t) (fact_kind ∷ []) ≡ true
+  fact_among (tokens.Word k) f e = fact_is_fact (word_at ws k) f e
+  fact_among _ f e = absurd cc
+
+  pub fact_form : {n : ℕ} → AreForms ws n (one (placed (fact_of ws))) (one (placed (fact_of ws))) false (fact_kind ∷ []) []
+  fact_form = placed_form (fact_of ws) (fact_kind ∷ []) fact_among
+
+  question_is_question : (w : Word) (q : MemoryQuestion) → question_word w ≡ Some q → among (formula_word_kind w) (question_kind ∷ []) ≡ true
+  question_is_question (word.Logic (logic.Asks r)) q e = refl
+  question_is_question _ q e = absurd cc
+
+  question_among : (t : PlainTokenKind) (q : MemoryQuestion) → question_of ws t ≡ Some q → among (formula_token_kind ws t) (question_kind ∷ []) ≡ true
+  question_among (tokens.Word k) q e = question_is_question (word_at ws k) q e
+  question_among _ q e = absurd cc
+
+  pub question_form : {n : ℕ} → AreForms ws n (one (placed (question_of ws))) (one (placed (question_of ws))) false (question_kind ∷ []) []
+  question_form = placed_form (question_of ws) (question_kind ∷ []) question_among
+
+  -- the name of a member may be that of a type, and `integer`
+  some_so : (b : Bool) (k m : ℕ) → cond b (Some k) None ≡ Some m → b ≡ true
+  some_so true k m e = refl
+  some_so false k m e = absurd cc
+
+  member_word : (w : Word) → among (word_kind w) first_any_name ≡ true → among (formula_word_kind w) first_member ≡ true
+  member_word word.Integer e = refl
+  member_word (word.Keyword k) e = within_among first_any_name first_member (word_kind (word.Keyword k)) refl e
+  member_word (word.TypeName t) e = refl
+  member_word word.Assert e = refl
+  member_word (word.Logic w) e = within_among first_any_name first_member (word_kind (word.Logic w)) refl e
+  member_word word.Name e = refl
+
+  member_among : (t : PlainTokenKind) (m : ℕ) → any_name_of ws t ≡ Some m → among (formula_token_kind ws t) first_member ≡ true
+  member_among (tokens.Word k) m e = member_word (word_at ws k) (some_so (among (word_kind (word_at ws k)) first_any_name) k m e)
+  member_among _ m e = absurd cc
+
+  pub member_form : {n : ℕ} → AreForms ws n (any_name ws) (any_name ws) false first_member []
+  member_form = placed_form (any_name_of ws) first_member member_among
 
   integer_among : (t : PlainToken) (p : Place) → cond (eqb (formula_kind ws t) integer_kind) (Some t.place) None ≡ Some p → among (formula_kind ws t) (integer_kind ∷ []) ≡ true
   integer_among t p e = tested (eqb (formula_kind ws t) integer_kind) e

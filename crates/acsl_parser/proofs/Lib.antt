@@ -4,4 +4,5 @@ pub mod UnlimitedForms
 pub mod ExactAnnotations
 pub mod Clauses
 pub mod Turns
+pub mod Zones
 pub mod AnnotationAnswers

@@ -1,30 +1,35 @@
 -- A turn of a repetition: one more, a fault, and none; and what is read is shorter.
-use Rattle.std.proofs.Common.{◌≡◌, ℕ, ◌<◌, true, false, List, [], length, Ok, refl}
-use Rattle.grammar.specs.Syntax.{sees}
-use Rattle.grammar.proofs.Sets.{within, apart}
-use Rattle.grammar.proofs.Productions.{and, one_lower, turn, turn_fails, turn_ends}
+use Rattle.std.proofs.Common.{◌≡◌, ℕ, ◌<◌, true, false, List, [], ◌∷◌, ◌++◌, length, Option, Some, None, Ok, ◌∙◌, refl}
+use Rattle.grammar.specs.Syntax.{Syntax, sees, gives, ◌then◌, choice, many}
+use Rattle.grammar.proofs.Bounds.{many_is}
+use Rattle.grammar.proofs.Sets.{apart}
+use Rattle.grammar.proofs.Productions.{one_lower, turn, turn_fails, turn_ends, turn_to}
 use Rattle.c_syntax.specs.declared.fault.ReadFault.{ReadFault}
 use Rattle.c_syntax.specs.declared.token.Token.{Token}
-use Rattle.c_syntax.specs.Formulas.{Form}
+use Rattle.c_syntax.specs.Formulas.{Form, FormZone}
 use Rattle.c_syntax.specs.Logic.{Annotation}
 use Rattle.c_syntax.specs.Tokens.{PlainToken}
+use Rattle.c_model.specs.declared.formulas.FormulaMode.{FormulaMode}
 use Rattle.c_model.specs.Vocabulary.{Vocabulary}
-use Rattle.c_model.specs.ExpressionGrammar.{kinds_of}
-use Rattle.c_model.specs.AnnotationGrammar.{first_clause, formula_kind, joined_once, joined_more, next_assert}
+use Rattle.c_model.specs.Punctuators.{comma}
+use Rattle.c_model.specs.ExpressionGrammar.{kinds_of, mark_kind}
+use Rattle.c_model.specs.AnnotationGrammar.{first_behind, first_clause, formula_kind, FormRange, Spanned, unended_kinds, unended_only, joined_once, joined_more, sum_once, sum_more}
+use Rattle.c_model.specs.AnnotationGrammar.{postfix_once, postfixes, next_zone, form, next_assert}
 use Rattle.token_reader.specs.Reading.{plain_list, Fails}
 use Rattle.token_reader.proofs.Faults.{again}
 use Rattle.token_reader.proofs.Shorter.{shorter}
 use Rattle.acsl_parser.specs.declared.tables.Level.{Level}
 use Rattle.acsl_parser.specs.declared.tables.Level.TheVariants as level
-use Rattle.acsl_parser.specs.Reading.{operators, operand, more_asserts}
+use Rattle.acsl_parser.specs.Reading.{any_zone, operators, operand, more_zones, more_asserts}
 use Rattle.acsl_parser.proofs.FormulaTokens.{IsForm}
-use Rattle.acsl_parser.proofs.ExactForms.{first_form, more_product, more_sum, more_chain, more_bit_and, more_bit_xor, more_bit_or, more_conjunction, more_exclusion, more_implication, form_good, prefix_good, product_good, sum_good, chain_good}
-use Rattle.acsl_parser.proofs.ExactForms.{bit_and_good, bit_xor_good, bit_or_good, conjunction_good, exclusion_good, implication_good, once_good, turns_fit}
+use Rattle.acsl_parser.proofs.ExactForms.{first_form, more_product, more_sum, more_chain, more_bit_and, more_bit_xor, more_bit_or, more_conjunction, more_exclusion, more_implication, more_form, form_good, zones_good}
+use Rattle.acsl_parser.proofs.ExactForms.{factor_good, product_good}
+use Rattle.acsl_parser.proofs.ExactForms.{sum_good, chain_good, bit_and_good, bit_xor_good, bit_or_good, conjunction_good, exclusion_good, implication_good, once_good, sum_once_good, postfix_once_good, next_zone_good, turn_good, fits}
 use Rattle.acsl_parser.proofs.ExactAnnotations.{next_assert_good}
 
 -- what an operand of a level can go on with
 abbrev more_operand : Level → List ℕ
-more_operand level.Product = []
+more_operand level.Product = first_behind
 more_operand level.Sum = more_product
 more_operand level.Shift = more_sum
 more_operand level.BitAnd = more_chain
@@ -48,39 +53,118 @@ level_apart level.Disjunction = refl
 level_apart level.Equivalence = refl
 
 module _ (ws : Vocabulary) where
-  operand_good : (l : Level) → IsForm ws (operand ws l) false first_form (more_operand l)
-  operand_good level.Product = one_lower (prefix_good ws (form_good ws))
-  operand_good level.Sum = one_lower (product_good ws (form_good ws))
-  operand_good level.Shift = one_lower (sum_good ws (form_good ws))
-  operand_good level.BitAnd = one_lower (chain_good ws (form_good ws))
-  operand_good level.BitXor = one_lower (bit_and_good ws (form_good ws))
-  operand_good level.BitOr = one_lower (bit_xor_good ws (form_good ws))
-  operand_good level.Conjunction = one_lower (bit_or_good ws (form_good ws))
-  operand_good level.Exclusion = one_lower (conjunction_good ws (form_good ws))
-  operand_good level.Disjunction = one_lower (exclusion_good ws (form_good ws))
-  operand_good level.Equivalence = one_lower (implication_good ws (form_good ws))
+  operand_good : (m : FormulaMode) (l : Level) → IsForm ws (operand ws m l) false first_form (more_operand l)
+  operand_good m level.Product = one_lower (factor_good ws (form_good ws) (zones_good ws))
+  operand_good m level.Sum = one_lower (product_good ws (form_good ws) (zones_good ws))
+  operand_good m level.Shift = one_lower (sum_good ws (form_good ws) (zones_good ws) m)
+  operand_good m level.BitAnd = one_lower (chain_good ws (form_good ws) (zones_good ws) m)
+  operand_good m level.BitXor = one_lower (bit_and_good ws (form_good ws) (zones_good ws) m)
+  operand_good m level.BitOr = one_lower (bit_xor_good ws (form_good ws) (zones_good ws) m)
+  operand_good m level.Conjunction = one_lower (bit_or_good ws (form_good ws) (zones_good ws) m)
+  operand_good m level.Exclusion = one_lower (conjunction_good ws (form_good ws) (zones_good ws) m)
+  operand_good m level.Disjunction = one_lower (exclusion_good ws (form_good ws) (zones_good ws) m)
+  operand_good m level.Equivalence = one_lower (implication_good ws (form_good ws) (zones_good ws) m)
 
-  -- ---- operators of a level
+  -- ---- a repetition behind a form that no range ends
 
-  once_exact : (l : Level) (x : Form) → IsForm ws (joined_once ws (operators l) (operand ws l) x) false (kinds_of (operators l)) (more_operand l)
-  once_exact l x = once_good ws (operators l) (more_operand l) (operand_good l) x
+  pub sees_nothing : (ts : List PlainToken) → sees (formula_kind ws) [] ts ≡ false
+  sees_nothing [] = refl
+  sees_nothing (t ∷ ts) = refl
 
-  once_fits : (l : Level) → and (apart (kinds_of (operators l)) (more_operand l)) (within (kinds_of (operators l)) (kinds_of (operators l))) ≡ true
-  once_fits l = turns_fit ws (operators l) (more_operand l) (level_apart l)
+  no_more : (ts : List PlainToken) → sees (formula_kind ws) [] ts ≡ true → ⊥
+  no_more [] s = cc
+  no_more (t ∷ ts) s = cc
 
-  pub joined_turn : (l : Level) (x y : Form) (ts rest : List PlainToken) → sees (formula_kind ws) (kinds_of (operators l)) ts ≡ true → (joined_once ws (operators l) (operand ws l) x).parse ts ≡ Ok (y, rest)
-      → (joined_more ws (operators l) (operand ws l) x).parse ts ≡ (joined_more ws (operators l) (operand ws l) y).parse rest
+  module _ (ks m : List ℕ) (step : Form → Syntax PlainToken (Spanned Form)) (g : (x : Form) → IsForm ws (step x) false ks m) (a : apart ks m ≡ true) where
+    abbrev repeated : Spanned Form → Syntax PlainToken (Spanned Form)
+    repeated x = many (formula_kind ws) (unended_kinds ks) (unended_only step) x
+
+    repeated_is : (x : Spanned Form) (ts : List PlainToken) → (repeated x).parse ts ≡ (choice (formula_kind ws) (unended_kinds ks x) (unended_only step x then λ y. repeated y) (gives x)).parse ts
+    repeated_is x ts = many_is (formula_kind ws) (unended_kinds ks) (unended_kinds ks) (λ _ _. m) (λ _. ks ++ m) (fits ws ks m g a) (unended_only step) (λ z. (turn_good ws ks m g z).here) x ts
+
+    unended_turn : (x : Form) (r : Option FormRange) (y : Spanned Form) (ts rest : List PlainToken) → sees (formula_kind ws) (unended_kinds ks (x, r)) ts ≡ true → (step x).parse ts ≡ Ok (y, rest) → (repeated (x, r)).parse ts ≡ (repeated y).parse rest
+    unended_turn x None y ts rest s e = turn_to (unended_kinds ks) (unended_only step) (λ z. (turn_good ws ks m g z).here) (fits ws ks m g a) (x, None) y ts rest s e
+    unended_turn x (Some r) y ts rest s e = absurd (no_more ts s)
+
+    unended_fails : (x : Form) (r : Option FormRange) (ts : List PlainToken) (e : ReadFault) → sees (formula_kind ws) (unended_kinds ks (x, r)) ts ≡ true → Fails e ((step x).parse ts) → Fails e ((repeated (x, r)).parse ts)
+    unended_fails x None ts e s f = again e (λ d h. repeated_is (x, None) ts ∙ rw (s, h) refl) f
+    unended_fails x (Some r) ts e s f = absurd (no_more ts s)
+
+    unended_ends : (x : Spanned Form) (ts : List PlainToken) → sees (formula_kind ws) (unended_kinds ks x) ts ≡ false → (repeated x).parse ts ≡ Ok (x, ts)
+    unended_ends x ts s = repeated_is x ts ∙ rw s refl
+
+  -- operators of a level
+
+  once_exact : (m : FormulaMode) (l : Level) (x : Form) → IsForm ws (joined_once ws (operators l) (operand ws m l) x) false (kinds_of (operators l)) (more_operand l)
+  once_exact m l x = once_good ws (operators l) (more_operand l) (operand_good m l) x
+
+  pub joined_turn : (m : FormulaMode) (l : Level) (x : Form) (r : Option FormRange) (y : Spanned Form) (ts rest : List PlainToken) → sees (formula_kind ws) (unended_kinds (kinds_of (operators l)) (x, r)) ts ≡ true
+      → (joined_once ws (operators l) (operand ws m l) x).parse ts ≡ Ok (y, rest) → (joined_more ws (operators l) (operand ws m l) (x, r)).parse ts ≡ (joined_more ws (operators l) (operand ws m l) y).parse rest
   unfolding joined_more
-  joined_turn l x y ts rest s e = turn (kinds_of (operators l)) (joined_once ws (operators l) (operand ws l)) (λ z. (once_exact l z).here) (once_fits l) x y ts rest s e
+  joined_turn m l = unended_turn (kinds_of (operators l)) (more_operand l) (joined_once ws (operators l) (operand ws m l)) (once_exact m l) (level_apart l)
 
-  pub joined_fails : (l : Level) (x : Form) (ts : List PlainToken) (e : ReadFault) → sees (formula_kind ws) (kinds_of (operators l)) ts ≡ true → Fails e ((joined_once ws (operators l) (operand ws l) x).parse ts)
-      → Fails e ((joined_more ws (operators l) (operand ws l) x).parse ts)
+  pub joined_fails : (m : FormulaMode) (l : Level) (x : Form) (r : Option FormRange) (ts : List PlainToken) (e : ReadFault) → sees (formula_kind ws) (unended_kinds (kinds_of (operators l)) (x, r)) ts ≡ true
+      → Fails e ((joined_once ws (operators l) (operand ws m l) x).parse ts) → Fails e ((joined_more ws (operators l) (operand ws m l) (x, r)).parse ts)
   unfolding joined_more
-  joined_fails l x ts e s = again e (λ d. turn_fails (kinds_of (operators l)) (joined_once ws (operators l) (operand ws l)) (λ z. (once_exact l z).here) (once_fits l) x ts d s)
+  joined_fails m l = unended_fails (kinds_of (operators l)) (more_operand l) (joined_once ws (operators l) (operand ws m l)) (once_exact m l) (level_apart l)
 
-  pub joined_ends : (l : Level) (x : Form) (ts : List PlainToken) → sees (formula_kind ws) (kinds_of (operators l)) ts ≡ false → (joined_more ws (operators l) (operand ws l) x).parse ts ≡ Ok (x, ts)
+  pub joined_ends : (m : FormulaMode) (l : Level) (x : Spanned Form) (ts : List PlainToken) → sees (formula_kind ws) (unended_kinds (kinds_of (operators l)) x) ts ≡ false
+      → (joined_more ws (operators l) (operand ws m l) x).parse ts ≡ Ok (x, ts)
   unfolding joined_more
-  joined_ends l x ts s = turn_ends (kinds_of (operators l)) (joined_once ws (operators l) (operand ws l)) (λ z. (once_exact l z).here) (once_fits l) x ts s
+  joined_ends m l = unended_ends (kinds_of (operators l)) (more_operand l) (joined_once ws (operators l) (operand ws m l)) (once_exact m l) (level_apart l)
+
+  -- operators of a sum in a zone, and its range
+
+  sum_exact : (x : Form) → IsForm ws (sum_once ws (form ws) (any_zone ws) x) false (kinds_of (operators level.Sum)) more_product
+  sum_exact x = one_lower (sum_once_good ws (form_good ws) (zones_good ws) x)
+
+  pub sum_turn : (x : Form) (r : Option FormRange) (y : Spanned Form) (ts rest : List PlainToken) → sees (formula_kind ws) (unended_kinds (kinds_of (operators level.Sum)) (x, r)) ts ≡ true
+      → (sum_once ws (form ws) (any_zone ws) x).parse ts ≡ Ok (y, rest) → (sum_more ws (form ws) (any_zone ws) (x, r)).parse ts ≡ (sum_more ws (form ws) (any_zone ws) y).parse rest
+  unfolding sum_more
+  sum_turn = unended_turn (kinds_of (operators level.Sum)) more_product (sum_once ws (form ws) (any_zone ws)) sum_exact refl
+
+  pub sum_fails : (x : Form) (r : Option FormRange) (ts : List PlainToken) (e : ReadFault) → sees (formula_kind ws) (unended_kinds (kinds_of (operators level.Sum)) (x, r)) ts ≡ true
+      → Fails e ((sum_once ws (form ws) (any_zone ws) x).parse ts) → Fails e ((sum_more ws (form ws) (any_zone ws) (x, r)).parse ts)
+  unfolding sum_more
+  sum_fails = unended_fails (kinds_of (operators level.Sum)) more_product (sum_once ws (form ws) (any_zone ws)) sum_exact refl
+
+  pub sum_ends : (x : Spanned Form) (ts : List PlainToken) → sees (formula_kind ws) (unended_kinds (kinds_of (operators level.Sum)) x) ts ≡ false → (sum_more ws (form ws) (any_zone ws) x).parse ts ≡ Ok (x, ts)
+  unfolding sum_more
+  sum_ends = unended_ends (kinds_of (operators level.Sum)) more_product (sum_once ws (form ws) (any_zone ws)) sum_exact refl
+
+  -- ---- postfix operators
+
+  postfix_exact : (x : Form) → IsForm ws (postfix_once ws (form ws) x) false first_behind []
+  postfix_exact x = one_lower (postfix_once_good ws (form_good ws) x)
+
+  pub postfix_turn : (x y : Form) (ts rest : List PlainToken) → sees (formula_kind ws) first_behind ts ≡ true → (postfix_once ws (form ws) x).parse ts ≡ Ok (y, rest) → (postfixes ws (form ws) x).parse ts ≡ (postfixes ws (form ws) y).parse rest
+  unfolding postfixes
+  postfix_turn x y ts rest s e = turn first_behind (postfix_once ws (form ws)) (λ z. (postfix_exact z).here) refl x y ts rest s e
+
+  pub postfix_fails : (x : Form) (ts : List PlainToken) (e : ReadFault) → sees (formula_kind ws) first_behind ts ≡ true → Fails e ((postfix_once ws (form ws) x).parse ts) → Fails e ((postfixes ws (form ws) x).parse ts)
+  unfolding postfixes
+  postfix_fails x ts e s = again e (λ d. turn_fails first_behind (postfix_once ws (form ws)) (λ z. (postfix_exact z).here) refl x ts d s)
+
+  pub postfix_ends : (x : Form) (ts : List PlainToken) → sees (formula_kind ws) first_behind ts ≡ false → (postfixes ws (form ws) x).parse ts ≡ Ok (x, ts)
+  unfolding postfixes
+  postfix_ends x ts s = turn_ends first_behind (postfix_once ws (form ws)) (λ z. (postfix_exact z).here) refl x ts s
+
+  -- ---- zones
+
+  zone_exact : (zs : List FormZone) → IsForm ws (next_zone ws (any_zone ws) zs) false (mark_kind comma ∷ []) more_form
+  zone_exact zs = next_zone_good ws (form_good ws) (zones_good ws) zs
+
+  pub zones_turn : (x y : List FormZone) (ts rest : List PlainToken) → sees (formula_kind ws) (mark_kind comma ∷ []) ts ≡ true → (next_zone ws (any_zone ws) x).parse ts ≡ Ok (y, rest) → (more_zones ws x).parse ts ≡ (more_zones ws y).parse rest
+  unfolding more_zones
+  zones_turn x y ts rest s e = turn (mark_kind comma ∷ []) (next_zone ws (any_zone ws)) (λ z. (zone_exact z).here) refl x y ts rest s e
+
+  pub zones_fails : (x : List FormZone) (ts : List PlainToken) (e : ReadFault) → sees (formula_kind ws) (mark_kind comma ∷ []) ts ≡ true → Fails e ((next_zone ws (any_zone ws) x).parse ts) → Fails e ((more_zones ws x).parse ts)
+  unfolding more_zones
+  zones_fails x ts e s = again e (λ d. turn_fails (mark_kind comma ∷ []) (next_zone ws (any_zone ws)) (λ z. (zone_exact z).here) refl x ts d s)
+
+  pub zones_end : (x : List FormZone) (ts : List PlainToken) → sees (formula_kind ws) (mark_kind comma ∷ []) ts ≡ false → (more_zones ws x).parse ts ≡ Ok (x, ts)
+  unfolding more_zones
+  zones_end x ts s = turn_ends (mark_kind comma ∷ []) (next_zone ws (any_zone ws)) (λ z. (zone_exact z).here) refl x ts s
 
   -- ---- asserts
 
@@ -102,5 +186,11 @@ module _ (ws : Vocabulary) where
 -- ---- what the code of each repetition cites
 
 pub ruleset joined_rules = (joined_turn, joined_fails, joined_ends)
+
+pub ruleset sum_rules = (sum_turn, sum_fails, sum_ends)
+
+pub ruleset postfix_rules = (postfix_turn, postfix_fails, postfix_ends)
+
+pub ruleset zones_rules = (zones_turn, zones_fails, zones_end)
 
 pub ruleset asserts_rules = (asserts_turn, asserts_fails, asserts_ends, asserts_shorter)

@@ -1,17 +1,19 @@
-//! Names and literals, and `sizeof` of a type.
+//! The nodes of forms; names, literals and `sizeof` of a type, in which no other form stands.
 
-ghost use Rattle.std.specs.Prelude.{◌≡◌, ◌≤◌, ◌<◌, length, IfOk};
+ghost use Rattle.std.specs.Prelude.{◌≡◌, ◌≤◌, ◌<◌, length, option_map, IfOk};
 ghost use Rattle.c_syntax.specs.Formulas.{plain_form, plain_form_kind};
 ghost use Rattle.grammar.specs.Syntax.{gives};
-ghost use Rattle.c_model.specs.AnnotationGrammar.{named_form, literal_form, sized_form, atom};
+ghost use Rattle.c_model.specs.ExpressionGrammar.{closed};
+ghost use Rattle.c_model.specs.AnnotationGrammar.{named_form, literal_form, sized_form, null_form, atom};
 ghost use Rattle.token_reader.specs.Reading.{Gives, plain_list};
+ghost use Rattle.acsl_parser.specs.Reading.{plain_range, plain_spanned};
 
+use crate::span::{Read, Span, SpannedForm};
 use crate::terminals::{formula_name, next_is, truth};
-use c_expr_parser::kinds::{LEFT_PAREN, LETTER, NAME, NUMBER, RIGHT_PAREN, SIZEOF};
+use c_expr_parser::kinds::{LEFT_PAREN, LETTER, NAME, NULL, NUMBER, RIGHT_PAREN, SIZEOF};
 use c_expr_parser::terminals::{kept, letter, number, skip};
 use c_expr_parser::type_name;
 use c_model::vocabulary::Word;
-use c_syntax::fault::ReadFault;
 use c_syntax::logic::{Formula, FormulaKind};
 use c_syntax::{Place, Token, Use};
 use std::alloc::{AllocError, Global};
@@ -32,20 +34,48 @@ pub fn with_form<'a>(
     place: Place,
     kind: FormulaKind,
     tokens: &'a [Token],
-) -> Result<(Formula, &'a [Token]), ReadFault>
+) -> Read<'a, Formula>
     ensures read { Gives (λ x. (plain_form x.0, plain_list x.1.now)) result ((gives (plain_form_kind place kind)).parse (plain_list tokens.now)) }
     ensures shorter { IfOk result (λ x. length x.1.now ≤ length tokens.now) }
 {
     Ok((read_form(alloc, place, kind)?, tokens))
 }
 
-/// A name that is used.
-#[tactic(auto, unfolding(c_model::specs::AnnotationGrammar::named_form))]
-fn named_form<'a>(
+/// The same, with the range that ends it.
+pub fn with_range<'a>(
+    alloc: Global,
+    place: Place,
+    kind: FormulaKind,
+    range: Option<Span>,
+    tokens: &'a [Token],
+) -> Read<'a, SpannedForm>
+    ensures read { Gives (λ x. (plain_spanned x.0, plain_list x.1.now)) result
+        ((gives (plain_form_kind place kind, option_map plain_range range)).parse (plain_list tokens.now)) }
+    ensures shorter { IfOk result (λ x. length x.1.now ≤ length tokens.now) }
+{
+    let (range, (form, rest)) = kept(range, with_form(alloc, place, kind, tokens))?;
+    Ok(((form, range), rest))
+}
+
+/// `")"`, after a form of this kind.
+#[tactic(auto, unfolding(c_model::specs::ExpressionGrammar::closed))]
+pub fn closed<'a>(
     alloc: Global,
     words: &[Word],
+    place: Place,
+    kind: FormulaKind,
     tokens: &'a [Token],
-) -> Result<(Formula, &'a [Token]), ReadFault>
+) -> Read<'a, Formula>
+    ensures read { Gives (λ x. (plain_form x.0, plain_list x.1.now)) result ((closed words.now (plain_form_kind place kind)).parse (plain_list tokens.now)) }
+    ensures shorter { IfOk result (λ x. length x.1.now < length tokens.now) }
+{
+    let (kind, (_, rest)) = kept(kind, skip(words, RIGHT_PAREN, tokens))?;
+    with_form(alloc, place, kind, rest)
+}
+
+/// A name that is used.
+#[tactic(auto, unfolding(c_model::specs::AnnotationGrammar::named_form))]
+fn named_form<'a>(alloc: Global, words: &[Word], tokens: &'a [Token]) -> Read<'a, Formula>
     ensures read { Gives (λ x. (plain_form x.0, plain_list x.1.now)) result ((named_form words.now).parse (plain_list tokens.now)) }
     ensures shorter { IfOk result (λ x. length x.1.now < length tokens.now) }
 {
@@ -56,11 +86,7 @@ fn named_form<'a>(
 
 /// An integer or character literal, `\true` or `\false`.
 #[tactic(auto, unfolding(c_model::specs::AnnotationGrammar::literal_form))]
-fn literal_form<'a>(
-    alloc: Global,
-    words: &[Word],
-    tokens: &'a [Token],
-) -> Result<(Formula, &'a [Token]), ReadFault>
+fn literal_form<'a>(alloc: Global, words: &[Word], tokens: &'a [Token]) -> Read<'a, Formula>
     ensures read { Gives (λ x. (plain_form x.0, plain_list x.1.now)) result ((literal_form words.now).parse (plain_list tokens.now)) }
     ensures shorter { IfOk result (λ x. length x.1.now < length tokens.now) }
 {
@@ -77,36 +103,37 @@ fn literal_form<'a>(
 }
 
 /// `"sizeof" "(" type ")"`
-#[tactic(auto, unfolding(c_model::specs::AnnotationGrammar::sized_form, c_model::specs::ExpressionGrammar::closed))]
-fn sized_form<'a>(
-    alloc: Global,
-    words: &[Word],
-    tokens: &'a [Token],
-) -> Result<(Formula, &'a [Token]), ReadFault>
+#[tactic(auto, unfolding(c_model::specs::AnnotationGrammar::sized_form))]
+pub fn sized_form<'a>(alloc: Global, words: &[Word], tokens: &'a [Token]) -> Read<'a, Formula>
     ensures read { Gives (λ x. (plain_form x.0, plain_list x.1.now)) result ((sized_form words.now).parse (plain_list tokens.now)) }
     ensures shorter { IfOk result (λ x. length x.1.now < length tokens.now) }
 {
     let (place, rest) = skip(words, SIZEOF, tokens)?;
     let (_, rest) = skip(words, LEFT_PAREN, rest)?;
     let (t, rest) = type_name(alloc, words, rest)?;
-    let (t, (_, rest)) = kept(t, skip(words, RIGHT_PAREN, rest))?;
-    with_form(alloc, place, FormulaKind::SizeOf(t), rest)
+    closed(alloc, words, place, FormulaKind::SizeOf(t), rest)
 }
 
-/// A form that holds no other.
+/// `\null`
+#[tactic(auto, unfolding(c_model::specs::AnnotationGrammar::null_form))]
+fn null_form<'a>(alloc: Global, words: &[Word], tokens: &'a [Token]) -> Read<'a, Formula>
+    ensures read { Gives (λ x. (plain_form x.0, plain_list x.1.now)) result ((null_form words.now).parse (plain_list tokens.now)) }
+    ensures shorter { IfOk result (λ x. length x.1.now < length tokens.now) }
+{
+    let (place, rest) = skip(words, NULL, tokens)?;
+    with_form(alloc, place, FormulaKind::Null, rest)
+}
+
+/// A form of one token.
 #[tactic(auto, unfolding(c_model::specs::AnnotationGrammar::atom))]
-pub fn atom<'a>(
-    alloc: Global,
-    words: &[Word],
-    tokens: &'a [Token],
-) -> Result<(Formula, &'a [Token]), ReadFault>
+pub fn atom<'a>(alloc: Global, words: &[Word], tokens: &'a [Token]) -> Read<'a, Formula>
     ensures read { Gives (λ x. (plain_form x.0, plain_list x.1.now)) result ((atom words.now).parse (plain_list tokens.now)) }
     ensures shorter { IfOk result (λ x. length x.1.now < length tokens.now) }
 {
     if next_is(words, NAME, tokens) {
         named_form(alloc, words, tokens)
-    } else if next_is(words, SIZEOF, tokens) {
-        sized_form(alloc, words, tokens)
+    } else if next_is(words, NULL, tokens) {
+        null_form(alloc, words, tokens)
     } else {
         literal_form(alloc, words, tokens)
     }

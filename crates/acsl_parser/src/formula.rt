@@ -1,195 +1,43 @@
-//! Forms (ACSL 2.2).
+//! Forms and zones (ACSL 2.2, 2.7).
 
-ghost use Rattle.std.specs.Prelude.{◌≡◌, ◌≤◌, ◌<◌, length, IfOk, IfErr};
-ghost use Rattle.c_syntax.specs.Formulas.{plain_form, plain_form_links, plain_cast_type};
-ghost use Rattle.grammar.specs.Syntax.{one, sees};
-ghost use Rattle.c_model.specs.ExpressionGrammar.{kinds_of};
-ghost use Rattle.c_model.specs.Terminals.{placed, mark_entry};
-ghost use Rattle.c_model.specs.AnnotationGrammar.{formula_kind, relations_behind, joined_forms, chained, cast_behind, cast_to_type, cast_to_integer};
-ghost use Rattle.c_model.specs.AnnotationGrammar.{parenthesised, behind_parenthesis, prefixed, prefix, joined_once, joined_more, joined, linked};
-ghost use Rattle.c_model.specs.AnnotationGrammar.{links, shift, chain, implied, implication, choice_behind, form};
-ghost use Rattle.acsl_parser.specs.Reading.{operators, operand};
-ghost use Rattle.token_reader.specs.Reading.{Gives, TakesNoMemory, plain_list};
+ghost use Rattle.std.specs.Prelude.{◌≤◌, ◌<◌, length, option_map, IfOk};
+ghost use Rattle.c_syntax.specs.Formulas.{plain_form, plain_form_zone};
+ghost use Rattle.c_model.specs.AnnotationGrammar.{factor, joined_once, joined_more, joined, linked, links, chain_behind, chain};
+ghost use Rattle.c_model.specs.AnnotationGrammar.{implication_behind, chosen_behind, choice_behind, forms, form};
+ghost use Rattle.acsl_parser.specs.Reading.{links_behind, any_zone, any_shift, any_implication, operators, operand};
+ghost use Rattle.acsl_parser.specs.Reading.{plain_range, plain_spanned, plain_spanned_links};
+ghost use Rattle.token_reader.specs.Reading.{Gives, plain_list};
 
-use crate::atoms::{atom, read_form, with_form};
-use crate::tables::{Level, PREFIXES, direction_behind, operators, relations_behind};
-use crate::terminals::{INTEGER, integer_word, next_begins_type, next_is, next_is_marked};
-use c_expr_parser::kinds::{COLON, FIRST_MARK, LEFT_PAREN, QUESTION, RIGHT_PAREN};
+use crate::atoms::with_range;
+use crate::parts::{
+    chained, joined_forms, link, next_is_relation, next_joins, operator, relation, zone_of,
+};
+use crate::prefix::prefix;
+use crate::span::{Read, Span, SpannedForm, SpannedLinks};
+use crate::sum::zone_sum;
+use crate::tables::{Level, direction_behind};
+use crate::terminals::next_is;
+use c_expr_parser::kinds::{COLON, FIRST_MARK, QUESTION};
 use c_expr_parser::terminals::{kept, skip};
-use c_expr_parser::type_name;
-use c_model::formulas::{ChainDirection, FormulaOperator};
+use c_model::formulas::{ChainDirection, FormulaMode};
 use c_model::punctuator;
 use c_model::vocabulary::Word;
-use c_syntax::fault::ReadFault;
-use c_syntax::logic::{Connective, Formula, FormulaKind, FormulaLinks, LogicType};
-use c_syntax::{Place, Relation, Token};
-use std::alloc::{AllocError, Global};
-use token_reader::terminals::marked;
+use c_syntax::Token;
+use c_syntax::logic::{Connective, Formula, FormulaKind, FormulaLinks, FormulaZone};
+use std::alloc::Global;
 
 const IMPLIES: u32 = FIRST_MARK + punctuator::IMPLIES as u32;
 
-/// `")" prefix`, after `(` and the type.
-#[tactic(auto, unfolding(c_model::specs::AnnotationGrammar::cast_behind))]
+/// A prefix form, which no range ends.
+#[tactic(auto, unfolding(c_model::specs::AnnotationGrammar::factor))]
 #[cycle(formula)]
-fn cast_behind<'a>(
-    alloc: Global,
-    words: &[Word],
-    place: Place,
-    to: LogicType,
-    tokens: &'a [Token],
-) -> Result<(Formula, &'a [Token]), ReadFault>
-    ensures read { Gives (λ x. (plain_form x.0, plain_list x.1.now)) result
-        ((cast_behind words.now (prefix words.now (form words.now)) place (plain_cast_type to)).parse (plain_list tokens.now)) }
+fn factor<'a>(alloc: Global, words: &[Word], tokens: &'a [Token]) -> Read<'a, SpannedForm>
+    ensures read { Gives (λ x. (plain_spanned x.0, plain_list x.1.now)) result
+        ((factor words.now (form words.now) (any_zone words.now)).parse (plain_list tokens.now)) }
     ensures shorter { IfOk result (λ x. length x.1.now < length tokens.now) }
 {
-    let (to, (_, rest)) = kept(to, skip(words, RIGHT_PAREN, tokens))?;
-    let (to, (x, rest)) = kept(to, prefix(alloc, words, rest))?;
-    with_form(alloc, place, FormulaKind::Cast(to, x), rest)
-}
-
-/// `type ")" prefix`, after `(`.
-#[tactic(auto, unfolding(c_model::specs::AnnotationGrammar::cast_to_type))]
-#[cycle(formula)]
-fn cast_to_type<'a>(
-    alloc: Global,
-    words: &[Word],
-    place: Place,
-    tokens: &'a [Token],
-) -> Result<(Formula, &'a [Token]), ReadFault>
-    ensures read { Gives (λ x. (plain_form x.0, plain_list x.1.now)) result
-        ((cast_to_type words.now (prefix words.now (form words.now)) place).parse (plain_list tokens.now)) }
-    ensures shorter { IfOk result (λ x. length x.1.now < length tokens.now) }
-{
-    let (t, rest) = type_name(alloc, words, tokens)?;
-    cast_behind(alloc, words, place, LogicType::Of(t), rest)
-}
-
-/// `"integer" ")" prefix`, after `(`.
-#[tactic(auto, unfolding(c_model::specs::AnnotationGrammar::cast_to_integer))]
-#[cycle(formula)]
-fn cast_to_integer<'a>(
-    alloc: Global,
-    words: &[Word],
-    place: Place,
-    tokens: &'a [Token],
-) -> Result<(Formula, &'a [Token]), ReadFault>
-    ensures read { Gives (λ x. (plain_form x.0, plain_list x.1.now)) result
-        ((cast_to_integer words.now (prefix words.now (form words.now)) place).parse (plain_list tokens.now)) }
-    ensures shorter { IfOk result (λ x. length x.1.now < length tokens.now) }
-{
-    let (_, rest) = integer_word(words, tokens)?;
-    cast_behind(alloc, words, place, LogicType::Integer, rest)
-}
-
-/// `form ")"`, after `(`.
-#[tactic(auto, unfolding(c_model::specs::AnnotationGrammar::parenthesised, c_model::specs::ExpressionGrammar::closed))]
-#[cycle(formula)]
-fn parenthesised<'a>(
-    alloc: Global,
-    words: &[Word],
-    tokens: &'a [Token],
-) -> Result<(Formula, &'a [Token]), ReadFault>
-    ensures read { Gives (λ x. (plain_form x.0, plain_list x.1.now)) result ((parenthesised words.now (form words.now)).parse (plain_list tokens.now)) }
-    ensures shorter { IfOk result (λ x. length x.1.now < length tokens.now) }
-{
-    let (x, rest) = form(alloc, words, tokens)?;
-    let (x, (_, rest)) = kept(x, skip(words, RIGHT_PAREN, rest))?;
-    Ok((x, rest))
-}
-
-/// What stands after `(`.
-#[tactic(auto, unfolding(c_model::specs::AnnotationGrammar::behind_parenthesis))]
-#[cycle(formula)]
-fn behind_parenthesis<'a>(
-    alloc: Global,
-    words: &[Word],
-    place: Place,
-    tokens: &'a [Token],
-) -> Result<(Formula, &'a [Token]), ReadFault>
-    ensures read { Gives (λ x. (plain_form x.0, plain_list x.1.now)) result
-        ((behind_parenthesis words.now (form words.now) (prefix words.now (form words.now)) place).parse (plain_list tokens.now)) }
-    ensures shorter { IfOk result (λ x. length x.1.now < length tokens.now) }
-{
-    if next_begins_type(words, tokens) {
-        cast_to_type(alloc, words, place, tokens)
-    } else if next_is(words, INTEGER, tokens) {
-        cast_to_integer(alloc, words, place, tokens)
-    } else {
-        parenthesised(alloc, words, tokens)
-    }
-}
-
-/// A prefix operator and its operand.
-#[tactic(auto, unfolding(c_model::specs::AnnotationGrammar::prefixed))]
-#[cycle(formula)]
-fn prefixed<'a>(
-    alloc: Global,
-    words: &[Word],
-    tokens: &'a [Token],
-) -> Result<(Formula, &'a [Token]), ReadFault>
-    ensures read { Gives (λ x. (plain_form x.0, plain_list x.1.now)) result
-        ((prefixed words.now (prefix words.now (form words.now))).parse (plain_list tokens.now)) }
-    ensures shorter { IfOk result (λ x. length x.1.now < length tokens.now) }
-{
-    let (op, place, rest) = marked(PREFIXES, tokens)?;
-    let (x, rest) = prefix(alloc, words, rest)?;
-    with_form(alloc, place, FormulaKind::Unary(op, x), rest)
-}
-
-/// A prefix operator or a cast with its operand, or a primary form.
-#[tactic(auto, using(crate::proofs::ExactForms::prefix_is), unfolding(c_model::specs::AnnotationGrammar::prefix_of))]
-#[cycle(formula)]
-fn prefix<'a>(
-    alloc: Global,
-    words: &[Word],
-    tokens: &'a [Token],
-) -> Result<(Formula, &'a [Token]), ReadFault>
-    ensures read { Gives (λ x. (plain_form x.0, plain_list x.1.now)) result ((prefix words.now (form words.now)).parse (plain_list tokens.now)) }
-    ensures shorter { IfOk result (λ x. length x.1.now < length tokens.now) }
-{
-    if next_is(words, LEFT_PAREN, tokens) {
-        let (place, rest) = skip(words, LEFT_PAREN, tokens)?;
-        behind_parenthesis(alloc, words, place, rest)
-    } else if next_is_marked(words, PREFIXES, tokens) {
-        prefixed(alloc, words, tokens)
-    } else {
-        atom(alloc, words, tokens)
-    }
-}
-
-/// An operator of the level.
-fn operator(level: Level, tokens: &[Token]) -> Result<(FormulaOperator, Place, &[Token]), ReadFault>
-    ensures read { Gives (λ x. ((x.0, x.1), plain_list x.2.now)) result ((one (placed (mark_entry (operators level)))).parse (plain_list tokens.now)) }
-    ensures shorter { IfOk result (λ x. length x.2.now < length tokens.now) }
-    ensures sure { IfErr result TakesNoMemory }
-{
-    marked(operators(level), tokens)
-}
-
-fn next_is_operator(words: &[Word], level: Level, tokens: &[Token]) -> bool
-    ensures { result ≡ sees (formula_kind words.now) (kinds_of (operators level)) (plain_list tokens.now) }
-{
-    next_is_marked(words, operators(level), tokens)
-}
-
-/// Two forms and what joins them.
-fn joined_forms(
-    alloc: Global,
-    operator: FormulaOperator,
-    place: Place,
-    left: Formula,
-    right: Formula,
-) -> Result<Formula, AllocError>
-    ensures { IfOk result (λ f. plain_form f ≡ joined_forms (operator, place) (plain_form left) (plain_form right)) }
-{
-    match operator {
-        FormulaOperator::Term(op) => read_form(alloc, place, FormulaKind::Binary(op, left, right)),
-        FormulaOperator::Predicate(connective) => read_form(
-            alloc,
-            place,
-            FormulaKind::Connected(connective, left, right),
-        ),
-    }
+    let (x, rest) = prefix(alloc, words, tokens)?;
+    Ok(((x, None), rest))
 }
 
 /// An operand of the operators of a level.
@@ -197,23 +45,27 @@ fn joined_forms(
 fn operand<'a>(
     alloc: Global,
     words: &[Word],
+    mode: FormulaMode,
     level: Level,
     tokens: &'a [Token],
-) -> Result<(Formula, &'a [Token]), ReadFault>
-    ensures read { Gives (λ x. (plain_form x.0, plain_list x.1.now)) result ((operand words.now level).parse (plain_list tokens.now)) }
+) -> Read<'a, SpannedForm>
+    ensures read { Gives (λ x. (plain_spanned x.0, plain_list x.1.now)) result ((operand words.now mode level).parse (plain_list tokens.now)) }
     ensures shorter { IfOk result (λ x. length x.1.now < length tokens.now) }
 {
     match level {
-        Level::Product => prefix(alloc, words, tokens),
-        Level::Sum => joined(alloc, words, Level::Product, tokens),
-        Level::Shift => joined(alloc, words, Level::Sum, tokens),
-        Level::BitAnd => chain(alloc, words, tokens),
-        Level::BitXor => joined(alloc, words, Level::BitAnd, tokens),
-        Level::BitOr => joined(alloc, words, Level::BitXor, tokens),
-        Level::Conjunction => joined(alloc, words, Level::BitOr, tokens),
-        Level::Exclusion => joined(alloc, words, Level::Conjunction, tokens),
-        Level::Disjunction => joined(alloc, words, Level::Exclusion, tokens),
-        Level::Equivalence => implication(alloc, words, tokens),
+        Level::Product => factor(alloc, words, tokens),
+        Level::Sum => joined(alloc, words, mode, Level::Product, tokens),
+        Level::Shift => match mode {
+            FormulaMode::Alone => joined(alloc, words, mode, Level::Sum, tokens),
+            FormulaMode::Zone => zone_sum(alloc, words, tokens),
+        },
+        Level::BitAnd => chain(alloc, words, mode, tokens),
+        Level::BitXor => joined(alloc, words, mode, Level::BitAnd, tokens),
+        Level::BitOr => joined(alloc, words, mode, Level::BitXor, tokens),
+        Level::Conjunction => joined(alloc, words, mode, Level::BitOr, tokens),
+        Level::Exclusion => joined(alloc, words, mode, Level::Conjunction, tokens),
+        Level::Disjunction => joined(alloc, words, mode, Level::Exclusion, tokens),
+        Level::Equivalence => implication(alloc, words, mode, tokens),
     }
 }
 
@@ -223,77 +75,62 @@ fn operand<'a>(
 fn joined_once<'a>(
     alloc: Global,
     words: &[Word],
+    mode: FormulaMode,
     level: Level,
     left: Formula,
     tokens: &'a [Token],
-) -> Result<(Formula, &'a [Token]), ReadFault>
-    ensures read { Gives (λ x. (plain_form x.0, plain_list x.1.now)) result
-        ((joined_once words.now (operators level) (operand words.now level) (plain_form left)).parse (plain_list tokens.now)) }
+) -> Read<'a, SpannedForm>
+    ensures read { Gives (λ x. (plain_spanned x.0, plain_list x.1.now)) result
+        ((joined_once words.now (operators level) (operand words.now mode level) (plain_form left)).parse (plain_list tokens.now)) }
     ensures shorter { IfOk result (λ x. length x.1.now < length tokens.now) }
 {
     let (left, (op, place, rest)) = kept(left, operator(level, tokens))?;
-    let (left, (right, rest)) = kept(left, operand(alloc, words, level, rest))?;
-    Ok((joined_forms(alloc, op, place, left, right)?, rest))
+    let (left, ((right, range), rest)) = kept(left, operand(alloc, words, mode, level, rest))?;
+    Ok(((joined_forms(alloc, op, place, left, right)?, range), rest))
 }
 
 /// Operators of the level with their right operands, after the left one.
 #[tactic(auto, using(crate::proofs::Turns::joined_rules))]
 #[cycle(formula)]
-fn joined_more<'a>(
+pub fn joined_more<'a>(
     alloc: Global,
     words: &[Word],
+    mode: FormulaMode,
     level: Level,
-    left: Formula,
+    left: SpannedForm,
     tokens: &'a [Token],
-) -> Result<(Formula, &'a [Token]), ReadFault>
-    ensures read { Gives (λ x. (plain_form x.0, plain_list x.1.now)) result
-        ((joined_more words.now (operators level) (operand words.now level) (plain_form left)).parse (plain_list tokens.now)) }
+) -> Read<'a, SpannedForm>
+    ensures read { Gives (λ x. (plain_spanned x.0, plain_list x.1.now)) result
+        ((joined_more words.now (operators level) (operand words.now mode level) (plain_spanned left)).parse (plain_list tokens.now)) }
     ensures shorter { IfOk result (λ x. length x.1.now ≤ length tokens.now) }
 {
-    let mut left = left;
+    let (mut left, mut range) = left;
     let mut rest = tokens;
-    'turn: while next_is_operator(words, level, rest) {
-        let (more, after) = joined_once(alloc, words, level, left, rest)?;
+    'turn: while next_joins(words, level, &range, rest) {
+        let ((more, end), after) = joined_once(alloc, words, mode, level, left, rest)?;
         left = more;
+        range = end;
         rest = after;
     }
-    Ok((left, rest))
+    Ok(((left, range), rest))
 }
 
 /// Operands joined by operators of the level.
 #[tactic(auto, unfolding(c_model::specs::AnnotationGrammar::joined))]
 #[cycle(formula)]
-fn joined<'a>(
+pub fn joined<'a>(
     alloc: Global,
     words: &[Word],
+    mode: FormulaMode,
     level: Level,
     tokens: &'a [Token],
-) -> Result<(Formula, &'a [Token]), ReadFault>
-    ensures read { Gives (λ x. (plain_form x.0, plain_list x.1.now)) result
-        ((joined words.now (operators level) (operand words.now level)).parse (plain_list tokens.now)) }
+) -> Read<'a, SpannedForm>
+    ensures read { Gives (λ x. (plain_spanned x.0, plain_list x.1.now)) result
+        ((joined words.now (operators level) (operand words.now mode level)).parse (plain_list tokens.now)) }
     ensures shorter { IfOk result (λ x. length x.1.now < length tokens.now) }
 {
-    let (left, rest) = operand(alloc, words, level, tokens)?;
-    joined_more(alloc, words, level, left, rest)
-}
-
-/// A relation with which a chain goes on.
-fn relation(
-    direction: ChainDirection,
-    tokens: &[Token],
-) -> Result<(Relation, Place, &[Token]), ReadFault>
-    ensures read { Gives (λ x. ((x.0, x.1), plain_list x.2.now)) result
-        ((one (placed (mark_entry (relations_behind direction)))).parse (plain_list tokens.now)) }
-    ensures shorter { IfOk result (λ x. length x.2.now < length tokens.now) }
-    ensures sure { IfErr result TakesNoMemory }
-{
-    marked(relations_behind(direction), tokens)
-}
-
-fn next_is_relation(words: &[Word], direction: ChainDirection, tokens: &[Token]) -> bool
-    ensures { result ≡ sees (formula_kind words.now) (kinds_of (relations_behind direction)) (plain_list tokens.now) }
-{
-    next_is_marked(words, relations_behind(direction), tokens)
+    let (left, rest) = operand(alloc, words, mode, level, tokens)?;
+    joined_more(alloc, words, mode, level, left, rest)
 }
 
 /// A relation, the operand after it, and those that go on with them.
@@ -302,21 +139,22 @@ fn next_is_relation(words: &[Word], direction: ChainDirection, tokens: &[Token])
 fn linked<'a>(
     alloc: Global,
     words: &[Word],
+    mode: FormulaMode,
     direction: ChainDirection,
     tokens: &'a [Token],
-) -> Result<(FormulaLinks, &'a [Token]), ReadFault>
-    ensures read { Gives (λ x. (plain_form_links x.0, plain_list x.1.now)) result
-        ((linked words.now (shift words.now (form words.now)) (links words.now (shift words.now (form words.now))) direction).parse (plain_list tokens.now)) }
+) -> Read<'a, SpannedLinks>
+    ensures read { Gives (λ x. (plain_spanned_links x.0, plain_list x.1.now)) result
+        ((linked words.now (any_shift words.now mode) (links words.now (any_shift words.now mode)) direction).parse (plain_list tokens.now)) }
     ensures shorter { IfOk result (λ x. length x.1.now < length tokens.now) }
 {
     let (relation, place, rest) = relation(direction, tokens)?;
-    let (x, rest) = joined(alloc, words, Level::Shift, rest)?;
+    let ((x, range), rest) = joined(alloc, words, mode, Level::Shift, rest)?;
     let onward = direction_behind(direction, relation);
-    let (x, (more, rest)) = kept(x, links(alloc, words, onward, rest))?;
-    Ok((
-        FormulaLinks::Link(place, relation, x, Box::new(alloc, more)?),
-        rest,
-    ))
+    let (x, ((more, range), rest)) = kept(
+        x,
+        links_behind(alloc, words, mode, onward, range, rest),
+    )?;
+    Ok(((link(alloc, place, relation, x, more)?, range), rest))
 }
 
 /// Relations and their operands, after a chain that goes this way.
@@ -325,31 +163,60 @@ fn linked<'a>(
 fn links<'a>(
     alloc: Global,
     words: &[Word],
+    mode: FormulaMode,
     direction: ChainDirection,
     tokens: &'a [Token],
-) -> Result<(FormulaLinks, &'a [Token]), ReadFault>
-    ensures read { Gives (λ x. (plain_form_links x.0, plain_list x.1.now)) result
-        ((links words.now (shift words.now (form words.now)) direction).parse (plain_list tokens.now)) }
+) -> Read<'a, SpannedLinks>
+    ensures read { Gives (λ x. (plain_spanned_links x.0, plain_list x.1.now)) result
+        ((links words.now (any_shift words.now mode) direction).parse (plain_list tokens.now)) }
     ensures shorter { IfOk result (λ x. length x.1.now ≤ length tokens.now) }
 {
     if next_is_relation(words, direction, tokens) {
-        linked(alloc, words, direction, tokens)
+        linked(alloc, words, mode, direction, tokens)
     } else {
-        Ok((FormulaLinks::End, tokens))
+        Ok(((FormulaLinks::End, None), tokens))
     }
 }
 
-/// A form and the relations after it.
-fn chained(alloc: Global, left: Formula, links: FormulaLinks) -> Result<Formula, AllocError>
-    ensures { IfOk result (λ f. plain_form f ≡ chained (plain_form left) (plain_form_links links)) }
+/// The same, after an operand that this range ends.
+#[cycle(formula)]
+fn links_behind<'a>(
+    alloc: Global,
+    words: &[Word],
+    mode: FormulaMode,
+    direction: ChainDirection,
+    range: Option<Span>,
+    tokens: &'a [Token],
+) -> Read<'a, SpannedLinks>
+    ensures read { Gives (λ x. (plain_spanned_links x.0, plain_list x.1.now)) result
+        ((links_behind words.now mode direction (option_map plain_range range)).parse (plain_list tokens.now)) }
+    ensures shorter { IfOk result (λ x. length x.1.now ≤ length tokens.now) }
 {
-    match links {
-        FormulaLinks::End => Ok(left),
-        FormulaLinks::Link(place, relation, x, rest) => {
-            let links = FormulaLinks::Link(place, relation, x, rest);
-            read_form(alloc, place, FormulaKind::Chain(left, links))
-        }
+    match range {
+        None => links(alloc, words, mode, direction, tokens),
+        Some(range) => Ok(((FormulaLinks::End, Some(range)), tokens)),
     }
+}
+
+/// The relations after an operand.
+#[tactic(auto, unfolding(c_model::specs::AnnotationGrammar::chain_behind))]
+#[cycle(formula)]
+fn chain_behind<'a>(
+    alloc: Global,
+    words: &[Word],
+    mode: FormulaMode,
+    left: Formula,
+    tokens: &'a [Token],
+) -> Read<'a, SpannedForm>
+    ensures read { Gives (λ x. (plain_spanned x.0, plain_list x.1.now)) result
+        ((chain_behind words.now (any_shift words.now mode) (plain_form left)).parse (plain_list tokens.now)) }
+    ensures shorter { IfOk result (λ x. length x.1.now ≤ length tokens.now) }
+{
+    let (left, ((links, range), rest)) = kept(
+        left,
+        links(alloc, words, mode, ChainDirection::Start, tokens),
+    )?;
+    Ok(((chained(alloc, left, links)?, range), rest))
 }
 
 /// A chain of relations.
@@ -358,37 +225,42 @@ fn chained(alloc: Global, left: Formula, links: FormulaLinks) -> Result<Formula,
 fn chain<'a>(
     alloc: Global,
     words: &[Word],
+    mode: FormulaMode,
     tokens: &'a [Token],
-) -> Result<(Formula, &'a [Token]), ReadFault>
-    ensures read { Gives (λ x. (plain_form x.0, plain_list x.1.now)) result ((chain words.now (form words.now)).parse (plain_list tokens.now)) }
+) -> Read<'a, SpannedForm>
+    ensures read { Gives (λ x. (plain_spanned x.0, plain_list x.1.now)) result
+        ((chain words.now (form words.now) (any_zone words.now) mode).parse (plain_list tokens.now)) }
     ensures shorter { IfOk result (λ x. length x.1.now < length tokens.now) }
 {
-    let (left, rest) = joined(alloc, words, Level::Shift, tokens)?;
-    let (left, (links, rest)) = kept(left, links(alloc, words, ChainDirection::Start, rest))?;
-    Ok((chained(alloc, left, links)?, rest))
+    let ((left, range), rest) = joined(alloc, words, mode, Level::Shift, tokens)?;
+    match range {
+        None => chain_behind(alloc, words, mode, left, rest),
+        Some(range) => Ok(((left, Some(range)), rest)),
+    }
 }
 
-/// `"==>"` and its right operand, after the left one.
-#[tactic(auto, unfolding(c_model::specs::AnnotationGrammar::implied))]
+/// `"==>"` and its right operand, if they stand after the left one.
+#[tactic(auto, unfolding(c_model::specs::AnnotationGrammar::implication_behind, c_model::specs::AnnotationGrammar::implied))]
 #[cycle(formula)]
-fn implied<'a>(
+fn implication_behind<'a>(
     alloc: Global,
     words: &[Word],
+    mode: FormulaMode,
     left: Formula,
     tokens: &'a [Token],
-) -> Result<(Formula, &'a [Token]), ReadFault>
-    ensures read { Gives (λ x. (plain_form x.0, plain_list x.1.now)) result
-        ((implied words.now (implication words.now (form words.now)) (plain_form left)).parse (plain_list tokens.now)) }
-    ensures shorter { IfOk result (λ x. length x.1.now < length tokens.now) }
+) -> Read<'a, SpannedForm>
+    ensures read { Gives (λ x. (plain_spanned x.0, plain_list x.1.now)) result
+        ((implication_behind words.now (any_implication words.now mode) (plain_form left)).parse (plain_list tokens.now)) }
+    ensures shorter { IfOk result (λ x. length x.1.now ≤ length tokens.now) }
 {
-    let (left, (place, rest)) = kept(left, skip(words, IMPLIES, tokens))?;
-    let (left, (right, rest)) = kept(left, implication(alloc, words, rest))?;
-    with_form(
-        alloc,
-        place,
-        FormulaKind::Connected(Connective::Implies, left, right),
-        rest,
-    )
+    if next_is(words, IMPLIES, tokens) {
+        let (left, (place, rest)) = kept(left, skip(words, IMPLIES, tokens))?;
+        let (left, ((right, range), rest)) = kept(left, implication(alloc, words, mode, rest))?;
+        let kind = FormulaKind::Connected(Connective::Implies, left, right);
+        with_range(alloc, place, kind, range, rest)
+    } else {
+        Ok(((left, None), tokens))
+    }
 }
 
 /// Implications, from the right.
@@ -397,59 +269,102 @@ fn implied<'a>(
 fn implication<'a>(
     alloc: Global,
     words: &[Word],
+    mode: FormulaMode,
     tokens: &'a [Token],
-) -> Result<(Formula, &'a [Token]), ReadFault>
-    ensures read { Gives (λ x. (plain_form x.0, plain_list x.1.now)) result ((implication words.now (form words.now)).parse (plain_list tokens.now)) }
+) -> Read<'a, SpannedForm>
+    ensures read { Gives (λ x. (plain_spanned x.0, plain_list x.1.now)) result ((any_implication words.now mode).parse (plain_list tokens.now)) }
     ensures shorter { IfOk result (λ x. length x.1.now < length tokens.now) }
 {
-    let (left, rest) = joined(alloc, words, Level::Disjunction, tokens)?;
-    if next_is(words, IMPLIES, rest) {
-        implied(alloc, words, left, rest)
-    } else {
-        Ok((left, rest))
+    let ((left, range), rest) = joined(alloc, words, mode, Level::Disjunction, tokens)?;
+    match range {
+        None => implication_behind(alloc, words, mode, left, rest),
+        Some(range) => Ok(((left, Some(range)), rest)),
     }
 }
 
 /// `"?" form ":" form`, after the condition.
+#[tactic(auto, unfolding(c_model::specs::AnnotationGrammar::chosen_behind))]
+#[cycle(formula)]
+fn chosen_behind<'a>(
+    alloc: Global,
+    words: &[Word],
+    mode: FormulaMode,
+    condition: Formula,
+    tokens: &'a [Token],
+) -> Read<'a, SpannedForm>
+    ensures read { Gives (λ x. (plain_spanned x.0, plain_list x.1.now)) result
+        ((chosen_behind words.now (form words.now) (forms words.now mode) (plain_form condition)).parse (plain_list tokens.now)) }
+    ensures shorter { IfOk result (λ x. length x.1.now < length tokens.now) }
+{
+    let (condition, (place, rest)) = kept(condition, skip(words, QUESTION, tokens))?;
+    let (condition, (first, rest)) = kept(condition, form(alloc, words, rest))?;
+    let (parts, (_, rest)) = kept((condition, first), skip(words, COLON, rest))?;
+    let ((condition, first), ((second, range), rest)) = kept(
+        parts,
+        forms(alloc, words, mode, rest),
+    )?;
+    let kind = FormulaKind::Choice(condition, first, second);
+    with_range(alloc, place, kind, range, rest)
+}
+
+/// The same, if it stands there.
 #[tactic(auto, unfolding(c_model::specs::AnnotationGrammar::choice_behind))]
 #[cycle(formula)]
 fn choice_behind<'a>(
     alloc: Global,
     words: &[Word],
+    mode: FormulaMode,
     condition: Formula,
     tokens: &'a [Token],
-) -> Result<(Formula, &'a [Token]), ReadFault>
-    ensures read { Gives (λ x. (plain_form x.0, plain_list x.1.now)) result
-        ((choice_behind words.now (form words.now) (plain_form condition)).parse (plain_list tokens.now)) }
+) -> Read<'a, SpannedForm>
+    ensures read { Gives (λ x. (plain_spanned x.0, plain_list x.1.now)) result
+        ((choice_behind words.now (form words.now) (forms words.now mode) (plain_form condition)).parse (plain_list tokens.now)) }
+    ensures shorter { IfOk result (λ x. length x.1.now ≤ length tokens.now) }
+{
+    if next_is(words, QUESTION, tokens) {
+        chosen_behind(alloc, words, mode, condition, tokens)
+    } else {
+        Ok(((condition, None), tokens))
+    }
+}
+
+/// A form in a mode.
+#[tactic(auto, using(crate::proofs::ExactForms::forms_is), unfolding(c_model::specs::AnnotationGrammar::form_of))]
+#[cycle(formula)]
+fn forms<'a>(
+    alloc: Global,
+    words: &[Word],
+    mode: FormulaMode,
+    tokens: &'a [Token],
+) -> Read<'a, SpannedForm>
+    ensures read { Gives (λ x. (plain_spanned x.0, plain_list x.1.now)) result ((forms words.now mode).parse (plain_list tokens.now)) }
     ensures shorter { IfOk result (λ x. length x.1.now < length tokens.now) }
 {
-    let (condition, (place, rest)) = kept(condition, skip(words, QUESTION, tokens))?;
-    let (condition, (first, rest)) = kept(condition, form(alloc, words, rest))?;
-    let (operands, (_, rest)) = kept((condition, first), skip(words, COLON, rest))?;
-    let ((condition, first), (second, rest)) = kept(operands, form(alloc, words, rest))?;
-    with_form(
-        alloc,
-        place,
-        FormulaKind::Choice(condition, first, second),
-        rest,
-    )
+    let ((condition, range), rest) = joined(alloc, words, mode, Level::Equivalence, tokens)?;
+    match range {
+        None => choice_behind(alloc, words, mode, condition, rest),
+        Some(range) => Ok(((condition, Some(range)), rest)),
+    }
 }
 
 /// A form of any length.
-#[tactic(auto, using(crate::proofs::ExactForms::form_is), unfolding(c_model::specs::AnnotationGrammar::form_of))]
+#[tactic(auto, unfolding(c_model::specs::AnnotationGrammar::whole))]
 #[cycle(formula)]
-pub fn form<'a>(
-    alloc: Global,
-    words: &[Word],
-    tokens: &'a [Token],
-) -> Result<(Formula, &'a [Token]), ReadFault>
+pub fn form<'a>(alloc: Global, words: &[Word], tokens: &'a [Token]) -> Read<'a, Formula>
     ensures read { Gives (λ x. (plain_form x.0, plain_list x.1.now)) result ((form words.now).parse (plain_list tokens.now)) }
     ensures shorter { IfOk result (λ x. length x.1.now < length tokens.now) }
 {
-    let (condition, rest) = joined(alloc, words, Level::Equivalence, tokens)?;
-    if next_is(words, QUESTION, rest) {
-        choice_behind(alloc, words, condition, rest)
-    } else {
-        Ok((condition, rest))
-    }
+    let ((x, _range), rest) = forms(alloc, words, FormulaMode::Alone, tokens)?;
+    Ok((x, rest))
+}
+
+/// A zone.
+#[tactic(auto, unfolding(c_model::specs::AnnotationGrammar::zone))]
+#[cycle(formula)]
+pub fn zone<'a>(alloc: Global, words: &[Word], tokens: &'a [Token]) -> Read<'a, FormulaZone>
+    ensures read { Gives (λ x. (plain_form_zone x.0, plain_list x.1.now)) result ((any_zone words.now).parse (plain_list tokens.now)) }
+    ensures shorter { IfOk result (λ x. length x.1.now < length tokens.now) }
+{
+    let ((x, range), rest) = forms(alloc, words, FormulaMode::Zone, tokens)?;
+    Ok((zone_of(x, range), rest))
 }

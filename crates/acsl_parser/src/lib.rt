@@ -8,9 +8,14 @@ mod tables;
 mod terminals;
 mod words;
 
-// Forms, inside others.
+// Forms, inside others, and zones.
 mod atoms;
 mod formula;
+mod parts;
+mod prefix;
+mod primary;
+mod span;
+mod sum;
 
 // Clauses within the limit of their tokens, and the annotation at a place.
 mod annotation;

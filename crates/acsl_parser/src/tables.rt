@@ -30,7 +30,15 @@ pub const PREFIXES: &[(u8, UnOp)] = &[
     (punctuator::MINUS, UnOp::Minus),
     (punctuator::EXCLAMATION, UnOp::Not),
     (punctuator::TILDE, UnOp::Flip),
+    (punctuator::TIMES, UnOp::Deref),
+    (punctuator::AMPERSAND, UnOp::Address),
 ];
+
+/// What joins from the left in a sum of a zone besides `+`.
+pub const DIFFERENCES: &[(u8, FormulaOperator)] = &[(
+    punctuator::MINUS,
+    FormulaOperator::Term(BinOp::Sub),
+)];
 
 /// The operators of a level.
 pub fn operators(level: Level) -> &'static [(u8, FormulaOperator)]

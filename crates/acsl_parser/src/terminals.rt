@@ -5,14 +5,15 @@ ghost use Rattle.grammar.specs.Syntax.{sees, one};
 ghost use Rattle.c_syntax.specs.Tokens.{plain_token};
 ghost use Rattle.c_model.specs.Terminals.{placed};
 ghost use Rattle.c_model.specs.ExpressionGrammar.{first_type, kinds_of};
-ghost use Rattle.c_model.specs.AnnotationGrammar.{first_clause, formula_kind, formula_word_kind, formula_name_of};
-ghost use Rattle.c_model.specs.AnnotationGrammar.{truth_word, truth_of, integer_word, assert_word};
+ghost use Rattle.c_model.specs.AnnotationGrammar.{first_behind, first_clause, formula_kind, formula_word_kind, formula_name_of};
+ghost use Rattle.c_model.specs.AnnotationGrammar.{truth_word, truth_of, fact_word, fact_of, question_word, question_of, integer_word, assert_word};
 ghost use Rattle.token_reader.specs.Reading.{Gives, TakesNoMemory, plain_list};
 
-use c_expr_parser::kinds::{NAME, TYPE_NAME, kind, word_at, word_kind};
+use c_expr_parser::kinds::{ARROW, DOT, LEFT_BRACKET, NAME, TYPE_NAME, kind, word_at, word_kind};
 use c_expr_parser::terminals as c_terminals;
 use c_model::vocabulary::{LogicWord, TypeName, Word};
 use c_syntax::fault::ReadFault;
+use c_syntax::logic::{BlockFact, MemoryQuestion};
 use c_syntax::{Place, Token, TokenKind};
 use token_reader::terminals::left;
 
@@ -64,6 +65,19 @@ pub fn next_begins_clause(words: &[Word], tokens: &[Token]) -> bool
         [token, ..] => {
             let kind = formula_kind(words, token);
             kind == NAME || kind == TYPE_NAME
+        }
+    }
+}
+
+/// Whether a postfix form goes on.
+pub fn next_is_postfix(words: &[Word], tokens: &[Token]) -> bool
+    ensures { result ≡ sees (formula_kind words.now) first_behind (plain_list tokens.now) }
+{
+    match tokens {
+        [] => false,
+        [token, ..] => {
+            let kind = formula_kind(words, token);
+            kind == LEFT_BRACKET || kind == DOT || kind == ARROW
         }
     }
 }
@@ -130,6 +144,66 @@ pub fn truth<'a>(
         [token, rest @ ..] => match &token.kind {
             TokenKind::Word(number) => match truth_word(word_at(words, *number)) {
                 Some(value) => Ok((value, token.place, rest)),
+                None => Err(ReadFault::At(left(tokens))),
+            },
+            _ => Err(ReadFault::At(left(tokens))),
+        },
+    }
+}
+
+fn fact_word(word: Word) -> Option<BlockFact>
+    ensures { result ≡ fact_word word }
+{
+    match word {
+        Word::Logic(LogicWord::Told(fact)) => Some(fact),
+        _ => None,
+    }
+}
+
+/// `\base_addr`, `\block_length` or `\offset`.
+pub fn fact<'a>(
+    words: &[Word],
+    tokens: &'a [Token],
+) -> Result<(BlockFact, Place, &'a [Token]), ReadFault>
+    ensures read { Gives (λ x. ((x.0, x.1), plain_list x.2.now)) result ((one (placed (fact_of words.now))).parse (plain_list tokens.now)) }
+    ensures shorter { IfOk result (λ x. length x.2.now < length tokens.now) }
+    ensures sure { IfErr result TakesNoMemory }
+{
+    match tokens {
+        [] => Err(ReadFault::At(0)),
+        [token, rest @ ..] => match &token.kind {
+            TokenKind::Word(number) => match fact_word(word_at(words, *number)) {
+                Some(fact) => Ok((fact, token.place, rest)),
+                None => Err(ReadFault::At(left(tokens))),
+            },
+            _ => Err(ReadFault::At(left(tokens))),
+        },
+    }
+}
+
+fn question_word(word: Word) -> Option<MemoryQuestion>
+    ensures { result ≡ question_word word }
+{
+    match word {
+        Word::Logic(LogicWord::Asks(question)) => Some(question),
+        _ => None,
+    }
+}
+
+/// `\valid`, `\valid_read` or `\initialized`.
+pub fn question<'a>(
+    words: &[Word],
+    tokens: &'a [Token],
+) -> Result<(MemoryQuestion, Place, &'a [Token]), ReadFault>
+    ensures read { Gives (λ x. ((x.0, x.1), plain_list x.2.now)) result ((one (placed (question_of words.now))).parse (plain_list tokens.now)) }
+    ensures shorter { IfOk result (λ x. length x.2.now < length tokens.now) }
+    ensures sure { IfErr result TakesNoMemory }
+{
+    match tokens {
+        [] => Err(ReadFault::At(0)),
+        [token, rest @ ..] => match &token.kind {
+            TokenKind::Word(number) => match question_word(word_at(words, *number)) {
+                Some(question) => Ok((question, token.place, rest)),
                 None => Err(ReadFault::At(left(tokens))),
             },
             _ => Err(ReadFault::At(left(tokens))),

@@ -12,6 +12,8 @@ use Rattle.c_syntax.specs.Tokens as tokens
 use Rattle.c_syntax.specs.Tokens.{PlainTokenKind, PlainToken}
 use Rattle.c_model.specs.declared.vocabulary.Keyword.{Keyword}
 use Rattle.c_model.specs.declared.vocabulary.Keyword.TheVariants as keyword
+use Rattle.c_model.specs.declared.vocabulary.LogicWord.{LogicWord}
+use Rattle.c_model.specs.declared.vocabulary.LogicWord.TheVariants as logic
 use Rattle.c_model.specs.declared.vocabulary.Word.{Word}
 use Rattle.c_model.specs.declared.vocabulary.Word.TheVariants as word
 use Rattle.c_model.specs.declared.vocabulary.SignWords.{SignWords}
@@ -20,7 +22,7 @@ use Rattle.c_model.specs.declared.vocabulary.SizeWords.{SizeWords}
 use Rattle.c_model.specs.declared.vocabulary.SizeWords.TheVariants as size
 use Rattle.c_model.specs.declared.vocabulary.IntegerWords.{IntegerWords}
 use Rattle.c_model.specs.Vocabulary.{Vocabulary, word_at, sign_with, size_with, words_with}
-use Rattle.c_model.specs.ExpressionGrammar.{name_kind, number_kind, letter_kind, type_name_kind, keyword_kind, mark_kind, word_kind, token_kind, kind, number_of, letter_of, kinds_of, signs_behind, sizes_behind, first_any_name}
+use Rattle.c_model.specs.ExpressionGrammar.{name_kind, number_kind, letter_kind, type_name_kind, keyword_kind, logic_word_kind, mark_kind, word_kind, token_kind, kind, number_of, letter_of, kinds_of, signs_behind, sizes_behind, first_any_name}
 use Rattle.c_model.specs.Terminals.{placed, entry, mark_entry}
 use Rattle.c_model.specs.ExpressionGrammar.{words_behind, first_integer_words, keyword_of, next_words, named_type, type_named_by, typedef_name_of, fixed, name_of, name, any_name_of, any_name}
 use Rattle.c_expr_parser.proofs.ExactTokens.{fixed_good, name_good, number_good, letter_good, marks_good, next_words_good, any_name_good, typedef_name_good}
@@ -87,12 +89,45 @@ keyword_small keyword.Case = omega arith
 keyword_small keyword.Default = omega arith
 keyword_small keyword.Kept = omega arith
 
-pub word_small : (w : Word) → word_kind w ≤ 34
-word_small (word.Keyword k) = keyword_small k
+logic_small : (w : LogicWord) → logic_word_kind w ≤ 38
+logic_small (logic.Truth b) = omega arith
+logic_small logic.Null = omega arith
+logic_small (logic.Told f) = omega arith
+logic_small (logic.Asks q) = omega arith
+logic_small logic.Separated = omega arith
+logic_small logic.Kept = omega arith
+
+-- no word of annotations has the kind of a literal, of the name of a type, or of a word of an integer type
+no_logic_literal : (w : LogicWord) (k : ℕ) → 1 ≤ k → k ≤ 3 → eqb (logic_word_kind w) k ≡ true → ⊥
+no_logic_literal (logic.Truth b) k l g h = let e = eqb-true 5 k h in omega (arith, e)
+no_logic_literal logic.Null k l g h = let e = eqb-true 35 k h in omega (arith, e)
+no_logic_literal (logic.Told f) k l g h = let e = eqb-true 36 k h in omega (arith, e)
+no_logic_literal (logic.Asks q) k l g h = let e = eqb-true 37 k h in omega (arith, e)
+no_logic_literal logic.Separated k l g h = let e = eqb-true 38 k h in omega (arith, e)
+no_logic_literal logic.Kept k l g h = let e = eqb-true 5 k h in omega (arith, e)
+
+no_logic_type_name : (w : LogicWord) → eqb (logic_word_kind w) type_name_kind ≡ true → ⊥
+no_logic_type_name (logic.Truth b) h = cc
+no_logic_type_name logic.Null h = cc
+no_logic_type_name (logic.Told f) h = cc
+no_logic_type_name (logic.Asks q) h = cc
+no_logic_type_name logic.Separated h = cc
+no_logic_type_name logic.Kept h = cc
+
+no_logic_integer : (w : LogicWord) → 10 ≤ logic_word_kind w → logic_word_kind w ≤ 15 → ⊥
+no_logic_integer (logic.Truth b) l g = omega (arith, l, g)
+no_logic_integer logic.Null l g = omega (arith, l, g)
+no_logic_integer (logic.Told f) l g = omega (arith, l, g)
+no_logic_integer (logic.Asks q) l g = omega (arith, l, g)
+no_logic_integer logic.Separated l g = omega (arith, l, g)
+no_logic_integer logic.Kept l g = omega (arith, l, g)
+
+pub word_small : (w : Word) → word_kind w ≤ 38
+word_small (word.Keyword k) = let s = keyword_small k in omega (arith, s)
 word_small (word.TypeName t) = omega arith
 word_small word.Assert = omega arith
 word_small word.Integer = omega arith
-word_small (word.Logic w) = omega arith
+word_small (word.Logic w) = logic_small w
 word_small word.Name = omega arith
 
 -- no word has the kind of a literal
@@ -101,7 +136,7 @@ no_literal (word.Keyword n) k l g h = let e = eqb-true (keyword_kind n) k h in l
 no_literal (word.TypeName t) k l g h = let e = eqb-true 4 k h in omega (arith, e)
 no_literal word.Assert k l g h = let e = eqb-true 0 k h in omega (arith, e)
 no_literal word.Integer k l g h = let e = eqb-true 0 k h in omega (arith, e)
-no_literal (word.Logic w) k l g h = let e = eqb-true 5 k h in omega (arith, e)
+no_literal (word.Logic w) k l g h = no_logic_literal w k l g h
 no_literal word.Name k l g h = let e = eqb-true 0 k h in omega (arith, e)
 
 -- the only kind of a set of one
@@ -254,7 +289,7 @@ module _ (ws : Vocabulary) where
   marks_taken : {A : Type 0} (table : List (ℕ × A)) (t : PlainTokenKind) → among (token_kind ws t) (kinds_of table) ≡ true → (x : A) × (mark_entry table t ≡ Some x)
   marks_taken {A} table t h = by t h
     where
-      other : (k : PlainTokenKind) → token_kind ws k ≤ 34 → among (token_kind ws k) (kinds_of table) ≡ true → (x : A) × (mark_entry table k ≡ Some x)
+      other : (k : PlainTokenKind) → token_kind ws k ≤ 38 → among (token_kind ws k) (kinds_of table) ≡ true → (x : A) × (mark_entry table k ≡ Some x)
       other k small g = in_table _ (token_kind ws k) table (λ m x is e. absurd (omega (arith, small, is))) g
 
       by : (k : PlainTokenKind) → among (token_kind ws k) (kinds_of table) ≡ true → (x : A) × (mark_entry table k ≡ Some x)
@@ -278,7 +313,7 @@ module _ (ws : Vocabulary) where
       by_word (word.TypeName c) g r = absurd (let l = r.0 in omega (arith, l))
       by_word word.Assert g r = absurd (let l = r.0 in omega (arith, l))
       by_word word.Integer g r = absurd (let l = r.0 in omega (arith, l))
-      by_word (word.Logic w) g r = absurd (let l = r.0 in omega (arith, l))
+      by_word (word.Logic w) g r = absurd (no_logic_integer w r.0 r.1)
       by_word word.Name g r = absurd (let l = r.0 in omega (arith, l))
 
       by : (k : PlainTokenKind) → among (token_kind ws k) (words_behind x) ≡ true → (10 ≤ token_kind ws k) × (token_kind ws k ≤ 15) → (y : IntegerWords) × (next_words ws x k ≡ Some y)
@@ -300,6 +335,7 @@ module _ (ws : Vocabulary) where
       by_word : (w : Word) → eqb (word_kind w) type_name_kind ≡ true → (u : PlainType) × (type_named_by n w ≡ Some u)
       by_word (word.TypeName c) e = (named_type n c, refl)
       by_word (word.Keyword k) e = absurd (let q = eqb-true (keyword_kind k) type_name_kind e in let s = keyword_large k in omega (arith, q, s))
+      by_word (word.Logic w) e = absurd (no_logic_type_name w e)
       by_word _ e = absurd cc
   typedef_name_taken (tokens.Mark m) h = absurd (let e = eqb-true (mark_kind m) type_name_kind (the_kind (mark_kind m) type_name_kind h) in omega (arith, e))
   typedef_name_taken _ h = absurd cc

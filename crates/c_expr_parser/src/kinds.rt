@@ -3,10 +3,10 @@
 ghost use Rattle.std.specs.Prelude.{◌≡◌};
 ghost use Rattle.c_syntax.specs.Tokens.{plain_token};
 ghost use Rattle.c_model.specs.Vocabulary.{word_at};
-ghost use Rattle.c_model.specs.ExpressionGrammar.{keyword_kind, kind, word_kind};
+ghost use Rattle.c_model.specs.ExpressionGrammar.{keyword_kind, kind, logic_word_kind, word_kind};
 
 use c_model::punctuator;
-use c_model::vocabulary::{Keyword, Word};
+use c_model::vocabulary::{Keyword, LogicWord, Word};
 use c_syntax::{Token, TokenKind};
 
 pub const NAME: u32 = 0;
@@ -77,6 +77,14 @@ pub const DEFAULT: u32 = 33;
 
 pub const KEPT: u32 = 34;
 
+pub const NULL: u32 = 35;
+
+pub const FACT: u32 = 36;
+
+pub const QUESTION_WORD: u32 = 37;
+
+pub const SEPARATED: u32 = 38;
+
 /// The kind of the first punctuator in the list of all; the others follow.
 pub const FIRST_MARK: u32 = 40;
 
@@ -101,6 +109,8 @@ pub const TILDE: u32 = FIRST_MARK + punctuator::TILDE as u32;
 pub const AMPERSAND: u32 = FIRST_MARK + punctuator::AMPERSAND as u32;
 
 pub const DOT: u32 = FIRST_MARK + punctuator::DOT as u32;
+
+pub const DOTS: u32 = FIRST_MARK + punctuator::DOTS as u32;
 
 pub const QUESTION: u32 = FIRST_MARK + punctuator::QUESTION as u32;
 
@@ -164,13 +174,25 @@ pub fn keyword_kind(keyword: Keyword) -> u32
     }
 }
 
+fn logic_word_kind(word: LogicWord) -> u32
+    ensures { result ≡ logic_word_kind word }
+{
+    match word {
+        LogicWord::Truth(_) | LogicWord::Kept => LOGIC,
+        LogicWord::Null => NULL,
+        LogicWord::Told(_) => FACT,
+        LogicWord::Asks(_) => QUESTION_WORD,
+        LogicWord::Separated => SEPARATED,
+    }
+}
+
 pub fn word_kind(word: Word) -> u32
     ensures { result ≡ word_kind word }
 {
     match word {
         Word::Keyword(keyword) => keyword_kind(keyword),
         Word::TypeName(_) => TYPE_NAME,
-        Word::Logic(_) => LOGIC,
+        Word::Logic(word) => logic_word_kind(word),
         Word::Assert | Word::Integer | Word::Name => NAME,
     }
 }

@@ -8,6 +8,7 @@ ghost use Rattle.c_model.specs.Terminals.{found_in};
 
 use crate::kinds::word_at;
 use c_model::vocabulary::{Keyword, LogicWord, TypeName, Word};
+use c_syntax::logic::{BlockFact, MemoryQuestion};
 use c_syntax::{CInt, Name};
 use std::alloc::{AllocError, Global};
 use token_reader::words::found_in;
@@ -94,6 +95,14 @@ fn logic_word(bytes: &[u8]) -> LogicWord
         &[
             (b"true", LogicWord::Truth(true)),
             (b"false", LogicWord::Truth(false)),
+            (b"null", LogicWord::Null),
+            (b"base_addr", LogicWord::Told(BlockFact::BaseAddr)),
+            (b"block_length", LogicWord::Told(BlockFact::BlockLength)),
+            (b"offset", LogicWord::Told(BlockFact::Offset)),
+            (b"valid", LogicWord::Asks(MemoryQuestion::Valid)),
+            (b"valid_read", LogicWord::Asks(MemoryQuestion::ValidRead)),
+            (b"initialized", LogicWord::Asks(MemoryQuestion::Initialized)),
+            (b"separated", LogicWord::Separated),
         ],
         bytes,
         LogicWord::Kept,

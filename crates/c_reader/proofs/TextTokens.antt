@@ -23,8 +23,10 @@ use Rattle.c_model.specs.MonitoredTokenLaws.{with_names}
 use Rattle.c_model.specs.Pieces.{Pieces, Ended, Broken, Cut, begins_name, mode_after, pieces_of}
 use Rattle.c_model.specs.CTokens.{joined_string, with_string, add, refused, closed, most_tokens, build, tokens_of}
 use Rattle.c_model.specs.CTokenLaws.{bytes_of, IsName, Spells, AreSpelled, word_then, words_of, Ascend}
+use Rattle.c_model.specs.declared.vocabulary.LogicWord.{LogicWord}
+use Rattle.c_model.specs.declared.vocabulary.LogicWord.TheVariants as logic
 use Rattle.c_model.specs.Vocabulary.{word_of, word_at}
-use Rattle.c_model.specs.ExpressionGrammar.{name_kind, word_kind}
+use Rattle.c_model.specs.ExpressionGrammar.{name_kind, logic_word_kind, word_kind}
 use Rattle.c_model.specs.Formed as program
 use Rattle.c_model.specs.ExpressionTyping.{name_at}
 use Rattle.c_model.proofs.Spelling.{chosen}
@@ -282,9 +284,18 @@ lexed text tokens are e = record {
 
 -- ---- names that are declared
 
+-- no word of annotations is a name
+no_logic_name : (w : LogicWord) → logic_word_kind w ≡ name_kind → ⊥
+no_logic_name (logic.Truth b) h = cc
+no_logic_name logic.Null h = cc
+no_logic_name (logic.Told f) h = cc
+no_logic_name (logic.Asks q) h = cc
+no_logic_name logic.Separated h = cc
+no_logic_name logic.Kept h = cc
+
 backslash_word : (w : List ℕ) → word_kind (word_of (92 ∷ w)) ≡ name_kind → ⊥
 unfolding word_of
-backslash_word w h = cc
+backslash_word w h = no_logic_name _ h
 
 part_first : (w : List ℕ) → IsWord w → word_kind (word_of w) ≡ name_kind → program.IsName w
 part_first w h k = elim h.begins [

@@ -25,9 +25,11 @@ use Rattle.c_model.specs.DeclarationGrammar.{ended, maybe_comma, next_item, item
 use Rattle.c_model.specs.DeclarationGrammar.{declared_once, next_declared, more_declared, declared_list, declaration, parameter_rest, void_parameter, parameter_behind, parameter, next_parameter, more_parameters, first_parameter, parameters}
 use Rattle.c_model.specs.DeclarationGrammar.{next_member, members_of, behind_tag, behind_word, tagged_type, braced, member, more_members, struct_braces, constant_value, constant, enum_braces, braces_of, braces_in, storage_word}
 use Rattle.c_model.specs.DeclarationGrammar.{more_storage, file_spec}
-use Rattle.c_model.specs.AnnotationGrammar.{named_form, literal_form, sized_form, atom, cast_behind, cast_to_type, cast_to_integer, parenthesised, behind_parenthesis}
-use Rattle.c_model.specs.AnnotationGrammar.{prefixed as formula_prefixed, prefix_of, prefix, joined_once as formula_joined_once, joined_more, joined, linked, links_of, links, chain_of, implied}
-use Rattle.c_model.specs.AnnotationGrammar.{implication_of, choice_behind, implication, form_of, form, assert_clause, full_clause, next_assert, asserts, annotations}
+use Rattle.c_model.specs.AnnotationGrammar.{whole, zone, named_form, literal_form, sized_form, null_form, told_form, asked_form, next_zone, some_zones, separated_form, atom, worded, indexed as formula_indexed}
+use Rattle.c_model.specs.AnnotationGrammar.{dotted as formula_dotted, pointed, postfix_once as formula_postfix_once, postfixes as formula_postfixes, worded_postfix, cast_behind, cast_to_type, cast_to_integer}
+use Rattle.c_model.specs.AnnotationGrammar.{closed_postfix, parenthesised, behind_parenthesis, prefixed as formula_prefixed, bare_prefix, prefix_of, prefix, joined_once as formula_joined_once, joined_more, joined}
+use Rattle.c_model.specs.AnnotationGrammar.{factor, added_rest, ranged, behind_first, added_parenthesis, added, sum_once, sum_more, zone_sum, linked, links_of, links, chain_behind, chain_of, implied}
+use Rattle.c_model.specs.AnnotationGrammar.{implication_behind, implication_of, chosen_behind, choice_behind, implication, form_of, forms, assert_clause, full_clause, next_assert, asserts, annotations}
 use Rattle.c_model.specs.ProgramGrammar.{texts_of, misplaced, placed_annotation, condition, else_branch, else_part, selection, while_loop, do_loop, for_first, maybe_ended, for_behind, for_loop, jump, returned}
 use Rattle.c_model.specs.ProgramGrammar.{return_statement, item, items_once, items, block, valued_case, default_case, case_label, case_item, case_items_once, case_items}
 use Rattle.c_model.specs.ProgramGrammar.{next_case, cases, switch_statement, empty_statement, effect_statement, statement_of, branch_of, statement_in, branch_in}
@@ -96,8 +98,10 @@ unfolding tokens_of build cut piece_at add marks digits_at suffix_of body_of lit
     arguments call_rest behind_variable assigned bumped behind_unary behind_form at_level next_part with_commas bump_first full_expression placed_expression full_placed_expression full_expression_at ended maybe_comma
     next_item item_once more_items listed lengths dtor full_dtor maybe_name abstract_dtor full_abstract_dtor item_of_list list_of list_in initialiser initialised declared_once next_declared more_declared declared_list
     declaration parameter_rest void_parameter parameter_behind parameter next_parameter more_parameters first_parameter parameters next_member members_of behind_tag behind_word tagged_type braced member more_members
-    struct_braces constant_value constant enum_braces braces_of braces_in storage_word more_storage file_spec named_form literal_form sized_form atom cast_behind cast_to_type cast_to_integer parenthesised behind_parenthesis
-    formula_prefixed prefix_of prefix formula_joined_once joined_more joined linked links_of links chain_of implied implication_of choice_behind implication form_of form assert_clause full_clause next_assert asserts
+    struct_braces constant_value constant enum_braces braces_of braces_in storage_word more_storage file_spec whole zone named_form literal_form sized_form null_form told_form asked_form next_zone some_zones separated_form atom
+    worded formula_indexed formula_dotted pointed formula_postfix_once formula_postfixes worded_postfix cast_behind cast_to_type cast_to_integer closed_postfix parenthesised behind_parenthesis formula_prefixed bare_prefix
+    prefix_of prefix formula_joined_once joined_more joined factor added_rest ranged behind_first added_parenthesis added sum_once sum_more zone_sum linked links_of links chain_behind chain_of implied implication_behind
+    implication_of chosen_behind choice_behind implication form_of forms assert_clause full_clause next_assert asserts
     annotations misplaced placed_annotation condition else_branch else_part selection while_loop do_loop for_first maybe_ended for_behind for_loop jump returned return_statement item items_once items block valued_case
     default_case case_label case_item case_items_once case_items next_case cases switch_statement empty_statement effect_statement statement_of branch_of statement_in branch_in function_rest function globals behind_declarator
     declared_at_file next_typedef more_typedefs typedefs strays declared_external external more_external unit word_of library_constant is_library_name
@@ -151,8 +155,10 @@ unfolding tokens_of build cut piece_at add marks digits_at suffix_of body_of lit
     arguments call_rest behind_variable assigned bumped behind_unary behind_form at_level next_part with_commas bump_first full_expression placed_expression full_placed_expression full_expression_at ended maybe_comma
     next_item item_once more_items listed lengths dtor full_dtor maybe_name abstract_dtor full_abstract_dtor item_of_list list_of list_in initialiser initialised declared_once next_declared more_declared declared_list
     declaration parameter_rest void_parameter parameter_behind parameter next_parameter more_parameters first_parameter parameters next_member members_of behind_tag behind_word tagged_type braced member more_members
-    struct_braces constant_value constant enum_braces braces_of braces_in storage_word more_storage file_spec named_form literal_form sized_form atom cast_behind cast_to_type cast_to_integer parenthesised behind_parenthesis
-    formula_prefixed prefix_of prefix formula_joined_once joined_more joined linked links_of links chain_of implied implication_of choice_behind implication form_of form assert_clause full_clause next_assert asserts
+    struct_braces constant_value constant enum_braces braces_of braces_in storage_word more_storage file_spec whole zone named_form literal_form sized_form null_form told_form asked_form next_zone some_zones separated_form atom
+    worded formula_indexed formula_dotted pointed formula_postfix_once formula_postfixes worded_postfix cast_behind cast_to_type cast_to_integer closed_postfix parenthesised behind_parenthesis formula_prefixed bare_prefix
+    prefix_of prefix formula_joined_once joined_more joined factor added_rest ranged behind_first added_parenthesis added sum_once sum_more zone_sum linked links_of links chain_behind chain_of implied implication_behind
+    implication_of chosen_behind choice_behind implication form_of forms assert_clause full_clause next_assert asserts
     annotations misplaced placed_annotation condition else_branch else_part selection while_loop do_loop for_first maybe_ended for_behind for_loop jump returned return_statement item items_once items block valued_case
     default_case case_label case_item case_items_once case_items next_case cases switch_statement empty_statement effect_statement statement_of branch_of statement_in branch_in function_rest function globals behind_declarator
     declared_at_file next_typedef more_typedefs typedefs strays declared_external external more_external unit word_of library_constant is_library_name
@@ -188,8 +194,10 @@ unfolding tokens_of build cut piece_at add marks digits_at suffix_of body_of lit
     arguments call_rest behind_variable assigned bumped behind_unary behind_form at_level next_part with_commas bump_first full_expression placed_expression full_placed_expression full_expression_at ended maybe_comma
     next_item item_once more_items listed lengths dtor full_dtor maybe_name abstract_dtor full_abstract_dtor item_of_list list_of list_in initialiser initialised declared_once next_declared more_declared declared_list
     declaration parameter_rest void_parameter parameter_behind parameter next_parameter more_parameters first_parameter parameters next_member members_of behind_tag behind_word tagged_type braced member more_members
-    struct_braces constant_value constant enum_braces braces_of braces_in storage_word more_storage file_spec named_form literal_form sized_form atom cast_behind cast_to_type cast_to_integer parenthesised behind_parenthesis
-    formula_prefixed prefix_of prefix formula_joined_once joined_more joined linked links_of links chain_of implied implication_of choice_behind implication form_of form assert_clause full_clause next_assert asserts
+    struct_braces constant_value constant enum_braces braces_of braces_in storage_word more_storage file_spec whole zone named_form literal_form sized_form null_form told_form asked_form next_zone some_zones separated_form atom
+    worded formula_indexed formula_dotted pointed formula_postfix_once formula_postfixes worded_postfix cast_behind cast_to_type cast_to_integer closed_postfix parenthesised behind_parenthesis formula_prefixed bare_prefix
+    prefix_of prefix formula_joined_once joined_more joined factor added_rest ranged behind_first added_parenthesis added sum_once sum_more zone_sum linked links_of links chain_behind chain_of implied implication_behind
+    implication_of chosen_behind choice_behind implication form_of forms assert_clause full_clause next_assert asserts
     annotations misplaced placed_annotation condition else_branch else_part selection while_loop do_loop for_first maybe_ended for_behind for_loop jump returned return_statement item items_once items block valued_case
     default_case case_label case_item case_items_once case_items next_case cases switch_statement empty_statement effect_statement statement_of branch_of statement_in branch_in function_rest function globals behind_declarator
     declared_at_file next_typedef more_typedefs typedefs strays declared_external external more_external unit word_of library_constant is_library_name
@@ -219,8 +227,10 @@ unfolding tokens_of build cut piece_at add marks digits_at suffix_of body_of lit
     arguments call_rest behind_variable assigned bumped behind_unary behind_form at_level next_part with_commas bump_first full_expression placed_expression full_placed_expression full_expression_at ended maybe_comma
     next_item item_once more_items listed lengths dtor full_dtor maybe_name abstract_dtor full_abstract_dtor item_of_list list_of list_in initialiser initialised declared_once next_declared more_declared declared_list
     declaration parameter_rest void_parameter parameter_behind parameter next_parameter more_parameters first_parameter parameters next_member members_of behind_tag behind_word tagged_type braced member more_members
-    struct_braces constant_value constant enum_braces braces_of braces_in storage_word more_storage file_spec named_form literal_form sized_form atom cast_behind cast_to_type cast_to_integer parenthesised behind_parenthesis
-    formula_prefixed prefix_of prefix formula_joined_once joined_more joined linked links_of links chain_of implied implication_of choice_behind implication form_of form assert_clause full_clause next_assert asserts
+    struct_braces constant_value constant enum_braces braces_of braces_in storage_word more_storage file_spec whole zone named_form literal_form sized_form null_form told_form asked_form next_zone some_zones separated_form atom
+    worded formula_indexed formula_dotted pointed formula_postfix_once formula_postfixes worded_postfix cast_behind cast_to_type cast_to_integer closed_postfix parenthesised behind_parenthesis formula_prefixed bare_prefix
+    prefix_of prefix formula_joined_once joined_more joined factor added_rest ranged behind_first added_parenthesis added sum_once sum_more zone_sum linked links_of links chain_behind chain_of implied implication_behind
+    implication_of chosen_behind choice_behind implication form_of forms assert_clause full_clause next_assert asserts
     annotations misplaced placed_annotation condition else_branch else_part selection while_loop do_loop for_first maybe_ended for_behind for_loop jump returned return_statement item items_once items block valued_case
     default_case case_label case_item case_items_once case_items next_case cases switch_statement empty_statement effect_statement statement_of branch_of statement_in branch_in function_rest function globals behind_declarator
     declared_at_file next_typedef more_typedefs typedefs strays declared_external external more_external unit word_of library_constant is_library_name
@@ -264,8 +274,10 @@ unfolding tokens_of build cut piece_at add marks digits_at suffix_of body_of lit
     arguments call_rest behind_variable assigned bumped behind_unary behind_form at_level next_part with_commas bump_first full_expression placed_expression full_placed_expression full_expression_at ended maybe_comma
     next_item item_once more_items listed lengths dtor full_dtor maybe_name abstract_dtor full_abstract_dtor item_of_list list_of list_in initialiser initialised declared_once next_declared more_declared declared_list
     declaration parameter_rest void_parameter parameter_behind parameter next_parameter more_parameters first_parameter parameters next_member members_of behind_tag behind_word tagged_type braced member more_members
-    struct_braces constant_value constant enum_braces braces_of braces_in storage_word more_storage file_spec named_form literal_form sized_form atom cast_behind cast_to_type cast_to_integer parenthesised behind_parenthesis
-    formula_prefixed prefix_of prefix formula_joined_once joined_more joined linked links_of links chain_of implied implication_of choice_behind implication form_of form assert_clause full_clause next_assert asserts
+    struct_braces constant_value constant enum_braces braces_of braces_in storage_word more_storage file_spec whole zone named_form literal_form sized_form null_form told_form asked_form next_zone some_zones separated_form atom
+    worded formula_indexed formula_dotted pointed formula_postfix_once formula_postfixes worded_postfix cast_behind cast_to_type cast_to_integer closed_postfix parenthesised behind_parenthesis formula_prefixed bare_prefix
+    prefix_of prefix formula_joined_once joined_more joined factor added_rest ranged behind_first added_parenthesis added sum_once sum_more zone_sum linked links_of links chain_behind chain_of implied implication_behind
+    implication_of chosen_behind choice_behind implication form_of forms assert_clause full_clause next_assert asserts
     annotations misplaced placed_annotation condition else_branch else_part selection while_loop do_loop for_first maybe_ended for_behind for_loop jump returned return_statement item items_once items block valued_case
     default_case case_label case_item case_items_once case_items next_case cases switch_statement empty_statement effect_statement statement_of branch_of statement_in branch_in function_rest function globals behind_declarator
     declared_at_file next_typedef more_typedefs typedefs strays declared_external external more_external unit word_of library_constant is_library_name
@@ -317,8 +329,10 @@ unfolding tokens_of build cut piece_at add marks digits_at suffix_of body_of lit
     arguments call_rest behind_variable assigned bumped behind_unary behind_form at_level next_part with_commas bump_first full_expression placed_expression full_placed_expression full_expression_at ended maybe_comma
     next_item item_once more_items listed lengths dtor full_dtor maybe_name abstract_dtor full_abstract_dtor item_of_list list_of list_in initialiser initialised declared_once next_declared more_declared declared_list
     declaration parameter_rest void_parameter parameter_behind parameter next_parameter more_parameters first_parameter parameters next_member members_of behind_tag behind_word tagged_type braced member more_members
-    struct_braces constant_value constant enum_braces braces_of braces_in storage_word more_storage file_spec named_form literal_form sized_form atom cast_behind cast_to_type cast_to_integer parenthesised behind_parenthesis
-    formula_prefixed prefix_of prefix formula_joined_once joined_more joined linked links_of links chain_of implied implication_of choice_behind implication form_of form assert_clause full_clause next_assert asserts
+    struct_braces constant_value constant enum_braces braces_of braces_in storage_word more_storage file_spec whole zone named_form literal_form sized_form null_form told_form asked_form next_zone some_zones separated_form atom
+    worded formula_indexed formula_dotted pointed formula_postfix_once formula_postfixes worded_postfix cast_behind cast_to_type cast_to_integer closed_postfix parenthesised behind_parenthesis formula_prefixed bare_prefix
+    prefix_of prefix formula_joined_once joined_more joined factor added_rest ranged behind_first added_parenthesis added sum_once sum_more zone_sum linked links_of links chain_behind chain_of implied implication_behind
+    implication_of chosen_behind choice_behind implication form_of forms assert_clause full_clause next_assert asserts
     annotations misplaced placed_annotation condition else_branch else_part selection while_loop do_loop for_first maybe_ended for_behind for_loop jump returned return_statement item items_once items block valued_case
     default_case case_label case_item case_items_once case_items next_case cases switch_statement empty_statement effect_statement statement_of branch_of statement_in branch_in function_rest function globals behind_declarator
     declared_at_file next_typedef more_typedefs typedefs strays declared_external external more_external unit word_of library_constant is_library_name
@@ -352,8 +366,10 @@ unfolding tokens_of build cut piece_at add marks digits_at suffix_of body_of lit
     arguments call_rest behind_variable assigned bumped behind_unary behind_form at_level next_part with_commas bump_first full_expression placed_expression full_placed_expression full_expression_at ended maybe_comma
     next_item item_once more_items listed lengths dtor full_dtor maybe_name abstract_dtor full_abstract_dtor item_of_list list_of list_in initialiser initialised declared_once next_declared more_declared declared_list
     declaration parameter_rest void_parameter parameter_behind parameter next_parameter more_parameters first_parameter parameters next_member members_of behind_tag behind_word tagged_type braced member more_members
-    struct_braces constant_value constant enum_braces braces_of braces_in storage_word more_storage file_spec named_form literal_form sized_form atom cast_behind cast_to_type cast_to_integer parenthesised behind_parenthesis
-    formula_prefixed prefix_of prefix formula_joined_once joined_more joined linked links_of links chain_of implied implication_of choice_behind implication form_of form assert_clause full_clause next_assert asserts
+    struct_braces constant_value constant enum_braces braces_of braces_in storage_word more_storage file_spec whole zone named_form literal_form sized_form null_form told_form asked_form next_zone some_zones separated_form atom
+    worded formula_indexed formula_dotted pointed formula_postfix_once formula_postfixes worded_postfix cast_behind cast_to_type cast_to_integer closed_postfix parenthesised behind_parenthesis formula_prefixed bare_prefix
+    prefix_of prefix formula_joined_once joined_more joined factor added_rest ranged behind_first added_parenthesis added sum_once sum_more zone_sum linked links_of links chain_behind chain_of implied implication_behind
+    implication_of chosen_behind choice_behind implication form_of forms assert_clause full_clause next_assert asserts
     annotations misplaced placed_annotation condition else_branch else_part selection while_loop do_loop for_first maybe_ended for_behind for_loop jump returned return_statement item items_once items block valued_case
     default_case case_label case_item case_items_once case_items next_case cases switch_statement empty_statement effect_statement statement_of branch_of statement_in branch_in function_rest function globals behind_declarator
     declared_at_file next_typedef more_typedefs typedefs strays declared_external external more_external unit word_of library_constant is_library_name

@@ -1,23 +1,23 @@
 -- The productions of annotations are those of the head of their grammar.
-use Rattle.std.proofs.Common.{ℕ, List, [], ◌∷◌, refl, inl}
+use Rattle.std.proofs.Common.{ℕ, List, [], ◌∷◌, refl, inl, inr}
 use Rattle.grammar.specs.Syntax.{Syntax, gives, ◌then◌, many}
 use Rattle.grammar.specs.Exact.{Same}
 use Rattle.grammar.proofs.Forms.{to_left}
 use Rattle.grammar_laws.proofs.Inclusions.{Within, both, forth, back, itself, ◌so◌, either, first, second, each, on, in_turn, after_either, either_before}
-use Rattle.grammar_laws.proofs.Inclusions.{handed, handed_back, turns}
-use Rattle.grammar_laws.proofs.AnnotationKnots.{form_knot, prefix_knot, implication_knot}
-use Rattle.c_syntax.specs.Formulas.{CastType, Integers, OfC, Form, Cast}
+use Rattle.grammar_laws.proofs.Inclusions.{handed, handed_back, three, three_back, turns}
+use Rattle.grammar_laws.proofs.AnnotationKnots.{prefix_knot}
+use Rattle.c_syntax.specs.Formulas.{CastType, Integers, OfC, Form, Index, Dot, Arrow, Cast, Separated, FormZone}
 use Rattle.c_syntax.specs.declared.place.Place.{Place}
 use Rattle.c_syntax.specs.Tokens.{PlainToken}
-use Rattle.c_model.specs.declared.formulas.FormulaOperator.{FormulaOperator}
 use Rattle.c_model.specs.Vocabulary.{Vocabulary}
-use Rattle.c_model.specs.Punctuators.{left_paren, right_paren, question, implies}
+use Rattle.c_model.specs.Punctuators.{left_paren, right_paren, left_bracket, right_bracket, dot, arrow, comma}
 use Rattle.c_syntax.specs.Logic.{Annotation}
-use Rattle.c_model.specs.ExpressionGrammar.{annot_open_kind, annot_close_kind, fixed, kinds_of, mark_kind, first_type, number_kind, letter_kind, name_kind}
-use Rattle.c_model.specs.ExpressionGrammar.{keyword_kind, mark, type_name, expression, closed}
+use Rattle.c_model.specs.ExpressionGrammar.{annot_open_kind, annot_close_kind, fixed, kinds_of, mark_kind, first_type, number_kind, letter_kind, name_kind, null_kind, fact_kind, question_kind, separated_kind}
+use Rattle.c_model.specs.ExpressionGrammar.{keyword_kind, mark, any_name, type_name, expression, closed}
 use Rattle.c_model.specs.declared.vocabulary.Keyword.TheVariants as keyword
 use Rattle.c_model.specs.AnnotationGrammar as parsed
-use Rattle.c_model.specs.AnnotationGrammar.{formula_kind, integer_kind, integer_word, prefix_operators, first_clause, annotations, asserts, next_assert}
+use Rattle.c_model.specs.AnnotationGrammar.{formula_kind, integer_kind, integer_word, prefix_operators, first_behind, first_clause, zones_of, annotations, asserts, next_assert}
+use Rattle.grammar_laws.specs.Plain.{◌or◌, repeated}
 use Rattle.grammar_laws.specs.AnnotationProductions as production
 
 -- a kind that nothing asks for
@@ -28,32 +28,72 @@ module _ (ws : Vocabulary) where
   abbrev F : Syntax PlainToken Form
   F = parsed.form ws
 
+  abbrev Z : Syntax PlainToken FormZone
+  Z = parsed.zone ws (parsed.forms ws)
+
   abbrev P : Syntax PlainToken Form
-  P = parsed.prefix ws F
+  P = parsed.prefix ws F Z
 
-  pub joined_line : (table : List (ℕ × FormulaOperator)) (R : Syntax PlainToken Form) → Same (parsed.joined ws table R) (production.joined_from_left ws table R)
-  unfolding parsed.joined parsed.joined_more parsed.joined_once
-  joined_line table R =
-      both (on R (λ x. turns (formula_kind ws) (λ _. kinds_of table) no (λ _. []) (λ y. itself _) x))
-      (on R (λ x. turns no (λ _. []) (formula_kind ws) (λ _. kinds_of table) (λ y. itself _) x))
+  -- ---- postfix forms
 
-  form_choice : Same (parsed.form_of ws F) (production.form ws)
-  unfolding parsed.form_of parsed.choice_behind
-  form_choice =
-      both (on (parsed.equivalence ws F) (λ c. each (formula_kind ws) (mark_kind question ∷ []) no [] (itself _) (itself _)))
-      (on (parsed.equivalence ws F) (λ c. each no [] (formula_kind ws) (mark_kind question ∷ []) (itself _) (itself _)))
+  -- one postfix operator, and more of them
+  abbrev step : Form → Syntax PlainToken Form
+  step y =
+      (mark ws left_bracket then λ at. F then λ i. mark ws right_bracket then λ _. gives (Index at y i))
+      or (mark ws dot then λ at. any_name ws then λ m. gives (Dot at y m.0))
+      or (mark ws arrow then λ at. any_name ws then λ m. gives (Arrow at y m.0))
 
-  pub form_line : Same F (production.form ws)
-  form_line = both (forth (form_knot ws) so forth form_choice) (back form_choice so back (form_knot ws))
+  abbrev behind : Form → Syntax PlainToken Form
+  behind x = repeated step x
 
-  implication_choice : Same (parsed.implication_of ws (parsed.disjunction ws F) (parsed.implication ws F)) (production.implication ws)
-  unfolding parsed.implication_of parsed.implied
-  implication_choice =
-      both (on (parsed.disjunction ws F) (λ c. each (formula_kind ws) (mark_kind implies ∷ []) no [] (itself _) (itself _)))
-      (on (parsed.disjunction ws F) (λ c. each no [] (formula_kind ws) (mark_kind implies ∷ []) (itself _) (itself _)))
+  postfixes_line : (x : Form) → Same (parsed.postfixes ws F x) (behind x)
+  unfolding parsed.postfixes parsed.postfix_once parsed.indexed parsed.dotted parsed.pointed
+  postfixes_line x =
+      both
+      (turns (formula_kind ws) (λ _. first_behind) no (λ _. []) (λ y. each (formula_kind ws) (mark_kind left_bracket ∷ []) no [] (itself _) (each (formula_kind ws) (mark_kind dot ∷ []) no [] (itself _) (itself _))) x)
+      (turns no (λ _. []) (formula_kind ws) (λ _. first_behind) (λ y. each no [] (formula_kind ws) (mark_kind left_bracket ∷ []) (itself _) (each no [] (formula_kind ws) (mark_kind dot ∷ []) (itself _) (itself _))) x)
 
-  pub implication_line : Same (parsed.implication ws F) (production.implication ws)
-  implication_line = both (forth (implication_knot ws F) so forth implication_choice) (back implication_choice so back (implication_knot ws F))
+  -- ---- zones that are separated
+
+  abbrev next : List FormZone → Syntax PlainToken (List FormZone)
+  next zs = parsed.next_zone ws Z zs
+
+  abbrev some : FormZone → Syntax PlainToken (List FormZone)
+  some y = next (y ∷ []) then λ ys. many (formula_kind ws) (λ _. mark_kind comma ∷ []) next ys
+
+  abbrev closing_zones : Place → List FormZone → Syntax PlainToken Form
+  closing_zones at zs = mark ws right_paren then λ _. gives (Separated at (zones_of zs))
+
+  abbrev separated_zones : Place → Syntax PlainToken Form
+  separated_zones at = Z then λ y. next (y ∷ []) then λ ys. repeated next ys then λ zs. closing_zones at zs
+
+  zones_forth : (at : Place) → Within (parsed.some_zones ws Z then closing_zones at) (separated_zones at)
+  unfolding parsed.some_zones
+  zones_forth at =
+      back (to_left Z some (closing_zones at))
+      so on Z (λ y. back (to_left (next (y ∷ [])) (λ ys. many (formula_kind ws) (λ _. mark_kind comma ∷ []) next ys) (closing_zones at))
+      so on (next (y ∷ [])) (λ ys. in_turn (turns (formula_kind ws) (λ _. mark_kind comma ∷ []) no (λ _. []) (λ zs. itself (next zs)) ys) (λ zs. itself (closing_zones at zs))))
+
+  zones_back : (at : Place) → Within (separated_zones at) (parsed.some_zones ws Z then closing_zones at)
+  unfolding parsed.some_zones
+  zones_back at =
+      on Z (λ y. on (next (y ∷ [])) (λ ys. in_turn (turns no (λ _. []) (formula_kind ws) (λ _. mark_kind comma ∷ []) (λ zs. itself (next zs)) ys) (λ zs. itself (closing_zones at zs)))
+      so forth (to_left (next (y ∷ [])) (λ ys. many (formula_kind ws) (λ _. mark_kind comma ∷ []) next ys) (closing_zones at)))
+      so forth (to_left Z some (closing_zones at))
+
+  -- ---- primary forms
+
+  worded_forth : Within (parsed.worded ws F Z) (production.primary ws)
+  unfolding parsed.worded parsed.told_form parsed.asked_form parsed.separated_form parsed.next_zone parsed.atom parsed.named_form parsed.null_form parsed.literal_form closed
+  worded_forth =
+      either (formula_kind ws) (fact_kind ∷ []) (second no [] _ (second no [] _ (second no [] _ (second no [] _ (second no [] _ (second no [] _ (first no [] _ (itself _))))))))
+      (either (formula_kind ws) (question_kind ∷ []) (second no [] _ (second no [] _ (second no [] _ (second no [] _ (second no [] _ (second no [] _ (second no [] _ (first no [] _ (itself _)))))))))
+      (either (formula_kind ws) (separated_kind ∷ []) (second no [] _ (second no [] _ (second no [] _ (second no [] _ (second no [] _ (second no [] _ (second no [] _ (second no [] _ (on (fixed ws separated_kind) (λ at. on
+      (mark ws left_paren) (λ _. zones_forth at)))))))))))
+      (either (formula_kind ws) (name_kind ∷ []) (first no [] _ (itself _))
+      (either (formula_kind ws) (null_kind ∷ []) (second no [] _ (second no [] _ (second no [] _ (second no [] _ (first no [] _ (itself _))))))
+      (either (formula_kind ws) (number_kind ∷ []) (second no [] _ (first no [] _ (itself _)))
+      (either (formula_kind ws) (letter_kind ∷ []) (second no [] _ (second no [] _ (first no [] _ (itself _)))) (second no [] _ (second no [] _ (second no [] _ (first no [] _ (itself _)))))))))))
 
   -- ---- prefixes
 
@@ -67,45 +107,81 @@ module _ (ws : Vocabulary) where
   to_cast_integer : (at : Place) → Within (integer_word ws then λ _. behind_cast at Integers) (production.cast_type ws then λ t. behind_cast at t)
   to_cast_integer at = handed (integer_word ws) (λ _. Integers) (behind_cast at) so in_turn (second no [] _ (itself _)) (λ t. itself _)
 
-  prefix_forth : Within (parsed.prefix_of ws F P) (production.prefix ws)
-  unfolding parsed.prefix_of parsed.behind_parenthesis parsed.cast_to_type parsed.cast_to_integer parsed.cast_behind parsed.parenthesised parsed.prefixed parsed.atom parsed.named_form parsed.sized_form parsed.literal_form closed
+  -- a form in parentheses, and what stands behind it
+  parenthesised_forth : Within (mark ws left_paren then λ _. parsed.parenthesised ws F) (production.postfix ws)
+  unfolding parsed.parenthesised parsed.closed_postfix
+  parenthesised_forth =
+      on (mark ws left_paren) (λ _. on F (λ x. on (mark ws right_paren) (λ _. forth (postfixes_line x))))
+      so three (mark ws left_paren) (λ _. F) (λ _ _. mark ws right_paren) (λ _ x. x) behind so in_turn (second no [] _ (second no [] _ (second no [] _ (second no [] _ (second no [] _ (first no [] _ (itself _))))))) (λ x. itself (behind x))
+
+  parenthesised_back : Within ((mark ws left_paren then λ _. F then λ x. mark ws right_paren then λ _. gives x) then behind) (mark ws left_paren then λ _. parsed.parenthesised ws F)
+  unfolding parsed.parenthesised parsed.closed_postfix
+  parenthesised_back =
+      three_back (mark ws left_paren) (λ _. F) (λ _ _. mark ws right_paren) (λ _ x. x) behind (λ _ x. (0, inr refl))
+      so on (mark ws left_paren) (λ _. on F (λ x. on (mark ws right_paren) (λ _. back (postfixes_line x))))
+
+  worded_postfix_forth : Within (parsed.worded_postfix ws F Z) (production.postfix ws)
+  unfolding parsed.worded_postfix
+  worded_postfix_forth = in_turn worded_forth (λ x. forth (postfixes_line x))
+
+  prefix_forth : Within (parsed.prefix_of ws F Z P) (production.prefix ws)
+  unfolding parsed.prefix_of parsed.behind_parenthesis parsed.cast_to_type parsed.cast_to_integer parsed.cast_behind parsed.bare_prefix parsed.prefixed parsed.sized_form closed
   prefix_forth =
       either (formula_kind ws) (mark_kind left_paren ∷ [])
       (after_either (formula_kind ws) first_type (mark ws left_paren) _ _ (second no [] _ (first no [] _ (on (mark ws left_paren) to_cast_type)))
       (after_either (formula_kind ws) (integer_kind ∷ []) (mark ws left_paren) _ _ (second no [] _ (first no [] _ (on (mark ws left_paren) to_cast_integer)))
-      (second no [] _ (second no [] _ (second no [] _ (second no [] _ (second no [] _ (second no [] _ (first no [] _ (itself _))))))))))
+      (parenthesised_forth so second no [] _ (second no [] _ (second no [] _ (itself (production.postfix ws)))))))
       (either (formula_kind ws) (kinds_of prefix_operators) (first no [] _ (itself _))
-      (second no [] _ (second no [] _
-      (either (formula_kind ws) (name_kind ∷ []) (first no [] _ (itself _))
-      (either (formula_kind ws) (keyword_kind keyword.Sizeof ∷ []) (second no [] _ (second no [] _ (second no [] _ (second no [] _ (second no [] _ (itself _))))))
-      (second no [] _ (either (formula_kind ws) (number_kind ∷ []) (first no [] _ (itself _))
-      (second no [] _ (either (formula_kind ws) (letter_kind ∷ []) (first no [] _ (itself _)) (second no [] _ (first no [] _ (itself _))))))))))))
+      (either (formula_kind ws) (keyword_kind keyword.Sizeof ∷ []) (second no [] _ (second no [] _ (first no [] _ (itself _))))
+      (worded_postfix_forth so second no [] _ (second no [] _ (second no [] _ (itself (production.postfix ws)))))))
 
-  behind_two : {X : Syntax PlainToken Form} → Within X (parsed.atom ws) → Within X (parsed.prefix_of ws F P)
-  unfolding parsed.prefix_of
-  behind_two w = second (formula_kind ws) (mark_kind left_paren ∷ []) _ (second (formula_kind ws) (kinds_of prefix_operators) _ w)
+  -- a primary form that begins with no parenthesis, and what stands behind it
+  simple : (X : Syntax PlainToken Form) → Within X (parsed.worded ws F Z) → Within (X then behind) (parsed.prefix_of ws F Z P)
+  unfolding parsed.prefix_of parsed.bare_prefix parsed.worded_postfix
+  simple X w =
+      in_turn w (λ x. back (postfixes_line x))
+      so second (formula_kind ws) (mark_kind left_paren ∷ []) _ (second (formula_kind ws) (kinds_of prefix_operators) _ (second (formula_kind ws) (keyword_kind keyword.Sizeof ∷ []) _ (itself _)))
 
-  literal : {X : Syntax PlainToken Form} → Within X (parsed.literal_form ws) → Within X (parsed.prefix_of ws F P)
+  parenthesis_in : Within (mark ws left_paren then λ _. parsed.parenthesised ws F) (parsed.prefix_of ws F Z P)
+  unfolding parsed.prefix_of parsed.behind_parenthesis
+  parenthesis_in =
+      on (mark ws left_paren) (λ at. second (formula_kind ws) first_type _ (second (formula_kind ws) (integer_kind ∷ []) _ (itself (parsed.parenthesised ws F)))) so first (formula_kind ws) (mark_kind left_paren ∷ []) _ (itself _)
+
+  in_atom : (X : Syntax PlainToken Form) → Within X (parsed.atom ws) → Within X (parsed.worded ws F Z)
+  unfolding parsed.worded
+  in_atom X w = second (formula_kind ws) (fact_kind ∷ []) _ (second (formula_kind ws) (question_kind ∷ []) _ (second (formula_kind ws) (separated_kind ∷ []) _ w))
+
+  in_literal : (X : Syntax PlainToken Form) → Within X (parsed.literal_form ws) → Within X (parsed.worded ws F Z)
   unfolding parsed.atom
-  literal w = behind_two (second (formula_kind ws) (name_kind ∷ []) _ (second (formula_kind ws) (keyword_kind keyword.Sizeof ∷ []) _ w))
+  in_literal X w = in_atom X (second (formula_kind ws) (name_kind ∷ []) _ (second (formula_kind ws) (null_kind ∷ []) _ w))
 
-  prefix_back : Within (production.prefix ws) (parsed.prefix_of ws F P)
-  unfolding parsed.prefix_of parsed.behind_parenthesis parsed.cast_to_type parsed.cast_to_integer parsed.cast_behind parsed.parenthesised parsed.prefixed parsed.atom parsed.named_form parsed.sized_form parsed.literal_form closed
+  named_back : Within (production.primary ws then behind) (parsed.prefix_of ws F Z P)
+  unfolding parsed.worded parsed.told_form parsed.asked_form parsed.separated_form parsed.next_zone parsed.atom parsed.named_form parsed.null_form parsed.literal_form closed
+  named_back =
+      either_before no [] behind (simple _ (in_atom _ (first (formula_kind ws) (name_kind ∷ []) _ (itself _))))
+      (either_before no [] behind (simple _ (in_literal _ (first (formula_kind ws) (number_kind ∷ []) _ (itself _))))
+      (either_before no [] behind (simple _ (in_literal _ (second (formula_kind ws) (number_kind ∷ []) _ (first (formula_kind ws) (letter_kind ∷ []) _ (itself _)))))
+      (either_before no [] behind (simple _ (in_literal _ (second (formula_kind ws) (number_kind ∷ []) _ (second (formula_kind ws) (letter_kind ∷ []) _ (itself _)))))
+      (either_before no [] behind (simple _ (in_atom _ (second (formula_kind ws) (name_kind ∷ []) _ (first (formula_kind ws) (null_kind ∷ []) _ (itself _)))))
+      (either_before no [] behind (parenthesised_back so parenthesis_in)
+      (either_before no [] behind (simple _ (first (formula_kind ws) (fact_kind ∷ []) _ (itself _)))
+      (either_before no [] behind (simple _ (second (formula_kind ws) (fact_kind ∷ []) _ (first (formula_kind ws) (question_kind ∷ []) _ (itself _))))
+      (simple _ (second (formula_kind ws) (fact_kind ∷ []) _ (second (formula_kind ws) (question_kind ∷ []) _ (first (formula_kind ws) (separated_kind ∷ []) _ (on (fixed ws separated_kind) (λ at. on (mark ws left_paren)
+      (λ _. zones_back at))))))))))))))
+
+  prefix_back : Within (production.prefix ws) (parsed.prefix_of ws F Z P)
+  unfolding parsed.prefix_of parsed.behind_parenthesis parsed.cast_to_type parsed.cast_to_integer parsed.cast_behind parsed.bare_prefix parsed.prefixed parsed.sized_form closed
   prefix_back =
       either no [] (second (formula_kind ws) (mark_kind left_paren ∷ []) _ (first (formula_kind ws) (kinds_of prefix_operators) _ (itself _)))
       (either no [] (first (formula_kind ws) (mark_kind left_paren ∷ []) _ (on (mark ws left_paren) (λ at.
       either_before no [] (behind_cast at)
       (handed_back (type_name ws (expression ws)) OfC (behind_cast at) (λ t. inl (inl refl)) so first (formula_kind ws) first_type _ (itself _))
       (handed_back (integer_word ws) (λ _. Integers) (behind_cast at) (λ t. inl (inl refl)) so second (formula_kind ws) first_type _ (first (formula_kind ws) (integer_kind ∷ []) _ (itself _))))))
-      (either no [] (behind_two (first (formula_kind ws) (name_kind ∷ []) _ (itself _)))
-      (either no [] (literal (first (formula_kind ws) (number_kind ∷ []) _ (itself _)))
-      (either no [] (literal (second (formula_kind ws) (number_kind ∷ []) _ (first (formula_kind ws) (letter_kind ∷ []) _ (itself _))))
-      (either no [] (literal (second (formula_kind ws) (number_kind ∷ []) _ (second (formula_kind ws) (letter_kind ∷ []) _ (itself _))))
-      (either no [] (first (formula_kind ws) (mark_kind left_paren ∷ []) _ (on (mark ws left_paren) (λ at. second (formula_kind ws) first_type _ (second (formula_kind ws) (integer_kind ∷ []) _ (itself _)))))
-      (behind_two (second (formula_kind ws) (name_kind ∷ []) _ (first (formula_kind ws) (keyword_kind keyword.Sizeof ∷ []) _ (itself _))))))))))
+      (either no [] (second (formula_kind ws) (mark_kind left_paren ∷ []) _ (second (formula_kind ws) (kinds_of prefix_operators) _ (first (formula_kind ws) (keyword_kind keyword.Sizeof ∷ []) _ (itself _))))
+      named_back))
 
   pub prefix_line : Same P (production.prefix ws)
-  prefix_line = both (forth (prefix_knot ws F) so prefix_forth) (prefix_back so back (prefix_knot ws F))
+  prefix_line = both (forth (prefix_knot ws F Z) so prefix_forth) (prefix_back so back (prefix_knot ws F Z))
 
   -- ---- annotations
 

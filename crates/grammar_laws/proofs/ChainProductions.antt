@@ -2,23 +2,24 @@
 use Rattle.std.proofs.Common.{◌≡◌, ℕ, zero, suc, List, [], Some, refl, sym, subst, ◌⊎◌, inl, inr}
 use Rattle.grammar.specs.Syntax.{Syntax, none, gives, one, ◌then◌, knot_at}
 use Rattle.grammar.specs.Exact.{Same}
-use Rattle.grammar.proofs.Forms.{to_left}
+use Rattle.grammar.proofs.Forms.{to_left, joined as same_so}
 use Rattle.grammar_laws.specs.Plain.{◌or◌, folded}
 use Rattle.grammar_laws.proofs.Inclusions.{Within, both, forth, back, itself, ◌so◌, either, first, second, each, nothing, on, in_turn, in_turn_where}
 use Rattle.grammar_laws.proofs.Inclusions.{after_either, handed, handed_back, given_first, given_back, at_each, at_some, apart_before, apart_after}
 use Rattle.grammar_laws.proofs.Tokens.{just, by_token, just_then, just_on, AllEntries, IsEntry, table_holds, in_table}
-use Rattle.grammar_laws.proofs.AnnotationKnots.{links_knot}
+use Rattle.grammar_laws.proofs.Chains.{still, sequence, alternatives, knot_line}
+use Rattle.grammar_laws.proofs.BareLevels.{links_of_bare, bare_links, chain_bare, shift_none}
 use Rattle.c_syntax.specs.declared.place.Place.{Place}
 use Rattle.c_syntax.specs.declared.annotation.Relation.{Relation}
-use Rattle.c_syntax.specs.Formulas.{Form, FormLinks, NoLink}
+use Rattle.c_syntax.specs.Formulas.{Form, FormLinks, NoLink, Linked, FormZone}
 use Rattle.c_syntax.specs.Tokens.{PlainToken}
 use Rattle.c_model.specs.declared.formulas.ChainDirection.{ChainDirection}
 use Rattle.c_model.specs.declared.formulas.ChainDirection.TheVariants.{Start, Equal, Up, Down, Ended}
+use Rattle.c_model.specs.declared.formulas.FormulaMode.TheVariants as mode
 use Rattle.c_model.specs.Vocabulary.{Vocabulary}
 use Rattle.c_model.specs.Terminals.{placed, entry, mark_entry}
 use Rattle.c_model.specs.ExpressionGrammar.{kinds_of}
-use Rattle.c_model.specs.AnnotationGrammar.{formula_kind, relations_behind, direction_behind, chained, form, shift, chain, chain_of, links, links_of}
-use Rattle.c_model.specs.AnnotationGrammar as parsed
+use Rattle.c_model.specs.AnnotationGrammar.{formula_kind, relations_behind, direction_behind, chained, zone, forms, form, shift, chain}
 use Rattle.grammar_laws.specs.AnnotationProductions.{upward, downward, unequal, linked, link}
 use Rattle.grammar_laws.specs.AnnotationProductions as production
 
@@ -29,12 +30,28 @@ abbrev Links : Type 1
 Links = Syntax PlainToken FormLinks
 
 module _ (ws : Vocabulary) where
+  abbrev F : Syntax PlainToken Form
+  F = form ws
+
+  abbrev Z : Syntax PlainToken FormZone
+  Z = zone ws (forms ws)
+
   abbrev R : Syntax PlainToken Form
-  R = shift ws (form ws)
+  R = production.bare ws (shift ws)
 
   -- links of the parser at most k deep, and of one table
   abbrev U : ℕ → ChainDirection → Links
-  U k d = knot_at (links_of ws R) k d
+  U k d = knot_at (links_of_bare ws R) k d
+
+  abbrev links : ChainDirection → Links
+  links d = bare_links ws R d
+
+  -- what goes on with itself is its production
+  links_line : (d : ChainDirection) → Same (links d) (links_of_bare ws R links d)
+  links_line d =
+      knot_line (links_of_bare ws R) (λ L e. inr refl) (λ L L' l e.
+      alternatives (formula_kind ws) (kinds_of (relations_behind e))
+      (sequence (still (one (placed (mark_entry (relations_behind e))))) (λ r. sequence (still R) (λ x. sequence (l (direction_behind e r.0)) (λ ls. still (gives (Linked r.1 r.0 x ls)))))) (still (gives NoLink))) d
 
   abbrev V : ℕ → List (ℕ × Relation) → Links
   V k table = knot_at {S = Unit {0}} (λ L u. (link ws table then λ l. L u then λ rest. gives (linked l rest)) or gives NoLink) k tt
@@ -82,25 +99,21 @@ module _ (ws : Vocabulary) where
 
   -- the parser's links, a turn at a time
   parser_turn : (k : ℕ) (d : ChainDirection) {Z : Links} → Within (one (placed (mark_entry (relations_behind d))) then λ r. body (U k (direction_behind d r.0)) r) Z → Within (gives NoLink) Z → Within (U (suc k) d) Z
-  unfolding links_of parsed.linked
   parser_turn k d w v = either (formula_kind ws) (kinds_of (relations_behind d)) w v
 
-  into_parser : (d : ChainDirection) → Within (one (placed (mark_entry (relations_behind d))) then λ r. body (links ws R (direction_behind d r.0)) r) (links_of ws R (links ws R) d)
-  unfolding links_of parsed.linked
+  into_parser : (d : ChainDirection) → Within (one (placed (mark_entry (relations_behind d))) then λ r. body (links (direction_behind d r.0)) r) (links_of_bare ws R links d)
   into_parser d = first (formula_kind ws) (kinds_of (relations_behind d)) (gives NoLink) (itself _)
 
-  end_parser : (d : ChainDirection) → Within (gives NoLink) (links_of ws R (links ws R) d)
-  unfolding links_of parsed.linked
+  end_parser : (d : ChainDirection) → Within (gives NoLink) (links_of_bare ws R links d)
   end_parser d = second (formula_kind ws) (kinds_of (relations_behind d)) _ (itself (gives NoLink))
 
-  to_parser : (d : ChainDirection) → Within (one (placed (mark_entry (relations_behind d))) then λ r. body (links ws R (direction_behind d r.0)) r) (links ws R d)
-  to_parser d = into_parser d so back (links_knot ws R d)
+  to_parser : (d : ChainDirection) → Within (one (placed (mark_entry (relations_behind d))) then λ r. body (links (direction_behind d r.0)) r) (links d)
+  to_parser d = into_parser d so back (links_line d)
 
-  ends_parser : (d : ChainDirection) → Within (gives NoLink) (links ws R d)
-  ends_parser d = end_parser d so back (links_knot ws R d)
+  ends_parser : (d : ChainDirection) → Within (gives NoLink) (links d)
+  ends_parser d = end_parser d so back (links_line d)
 
-  links_empty : (d : ChainDirection) → (links ws R d).begun []
-  unfolding links
+  links_empty : (d : ChainDirection) → (links d).begun []
   links_empty d = (0, refl)
 
   -- ---- which way a chain goes on
@@ -117,11 +130,11 @@ module _ (ws : Vocabulary) where
         (in_turn_where (itself (one (placed (mark_entry (relations_behind d))))) (λ x a r. body_within x (subst (λ c. Within (U k c) (V k (relations_behind d))) (sym (stays r.0 x r.2)) (one_way k)))
         so turn k (relations_behind d)) (second no [] _ (itself (gives NoLink)))
 
-    one_way_back : (k : ℕ) → Within (V k (relations_behind d)) (links ws R d)
-    one_way_back zero = nothing (links ws R d) (links_empty d)
+    one_way_back : (k : ℕ) → Within (V k (relations_behind d)) (links d)
+    one_way_back zero = nothing (links d) (links_empty d)
     one_way_back (suc k) =
         turn_back k (relations_behind d)
-        (in_turn_where (itself (one (placed (mark_entry (relations_behind d))))) (λ x a r. body_within x (subst (λ c. Within (V k (relations_behind d)) (links ws R c)) (sym (stays r.0 x r.2)) (one_way_back k)))
+        (in_turn_where (itself (one (placed (mark_entry (relations_behind d))))) (λ x a r. body_within x (subst (λ c. Within (V k (relations_behind d)) (links c)) (sym (stays r.0 x r.2)) (one_way_back k)))
         so to_parser d) (ends_parser d)
 
   up_forth : (k : ℕ) → Within (U k Up) (V k upward)
@@ -228,8 +241,7 @@ module _ (ws : Vocabulary) where
   start_forth zero = first no [] (none or N) (itself none)
   start_forth (suc k) = parser_turn k Start (by_token (inl (V_empty (suc k) upward)) (start_token k)) (first no [] _ (second no [] _ (itself (gives NoLink))))
 
-  start_links : Within (links ws R Start) (W upward or W downward or N)
-  unfolding links
+  start_links : Within (links Start) (W upward or W downward or N)
   start_links = at_each (λ k. start_forth k so each no [] no [] (at_some (λ n. V n upward) k) (each no [] no [] (at_some (λ n. V n downward) k) (itself N)))
 
   -- ---- and back
@@ -237,73 +249,71 @@ module _ (ws : Vocabulary) where
   abbrev Back : ChainDirection → ChainDirection → ℕ → Relation → Type 0
   Back d way m r = (entry m (relations_behind d) ≡ Some r) × ((direction_behind d r ≡ way) ⊎ (direction_behind d r ≡ Equal))
 
-  way_back : (d way : ChainDirection) (table : List (ℕ × Relation)) → AllEntries (Back d way) table → (k : ℕ) → Within (V k table) (links ws R way) → Within (V k table) (links ws R Equal) → Within (V (suc k) table) (links ws R d)
+  way_back : (d way : ChainDirection) (table : List (ℕ × Relation)) → AllEntries (Back d way) table → (k : ℕ) → Within (V k table) (links way) → Within (V k table) (links Equal) → Within (V (suc k) table) (links d)
   way_back d way table all k on_way equal =
       turn_back k table
       (by_token (inl (inl refl)) (λ t x e.
       let s = by t x e (table_holds (Back d way) table t x all e) in
-      just_then t x (λ r. body (V k table) r) (λ r. body (links ws R (direction_behind d r.0)) r) s.0 (body_within x s.1))
+      just_then t x (λ r. body (V k table) r) (λ r. body (links (direction_behind d r.0)) r) s.0 (body_within x s.1))
       so to_parser d) (ends_parser d)
     where
       by : (t : PlainToken) (x : Relation × Place) → placed (mark_entry table) t ≡ Some x → IsEntry (Back d way) t.kind x.0
-          → (placed (mark_entry (relations_behind d)) t ≡ Some x) × Within (V k table) (links ws R (direction_behind d x.0))
-      by t x e (m, q, (p, inl g)) = (in_table table (relations_behind d) t x m e q p, subst (λ c. Within (V k table) (links ws R c)) (sym g) on_way)
-      by t x e (m, q, (p, inr g)) = (in_table table (relations_behind d) t x m e q p, subst (λ c. Within (V k table) (links ws R c)) (sym g) equal)
+          → (placed (mark_entry (relations_behind d)) t ≡ Some x) × Within (V k table) (links (direction_behind d x.0))
+      by t x e (m, q, (p, inl g)) = (in_table table (relations_behind d) t x m e q p, subst (λ c. Within (V k table) (links c)) (sym g) on_way)
+      by t x e (m, q, (p, inr g)) = (in_table table (relations_behind d) t x m e q p, subst (λ c. Within (V k table) (links c)) (sym g) equal)
 
-  up_back : (k : ℕ) → Within (V k upward) (links ws R Up)
+  up_back : (k : ℕ) → Within (V k upward) (links Up)
   up_back = one_way_back Up (refl, (refl, (refl, tt)))
 
-  down_back : (k : ℕ) → Within (V k downward) (links ws R Down)
+  down_back : (k : ℕ) → Within (V k downward) (links Down)
   down_back = one_way_back Down (refl, (refl, (refl, tt)))
 
-  equal_up_back : (k : ℕ) → Within (V k upward) (links ws R Equal)
-  equal_up_back zero = nothing (links ws R Equal) (links_empty Equal)
+  equal_up_back : (k : ℕ) → Within (V k upward) (links Equal)
+  equal_up_back zero = nothing (links Equal) (links_empty Equal)
   equal_up_back (suc k) = way_back Equal Up upward ((refl, inl refl), ((refl, inl refl), ((refl, inr refl), tt))) k (up_back k) (equal_up_back k)
 
-  equal_down_back : (k : ℕ) → Within (V k downward) (links ws R Equal)
-  equal_down_back zero = nothing (links ws R Equal) (links_empty Equal)
+  equal_down_back : (k : ℕ) → Within (V k downward) (links Equal)
+  equal_down_back zero = nothing (links Equal) (links_empty Equal)
   equal_down_back (suc k) = way_back Equal Down downward ((refl, inl refl), ((refl, inl refl), ((refl, inr refl), tt))) k (down_back k) (equal_down_back k)
 
-  start_up_back : (k : ℕ) → Within (V k upward) (links ws R Start)
-  start_up_back zero = nothing (links ws R Start) (links_empty Start)
+  start_up_back : (k : ℕ) → Within (V k upward) (links Start)
+  start_up_back zero = nothing (links Start) (links_empty Start)
   start_up_back (suc k) = way_back Start Up upward ((refl, inl refl), ((refl, inl refl), ((refl, inr refl), tt))) k (up_back k) (equal_up_back k)
 
-  start_down_back : (k : ℕ) → Within (V k downward) (links ws R Start)
-  start_down_back zero = nothing (links ws R Start) (links_empty Start)
+  start_down_back : (k : ℕ) → Within (V k downward) (links Start)
+  start_down_back zero = nothing (links Start) (links_empty Start)
   start_down_back (suc k) = way_back Start Down downward ((refl, inl refl), ((refl, inl refl), ((refl, inr refl), tt))) k (down_back k) (equal_down_back k)
 
   abbrev Alone : (ℕ → Relation → Type 0)
   Alone m r = (entry m (relations_behind Start) ≡ Some r) × (direction_behind Start r ≡ Ended)
 
-  start_alone_back : Within N (links ws R Start)
+  start_alone_back : Within N (links Start)
   start_alone_back = alone_back so by_token (inl (inl refl)) alone_token so to_parser Start
     where
-      by : (t : PlainToken) (x : Relation × Place) → placed (mark_entry unequal) t ≡ Some x → IsEntry Alone t.kind x.0 → (placed (mark_entry (relations_behind Start)) t ≡ Some x) × Within (gives NoLink) (links ws R (direction_behind Start x.0))
-      by t x e (m, q, (p, g)) = (in_table unequal (relations_behind Start) t x m e q p, subst (λ c. Within (gives NoLink) (links ws R c)) (sym g) (ends_parser Ended))
+      by : (t : PlainToken) (x : Relation × Place) → placed (mark_entry unequal) t ≡ Some x → IsEntry Alone t.kind x.0 → (placed (mark_entry (relations_behind Start)) t ≡ Some x) × Within (gives NoLink) (links (direction_behind Start x.0))
+      by t x e (m, q, (p, g)) = (in_table unequal (relations_behind Start) t x m e q p, subst (λ c. Within (gives NoLink) (links c)) (sym g) (ends_parser Ended))
 
       alone_token : (t : PlainToken) (x : Relation × Place) → placed (mark_entry unequal) t ≡ Some x
-          → Within (just t x then λ r. R then λ y. gives (linked (r.0, r.1, y) NoLink)) (one (placed (mark_entry (relations_behind Start))) then λ r. body (links ws R (direction_behind Start r.0)) r)
+          → Within (just t x then λ r. R then λ y. gives (linked (r.0, r.1, y) NoLink)) (one (placed (mark_entry (relations_behind Start))) then λ r. body (links (direction_behind Start r.0)) r)
       alone_token t x e =
           let s = by t x e (table_holds Alone unequal t x ((refl, refl), tt) e) in
-          just_then t x (λ r. R then λ y. gives (linked (r.0, r.1, y) NoLink)) (λ r. body (links ws R (direction_behind Start r.0)) r) s.0 (on R (λ y. given_back NoLink (ending x y) so in_turn s.1 (λ rest. itself _)))
+          just_then t x (λ r. R then λ y. gives (linked (r.0, r.1, y) NoLink)) (λ r. body (links (direction_behind Start r.0)) r) s.0 (on R (λ y. given_back NoLink (ending x y) so in_turn s.1 (λ rest. itself _)))
 
   -- ---- chains
 
   abbrev end : Form → FormLinks → Syntax PlainToken Form
   end x links = gives (chained x links)
 
-  chain_forth : Within (chain ws (form ws)) (production.chain ws)
-  unfolding chain_of
+  chain_forth : Within (R then λ x. links Start then end x) (production.chain ws)
   chain_forth =
       on R (λ x. in_turn start_links (λ ls. itself _) so apart_before no [] (W upward) (W downward or N) (end x) so each no [] no [] (itself _) (apart_before no [] (W downward) N (end x)))
       so apart_after no [] R (λ x. W upward then end x) (λ x. (W downward then end x) or (N then end x))
       so each no [] no [] (itself _) (apart_after no [] R (λ x. W downward then end x) (λ x. N then end x))
 
-  chain_back : Within (production.chain ws) (chain ws (form ws))
-  unfolding chain_of
+  chain_back : Within (production.chain ws) (R then λ x. links Start then end x)
   chain_back =
       either no [] (on R (λ x. in_turn (at_each start_up_back) (λ ls. itself _)))
       (either no [] (on R (λ x. in_turn (at_each start_down_back) (λ ls. itself _))) (on R (λ x. in_turn start_alone_back (λ ls. itself _))))
 
-  pub chain_line : Same (chain ws (form ws)) (production.chain ws)
-  chain_line = both chain_forth chain_back
+  pub chain_line : Same (production.bare ws (chain ws)) (production.chain ws)
+  chain_line = same_so (chain_bare ws (shift ws F Z mode.Alone) (shift_none ws F Z)) (both chain_forth chain_back)

@@ -152,7 +152,7 @@ module _ {T S A : Type 0} (F : (S → Syntax T A) → S → Syntax T A) (empty :
   rising_at (suc j) zero l s = absurd (omega arith)
   rising_at (suc j) (suc k) l s = grown (knot_at F j) (knot_at F k) (rising_at j k (omega arith)) s
 
-  reached : (s : S) → Reaches (λ k. knot_at F k s) (knot F s)
+  pub reached : (s : S) → Reaches (λ k. knot_at F k s) (knot F s)
   reached s = record {
     up = λ j k l. rising_at j k l s;
     into = λ k. record { reads = λ a x r. (k, r); begun = λ a r. (k, r); late = λ i a t r. (k, r) };

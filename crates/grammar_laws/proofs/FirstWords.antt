@@ -16,11 +16,13 @@ use Rattle.c_syntax.specs.Tokens.{PlainTokenKind, PlainToken}
 use Rattle.c_model.specs.declared.vocabulary.IntegerWords.{IntegerWords}
 use Rattle.c_model.specs.declared.vocabulary.Keyword.{Keyword}
 use Rattle.c_model.specs.declared.vocabulary.Keyword.TheVariants as keyword
+use Rattle.c_model.specs.declared.vocabulary.LogicWord.{LogicWord}
+use Rattle.c_model.specs.declared.vocabulary.LogicWord.TheVariants as logic
 use Rattle.c_model.specs.declared.vocabulary.Word.{Word}
 use Rattle.c_model.specs.declared.vocabulary.Word.TheVariants as word
 use Rattle.c_model.specs.Vocabulary.{Vocabulary, word_at, no_words, words_with, integer_type}
 use Rattle.c_model.specs.Terminals.{placed}
-use Rattle.c_model.specs.ExpressionGrammar.{kind, word_kind, token_kind, keyword_kind, words_behind, named_type, type_named_by, TypeStart, ConstStart, VoidStart, StructStart, EnumStart}
+use Rattle.c_model.specs.ExpressionGrammar.{kind, word_kind, token_kind, keyword_kind, logic_word_kind, words_behind, named_type, type_named_by, TypeStart, ConstStart, VoidStart, StructStart, EnumStart}
 use Rattle.c_model.specs.ExpressionGrammar.{NameStart, IntegerStart, reserved, any_name, keyword_of, next_words, integer_word, typedef_name_of, base, consts, type_words, type_start_of, type_start, type_behind}
 use Rattle.grammar_laws.specs.ExpressionProductions as production
 
@@ -36,20 +38,33 @@ pub record IsAlone (k : Keyword) : Type 0 where
   pub only : (w : Word) → eqb (word_kind w) (keyword_kind k) ≡ true → w ≡ word.Keyword k
   pub same : eqb (keyword_kind k) (keyword_kind k) ≡ true
 
+-- no word of annotations has the kind of a keyword
+no_logic_word : (w : LogicWord) (k : ℕ) → 9 ≤ k → k ≤ 34 → eqb (logic_word_kind w) k ≡ true → ⊥
+no_logic_word (logic.Truth b) k l g h = let e = eqb-true 5 k h in omega (arith, l, e)
+no_logic_word logic.Null k l g h = let e = eqb-true 35 k h in omega (arith, g, e)
+no_logic_word (logic.Told f) k l g h = let e = eqb-true 36 k h in omega (arith, g, e)
+no_logic_word (logic.Asks q) k l g h = let e = eqb-true 37 k h in omega (arith, g, e)
+no_logic_word logic.Separated k l g h = let e = eqb-true 38 k h in omega (arith, g, e)
+no_logic_word logic.Kept k l g h = let e = eqb-true 5 k h in omega (arith, l, e)
+
 const_only : (w : Word) → eqb (word_kind w) (keyword_kind keyword.Const) ≡ true → w ≡ word.Keyword keyword.Const
 const_only (word.Keyword keyword.Const) e = refl
+const_only (word.Logic w) e = absurd (no_logic_word w (keyword_kind keyword.Const) (omega arith) (omega arith) e)
 const_only _ e = absurd cc
 
 void_only : (w : Word) → eqb (word_kind w) (keyword_kind keyword.Void) ≡ true → w ≡ word.Keyword keyword.Void
 void_only (word.Keyword keyword.Void) e = refl
+void_only (word.Logic w) e = absurd (no_logic_word w (keyword_kind keyword.Void) (omega arith) (omega arith) e)
 void_only _ e = absurd cc
 
 struct_only : (w : Word) → eqb (word_kind w) (keyword_kind keyword.Struct) ≡ true → w ≡ word.Keyword keyword.Struct
 struct_only (word.Keyword keyword.Struct) e = refl
+struct_only (word.Logic w) e = absurd (no_logic_word w (keyword_kind keyword.Struct) (omega arith) (omega arith) e)
 struct_only _ e = absurd cc
 
 enum_only : (w : Word) → eqb (word_kind w) (keyword_kind keyword.Enum) ≡ true → w ≡ word.Keyword keyword.Enum
 enum_only (word.Keyword keyword.Enum) e = refl
+enum_only (word.Logic w) e = absurd (no_logic_word w (keyword_kind keyword.Enum) (omega arith) (omega arith) e)
 enum_only _ e = absurd cc
 
 const_alone : IsAlone keyword.Const

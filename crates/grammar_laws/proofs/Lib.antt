@@ -2,9 +2,14 @@
 pub mod Inclusions
 pub mod Chains
 pub mod Tokens
+pub mod Spans
+pub mod Ends
 -- what stands in itself
 pub mod ExpressionKnots
 pub mod AnnotationKnots
+pub mod BareLevels
+pub mod SumTurns
+pub mod ZoneLevels
 -- productions
 pub mod ExpressionProductions
 pub mod TypeProductions

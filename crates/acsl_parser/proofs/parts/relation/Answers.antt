@@ -4,7 +4,7 @@ use Rattle.grammar.specs.Syntax.{one}
 use Rattle.c_syntax.specs.declared.annotation.Relation.{Relation}
 use Rattle.c_model.specs.Terminals.{placed, mark_entry}
 use Rattle.token_reader.specs.Reading.{Gives, plain_list}
-use Rattle.acsl_parser.proofs.formula.relation.Goals as goal
+use Rattle.acsl_parser.proofs.parts.relation.Goals as goal
 
 pub returns-clause-read : goal.returns-clause-read
 returns-clause-read c =
