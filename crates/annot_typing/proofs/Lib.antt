@@ -1,7 +1,8 @@
 -- the sorts of forms
-pub mod Places
+pub mod Kept
 pub mod Parts
 pub mod Relations
+pub mod Zones
 -- types that stand in them
 pub mod Sizes
 pub mod Casts

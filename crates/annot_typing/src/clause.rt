@@ -7,8 +7,8 @@ ghost use Rattle.c_model.specs.PredicateTyping.{typed_annotations, typed_clause}
 ghost use Rattle.c_scopes.specs.Answers.{Answers};
 ghost use Rattle.c_scopes.specs.Sights.{plain_sight};
 
-use crate::demand::as_predicate;
-use crate::form::type_form;
+use crate::demand::clause_holds;
+use crate::form::type_value;
 use c_scopes::fault::TypeFault;
 use c_scopes::sight::Sight;
 use c_syntax::logic::{Annot, Body, Formula};
@@ -19,8 +19,8 @@ use std::mem::replace;
 fn type_truth(alloc: Global, sight: &Sight, f: &Formula) -> Result<Body, TypeFault>
     ensures { Answers plain_body (typed_clause (plain_sight sight.now) (Raw (plain_form f.now))) result }
 {
-    let a = type_form(alloc, sight, f)?;
-    let p = as_predicate(alloc, a)?;
+    let a = type_value(alloc, sight, f)?;
+    let p = clause_holds(alloc, a)?;
     Ok(Body::Truth(p))
 }
 

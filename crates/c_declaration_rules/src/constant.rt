@@ -13,10 +13,9 @@ ghost use Rattle.c_declaration_rules.specs.Initialisers.{allowed_where};
 ghost use Rattle.c_declaration_rules.specs.Statics.{address_spot, difference_of, element_of, member_spot, object_size, place_spot};
 ghost use Rattle.c_declaration_rules.specs.Statics.{pointer_of, stepped, taken_spot};
 
-use crate::layout::size_of;
 use c_conversions::conversion::{is_array, is_pointer, pointed};
 use c_expression_rules::constant::constant;
-use c_scopes::limits::small_size;
+use c_scopes::limits::{size_of, small_size};
 use c_scopes::sight::Sight;
 use c_syntax::layout::{offset_in_target, offset_of_member};
 use c_syntax::{BinOp, CType, Expr, ExprKind, Layout, UnOp, Use};

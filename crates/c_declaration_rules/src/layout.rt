@@ -1,17 +1,16 @@
 //! The layout of structs (C99 6.7.2.1 p13): each member stands at the next multiple of its alignment, and so does the end.
 
-ghost use Rattle.std.specs.Prelude.{◌≡◌, ◌<◌, ◌+◌, IfOk, OnOk, map, slice_get, suc};
+ghost use Rattle.std.specs.Prelude.{◌≡◌, ◌<◌, ◌+◌, IfOk, OnOk, map, suc};
 ghost use Rattle.c_syntax.specs.Ctypes.{plain_type};
 ghost use Rattle.c_syntax.specs.Programs.{plain_layout, plain_member};
-ghost use Rattle.c_syntax.specs.Layouts.{align_of, align_of_struct, aligned, size_of};
+ghost use Rattle.c_syntax.specs.Layouts.{align_of, aligned, size_of};
 ghost use Rattle.c_model.specs.ExpressionTyping.{HasSize, levels_behind_pointer, levels_of, sized};
 ghost use Rattle.c_model.specs.DeclarationTyping.{end_of, greater, placed_from, widest};
 ghost use Rattle.c_declaration_rules.specs.Layouts.{IsLaidBehind};
 ghost use Rattle.c_declaration_rules.specs.OpenStructs.{AreSized, IsLaid};
 
-use c_scopes::limits::{KnownSize, number, sized, small_size};
+use c_scopes::limits::{KnownSize, align_of, number, size_of, sized};
 use c_scopes::sight::number_at;
-use c_syntax::layout::int_size;
 use c_syntax::{CType, Layout, Member};
 use std::alloc::AllocError;
 
@@ -21,29 +20,6 @@ pub struct Grown {
     pub offset: u32,
     pub size: u64,
     pub align: u32,
-}
-
-/// The alignment of the struct of a number, 1 where there is none.
-fn align_of_struct(structs: &[Layout], n: u32) -> u32
-    ensures { result ≡ align_of_struct (slice_get (map plain_layout structs.now) n) }
-{
-    match structs.get(n as usize) {
-        Some(layout) => layout.align,
-        None => 1,
-    }
-}
-
-/// The alignment of a type.
-pub fn align_of(structs: &[Layout], t: &CType) -> u32
-    ensures { result ≡ align_of (map plain_layout structs.now) (plain_type t.now) }
-{
-    match t {
-        CType::Int(k) => int_size(*k),
-        CType::Ptr(_) => 8,
-        CType::Array(u, _) => align_of(structs, u),
-        CType::Struct(n) => align_of_struct(structs, *n),
-        CType::Void | CType::Named(_) | CType::StructTag(..) | CType::EnumTag(..) => 1,
-    }
 }
 
 /// The least multiple of an alignment that is no less.
@@ -64,16 +40,6 @@ pub fn greater(a: u32, b: u32) -> u32
     ensures { result ≡ greater a b }
 {
     if a < b { b } else { a }
-}
-
-/// The size of a type within the limit; one past it wants memory.
-pub fn size_of(structs: &[Layout], t: &CType) -> Result<u32, AllocError>
-    ensures { IfOk result (λ n. n ≡ size_of (map plain_layout structs.now) (plain_type t.now)) }
-{
-    match small_size(structs, t) {
-        Some(n) => Ok(n),
-        None => Err(AllocError),
-    }
 }
 
 /// Where a member ends that has a size and stands by the layout behind this offset; there are no others in structs that were laid out.

@@ -24,7 +24,7 @@ use c_syntax::{CInt, CType, Expr, ExprKind, Place, Use};
 use std::alloc::{AllocError, Global};
 
 /// Whether the name is `NULL`.
-fn is_null_word(sight: &Sight, name: u32) -> bool
+pub fn is_null_word(sight: &Sight, name: u32) -> bool
     ensures { result ≡ is_null_word (plain_sight sight.now) name }
 {
     name_at(&sight.names, name) == b"NULL".as_slice()

@@ -1,15 +1,15 @@
-//! Whether the size of a type is known (C99 6.2.5 p1), and the limits on types (C99 5.2.4.1).
+//! Whether the size of a type is known (C99 6.2.5 p1), sizes and alignments, and the limits on types (C99 5.2.4.1).
 
 ghost use Rattle.std.specs.Prelude.{◌≡◌, IfOk, map, nat_le, slice_get};
 ghost use Rattle.c_syntax.specs.Ctypes.{plain_type};
 ghost use Rattle.c_syntax.specs.Programs.{plain_layout};
-ghost use Rattle.c_syntax.specs.Layouts.{size_of};
+ghost use Rattle.c_syntax.specs.Layouts.{align_of, align_of_struct, size_of};
 ghost use Rattle.c_model.specs.ExpressionTyping.{has_small_parts, is_known, is_within_limits, levels_behind_pointer, levels_of, sized};
 ghost use Rattle.c_scopes.specs.Limits.{plain_sized, small};
 ghost use Rattle.c_scopes.specs.Sights.{plain_sight};
 
 use crate::sight::{Sight, number_at};
-use c_syntax::layout::checked_size;
+use c_syntax::layout::{checked_size, int_size};
 use c_syntax::{CType, Layout, Length};
 use std::alloc::AllocError;
 
@@ -103,6 +103,39 @@ pub fn small_size(structs: &[Layout], t: &CType) -> Option<u32>
     ensures { result ≡ small (size_of (map plain_layout structs.now) (plain_type t.now)) }
 {
     small(checked_size(structs, t)?)
+}
+
+/// The size of a type within the limit, in bytes; one past it wants memory.
+pub fn size_of(structs: &[Layout], t: &CType) -> Result<u32, AllocError>
+    ensures { IfOk result (λ n. n ≡ size_of (map plain_layout structs.now) (plain_type t.now)) }
+{
+    match small_size(structs, t) {
+        Some(n) => Ok(n),
+        None => Err(AllocError),
+    }
+}
+
+/// The alignment of the struct of a number in bytes, 1 where there is none.
+fn align_of_struct(structs: &[Layout], n: u32) -> u32
+    ensures { result ≡ align_of_struct (slice_get (map plain_layout structs.now) n) }
+{
+    match structs.get(n as usize) {
+        Some(layout) => layout.align,
+        None => 1,
+    }
+}
+
+/// The alignment of a type in bytes.
+pub fn align_of(structs: &[Layout], t: &CType) -> u32
+    ensures { result ≡ align_of (map plain_layout structs.now) (plain_type t.now) }
+{
+    match t {
+        CType::Int(k) => int_size(*k),
+        CType::Ptr(_) => 8,
+        CType::Array(u, _) => align_of(structs, u),
+        CType::Struct(n) => align_of_struct(structs, *n),
+        CType::Void | CType::Named(_) | CType::StructTag(..) | CType::EnumTag(..) => 1,
+    }
 }
 
 /// Whether a type and the types in it have few enough bytes.

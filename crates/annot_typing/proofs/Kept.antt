@@ -1,0 +1,53 @@
+-- A term keeps its place and its type.
+use Rattle.std.proofs.Common.{◌≡◌, refl, ap, Option, option_map}
+use Rattle.c_syntax.specs.declared.place.Place.{Place}
+use Rattle.c_syntax.specs.declared.annotation.Range.{Range}
+use Rattle.c_syntax.specs.declared.logic.Term.{Term}
+use Rattle.c_syntax.specs.declared.logic.TermKind.{TermKind}
+use Rattle.c_syntax.specs.declared.logic.TermKind as term
+use Rattle.c_syntax.specs.declared.logic.PredKind as pred
+use Rattle.c_syntax.specs.Ctypes.{PlainType, plain_type}
+use Rattle.c_syntax.specs.Logic.{NonZero, plain_term_kind, plain_term, plain_pred_kind}
+use Rattle.c_model.specs.PredicateTyping.{place_of_term, type_of_term}
+
+place_is : (at : Place) (k : TermKind) (t : Option PlainType) (r : Range) → place_of_term (plain_term_kind at k t r) ≡ at
+place_is at (term.Number n) t r = refl
+place_is at (term.Letter n) t r = refl
+place_is at (term.Variable x) t r = refl
+place_is at (term.Unary' op pa p a ta ra) t r = refl
+place_is at (term.Binary' op pa p a ta ra pb q b tb rb) t r = refl
+place_is at (term.Cast' to pa p a ta ra) t r = refl
+place_is at (term.Choice' pc o c pa p a ta ra pb q b tb rb) t r = refl
+place_is at term.Null t r = refl
+place_is at (term.Deref' pa p a ta ra) t r = refl
+place_is at (term.Member' d pa p a ta ra) t r = refl
+place_is at (term.Address' pa p a ta ra) t r = refl
+place_is at (term.Moved' op n pa p a ta ra pb q b tb rb) t r = refl
+place_is at (term.Difference' n pa p a ta ra pb q b tb rb) t r = refl
+place_is at (term.Told' f pa p a ta ra) t r = refl
+
+type_is : (at : Place) (k : TermKind) (t : Option PlainType) (r : Range) → type_of_term (plain_term_kind at k t r) ≡ t
+type_is at (term.Number n) t r = refl
+type_is at (term.Letter n) t r = refl
+type_is at (term.Variable x) t r = refl
+type_is at (term.Unary' op pa p a ta ra) t r = refl
+type_is at (term.Binary' op pa p a ta ra pb q b tb rb) t r = refl
+type_is at (term.Cast' to pa p a ta ra) t r = refl
+type_is at (term.Choice' pc o c pa p a ta ra pb q b tb rb) t r = refl
+type_is at term.Null t r = refl
+type_is at (term.Deref' pa p a ta ra) t r = refl
+type_is at (term.Member' d pa p a ta ra) t r = refl
+type_is at (term.Address' pa p a ta ra) t r = refl
+type_is at (term.Moved' op n pa p a ta ra pb q b tb rb) t r = refl
+type_is at (term.Difference' n pa p a ta ra pb q b tb rb) t r = refl
+type_is at (term.Told' f pa p a ta ra) t r = refl
+
+pub place_kept : (t : Term) → place_of_term (plain_term t) ≡ t.place
+place_kept t = place_is t.place t.kind.value (option_map plain_type t.ctype) t.range
+
+pub type_kept : (t : Term) → type_of_term (plain_term t) ≡ option_map plain_type t.ctype
+type_kept t = type_is t.place t.kind.value (option_map plain_type t.ctype) t.range
+
+-- a term as a predicate
+pub non_zero : (t : Term) → NonZero (place_of_term (plain_term t)) (plain_term t) ≡ plain_pred_kind t.place (pred.NonZero t)
+non_zero t = ap (λ at. NonZero at (plain_term t)) (place_kept t)
