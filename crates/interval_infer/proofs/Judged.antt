@@ -9,7 +9,7 @@ use Rattle.c_model.specs.SoundJudgements.{IsValueIn, IsSoundJudgement}
 use Rattle.c_model.specs.SoundStates.{IsSound}
 use Rattle.c_model.specs.State.{State}
 use Rattle.c_model.specs.TypedTrees.{WhereAny}
-use Rattle.interval_infer.specs.Judged.{seen_in, seen_with, FitsThere, SoundJudgementsFit, TermsLieThere, JudgedTermsLieInRanges}
+use Rattle.interval_infer.specs.Judged.{seen_in, seen_with, SoundJudgementsFit, TermsLieThere, JudgedTermsLieInRanges}
 use Rattle.interval_infer.specs.Terms.{NamesFit}
 use Rattle.c_model.proofs.JudgedPrograms.{judged_states_are_sound}
 use Rattle.c_model.proofs.SoundLoads.{placed_are_near}

@@ -1,9 +1,8 @@
 -- A form whose parts have their ranges has its own, or is refused.
-use Rattle.std.proofs.Common.{◌≡◌, [], refl, sym, ap, ◌∙◌, subst, Option, Some, None, Result, Ok, Err, option_map}
+use Rattle.std.proofs.Common.{◌≡◌, ℕ, Bool, true, false, [], refl, sym, ap, ◌∙◌, subst, Option, Some, None, Result, Ok, Err, option_map}
 use Rattle.c_syntax.specs.declared.place.Place.{Place}
 use Rattle.c_syntax.specs.declared.annotation.Range.{Range}
 use Rattle.c_syntax.specs.declared.annotation.Relation.{Relation}
-use Rattle.c_syntax.specs.declared.expression.BinOp.{BinOp}
 use Rattle.c_syntax.specs.declared.expression.UnOp.{UnOp}
 use Rattle.c_syntax.specs.declared.expression.Use.{Use}
 use Rattle.c_syntax.specs.declared.logic.LogicType.{LogicType}
@@ -15,19 +14,26 @@ use Rattle.c_syntax.specs.declared.logic.PredKind as pred
 use Rattle.c_syntax.specs.declared.logic.Term.{Term}
 use Rattle.c_syntax.specs.declared.logic.TermKind.{TermKind}
 use Rattle.c_syntax.specs.declared.logic.TermKind as term
+use Rattle.c_syntax.specs.declared.logic.Zone as code_zone
+use Rattle.c_syntax.specs.declared.logic.ZoneKind.{ZoneKind}
+use Rattle.c_syntax.specs.declared.logic.ZoneKind as zone
+use Rattle.c_syntax.specs.declared.logic.Zones as code_zones
 use Rattle.c_syntax.specs.Ctypes.{PlainType, plain_type}
 use Rattle.c_syntax.specs.Formulas.{plain_cast_type}
-use Rattle.c_syntax.specs.Logic.{LogicTerm, Variable, Unary, Binary, Cast, Choice, Linked, Predicate, Chain, Connected, Branch}
-use Rattle.c_syntax.specs.Logic.{range_of, plain_term_kind, plain_term, plain_links, plain_pred_kind, plain_pred}
-use Rattle.c_model.specs.Checked.{Checked, Good, one_part, both_parts, pair_of, given}
-use Rattle.c_model.specs.TermRanges.{place_range, unary_range, binary_range, cast_range, hull, no_range, ranged_term, ranged_links, ranged_pred}
+use Rattle.c_syntax.specs.Logic.{LogicTerm, Variable, Unary, Cast, Choice, Linked, Predicate, Chain, Connected, Branch}
+use Rattle.c_syntax.specs.Logic.{Deref, Member, Address, Zone, Elements, Another}
+use Rattle.c_syntax.specs.Logic.{range_of, plain_term_kind, plain_term, plain_links, plain_pred_kind, plain_pred, plain_zone_kind, plain_zones}
+use Rattle.c_model.specs.Checked.{Checked, Good, Bad, one_part, both_parts, pair_of, given, where_so, refusing}
+use Rattle.c_model.specs.TermRanges.{place_range, unary_range, cast_range, hull, no_range, ranged_term, ranged_links, ranged_pred, ranged_zone}
+use Rattle.c_model.specs.TermRanges.{ranged_zones, TermRanged, address_range, held_range, member_range, has_extent}
 use Rattle.c_model.specs.Ranges.{IsRange}
 use Rattle.c_model.proofs.RangedTrees.{ranging_keeps_terms}
 use Rattle.c_scopes.specs.declared.fault.TypeFault.{TypeFault}
 use Rattle.c_scopes.specs.declared.fault.TypeFault.TheVariants.{Refused, Memory}
 use Rattle.c_scopes.specs.Answers.{Answers, both}
-use Rattle.c_scopes.proofs.Least.{both_answers, both_made, both_refused, one_then}
-use Rattle.interval_infer.specs.Answers.{or_no_range}
+use Rattle.c_scopes.proofs.Least.{both_answers, both_made, both_refused}
+use Rattle.interval_infer.specs.Answers as answer
+use Rattle.interval_infer.specs.Answers.{or_no_range, plain_zone}
 use Rattle.interval_infer.proofs.Sound.{ranges_are_ordered}
 
 -- the range of a tree's plain form is that of the tree
@@ -39,8 +45,15 @@ kept_range at (term.Unary' op pa p a ta ra) t r = refl
 kept_range at (term.Binary' op pa p a ta ra pb q b tb rb) t r = refl
 kept_range at (term.Cast' to pa p a ta ra) t r = refl
 kept_range at (term.Choice' pc o c pa p a ta ra pb q b tb rb) t r = refl
+kept_range at term.Null t r = refl
+kept_range at (term.Deref' pa p a ta ra) t r = refl
+kept_range at (term.Member' d pa p a ta ra) t r = refl
+kept_range at (term.Address' pa p a ta ra) t r = refl
+kept_range at (term.Moved' op n pa p a ta ra pb q b tb rb) t r = refl
+kept_range at (term.Difference' n pa p a ta ra pb q b tb rb) t r = refl
+kept_range at (term.Told' f pa p a ta ra) t r = refl
 
-range_is : (a : Term) → range_of (plain_term a) ≡ a.range
+pub range_is : (a : Term) → range_of (plain_term a) ≡ a.range
 range_is a = kept_range a.place a.kind.value (option_map plain_type a.ctype) a.range
 
 given_answers : (o : Option Range) (at : Place) (form : Range → LogicTerm) → Answers form (given o (no_range at) (λ s. Good (form s))) (or_no_range o at)
@@ -51,44 +64,66 @@ given_answers (Some r) at form = refl
 abbrev pub Is : Term → Result (Unit {0}) TypeFault → Term → Type 0
 Is a q a' = Answers (λ (u : Unit {0}). plain_term a') (ranged_term [] (plain_term a)) q
 
--- a range that comes of that of one part
+-- a range that comes of what a part is
+part_ranged : {A : Type 0} (rule : A → Option Range) (form : Range → A → LogicTerm) (at : Place) (m : Checked A) (x : A) (z : Result Range TypeFault) → m ≡ Good x → z ≡ or_no_range (rule x) at
+    → Answers (λ s. form s x) (one_part m (λ b. given (rule b) (no_range at) (λ s. Good (form s b)))) z
+part_ranged rule form at m x z is e =
+    subst (λ c. Answers (λ s. form s x) (one_part c (λ b. given (rule b) (no_range at) (λ s. Good (form s b)))) z) (sym is)
+    (subst (Answers (λ s. form s x) (given (rule x) (no_range at) (λ s. Good (form s x)))) (sym e) (given_answers (rule x) at (λ s. form s x)))
+
+-- one that comes of that of a term
 one_ranged : (rule : Range → Option Range) (form : Range → LogicTerm → LogicTerm) (at : Place) (a a' : Term) (z : Result Range TypeFault) → Is a (Ok tt) a' → z ≡ or_no_range (rule a'.range) at
     → Answers (λ s. form s (plain_term a')) (one_part (ranged_term [] (plain_term a)) (λ b. given (rule (range_of b)) (no_range at) (λ s. Good (form s b)))) z
 one_ranged rule form at a a' z ha e =
-    one_then (λ b. given (rule (range_of b)) (no_range at) (λ s. Good (form s b))) (λ (u : Unit {0}). plain_term a') (λ s. form s (plain_term a')) (ranged_term [] (plain_term a)) tt z ha
-    (subst (Answers (λ s. form s (plain_term a')) (given (rule (range_of (plain_term a'))) (no_range at) (λ s. Good (form s (plain_term a'))))) (sym (e ∙ ap (λ r. or_no_range (rule r) at) (sym (range_is a'))))
-    (given_answers (rule (range_of (plain_term a'))) at (λ s. form s (plain_term a'))))
+    part_ranged (λ b. rule (range_of b)) form at (ranged_term [] (plain_term a)) (plain_term a') z ha (e ∙ ap (λ r. or_no_range (rule r) at) (sym (range_is a')))
+
+-- what comes of two parts comes of them as one
+pair_then : {A B C : Type 0} (k : A → B → Checked C) (m : Checked A) (n : Checked B) → both_parts m n k ≡ one_part (pair_of m n) (λ ab. k ab.0 ab.1)
+pair_then k (Good a) (Good b) = refl
+pair_then k (Good a) (Bad g gs) = refl
+pair_then k (Bad f fs) (Good b) = refl
+pair_then k (Bad f fs) (Bad g gs) = refl
 
 -- what two parts are, of which neither is refused
-record BothGood (a a' b b' : Term) : Type 0 where
-  left : ranged_term [] (plain_term a) ≡ Good (plain_term a')
-  right : ranged_term [] (plain_term b) ≡ Good (plain_term b')
+record Parts {A B : Type 0} (m : Checked A) (n : Checked B) (x : A) (y : B) : Type 0 where
+  left : m ≡ Good x
+  right : n ≡ Good y
 
-both_good : (a a' b b' : Term) (q r : Result (Unit {0}) TypeFault) (u : Unit {0}) → Is a q a' → Is b r b' → both q r ≡ Ok u → BothGood a a' b b'
-both_good a a' b b' (Ok x) (Ok y) u ha hb e = record { left = ha; right = hb }
-both_good a a' b b' (Ok x) (Err g) u ha hb e = absurd cc
-both_good a a' b b' (Err f) (Ok y) u ha hb e = absurd cc
-both_good a a' b b' (Err f) (Err g) u ha hb e = absurd cc
+good_parts : {A B : Type 0} (m : Checked A) (n : Checked B) (x : A) (y : B) (q r : Result (Unit {0}) TypeFault) (u : Unit {0}) → Answers (λ (v : Unit {0}). x) m q → Answers (λ (v : Unit {0}). y) n r → both q r ≡ Ok u → Parts m n x y
+good_parts m n x y (Ok v) (Ok w) u hm hn e = record { left = hm; right = hn }
+good_parts m n x y (Ok v) (Err g) u hm hn e = absurd cc
+good_parts m n x y (Err f) (Ok w) u hm hn e = absurd cc
+good_parts m n x y (Err f) (Err g) u hm hn e = absurd cc
 
--- a range that comes of those of two parts
-two_ranged : (rule : Range → Range → Option Range) (form : Range → LogicTerm → LogicTerm → LogicTerm) (at : Place) (a a' b b' : Term) (z : Result Range TypeFault) → BothGood a a' b b' → z ≡ or_no_range (rule a'.range b'.range) at
-    → Answers (λ s. form s (plain_term a') (plain_term b')) (both_parts (ranged_term [] (plain_term a)) (ranged_term [] (plain_term b)) (λ a b. given (rule (range_of a) (range_of b)) (no_range at) (λ s. Good (form s a b)))) z
-two_ranged rule form at a a' b b' z h e =
-    subst (λ m. Answers (λ s. form s (plain_term a') (plain_term b')) (both_parts m (ranged_term [] (plain_term b)) (λ a b. given (rule (range_of a) (range_of b)) (no_range at) (λ s. Good (form s a b)))) z) (sym h.left)
-    (subst (λ n. Answers (λ s. form s (plain_term a') (plain_term b')) (both_parts (Good (plain_term a')) n (λ a b. given (rule (range_of a) (range_of b)) (no_range at) (λ s. Good (form s a b)))) z) (sym h.right)
-    (subst (Answers (λ s. form s (plain_term a') (plain_term b')) (given (rule (range_of (plain_term a')) (range_of (plain_term b'))) (no_range at) (λ s. Good (form s (plain_term a') (plain_term b')))))
-    (sym (e ∙ ap (λ r. or_no_range (rule r b'.range) at) (sym (range_is a')) ∙ ap (λ r. or_no_range (rule (range_of (plain_term a')) r) at) (sym (range_is b'))))
-    (given_answers (rule (range_of (plain_term a')) (range_of (plain_term b'))) at (λ s. form s (plain_term a') (plain_term b')))))
+-- the range of a term has a number in it
+pub in_order : (at : Place) (k k' : TermKind) (t : Option PlainType) (r s : Range) → ranged_term [] (plain_term_kind at k t r) ≡ Good (plain_term_kind at k' t s) → IsRange s
+in_order at k k' t r s e =
+    subst IsRange (kept_range at k' t s) (ranges_are_ordered [] (plain_term_kind at k' t s) tt (ranging_keeps_terms [] (plain_term_kind at k t r) (plain_term_kind at k' t s) e).ranged)
 
 -- a refusal is one whatever the tree would be
 pub refused_too : {T S A : Type 0} (p : T → A) (q : S → A) (c : Checked A) (f : TypeFault) → Answers p c (Err f) → Answers q c (Err f)
 refused_too p q c (Refused f) h = h
 refused_too p q c Memory h = tt
 
--- the range of a term has a number in it
-pub in_order : (at : Place) (k k' : TermKind) (t : Option PlainType) (r s : Range) → ranged_term [] (plain_term_kind at k t r) ≡ Good (plain_term_kind at k' t s) → IsRange s
-in_order at k k' t r s e =
-    subst IsRange (kept_range at k' t s) (ranges_are_ordered [] (plain_term_kind at k' t s) tt (ranging_keeps_terms [] (plain_term_kind at k t r) (plain_term_kind at k' t s) e).ranged)
+-- a place that a pointer points to has the pointer's range for its address
+pub pointed_address : (at : Place) (k : TermKind) (t : Option PlainType) (r : Range) (a : Term) → k ≡ term.Deref a → Some a.range ≡ address_range (plain_term_kind at k t r)
+pointed_address at k t r a is = subst (λ x. Some a.range ≡ address_range (plain_term_kind at x t r)) (sym is) (ap Some (sym (range_is a)))
+
+pub pointed_ordered : (at : Place) (k : TermKind) (t : Option PlainType) (r : Range) (a : Term) → k ≡ term.Deref a → TermRanged [] (plain_term_kind at k t r) → IsRange a.range
+pointed_ordered at k t r a is h = subst IsRange (range_is a) (ranges_are_ordered [] (plain_term a) tt (subst (λ x. TermRanged [] (plain_term_kind at x t r)) is h).1)
+
+-- two terms of which one is refused
+pub two_refused : (a a' b b' : Term) (q v : Result (Unit {0}) TypeFault) (h : TypeFault) → Is a q a' → Is b v b' → both q v ≡ Err h
+    → Answers (λ (r : Range × Range). (plain_term a', plain_term b')) (pair_of (ranged_term [] (plain_term a)) (ranged_term [] (plain_term b))) (Err h)
+two_refused a a' b b' q v h ha hb j =
+    let m = ranged_term [] (plain_term a) in
+    let n = ranged_term [] (plain_term b) in
+    refused_too (λ (u : Unit {0}). (plain_term a', plain_term b')) (λ (r : Range × Range). (plain_term a', plain_term b')) (pair_of m n) h
+    (both_answers (λ (u : Unit {0}). plain_term a') (λ (u : Unit {0}). plain_term b') m n q v (Err h) ha hb j)
+
+-- the ranges that a term is given are right
+pub keeps_ranges : (a a' : Term) → Is a (Ok tt) a' → TermRanged [] (plain_term a')
+keeps_ranges a a' h = (ranging_keeps_terms [] (plain_term a) (plain_term a') h).ranged
 
 -- ---- terms in their places: the form, its parts before and after, and what they answer
 
@@ -112,19 +147,45 @@ module _ (at : Place) (k : TermKind) (t : Option PlainType) (r : Range)
     cast_in_place to a a' z is ha e =
         at_kind (term.Cast to a) (λ s. Cast at t s (plain_cast_type to) (plain_term a')) z is (one_ranged (cast_range (plain_cast_type to)) (λ s. Cast at t s (plain_cast_type to)) at a a' z ha e)
 
-    module _ (op : BinOp) (a a' b b' : Term) (q v : Result (Unit {0}) TypeFault) (is : k ≡ term.Binary op a b) (ha : Is a q a') (hb : Is b v b')
-      where
-        pub binary_in_place : (u : Unit {0}) (z : Result Range TypeFault) → both q v ≡ Ok u → z ≡ or_no_range (binary_range op a'.range b'.range) at
-            → Answers (λ s. Binary at t s op (plain_term a') (plain_term b')) (ranged_term [] (plain_term_kind at k t r)) z
-        binary_in_place u z j e =
-            at_kind (term.Binary op a b) (λ s. Binary at t s op (plain_term a') (plain_term b')) z is
-            (two_ranged (binary_range op) (λ s. Binary at t s op) at a a' b b' z (both_good a a' b b' q v u ha hb j) e)
+    pub deref_in_place : (a a' : Term) (z : Result Range TypeFault) → k ≡ term.Deref a → Is a (Ok tt) a' → z ≡ or_no_range (held_range t (Some a'.range)) at
+        → Answers (λ s. Deref at t s (plain_term a')) (ranged_term [] (plain_term_kind at k t r)) z
+    deref_in_place a a' z is ha e =
+        at_kind (term.Deref a) (λ s. Deref at t s (plain_term a')) z is (one_ranged (λ x. held_range t (Some x)) (λ s. Deref at t s) at a a' z ha e)
 
-        pub binary_refused : (h : TypeFault) (form : Range → LogicTerm) → both q v ≡ Err h → Answers form (ranged_term [] (plain_term_kind at k t r)) (Err h)
-        binary_refused h form j =
-            at_kind (term.Binary op a b) form (Err h) is
-            (both_refused (λ a b. given (binary_range op (range_of a) (range_of b)) (no_range at) (λ s. Good (Binary at t s op a b))) (λ (u : Unit {0}). plain_term a') (λ (u : Unit {0}). plain_term b') form
-            (ranged_term [] (plain_term a)) (ranged_term [] (plain_term b)) q v h ha hb j)
+    pub member_in_place : (d : ℕ) (a a' : Term) (z : Result Range TypeFault) → k ≡ term.Member d a → Is a (Ok tt) a' → z ≡ or_no_range (held_range t (member_range d (address_range (plain_term a')))) at
+        → Answers (λ s. Member at t s d (plain_term a')) (ranged_term [] (plain_term_kind at k t r)) z
+    member_in_place d a a' z is ha e =
+        at_kind (term.Member d a) (λ s. Member at t s d (plain_term a')) z is
+        (part_ranged (λ b. held_range t (member_range d (address_range b))) (λ s. Member at t s d) at (ranged_term [] (plain_term a)) (plain_term a') z ha e)
+
+    pub address_in_place : (a a' : Term) (z : Result Range TypeFault) → k ≡ term.Address a → Is a (Ok tt) a' → z ≡ or_no_range (address_range (plain_term a')) at
+        → Answers (λ s. Address at t s (plain_term a')) (ranged_term [] (plain_term_kind at k t r)) z
+    address_in_place a a' z is ha e = at_kind (term.Address a) (λ s. Address at t s (plain_term a')) z is (part_ranged address_range (λ s. Address at t s) at (ranged_term [] (plain_term a)) (plain_term a') z ha e)
+
+    -- a form whose range comes of those of two parts
+    module _ (rule : Range → Range → Option Range) (form : Range → LogicTerm → LogicTerm → LogicTerm) (k' : TermKind) (a a' b b' : Term)
+        (by : ranged_term [] (plain_term_kind at k' t r)
+        ≡ both_parts (ranged_term [] (plain_term a)) (ranged_term [] (plain_term b)) (λ a b. given (rule (range_of a) (range_of b)) (no_range at) (λ s. Good (form s a b))))
+        (is : k ≡ k')
+      where
+        abbrev parts : Checked (LogicTerm × LogicTerm)
+        parts = pair_of (ranged_term [] (plain_term a)) (ranged_term [] (plain_term b))
+
+        abbrev ranged_of : LogicTerm × LogicTerm → Checked LogicTerm
+        ranged_of ab = given (rule (range_of ab.0) (range_of ab.1)) (no_range at) (λ s. Good (form s ab.0 ab.1))
+
+        of_parts : ranged_term [] (plain_term_kind at k t r) ≡ one_part parts ranged_of
+        of_parts =
+            ap (λ x. ranged_term [] (plain_term_kind at x t r)) is
+            ∙ by
+            ∙ pair_then (λ a b. given (rule (range_of a) (range_of b)) (no_range at) (λ s. Good (form s a b))) (ranged_term [] (plain_term a)) (ranged_term [] (plain_term b))
+
+        pub two_in_place : (z : Result Range TypeFault) → parts ≡ Good (plain_term a', plain_term b') → z ≡ or_no_range (rule a'.range b'.range) at
+            → Answers (λ s. form s (plain_term a') (plain_term b')) (ranged_term [] (plain_term_kind at k t r)) z
+        two_in_place z h e =
+            subst (λ c. Answers (λ s. form s (plain_term a') (plain_term b')) c z) (sym of_parts)
+            (part_ranged (λ ab. rule (range_of ab.0) (range_of ab.1)) (λ s ab. form s ab.0 ab.1) at parts (plain_term a', plain_term b') z h
+            (e ∙ (λ i. or_no_range (rule (sym (range_is a') i) (sym (range_is b') i)) at)))
 
     module _ (c c' : Pred) (a a' b b' : Term) (p q v w : Result (Unit {0}) TypeFault) (is : k ≡ term.Choice c a b)
         (hc : Answers (λ (u : Unit {0}). plain_pred c') (ranged_pred [] (plain_pred c)) p) (ha : Is a q a') (hb : Is b v b') (g : both q v ≡ w)
@@ -185,3 +246,53 @@ pub links_in_place : (at : Place) (r : Relation) (a a' : Term) (l l' : code_link
     → Answers (λ (u : Unit {0}). Linked at r (plain_term a') (plain_links l')) (ranged_links [] (Linked at r (plain_term a) (plain_links l))) z
 links_in_place at r a a' l l' q v z ha hl j =
     both_made (Linked at r) (λ (u : Unit {0}). plain_term a') (λ (u : Unit {0}). plain_links l') (ranged_term [] (plain_term a)) (ranged_links [] (plain_links l)) q v z ha hl (sym j)
+
+-- ---- zones in their places
+
+-- what a zone in its place is
+abbrev pub IsZone : code_zone.Zone → Result (Unit {0}) TypeFault → code_zone.Zone → Type 0
+IsZone z q z' = Answers (λ (u : Unit {0}). plain_zone z') (ranged_zone [] (plain_zone z)) q
+
+module _ (at : Place) (n m : ℕ) (k : ZoneKind) (a a' b b' c c' : Term) (p q v w : Result (Unit {0}) TypeFault) (is : k ≡ zone.Elements a b c)
+    (ha : Is a p a') (hb : Is b q b') (hc : Is c v c') (g : both q v ≡ w)
+  where
+    abbrev where_inside : Bool → LogicTerm → LogicTerm × LogicTerm → Checked Zone
+    where_inside t x yz = where_so t (no_range at) (Good (Elements at n m x yz.0 yz.1))
+
+    abbrev extends : LogicTerm → LogicTerm × LogicTerm → Checked Zone
+    extends x yz = where_inside (has_extent n (range_of x) (range_of yz.0) (range_of yz.1)) x yz
+
+    ends : Answers (λ (u : Unit {0}). (plain_term b', plain_term c')) (pair_of (ranged_term [] (plain_term b)) (ranged_term [] (plain_term c))) w
+    ends = both_answers (λ (u : Unit {0}). plain_term b') (λ (u : Unit {0}). plain_term c') (ranged_term [] (plain_term b)) (ranged_term [] (plain_term c)) q v w hb hc g
+
+    elements_are : (u : Unit {0}) (t : Bool) → both p w ≡ Ok u → has_extent n a'.range b'.range c'.range ≡ t
+        → ranged_zone [] (plain_zone_kind at n m k) ≡ where_inside t (plain_term a') (plain_term b', plain_term c')
+    elements_are u t j e =
+        let pair = pair_of (ranged_term [] (plain_term b)) (ranged_term [] (plain_term c)) in
+        let good = good_parts (ranged_term [] (plain_term a)) pair (plain_term a') (plain_term b', plain_term c') p w u ha ends j in
+        ap (λ x. ranged_zone [] (plain_zone_kind at n m x)) is
+        ∙ ap (λ x. both_parts x pair extends) good.left
+        ∙ ap (λ x. both_parts (Good (plain_term a')) x extends) good.right
+        ∙ (λ i. where_inside (has_extent n (range_is a' i) (range_is b' i) (range_is c' i)) (plain_term a') (plain_term b', plain_term c'))
+        ∙ ap (λ x. where_inside x (plain_term a') (plain_term b', plain_term c')) e
+
+    -- a zone whose bytes lie within 128 bits, and one that is refused
+    pub elements_in_place : (u : Unit {0}) → both p w ≡ Ok u → has_extent n a'.range b'.range c'.range ≡ true
+        → ranged_zone [] (plain_zone_kind at n m k) ≡ Good (Elements at n m (plain_term a') (plain_term b') (plain_term c'))
+    elements_in_place u j e = elements_are u true j e
+
+    pub elements_outside : (u : Unit {0}) (h : TypeFault) (form : Unit {0} → Zone) → both p w ≡ Ok u → has_extent n a'.range b'.range c'.range ≡ false → h ≡ answer.no_range at
+        → Answers form (ranged_zone [] (plain_zone_kind at n m k)) (Err h)
+    elements_outside u h form j e is = subst (λ x. Answers form (ranged_zone [] (plain_zone_kind at n m k)) (Err x)) (sym is) (ap refusing (elements_are u false j e))
+
+    pub elements_refused : (h : TypeFault) (form : Unit {0} → Zone) → both p w ≡ Err h → Answers form (ranged_zone [] (plain_zone_kind at n m k)) (Err h)
+    elements_refused h form j =
+        subst (λ x. Answers form (ranged_zone [] (plain_zone_kind at n m x)) (Err h)) (sym is)
+        (both_refused extends (λ (u : Unit {0}). plain_term a') (λ (u : Unit {0}). (plain_term b', plain_term c')) form (ranged_term [] (plain_term a))
+        (pair_of (ranged_term [] (plain_term b)) (ranged_term [] (plain_term c))) p w h ha ends j)
+
+-- a zone and those after it
+pub zones_in_place : (z z' : code_zone.Zone) (l l' : code_zones.Zones) (q v w : Result (Unit {0}) TypeFault) → IsZone z q z' → Answers (λ (u : Unit {0}). plain_zones l') (ranged_zones [] (plain_zones l)) v → w ≡ both q v
+    → Answers (λ (u : Unit {0}). Another (plain_zone z') (plain_zones l')) (ranged_zones [] (Another (plain_zone z) (plain_zones l))) w
+zones_in_place z z' l l' q v w hz hl j =
+    both_made Another (λ (u : Unit {0}). plain_zone z') (λ (u : Unit {0}). plain_zones l') (ranged_zone [] (plain_zone z)) (ranged_zones [] (plain_zones l)) q v w hz hl (sym j)

@@ -373,7 +373,7 @@ mutual
   ranges_are_ordered seen (Difference at t r n a b) v h = subst IsRange h.0 distance_ordered
   ranges_are_ordered seen (Told at t r f a) v h = subst IsRange h.0 (told_ordered f)
 
-  addresses_ordered : (seen : Seen) (t : LogicTerm) (r : Range) → AreSeen IsRange seen → TermRanged seen t → address_range t ≡ Some r → IsRange r
+  pub addresses_ordered : (seen : Seen) (t : LogicTerm) (r : Range) → AreSeen IsRange seen → TermRanged seen t → address_range t ≡ Some r → IsRange r
   addresses_ordered seen (Variable at t q x) r v h e = subst IsRange (some_is offset_range r e) offsets_ordered
   addresses_ordered seen (Deref at t q a) r v h e = subst IsRange (some_is (range_of a) r e) (ranges_are_ordered seen a v h.1)
   addresses_ordered seen (Member at t q d a) r v h e =

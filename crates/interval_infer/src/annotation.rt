@@ -1,17 +1,24 @@
 //! Ranges over whole trees. Faults of all parts are met before one is chosen: the first of them in the text.
 
-ghost use Rattle.std.specs.Prelude.{IfErr, OnOk, [], map, option_map};
+ghost use Rattle.std.specs.Prelude.{◌≡◌, ℕ, IfErr, IfOk, IfSome, OnOk, [], map, option_map};
 ghost use Rattle.c_syntax.specs.declared.place.Place.{Place};
 ghost use Rattle.c_syntax.specs.declared.annotation.Range.{Range};
 ghost use Rattle.c_syntax.specs.Ctypes.{plain_type};
 ghost use Rattle.c_syntax.specs.Logic.{plain_annot, plain_body, plain_links, plain_pred, plain_pred_kind, plain_term, plain_term_kind};
+ghost use Rattle.c_syntax.specs.Logic.{plain_zone_kind, plain_zones};
+ghost use Rattle.c_model.specs.Checked.{pair_of};
 ghost use Rattle.c_model.specs.Ranges.{IsRange};
-ghost use Rattle.c_model.specs.TermRanges.{ranged_annotations, ranged_clause, ranged_links, ranged_pred, ranged_term};
+ghost use Rattle.c_model.specs.TermRanges.{address_range, ranged_annotations, ranged_clause, ranged_links, ranged_pred, ranged_term, ranged_zone, ranged_zones};
 ghost use Rattle.c_scopes.specs.Answers.{Answers, IsRefusal};
+ghost use Rattle.interval_infer.specs.Answers.{plain_zone};
 
-use crate::form::{binary_range, cast_range, hull, or_no_range, place_range, unary_range};
+use crate::form::{binary_range, cast_range, hull, no_range, or_no_range, unary_range};
+use crate::pointer::{
+    address_range, distance_range, exactly, has_extent, held_range, member_range, moved_range,
+    place_range, start_range, told_range,
+};
 use c_scopes::fault::{TypeFault, both};
-use c_syntax::logic::{Annot, Body, Links, Pred, PredKind, Term, TermKind};
+use c_syntax::logic::{Annot, Body, Links, Pred, PredKind, Term, TermKind, Zone, ZoneKind, Zones};
 use c_syntax::{CType, Place, Range};
 
 /// Sets the ranges of a term and of all terms in it.
@@ -33,26 +40,15 @@ fn range_kind(at: Place, ctype: &Option<CType>, kind: &mut TermKind) -> Result<R
     ensures sure { IfErr result IsRefusal }
 {
     match kind {
-        TermKind::Number(n) => Ok(Range { lo: *n, hi: *n }),
-        TermKind::Letter(n) => Ok(Range {
-            lo: i128::from(*n),
-            hi: i128::from(*n),
-        }),
+        TermKind::Number(n) => Ok(exactly(*n)),
+        TermKind::Letter(n) => Ok(exactly(i128::from(*n))),
         TermKind::Variable(_) => or_no_range(place_range(ctype), at),
-        TermKind::Unary(op, a) => {
-            range_term(a)?;
-            or_no_range(unary_range(*op, a.range), at)
-        }
+        TermKind::Unary(op, a) => or_no_range(unary_range(*op, range_one(a)?), at),
         TermKind::Binary(op, a, b) => {
-            let first = range_term(a);
-            let second = range_term(b);
-            both(first, second)?;
-            or_no_range(binary_range(*op, a.range, b.range), at)
+            let (first, second) = range_two(a, b)?;
+            or_no_range(binary_range(*op, first, second), at)
         }
-        TermKind::Cast(to, a) => {
-            range_term(a)?;
-            or_no_range(cast_range(to, a.range), at)
-        }
+        TermKind::Cast(to, a) => or_no_range(cast_range(to, range_one(a)?), at),
         TermKind::Choice(c, a, b) => {
             let condition = range_pred(c);
             let first = range_term(a);
@@ -60,6 +56,113 @@ fn range_kind(at: Place, ctype: &Option<CType>, kind: &mut TermKind) -> Result<R
             let branches = both(first, second);
             both(condition, branches)?;
             Ok(hull(a.range, b.range))
+        }
+        TermKind::Null => Ok(start_range()),
+        TermKind::Deref(a) => or_no_range(held_range(ctype, Some(range_one(a)?)), at),
+        TermKind::Member(offset, a) => {
+            let address = member_range(*offset, range_place(a)?);
+            or_no_range(held_range(ctype, address), at)
+        }
+        TermKind::Address(a) => or_no_range(range_place(a)?, at),
+        TermKind::Moved(op, size, a, b) => {
+            let (pointer, count) = range_two(a, b)?;
+            or_no_range(moved_range(*op, *size, pointer, count), at)
+        }
+        TermKind::Difference(_, a, b) => {
+            range_two(a, b)?;
+            Ok(distance_range())
+        }
+        TermKind::Told(fact, a) => {
+            range_term(a)?;
+            Ok(told_range(*fact))
+        }
+    }
+}
+
+/// Sets the ranges of a term and of all terms in it, and gives its own.
+#[cycle(ranges)]
+fn range_one(t: &mut Term) -> Result<Range, TypeFault>
+    ensures ranged { Answers (λ _. plain_term t.new) (ranged_term [] (plain_term t.old)) result }
+    ensures sure { IfErr result IsRefusal }
+    ensures value { IfOk result (λ r. r ≡ t.new.range) }
+    ensures ordered { IfOk result IsRange }
+{
+    range_term(t)?;
+    Ok(t.range)
+}
+
+/// Sets the ranges of a place and of all terms in it, and gives that of its address. A term that is no place has none.
+#[cycle(ranges)]
+fn range_place(t: &mut Term) -> Result<Option<Range>, TypeFault>
+    ensures ranged { Answers (λ _. plain_term t.new) (ranged_term [] (plain_term t.old)) result }
+    ensures sure { IfErr result IsRefusal }
+    ensures address { IfOk result (λ o. o ≡ address_range (plain_term t.new)) }
+    ensures ordered { IfOk result (λ o. IfSome o IsRange) }
+{
+    range_term(t)?;
+    Ok(address_range(t))
+}
+
+/// Sets the ranges of two terms and of all terms in them, and gives their own.
+#[cycle(ranges)]
+fn range_two(a: &mut Term, b: &mut Term) -> Result<(Range, Range), TypeFault>
+    ensures ranged { Answers (λ _. (plain_term a.new, plain_term b.new))
+        (pair_of (ranged_term [] (plain_term a.old)) (ranged_term [] (plain_term b.old))) result }
+    ensures sure { IfErr result IsRefusal }
+    ensures left { IfOk result (λ r. r.0 ≡ a.new.range) }
+    ensures right { IfOk result (λ r. r.1 ≡ b.new.range) }
+    ensures ordered { IfOk result (λ r. IsRange r.0 × IsRange r.1) }
+{
+    let first = range_term(a);
+    let second = range_term(b);
+    both(first, second)?;
+    Ok((a.range, b.range))
+}
+
+/// Sets the ranges of the terms in a zone.
+#[cycle(ranges)]
+fn range_zone(z: &mut Zone) -> Result<(), TypeFault>
+    ensures ranged { Answers (λ _. plain_zone z.new) (ranged_zone [] (plain_zone z.old)) result }
+    ensures sure { IfErr result IsRefusal }
+{
+    range_zone_kind(z.place, z.size, &mut z.kind)
+}
+
+// Those of a zone of this form, whose elements have a size in bytes.
+#[cycle(ranges)]
+fn range_zone_kind(at: Place, size: u32, kind: &mut ZoneKind) -> Result<(), TypeFault>
+    ensures ranged { (align : ℕ) → Answers (λ _. plain_zone_kind at size align kind.new) (ranged_zone [] (plain_zone_kind at size align kind.old)) result }
+    ensures sure { IfErr result IsRefusal }
+{
+    match kind {
+        ZoneKind::Object(a) => range_term(a),
+        ZoneKind::Elements(a, lo, hi) => {
+            let pointer = range_term(a);
+            let first = range_term(lo);
+            let second = range_term(hi);
+            let bounds = both(first, second);
+            both(pointer, bounds)?;
+            if has_extent(size, a.range, lo.range, hi.range) {
+                Ok(())
+            } else {
+                Err(no_range(at))
+            }
+        }
+    }
+}
+
+/// Sets the ranges of the terms in zones.
+#[cycle(ranges)]
+fn range_zones(zones: &mut Zones) -> Result<(), TypeFault>
+    ensures ranged { Answers (λ _. plain_zones zones.new) (ranged_zones [] (plain_zones zones.old)) result }
+    ensures sure { IfErr result IsRefusal }
+{
+    match zones {
+        Zones::End => Ok(()),
+        Zones::More(z, rest) => {
+            let first = range_zone(z);
+            let others = range_zones(rest);
+            both(first, others)
         }
     }
 }
@@ -115,6 +218,8 @@ fn range_pred_kind(kind: &mut PredKind) -> Result<(), TypeFault>
             let branches = both(first, second);
             both(condition, branches)
         }
+        PredKind::Asks(_, z) => range_zone(z),
+        PredKind::Separated(zones) => range_zones(zones),
     }
 }
 

@@ -1,12 +1,12 @@
 //! The range of each form of terms, from those of its parts.
 
-ghost use Rattle.std.specs.Prelude.{◌≡◌, IfErr, Some, if◌then◌else◌, option_map};
+ghost use Rattle.std.specs.Prelude.{◌≡◌, IfErr, if◌then◌else◌};
 ghost use Rattle.c_syntax.specs.Ctypes.{plain_type};
 ghost use Rattle.c_syntax.specs.Formulas.{OfC, plain_cast_type};
 ghost use Rattle.c_model.specs.Ranges.{IsRange};
-ghost use Rattle.c_model.specs.TermRanges.{binary_range, cast_range, held_range, hull, is_inside, offset_range, place_range, unary_range};
+ghost use Rattle.c_model.specs.TermRanges.{binary_range, cast_range, hull, is_inside, unary_range};
 ghost use Rattle.c_scopes.specs.Answers.{IsRefusal};
-ghost use Rattle.interval_infer.specs.Answers.{or_no_range};
+ghost use Rattle.interval_infer.specs.Answers.{no_range, or_no_range};
 
 use c_scopes::fault::{Fault, TypeFault};
 use c_syntax::logic::LogicType;
@@ -22,42 +22,19 @@ pub fn or_no_range(range: Option<Range>, at: Place) -> Result<Range, TypeFault>
 {
     match range {
         Some(range) => Ok(range),
-        None => Err(TypeFault::Refused(Fault {
-            code: code::RANGE,
-            place: at,
-        })),
+        None => Err(no_range(at)),
     }
 }
 
-/// The offsets of a pointer that is read, and of an object's place.
-fn offset_range() -> Range
-    ensures { result ≡ offset_range }
+/// The refusal of a term or a zone, at its place.
+pub fn no_range(at: Place) -> TypeFault
+    ensures is { result ≡ no_range at }
+    ensures sure { IsRefusal result }
 {
-    Range {
-        lo: 0,
-        hi: 4_294_967_296,
-    }
-}
-
-/// The values that a place of a type holds, where it has any: those of an integer type, and of any other the offsets of pointers.
-fn held_range(ctype: &CType) -> Option<Range>
-    ensures { result ≡ held_range (Some (plain_type ctype.now)) (Some offset_range) }
-{
-    match ctype {
-        CType::Int(k) => Some(type_range(*k)),
-        CType::Ptr(_) | CType::Array(_, _) | CType::Struct(_) => Some(offset_range()),
-        _ => None,
-    }
-}
-
-/// The values that a place of a C type holds.
-pub fn place_range(ctype: &Option<CType>) -> Option<Range>
-    ensures { result ≡ place_range (option_map plain_type ctype.now) }
-{
-    match ctype {
-        None => None,
-        Some(ctype) => held_range(ctype),
-    }
+    TypeFault::Refused(Fault {
+        code: code::RANGE,
+        place: at,
+    })
 }
 
 /// The range of `+`, `-` or `~` of a term.

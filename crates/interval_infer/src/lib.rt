@@ -7,6 +7,7 @@
 mod annotation;
 mod form;
 pub mod laws;
+mod pointer;
 mod program;
 mod statement;
 
