@@ -1,18 +1,25 @@
 -- Code takes registers behind those taken before.
-use Rattle.std.proofs.Common.{◌≤◌, Bool, true, false, if◌then◌else◌, List, [], ◌∷◌, ◌++◌, length, length-append, arith}
+use Rattle.std.proofs.Common.{◌≡◌, ◌≤◌, refl, Option, Some, None, Bool, true, false, if◌then◌else◌, List, [], ◌∷◌, ◌++◌, length, length-append, arith}
 use Rattle.c_syntax.specs.declared.expression.BinOp.{BinOp}
 use Rattle.c_syntax.specs.declared.logic.Connective.{Connective}
 use Rattle.c_syntax.specs.declared.logic.Connective.TheVariants.{And, Xor, Or, Implies, Iff}
-use Rattle.c_syntax.specs.Logic.{LogicTerm, Links, NoLink, Linked, Predicate, range_of}
+use Rattle.c_syntax.specs.declared.annotation.Relation.{Relation}
+use Rattle.c_syntax.specs.declared.annotation.Relation.TheVariants as relation
+use Rattle.c_syntax.specs.Ctypes.{PlainType}
+use Rattle.c_syntax.specs.Ctypes as ctype
+use Rattle.c_syntax.specs.Logic.{LogicTerm, Links, NoLink, Linked, Zone, Zones, NoZone, Another, Predicate, range_of}
 use Rattle.c_syntax.specs.Logic as logic
 use Rattle.c_syntax.specs.Programs.{TranslationUnit}
 use Rattle.c_model.specs.Ranges.{width_of_range}
 use Rattle.mon_syntax.specs.declared.tree.MonType.{MonType}
-use Rattle.mon_syntax.specs.declared.tree.MonType.TheVariants.{I32}
+use Rattle.mon_syntax.specs.declared.tree.MonType.TheVariants.{I32, I64, I128, Ptr}
 use Rattle.mon_syntax.specs.Registers.{Bindings}
 use Rattle.mon_syntax.specs.Trees.{MonExpression}
-use Rattle.annot_code.specs.Code.{term_type, Reading}
-use Rattle.annot_code.specs.Code.{Code, operated, is_total, variable_code, is_known, connected, left_first, both_asked, is_sure, relation_code, term_code, chain_code, pred_code, sure_readings, sure_readings_of_term, known_at_right, sure_code}
+use Rattle.c_effects.specs.Expressions.{pointer_to}
+use Rattle.mem_preds.specs.Questions.{type_of_fact}
+use Rattle.annot_code.specs.Pointers.{PointerCode, start_pointer, null_code, member_code, pointer_there, addresses_code}
+use Rattle.annot_code.specs.Code.{term_type, Reading, Side, OfNumber, OfPointer, used_by, side_by, again, related_code, is_pointer_term, is_null_term, pointer_code, place_code, zone_code, zones_code}
+use Rattle.annot_code.specs.Code.{Code, operated, is_total, variable_code, is_known, connected, left_first, both_asked, is_sure, term_code, chain_code, pred_code, sure_readings, sure_readings_of_term, known_at_right}
 use Rattle.annot_code.specs.Code.{type_of_width, working, width_of, type_of, binary_value}
 
 pub longer : (rs ts : List MonType) → length rs ≤ length (rs ++ ts)
@@ -36,6 +43,40 @@ connected_grows c p q = by (is_sure q)
     by : (t : Bool) → length q.used ≤ length (if t then both_asked c p q else left_first c p q).used
     by true = omega arith
     by false = first c
+
+pub there_grows : (known : Bool) (t : Option PlainType) (c : PointerCode) → length c.used ≤ length (pointer_there known t c).used
+there_grows true (Some (ctype.Ptr u)) c = longer c.used (Ptr ∷ [])
+there_grows false (Some (ctype.Ptr u)) c = longer c.used (I32 ∷ Ptr ∷ [])
+there_grows known (Some (ctype.Array u n)) c = omega arith
+there_grows known (Some (ctype.Int k)) c = omega arith
+there_grows known (Some (ctype.Struct n)) c = omega arith
+there_grows known (Some ctype.Void) c = omega arith
+there_grows known (Some (ctype.Named x)) c = omega arith
+there_grows known (Some (ctype.StructTag x tag)) c = omega arith
+there_grows known (Some (ctype.EnumTag x at)) c = omega arith
+there_grows known None c = omega arith
+
+pub addresses_grows : (r : Relation) (m n : Bool) (c d : PointerCode) → length d.used ≤ length (addresses_code r m n c d).used
+addresses_grows relation.Eq m n c d = longer d.used (I32 ∷ I32 ∷ I32 ∷ [])
+addresses_grows relation.Ne m n c d = longer d.used (I32 ∷ I32 ∷ I32 ∷ [])
+addresses_grows relation.Lt m n c d = longer d.used (I32 ∷ I32 ∷ Ptr ∷ Ptr ∷ I64 ∷ I64 ∷ [])
+addresses_grows relation.Le m n c d = longer d.used (I32 ∷ I32 ∷ Ptr ∷ Ptr ∷ I64 ∷ I64 ∷ [])
+addresses_grows relation.Gt m n c d = longer d.used (I32 ∷ I32 ∷ Ptr ∷ Ptr ∷ I64 ∷ I64 ∷ [])
+addresses_grows relation.Ge m n c d = longer d.used (I32 ∷ I32 ∷ Ptr ∷ Ptr ∷ I64 ∷ I64 ∷ [])
+
+pub related_grows : (r : Relation) (t u : LogicTerm) (x y : Side) → length (used_by y) ≤ length (related_code r t u x y).used
+related_grows r t u (OfNumber x) (OfNumber y) = omega arith
+related_grows r t u (OfNumber x) (OfPointer y) = addresses_grows r (is_null_term t) (is_null_term u) (null_code x) y
+related_grows r t u (OfPointer x) (OfNumber y) = addresses_grows r (is_null_term t) (is_null_term u) x (null_code y)
+related_grows r t u (OfPointer x) (OfPointer y) = addresses_grows r (is_null_term t) (is_null_term u) x y
+
+pub again_used : (x : Side) (rs : List MonType) → length (used_by (again x rs)) ≡ length rs
+again_used (OfNumber c) rs = refl
+again_used (OfPointer c) rs = refl
+
+pub side_grows : (m : Bool) (c : PointerCode) (d : Code) (rs : List MonType) → length rs ≤ length c.used → length rs ≤ length d.used → length rs ≤ length (used_by (side_by m c d))
+side_grows true c d rs h g = h
+side_grows false c d rs h g = g
 
 module _ (p : TranslationUnit) (bound : Bindings) where
   variable_grows : (t : Bool) (w : MonType) (x : Reading) (rs : List MonType) → length rs ≤ length (variable_code p bound t w x rs).used
@@ -64,25 +105,99 @@ module _ (p : TranslationUnit) (bound : Bindings) where
         let z = term_grows b (known ++ sure_readings c) js in
         let l = longer (term_code p bound b (known ++ sure_readings c) js).used (I32 ∷ type_of_width (width_of_range r) ∷ []) in
         omega (arith, x, y, z, l)
+    term_grows (logic.Deref at t r a) known rs =
+        let x = pointer_grows a known rs in
+        let l = longer (pointer_code p bound a known rs).used (I32 ∷ []) in
+        omega (arith, x, l)
+    term_grows (logic.Member at t r d a) known rs =
+        let x = place_grows a known rs in
+        let l = longer (place_code p bound a known rs).used (I32 ∷ []) in
+        omega (arith, x, l)
+    term_grows (logic.Difference at t r n a b) known rs =
+        let x = pointer_grows a known rs in
+        let y = pointer_grows b known (pointer_code p bound a known rs).used in
+        let l = longer (pointer_code p bound b known (pointer_code p bound a known rs).used).used (I32 ∷ I32 ∷ Ptr ∷ Ptr ∷ I64 ∷ I64 ∷ []) in
+        omega (arith, x, y, l)
+    term_grows (logic.Told at t r f a) known rs =
+        let x = pointer_grows a known rs in
+        let l = longer (pointer_code p bound a known rs).used (I32 ∷ type_of_fact f ∷ []) in
+        omega (arith, x, l)
     term_grows _ known rs = omega arith
 
-    pub chain_grows : (t : LogicTerm) (x : Code) (l : Links) (known : List Reading) → length x.used ≤ length (chain_code p bound t x l known).used
+    pub pointer_grows : (t : LogicTerm) (known : List Reading) (rs : List MonType) → length rs ≤ length (pointer_code p bound t known rs).used
+    pointer_grows (logic.Variable at t r x) known rs = there_grows (is_known known (record { decl = x.decl; kind = term_type t })) t (start_pointer (pointer_to p bound x.decl) rs)
+    pointer_grows (logic.Deref at t r a) known rs =
+        let x = pointer_grows a known rs in
+        let l = there_grows false t (pointer_code p bound a known rs) in
+        omega (arith, x, l)
+    pointer_grows (logic.Member at t r d a) known rs =
+        let x = place_grows a known rs in
+        let l = there_grows false t (member_code d (place_code p bound a known rs)) in
+        omega (arith, x, l)
+    pointer_grows (logic.Address at t r a) known rs = place_grows a known rs
+    pointer_grows (logic.Moved at t r op n a b) known rs =
+        let x = pointer_grows a known rs in
+        let y = term_grows b known (pointer_code p bound a known rs).used in
+        omega (arith, x, y)
+    pointer_grows (logic.Cast at t r to a) known rs = pointer_grows a known rs
+    pointer_grows (logic.Choice at t r c a b) known rs =
+        let x = pred_grows c known rs in
+        let y = pointer_grows a (known ++ sure_readings c) (pred_code p bound c known rs).used in
+        let js = (pointer_code p bound a (known ++ sure_readings c) (pred_code p bound c known rs).used).used in
+        let z = pointer_grows b (known ++ sure_readings c) js in
+        let l = longer (pointer_code p bound b (known ++ sure_readings c) js).used (I32 ∷ Ptr ∷ I128 ∷ []) in
+        omega (arith, x, y, z, l)
+    pointer_grows (logic.Told at t r f a) known rs =
+        let x = pointer_grows a known rs in
+        let l = longer (pointer_code p bound a known rs).used (I32 ∷ Ptr ∷ []) in
+        omega (arith, x, l)
+    pointer_grows _ known rs = omega arith
+
+    pub place_grows : (t : LogicTerm) (known : List Reading) (rs : List MonType) → length rs ≤ length (place_code p bound t known rs).used
+    place_grows (logic.Deref at t r a) known rs = pointer_grows a known rs
+    place_grows (logic.Member at t r d a) known rs = place_grows a known rs
+    place_grows _ known rs = omega arith
+
+    pub zone_grows : (z : Zone) (known : List Reading) (rs : List MonType) → length rs ≤ length (zone_code p bound z known rs).pointer.used
+    zone_grows (logic.Object at n m a) known rs = pointer_grows a known rs
+    zone_grows (logic.Elements at n m a lo hi) known rs =
+        let js = (pointer_code p bound a known rs).used in
+        let x = pointer_grows a known rs in
+        let y = term_grows lo known js in
+        let z = term_grows hi known (term_code p bound lo known js).used in
+        omega (arith, x, y, z)
+
+    pub zones_grows : (zs : Zones) (known : List Reading) (rs : List MonType) → length rs ≤ length (zones_code p bound zs known rs).used
+    zones_grows NoZone known rs = omega arith
+    zones_grows (Another z rest) known rs =
+        let x = zone_grows z known rs in
+        let y = zones_grows rest known (zone_code p bound z known rs).pointer.used in
+        omega (arith, x, y)
+
+    pub chain_grows : (t : LogicTerm) (x : Side) (l : Links) (known : List Reading) → length (used_by x) ≤ length (chain_code p bound t x l known).used
     chain_grows t x NoLink known = omega arith
-    chain_grows t x (Linked at r u NoLink) known = term_grows u known x.used
+    chain_grows t x (Linked at r u NoLink) known =
+        let y = side_by (is_pointer_term u) (pointer_code p bound u known (used_by x)) (term_code p bound u known (used_by x)) in
+        let a = side_grows (is_pointer_term u) (pointer_code p bound u known (used_by x)) (term_code p bound u known (used_by x)) (used_by x) (pointer_grows u known (used_by x)) (term_grows u known (used_by x)) in
+        let b = related_grows r t u x y in
+        omega (arith, a, b)
     chain_grows t x (Linked at r u (Linked at2 r2 v rest)) known =
-        let y = term_code p bound u known x.used in
+        let y = side_by (is_pointer_term u) (pointer_code p bound u known (used_by x)) (term_code p bound u known (used_by x)) in
+        let z = related_code r t u x y in
         let more = known ++ (sure_readings_of_term t ++ sure_readings_of_term u) in
-        let a = term_grows u known x.used in
-        let b = chain_grows u (sure_code y.value y.used) (Linked at2 r2 v rest) more in
-        let c = connected_grows And (relation_code r t u x y) (chain_code p bound u (sure_code y.value y.used) (Linked at2 r2 v rest) more) in
-        omega (arith, a, b, c)
+        let a = side_grows (is_pointer_term u) (pointer_code p bound u known (used_by x)) (term_code p bound u known (used_by x)) (used_by x) (pointer_grows u known (used_by x)) (term_grows u known (used_by x)) in
+        let b = related_grows r t u x y in
+        let c = chain_grows u (again y z.used) (Linked at2 r2 v rest) more in
+        let d = again_used y z.used in
+        let e = connected_grows And z (chain_code p bound u (again y z.used) (Linked at2 r2 v rest) more) in
+        omega (arith, a, b, c, d, e)
 
     pub pred_grows : (q : Predicate) (known : List Reading) (rs : List MonType) → length rs ≤ length (pred_code p bound q known rs).used
     pred_grows (logic.Truth at b) known rs = omega arith
     pred_grows (logic.NonZero at t) known rs = term_grows t known rs
     pred_grows (logic.Chain at t links) known rs =
-        let x = term_grows t known rs in
-        let y = chain_grows t (term_code p bound t known rs) links known in
+        let x = side_grows (is_pointer_term t) (pointer_code p bound t known rs) (term_code p bound t known rs) rs (pointer_grows t known rs) (term_grows t known rs) in
+        let y = chain_grows t (side_by (is_pointer_term t) (pointer_code p bound t known rs) (term_code p bound t known rs)) links known in
         omega (arith, x, y)
     pred_grows (logic.Not at q) known rs = pred_grows q known rs
     pred_grows (logic.Connected at c a b) known rs =
@@ -98,4 +213,12 @@ module _ (p : TranslationUnit) (bound : Bindings) where
         let z = pred_grows b (known ++ sure_readings c) js in
         let l = longer (pred_code p bound b (known ++ sure_readings c) js).used (I32 ∷ I32 ∷ []) in
         omega (arith, x, y, z, l)
+    pred_grows (logic.Asks at f z) known rs =
+        let x = zone_grows z known rs in
+        let l = longer (zone_code p bound z known rs).pointer.used (I32 ∷ []) in
+        omega (arith, x, l)
+    pred_grows (logic.Separated at zs) known rs =
+        let x = zones_grows zs known rs in
+        let l = longer (zones_code p bound zs known rs).used (I32 ∷ I32 ∷ []) in
+        omega (arith, x, l)
     pred_grows _ known rs = omega arith

@@ -1,10 +1,14 @@
 -- The code of every predicate stays inside its statements.
-use Rattle.std.proofs.Common.{◌≡◌, ℕ, pos, Bool, true, false, not, ◌&&◌, if◌then◌else◌, List, [], ◌++◌, length, Option, Some, None, Result, IfOk, refl, sym, subst}
+use Rattle.std.proofs.Common.{◌≡◌, ℕ, suc, pos, Bool, true, false, not, ◌&&◌, if◌then◌else◌, List, [], ◌∷◌, ◌++◌, length, Option, Some, None, Result, IfOk, refl, sym, subst}
 use Rattle.std.proofs.lemmas.Result.{IfOk-weaker}
 use Rattle.c_syntax.specs.declared.expression.BinOp.{BinOp}
 use Rattle.c_syntax.specs.declared.logic.Connective.{Connective}
 use Rattle.c_syntax.specs.declared.logic.Connective.TheVariants.{And, Xor, Or, Implies, Iff}
-use Rattle.c_syntax.specs.Logic.{LogicTerm, Links, NoLink, Linked, Predicate, range_of}
+use Rattle.c_syntax.specs.declared.annotation.Relation.{Relation}
+use Rattle.c_syntax.specs.declared.annotation.Relation.TheVariants as relation
+use Rattle.c_syntax.specs.Ctypes.{PlainType}
+use Rattle.c_syntax.specs.Ctypes as ctype
+use Rattle.c_syntax.specs.Logic.{LogicTerm, Links, NoLink, Linked, Zone, Zones, NoZone, Another, Predicate, range_of}
 use Rattle.c_syntax.specs.Logic as logic
 use Rattle.c_syntax.specs.Programs.{TranslationUnit}
 use Rattle.c_model.specs.Ranges.{width_of_range}
@@ -14,11 +18,14 @@ use Rattle.mon_syntax.specs.Registers.{Bindings, Names}
 use Rattle.mon_syntax.specs.Trees.{MonExpression, Register, Global, Constant, Binary, Minus, Flip, Cast, Load, MonStatements, NoStatement, Then, If}
 use Rattle.mon_syntax.specs.Valid.{is_step, has_no_step}
 use Rattle.term_guards.specs.Guards.{guard}
-use Rattle.c_effects.specs.Expressions.{before, one, in_type}
+use Rattle.c_effects.specs.Expressions.{before, one, in_type, pointer_to}
+use Rattle.annot_code.specs.Pointers.{PointerCode, ZoneCode, start_pointer, null_code, member_code, pointer_there, answered_in, take_pointer}
+use Rattle.annot_code.specs.Pointers.{branch_pointer, comparable, asked_of_both, equality_asked, offsets_asked, addresses_code, apart_from_each, each_pair}
+use Rattle.annot_code.specs.Code.{Side, OfNumber, OfPointer, used_by, stmts_of, side_by, again, related_code, is_pointer_term, is_null_term, pointer_code, place_code, zone_code, zones_code}
 use Rattle.c_effects.specs.Named.{unit_of}
 use Rattle.annot_code.specs.declared.judge.Judged as code
-use Rattle.annot_code.specs.Code.{Reading, Code, term_type, with_value, conjunction, guarded, take, take_none, branch, truth_code, sure_code, is_sure, both_asked, left_first, connected, operated, is_total}
-use Rattle.annot_code.specs.Code.{variable_code, is_known, relation_code, term_code, chain_code, pred_code, sure_readings, sure_readings_of_term, known_at_right, judged_by, judged_anew, judged_with, Judgement, judgement}
+use Rattle.annot_code.specs.Code.{Reading, Code, term_type, with_value, conjunction, guarded, take, take_none, branch, truth_code, is_sure, both_asked, left_first, connected, operated, is_total}
+use Rattle.annot_code.specs.Code.{variable_code, is_known, term_code, chain_code, pred_code, sure_readings, sure_readings_of_term, known_at_right, judged_by, judged_anew, judged_with, Judgement, judgement}
 use Rattle.annot_code.specs.Code.{type_of_width, working, width_of, type_of, binary_value}
 use Rattle.annot_code.specs.Inside.{StayInside, AreInside}
 use Rattle.annot_code.specs.Plain.{judgement_of}
@@ -95,6 +102,84 @@ connected_inside c p q h i = by (is_sure q)
     by true = before_inside p.stmts q.stmts h i
     by false = first c
 
+-- ---- pointers
+
+answered_inside : (r : ℕ) (c : PointerCode) (a : MonStatements) → Inside c.stmts → Inside a → Inside (answered_in r c a)
+answered_inside r c a h i = before_inside c.stmts (guarded c.flag a (take_none r)) h (guarded_inside c.flag a (take_none r) i (take_none_inside r))
+
+pointer_there_inside : (known : Bool) (t : Option PlainType) (c : PointerCode) → Inside c.stmts → Inside (pointer_there known t c).stmts
+pointer_there_inside true (Some (ctype.Ptr u)) c h = before_inside c.stmts _ h ((tt, tt), refl)
+pointer_there_inside false (Some (ctype.Ptr u)) c h = answered_inside (length c.used) c _ h ((tt, (((tt, tt), tt), tt)), refl)
+pointer_there_inside known (Some (ctype.Array u n)) c h = h
+pointer_there_inside known (Some (ctype.Int k)) c h = nothing_inside
+pointer_there_inside known (Some (ctype.Struct n)) c h = nothing_inside
+pointer_there_inside known (Some ctype.Void) c h = nothing_inside
+pointer_there_inside known (Some (ctype.Named x)) c h = nothing_inside
+pointer_there_inside known (Some (ctype.StructTag x tag)) c h = nothing_inside
+pointer_there_inside known (Some (ctype.EnumTag x at)) c h = nothing_inside
+pointer_there_inside known None c h = nothing_inside
+
+take_pointer_inside : (f : Option MonExpression) (c : PointerCode) (r : ℕ) → Inside (take_pointer f c r)
+take_pointer_inside None c r = ((tt, (tt, (tt, tt))), refl)
+take_pointer_inside (Some a) c r = ((tt, (((tt, (tt, tt)), tt), tt)), refl)
+
+branch_pointer_inside : (c : Code) (a b : PointerCode) → Inside c.stmts → Inside a.stmts → Inside b.stmts → Inside (branch_pointer c a b).stmts
+branch_pointer_inside c a b hc ha hb =
+    let r = length b.used in
+    before_inside c.stmts _ hc
+    (guarded_inside c.flag _ (take_none r)
+    (if_inside c.value (before a.stmts (take_pointer a.flag a r)) (before b.stmts (take_pointer b.flag b r))
+    (before_inside a.stmts (take_pointer a.flag a r) ha (take_pointer_inside a.flag a r)) (before_inside b.stmts (take_pointer b.flag b r) hb (take_pointer_inside b.flag b r))) (take_none_inside r))
+
+comparable_inside : (m : Bool) (c : PointerCode) (r : ℕ) → Inside (comparable m c r)
+comparable_inside true c r = ((tt, tt), refl)
+comparable_inside false c r = ((tt, (tt, (tt, tt))), refl)
+
+of_both_inside : (c d : PointerCode) (a : MonStatements) → Inside c.stmts → Inside d.stmts → Inside a → Inside (asked_of_both c d a)
+of_both_inside c d a hc hd ha =
+    let r = length d.used in
+    before_inside (before c.stmts d.stmts) (guarded (conjunction c.flag d.flag) a (take_none r)) (before_inside c.stmts d.stmts hc hd)
+    (guarded_inside (conjunction c.flag d.flag) a (take_none r) ha (take_none_inside r))
+
+equality_inside : (m n : Bool) (c d : PointerCode) → Inside c.stmts → Inside d.stmts → Inside (asked_of_both c d (equality_asked m n c d (length d.used)))
+equality_inside m n c d hc hd =
+    let r = length d.used in
+    of_both_inside c d (equality_asked m n c d r) hc hd
+    (before_inside (comparable m c r) _ (comparable_inside m c r) (before_inside (comparable n d (suc r)) _ (comparable_inside n d (suc r)) ((tt, (tt, tt)), refl)))
+
+offsets_inside : (c d : PointerCode) → Inside c.stmts → Inside d.stmts → Inside (asked_of_both c d (offsets_asked c d (length d.used)))
+offsets_inside c d hc hd = of_both_inside c d (offsets_asked c d (length d.used)) hc hd ((tt, (tt, (tt, (tt, (tt, (tt, (tt, tt))))))), refl)
+
+addresses_inside : (r : Relation) (m n : Bool) (c d : PointerCode) → Inside c.stmts → Inside d.stmts → Inside (addresses_code r m n c d).stmts
+addresses_inside relation.Eq m n c d hc hd = equality_inside m n c d hc hd
+addresses_inside relation.Ne m n c d hc hd = equality_inside m n c d hc hd
+addresses_inside relation.Lt m n c d hc hd = offsets_inside c d hc hd
+addresses_inside relation.Le m n c d hc hd = offsets_inside c d hc hd
+addresses_inside relation.Gt m n c d hc hd = offsets_inside c d hc hd
+addresses_inside relation.Ge m n c d hc hd = offsets_inside c d hc hd
+
+related_inside : (r : Relation) (t u : LogicTerm) (x y : Side) → Inside (stmts_of x) → Inside (stmts_of y) → Inside (related_code r t u x y).stmts
+related_inside r t u (OfNumber x) (OfNumber y) hx hy = before_inside x.stmts y.stmts hx hy
+related_inside r t u (OfNumber x) (OfPointer y) hx hy = addresses_inside r (is_null_term t) (is_null_term u) (null_code x) y hx hy
+related_inside r t u (OfPointer x) (OfNumber y) hx hy = addresses_inside r (is_null_term t) (is_null_term u) x (null_code y) hx hy
+related_inside r t u (OfPointer x) (OfPointer y) hx hy = addresses_inside r (is_null_term t) (is_null_term u) x y hx hy
+
+side_inside : (m : Bool) (c : PointerCode) (d : Code) → Inside c.stmts → Inside d.stmts → Inside (stmts_of (side_by m c d))
+side_inside true c d h i = h
+side_inside false c d h i = i
+
+again_inside : (x : Side) (rs : List MonType) → Inside (stmts_of (again x rs))
+again_inside (OfNumber c) rs = nothing_inside
+again_inside (OfPointer c) rs = nothing_inside
+
+each_inside : (t : ℕ) (z : ZoneCode) (ds : List ZoneCode) → Inside (apart_from_each t z ds)
+each_inside t z [] = nothing_inside
+each_inside t z (d ∷ ds) = let rest = each_inside t z ds in ((tt, (tt, rest.0)), rest.1)
+
+pairs_inside : (t : ℕ) (zs : List ZoneCode) → Inside (each_pair t zs)
+pairs_inside t [] = nothing_inside
+pairs_inside t (z ∷ zs) = before_inside (apart_from_each t z zs) (each_pair t zs) (each_inside t z zs) (pairs_inside t zs)
+
 -- ---- terms and predicates
 
 module _ (p : TranslationUnit) (bound : Bindings) where
@@ -125,27 +210,82 @@ module _ (p : TranslationUnit) (bound : Bindings) where
     term_inside (logic.Named at t r x) known rs = nothing_inside
     term_inside (logic.At at t r l a) known rs = nothing_inside
     term_inside (logic.Null at t r) known rs = nothing_inside
-    term_inside (logic.Deref at t r a) known rs = nothing_inside
-    term_inside (logic.Member at t r d a) known rs = nothing_inside
+    term_inside (logic.Deref at t r a) known rs = answered_inside (length (pointer_code p bound a known rs).used) (pointer_code p bound a known rs) _ (pointer_inside a known rs) ((tt, tt), refl)
+    term_inside (logic.Member at t r d a) known rs =
+        let c = member_code d (place_code p bound a known rs) in answered_inside (length c.used) c _ (place_inside a known rs) ((tt, tt), refl)
     term_inside (logic.Address at t r a) known rs = nothing_inside
     term_inside (logic.Moved at t r op n a b) known rs = nothing_inside
-    term_inside (logic.Difference at t r n a b) known rs = nothing_inside
-    term_inside (logic.Told at t r f a) known rs = nothing_inside
+    term_inside (logic.Difference at t r n a b) known rs =
+        let c = pointer_code p bound a known rs in offsets_inside c (pointer_code p bound b known c.used) (pointer_inside a known rs) (pointer_inside b known c.used)
+    term_inside (logic.Told at t r f a) known rs =
+        let c = pointer_code p bound a known rs in answered_inside (length c.used) c _ (pointer_inside a known rs) ((tt, (tt, tt)), refl)
 
-    chain_inside : (t : LogicTerm) (x : Code) (l : Links) (known : List Reading) → Inside x.stmts → Inside (chain_code p bound t x l known).stmts
+    pointer_inside : (t : LogicTerm) (known : List Reading) (rs : List MonType) → Inside (pointer_code p bound t known rs).stmts
+    pointer_inside (logic.Variable at t r x) known rs = pointer_there_inside (is_known known (record { decl = x.decl; kind = term_type t })) t (start_pointer (pointer_to p bound x.decl) rs) nothing_inside
+    pointer_inside (logic.Deref at t r a) known rs = pointer_there_inside false t (pointer_code p bound a known rs) (pointer_inside a known rs)
+    pointer_inside (logic.Member at t r d a) known rs = pointer_there_inside false t (member_code d (place_code p bound a known rs)) (place_inside a known rs)
+    pointer_inside (logic.Address at t r a) known rs = place_inside a known rs
+    pointer_inside (logic.Moved at t r op n a b) known rs =
+        let c = pointer_code p bound a known rs in before_inside c.stmts (term_code p bound b known c.used).stmts (pointer_inside a known rs) (term_inside b known c.used)
+    pointer_inside (logic.Cast at t r to a) known rs = pointer_inside a known rs
+    pointer_inside (logic.Choice at t r c a b) known rs =
+        let more = known ++ sure_readings c in
+        let z = pred_code p bound c known rs in
+        let x = pointer_code p bound a more z.used in
+        branch_pointer_inside z x (pointer_code p bound b more x.used) (pred_inside c known rs) (pointer_inside a more z.used) (pointer_inside b more x.used)
+    pointer_inside (logic.Told at t r f a) known rs =
+        let c = pointer_code p bound a known rs in answered_inside (length c.used) c _ (pointer_inside a known rs) ((tt, (tt, tt)), refl)
+    pointer_inside (logic.Number at t r n) known rs = nothing_inside
+    pointer_inside (logic.Letter at t r n) known rs = nothing_inside
+    pointer_inside (logic.Unary at t r op a) known rs = nothing_inside
+    pointer_inside (logic.Binary at t r op a b) known rs = nothing_inside
+    pointer_inside (logic.Named at t r x) known rs = nothing_inside
+    pointer_inside (logic.At at t r l a) known rs = nothing_inside
+    pointer_inside (logic.Null at t r) known rs = nothing_inside
+    pointer_inside (logic.Difference at t r n a b) known rs = nothing_inside
+
+    place_inside : (t : LogicTerm) (known : List Reading) (rs : List MonType) → Inside (place_code p bound t known rs).stmts
+    place_inside (logic.Deref at t r a) known rs = pointer_inside a known rs
+    place_inside (logic.Member at t r d a) known rs = place_inside a known rs
+    place_inside _ known rs = nothing_inside
+
+    zone_inside : (z : Zone) (known : List Reading) (rs : List MonType) → Inside (zone_code p bound z known rs).pointer.stmts
+    zone_inside (logic.Object at n m a) known rs = pointer_inside a known rs
+    zone_inside (logic.Elements at n m a lo hi) known rs =
+        let c = pointer_code p bound a known rs in
+        let x = term_code p bound lo known c.used in
+        let y = term_code p bound hi known x.used in
+        before_inside (before c.stmts x.stmts) y.stmts (before_inside c.stmts x.stmts (pointer_inside a known rs) (term_inside lo known c.used)) (term_inside hi known x.used)
+
+    zones_inside : (zs : Zones) (known : List Reading) (rs : List MonType) → Inside (zones_code p bound zs known rs).stmts
+    zones_inside NoZone known rs = nothing_inside
+    zones_inside (Another z rest) known rs =
+        let c = zone_code p bound z known rs in
+        before_inside c.pointer.stmts (zones_code p bound rest known c.pointer.used).stmts (zone_inside z known rs) (zones_inside rest known c.pointer.used)
+
+    chain_inside : (t : LogicTerm) (x : Side) (l : Links) (known : List Reading) → Inside (stmts_of x) → Inside (chain_code p bound t x l known).stmts
     chain_inside t x NoLink known h = h
-    chain_inside t x (Linked at r u NoLink) known h = before_inside x.stmts (term_code p bound u known x.used).stmts h (term_inside u known x.used)
+    chain_inside t x (Linked at r u NoLink) known h =
+        let c = pointer_code p bound u known (used_by x) in
+        let d = term_code p bound u known (used_by x) in
+        related_inside r t u x (side_by (is_pointer_term u) c d) h (side_inside (is_pointer_term u) c d (pointer_inside u known (used_by x)) (term_inside u known (used_by x)))
     chain_inside t x (Linked at r u (Linked at2 r2 v rest)) known h =
-        let y = term_code p bound u known x.used in
+        let c = pointer_code p bound u known (used_by x) in
+        let d = term_code p bound u known (used_by x) in
+        let y = side_by (is_pointer_term u) c d in
+        let z = related_code r t u x y in
         let more = known ++ (sure_readings_of_term t ++ sure_readings_of_term u) in
-        let start = sure_code y.value y.used in
-        connected_inside And (relation_code r t u x y) (chain_code p bound u start (Linked at2 r2 v rest) more) (before_inside x.stmts y.stmts h (term_inside u known x.used))
-        (chain_inside u start (Linked at2 r2 v rest) more nothing_inside)
+        let start = again y z.used in
+        connected_inside And z (chain_code p bound u start (Linked at2 r2 v rest) more)
+        (related_inside r t u x y h (side_inside (is_pointer_term u) c d (pointer_inside u known (used_by x)) (term_inside u known (used_by x)))) (chain_inside u start (Linked at2 r2 v rest) more (again_inside y z.used))
 
     pred_inside : (q : Predicate) (known : List Reading) (rs : List MonType) → Inside (pred_code p bound q known rs).stmts
     pred_inside (logic.Truth at b) known rs = nothing_inside
     pred_inside (logic.NonZero at t) known rs = term_inside t known rs
-    pred_inside (logic.Chain at t links) known rs = chain_inside t (term_code p bound t known rs) links known (term_inside t known rs)
+    pred_inside (logic.Chain at t links) known rs =
+        let c = pointer_code p bound t known rs in
+        let d = term_code p bound t known rs in
+        chain_inside t (side_by (is_pointer_term t) c d) links known (side_inside (is_pointer_term t) c d (pointer_inside t known rs) (term_inside t known rs))
     pred_inside (logic.Not at q) known rs = pred_inside q known rs
     pred_inside (logic.Connected at c a b) known rs =
         let x = pred_code p bound a known rs in
@@ -156,8 +296,12 @@ module _ (p : TranslationUnit) (bound : Bindings) where
         let x = pred_code p bound a more z.used in
         branch_inside I32 z x (pred_code p bound b more x.used) (pred_inside c known rs) (pred_inside a more z.used) (pred_inside b more x.used)
     pred_inside (logic.Quantified at quantifier guards q) known rs = nothing_inside
-    pred_inside (logic.Asks at question zone) known rs = nothing_inside
-    pred_inside (logic.Separated at zones) known rs = nothing_inside
+    pred_inside (logic.Asks at f z) known rs =
+        let c = (zone_code p bound z known rs).pointer in before_inside c.stmts _ (zone_inside z known rs) (guarded_inside c.flag _ NoStatement ((tt, tt), refl) nothing_inside)
+    pred_inside (logic.Separated at zs) known rs =
+        let c = zones_code p bound zs known rs in
+        let pairs = pairs_inside (length c.used) c.zones in
+        before_inside c.stmts _ (zones_inside zs known rs) (guarded_inside c.flag _ NoStatement ((tt, pairs.0), pairs.1) nothing_inside)
 
 -- ---- the flag and the truth
 

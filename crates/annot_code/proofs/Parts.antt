@@ -36,13 +36,13 @@ chosen None a b = None
 chosen (Some true) a b = a
 chosen (Some false) a b = b
 
-both_are : (a b : Bool) → operate And I32 (truth a) (truth b) ≡ Some (truth (a && b))
+pub both_are : (a b : Bool) → operate And I32 (truth a) (truth b) ≡ Some (truth (a && b))
 both_are true true = refl
 both_are true false = refl
 both_are false true = refl
 both_are false false = refl
 
-and_true : (a : Bool) → (a && true) ≡ a
+pub and_true : (a : Bool) → (a && true) ≡ a
 and_true true = refl
 and_true false = refl
 
@@ -88,7 +88,7 @@ module _ (w : Setting) where
     pub flag_is : slice_get end r ≡ Some (Integer (truth (is_some o)))
     pub value_is : (z : ℤ) → o ≡ Some z → slice_get end (suc r) ≡ Some (Integer z)
 
-  none_taken : (r : ℕ) (regs : List Value) → r < length regs → Taken (take_none r) None r regs
+  pub none_taken : (r : ℕ) (regs : List Value) → r < length regs → Taken (take_none r) None r regs
   none_taken r regs lt = record {
     end = slice_set regs r (Integer (pos 0));
     same = same_set r r regs (Integer (pos 0)) (omega arith);

@@ -3,17 +3,24 @@ use Rattle.std.proofs.Common.{Bool, true, false, if◌then◌else◌, List, [], 
 use Rattle.c_syntax.specs.declared.expression.BinOp.{BinOp}
 use Rattle.c_syntax.specs.declared.logic.Connective.{Connective}
 use Rattle.c_syntax.specs.declared.logic.Connective.TheVariants.{And, Xor, Or, Implies, Iff}
-use Rattle.c_syntax.specs.Logic.{LogicTerm, Links, NoLink, Linked, Predicate, range_of}
+use Rattle.c_syntax.specs.declared.annotation.Relation.{Relation}
+use Rattle.c_syntax.specs.declared.annotation.Relation.TheVariants as relation
+use Rattle.c_syntax.specs.Ctypes.{PlainType}
+use Rattle.c_syntax.specs.Ctypes as ctype
+use Rattle.c_syntax.specs.Logic.{LogicTerm, Links, NoLink, Linked, Zone, Zones, NoZone, Another, Predicate, range_of}
 use Rattle.c_syntax.specs.Logic as logic
 use Rattle.c_syntax.specs.Programs.{TranslationUnit}
 use Rattle.c_model.specs.Ranges.{width_of_range}
 use Rattle.mon_syntax.specs.declared.tree.MonType.{MonType}
-use Rattle.mon_syntax.specs.declared.tree.MonType.TheVariants.{I32}
+use Rattle.mon_syntax.specs.declared.tree.MonType.TheVariants.{I32, I64, I128, Ptr}
 use Rattle.mon_syntax.specs.Registers.{Bindings}
 use Rattle.mon_syntax.specs.Trees.{MonExpression, Register, Global, Constant, Binary, Minus, Flip, Cast, Load}
 use Rattle.mon_syntax.specs.Valid.{Types}
-use Rattle.annot_code.specs.Code.{term_type, Reading}
-use Rattle.annot_code.specs.Code.{Code, operated, is_total, variable_code, is_known, connected, left_first, both_asked, is_sure, relation_code, term_code, chain_code, pred_code, sure_readings, sure_readings_of_term, known_at_right, sure_code}
+use Rattle.c_effects.specs.Expressions.{pointer_to}
+use Rattle.mem_preds.specs.Questions.{type_of_fact}
+use Rattle.annot_code.specs.Pointers.{PointerCode, start_pointer, null_code, member_code, pointer_there, addresses_code}
+use Rattle.annot_code.specs.Code.{term_type, Reading, Side, OfNumber, OfPointer, used_by, side_by, again, related_code, is_pointer_term, is_null_term, pointer_code, place_code, zone_code, zones_code}
+use Rattle.annot_code.specs.Code.{Code, operated, is_total, variable_code, is_known, connected, left_first, both_asked, is_sure, term_code, chain_code, pred_code, sure_readings, sure_readings_of_term, known_at_right}
 use Rattle.annot_code.specs.Code.{type_of_width, working, width_of, type_of, binary_value, judged_with}
 use Rattle.annot_code.specs.Validity.{Begins}
 use Rattle.annot_code.proofs.Typed.{begins_front}
@@ -36,6 +43,40 @@ module _ (ts : Types) where
       by : (t : Bool) → Begins (if t then both_asked c p q else left_first c p q).used ts → Begins q.used ts
       by true b = b
       by false b = first c b
+
+  pub there_begins : (known : Bool) (t : Option PlainType) (c : PointerCode) → Begins (pointer_there known t c).used ts → Begins c.used ts
+  there_begins true (Some (ctype.Ptr u)) c b = begins_front c.used (Ptr ∷ []) ts b
+  there_begins false (Some (ctype.Ptr u)) c b = begins_front c.used (I32 ∷ Ptr ∷ []) ts b
+  there_begins known (Some (ctype.Array u n)) c b = b
+  there_begins known (Some (ctype.Int k)) c b = b
+  there_begins known (Some (ctype.Struct n)) c b = b
+  there_begins known (Some ctype.Void) c b = b
+  there_begins known (Some (ctype.Named x)) c b = b
+  there_begins known (Some (ctype.StructTag x tag)) c b = b
+  there_begins known (Some (ctype.EnumTag x at)) c b = b
+  there_begins known None c b = b
+
+  addresses_begins : (r : Relation) (m n : Bool) (c d : PointerCode) → Begins (addresses_code r m n c d).used ts → Begins d.used ts
+  addresses_begins relation.Eq m n c d b = begins_front d.used (I32 ∷ I32 ∷ I32 ∷ []) ts b
+  addresses_begins relation.Ne m n c d b = begins_front d.used (I32 ∷ I32 ∷ I32 ∷ []) ts b
+  addresses_begins relation.Lt m n c d b = begins_front d.used (I32 ∷ I32 ∷ Ptr ∷ Ptr ∷ I64 ∷ I64 ∷ []) ts b
+  addresses_begins relation.Le m n c d b = begins_front d.used (I32 ∷ I32 ∷ Ptr ∷ Ptr ∷ I64 ∷ I64 ∷ []) ts b
+  addresses_begins relation.Gt m n c d b = begins_front d.used (I32 ∷ I32 ∷ Ptr ∷ Ptr ∷ I64 ∷ I64 ∷ []) ts b
+  addresses_begins relation.Ge m n c d b = begins_front d.used (I32 ∷ I32 ∷ Ptr ∷ Ptr ∷ I64 ∷ I64 ∷ []) ts b
+
+  pub related_begins : (r : Relation) (t u : LogicTerm) (x y : Side) → Begins (related_code r t u x y).used ts → Begins (used_by y) ts
+  related_begins r t u (OfNumber x) (OfNumber y) b = b
+  related_begins r t u (OfNumber x) (OfPointer y) b = addresses_begins r (is_null_term t) (is_null_term u) (null_code x) y b
+  related_begins r t u (OfPointer x) (OfNumber y) b = addresses_begins r (is_null_term t) (is_null_term u) x (null_code y) b
+  related_begins r t u (OfPointer x) (OfPointer y) b = addresses_begins r (is_null_term t) (is_null_term u) x y b
+
+  pub again_begins : (x : Side) (rs : Types) → Begins (used_by (again x rs)) ts → Begins rs ts
+  again_begins (OfNumber c) rs b = b
+  again_begins (OfPointer c) rs b = b
+
+  pub side_begins : (m : Bool) (c : PointerCode) (d : Code) (rs : Types) → (Begins c.used ts → Begins rs ts) → (Begins d.used ts → Begins rs ts) → Begins (used_by (side_by m c d)) ts → Begins rs ts
+  side_begins true c d rs h g b = h b
+  side_begins false c d rs h g b = g b
 
   module _ (p : TranslationUnit) (bound : Bindings) where
     variable_begins : (t : Bool) (w : MonType) (x : Reading) (rs : Types) → Begins (variable_code p bound t w x rs).used ts → Begins rs ts
@@ -62,21 +103,68 @@ module _ (ts : Types) where
           let x = term_code p bound a more z.used in
           let y = term_code p bound d more x.used in
           pred_begins c known rs (term_begins a more z.used (term_begins d more x.used (begins_front y.used (I32 ∷ type_of_width (width_of_range r) ∷ []) ts b)))
+      term_begins (logic.Deref at t r a) known rs b = pointer_begins a known rs (begins_front (pointer_code p bound a known rs).used (I32 ∷ []) ts b)
+      term_begins (logic.Member at t r d a) known rs b = place_begins a known rs (begins_front (place_code p bound a known rs).used (I32 ∷ []) ts b)
+      term_begins (logic.Difference at t r n a d) known rs b =
+          let c = pointer_code p bound a known rs in
+          pointer_begins a known rs (pointer_begins d known c.used (begins_front (pointer_code p bound d known c.used).used (I32 ∷ I32 ∷ Ptr ∷ Ptr ∷ I64 ∷ I64 ∷ []) ts b))
+      term_begins (logic.Told at t r f a) known rs b = pointer_begins a known rs (begins_front (pointer_code p bound a known rs).used (I32 ∷ type_of_fact f ∷ []) ts b)
       term_begins _ known rs b = b
 
-      pub chain_begins : (t : LogicTerm) (x : Code) (l : Links) (known : List Reading) → Begins (chain_code p bound t x l known).used ts → Begins x.used ts
+      pub pointer_begins : (t : LogicTerm) (known : List Reading) (rs : Types) → Begins (pointer_code p bound t known rs).used ts → Begins rs ts
+      pointer_begins (logic.Variable at t r x) known rs b = there_begins (is_known known (record { decl = x.decl; kind = term_type t })) t (start_pointer (pointer_to p bound x.decl) rs) b
+      pointer_begins (logic.Deref at t r a) known rs b = pointer_begins a known rs (there_begins false t (pointer_code p bound a known rs) b)
+      pointer_begins (logic.Member at t r d a) known rs b = place_begins a known rs (there_begins false t (member_code d (place_code p bound a known rs)) b)
+      pointer_begins (logic.Address at t r a) known rs b = place_begins a known rs b
+      pointer_begins (logic.Moved at t r op n a d) known rs b = pointer_begins a known rs (term_begins d known (pointer_code p bound a known rs).used b)
+      pointer_begins (logic.Cast at t r to a) known rs b = pointer_begins a known rs b
+      pointer_begins (logic.Choice at t r c a d) known rs b =
+          let more = known ++ sure_readings c in
+          let z = pred_code p bound c known rs in
+          let x = pointer_code p bound a more z.used in
+          let y = pointer_code p bound d more x.used in
+          pred_begins c known rs (pointer_begins a more z.used (pointer_begins d more x.used (begins_front y.used (I32 ∷ Ptr ∷ I128 ∷ []) ts b)))
+      pointer_begins (logic.Told at t r f a) known rs b = pointer_begins a known rs (begins_front (pointer_code p bound a known rs).used (I32 ∷ Ptr ∷ []) ts b)
+      pointer_begins _ known rs b = b
+
+      pub place_begins : (t : LogicTerm) (known : List Reading) (rs : Types) → Begins (place_code p bound t known rs).used ts → Begins rs ts
+      place_begins (logic.Deref at t r a) known rs b = pointer_begins a known rs b
+      place_begins (logic.Member at t r d a) known rs b = place_begins a known rs b
+      place_begins _ known rs b = b
+
+      pub zone_begins : (z : Zone) (known : List Reading) (rs : Types) → Begins (zone_code p bound z known rs).pointer.used ts → Begins rs ts
+      zone_begins (logic.Object at n m a) known rs b = pointer_begins a known rs b
+      zone_begins (logic.Elements at n m a lo hi) known rs b =
+          let c = pointer_code p bound a known rs in
+          pointer_begins a known rs (term_begins lo known c.used (term_begins hi known (term_code p bound lo known c.used).used b))
+
+      pub zones_begins : (zs : Zones) (known : List Reading) (rs : Types) → Begins (zones_code p bound zs known rs).used ts → Begins rs ts
+      zones_begins NoZone known rs b = b
+      zones_begins (Another z rest) known rs b = zone_begins z known rs (zones_begins rest known (zone_code p bound z known rs).pointer.used b)
+
+      pub chain_begins : (t : LogicTerm) (x : Side) (l : Links) (known : List Reading) → Begins (chain_code p bound t x l known).used ts → Begins (used_by x) ts
       chain_begins t x NoLink known b = b
-      chain_begins t x (Linked at r u NoLink) known b = term_begins u known x.used b
+      chain_begins t x (Linked at r u NoLink) known b =
+          let c = pointer_code p bound u known (used_by x) in
+          let d = term_code p bound u known (used_by x) in
+          side_begins (is_pointer_term u) c d (used_by x) (λ b. pointer_begins u known (used_by x) b) (λ b. term_begins u known (used_by x) b) (related_begins r t u x (side_by (is_pointer_term u) c d) b)
       chain_begins t x (Linked at r u (Linked at2 r2 v rest)) known b =
-          let y = term_code p bound u known x.used in
+          let c = pointer_code p bound u known (used_by x) in
+          let d = term_code p bound u known (used_by x) in
+          let y = side_by (is_pointer_term u) c d in
+          let z = related_code r t u x y in
           let more = known ++ (sure_readings_of_term t ++ sure_readings_of_term u) in
-          let d = chain_code p bound u (sure_code y.value y.used) (Linked at2 r2 v rest) more in
-          term_begins u known x.used (chain_begins u (sure_code y.value y.used) (Linked at2 r2 v rest) more (connected_begins And (relation_code r t u x y) d b))
+          let e = chain_code p bound u (again y z.used) (Linked at2 r2 v rest) more in
+          side_begins (is_pointer_term u) c d (used_by x) (λ b. pointer_begins u known (used_by x) b) (λ b. term_begins u known (used_by x) b)
+          (related_begins r t u x y (again_begins y z.used (chain_begins u (again y z.used) (Linked at2 r2 v rest) more (connected_begins And z e b))))
 
       pub pred_begins : (q : Predicate) (known : List Reading) (rs : Types) → Begins (pred_code p bound q known rs).used ts → Begins rs ts
       pred_begins (logic.Truth at v) known rs b = b
       pred_begins (logic.NonZero at t) known rs b = term_begins t known rs b
-      pred_begins (logic.Chain at t links) known rs b = term_begins t known rs (chain_begins t (term_code p bound t known rs) links known b)
+      pred_begins (logic.Chain at t links) known rs b =
+          let c = pointer_code p bound t known rs in
+          let d = term_code p bound t known rs in
+          side_begins (is_pointer_term t) c d rs (λ b. pointer_begins t known rs b) (λ b. term_begins t known rs b) (chain_begins t (side_by (is_pointer_term t) c d) links known b)
       pred_begins (logic.Not at q) known rs b = pred_begins q known rs b
       pred_begins (logic.Connected at c a d) known rs b =
           let x = pred_code p bound a known rs in
@@ -88,6 +176,8 @@ module _ (ts : Types) where
           let x = pred_code p bound a more z.used in
           let y = pred_code p bound d more x.used in
           pred_begins c known rs (pred_begins a more z.used (pred_begins d more x.used (begins_front y.used (I32 ∷ I32 ∷ []) ts b)))
+      pred_begins (logic.Asks at f z) known rs b = zone_begins z known rs (begins_front (zone_code p bound z known rs).pointer.used (I32 ∷ []) ts b)
+      pred_begins (logic.Separated at zs) known rs b = zones_begins zs known rs (begins_front (zones_code p bound zs known rs).used (I32 ∷ I32 ∷ []) ts b)
       pred_begins _ known rs b = b
 
 -- ---- judgements

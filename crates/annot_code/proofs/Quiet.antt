@@ -1,5 +1,5 @@
 -- Predicates take no step, and what they read holds numbers wherever they say something.
-use Rattle.std.proofs.Common.{◌≡◌, ℕ, pos, Bool, true, false, Option, Some, None, refl, sym, ap, ◌∙◌}
+use Rattle.std.proofs.Common.{◌≡◌, ℕ, ℤ, pos, Bool, true, false, Option, Some, None, option_map, refl, sym, ap, ◌∙◌}
 use Rattle.c_syntax.specs.declared.annotation.Relation.{Relation}
 use Rattle.c_syntax.specs.declared.annotation.Relation.TheVariants.{Ne}
 use Rattle.c_syntax.specs.declared.expression.BinOp.{BinOp}
@@ -7,10 +7,10 @@ use Rattle.c_syntax.specs.declared.logic.Connective.{Connective}
 use Rattle.c_syntax.specs.declared.logic.Connective.TheVariants.{And, Xor, Or, Implies, Iff}
 use Rattle.c_syntax.specs.Logic.{LogicTerm, Links, NoLink, Linked, Predicate}
 use Rattle.c_syntax.specs.Logic as logic
-use Rattle.c_model.specs.Logic.{Environment, TermValue, Mathematical, Addressed, Answer, Says, SaysNothing, OutOfSteps, lazily, denied, silenced, fully, both, compute, related, relates, related_addresses}
+use Rattle.c_model.specs.Logic.{Environment, TermValue, Mathematical, Addressed, Answer, Says, SaysNothing, OutOfSteps, lazily, denied, silenced, fully, both, compute, related, relates, related_addresses, as_address, asks, all_apart}
 use Rattle.c_model.specs.Memory.{Store}
 use Rattle.c_model.specs.MemoryQuestions.{Address, null_address}
-use Rattle.c_model.specs.Predicates.{chosen as chosen_term, same_as, other_than, connected as connected_answers, term, chain, pred}
+use Rattle.c_model.specs.Predicates.{chosen as chosen_term, same_as, other_than, connected as connected_answers, alignment_of, term, zone, zones, chain, pred}
 use Rattle.c_model.specs.State.{State}
 use Rattle.c_model.specs.Logic.{said}
 use Rattle.annot_code.specs.Does.{TakesNoStep, PredicateFound}
@@ -31,7 +31,7 @@ says p s e = said_by (pred p s e 0)
 abbrev pub Quiet : (ℕ → Answer) → Type 0
 Quiet f = (n : ℕ) → f n ≡ said (said_by (f 0)) n
 
-said_again : (o : Option Bool) (n : ℕ) → said_by (said o n) ≡ o
+pub said_again : (o : Option Bool) (n : ℕ) → said_by (said o n) ≡ o
 said_again None n = refl
 said_again (Some b) n = refl
 
@@ -117,8 +117,8 @@ pred_quiet (logic.Not at p) s e q = denied_quiet (pred p s e) (pred_quiet p s e 
 pred_quiet (logic.Connected at c p q) s e h = connected_quiet c (pred p s e) (pred q s e) (pred_quiet p s e h.0) (pred_quiet q s e h.1)
 pred_quiet (logic.Branch at c p q) s e h = lazy_quiet (pred c s e) (pred p s e) (pred q s e) (pred_quiet c s e h.0) (pred_quiet p s e h.1) (pred_quiet q s e h.2)
 pred_quiet (logic.Quantified at q gs p) s e h = absurd h
-pred_quiet (logic.Asks at f z) s e h = absurd h
-pred_quiet (logic.Separated at zs) s e h = absurd h
+pred_quiet (logic.Asks at f z) s e h = said_quiet (option_map (asks f s.store (alignment_of z)) (zone z s e))
+pred_quiet (logic.Separated at zs) s e h = said_quiet (option_map all_apart (zones zs s e))
 
 -- ---- what each form says, by what its parts say
 
@@ -171,6 +171,31 @@ relation_says store r (Some (Mathematical x)) (Some (Mathematical y)) na nb = re
 relation_says store r (Some (Mathematical x)) (Some (Addressed y)) na nb = absurd (nb y refl)
 relation_says store r (Some (Addressed x)) b na nb = absurd (na x refl)
 
+-- what is no number
+abbrev pub IsNoNumber : Option TermValue → Type 0
+IsNoNumber o = (z : ℤ) → o ≡ Some (Mathematical z) → ⊥
+
+-- a relation of two pointers, and of a pointer and 0
+pub addresses_say : (store : Store) (r : Relation) (a b : Option TermValue) → IsNoNumber a → IsNoNumber b
+    → said_by (related store r a b 0) ≡ after (as_address a) (λ x. after (as_address b) (λ y. related_addresses store r x y))
+addresses_say store r None b na nb = refl
+addresses_say store r (Some (Mathematical x)) b na nb = absurd (na x refl)
+addresses_say store r (Some (Addressed x)) None na nb = refl
+addresses_say store r (Some (Addressed x)) (Some (Mathematical y)) na nb = absurd (nb y refl)
+addresses_say store r (Some (Addressed x)) (Some (Addressed y)) na nb = said_again (related_addresses store r x y) 0
+
+pub zero_last_says : (store : Store) (r : Relation) (a : Option TermValue) → IsNoNumber a
+    → said_by (related store r a (Some (Mathematical (pos 0))) 0) ≡ after (as_address a) (λ x. related_addresses store r x null_address)
+zero_last_says store r None na = refl
+zero_last_says store r (Some (Mathematical x)) na = absurd (na x refl)
+zero_last_says store r (Some (Addressed x)) na = said_again (related_addresses store r x null_address) 0
+
+pub zero_first_says : (store : Store) (r : Relation) (b : Option TermValue) → IsNoNumber b
+    → said_by (related store r (Some (Mathematical (pos 0))) b 0) ≡ after (as_address b) (λ y. related_addresses store r null_address y)
+zero_first_says store r None nb = refl
+zero_first_says store r (Some (Mathematical y)) nb = absurd (nb y refl)
+zero_first_says store r (Some (Addressed y)) nb = said_again (related_addresses store r null_address y) 0
+
 pub chain_says : (r : Relation) (a : Option TermValue) (t : LogicTerm) (rest : Links) (s : State) (e : Environment)
     → said_by (lazily (related s.store r a (term t s e) 0) (chain (term t s e) rest s e) (Says false)) ≡ chosen (said_by (related s.store r a (term t s e) 0)) (said_by (chain (term t s e) rest s e 0)) (Some false)
 chain_says r a t rest s e = lazy_says (related s.store r a (term t s e)) (chain (term t s e) rest s e) (Says false) (related_quiet s.store r a (term t s e)) (chain_quiet (term t s e) rest s e) (says_quiet false)
@@ -179,6 +204,16 @@ pub choice_is : (c : Predicate) (a b : LogicTerm) (s : State) (e : Environment) 
 choice_is c a b s e = by (pred c s e 0)
   where
     by : (q : Answer) → value_of (chosen_term q (term a s e) (term b s e)) ≡ chosen (said_by q) (value_of (term a s e)) (value_of (term b s e))
+    by (Says true n) = refl
+    by (Says false n) = refl
+    by (SaysNothing n) = refl
+    by OutOfSteps = refl
+
+pub choice_address : (c : Predicate) (a b : LogicTerm) (s : State) (e : Environment)
+    → as_address (chosen_term (pred c s e 0) (term a s e) (term b s e)) ≡ chosen (says c s e) (as_address (term a s e)) (as_address (term b s e))
+choice_address c a b s e = by (pred c s e 0)
+  where
+    by : (q : Answer) → as_address (chosen_term q (term a s e) (term b s e)) ≡ chosen (said_by q) (as_address (term a s e)) (as_address (term b s e))
     by (Says true n) = refl
     by (Says false n) = refl
     by (SaysNothing n) = refl

@@ -1,5 +1,5 @@
 -- Pieces of code, as they are written.
-use Rattle.std.proofs.Common.{◌≡◌, ℕ, suc, ◌+◌, pos, List, [], ◌∷◌, length, nat_eq, Some, None, refl, sym, ap, ◌∙◌, arith}
+use Rattle.std.proofs.Common.{◌≡◌, ℕ, suc, ◌+◌, pos, List, [], ◌∷◌, ◌++◌, length, nat_eq, Option, Some, None, refl, sym, ap, ◌∙◌, arith}
 use Rattle.std.proofs.lemmas.Bool.Decides.{nat_tests}
 use Rattle.c_syntax.specs.Logic.{Annotation}
 use Rattle.mon_syntax.specs.declared.tree.MonType.TheVariants.{I32}
@@ -7,7 +7,10 @@ use Rattle.mon_syntax.specs.declared.tree.MonStmt.{MonStmt}
 use Rattle.mon_syntax.specs.Trees.{MonExpression, Register, Constant, MonStatement, MonStatements, NoStatement, Then, Set, If, Assert, plain_stmts}
 use Rattle.c_effects.specs.Expressions.{before, one}
 use Rattle.c_effects.proofs.Sequences.{before_assoc}
+use Rattle.mem_preds.specs.declared.ranges.Bytes.{Bytes}
 use Rattle.annot_code.specs.Code.{Judgement, asserted, has_none, take}
+use Rattle.annot_code.specs.Plain.{all_bytes, bytes_of, taken_where}
+use Rattle.annot_code.specs.Pointers.{PointerCode, take_both, take_pointer}
 
 -- two statements
 pub two : (a : MonStatements) (x y : MonStatement) → before (before a (one x)) (one y) ≡ before a (Then x (one y))
@@ -15,6 +18,28 @@ two a x y = before_assoc a (one x) (one y)
 
 pub next_is : (r : ℕ) → suc r ≡ r + 1
 next_is r = omega arith
+
+pub next_two_is : (r : ℕ) → suc (suc r) ≡ r + 2
+next_two_is r = omega arith
+
+pub next_three_is : (r : ℕ) → suc (suc (suc r)) ≡ r + 3
+next_three_is r = omega arith
+
+pub next_four_is : (r : ℕ) → suc (suc (suc (suc r))) ≡ r + 4
+next_four_is r = omega arith
+
+pub next_five_is : (r : ℕ) → suc (suc (suc (suc (suc r)))) ≡ r + 5
+next_five_is r = omega arith
+
+pub ruleset next_rules = (next_is, next_two_is, next_three_is, next_four_is, next_five_is)
+
+-- two statements, and others
+pub two_more : (a : MonStatements) (x y : MonStatement) (rest : MonStatements) → before (before (before a (one x)) (one y)) rest ≡ before a (Then x (Then y rest))
+two_more a x y rest = ap (λ b. before b rest) (two a x y) ∙ before_assoc a (Then x (one y)) rest
+
+-- a zone, and others
+pub zones_append : (b : Bytes) (bs : List Bytes) → all_bytes ((b ∷ []) ++ bs) ≡ bytes_of b ∷ all_bytes bs
+zones_append b bs = refl
 
 pub take_none : (a : MonStatements) (e : MonExpression) (r : ℕ) → before (before a (one (Set r (Constant I32 (pos 1))))) (one (Set (r + 1) e)) ≡ before a (take None e r)
 take_none a e r = two a (Set r (Constant I32 (pos 1))) (Set (r + 1) e) ∙ ap (λ k. before a (Then (Set r (Constant I32 (pos 1))) (one (Set k e)))) (sym (next_is r))
@@ -35,3 +60,8 @@ pub asserted_is :
 asserted_is t t1 t2 j a flag truth k first flag_is truth_is k_is last =
     last ∙ (λ i. before (first i) (one (k_is i))) ∙ before_assoc t j.stmts (one (Assert flag truth a.number a.place.line a.kind))
     ∙ (λ i. before t (before j.stmts (one (Assert (flag_is i) (truth_is i) a.number a.place.line a.kind))))
+
+-- a flag and a pointer
+pub taken_is : (f : Option MonExpression) (c : PointerCode) (r : ℕ) → take_pointer f c r ≡ taken_where f (take_both c r) r
+taken_is None c r = refl
+taken_is (Some f) c r = refl

@@ -45,7 +45,7 @@ same_set n r regs v le = record { long = length-set regs r v; below = λ j lt. s
 
 -- ---- what is written
 
-writes_none : {S A : Type 0} (q : Result S A) → writes [] q ≡ q
+pub writes_none : {S A : Type 0} (q : Result S A) → writes [] q ≡ q
 writes_none (Done a s p) = refl
 writes_none (Stops e n p) = refl
 
@@ -93,7 +93,7 @@ module _ (w : Setting) where
   pub set_runs : (r : ℕ) (e : MonExpression) (regs : List Value) (z : ℤ) → HasNumber e regs z → runs w (set r e) regs ≡ Done (Next (slice_set regs r (Integer z))) w.target []
   set_runs r e regs z h = set_first r e NoStatement regs z h
 
-  last_is : (q : Did) → then_do q (at_next (λ r t. Done (Next r) t [])) ≡ q
+  pub last_is : (q : Did) → then_do q (at_next (λ r t. Done (Next r) t [])) ≡ q
   last_is (Done (Next r) t o) = ap (Done (Next r) t) (append-nil o)
   last_is (Done (Goes l r) t o) = ap (Done (Goes l r) t) (append-nil o)
   last_is (Done (Returns v) t o) = ap (Done (Returns v) t) (append-nil o)

@@ -1,5 +1,5 @@
 -- The code of every predicate is valid.
-use Rattle.std.proofs.Common.{◌≡◌, ℕ, zero, suc, ◌+◌, ◌*◌, ◌≤◌, ℤ, pos, Bool, true, false, if◌then◌else◌, max, List, [], ◌∷◌, ◌++◌, length, Option, Some, None, slice_get, refl, sym, ap, ◌∙◌, subst, arith}
+use Rattle.std.proofs.Common.{◌≡◌, ℕ, zero, suc, ◌+◌, ◌-◌, ◌*◌, ◌≤◌, ℤ, pos, Bool, true, false, if◌then◌else◌, max, List, [], ◌∷◌, ◌++◌, length, Option, Some, None, slice_get, refl, sym, ap, ◌∙◌, subst, arith}
 use Rattle.std.proofs.lemmas.Int.{ints}
 use Rattle.std.proofs.Math.Nat.{max-le}
 use Rattle.std.specs.Ordering.{int_eq}
@@ -34,6 +34,21 @@ use Rattle.mon_syntax.specs.Registers.{Bindings, register_of}
 use Rattle.mon_syntax.specs.Trees.{MonExpression, Register, Global, Constant, Binary, Minus, Flip, Cast, Load, If, MonStatements}
 use Rattle.mon_syntax.specs.Valid.{Types, HasType, AreStatements, Labels, Signature, open_parens, is_whole, depth_of_all}
 use Rattle.c_effects.specs.Expressions.{before, one, set, in_type, register_type, pointer_of, pointer_to, object_of_global}
+use Rattle.c_syntax.specs.Logic.{Zone, Zones, NoZone, Another}
+use Rattle.c_model.specs.Formed.{tokens_of_zone, tokens_of_zones}
+use Rattle.c_model.specs.Predicates.{alignment_of}
+use Rattle.c_model.specs.TermRanges.{ZoneRanged, ZonesRanged}
+use Rattle.mon_syntax.specs.declared.tree.MonType.TheVariants.{I64, I128}
+use Rattle.mem_preds.specs.Questions.{type_of_fact}
+use Rattle.annot_code.specs.Pointers.{PointerCode, start_pointer, null, null_code, member_code, pointer_there, told_pointer}
+use Rattle.annot_code.specs.Code.{Side, OfNumber, OfPointer, used_by, stmts_of, side_by, again, related_code, is_pointer_term, is_null_term, pointer_code, place_code, zone_code, zones_code}
+use Rattle.annot_code.specs.Does.{HasIntegers, found_by}
+use Rattle.annot_code.specs.Validity.{PointerWritable, PlaceWritable, ZoneWritable, ZonesWritable}
+use Rattle.annot_code.proofs.Depths.{related_deep, term_deep, pointer_deep, pred_deep}
+use Rattle.annot_code.proofs.Prefixes.{there_begins, pointer_begins, zones_begins, related_begins, again_begins}
+use Rattle.annot_code.proofs.ValidPointers.{PointerValid, pointer_more, start_valid, null_valid, there_valid, number_read_valid, told_number_valid}
+use Rattle.annot_code.proofs.ValidPointers.{told_pointer_valid, member_parens, member_valid, moved_valid, branch_pointer_valid, addresses_valid, difference_valid}
+use Rattle.annot_code.proofs.ValidZones.{ZoneValid, object_valid, elements_valid, zone_asked_valid, ZonesValid, none_valid, another_valid, separated_valid}
 use Rattle.annot_code.specs.Code.{term_type, Reading}
 use Rattle.term_guards.specs.Guards.{guard}
 use Rattle.annot_code.specs.Code.{Code, with_value, type_of_width, type_of, width_of, wider, working, is_total, binary_value, unary_value, relation_value, relation_code, cast_value, converted_to, operated, sure_code, variable_code, is_known}
@@ -328,9 +343,58 @@ module _ (p : TranslationUnit) (bound : Bindings) (g : ℕ) (gs : List Signature
       changed_valid g gs ts result ls c (Binary mon.Eq I32 c.value (Constant I32 (pos 0))) I32 I32 n 4 (suc n) 4 v (omega arith)
       (relation_typed g ts mon.Eq W32 c.value (Constant I32 (pos 0)) refl v.typed (refl, refl)) (omega (arith, l))
 
-  -- a term that was computed already
-  again_is_code : (u : LogicTerm) (y : Code) → IsCode y (type_of u) (tokens_of_term u) 2 → IsCode (sure_code y.value y.used) (type_of u) (tokens_of_term u) 2
-  again_is_code u y v = record { statements = tt; deep = omega arith; opened = omega arith; flag = tt; typed = v.typed; parens = v.parens }
+  -- ---- sides of relations
+
+  -- the code of a side of n tokens
+  abbrev SideValid : Side → LogicTerm → ℕ → Type 0
+  SideValid (OfNumber c) t n = IsCode c (type_of t) n 2
+  SideValid (OfPointer c) t n = PointerValid g gs ts result ls c n × (depth_of_all c.stmts ≤ n + n)
+
+  -- a side that was computed already
+  again_valid : (u : LogicTerm) (y : Side) (rs : Types) (n : ℕ) → SideValid y u n → SideValid (again y rs) u n
+  again_valid u (OfNumber c) rs n v = record { statements = tt; deep = omega arith; opened = omega arith; flag = tt; typed = v.typed; parens = v.parens }
+  again_valid u (OfPointer c) rs n v =
+      let w = v.0 in
+      (record { statements = tt; opened = omega arith; flag = tt; base = w.base; base_parens = w.base_parens; offset = w.offset; offset_parens = w.offset_parens }, omega arith)
+
+  ended_valid : (x : Side) (t : LogicTerm) (n : ℕ) (rs : Types) → SideValid x t n → IsCode (record { stmts = stmts_of x; flag = None; value = Constant I32 (pos 1); used = rs }) I32 (n + 0) 4
+  ended_valid (OfNumber c) t n rs v = record { statements = v.statements; deep = omega (arith, v.deep); opened = omega (arith, v.opened); flag = tt; typed = (refl, refl); parens = omega arith }
+  ended_valid (OfPointer c) t n rs v =
+      let w = v.0 in
+      let d = v.1 in
+      record { statements = w.statements; deep = omega (arith, d); opened = omega (arith, w.opened); flag = tt; typed = (refl, refl); parens = omega arith }
+
+  side_depth : (x : Side) (t : LogicTerm) (n : ℕ) → SideValid x t n → depth_of_all (stmts_of x) ≤ n + n
+  side_depth (OfNumber c) t n v = v.deep
+  side_depth (OfPointer c) t n v = v.1
+
+  related_is_code : (r : Relation) (t u : LogicTerm) (x y : Side) (m n k : ℕ) → SideValid x t m → SideValid y u n → 1 ≤ m → 1 ≤ n → m + suc n ≤ k → k ≤ 400 → Begins (related_code r t u x y).used ts → IsCode (related_code r t u x y) I32 k 4
+  related_is_code r t u x y m n k vx vy lm ln le few b = by x y vx vy (related_deep r t u x y m n k (side_depth x t m vx) (side_depth y u n vy) (omega (arith, le)) (omega (arith, le)) (omega (arith, le))) b
+    where
+      by : (x y : Side) → SideValid x t m → SideValid y u n → depth_of_all (related_code r t u x y).stmts ≤ k + k → Begins (related_code r t u x y).used ts → IsCode (related_code r t u x y) I32 k 4
+      by (OfNumber x) (OfNumber y) vx vy d b = relation_is_code r t u x y m n k vx vy lm ln le
+      by (OfNumber x) (OfPointer y) vx vy d b =
+          addresses_valid g gs ts result ls (null_code x) y m n k few (null_valid g gs ts result ls x (type_of t) m 2 lm vx) vy.0 (omega (arith, ln, le)) (omega (arith, lm, le)) r (is_null_term t) (is_null_term u) b d
+      by (OfPointer x) (OfNumber y) vx vy d b =
+          addresses_valid g gs ts result ls x (null_code y) m n k few vx.0 (null_valid g gs ts result ls y (type_of u) n 2 ln vy) (omega (arith, ln, le)) (omega (arith, lm, le)) r (is_null_term t) (is_null_term u) b d
+      by (OfPointer x) (OfPointer y) vx vy d b =
+          addresses_valid g gs ts result ls x y m n k few vx.0 vy.0 (omega (arith, ln, le)) (omega (arith, lm, le)) r (is_null_term t) (is_null_term u) b d
+
+  side_made : (u : LogicTerm) (c : PointerCode) (d : Code) (n : ℕ) → depth_of_all c.stmts ≤ n + n → found_by (is_pointer_term u) (PointerWritable p bound g ts u) (TermWritable p bound g ts u)
+      → (PointerWritable p bound g ts u → Begins c.used ts → PointerValid g gs ts result ls c n) → (TermWritable p bound g ts u → Begins d.used ts → IsCode d (type_of u) n 2)
+      → Begins (used_by (side_by (is_pointer_term u) c d)) ts → SideValid (side_by (is_pointer_term u) c d) u n
+  side_made u c d n deep f as_pointer as_number b = by (is_pointer_term u) f b
+    where
+      by : (s : Bool) → found_by s (PointerWritable p bound g ts u) (TermWritable p bound g ts u) → Begins (used_by (side_by s c d)) ts → SideValid (side_by s c d) u n
+      by true f b = (as_pointer f b, deep)
+      by false f b = as_number f b
+
+  -- a width of a number
+  whole_of : (t : LogicTerm) → is_whole (type_of t) ≡ true
+  whole_of t = whole_width (width_of t)
+
+  whole_term : (t : Option PlainType) → HasIntegers t → is_whole (term_type t) ≡ true
+  whole_term t int = ap (λ t. is_whole (term_type t)) int.1 ∙ whole_register int.0
 
   -- wherever a term stands, but right of a shift to the right
   anywhere : (t : LogicTerm) (c : Code) → IsCode c (type_of t) (tokens_of_term t) (parentheses_around 2 (operator_of_term t)) → IsCode c (type_of t) (tokens_of_term t) 2
@@ -368,38 +432,148 @@ module _ (p : TranslationUnit) (bound : Bindings) (g : ℕ) (gs : List Signature
         (tokens_of_predicate c) (tokens_of_term a) (tokens_of_term b) (suc (tokens_of_predicate c + tokens_of_term a + tokens_of_term b)) 0
         (pred_valid c q.1 f.0 known rs (omega (arith, few)) hz) (side_is_code a r x (tokens_of_term a) (anywhere a (term_code p bound a more z.used) (term_valid a q.2 f.1 more z.used (omega (arith, few)) hx)))
         (side_is_code b r y (tokens_of_term b) (anywhere b (term_code p bound b more x.used) (term_valid b q.3 f.2 more x.used (omega (arith, few)) hy))) (omega (arith, some_term a)) (omega arith) (omega arith) (some_term a) few h
+    term_valid (logic.Deref at t r a) q f known rs few h =
+        let c = pointer_code p bound a known rs in
+        let v = pointer_valid a q.1 f.1 known rs (omega (arith, few)) (begins_front c.used (I32 ∷ []) ts h) in
+        let n = tokens_of_term a in
+        number_read_valid g gs ts result ls (type_of_width (width_of_range r)) (term_type t) (whole_width (width_of_range r)) (whole_term t f.0) c (suc n) (3 * n - 2) few (pointer_more g gs ts result ls c n (suc n) (omega arith) v)
+        (omega (arith, some_term a)) (omega (arith, v.offset_parens)) (omega (arith, some_term a)) h (term_deep p bound (logic.Deref at t r a) known rs)
+    term_valid (logic.Member at t r d a) q f known rs few h =
+        let c = place_code p bound a known rs in
+        let v = place_valid a q.1 f.2 known rs (omega (arith, few)) (begins_front c.used (I32 ∷ []) ts h) in
+        let n = tokens_of_term a in
+        let small : n ≤ 400 = omega (arith, few) in
+        number_read_valid g gs ts result ls (type_of_width (width_of_range r)) (term_type t) (whole_width (width_of_range r)) (whole_term t f.0) (member_code d c) (suc n) (3 * n - 1) few (member_valid g gs ts result ls d c n f.1 small v)
+        (omega (arith, some_term a)) (member_parens g gs ts result ls d c n small v) (omega (arith, some_term a)) h (term_deep p bound (logic.Member at t r d a) known rs)
+    term_valid (logic.Difference at t r n a b) q f known rs few h =
+        let c = pointer_code p bound a known rs in
+        let d = pointer_code p bound b known c.used in
+        let hd = begins_front d.used (I32 ∷ I32 ∷ Ptr ∷ Ptr ∷ I64 ∷ I64 ∷ []) ts h in
+        let hc = pointer_begins ts p bound b known c.used hd in
+        let k = suc (tokens_of_term a + tokens_of_term b) in
+        difference_valid g gs ts result ls c d (tokens_of_term a) (tokens_of_term b) k few (pointer_valid a q.1 f.1 known rs (omega (arith, few)) hc) (pointer_valid b q.2 f.2 known c.used (omega (arith, few)) hd) (omega arith) (omega arith)
+        (type_of_width (width_of_range r)) n (whole_width (width_of_range r)) f.0 h (term_deep p bound (logic.Difference at t r n a b) known rs)
+    term_valid (logic.Told at t r e a) q f known rs few h =
+        let c = pointer_code p bound a known rs in
+        let v = pointer_valid a q.1 f.1 known rs (omega (arith, few)) (begins_front c.used (I32 ∷ type_of_fact e ∷ []) ts h) in
+        told_number_valid g gs ts result ls (type_of_width (width_of_range r)) (whole_width (width_of_range r)) e f.0 c (tokens_of_term a) (omega (arith, few)) v h (term_deep p bound (logic.Told at t r e a) known rs)
     term_valid _ q f known rs few h = absurd f
 
-    chain_valid : (t : LogicTerm) (x : Code) (l : Links) (m : ℕ) → LinksRanged [] l → LinksWritable p bound g ts l → (known : List Reading) → 1 ≤ m → m + tokens_of_links l ≤ 400 → IsCode x (type_of t) m 2
+    pointer_valid : (t : LogicTerm) → TermRanged [] t → PointerWritable p bound g ts t → (known : List Reading) (rs : Types) → tokens_of_term t ≤ 400 → Begins (pointer_code p bound t known rs).used ts
+        → PointerValid g gs ts result ls (pointer_code p bound t known rs) (tokens_of_term t)
+    pointer_valid (logic.Variable at t r x) q f known rs few h =
+        there_valid g gs ts result ls (is_known known (record { decl = x.decl; kind = term_type t })) t (start_pointer (pointer_to p bound x.decl) rs) 1 (omega arith)
+        (start_valid g gs ts result ls (pointer_to p bound x.decl) rs f (let l = pointer_parens p bound x.decl in omega (arith, l))) h
+    pointer_valid (logic.Null at t r) q f known rs few h = start_valid g gs ts result ls null rs (refl, refl) (omega arith)
+    pointer_valid (logic.Deref at t r a) q f known rs few h =
+        let c = pointer_code p bound a known rs in
+        let v = pointer_valid a q.1 f known rs (omega (arith, few)) (there_begins ts false t c h) in
+        pointer_more g gs ts result ls (pointer_there false t c) (tokens_of_term a) (suc (tokens_of_term a)) (omega arith) (there_valid g gs ts result ls false t c (tokens_of_term a) (omega (arith, few)) v h)
+    pointer_valid (logic.Member at t r d a) q f known rs few h =
+        let c = place_code p bound a known rs in
+        let v = place_valid a q.1 f.1 known rs (omega (arith, few)) (there_begins ts false t (member_code d c) h) in
+        there_valid g gs ts result ls false t (member_code d c) (suc (tokens_of_term a)) few (member_valid g gs ts result ls d c (tokens_of_term a) f.0 (omega (arith, few)) v) h
+    pointer_valid (logic.Address at t r a) q f known rs few h =
+        pointer_more g gs ts result ls (place_code p bound a known rs) (tokens_of_term a) (suc (tokens_of_term a)) (omega arith) (place_valid a q.1 f known rs (omega (arith, few)) h)
+    pointer_valid (logic.Moved at t r op n a b) q f known rs few h =
+        let c = pointer_code p bound a known rs in
+        let d = term_code p bound b known c.used in
+        let hc = term_begins ts p bound b known c.used h in
+        moved_valid g gs ts result ls op n c (type_of b) d (tokens_of_term a) (tokens_of_term b) f.0 (whole_of b) (omega (arith, few)) (some_term b) (pointer_valid a q.1 f.1 known rs (omega (arith, few)) hc)
+        (anywhere b d (term_valid b q.2 f.2 known c.used (omega (arith, few)) h))
+    pointer_valid (logic.Cast at t r to a) q f known rs few h =
+        pointer_more g gs ts result ls (pointer_code p bound a known rs) (tokens_of_term a) (suc (tokens_of_term a)) (omega arith) (pointer_valid a q.1 f known rs (omega (arith, few)) h)
+    pointer_valid (logic.Choice at t r c a b) q f known rs few h =
+        let more = known ++ sure_readings c in
+        let z = pred_code p bound c known rs in
+        let x = pointer_code p bound a more z.used in
+        let y = pointer_code p bound b more x.used in
+        let hy = begins_front y.used (I32 ∷ Ptr ∷ I128 ∷ []) ts h in
+        let hx = pointer_begins ts p bound b more x.used hy in
+        let hz = pointer_begins ts p bound a more z.used hx in
+        branch_pointer_valid g gs ts result ls z x y (tokens_of_predicate c) (tokens_of_term a) (tokens_of_term b) (suc (tokens_of_predicate c + tokens_of_term a + tokens_of_term b)) few
+        (pred_valid c q.1 f.0 known rs (omega (arith, few)) hz) (pointer_valid a q.2 f.1 more z.used (omega (arith, few)) hx) (pointer_valid b q.3 f.2 more x.used (omega (arith, few)) hy)
+        (omega (arith, some_term a)) (omega arith) (omega arith) h
+    pointer_valid (logic.Told at t r e a) q f known rs few h =
+        let c = pointer_code p bound a known rs in
+        let v = pointer_valid a q.1 f known rs (omega (arith, few)) (begins_front c.used (I32 ∷ Ptr ∷ []) ts h) in
+        pointer_more g gs ts result ls (told_pointer c) (tokens_of_term a) (suc (tokens_of_term a)) (omega arith) (told_pointer_valid g gs ts result ls c (tokens_of_term a) (omega (arith, few)) v h)
+    pointer_valid _ q f known rs few h = absurd f
+
+    place_valid : (t : LogicTerm) → TermRanged [] t → PlaceWritable p bound g ts t → (known : List Reading) (rs : Types) → tokens_of_term t ≤ 400 → Begins (place_code p bound t known rs).used ts
+        → PointerValid g gs ts result ls (place_code p bound t known rs) (tokens_of_term t)
+    place_valid (logic.Variable at t r x) q f known rs few h =
+        start_valid g gs ts result ls (pointer_to p bound x.decl) rs f (let l = pointer_parens p bound x.decl in omega (arith, l))
+    place_valid (logic.Deref at t r a) q f known rs few h =
+        pointer_more g gs ts result ls (pointer_code p bound a known rs) (tokens_of_term a) (suc (tokens_of_term a)) (omega arith) (pointer_valid a q.1 f known rs (omega (arith, few)) h)
+    place_valid (logic.Member at t r d a) q f known rs few h =
+        member_valid g gs ts result ls d (place_code p bound a known rs) (tokens_of_term a) f.0 (omega (arith, few)) (place_valid a q.1 f.1 known rs (omega (arith, few)) h)
+    place_valid _ q f known rs few h = absurd f
+
+    zone_valid : (z : Zone) → ZoneRanged [] z → ZoneWritable p bound g ts z → (known : List Reading) (rs : Types) → tokens_of_zone z ≤ 400 → Begins (zone_code p bound z known rs).pointer.used ts
+        → ZoneValid g gs ts result ls (zone_code p bound z known rs) (tokens_of_zone z)
+    zone_valid (logic.Object at n m a) q f known rs few h = object_valid g gs ts result ls n (pointer_code p bound a known rs) (tokens_of_term a) f.0 (pointer_valid a q f.1 known rs few h)
+    zone_valid (logic.Elements at n m a lo hi) q f known rs few h =
+        let c = pointer_code p bound a known rs in
+        let x = term_code p bound lo known c.used in
+        let y = term_code p bound hi known x.used in
+        let hx = term_begins ts p bound hi known x.used h in
+        let hc = term_begins ts p bound lo known c.used hx in
+        elements_valid g gs ts result ls n c (type_of lo) (type_of hi) x y (tokens_of_term a) (tokens_of_term lo) (tokens_of_term hi) f.0 (whole_of lo) (whole_of hi) (some_term a) (some_term lo) (some_term hi)
+        (pointer_valid a q.1 f.1 known rs (omega (arith, few)) hc) (anywhere lo x (term_valid lo q.2 f.2 known c.used (omega (arith, few)) hx)) (anywhere hi y (term_valid hi q.3 f.3 known x.used (omega (arith, few)) h))
+
+    zones_valid : (zs : Zones) → ZonesRanged [] zs → ZonesWritable p bound g ts zs → (known : List Reading) (rs : Types) → tokens_of_zones zs ≤ 400 → Begins (zones_code p bound zs known rs).used ts
+        → ZonesValid g gs ts result ls (zones_code p bound zs known rs) (tokens_of_zones zs)
+    zones_valid NoZone q f known rs few h = none_valid g gs ts result ls rs
+    zones_valid (Another z rest) q f known rs few h =
+        let c = zone_code p bound z known rs in
+        let hc = zones_begins ts p bound rest known c.pointer.used h in
+        another_valid g gs ts result ls c (zones_code p bound rest known c.pointer.used) (tokens_of_zone z) (tokens_of_zones rest) (zone_valid z q.0 f.0 known rs (omega (arith, few)) hc)
+        (zones_valid rest q.1 f.1 known c.pointer.used (omega (arith, few)) h)
+
+    chain_valid : (t : LogicTerm) (x : Side) (l : Links) (m : ℕ) → LinksRanged [] l → LinksWritable p bound g ts l → (known : List Reading) → 1 ≤ m → m + tokens_of_links l ≤ 400 → SideValid x t m
         → Begins (chain_code p bound t x l known).used ts
         → IsCode (chain_code p bound t x l known) I32 (m + tokens_of_links l) 4
-    chain_valid t x NoLink m q f known some few v h =
-        record { statements = v.statements; deep = omega (arith, v.deep); opened = omega (arith, v.opened); flag = tt; typed = (refl, refl); parens = omega arith }
+    chain_valid t x NoLink m q f known some few v h = ended_valid x t m (used_by x) v
     chain_valid t x (Linked at r u NoLink) m q f known some few v h =
-        let y = term_code p bound u known x.used in
-        let vy = anywhere u y (term_valid u q.0 f.0 known x.used (omega (arith, few)) h) in
-        relation_is_code r t u x y m (tokens_of_term u) (m + suc (tokens_of_term u + 0)) v vy some (some_term u) (omega arith)
-    chain_valid t x (Linked at r u (Linked at2 r2 v rest)) m q f known some few vx h =
-        let y = term_code p bound u known x.used in
-        let more = known ++ (sure_readings_of_term t ++ sure_readings_of_term u) in
-        let start = sure_code y.value y.used in
+        let c = pointer_code p bound u known (used_by x) in
+        let d = term_code p bound u known (used_by x) in
+        let y = side_by (is_pointer_term u) c d in
         let n = tokens_of_term u in
-        let z = relation_code r t u x y in
-        let d = chain_code p bound u start (Linked at2 r2 v rest) more in
-        let hd = connected_begins ts And z d h in
-        let hy = chain_begins ts p bound u start (Linked at2 r2 v rest) more hd in
-        let vy = anywhere u (term_code p bound u known x.used) (term_valid u q.0 f.0 known x.used (omega (arith, few)) hy) in
+        let hy = related_begins ts r t u x y h in
+        let vy = side_made u c d n (pointer_deep p bound u known (used_by x)) f.0 (λ w b. pointer_valid u q.0 w known (used_by x) (omega (arith, few)) b)
+        (λ w b. anywhere u d (term_valid u q.0 w known (used_by x) (omega (arith, few)) b)) hy in
+        related_is_code r t u x y m n (m + suc (n + 0)) v vy some (some_term u) (omega arith) few h
+    chain_valid t x (Linked at r u (Linked at2 r2 v rest)) m q f known some few vx h =
+        let c = pointer_code p bound u known (used_by x) in
+        let d = term_code p bound u known (used_by x) in
+        let y = side_by (is_pointer_term u) c d in
+        let more = known ++ (sure_readings_of_term t ++ sure_readings_of_term u) in
+        let n = tokens_of_term u in
+        let z = related_code r t u x y in
+        let start = again y z.used in
+        let e = chain_code p bound u start (Linked at2 r2 v rest) more in
+        let he = connected_begins ts And z e h in
+        let hz = again_begins ts y z.used (chain_begins ts p bound u start (Linked at2 r2 v rest) more he) in
+        let hy = related_begins ts r t u x y hz in
+        let vy = side_made u c d n (pointer_deep p bound u known (used_by x)) f.0 (λ w b. pointer_valid u q.0 w known (used_by x) (omega (arith, few)) b)
+        (λ w b. anywhere u d (term_valid u q.0 w known (used_by x) (omega (arith, few)) b)) hy in
         let l = tokens_of_links (Linked at2 r2 v rest) in
-        connected_valid g gs ts result ls And z d (m + suc n) (n + l) (m + suc (n + l)) (relation_is_code r t u x y m n (m + suc n) vx vy some (some_term u) (omega arith))
-        (chain_valid u start (Linked at2 r2 v rest) n q.1 f.1 more (some_term u) (omega (arith, few)) (again_is_code u y vy) hd) (omega (arith, some_term v)) (omega (arith, some)) (omega (arith, some_term u)) few h
+        connected_valid g gs ts result ls And z e (m + suc n) (n + l) (m + suc (n + l)) (related_is_code r t u x y m n (m + suc n) vx vy some (some_term u) (omega arith) (omega (arith, few)) hz)
+        (chain_valid u start (Linked at2 r2 v rest) n q.1 f.1 more (some_term u) (omega (arith, few)) (again_valid u y z.used n vy) he) (omega (arith, some_term v)) (omega (arith, some)) (omega (arith, some_term u)) few h
 
     pred_valid : (q : Predicate) → PredicateRanged [] q → PredicateWritable p bound g ts q → (known : List Reading) (rs : Types) → tokens_of_predicate q ≤ 400 → Begins (pred_code p bound q known rs).used ts
         → IsCode (pred_code p bound q known rs) I32 (tokens_of_predicate q) 4
     pred_valid (logic.Truth at b) q f known rs few h = truth_valid g gs ts result ls b rs 4
     pred_valid (logic.NonZero at t) q f known rs few h = nonzero_is_code t (term_code p bound t known rs) (anywhere t (term_code p bound t known rs) (term_valid t q f known rs few h))
     pred_valid (logic.Chain at t links) q f known rs few h =
-        let x = term_code p bound t known rs in
-        chain_valid t x links (tokens_of_term t) q.1 f.1 known (some_term t) few (anywhere t (term_code p bound t known rs) (term_valid t q.0 f.0 known rs (omega (arith, few)) (chain_begins ts p bound t x links known h))) h
+        let c = pointer_code p bound t known rs in
+        let d = term_code p bound t known rs in
+        let x = side_by (is_pointer_term t) c d in
+        let n = tokens_of_term t in
+        let hx = chain_begins ts p bound t x links known h in
+        let vx = side_made t c d n (pointer_deep p bound t known rs) f.0 (λ w b. pointer_valid t q.0 w known rs (omega (arith, few)) b) (λ w b. anywhere t d (term_valid t q.0 w known rs (omega (arith, few)) b)) hx in
+        chain_valid t x links n q.1 f.1 known (some_term t) few vx h
     pred_valid (logic.Not at a) q f known rs few h = not_is_code (pred_code p bound a known rs) (tokens_of_predicate a) (pred_valid a q f known rs (omega (arith, few)) h)
     pred_valid (logic.Connected at c a b) q f known rs few h =
         let x = pred_code p bound a known rs in
@@ -421,7 +595,15 @@ module _ (p : TranslationUnit) (bound : Bindings) (g : ℕ) (gs : List Signature
         branch_valid g gs ts result ls I32 z x y (tokens_of_predicate c) (tokens_of_predicate a) (tokens_of_predicate b) (suc (tokens_of_predicate c + tokens_of_predicate a + tokens_of_predicate b)) 4
         (pred_valid c q.0 f.0 known rs (omega (arith, few)) hz) (pred_valid a q.1 f.1 more z.used (omega (arith, few)) hx)
         (pred_valid b q.2 f.2 more x.used (omega (arith, few)) hy) (omega (arith, some_tokens a)) (omega arith) (omega arith) (some_tokens a) few h
-    pred_valid _ q f known rs few h = absurd f
+    pred_valid (logic.Asks at e z) q f known rs few h =
+        let c = zone_code p bound z known rs in
+        let v = zone_valid z q f known rs (omega (arith, few)) (begins_front c.pointer.used (I32 ∷ []) ts h) in
+        zone_asked_valid g gs ts result ls e (alignment_of z) c (tokens_of_zone z) (omega (arith, few)) v h (pred_deep p bound (logic.Asks at e z) known rs)
+    pred_valid (logic.Separated at zs) q f known rs few h =
+        let c = zones_code p bound zs known rs in
+        let v = zones_valid zs q f known rs (omega (arith, few)) (begins_front c.used (I32 ∷ I32 ∷ []) ts h) in
+        separated_valid g gs ts result ls c (tokens_of_zones zs) (omega (arith, few)) v h (pred_deep p bound (logic.Separated at zs) known rs)
+    pred_valid (logic.Quantified at quantifier guards e) q f known rs few h = absurd f
 
   -- ---- the flag and the truth in registers
 

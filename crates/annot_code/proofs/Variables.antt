@@ -1,5 +1,5 @@
 -- Variables: whether one holds a number, and what is known of those that were read.
-use Rattle.std.proofs.Common.{◌≡◌, ℕ, ℤ, pos, Bool, true, false, ◌&&◌, ◌||◌, nat_eq, List, [], ◌∷◌, ◌++◌, Option, Some, None, option_map, refl, sym, ap, ◌∙◌, arith}
+use Rattle.std.proofs.Common.{◌≡◌, ℕ, ℤ, pos, ◌-ℤ◌, Bool, true, false, ◌&&◌, ◌||◌, if◌then◌else◌, nat_eq, List, [], ◌∷◌, ◌++◌, Option, Some, None, option_map, refl, sym, ap, ◌∙◌, arith}
 use Rattle.std.proofs.lemmas.Bool.Decides.{nat_tests}
 use Rattle.c_syntax.specs.declared.annotation.Range.{Range}
 use Rattle.c_syntax.specs.declared.annotation.Relation.{Relation}
@@ -14,33 +14,42 @@ use Rattle.c_syntax.specs.declared.logic.Connective.TheVariants.{And, Xor, Or, I
 use Rattle.c_syntax.specs.declared.place.Place.{Place}
 use Rattle.c_syntax.specs.declared.types.CInt.{CInt}
 use Rattle.c_syntax.specs.declared.types.CInt.TheVariants as c
+use Rattle.c_syntax.specs.declared.logic.BlockFact.{BlockFact}
+use Rattle.c_syntax.specs.declared.logic.BlockFact.TheVariants.{BaseAddr, BlockLength, Offset}
+use Rattle.c_syntax.specs.declared.logic.PointerOp.{PointerOp}
 use Rattle.c_syntax.specs.Ctypes.{PlainType, Int}
+use Rattle.c_syntax.specs.Ctypes as ctype
 use Rattle.c_syntax.specs.Formulas.{CastType, Integers, OfC}
-use Rattle.c_syntax.specs.Logic.{LogicTerm, NoLink, Linked, Predicate}
+use Rattle.c_syntax.specs.Logic.{LogicTerm, NoLink, Linked, Zone, Zones, NoZone, Another, Predicate}
 use Rattle.c_syntax.specs.Logic as logic
-use Rattle.c_syntax.specs.Layouts.{int_size, IntegerType}
+use Rattle.c_syntax.specs.Layouts.{int_size, IntegerType, PointerType}
 use Rattle.c_model.specs.Integers.{value_of_bits}
-use Rattle.c_model.specs.Logic.{Environment, TermValue, Mathematical, Addressed, held_at, load_from, pointer_at, mathematical, both, Answer, Says, SaysNothing, OutOfSteps, compute, of_value, related, relates}
-use Rattle.c_model.specs.MemoryQuestions.{Address, address_of}
-use Rattle.c_model.specs.Memory.{Pointer, Into, Value, Integer, Points, NoValue, Byte, Store, number_of, value_from, load, load_bytes}
+use Rattle.c_model.specs.Logic.{Environment, TermValue, Mathematical, Addressed, held_at, load_from, pointer_at, mathematical, both, Answer, Says, SaysNothing, OutOfSteps, compute}
+use Rattle.c_model.specs.Logic.{of_value, related, as_address, addressed, are_together, difference, fact, told, moved, Extent, object_extent, elements_extent, asks, all_apart}
+use Rattle.c_model.specs.Library.{is_there}
+use Rattle.c_model.specs.MemoryQuestions.{Address, Part, address_of, address_farther, inside, has_pointer}
+use Rattle.c_model.specs.Operators.{quotient}
+use Rattle.c_model.specs.Together.{AllTogether}
+use Rattle.c_model.proofs.Together.{pointers_load}
+use Rattle.c_model.specs.Memory.{Pointer, Into, Value, Integer, Points, NoValue, Byte, Store, number_of, pointer_of, value_from, load, load_bytes}
 use Rattle.c_model.specs.Memory.{◌>>=◌ as bind_loaded}
-use Rattle.c_model.specs.Predicates.{compute_one, converted, in_type, chosen as chosen_term, term, chain, pred}
+use Rattle.c_model.specs.Predicates.{compute_one, converted, in_type, chosen as chosen_term, with_extent, alignment_of, place, term, zone, zones, chain, pred}
 use Rattle.c_model.specs.State.{State, Scope, find, start_of}
-use Rattle.c_model.specs.TermRanges.{Seen, type_range, place_range, TermRanged, PredicateRanged}
+use Rattle.c_model.specs.TermRanges.{Seen, type_range, place_range, TermRanged, ZoneRanged, ZonesRanged, PredicateRanged}
 use Rattle.c_model.specs.TypedPredicates.{IsCastType}
 use Rattle.mon_syntax.specs.declared.tree.MonType.{MonType}
 use Rattle.mon_syntax.specs.declared.tree.MonType.TheVariants as kind
-use Rattle.mon_syntax.specs.Arithmetic.{access_bytes}
+use Rattle.mon_syntax.specs.Arithmetic.{access_bytes, is_pointer}
 use Rattle.mon_syntax.specs.BlockMemory.{Blocks, is_some, holds_number, load_block}
 use Rattle.mon_syntax.specs.Checking.{same_type}
 use Rattle.mon_syntax.specs.Meaning.{◌>>=◌ as bind}
 use Rattle.c_effects.specs.Expressions.{register_type}
 use Rattle.annot_code.specs.Code.{term_type, access_of, Reading}
-use Rattle.annot_code.specs.Code.{is_same_reading, is_known, sure_readings_of_term, sure_readings, known_at_right}
-use Rattle.annot_code.specs.Does.{HasIntegers, TermFound, PredicateFound}
+use Rattle.annot_code.specs.Code.{is_same_reading, is_known, is_scalar, readings_of_variable, sure_readings_of_term, sure_readings_of_place, sure_readings_of_zone, sure_readings_of_zones, sure_readings, known_at_right, is_pointer_term}
+use Rattle.annot_code.specs.Does.{HasIntegers, HasPointers, IsNumberFact, IsPointerFact, found_by, TermFound, PointerFound, PlaceFound, ZoneFound, ZonesFound, SideFound, PredicateFound}
 use Rattle.annot_code.proofs.Exact.{value_of}
 use Rattle.annot_code.proofs.Parts.{after, chosen}
-use Rattle.annot_code.proofs.Quiet.{IsNoPointer, says, said_by, turned, connected, relation_says, not_says, connected_says, branch_says, both_is, chain_says, pred_quiet}
+use Rattle.annot_code.proofs.Quiet.{IsNoPointer, IsNoNumber, said_again, says, said_by, turned, connected, not_says, connected_says, branch_says, chain_says, pred_quiet}
 
 -- ---- the type of a variable with a range
 
@@ -199,6 +208,26 @@ no_chosen (Says false n) a b na nb y e = nb y e
 no_chosen (SaysNothing n) a b na nb y e = cc
 no_chosen OutOfSteps a b na nb y e = cc
 
+no_apart : (t : Bool) (v : Option ℤ) → IsNoPointer (if t then mathematical v else None)
+no_apart true v y e = no_mathematical v y e
+no_apart false v y e = cc
+
+no_difference : (store : Store) (n : ℕ) (o p : Option Address) → IsNoPointer (difference store n o p)
+no_difference store n None p y e = cc
+no_difference store n (Some x) None y e = cc
+no_difference store n (Some x) (Some z) y e = no_apart (are_together store x z) (quotient (x.offset -ℤ z.offset) (pos n)) y e
+
+no_told : (f : BlockFact) → IsNumberFact f → (store : Store) (o : Option Address) → IsNoPointer (told store f o)
+no_told f n store None y e = cc
+no_told f n store (Some x) y e = by f n (inside store x) e
+  where
+    by : (f : BlockFact) → IsNumberFact f → (o : Option Part) → option_map (fact f x) o ≡ Some (Addressed y) → ⊥
+    by BaseAddr n o e = absurd n
+    by BlockLength n None e = cc
+    by BlockLength n (Some q) e = cc
+    by Offset n None e = cc
+    by Offset n (Some q) e = cc
+
 -- the value of a found term is a number
 pub number_found : (t : LogicTerm) (s : State) (e : Environment) (scope : Scope) → TermFound scope t → IsNoPointer (term t s e)
 number_found (logic.Number at t r n) s e scope f y q = cc
@@ -212,15 +241,105 @@ number_found (logic.Cast at t r (OfC to) a) s e scope f y q =
     no_typed i.int (term a s e) y (ap (λ k. in_type k (term a s e)) (sym i.is) ∙ q)
 number_found (logic.Choice at t r c a b) s e scope f y q =
     no_chosen (pred c s e 0) (term a s e) (term b s e) (number_found a s e scope f.1) (number_found b s e scope f.2) y q
+number_found (logic.Deref at t r a) s e scope f y q = no_held t f.0 s.store (as_address (term a s e)) y q
+number_found (logic.Member at t r d a) s e scope f y q = no_held t f.0 s.store (option_map (λ x. address_farther x (pos d)) (place a s e)) y q
+number_found (logic.Difference at t r n a b) s e scope f y q = no_difference s.store n (as_address (term a s e)) (as_address (term b s e)) y q
+number_found (logic.Told at t r g a) s e scope f y q = no_told g f.0 s.store (as_address (term a s e)) y q
 number_found _ s e scope f y q = absurd f
+
+-- ---- terms that are pointers
+
+loaded_pointer : (store : Store) (p : Option Pointer) → IsNoNumber (of_value (load_from store PointerType p))
+loaded_pointer store None z e = cc
+loaded_pointer store (Some p) z e = by (load_bytes store p 8) e
+  where
+    pointer : (o : Option Pointer) → of_value (option_map Points o) ≡ Some (Mathematical z) → ⊥
+    pointer None e = cc
+    pointer (Some p) e = cc
+
+    by : (o : Option (List Byte)) → of_value (bind_loaded o (value_from PointerType)) ≡ Some (Mathematical z) → ⊥
+    by None e = cc
+    by (Some bytes) e = pointer (pointer_of bytes) e
+
+held_pointer : (t : Option PlainType) → HasPointers t → (store : Store) (o : Option Address) → IsNoNumber (held_at store t o)
+held_pointer t int store None z e = cc
+held_pointer (Some (ctype.Ptr u)) int store (Some x) z e = loaded_pointer store (pointer_at x) z e
+held_pointer (Some (ctype.Array u n)) int store (Some x) z e = cc
+held_pointer None int store (Some x) z e = absurd int
+held_pointer (Some (Int k)) int store (Some x) z e = absurd int
+held_pointer (Some (ctype.Struct n)) int store (Some x) z e = absurd int
+held_pointer (Some ctype.Void) int store (Some x) z e = absurd int
+held_pointer (Some (ctype.Named y)) int store (Some x) z e = absurd int
+held_pointer (Some (ctype.StructTag y tag)) int store (Some x) z e = absurd int
+held_pointer (Some (ctype.EnumTag y at)) int store (Some x) z e = absurd int
+
+addressed_pointer : (o : Option Address) → IsNoNumber (addressed o)
+addressed_pointer None z e = cc
+addressed_pointer (Some x) z e = cc
+
+moved_pointer : (op : PointerOp) (n : ℕ) (a b : Option TermValue) → IsNoNumber (moved op n a b)
+moved_pointer op n None b z e = cc
+moved_pointer op n (Some (Mathematical x)) b z e = cc
+moved_pointer op n (Some (Addressed x)) None z e = cc
+moved_pointer op n (Some (Addressed x)) (Some (Mathematical i)) z e = cc
+moved_pointer op n (Some (Addressed x)) (Some (Addressed y)) z e = cc
+
+cast_pointer : (u : PlainType) (o : Option TermValue) → IsNoNumber (in_type (ctype.Ptr u) o)
+cast_pointer u None z e = cc
+cast_pointer u (Some (Mathematical x)) z e = cc
+cast_pointer u (Some (Addressed x)) z e = cc
+
+chosen_pointer : (A : Answer) (a b : Option TermValue) → IsNoNumber a → IsNoNumber b → IsNoNumber (chosen_term A a b)
+chosen_pointer (Says true n) a b na nb z e = na z e
+chosen_pointer (Says false n) a b na nb z e = nb z e
+chosen_pointer (SaysNothing n) a b na nb z e = cc
+chosen_pointer OutOfSteps a b na nb z e = cc
+
+told_pointer : (f : BlockFact) → IsPointerFact f → (store : Store) (o : Option Address) → IsNoNumber (told store f o)
+told_pointer f n store None z e = cc
+told_pointer BaseAddr n store (Some x) z e = by (inside store x) e
+  where
+    by : (o : Option Part) → option_map (fact BaseAddr x) o ≡ Some (Mathematical z) → ⊥
+    by None e = cc
+    by (Some q) e = cc
+told_pointer BlockLength n store (Some x) z e = absurd n
+told_pointer Offset n store (Some x) z e = absurd n
+
+pub pointer_found : (t : LogicTerm) (s : State) (e : Environment) (scope : Scope) → PointerFound scope t → IsNoNumber (term t s e)
+pointer_found (logic.Variable at t r x) s e scope f z q = held_pointer t f.0 s.store (option_map address_of (start_of (find x.decl s.scope))) z q
+pointer_found (logic.Null at t r) s e scope f z q = cc
+pointer_found (logic.Deref at t r a) s e scope f z q = held_pointer t f.0 s.store (as_address (term a s e)) z q
+pointer_found (logic.Member at t r d a) s e scope f z q = held_pointer t f.0 s.store (option_map (λ x. address_farther x (pos d)) (place a s e)) z q
+pointer_found (logic.Address at t r a) s e scope f z q = addressed_pointer (place a s e) z q
+pointer_found (logic.Moved at t r op n a b) s e scope f z q = moved_pointer op n (term a s e) (term b s e) z q
+pointer_found (logic.Cast at t r Integers a) s e scope f z q = absurd f.0
+pointer_found (logic.Cast at t r (OfC to) a) s e scope f z q = cast_pointer f.0.0 (term a s e) z (ap (λ k. in_type k (term a s e)) (sym f.0.1) ∙ q)
+pointer_found (logic.Choice at t r c a b) s e scope f z q =
+    chosen_pointer (pred c s e 0) (term a s e) (term b s e) (pointer_found a s e scope f.1) (pointer_found b s e scope f.2) z q
+pointer_found (logic.Told at t r g a) s e scope f z q = told_pointer g f.0 s.store (as_address (term a s e)) z q
+pointer_found _ s e scope f z q = absurd f
 
 -- ---- what is known
 
--- it was asked of the variable, and it holds a number
+-- the start of a block holds a value of the type
+abbrev pub is_held : Store → MonType → ℕ → Bool
+is_held store k n = if is_pointer k then has_pointer store (address_of (Into n 0)) else holds_number store (Into n 0) (pos 0) (access_bytes (access_of k))
+
+pub number_held : (k : CInt) (store : Store) (n : ℕ) → is_held store (register_type k) n ≡ holds_number store (Into n 0) (pos 0) (access_bytes (access_of (register_type k)))
+number_held c.I8 store n = refl
+number_held c.U8 store n = refl
+number_held c.I16 store n = refl
+number_held c.U16 store n = refl
+number_held c.I32 store n = refl
+number_held c.U32 store n = refl
+number_held c.I64 store n = refl
+number_held c.U64 store n = refl
+
+-- it was asked of the variable, and it holds a value of its type
 pub record IsRead (s : State) (x : Reading) : Type 0 where
   pub number : ℕ
   pub found : find x.decl s.scope ≡ Some number
-  pub holds : holds_number s.store (Into number 0) (pos 0) (access_bytes (access_of x.kind)) ≡ true
+  pub holds : is_held s.store x.kind number ≡ true
 
 abbrev pub AllRead : State → List Reading → Type 0
 AllRead s [] = Unit {0}
@@ -254,7 +373,7 @@ same_reading s x y e h =
     let kinds : x.kind ≡ y.kind = same_mon x.kind y.kind b.1 in record {
       number = h.number;
       found = ap (λ d. find d s.scope) decls ∙ h.found;
-      holds = ap (λ k. holds_number s.store (Into h.number 0) (pos 0) (access_bytes (access_of k))) kinds ∙ h.holds;
+      holds = ap (λ k. is_held s.store k h.number) kinds ∙ h.holds;
     }
 
 pub known_is_read : (s : State) (known : List Reading) (x : Reading) → AllRead s known → is_known known x ≡ true → IsRead s x
@@ -265,11 +384,17 @@ known_is_read s (y ∷ ys) x h e = by (known_is_read s ys x h.1) (is_same_readin
     by rest true p f = same_reading s x y p h.0
     by rest false p f = rest f
 
+-- the same of a variable of integers
+pub held_number_is : (s : State) (at : Place) (t : Option PlainType) (r : Range) (x : Use) (n : ℕ) → (v : Variable s at t r x) → is_held s.store (term_type t) n ≡ holds_number s.store (Into n 0) (pos 0) (access_bytes (access_of (term_type t)))
+held_number_is s at t r x n v =
+    ap (λ u. is_held s.store (term_type u) n) v.is ∙ number_held v.int s.store n
+    ∙ sym (ap (λ u. holds_number s.store (Into n 0) (pos 0) (access_bytes (access_of (term_type u)))) v.is)
+
 -- a known variable has a value
 pub read_value : (s : State) (at : Place) (t : Option PlainType) (r : Range) (x : Use) → (v : Variable s at t r x) → IsRead s (record { decl = x.decl; kind = term_type t }) → is_some (value_of (term (logic.Variable at t r x) s [])) ≡ true
 read_value s at t r x v h =
     let same : h.number ≡ v.number = some_same h.number v.number (sym h.found ∙ v.found) in
-    v.there ∙ ap (λ n. holds_number s.store (Into n 0) (pos 0) (access_bytes (access_of (term_type t)))) (sym same) ∙ h.holds
+    v.there ∙ sym (held_number_is s at t r x v.number v) ∙ ap (is_held s.store (term_type t)) (sym same) ∙ h.holds
 
 -- ---- what is read
 
@@ -304,29 +429,201 @@ cast_some (OfC t) g (Some (Addressed x)) z e = absurd (by (ap (λ k. value_of (i
     by : value_of (in_type (Int g.int) (Some (Addressed x))) ≡ Some z → ⊥
     by e = cc
 
-pub term_read : (seen : Seen) (s : State) (names : Environment) (t : LogicTerm) → TermRanged seen t → TermFound s.scope t → (z : ℤ) → value_of (term t s names) ≡ Some z → AllRead s (sure_readings_of_term t)
-term_read seen s names (logic.Number at t r n) q f z e = tt
-term_read seen s names (logic.Letter at t r n) q f z e = tt
-term_read seen s names (logic.Variable at t r x) q f z e =
-    let v = variable_in_sight s at t r x q f in (record { number = v.number; found = v.found; holds = sym v.there ∙ ap is_some e }, tt)
-term_read seen s names (logic.Unary at t r op a) q f z e = let x = unary_some op (term a s names) z e in term_read seen s names a q.1 f x.0 x.1
-term_read seen s names (logic.Binary at t r op a b) q f z e =
-    let x = after_some (value_of (term a s names)) (λ x. after (value_of (term b s names)) (λ y. value_of (compute op x y))) z (sym (both_is op (term a s names) (term b s names)) ∙ e) in
-    let y = after_some (value_of (term b s names)) (λ y. value_of (compute op x.0 y)) z x.2 in
-    read-append s (sure_readings_of_term a) (sure_readings_of_term b) (term_read seen s names a q.1 f.0 x.0 x.1) (term_read seen s names b q.2 f.1 y.0 y.1)
-term_read seen s names (logic.Cast at t r to a) q f z e = let x = cast_some to f.0 (term a s names) z e in term_read seen s names a q.1 f.1 x.0 x.1
-term_read seen s names (logic.Choice at t r c a b) q f z e = tt
-term_read seen s names _ q f z e = absurd f
+abbrev IsThere : Option TermValue → Type 0
+IsThere o = (v : TermValue) × (o ≡ Some v)
 
--- both terms of a relation
-pub relation_read : (seen : Seen) (s : State) (names : Environment) (r : Relation) (t u : LogicTerm) → TermRanged seen t → TermRanged seen u → TermFound s.scope t → TermFound s.scope u
-    → (b : Bool) → said_by (related s.store r (term t s names) (term u s names) 0) ≡ Some b
-    → AllRead s (sure_readings_of_term t ++ sure_readings_of_term u)
-relation_read seen s names r t u p q f g b e =
-    let x = after_some (value_of (term t s names)) (λ x. after (value_of (term u s names)) (λ y. Some (relates r x y))) b
-    (sym (relation_says s.store r (term t s names) (term u s names) (number_found t s names s.scope f) (number_found u s names s.scope g)) ∙ e) in
-    let y = after_some (value_of (term u s names)) (λ y. Some (relates r x.0 y)) b x.2 in
-    read-append s (sure_readings_of_term t) (sure_readings_of_term u) (term_read seen s names t p f x.0 x.1) (term_read seen s names u q g y.0 y.1)
+pub related_there : (store : Store) (r : Relation) (a b : Option TermValue) (x : Bool) → said_by (related store r a b 0) ≡ Some x → IsThere a × IsThere b
+related_there store r None b x e = absurd cc
+related_there store r (Some (Mathematical u)) None x e = absurd cc
+related_there store r (Some (Addressed u)) None x e = absurd cc
+related_there store r (Some u) (Some v) x e = ((u, refl), (v, refl))
+
+number_some : (o : Option TermValue) (v : TermValue) → IsNoPointer o → o ≡ Some v → is_some (value_of o) ≡ true
+number_some None v n e = absurd cc
+number_some (Some (Mathematical z)) v n e = refl
+number_some (Some (Addressed x)) v n e = absurd (n x refl)
+
+object_there : (n : ℕ) (o : Option Address) (z : Extent) → object_extent n o ≡ Some z → (x : Address) × (o ≡ Some x)
+object_there n None z e = absurd cc
+object_there n (Some x) z e = (x, refl)
+
+one_there : (op : UnOp) (o : Option TermValue) (v : TermValue) → compute_one op o ≡ Some v → IsThere o
+one_there op None v e = absurd cc
+one_there op (Some u) v e = (u, refl)
+
+both_there : (op : BinOp) (a b : Option TermValue) (v : TermValue) → both a b (compute op) ≡ Some v → IsThere a × IsThere b
+both_there op None b v e = absurd cc
+both_there op (Some (Mathematical x)) None v e = absurd cc
+both_there op (Some (Mathematical x)) (Some y) v e = ((Mathematical x, refl), (y, refl))
+both_there op (Some (Addressed x)) None v e = absurd cc
+both_there op (Some (Addressed x)) (Some y) v e = absurd cc
+
+converted_there : (to : CastType) (o : Option TermValue) (v : TermValue) → converted to o ≡ Some v → IsThere o
+converted_there Integers o v e = (v, e)
+converted_there (OfC t) None v e = absurd cc
+converted_there (OfC t) (Some u) v e = (u, refl)
+
+held_there : (store : Store) (t : Option PlainType) (o : Option Address) (v : TermValue) → held_at store t o ≡ Some v → (x : Address) × (o ≡ Some x)
+held_there store t None v e = absurd cc
+held_there store t (Some x) v e = (x, refl)
+
+address_there : (o : Option TermValue) (x : Address) → as_address o ≡ Some x → o ≡ Some (Addressed x)
+address_there None x e = absurd cc
+address_there (Some (Mathematical z)) x e = absurd cc
+address_there (Some (Addressed y)) x e = ap (λ y. Some (Addressed y)) (some_same y x e)
+
+farther_there : (d : ℤ) (o : Option Address) (x : Address) → option_map (λ x. address_farther x d) o ≡ Some x → (y : Address) × (o ≡ Some y)
+farther_there d None x e = absurd cc
+farther_there d (Some y) x e = (y, refl)
+
+addressed_there : (o : Option Address) (v : TermValue) → addressed o ≡ Some v → (x : Address) × (o ≡ Some x)
+addressed_there None v e = absurd cc
+addressed_there (Some x) v e = (x, refl)
+
+moved_there : (op : PointerOp) (n : ℕ) (a b : Option TermValue) (v : TermValue) → moved op n a b ≡ Some v → IsThere a × IsThere b
+moved_there op n None b v e = absurd cc
+moved_there op n (Some (Mathematical z)) b v e = absurd cc
+moved_there op n (Some (Addressed x)) None v e = absurd cc
+moved_there op n (Some (Addressed x)) (Some y) v e = ((Addressed x, refl), (y, refl))
+
+difference_there : (store : Store) (n : ℕ) (o p : Option Address) (v : TermValue) → difference store n o p ≡ Some v → (x : Address) × (y : Address) × (o ≡ Some x) × (p ≡ Some y)
+difference_there store n None p v e = absurd cc
+difference_there store n (Some x) None v e = absurd cc
+difference_there store n (Some x) (Some y) v e = (x, y, refl, refl)
+
+told_there : (store : Store) (f : BlockFact) (o : Option Address) (v : TermValue) → told store f o ≡ Some v → (x : Address) × (o ≡ Some x)
+told_there store f None v e = absurd cc
+told_there store f (Some x) v e = (x, refl)
+
+variable_read : (s : State) (t : Option PlainType) (x : ℕ) → IsRead s (record { decl = x; kind = term_type t }) → AllRead s (readings_of_variable t x)
+variable_read s t x h = by (is_scalar t)
+  where
+    by : (b : Bool) → AllRead s (if b then record { decl = x; kind = term_type t } ∷ [] else [])
+    by true = (h, tt)
+    by false = tt
+
+-- a variable of pointers
+pointer_is_held : (store : Store) (n : ℕ) (u : PlainType) → AllTogether store → (v : TermValue) → held_at store (Some (ctype.Ptr u)) (Some (address_of (Into n 0))) ≡ Some v → is_held store (term_type (Some (ctype.Ptr u))) n ≡ true
+pointer_is_held store n u all v e = pointers_load store (Into n 0) all ∙ by (load store (Into n 0) PointerType) e
+  where
+    by : (o : Option Value) → of_value o ≡ Some v → is_there o ≡ true
+    by None e = absurd cc
+    by (Some x) e = refl
+
+pointer_variable_read : (s : State) (t : Option PlainType) (x number : ℕ) → HasPointers t → find x s.scope ≡ Some number → AllTogether s.store → (v : TermValue)
+    → held_at s.store t (option_map address_of (start_of (find x s.scope))) ≡ Some v → AllRead s (readings_of_variable t x)
+pointer_variable_read s (Some (ctype.Ptr u)) x number p found all v e =
+    (record { number = number; found = found; holds = pointer_is_held s.store number u all v (sym (ap (λ o. held_at s.store (Some (ctype.Ptr u)) (option_map address_of (start_of o))) found) ∙ e) }, tt)
+pointer_variable_read s (Some (ctype.Array u n)) x number p found all v e = tt
+pointer_variable_read s None x number p found all v e = absurd p
+pointer_variable_read s (Some (Int k)) x number p found all v e = absurd p
+pointer_variable_read s (Some (ctype.Struct n)) x number p found all v e = absurd p
+pointer_variable_read s (Some ctype.Void) x number p found all v e = absurd p
+pointer_variable_read s (Some (ctype.Named y)) x number p found all v e = absurd p
+pointer_variable_read s (Some (ctype.StructTag y tag)) x number p found all v e = absurd p
+pointer_variable_read s (Some (ctype.EnumTag y at)) x number p found all v e = absurd p
+
+elements_there : (n : ℕ) (a i j : Option TermValue) (z : Extent) → elements_extent n a i j ≡ Some z → IsThere a × IsThere i × IsThere j
+elements_there n None i j z e = absurd cc
+elements_there n (Some (Mathematical x)) i j z e = absurd cc
+elements_there n (Some (Addressed x)) None j z e = absurd cc
+elements_there n (Some (Addressed x)) (Some (Addressed y)) j z e = absurd cc
+elements_there n (Some (Addressed x)) (Some (Mathematical u)) None z e = absurd cc
+elements_there n (Some (Addressed x)) (Some (Mathematical u)) (Some (Addressed y)) z e = absurd cc
+elements_there n (Some (Addressed x)) (Some (Mathematical u)) (Some (Mathematical v)) z e = ((Addressed x, refl), (Mathematical u, refl), (Mathematical v, refl))
+
+with_there : (o : Option Extent) (os : Option (List Extent)) (es : List Extent) → with_extent o os ≡ Some es → (z : Extent) × (zs : List Extent) × (o ≡ Some z) × (os ≡ Some zs)
+with_there None os es e = absurd cc
+with_there (Some z) None es e = absurd cc
+with_there (Some z) (Some zs) es e = (z, zs, refl, refl)
+
+mapped_there : {A : Type 0} (f : A → Bool) (o : Option A) (b : Bool) → option_map f o ≡ Some b → (x : A) × (o ≡ Some x)
+mapped_there f None b e = absurd cc
+mapped_there f (Some x) b e = (x, refl)
+
+module _ (seen : Seen) (s : State) (names : Environment) (all : AllTogether s.store) where
+  mutual
+    pub term_read : (t : LogicTerm) → TermRanged seen t → TermFound s.scope t → (v : TermValue) → term t s names ≡ Some v → AllRead s (sure_readings_of_term t)
+    term_read (logic.Number at t r n) q f v e = tt
+    term_read (logic.Letter at t r n) q f v e = tt
+    term_read (logic.Variable at t r x) q f v e =
+        let i = variable_in_sight s at t r x q f in
+        variable_read s t x.decl (record {
+          number = i.number;
+          found = i.found;
+          holds = held_number_is s at t r x i.number i ∙ sym i.there ∙ number_some (term (logic.Variable at t r x) s names) v (number_found (logic.Variable at t r x) s names s.scope f) e;
+        })
+    term_read (logic.Unary at t r op a) q f v e = let x = one_there op (term a s names) v e in term_read a q.1 f x.0 x.1
+    term_read (logic.Binary at t r op a b) q f v e =
+        let x = both_there op (term a s names) (term b s names) v e in
+        read-append s (sure_readings_of_term a) (sure_readings_of_term b) (term_read a q.1 f.0 x.0.0 x.0.1) (term_read b q.2 f.1 x.1.0 x.1.1)
+    term_read (logic.Cast at t r to a) q f v e = let x = converted_there to (term a s names) v e in term_read a q.1 f.1 x.0 x.1
+    term_read (logic.Choice at t r c a b) q f v e = tt
+    term_read (logic.Deref at t r a) q f v e =
+        let x = held_there s.store t (as_address (term a s names)) v e in pointer_read a q.1 f.1 (Addressed x.0) (address_there (term a s names) x.0 x.1)
+    term_read (logic.Member at t r d a) q f v e =
+        let x = held_there s.store t (option_map (λ x. address_farther x (pos d)) (place a s names)) v e in
+        let y = farther_there (pos d) (place a s names) x.0 x.1 in place_read a q.1 f.1 y.0 y.1
+    term_read (logic.Difference at t r n a b) q f v e =
+        let x = difference_there s.store n (as_address (term a s names)) (as_address (term b s names)) v e in
+        read-append s (sure_readings_of_term a) (sure_readings_of_term b) (pointer_read a q.1 f.1 (Addressed x.0) (address_there (term a s names) x.0 x.2))
+        (pointer_read b q.2 f.2 (Addressed x.1) (address_there (term b s names) x.1 x.3))
+    term_read (logic.Told at t r g a) q f v e =
+        let x = told_there s.store g (as_address (term a s names)) v e in pointer_read a q.1 f.1 (Addressed x.0) (address_there (term a s names) x.0 x.1)
+    term_read _ q f v e = absurd f
+
+    pub pointer_read : (t : LogicTerm) → TermRanged seen t → PointerFound s.scope t → (v : TermValue) → term t s names ≡ Some v → AllRead s (sure_readings_of_term t)
+    pointer_read (logic.Variable at t r x) q f v e = pointer_variable_read s t x.decl f.1 f.0 f.2 all v e
+    pointer_read (logic.Null at t r) q f v e = tt
+    pointer_read (logic.Deref at t r a) q f v e =
+        let x = held_there s.store t (as_address (term a s names)) v e in pointer_read a q.1 f.1 (Addressed x.0) (address_there (term a s names) x.0 x.1)
+    pointer_read (logic.Member at t r d a) q f v e =
+        let x = held_there s.store t (option_map (λ x. address_farther x (pos d)) (place a s names)) v e in
+        let y = farther_there (pos d) (place a s names) x.0 x.1 in place_read a q.1 f.1 y.0 y.1
+    pointer_read (logic.Address at t r a) q f v e = let x = addressed_there (place a s names) v e in place_read a q.1 f x.0 x.1
+    pointer_read (logic.Moved at t r op n a b) q f v e =
+        let x = moved_there op n (term a s names) (term b s names) v e in
+        read-append s (sure_readings_of_term a) (sure_readings_of_term b) (pointer_read a q.1 f.0 x.0.0 x.0.1) (term_read b q.2 f.1 x.1.0 x.1.1)
+    pointer_read (logic.Cast at t r to a) q f v e = let x = converted_there to (term a s names) v e in pointer_read a q.1 f.1 x.0 x.1
+    pointer_read (logic.Choice at t r c a b) q f v e = tt
+    pointer_read (logic.Told at t r g a) q f v e =
+        let x = told_there s.store g (as_address (term a s names)) v e in pointer_read a q.1 f.1 (Addressed x.0) (address_there (term a s names) x.0 x.1)
+    pointer_read _ q f v e = absurd f
+
+    pub place_read : (t : LogicTerm) → TermRanged seen t → PlaceFound s.scope t → (x : Address) → place t s names ≡ Some x → AllRead s (sure_readings_of_place t)
+    place_read (logic.Variable at t r y) q f x e = tt
+    place_read (logic.Deref at t r a) q f x e = pointer_read a q.1 f (Addressed x) (address_there (term a s names) x e)
+    place_read (logic.Member at t r d a) q f x e = let y = farther_there (pos d) (place a s names) x e in place_read a q.1 f y.0 y.1
+    place_read _ q f x e = absurd f
+
+  -- both sides of a relation
+  pub side_read : (t : LogicTerm) → TermRanged seen t → SideFound s.scope t → (v : TermValue) → term t s names ≡ Some v → AllRead s (sure_readings_of_term t)
+  side_read t q f v e = by (is_pointer_term t) f
+    where
+      by : (m : Bool) → found_by m (PointerFound s.scope t) (TermFound s.scope t) → AllRead s (sure_readings_of_term t)
+      by true f = pointer_read t q f v e
+      by false f = term_read t q f v e
+
+  pub relation_read : (r : Relation) (t u : LogicTerm) → TermRanged seen t → TermRanged seen u → SideFound s.scope t → SideFound s.scope u
+      → (b : Bool) → said_by (related s.store r (term t s names) (term u s names) 0) ≡ Some b → AllRead s (sure_readings_of_term t ++ sure_readings_of_term u)
+  relation_read r t u p q f g b e =
+      let x = related_there s.store r (term t s names) (term u s names) b e in
+      read-append s (sure_readings_of_term t) (sure_readings_of_term u) (side_read t p f x.0.0 x.0.1) (side_read u q g x.1.0 x.1.1)
+
+  -- the pointer and the bounds of a zone
+  zone_read : (z : Zone) → ZoneRanged seen z → ZoneFound s.scope z → (e : Extent) → zone z s names ≡ Some e → AllRead s (sure_readings_of_zone z)
+  zone_read (logic.Object at n m a) q f z e =
+      let x = object_there n (as_address (term a s names)) z e in pointer_read a q f.1 (Addressed x.0) (address_there (term a s names) x.0 x.1)
+  zone_read (logic.Elements at n m a lo hi) q f z e =
+      let x = elements_there n (term a s names) (term lo s names) (term hi s names) z e in
+      read-append s (sure_readings_of_term a) (sure_readings_of_term lo ++ sure_readings_of_term hi) (pointer_read a q.1 f.1 x.0.0 x.0.1)
+      (read-append s (sure_readings_of_term lo) (sure_readings_of_term hi) (term_read lo q.2 f.2 x.1.0 x.1.1) (term_read hi q.3 f.3 x.2.0 x.2.1))
+
+  zones_read : (zs : Zones) → ZonesRanged seen zs → ZonesFound s.scope zs → (es : List Extent) → zones zs s names ≡ Some es → AllRead s (sure_readings_of_zones zs)
+  zones_read NoZone q f es e = tt
+  zones_read (Another z rest) q f es e =
+      let x = with_there (zone z s names) (zones rest s names) es e in
+      read-append s (sure_readings_of_zone z) (sure_readings_of_zones rest) (zone_read z q.0 f.0 x.0 x.2) (zones_read rest q.1 f.1 x.1 x.3)
 
 turned_some : (u : Option Bool) (b : Bool) → turned u ≡ Some b → (x : Bool) × (u ≡ Some x)
 turned_some u b e = chosen_some u (Some false) (Some true) b e
@@ -364,28 +661,33 @@ connected_read s names at Xor p q b left right e =
     let y = xor_some (says p s names) (says q s names) b e in
     read-append s (sure_readings p) (sure_readings q) (left x.0 x.1) (right y.0 y.1)
 
-pub pred_read : (seen : Seen) (s : State) (names : Environment) (p : Predicate) → PredicateRanged seen p → PredicateFound s.scope p → (b : Bool) → says p s names ≡ Some b → AllRead s (sure_readings p)
-pred_read seen s names (logic.Truth at v) q f b e = tt
-pred_read seen s names (logic.NonZero at t) q f b e =
-    let x = after_some (value_of (term t s names)) (λ x. after (Some (pos 0)) (λ y. Some (relates Ne x y))) b (sym (relation_says s.store Ne (term t s names) (Some (Mathematical (pos 0))) (number_found t s names s.scope f) (λ y q. cc)) ∙ e) in
-    term_read seen s names t q f x.0 x.1
-pred_read seen s names (logic.Chain at t NoLink) q f b e = tt
-pred_read seen s names (logic.Chain at t (Linked at2 r u rest)) q f b e =
-    let x = chosen_some (said_by (related s.store r (term t s names) (term u s names) 0)) (said_by (chain (term u s names) rest s names 0)) (Some false) b (sym (chain_says r (term t s names) u rest s names) ∙ e) in
-    relation_read seen s names r t u q.0 q.1.0 f.0 f.1.0 x.0 x.1
-pred_read seen s names (logic.Not at p) q f b e = let x = turned_some (says p s names) b (sym (not_says p s names f) ∙ e) in pred_read seen s names p q f x.0 x.1
-pred_read seen s names (logic.Connected at c p q) h f b e =
-    connected_read s names at c p q b (λ x g. pred_read seen s names p h.0 f.0 x g) (λ x g. pred_read seen s names q h.1 f.1 x g)
-    (sym (connected_says c (pred p s names) (pred q s names) (pred_quiet p s names f.0) (pred_quiet q s names f.1)) ∙ e)
-pred_read seen s names (logic.Branch at c p q) h f b e =
-    let x = chosen_some (says c s names) (says p s names) (says q s names) b (sym (branch_says c p q s names f.0 f.1 f.2) ∙ e) in pred_read seen s names c h.0 f.0 x.0 x.1
-pred_read seen s names _ q f b e = absurd f
+module _ (seen : Seen) (s : State) (names : Environment) (all : AllTogether s.store) where
+  pub pred_read : (p : Predicate) → PredicateRanged seen p → PredicateFound s.scope p → (b : Bool) → says p s names ≡ Some b → AllRead s (sure_readings p)
+  pred_read (logic.Truth at v) q f b e = tt
+  pred_read (logic.NonZero at t) q f b e =
+      let x = related_there s.store Ne (term t s names) (Some (Mathematical (pos 0))) b e in term_read seen s names all t q f x.0.0 x.0.1
+  pred_read (logic.Chain at t NoLink) q f b e = tt
+  pred_read (logic.Chain at t (Linked at2 r u rest)) q f b e =
+      let x = chosen_some (said_by (related s.store r (term t s names) (term u s names) 0)) (said_by (chain (term u s names) rest s names 0)) (Some false) b (sym (chain_says r (term t s names) u rest s names) ∙ e) in
+      relation_read seen s names all r t u q.0 q.1.0 f.0 f.1.1 x.0 x.1
+  pred_read (logic.Not at p) q f b e = let x = turned_some (says p s names) b (sym (not_says p s names f) ∙ e) in pred_read p q f x.0 x.1
+  pred_read (logic.Connected at c p q) h f b e =
+      connected_read s names at c p q b (λ x g. pred_read p h.0 f.0 x g) (λ x g. pred_read q h.1 f.1 x g)
+      (sym (connected_says c (pred p s names) (pred q s names) (pred_quiet p s names f.0) (pred_quiet q s names f.1)) ∙ e)
+  pred_read (logic.Branch at c p q) h f b e =
+      let x = chosen_some (says c s names) (says p s names) (says q s names) b (sym (branch_says c p q s names f.0 f.1 f.2) ∙ e) in pred_read c h.0 f.0 x.0 x.1
+  pred_read (logic.Asks at g z) q f b e =
+      let x = mapped_there (asks g s.store (alignment_of z)) (zone z s names) b (sym (said_again (option_map (asks g s.store (alignment_of z)) (zone z s names)) 0) ∙ e) in
+      zone_read seen s names all z q f x.0 x.1
+  pred_read (logic.Separated at zs) q f b e =
+      let x = mapped_there all_apart (zones zs s names) b (sym (said_again (option_map all_apart (zones zs s names)) 0) ∙ e) in zones_read seen s names all zs q f x.0 x.1
+  pred_read (logic.Quantified at g gs p) q f b e = absurd f
 
--- what is known at the right side of a connective, wherever that matters
-pub known_right : (seen : Seen) (s : State) (names : Environment) (c : Connective) (known : List Reading) (p : Predicate) → PredicateRanged seen p → PredicateFound s.scope p → AllRead s known
-    → (b : Bool) → says p s names ≡ Some b → AllRead s (known_at_right c known p)
-known_right seen s names And known p q f h b e = read-append s known (sure_readings p) h (pred_read seen s names p q f b e)
-known_right seen s names Or known p q f h b e = read-append s known (sure_readings p) h (pred_read seen s names p q f b e)
-known_right seen s names Implies known p q f h b e = read-append s known (sure_readings p) h (pred_read seen s names p q f b e)
-known_right seen s names Iff known p q f h b e = h
-known_right seen s names Xor known p q f h b e = h
+  -- what is known at the right side of a connective, wherever that matters
+  pub known_right : (c : Connective) (known : List Reading) (p : Predicate) → PredicateRanged seen p → PredicateFound s.scope p → AllRead s known
+      → (b : Bool) → says p s names ≡ Some b → AllRead s (known_at_right c known p)
+  known_right And known p q f h b e = read-append s known (sure_readings p) h (pred_read p q f b e)
+  known_right Or known p q f h b e = read-append s known (sure_readings p) h (pred_read p q f b e)
+  known_right Implies known p q f h b e = read-append s known (sure_readings p) h (pred_read p q f b e)
+  known_right Iff known p q f h b e = h
+  known_right Xor known p q f h b e = h

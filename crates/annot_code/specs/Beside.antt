@@ -49,7 +49,7 @@ SoundJudgementsKeepRanges = (p : TranslationUnit) (j : Judgement) → IsSoundJud
 
 -- ---- variables
 
--- a predicate that is typed where each object in sight has a block reads variables of integers alone, each of which has one
+-- a predicate that is typed where each object in sight has a block reads variables that have one, and its terms are of the sorts that the code wants
 abbrev pub TypedPredicatesAreFound : Type 0
 TypedPredicatesAreFound = (s : Sight) (scope : Scope) → AreFound s.entities scope → (p : Predicate) → PredicateTyped s p → PredicateFound scope p
 

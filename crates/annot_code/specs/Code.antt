@@ -1,249 +1,52 @@
 -- Ours: a choice of code; what it has to do is ACSL 2.2, by the theorem of this crate.
--- The code of terms and predicates. A term is an expression, after questions whether its variables hold numbers and after what is evaluated only at
--- times. Each operator is done in the narrowest of 32, 64 and 128 bits that holds its operands and its result, so that nothing wraps.
-use Rattle.std.specs.Prelude.{ℕ, suc, pos, int_lt, int_le, Bool, true, false, ◌&&◌, ◌||◌, if◌then◌else◌, nat_eq, List, [], ◌∷◌, ◌++◌, length}
-use Rattle.std.specs.Prelude.{Option, Some, None}
+-- The code of terms, pointers, places, zones and predicates. A term is an expression, after questions whether what it reads can be read and after what is
+-- evaluated only at times.
+use Rattle.std.specs.Prelude.{ℕ, pos, Bool, true, false, ◌&&◌, if◌then◌else◌, nat_eq, List, [], ◌∷◌, ◌++◌, length, Option, Some, None}
 use Rattle.std.specs.List.{list_any}
-use Rattle.c_syntax.specs.declared.annotation.Range.{Range}
 use Rattle.c_syntax.specs.declared.annotation.Relation.{Relation}
-use Rattle.c_syntax.specs.declared.annotation.Relation.TheVariants as relation
-use Rattle.c_syntax.specs.declared.expression.BinOp.{BinOp}
-use Rattle.c_syntax.specs.declared.expression.BinOp.TheVariants as operator
-use Rattle.c_syntax.specs.declared.expression.UnOp.{UnOp}
 use Rattle.c_syntax.specs.declared.logic.Connective.{Connective}
 use Rattle.c_syntax.specs.declared.logic.Connective.TheVariants as connective
-use Rattle.c_syntax.specs.declared.types.CInt.{CInt}
-use Rattle.c_syntax.specs.declared.types.Width.{Width}
-use Rattle.c_syntax.specs.declared.types.Width.TheVariants.{W32, W64, W128}
 use Rattle.c_syntax.specs.Ctypes.{PlainType}
-use Rattle.c_syntax.specs.Formulas.{CastType, Integers, OfC}
-use Rattle.c_syntax.specs.Logic.{LogicTerm, Links, NoLink, Linked, Predicate, ClauseBody, Raw, Holds, Value, Behaviors, Annotation, range_of}
+use Rattle.c_syntax.specs.Ctypes as ctype
+use Rattle.c_syntax.specs.Logic.{LogicTerm, Links, NoLink, Linked, Zone, Zones, NoZone, Another, Predicate, ClauseBody, Raw, Holds, Value, Behaviors}
+use Rattle.c_syntax.specs.Logic.{Annotation, range_of}
 use Rattle.c_syntax.specs.Logic as logic
 use Rattle.c_syntax.specs.Programs.{TranslationUnit}
-use Rattle.c_model.specs.Integers.{integer_type, truth}
-use Rattle.c_model.specs.Ranges.{is_nonnegative, width_of_range}
-use Rattle.c_model.specs.TermRanges.{type_range, is_inside}
-use Rattle.mon_syntax.specs.declared.tree.AccessSize.{AccessSize}
-use Rattle.mon_syntax.specs.declared.tree.AccessSize.TheVariants.{One, Two, Four, Eight, Sixteen}
-use Rattle.mon_syntax.specs.declared.tree.MemoryCall.TheVariants.{Number}
-use Rattle.mon_syntax.specs.declared.tree.MonOp.{MonOp}
-use Rattle.mon_syntax.specs.declared.tree.MonOp.TheVariants.{And, Or, Eq, Ne, Lt, Le, Gt, Ge}
+use Rattle.c_model.specs.Predicates.{alignment_of}
+use Rattle.c_model.specs.PredicateTyping.{ValueSort, AnInteger, APointer, NoValue, sort_of_term}
+use Rattle.c_model.specs.Ranges.{width_of_range}
+use Rattle.mon_syntax.specs.declared.tree.MonOp.TheVariants.{Eq, Ne}
 use Rattle.mon_syntax.specs.declared.tree.MonType.{MonType}
-use Rattle.mon_syntax.specs.declared.tree.MonType.TheVariants.{I8, U8, I16, U16, I32, U32, I64, U64, I128, Ptr}
-use Rattle.mon_syntax.specs.Trees.{MonExpression, Register, Constant, Binary, Minus, Cast, Load, MonStatement, Set, Act, Assert, If}
-use Rattle.mon_syntax.specs.Trees.{MonStatements, NoStatement, Then}
+use Rattle.mon_syntax.specs.declared.tree.MonType.TheVariants.{I32, I128}
+use Rattle.mon_syntax.specs.Trees.{MonExpression, Register, Constant, Binary, Load, MonStatement, Assert, If, MonStatements, NoStatement}
 use Rattle.mon_syntax.specs.Checking.{same_type}
 use Rattle.mon_syntax.specs.Registers.{Bindings}
-use Rattle.term_guards.specs.Guards.{guard}
-use Rattle.c_effects.specs.Expressions.{before, one, set, in_type, unary, operator_of, register_type, value_type, pointer_to}
+use Rattle.mem_preds.specs.declared.question.Question.TheVariants as asks
+use Rattle.mem_preds.specs.Questions.{asked}
+use Rattle.c_effects.specs.Expressions.{before, one, set, in_type, pointer_to}
+pub use Rattle.annot_code.specs.Pieces.{term_type, access_of, relation_operator, Code, sure_code, no_code, with_value, conjunction, guarded, two_code, take}
+pub use Rattle.annot_code.specs.Pieces.{take_none, taken, branch, type_of_width, wider, width_of, type_of, is_shift, working, is_total, count_in}
+pub use Rattle.annot_code.specs.Pieces.{second_operand, binary_value, partial_code, operated, unary_value, relation_value, converted_to, cast_value}
+pub use Rattle.annot_code.specs.Pieces.{truth_code, has_none, is_sure, connective_operator, both_asked, left_first, connected, relation_code}
+pub use Rattle.annot_code.specs.Pointers.{PointerCode, no_offset, sure_pointer, start_pointer, null, no_pointer_code, null_code, member_code}
+pub use Rattle.annot_code.specs.Pointers.{move_operator, elements_of, moved_code, take_both, take_pointer, branch_pointer, asked_there, told_there}
+pub use Rattle.annot_code.specs.Pointers.{answered_in, number_read, pointer_read, pointer_known, pointer_there, fact_told, told_number, told_pointer}
+pub use Rattle.annot_code.specs.Pointers.{one_byte, places_differ, comparable, asked_of_both, equality_asked, equality_code, offsets_asked, offsets_code}
+pub use Rattle.annot_code.specs.Pointers.{addresses_code, difference_code, ZoneCode, object_code, elements_code, question_of, zone_asked, ZonesCode}
+pub use Rattle.annot_code.specs.Pointers.{no_zones, another_zone, zones_parted, apart_from_each, each_pair, separated_code}
 
 -- ---- variables that are read
-
--- the type of the value of an object, as a term has it
-abbrev pub term_type : Option PlainType → MonType
-term_type None = I32
-term_type (Some t) = value_type t
 
 -- a variable that is read, and the type of its value
 pub record Reading : Type 0 where
   pub decl : ℕ
   pub kind : MonType
 
--- how many bytes a value of the type has, which an i128 is not read from
-abbrev pub access_of : MonType → AccessSize
-access_of I8 = One
-access_of U8 = One
-access_of I16 = Two
-access_of U16 = Two
-access_of I32 = Four
-access_of U32 = Four
-access_of I64 = Eight
-access_of U64 = Eight
-access_of I128 = Sixteen
-access_of Ptr = Eight
-
 -- the register with this number becomes whether the variable holds a number: `r = __e_acsl_number(p, I128(0), size);`
 abbrev pub question : TranslationUnit → Bindings → ℕ → Reading → MonStatement
-question p bound r x = Act (Some r) (Number (access_of x.kind)) (pointer_to p bound x.decl ∷ Constant I128 (pos 0) ∷ [])
+question p bound r x = asked asks.Number (access_of x.kind) (pointer_to p bound x.decl) no_offset no_offset r
 
-abbrev pub relation_operator : Relation → MonOp
-relation_operator relation.Eq = Eq
-relation_operator relation.Ne = Ne
-relation_operator relation.Lt = Lt
-relation_operator relation.Le = Le
-relation_operator relation.Gt = Gt
-relation_operator relation.Ge = Ge
-
--- ---- what the code of a part is
-
--- the statements that run first, after registers of the types given before; then the flag, which is 1 where the part has a value and 0 elsewhere, none
--- where it always has one; the value, which may be asked for only where the part has one; and the types of all registers that are taken then
-pub record Code : Type 0 where
-  pub stmts : MonStatements
-  pub flag : Option MonExpression
-  pub value : MonExpression
-  pub used : List MonType
-
--- the code of a part whose value needs no statement and always exists
-abbrev pub sure_code : MonExpression → List MonType → Code
-sure_code e rs = record { stmts = NoStatement; flag = None; value = e; used = rs }
-
-abbrev pub with_value : MonExpression → Code → Code
-with_value e c = record c { value = e }
-
--- both flags
-abbrev pub conjunction : Option MonExpression → Option MonExpression → Option MonExpression
-conjunction None b = b
-conjunction (Some a) None = Some a
-conjunction (Some a) (Some b) = Some (Binary And I32 a b)
-
--- the first statements where a flag is 1, and else the second ones
-abbrev pub guarded : Option MonExpression → MonStatements → MonStatements → MonStatements
-guarded None a b = a
-guarded (Some e) a b = one (If e a b)
-
--- two parts, one after the other, and a value that is made of theirs
-abbrev pub two_code : Code → Code → MonExpression → Code
-two_code a b e = record { stmts = before a.stmts b.stmts; flag = conjunction a.flag b.flag; value = e; used = b.used }
-
--- a register becomes the flag, and the next one the value where there is one
-abbrev pub take : Option MonExpression → MonExpression → ℕ → MonStatements
-take None e r = Then (Set r (Constant I32 (pos 1))) (set (suc r) e)
-take (Some f) e r = Then (Set r f) (one (If (Register r) (set (suc r) e) NoStatement))
-
--- no value
-abbrev pub take_none : ℕ → MonStatements
-take_none r = set r (Constant I32 (pos 0))
-
--- a flag and a value in the two registers after those taken
-abbrev pub taken : MonStatements → MonType → List MonType → Code
-taken a t rs = record { stmts = a; flag = Some (Register (length rs)); value = Register (suc (length rs)); used = rs ++ I32 ∷ t ∷ [] }
-
--- the value of the second part where the first one's is 1, and of the third where it is 0; only one of the two runs
-abbrev pub branch : MonType → Code → Code → Code → Code
-branch t c a b =
-    let r = length b.used in
-    taken (before c.stmts (guarded c.flag (one (If c.value (before a.stmts (take a.flag a.value r)) (before b.stmts (take b.flag b.value r)))) (take_none r)))
-    t b.used
-
--- ---- widths
-
-abbrev pub type_of_width : Width → MonType
-type_of_width W32 = I32
-type_of_width W64 = I64
-type_of_width W128 = I128
-
-abbrev pub wider : Width → Width → Width
-wider W32 b = b
-wider W64 W32 = W64
-wider W64 W64 = W64
-wider W64 W128 = W128
-wider W128 b = W128
-
-abbrev pub width_of : LogicTerm → Width
-width_of t = width_of_range (range_of t)
-
--- the type in which the value of a term stands
-abbrev pub type_of : LogicTerm → MonType
-type_of t = type_of_width (width_of t)
-
-abbrev pub is_shift : BinOp → Bool
-is_shift operator.Shl = true
-is_shift operator.Shr = true
-is_shift op = false
-
--- the width in which an operator is computed, by those of its result and its operands; a shift, whose count is below the width, in 128 bits
-abbrev pub working : BinOp → Width → Width → Width → Width
-working op w a b = if is_shift op then W128 else wider w (wider a b)
-
--- ---- operators
-
--- whether an operator is defined for all second operands of a range
-abbrev pub is_total : BinOp → Range → Bool
-is_total operator.Div b = int_lt (pos 0) b.lo || int_lt b.hi (pos 0)
-is_total operator.Rem b = int_lt (pos 0) b.lo || int_lt b.hi (pos 0)
-is_total operator.Shl b = is_nonnegative b
-is_total operator.Shr b = is_nonnegative b
-is_total op b = true
-
--- a count of a shift to the right, where it may be above 127: then all bits are 1, which counts as 127, by which every bit is shifted out
-abbrev pub count_in : Range → MonExpression → MonExpression
-count_in b e = if int_le b.hi (pos 127) then e else Binary Or I128 e (Minus I128 (Cast I128 (Binary Lt I128 (Constant I128 (pos 127)) e)))
-
-abbrev pub second_operand : BinOp → Range → MonExpression → MonExpression
-second_operand operator.Shr b e = count_in b e
-second_operand op b e = e
-
--- an operator in the type k on operands in their types, where the second one lies in a range, and its result in the type w
-abbrev pub binary_value : BinOp → (w k ta tb : MonType) → Range → MonExpression → MonExpression → MonExpression
-binary_value op w k ta tb r x y = in_type k w (Binary (operator_of op) k (in_type ta k x) (second_operand op r (in_type tb k y)))
-
--- two parts, and an operator that may be undefined
-abbrev pub partial_code : BinOp → (w k tb : MonType) → Code → Code → MonExpression → Code
-partial_code op w k tb a b e =
-    let r = length b.used in
-    taken (before (before a.stmts b.stmts) (guarded (conjunction a.flag b.flag) (take (Some (guard k op (in_type tb k b.value))) e r) (take_none r))) w b.used
-
-abbrev pub operated : Bool → BinOp → (w k tb : MonType) → Code → Code → MonExpression → Code
-operated true op w k tb a b e = two_code a b e
-operated false op w k tb a b e = partial_code op w k tb a b e
-
-abbrev pub unary_value : UnOp → (w k ta : MonType) → MonExpression → MonExpression
-unary_value op w k ta x = in_type k w (unary op k (in_type ta k x))
-
-abbrev pub relation_value : Relation → (k ta tb : MonType) → MonExpression → MonExpression → MonExpression
-relation_value r k ta tb x y = Binary (relation_operator r) k (in_type ta k x) (in_type tb k y)
-
--- a value converted to a type that needn't have it
-abbrev pub converted_to : Option CInt → Range → (w ta : MonType) → MonExpression → MonExpression
-converted_to None a w ta x = x
-converted_to (Some k) a w ta x = if is_inside a (type_range k) then x else in_type (register_type k) w (Cast (register_type k) x)
-
-abbrev pub cast_value : CastType → Range → (w ta : MonType) → MonExpression → MonExpression
-cast_value Integers a w ta x = x
-cast_value (OfC t) a w ta x = converted_to (integer_type t) a w ta x
-
--- ---- connectives
-
-abbrev pub truth_code : Bool → List MonType → Code
-truth_code b rs = sure_code (Constant I32 (truth b)) rs
-
-abbrev pub has_none : MonStatements → Option MonExpression → Bool
-has_none NoStatement None = true
-has_none _ _ = false
-
-abbrev pub is_sure : Code → Bool
-is_sure c = has_none c.stmts c.flag
-
--- the operator on truths that a connective is, where both sides may be asked
-abbrev pub connective_operator : Connective → MonOp
-connective_operator connective.And = And
-connective_operator connective.Or = Or
-connective_operator connective.Implies = Le
-connective_operator connective.Iff = Eq
-connective_operator connective.Xor = Ne
-
-abbrev pub both_asked : Connective → Code → Code → Code
-both_asked c p q = two_code p q (Binary (connective_operator c) I32 p.value q.value)
-
--- the right side of `&&`, `||` and `==>` runs only where the left one doesn't decide
-abbrev pub left_first : Connective → Code → Code → Code
-left_first connective.And p q = branch I32 p q (truth_code false q.used)
-left_first connective.Or p q = branch I32 p (truth_code true q.used) q
-left_first connective.Implies p q = branch I32 p q (truth_code true q.used)
-left_first connective.Iff p q = both_asked connective.Iff p q
-left_first connective.Xor p q = both_asked connective.Xor p q
-
--- where the right side needs no statement and always has a value, nothing is seen of its being asked
-abbrev pub connected : Connective → Code → Code → Code
-connected c p q = if is_sure q then both_asked c p q else left_first c p q
-
--- a relation of two terms
-abbrev pub relation_code : Relation → LogicTerm → LogicTerm → Code → Code → Code
-relation_code r t u x y =
-    two_code x y (relation_value r (type_of_width (wider (width_of t) (width_of u))) (type_of t) (type_of u) x.value y.value)
-
--- ---- variables that hold numbers
+-- ---- what is known of variables
 
 abbrev pub is_same_reading : Reading → Reading → Bool
 is_same_reading x y = nat_eq x.decl y.decl && same_type x.kind y.kind
@@ -251,28 +54,52 @@ is_same_reading x y = nat_eq x.decl y.decl && same_type x.kind y.kind
 abbrev pub is_known : List Reading → Reading → Bool
 is_known known x = list_any (is_same_reading x) known
 
--- what is read wherever a term has a value
-abbrev pub sure_readings_of_term : LogicTerm → List Reading
-sure_readings_of_term (logic.Number at t r n) = []
-sure_readings_of_term (logic.Letter at t r n) = []
-sure_readings_of_term (logic.Variable at t r x) = record { decl = x.decl; kind = term_type t } ∷ []
-sure_readings_of_term (logic.Unary at t r op a) = sure_readings_of_term a
-sure_readings_of_term (logic.Binary at t r op a b) = sure_readings_of_term a ++ sure_readings_of_term b
-sure_readings_of_term (logic.Cast at t r to a) = sure_readings_of_term a
-sure_readings_of_term (logic.Choice at t r c a b) = []
-sure_readings_of_term (logic.Named at t r x) = []
-sure_readings_of_term (logic.At at t r l a) = []
-sure_readings_of_term (logic.Null at t r) = []
-sure_readings_of_term (logic.Deref at t r a) = []
-sure_readings_of_term (logic.Member at t r d a) = []
-sure_readings_of_term (logic.Address at t r a) = []
-sure_readings_of_term (logic.Moved at t r op n a b) = []
-sure_readings_of_term (logic.Difference at t r n a b) = []
-sure_readings_of_term (logic.Told at t r f a) = []
+-- a variable of numbers or of pointers
+abbrev pub is_scalar : Option PlainType → Bool
+is_scalar (Some (ctype.Int k)) = true
+is_scalar (Some (ctype.Ptr t)) = true
+is_scalar _ = false
+
+abbrev pub readings_of_variable : Option PlainType → ℕ → List Reading
+readings_of_variable t x = if is_scalar t then record { decl = x; kind = term_type t } ∷ [] else []
+
+abbrev mutual
+  -- what is read wherever a term has a value
+  pub sure_readings_of_term : LogicTerm → List Reading
+  sure_readings_of_term (logic.Number at t r n) = []
+  sure_readings_of_term (logic.Letter at t r n) = []
+  sure_readings_of_term (logic.Variable at t r x) = readings_of_variable t x.decl
+  sure_readings_of_term (logic.Unary at t r op a) = sure_readings_of_term a
+  sure_readings_of_term (logic.Binary at t r op a b) = sure_readings_of_term a ++ sure_readings_of_term b
+  sure_readings_of_term (logic.Cast at t r to a) = sure_readings_of_term a
+  sure_readings_of_term (logic.Choice at t r c a b) = []
+  sure_readings_of_term (logic.Named at t r x) = []
+  sure_readings_of_term (logic.At at t r l a) = []
+  sure_readings_of_term (logic.Null at t r) = []
+  sure_readings_of_term (logic.Deref at t r a) = sure_readings_of_term a
+  sure_readings_of_term (logic.Member at t r d a) = sure_readings_of_place a
+  sure_readings_of_term (logic.Address at t r a) = sure_readings_of_place a
+  sure_readings_of_term (logic.Moved at t r op n a b) = sure_readings_of_term a ++ sure_readings_of_term b
+  sure_readings_of_term (logic.Difference at t r n a b) = sure_readings_of_term a ++ sure_readings_of_term b
+  sure_readings_of_term (logic.Told at t r f a) = sure_readings_of_term a
+
+  -- and wherever a place stands somewhere
+  pub sure_readings_of_place : LogicTerm → List Reading
+  sure_readings_of_place (logic.Deref at t r a) = sure_readings_of_term a
+  sure_readings_of_place (logic.Member at t r d a) = sure_readings_of_place a
+  sure_readings_of_place _ = []
 
 abbrev pub sure_readings_of_links : Links → List Reading
 sure_readings_of_links NoLink = []
 sure_readings_of_links (Linked at r t rest) = sure_readings_of_term t
+
+abbrev pub sure_readings_of_zone : Zone → List Reading
+sure_readings_of_zone (logic.Object at n m a) = sure_readings_of_term a
+sure_readings_of_zone (logic.Elements at n m a lo hi) = sure_readings_of_term a ++ (sure_readings_of_term lo ++ sure_readings_of_term hi)
+
+abbrev pub sure_readings_of_zones : Zones → List Reading
+sure_readings_of_zones NoZone = []
+sure_readings_of_zones (Another z rest) = sure_readings_of_zone z ++ sure_readings_of_zones rest
 
 -- what is read wherever a predicate says something
 abbrev pub sure_readings : Predicate → List Reading
@@ -288,8 +115,8 @@ sure_readings (logic.Connected at connective.Iff p q) = sure_readings p ++ sure_
 sure_readings (logic.Connected at connective.Xor p q) = sure_readings p ++ sure_readings q
 sure_readings (logic.Branch at c p q) = sure_readings c
 sure_readings (logic.Quantified at quantifier guards q) = []
-sure_readings (logic.Asks at question zone) = []
-sure_readings (logic.Separated at zones) = []
+sure_readings (logic.Asks at question zone) = sure_readings_of_zone zone
+sure_readings (logic.Separated at zones) = sure_readings_of_zones zones
 
 -- what is known where the right side of a connective runs
 abbrev pub known_at_right : Connective → List Reading → Predicate → List Reading
@@ -299,7 +126,53 @@ known_at_right connective.Implies known p = known ++ sure_readings p
 known_at_right connective.Iff known p = known
 known_at_right connective.Xor known p = known
 
--- ---- terms and predicates, where these registers are bound to variables and these variables hold numbers, after registers of these types
+-- ---- sides of relations
+
+-- a pointer, and no number
+abbrev pub is_pointer_sort : ValueSort → Bool
+is_pointer_sort AnInteger = false
+is_pointer_sort (APointer t) = true
+is_pointer_sort NoValue = false
+
+abbrev pub is_pointer_term : LogicTerm → Bool
+is_pointer_term t = is_pointer_sort (sort_of_term t)
+
+-- null, and 0 beside a pointer
+abbrev pub is_null_term : LogicTerm → Bool
+is_null_term (logic.Null at t r) = true
+is_null_term (logic.Number at t r n) = true
+is_null_term _ = false
+
+-- the code of a side
+pub data Side : Type 0 where
+  OfNumber : Code → Side
+  OfPointer : PointerCode → Side
+
+abbrev pub used_by : Side → List MonType
+used_by (OfNumber c) = c.used
+used_by (OfPointer c) = c.used
+
+abbrev pub stmts_of : Side → MonStatements
+stmts_of (OfNumber c) = c.stmts
+stmts_of (OfPointer c) = c.stmts
+
+abbrev pub side_by : Bool → PointerCode → Code → Side
+side_by true c d = OfPointer c
+side_by false c d = OfNumber d
+
+-- a side that was computed already, after registers of these types
+abbrev pub again : Side → List MonType → Side
+again (OfNumber c) rs = OfNumber (sure_code c.value rs)
+again (OfPointer c) rs = OfPointer (sure_pointer c.base c.offset rs)
+
+-- a relation of two sides; beside a pointer a number is 0, which is null
+abbrev pub related_code : Relation → LogicTerm → LogicTerm → Side → Side → Code
+related_code r t u (OfNumber x) (OfNumber y) = relation_code r t u x y
+related_code r t u (OfNumber x) (OfPointer y) = addresses_code r (is_null_term t) (is_null_term u) (null_code x) y
+related_code r t u (OfPointer x) (OfNumber y) = addresses_code r (is_null_term t) (is_null_term u) x (null_code y)
+related_code r t u (OfPointer x) (OfPointer y) = addresses_code r (is_null_term t) (is_null_term u) x y
+
+-- ---- terms and predicates, where these registers are bound to variables and these variables were read, after registers of these types
 
 module _ (p : TranslationUnit) (bound : Bindings) where
   abbrev pub variable_value : MonType → Reading → MonExpression
@@ -340,32 +213,76 @@ module _ (p : TranslationUnit) (bound : Bindings) where
         let x = term_code a (known ++ sure_readings c) z.used in
         let y = term_code b (known ++ sure_readings c) x.used in
         branch w z (with_value (in_type (type_of a) w x.value) x) (with_value (in_type (type_of b) w y.value) y)
-    -- other forms have no code yet
-    term_code (logic.Named at t r x) known rs = sure_code (Constant I32 (pos 0)) rs
-    term_code (logic.At at t r l a) known rs = sure_code (Constant I32 (pos 0)) rs
-    term_code (logic.Null at t r) known rs = sure_code (Constant I32 (pos 0)) rs
-    term_code (logic.Deref at t r a) known rs = sure_code (Constant I32 (pos 0)) rs
-    term_code (logic.Member at t r d a) known rs = sure_code (Constant I32 (pos 0)) rs
-    term_code (logic.Address at t r a) known rs = sure_code (Constant I32 (pos 0)) rs
-    term_code (logic.Moved at t r op n a b) known rs = sure_code (Constant I32 (pos 0)) rs
-    term_code (logic.Difference at t r n a b) known rs = sure_code (Constant I32 (pos 0)) rs
-    term_code (logic.Told at t r f a) known rs = sure_code (Constant I32 (pos 0)) rs
+    term_code (logic.Deref at t r a) known rs = number_read (type_of_width (width_of_range r)) (term_type t) (pointer_code a known rs)
+    term_code (logic.Member at t r d a) known rs = number_read (type_of_width (width_of_range r)) (term_type t) (member_code d (place_code a known rs))
+    term_code (logic.Difference at t r n a b) known rs =
+        let c = pointer_code a known rs in
+        difference_code (type_of_width (width_of_range r)) n c (pointer_code b known c.used)
+    term_code (logic.Told at t r f a) known rs = told_number (type_of_width (width_of_range r)) f (pointer_code a known rs)
+    -- pointers are no numbers
+    term_code (logic.Null at t r) known rs = no_code rs
+    term_code (logic.Address at t r a) known rs = no_code rs
+    term_code (logic.Moved at t r op n a b) known rs = no_code rs
+    -- names and labels have no code yet
+    term_code (logic.Named at t r x) known rs = no_code rs
+    term_code (logic.At at t r l a) known rs = no_code rs
 
-    -- a chain from its first term on, whose code this is
-    pub chain_code : LogicTerm → Code → Links → List Reading → Code
-    chain_code t x NoLink known = record x { flag = None; value = Constant I32 (pos 1) }
-    chain_code t x (Linked at r u NoLink) known = relation_code r t u x (term_code u known x.used)
+    -- a term that is a pointer
+    pub pointer_code : LogicTerm → List Reading → List MonType → PointerCode
+    pointer_code (logic.Variable at t r x) known rs =
+        pointer_there (is_known known (record { decl = x.decl; kind = term_type t })) t (start_pointer (pointer_to p bound x.decl) rs)
+    pointer_code (logic.Null at t r) known rs = start_pointer null rs
+    pointer_code (logic.Deref at t r a) known rs = pointer_there false t (pointer_code a known rs)
+    pointer_code (logic.Member at t r d a) known rs = pointer_there false t (member_code d (place_code a known rs))
+    pointer_code (logic.Address at t r a) known rs = place_code a known rs
+    pointer_code (logic.Moved at t r op n a b) known rs =
+        let c = pointer_code a known rs in
+        moved_code op n c (type_of b) (term_code b known c.used)
+    pointer_code (logic.Cast at t r to a) known rs = pointer_code a known rs
+    pointer_code (logic.Choice at t r c a b) known rs =
+        let z = pred_code c known rs in
+        let x = pointer_code a (known ++ sure_readings c) z.used in
+        branch_pointer z x (pointer_code b (known ++ sure_readings c) x.used)
+    pointer_code (logic.Told at t r f a) known rs = told_pointer (pointer_code a known rs)
+    pointer_code _ known rs = no_pointer_code rs
+
+    -- where a place stands
+    pub place_code : LogicTerm → List Reading → List MonType → PointerCode
+    place_code (logic.Variable at t r x) known rs = start_pointer (pointer_to p bound x.decl) rs
+    place_code (logic.Deref at t r a) known rs = pointer_code a known rs
+    place_code (logic.Member at t r d a) known rs = member_code d (place_code a known rs)
+    place_code _ known rs = no_pointer_code rs
+
+    pub zone_code : Zone → List Reading → List MonType → ZoneCode
+    zone_code (logic.Object at n m a) known rs = object_code n (pointer_code a known rs)
+    zone_code (logic.Elements at n m a lo hi) known rs =
+        let c = pointer_code a known rs in
+        let x = term_code lo known c.used in
+        elements_code n c (type_of lo) (type_of hi) x (term_code hi known x.used)
+
+    pub zones_code : Zones → List Reading → List MonType → ZonesCode
+    zones_code NoZone known rs = no_zones rs
+    zones_code (Another z rest) known rs =
+        let c = zone_code z known rs in
+        another_zone c (zones_code rest known c.pointer.used)
+
+    -- a chain from its first side on, whose code this is
+    pub chain_code : LogicTerm → Side → Links → List Reading → Code
+    chain_code t x NoLink known = record { stmts = stmts_of x; flag = None; value = Constant I32 (pos 1); used = used_by x }
+    chain_code t x (Linked at r u NoLink) known =
+        related_code r t u x (side_by (is_pointer_term u) (pointer_code u known (used_by x)) (term_code u known (used_by x)))
     chain_code t x (Linked at r u (Linked at2 r2 v rest)) known =
-        let y = term_code u known x.used in
-        connected connective.And (relation_code r t u x y)
-        (chain_code u (sure_code y.value y.used) (Linked at2 r2 v rest) (known ++ (sure_readings_of_term t ++ sure_readings_of_term u)))
+        let y = side_by (is_pointer_term u) (pointer_code u known (used_by x)) (term_code u known (used_by x)) in
+        let z = related_code r t u x y in
+        connected connective.And z (chain_code u (again y z.used) (Linked at2 r2 v rest) (known ++ (sure_readings_of_term t ++ sure_readings_of_term u)))
 
     pub pred_code : Predicate → List Reading → List MonType → Code
     pred_code (logic.Truth at b) known rs = truth_code b rs
     pred_code (logic.NonZero at t) known rs =
         let x = term_code t known rs in
         with_value (Binary Ne (type_of t) x.value (Constant (type_of t) (pos 0))) x
-    pred_code (logic.Chain at t links) known rs = chain_code t (term_code t known rs) links known
+    pred_code (logic.Chain at t links) known rs =
+        chain_code t (side_by (is_pointer_term t) (pointer_code t known rs) (term_code t known rs)) links known
     pred_code (logic.Not at q) known rs =
         let x = pred_code q known rs in
         with_value (Binary Eq I32 x.value (Constant I32 (pos 0))) x
@@ -376,9 +293,14 @@ module _ (p : TranslationUnit) (bound : Bindings) where
         let z = pred_code c known rs in
         let x = pred_code a (known ++ sure_readings c) z.used in
         branch I32 z x (pred_code b (known ++ sure_readings c) x.used)
+    pred_code (logic.Asks at f z) known rs = zone_asked f (alignment_of z) (zone_code z known rs)
+    pred_code (logic.Separated at zs) known rs = separated_code (zones_code zs known rs)
+    -- quantifiers have no code yet
     pred_code (logic.Quantified at quantifier guards q) known rs = truth_code false rs
-    pred_code (logic.Asks at question zone) known rs = truth_code false rs
-    pred_code (logic.Separated at zones) known rs = truth_code false rs
+
+  -- a side of a relation
+  abbrev pub side_code : LogicTerm → List Reading → List MonType → Side
+  side_code t known rs = side_by (is_pointer_term t) (pointer_code t known rs) (term_code t known rs)
 
 -- ---- the flag and the truth in registers
 

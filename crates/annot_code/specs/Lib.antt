@@ -1,3 +1,5 @@
+pub mod Pieces
+pub mod Pointers
 pub mod Code
 pub mod Does
 pub mod Inside

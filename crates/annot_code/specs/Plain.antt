@@ -1,36 +1,82 @@
 -- Ours: plain forms.
-use Rattle.std.specs.Prelude.{ℕ, suc, pos, List, [], ◌++◌, map, Option, Some, None, option_map}
+use Rattle.std.specs.Prelude.{ℕ, suc, pos, Bool, true, false, List, [], ◌++◌, length, map, Option, Some, None, option_map}
 use Rattle.c_syntax.specs.declared.annotation.Range.{Range}
 use Rattle.c_syntax.specs.declared.annotation.Relation.{Relation}
 use Rattle.c_syntax.specs.declared.expression.BinOp.{BinOp}
 use Rattle.c_syntax.specs.declared.expression.UnOp.{UnOp}
+use Rattle.c_syntax.specs.declared.logic.BlockFact.{BlockFact}
 use Rattle.c_syntax.specs.declared.logic.Connective.{Connective}
 use Rattle.c_syntax.specs.declared.logic.Connective.TheVariants as connective
 use Rattle.c_syntax.specs.declared.logic.Links as declared_logic
+use Rattle.c_syntax.specs.declared.logic.MemoryQuestion.{MemoryQuestion}
+use Rattle.c_syntax.specs.declared.logic.PointerOp.{PointerOp}
 use Rattle.c_syntax.specs.declared.logic.Pred.{Pred}
 use Rattle.c_syntax.specs.declared.logic.Term.{Term}
+use Rattle.c_syntax.specs.declared.logic.Zone as declared_logic_zone
+use Rattle.c_syntax.specs.declared.logic.Zones as declared_logic_zones
+use Rattle.c_syntax.specs.Ctypes.{PlainType}
 use Rattle.c_syntax.specs.Formulas.{CastType}
-use Rattle.c_syntax.specs.Logic.{LogicTerm, Links, Linked, Predicate, Annotation, plain_links, plain_pred, plain_term}
+use Rattle.c_syntax.specs.Logic.{LogicTerm, Links, Linked, Zone, Zones, Another, Predicate, Annotation}
+use Rattle.c_syntax.specs.Logic.{plain_links, plain_pred, plain_term, plain_zone_kind, plain_zones}
 use Rattle.c_syntax.specs.Logic as logic
 use Rattle.c_syntax.specs.Programs.{TranslationUnit}
+use Rattle.c_model.specs.Places.{first_place}
 use Rattle.c_model.specs.Ranges.{width_of_range}
+use Rattle.mon_syntax.specs.declared.tree.MonOp.TheVariants.{Add, And, Div, Eq, Sub}
 use Rattle.mon_syntax.specs.declared.tree.MonType.{MonType}
+use Rattle.mon_syntax.specs.declared.tree.MonType.TheVariants.{I32, I64, I128, Ptr}
 use Rattle.mon_syntax.specs.Registers.{Bindings, Names, with_table}
-use Rattle.mon_syntax.specs.Trees.{MonExpression, Register, Constant, If, MonStatements, plain_expr, plain_stmts}
-use Rattle.mon_syntax.specs.declared.tree.MonType.TheVariants.{I32}
-use Rattle.c_effects.specs.Expressions.{before, one}
+use Rattle.mon_syntax.specs.Trees.{MonExpression, Register, Constant, Binary, Set, If, MonStatements, NoStatement, Then, plain_expr, plain_stmts}
+use Rattle.c_effects.specs.Expressions.{before, one, set, in_type, pointer_to}
 use Rattle.c_effects.specs.Named.{unit_of}
+use Rattle.mem_preds.specs.declared.question.Question.TheVariants as question
+use Rattle.mem_preds.specs.declared.ranges.Bytes.{Bytes}
+use Rattle.mem_preds.specs.Questions.{read_at}
 use Rattle.annot_code.specs.declared.judge.Judged.{Judged}
 use Rattle.annot_code.specs.declared.piece.Code as declared
+use Rattle.annot_code.specs.declared.pointer.PointerCode as declared_pointer
 use Rattle.annot_code.specs.declared.reading.Reading as declared_reading
+use Rattle.annot_code.specs.declared.side.Side as declared_side
+use Rattle.annot_code.specs.declared.side.Side.TheVariants as side
 use Rattle.annot_code.specs.declared.value.OperationTypes.{OperationTypes}
-use Rattle.annot_code.specs.Code.{Code, Judgement, conjunction, connected, guarded, judged_anew, judged_by, sure_code, sure_readings_of_term, take, take_none}
-use Rattle.annot_code.specs.Code.{Reading, chain_code, pred_code, relation_code, term_code, type_of, type_of_width, width_of, working}
-use Rattle.annot_code.specs.Code.{assertion, assertions, behind_assertion, behind_assertions}
+use Rattle.annot_code.specs.declared.zone.ZoneCode as declared_zone
+use Rattle.annot_code.specs.declared.zone.ZonesCode as declared_zones
+use Rattle.annot_code.specs.Code.{Code, Judgement, Reading, Side, OfNumber, OfPointer, again, conjunction, connected, guarded, is_known, judged_anew}
+use Rattle.annot_code.specs.Code.{judged_by, related_code, relation_operator, stmts_of, used_by, sure_readings_of_term, take, take_none, term_type}
+use Rattle.annot_code.specs.Code.{type_of, type_of_width, width_of, working, term_code, pointer_code, place_code, zone_code, zones_code}
+use Rattle.annot_code.specs.Code.{side_code, chain_code, pred_code, assertion, assertions, behind_assertion, behind_assertions}
+use Rattle.annot_code.specs.Pointers.{PointerCode, ZoneCode, ZonesCode, asked_there, told_there, equality_code, no_offset, offsets_asked, offsets_code}
+use Rattle.annot_code.specs.Pointers.{one_byte, pointer_there, start_pointer, sure_pointer, take_pointer}
 
 -- code after which registers of these types are taken
 abbrev pub code_of : declared.Code → List MonType → Code
 code_of c rs = record { stmts = plain_stmts c.stmts.items; flag = option_map plain_expr c.flag; value = plain_expr c.value; used = rs }
+
+abbrev pub pointer_of : declared_pointer.PointerCode → List MonType → PointerCode
+pointer_of c rs = record {
+  stmts = plain_stmts c.stmts.items;
+  flag = option_map plain_expr c.flag;
+  base = plain_expr c.base;
+  offset = plain_expr c.offset;
+  used = rs;
+}
+
+abbrev pub zone_of : declared_zone.ZoneCode → List MonType → ZoneCode
+zone_of z rs = record { pointer = pointer_of z.pointer rs; length = plain_expr z.length }
+
+-- bytes without statements
+abbrev pub bytes_of : Bytes → ZoneCode
+bytes_of b = record { pointer = sure_pointer (plain_expr b.base) (plain_expr b.offset) []; length = plain_expr b.length }
+
+abbrev pub all_bytes : List Bytes → List ZoneCode
+all_bytes bs = map bytes_of bs
+
+abbrev pub zones_of : declared_zones.ZonesCode → List MonType → ZonesCode
+zones_of c rs = record { stmts = plain_stmts c.stmts.items; flag = option_map plain_expr c.flag; zones = all_bytes c.zones.items; used = rs }
+
+abbrev pub side_of : declared_side.Side → List MonType → Side
+side_of (side.Number c) rs = OfNumber (code_of c rs)
+side_of (side.Pointer c) rs = OfPointer (pointer_of c rs)
 
 abbrev pub plain_reading : declared_reading.Reading → Reading
 plain_reading x = record { decl = x.decl; kind = x.kind }
@@ -55,12 +101,89 @@ branch_in r c a b =
 abbrev pub partial_in : ℕ → Code → MonExpression → Code
 partial_in r x test = in_registers (before x.stmts (guarded x.flag (take (Some test) x.value r) (take_none r))) r
 
+abbrev pub in_two_registers : MonStatements → ℕ → PointerCode
+in_two_registers a r = record { stmts = a; flag = Some (Register r); base = Register (suc r); offset = no_offset; used = [] }
+
+abbrev pub in_three_registers : MonStatements → ℕ → PointerCode
+in_three_registers a r = record { stmts = a; flag = Some (Register r); base = Register (suc r); offset = Register (suc (suc r)); used = [] }
+
+-- a flag in a register, and other statements where it is 1
+abbrev pub taken_where : Option MonExpression → MonStatements → ℕ → MonStatements
+taken_where None both r = Then (Set r (Constant I32 (pos 1))) both
+taken_where (Some f) both r = Then (Set r f) (one (If (Register r) both NoStatement))
+
+abbrev pub branch_pointer_in : ℕ → Code → PointerCode → PointerCode → PointerCode
+branch_pointer_in r c a b =
+    let choice = one (If c.value (before a.stmts (take_pointer a.flag a r)) (before b.stmts (take_pointer b.flag b r))) in
+    in_three_registers (before c.stmts (guarded c.flag choice (take_none r))) r
+
+-- a question whether there is a pointer, and its value where there is one
+abbrev pub pointer_asked : PointerCode → ℕ → MonStatements
+pointer_asked c r =
+    Then (asked_there question.Pointer Ptr c r) (one (If (Register r) (set (suc r) (read_at Ptr c.base c.offset)) NoStatement))
+
+-- whether there is a pointer inside a live block, and what is told of that
+abbrev pub fact_asked : BlockFact → PointerCode → ℕ → MonStatements
+fact_asked f c r = Then (asked_there question.Inside Ptr c r) (one (told_there f c (suc r)))
+
+-- one byte at a place
+abbrev pub parts_of : Bytes → MonExpression × MonExpression × MonExpression
+parts_of b = (plain_expr b.base, plain_expr b.offset, plain_expr b.length)
+
+abbrev pub with_parts : MonExpression → MonExpression → MonExpression × MonExpression × MonExpression
+with_parts p o = (p, o, one_byte)
+
+abbrev pub both_asked_in : ℕ → MonStatements → Option MonExpression → MonStatements → Option MonExpression → MonStatements → MonStatements
+both_asked_in r a f b g on = before (before a b) (guarded (conjunction f g) on (take_none r))
+
+abbrev pub equality_value : Bool → ℕ → MonExpression
+equality_value true r = Binary Eq I32 (Register (suc r)) (Constant I32 (pos 0))
+equality_value false r = Register (suc r)
+
+abbrev pub equality_by : Bool → (m n : Bool) → PointerCode → PointerCode → Code
+equality_by same m n c d = equality_code m n (equality_value same (length d.used)) c d
+
+abbrev pub one_block : ℕ → MonExpression
+one_block r = Binary And I32 (Binary And I32 (Register r) (Register (suc r))) (Binary Eq Ptr (Register (suc (suc r))) (Register (suc (suc (suc r)))))
+
+abbrev pub offsets_in : ℕ → PointerCode → PointerCode → MonStatements
+offsets_in r c d = before (before c.stmts d.stmts) (guarded (conjunction c.flag d.flag) (offsets_asked c d r) (take_none r))
+
+abbrev pub order_by : Relation → PointerCode → PointerCode → Code
+order_by r c d = offsets_code (Binary (relation_operator r) I64) c d
+
+abbrev pub elements_between : MonType → ℕ → MonExpression → MonExpression → MonExpression
+elements_between w n x y = in_type I64 w (Binary Div I64 (Binary Sub I64 x y) (Constant I64 (pos n)))
+
+abbrev pub count_of : MonExpression → MonExpression → MonExpression
+count_of low high = Binary Add I128 (Binary Sub I128 high low) (Constant I128 (pos 1))
+
 -- ---- terms and predicates where a function's names are these
 
 abbrev pub term_by : Names → LogicTerm → List Reading → Code
 term_by n t known = term_code (unit_of n) n.table.bound t known n.table.kinds
 
-abbrev pub chain_by : Names → LogicTerm → Code → Links → List Reading → Code
+abbrev pub pointer_by : Names → LogicTerm → List Reading → PointerCode
+pointer_by n t known = pointer_code (unit_of n) n.table.bound t known n.table.kinds
+
+abbrev pub place_by : Names → LogicTerm → List Reading → PointerCode
+place_by n t known = place_code (unit_of n) n.table.bound t known n.table.kinds
+
+abbrev pub zone_by : Names → Zone → List Reading → ZoneCode
+zone_by n z known = zone_code (unit_of n) n.table.bound z known n.table.kinds
+
+abbrev pub zones_by : Names → Zones → List Reading → ZonesCode
+zones_by n zs known = zones_code (unit_of n) n.table.bound zs known n.table.kinds
+
+abbrev pub side_by_names : Names → LogicTerm → List Reading → Side
+side_by_names n t known = side_code (unit_of n) n.table.bound t known n.table.kinds
+
+-- a pointer in a variable
+abbrev pub pointer_variable_by : Names → Option PlainType → ℕ → List Reading → PointerCode
+pointer_variable_by n t x known =
+    pointer_there (is_known known (record { decl = x; kind = term_type t })) t (start_pointer (pointer_to (unit_of n) n.table.bound x) n.table.kinds)
+
+abbrev pub chain_by : Names → LogicTerm → Side → Links → List Reading → Code
 chain_by n t x links known = chain_code (unit_of n) n.table.bound t x links known
 
 abbrev pub pred_by : Names → Predicate → List Reading → Code
@@ -79,6 +202,41 @@ binary_of op r a b = logic.Binary a.place None r op (plain_term a) (plain_term b
 
 abbrev pub choice_of : Range → Pred → Term → Term → LogicTerm
 choice_of r c a b = logic.Choice c.place None r (plain_pred c) (plain_term a) (plain_term b)
+
+abbrev pub deref_of : Option PlainType → Range → Term → LogicTerm
+deref_of t r a = logic.Deref a.place t r (plain_term a)
+
+abbrev pub member_of : Option PlainType → Range → ℕ → Term → LogicTerm
+member_of t r d a = logic.Member a.place t r d (plain_term a)
+
+abbrev pub difference_of : Range → ℕ → Term → Term → LogicTerm
+difference_of r n a b = logic.Difference a.place None r n (plain_term a) (plain_term b)
+
+abbrev pub told_of : Range → BlockFact → Term → LogicTerm
+told_of r f a = logic.Told a.place None r f (plain_term a)
+
+-- the ranges of pointers play no part either
+abbrev pub moved_of : PointerOp → ℕ → Term → Term → LogicTerm
+moved_of op n a b = logic.Moved a.place None a.range op n (plain_term a) (plain_term b)
+
+abbrev pub pointer_choice_of : Pred → Term → Term → LogicTerm
+pointer_choice_of c a b = logic.Choice c.place None a.range (plain_pred c) (plain_term a) (plain_term b)
+
+abbrev pub plain_zone : declared_logic_zone.Zone → Zone
+plain_zone z = plain_zone_kind z.place z.size z.align z.kind.value
+
+-- the alignment plays no part in where the bytes are
+abbrev pub elements_form : ℕ → Term → Term → Term → Zone
+elements_form n a lo hi = logic.Elements a.place n 1 (plain_term a) (plain_term lo) (plain_term hi)
+
+abbrev pub more_zones_of : declared_logic_zone.Zone → declared_logic_zones.Zones → Zones
+more_zones_of z rest = Another (plain_zone z) (plain_zones rest)
+
+abbrev pub asks_of : MemoryQuestion → declared_logic_zone.Zone → Predicate
+asks_of f z = logic.Asks z.place f (plain_zone z)
+
+abbrev pub separated_of : declared_logic_zones.Zones → Predicate
+separated_of zs = logic.Separated first_place (plain_zones zs)
 
 abbrev pub link_of : Relation → Term → declared_logic.Links → Links
 link_of r u rest = Linked u.place r (plain_term u) (plain_links rest)
@@ -100,14 +258,14 @@ branch_of c a b = logic.Branch c.place (plain_pred c) (plain_pred a) (plain_pred
 
 -- ---- parts of chains
 
-abbrev pub ended : Code → Code
-ended x = record x { flag = None; value = Constant I32 (pos 1) }
+abbrev pub ended : Side → Code
+ended x = record { stmts = stmts_of x; flag = None; value = Constant I32 (pos 1); used = used_by x }
 
 -- a relation of the terms of x and y, and the relations after y
-abbrev pub more_links : TranslationUnit → Bindings → Relation → LogicTerm → LogicTerm → Code → Code → Links → List Reading → Code
+abbrev pub more_links : TranslationUnit → Bindings → Relation → LogicTerm → LogicTerm → Side → Side → Links → List Reading → Code
 more_links p bound r t u x y rest known =
-    connected connective.And (relation_code r t u x y)
-    (chain_code p bound u (sure_code y.value y.used) rest (known ++ (sure_readings_of_term t ++ sure_readings_of_term u)))
+    let z = related_code r t u x y in
+    connected connective.And z (chain_code p bound u (again y z.used) rest (known ++ (sure_readings_of_term t ++ sure_readings_of_term u)))
 
 -- ---- the types of an operator
 

@@ -217,7 +217,7 @@ fn branch_in(alloc: Global, number: u32, c: Code, a: Code, b: Code) -> Result<Co
 }
 
 /// The second part where the first one's value is 1, and the third where it is 0, whose registers are the last ones.
-pub fn branch(
+pub fn branched(
     alloc: Global,
     t: MonType,
     c: Code,
@@ -264,7 +264,7 @@ pub fn chosen(
     let (x, y) = values;
     let x = value_in(alloc, types.0, t, x)?;
     let y = value_in(alloc, types.1, t, y)?;
-    branch(alloc, t, c, x, y, names)
+    branched(alloc, t, c, x, y, names)
 }
 
 // ---- connectives
@@ -294,15 +294,15 @@ fn left_first(
     match connective {
         Connective::And => {
             let decided = truth_code(alloc, false)?;
-            branch(alloc, MonType::I32, p, q, decided, names)
+            branched(alloc, MonType::I32, p, q, decided, names)
         }
         Connective::Or => {
             let decided = truth_code(alloc, true)?;
-            branch(alloc, MonType::I32, p, decided, q, names)
+            branched(alloc, MonType::I32, p, decided, q, names)
         }
         Connective::Implies => {
             let decided = truth_code(alloc, true)?;
-            branch(alloc, MonType::I32, p, q, decided, names)
+            branched(alloc, MonType::I32, p, q, decided, names)
         }
         Connective::Iff | Connective::Xor => both_asked(alloc, connective, p, q),
     }

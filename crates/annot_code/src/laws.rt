@@ -1,6 +1,7 @@
 //! What the code of predicates does. It has nothing to do itself.
 
-ghost use Rattle.annot_code.specs.Beside.{JudgedPredicatesAreFound, SoundJudgementsKeepRanges, StandingKeepsRanges, StandingStands, TypedPredicatesAreFound};
+ghost use Rattle.annot_code.specs.Beside.{JudgedPredicatesAreFound, SoundJudgementsKeepRanges, StandingKeepsRanges, StandingStands};
+ghost use Rattle.annot_code.specs.Beside.{TypedPredicatesAreFound};
 ghost use Rattle.annot_code.specs.Does.{CodeJudges, TakesNoStep};
 ghost use Rattle.annot_code.specs.Validity.{CodeIsValid};
 
@@ -15,9 +16,9 @@ pub fn validity()
     ensures valid { CodeIsValid }
 {}
 
-/// What it asks for holds wherever monitored C stands beside a state of the source: the target has the source's blocks and points to those of the variables
-/// in sight, and terms have values of their ranges. So they have in each sound judgement; and a typed predicate reads variables in sight, as each does
-/// that a run of an accepted program judges.
+/// What it asks for holds wherever monitored C stands beside a state of the source: the target has the source's blocks and points to those of the
+/// variables in sight, and terms have values of their ranges. So they have in each sound judgement; and a typed predicate reads variables in sight, as each
+/// does that a run of an accepted program judges, where its questions have alignments and its elements have bytes.
 pub fn beside()
     ensures stands { StandingStands }
     ensures ranges { StandingKeepsRanges }

@@ -3,8 +3,8 @@
 ghost use Rattle.std.specs.Prelude.{◌≡◌, ◌≤◌, ◌<◌, ◌+◌, ◌++◌, ◌∷◌, [], IfOk, OnOk, length, option_map};
 ghost use Rattle.mon_syntax.specs.declared.tree.MonType.TheVariants.{I32};
 ghost use Rattle.mon_syntax.specs.Registers.{next_register};
-ghost use Rattle.mon_syntax.specs.Trees.{plain_expr, plain_stmts};
-ghost use Rattle.c_effects.specs.Expressions.{before};
+ghost use Rattle.mon_syntax.specs.Trees.{plain_expr, plain_stmt, plain_stmts};
+ghost use Rattle.c_effects.specs.Expressions.{before, one};
 ghost use Rattle.annot_code.specs.Code.{branch, guarded, take, take_none, taken, two_code};
 ghost use Rattle.annot_code.specs.Plain.{code_of};
 
@@ -23,6 +23,24 @@ pub struct Code {
     pub flag: Option<MonExpr>,
     /// The value, which may be asked for only where it exists.
     pub value: MonExpr,
+}
+
+/// The one statement alone.
+#[tactic(auto, using(c_effects::proofs::Sequences::stmts_push))]
+pub fn only(alloc: Global, s: MonStmt) -> Result<Vec<MonStmt>, AllocError>
+    ensures { IfOk result (λ v. plain_stmts v.items ≡ one (plain_stmt s)) }
+{
+    let mut only = Vec::new(alloc);
+    only.push(s)?;
+    Ok(only)
+}
+
+/// Puts a statement after the others.
+pub fn then_one(alloc: Global, to: &mut Vec<MonStmt>, s: MonStmt) -> Result<(), AllocError>
+    ensures { OnOk result (plain_stmts to.new.items ≡ before (plain_stmts to.old.items) (one (plain_stmt s))) }
+{
+    let next = only(alloc, s)?;
+    then_all(to, next)
 }
 
 /// Puts the first statements where a flag is 1 and the second ones elsewhere.

@@ -1,28 +1,46 @@
 //! The code of terms and predicates.
 
-ghost use Rattle.std.specs.Prelude.{◌≡◌, [], IfOk, OnOk};
+ghost use Rattle.std.specs.Prelude.{◌≡◌, [], false, IfOk, OnOk, option_map};
+ghost use Rattle.c_syntax.specs.Ctypes.{plain_type};
 ghost use Rattle.c_syntax.specs.Formulas.{plain_cast_type};
-ghost use Rattle.c_syntax.specs.Logic.{plain_links, plain_pred, plain_term, range_of};
+ghost use Rattle.c_syntax.specs.Logic.{plain_links, plain_pred, plain_term, plain_zones, range_of};
 ghost use Rattle.c_model.specs.Ranges.{width_of_range};
 ghost use Rattle.c_effects.specs.Named.{unit_of};
-ghost use Rattle.mon_syntax.specs.Trees.{plain_expr};
-ghost use Rattle.annot_code.specs.Code.{relation_code, sure_code, type_of, type_of_width, width_of};
-ghost use Rattle.annot_code.specs.Plain.{binary_of, branch_of, cast_of, chain_by, chain_of, choice_of, code_of, connected_of, denied_of};
-ghost use Rattle.annot_code.specs.Plain.{ended, link_of, more_links, nonzero_of, plain_readings, pred_by, term_by, types_of, unary_of};
+ghost use Rattle.annot_code.specs.Code.{type_of, type_of_width, width_of};
+ghost use Rattle.annot_code.specs.Pointers.{member_code, pointer_there, told_pointer};
+ghost use Rattle.annot_code.specs.Plain.{asks_of, binary_of, branch_of, cast_of, chain_by, chain_of, choice_of, code_of, connected_of, denied_of};
+ghost use Rattle.annot_code.specs.Plain.{deref_of, difference_of, elements_form, link_of, member_of, more_links, more_zones_of, moved_of, nonzero_of};
+ghost use Rattle.annot_code.specs.Plain.{place_by, plain_readings, plain_zone, pointer_by, pointer_choice_of, pointer_of, pointer_variable_by, pred_by};
+ghost use Rattle.annot_code.specs.Plain.{separated_of, side_by_names, side_of, term_by, told_of, types_of, unary_of, zone_by, zone_of, zones_by, zones_of};
 
-use crate::join::{branch, chosen, connected, operated, related};
+use crate::compare::difference_code;
+use crate::join::{branched, chosen, connected, operated};
 use crate::piece::Code;
-use crate::reading::{Reading, known_after, known_after_relation, known_at_right, term_type};
-use crate::term::{
-    cast_code, denied_code, nonzero_code, number_code, truth_code, unary_code, variable_code,
+use crate::pointer::{
+    PointerCode, branch_pointer, member_code, moved_code, no_pointer, null_pointer, number_read,
+    pointer_there, start_pointer, told_number, told_pointer,
 };
-use crate::value::{OperationTypes, type_of_width, wider, working};
-use c_effects::copy::copy_of;
-use c_effects::operator::constant;
-use c_syntax::logic::{Connective, Links, LogicType, Pred, PredKind, Term, TermKind};
-use c_syntax::{BinOp, Range, Relation, UnOp, Width};
+use crate::reading::{
+    Reading, is_known, known_after, known_after_relation, known_at_right, term_type,
+};
+use crate::side::{Side, again, ended, is_pointer_term, related_code};
+use crate::term::{
+    cast_code, denied_code, no_code, nonzero_code, number_code, truth_code, unary_code,
+    variable_code,
+};
+use crate::value::{OperationTypes, type_of_width, working};
+use crate::zone::{
+    ZoneCode, ZonesCode, another_zone, elements_code, no_zones, object_code, separated_code,
+    zone_asked,
+};
+use c_effects::object::pointer_to;
+use c_syntax::logic::{
+    BlockFact, Connective, Links, LogicType, MemoryQuestion, PointerOp, Pred, PredKind, Term,
+    TermKind, Zone, ZoneKind, Zones,
+};
+use c_syntax::{BinOp, CType, Range, Relation, UnOp, Width};
 use ea_num::width_of as width_of_range;
-use mon_syntax::{MonExpr, MonType, Registers};
+use mon_syntax::{MonType, Registers};
 use std::alloc::{AllocError, Global};
 
 // ---- ranges of terms
@@ -34,13 +52,15 @@ fn range_of(t: &Term) -> Range
     t.range
 }
 
-fn width_of(t: &Term) -> Width
+/// The width in which the value of a term stands.
+pub fn width_of(t: &Term) -> Width
     ensures { result ≡ width_of (plain_term t.now) }
 {
     width_of_range(range_of(t))
 }
 
-fn type_of(t: &Term) -> MonType
+/// The type in which it stands.
+pub fn type_of(t: &Term) -> MonType
     ensures { result ≡ type_of (plain_term t.now) }
 {
     type_of_width(width_of(t))
@@ -80,6 +100,11 @@ fn term_code(
         TermKind::Binary(op, a, b) => binary(alloc, *op, t.range, (a, b), known, names),
         TermKind::Cast(to, a) => cast(alloc, to, t.range, a, known, names),
         TermKind::Choice(c, a, b) => choice(alloc, t.range, c, (a, b), known, names),
+        TermKind::Deref(a) => deref(alloc, &t.ctype, t.range, a, known, names),
+        TermKind::Member(d, a) => member(alloc, (&t.ctype, t.range), *d, a, known, names),
+        TermKind::Difference(n, a, b) => { difference(alloc, t.range, *n, (a, b), known, names) }
+        TermKind::Told(fact, a) => told(alloc, t.range, *fact, a, known, names),
+        TermKind::Null | TermKind::Address(_) | TermKind::Moved(_, _, _, _) => no_code(alloc),
     }
 }
 
@@ -193,59 +218,376 @@ fn choice(
     chosen(alloc, type_of_range(range), types, z, (x, y), names)
 }
 
+// A number that a pointer points to, with a result in the range.
+#[cycle(code)]
+fn deref(
+    alloc: Global,
+    t: &Option<CType>,
+    range: Range,
+    a: &Term,
+    known: &[Reading],
+    names: &mut Registers<'_>,
+) -> Result<Code, AllocError>
+    ensures code { IfOk result (λ c. code_of c names.new.table.kinds
+        ≡ term_by names.old (deref_of (option_map plain_type t.now) range a.now) (plain_readings known.now)) }
+    ensures bound { OnOk result (names.new.table.bound ≡ names.old.table.bound) }
+    ensures program { OnOk result (names.new.program ≡ names.old.program) }
+{
+    let c = pointer_code(alloc, a, known, names)?;
+    number_read(alloc, type_of_range(range), term_type(t), c, names)
+}
+
+// A number in a member, with a type and a range.
+#[cycle(code)]
+fn member(
+    alloc: Global,
+    value: (&Option<CType>, Range),
+    d: u32,
+    a: &Term,
+    known: &[Reading],
+    names: &mut Registers<'_>,
+) -> Result<Code, AllocError>
+    ensures code { IfOk result (λ c. code_of c names.new.table.kinds
+        ≡ term_by names.old (member_of (option_map plain_type value.entry.0.now) value.entry.1 d a.now) (plain_readings known.now)) }
+    ensures bound { OnOk result (names.new.table.bound ≡ names.old.table.bound) }
+    ensures program { OnOk result (names.new.program ≡ names.old.program) }
+{
+    let (t, range) = value;
+    let c = place_code(alloc, a, known, names)?;
+    let c = member_code(alloc, d, c)?;
+    number_read(alloc, type_of_range(range), term_type(t), c, names)
+}
+
+// The distance of two pointers in elements of a size, with a result in the range.
+#[cycle(code)]
+fn difference(
+    alloc: Global,
+    range: Range,
+    n: u32,
+    operands: (&Term, &Term),
+    known: &[Reading],
+    names: &mut Registers<'_>,
+) -> Result<Code, AllocError>
+    ensures code { IfOk result (λ c. code_of c names.new.table.kinds
+        ≡ term_by names.old (difference_of range n operands.entry.0.now operands.entry.1.now) (plain_readings known.now)) }
+    ensures bound { OnOk result (names.new.table.bound ≡ names.old.table.bound) }
+    ensures program { OnOk result (names.new.program ≡ names.old.program) }
+{
+    let (a, b) = operands;
+    let c = pointer_code(alloc, a, known, names)?;
+    let d = pointer_code(alloc, b, known, names)?;
+    difference_code(alloc, type_of_range(range), n, c, d, names)
+}
+
+// What is told of a block as a number, with a result in the range.
+#[cycle(code)]
+fn told(
+    alloc: Global,
+    range: Range,
+    fact: BlockFact,
+    a: &Term,
+    known: &[Reading],
+    names: &mut Registers<'_>,
+) -> Result<Code, AllocError>
+    ensures code { IfOk result (λ c. code_of c names.new.table.kinds ≡ term_by names.old (told_of range fact a.now) (plain_readings known.now)) }
+    ensures bound { OnOk result (names.new.table.bound ≡ names.old.table.bound) }
+    ensures program { OnOk result (names.new.program ≡ names.old.program) }
+{
+    let c = pointer_code(alloc, a, known, names)?;
+    told_number(alloc, type_of_range(range), fact, c, names)
+}
+
+// ---- pointers and places
+
+#[cycle(code)]
+fn pointer_code(
+    alloc: Global,
+    t: &Term,
+    known: &[Reading],
+    names: &mut Registers<'_>,
+) -> Result<PointerCode, AllocError>
+    ensures code { IfOk result (λ c. pointer_of c names.new.table.kinds ≡ pointer_by names.old (plain_term t.now) (plain_readings known.now)) }
+    ensures bound { OnOk result (names.new.table.bound ≡ names.old.table.bound) }
+    ensures program { OnOk result (names.new.program ≡ names.old.program) }
+{
+    match &*t.kind {
+        TermKind::Variable(x) => pointer_variable(alloc, &t.ctype, x.decl, known, names),
+        TermKind::Null => null_pointer(alloc),
+        TermKind::Deref(a) => pointer_deref(alloc, &t.ctype, a, known, names),
+        TermKind::Member(d, a) => pointer_member(alloc, &t.ctype, *d, a, known, names),
+        TermKind::Address(a) => place_code(alloc, a, known, names),
+        TermKind::Moved(op, n, a, b) => moved(alloc, *op, *n, (a, b), known, names),
+        TermKind::Cast(_, a) => pointer_code(alloc, a, known, names),
+        TermKind::Choice(c, a, b) => pointer_choice(alloc, c, (a, b), known, names),
+        TermKind::Told(_, a) => start_told(alloc, a, known, names),
+        TermKind::Number(_) | TermKind::Letter(_) | TermKind::Unary(_, _) => no_pointer(alloc),
+        TermKind::Binary(_, _, _) | TermKind::Difference(_, _, _) => no_pointer(alloc),
+    }
+}
+
+// A pointer in a variable.
+fn pointer_variable(
+    alloc: Global,
+    t: &Option<CType>,
+    decl: u32,
+    known: &[Reading],
+    names: &mut Registers<'_>,
+) -> Result<PointerCode, AllocError>
+    ensures code { IfOk result (λ c. pointer_of c names.new.table.kinds
+        ≡ pointer_variable_by names.old (option_map plain_type t.now) decl (plain_readings known.now)) }
+    ensures bound { OnOk result (names.new.table.bound ≡ names.old.table.bound) }
+    ensures program { OnOk result (names.new.program ≡ names.old.program) }
+{
+    let kind = term_type(t);
+    let is_there = is_known(known, Reading { decl, kind });
+    let base = pointer_to(alloc, names, decl)?;
+    let c = start_pointer(alloc, base)?;
+    pointer_there(alloc, is_there, t, c, names)
+}
+
+// A pointer to which a pointer points.
+#[cycle(code)]
+fn pointer_deref(
+    alloc: Global,
+    t: &Option<CType>,
+    a: &Term,
+    known: &[Reading],
+    names: &mut Registers<'_>,
+) -> Result<PointerCode, AllocError>
+    ensures code { IfOk result (λ c. pointer_of c names.new.table.kinds
+        ≡ pointer_there false (option_map plain_type t.now) (pointer_by names.old (plain_term a.now) (plain_readings known.now))) }
+    ensures bound { OnOk result (names.new.table.bound ≡ names.old.table.bound) }
+    ensures program { OnOk result (names.new.program ≡ names.old.program) }
+{
+    let c = pointer_code(alloc, a, known, names)?;
+    pointer_there(alloc, false, t, c, names)
+}
+
+// A pointer in a member.
+#[cycle(code)]
+fn pointer_member(
+    alloc: Global,
+    t: &Option<CType>,
+    d: u32,
+    a: &Term,
+    known: &[Reading],
+    names: &mut Registers<'_>,
+) -> Result<PointerCode, AllocError>
+    ensures code { IfOk result (λ c. pointer_of c names.new.table.kinds
+        ≡ pointer_there false (option_map plain_type t.now) (member_code d (place_by names.old (plain_term a.now) (plain_readings known.now)))) }
+    ensures bound { OnOk result (names.new.table.bound ≡ names.old.table.bound) }
+    ensures program { OnOk result (names.new.program ≡ names.old.program) }
+{
+    let c = place_code(alloc, a, known, names)?;
+    let c = member_code(alloc, d, c)?;
+    pointer_there(alloc, false, t, c, names)
+}
+
+// A pointer that goes on by elements of a size.
+#[cycle(code)]
+fn moved(
+    alloc: Global,
+    op: PointerOp,
+    n: u32,
+    operands: (&Term, &Term),
+    known: &[Reading],
+    names: &mut Registers<'_>,
+) -> Result<PointerCode, AllocError>
+    ensures code { IfOk result (λ c. pointer_of c names.new.table.kinds
+        ≡ pointer_by names.old (moved_of op n operands.entry.0.now operands.entry.1.now) (plain_readings known.now)) }
+    ensures bound { OnOk result (names.new.table.bound ≡ names.old.table.bound) }
+    ensures program { OnOk result (names.new.program ≡ names.old.program) }
+{
+    let (a, b) = operands;
+    let c = pointer_code(alloc, a, known, names)?;
+    let x = term_code(alloc, b, known, names)?;
+    moved_code(alloc, op, n, c, type_of(b), x)
+}
+
+// `c ? a : b` of pointers.
+#[cycle(code)]
+fn pointer_choice(
+    alloc: Global,
+    c: &Pred,
+    values: (&Term, &Term),
+    known: &[Reading],
+    names: &mut Registers<'_>,
+) -> Result<PointerCode, AllocError>
+    ensures code { IfOk result (λ r. pointer_of r names.new.table.kinds
+        ≡ pointer_by names.old (pointer_choice_of c.now values.entry.0.now values.entry.1.now) (plain_readings known.now)) }
+    ensures bound { OnOk result (names.new.table.bound ≡ names.old.table.bound) }
+    ensures program { OnOk result (names.new.program ≡ names.old.program) }
+{
+    let (a, b) = values;
+    let z = pred_code(alloc, c, known, names)?;
+    let more = known_after(alloc, known, c)?;
+    let x = pointer_code(alloc, a, &more, names)?;
+    let y = pointer_code(alloc, b, &more, names)?;
+    branch_pointer(alloc, z, x, y, names)
+}
+
+// The start of the block that a pointer is inside.
+#[cycle(code)]
+fn start_told(
+    alloc: Global,
+    a: &Term,
+    known: &[Reading],
+    names: &mut Registers<'_>,
+) -> Result<PointerCode, AllocError>
+    ensures code { IfOk result (λ c. pointer_of c names.new.table.kinds ≡ told_pointer (pointer_by names.old (plain_term a.now) (plain_readings known.now))) }
+    ensures bound { OnOk result (names.new.table.bound ≡ names.old.table.bound) }
+    ensures program { OnOk result (names.new.program ≡ names.old.program) }
+{
+    let c = pointer_code(alloc, a, known, names)?;
+    told_pointer(alloc, c, names)
+}
+
+// Where a place stands.
+#[cycle(code)]
+fn place_code(
+    alloc: Global,
+    t: &Term,
+    known: &[Reading],
+    names: &mut Registers<'_>,
+) -> Result<PointerCode, AllocError>
+    ensures code { IfOk result (λ c. pointer_of c names.new.table.kinds ≡ place_by names.old (plain_term t.now) (plain_readings known.now)) }
+    ensures bound { OnOk result (names.new.table.bound ≡ names.old.table.bound) }
+    ensures program { OnOk result (names.new.program ≡ names.old.program) }
+{
+    match &*t.kind {
+        TermKind::Variable(x) => {
+            let base = pointer_to(alloc, names, x.decl)?;
+            start_pointer(alloc, base)
+        }
+        TermKind::Deref(a) => pointer_code(alloc, a, known, names),
+        TermKind::Member(d, a) => {
+            let c = place_code(alloc, a, known, names)?;
+            member_code(alloc, *d, c)
+        }
+        TermKind::Number(_) | TermKind::Letter(_) | TermKind::Unary(_, _) => no_pointer(alloc),
+        TermKind::Binary(_, _, _) | TermKind::Cast(_, _) => no_pointer(alloc),
+        TermKind::Choice(_, _, _) | TermKind::Null | TermKind::Address(_) => no_pointer(alloc),
+        TermKind::Moved(_, _, _, _) | TermKind::Difference(_, _, _) => no_pointer(alloc),
+        TermKind::Told(_, _) => no_pointer(alloc),
+    }
+}
+
+// ---- zones
+
+#[cycle(code)]
+fn zone_code(
+    alloc: Global,
+    z: &Zone,
+    known: &[Reading],
+    names: &mut Registers<'_>,
+) -> Result<ZoneCode, AllocError>
+    ensures code { IfOk result (λ c. zone_of c names.new.table.kinds ≡ zone_by names.old (plain_zone z.now) (plain_readings known.now)) }
+    ensures bound { OnOk result (names.new.table.bound ≡ names.old.table.bound) }
+    ensures program { OnOk result (names.new.program ≡ names.old.program) }
+{
+    match &*z.kind {
+        ZoneKind::Object(a) => {
+            let c = pointer_code(alloc, a, known, names)?;
+            object_code(alloc, z.size, c)
+        }
+        ZoneKind::Elements(a, low, high) => {
+            elements(alloc, z.size, a, (low, high), known, names)
+        }
+    }
+}
+
+// Elements of a size from one to another.
+#[cycle(code)]
+fn elements(
+    alloc: Global,
+    n: u32,
+    a: &Term,
+    bounds: (&Term, &Term),
+    known: &[Reading],
+    names: &mut Registers<'_>,
+) -> Result<ZoneCode, AllocError>
+    ensures code { IfOk result (λ c. zone_of c names.new.table.kinds
+        ≡ zone_by names.old (elements_form n a.now bounds.entry.0.now bounds.entry.1.now) (plain_readings known.now)) }
+    ensures bound { OnOk result (names.new.table.bound ≡ names.old.table.bound) }
+    ensures program { OnOk result (names.new.program ≡ names.old.program) }
+{
+    let (low, high) = bounds;
+    let c = pointer_code(alloc, a, known, names)?;
+    let x = term_code(alloc, low, known, names)?;
+    let y = term_code(alloc, high, known, names)?;
+    elements_code(alloc, n, c, (type_of(low), type_of(high)), x, y)
+}
+
+#[cycle(code)]
+fn zones_code(
+    alloc: Global,
+    zones: &Zones,
+    known: &[Reading],
+    names: &mut Registers<'_>,
+) -> Result<ZonesCode, AllocError>
+    ensures code { IfOk result (λ c. zones_of c names.new.table.kinds ≡ zones_by names.old (plain_zones zones.now) (plain_readings known.now)) }
+    ensures bound { OnOk result (names.new.table.bound ≡ names.old.table.bound) }
+    ensures program { OnOk result (names.new.program ≡ names.old.program) }
+{
+    match zones {
+        Zones::End => Ok(no_zones(alloc)),
+        Zones::More(z, rest) => more_zones(alloc, z, rest, known, names),
+    }
+}
+
+// A zone, and the others after it.
+#[cycle(code)]
+fn more_zones(
+    alloc: Global,
+    z: &Zone,
+    rest: &Zones,
+    known: &[Reading],
+    names: &mut Registers<'_>,
+) -> Result<ZonesCode, AllocError>
+    ensures code { IfOk result (λ c. zones_of c names.new.table.kinds ≡ zones_by names.old (more_zones_of z.now rest.now) (plain_readings known.now)) }
+    ensures bound { OnOk result (names.new.table.bound ≡ names.old.table.bound) }
+    ensures program { OnOk result (names.new.program ≡ names.old.program) }
+{
+    let c = zone_code(alloc, z, known, names)?;
+    let others = zones_code(alloc, rest, known, names)?;
+    another_zone(alloc, c, others)
+}
+
 // ---- chains
 
-// After the last relation of a chain.
-fn ended(alloc: Global, x: Code) -> Result<Code, AllocError>
-    ensures { IfOk result (λ c. code_of c [] ≡ ended (code_of x [])) }
-{
-    let value = constant(alloc, MonType::I32, 1)?;
-    Ok(Code {
-        stmts: x.stmts,
-        flag: None,
-        value,
-    })
-}
-
-// A relation of two terms.
-fn relation_code(
+// A side of a relation.
+#[cycle(code)]
+fn side_code(
     alloc: Global,
-    relation: Relation,
     t: &Term,
-    u: &Term,
-    x: Code,
-    y: Code,
-) -> Result<Code, AllocError>
-    ensures { IfOk result (λ c. code_of c [] ≡ relation_code relation (plain_term t.now) (plain_term u.now) (code_of x []) (code_of y [])) }
+    known: &[Reading],
+    names: &mut Registers<'_>,
+) -> Result<Side, AllocError>
+    ensures code { IfOk result (λ c. side_of c names.new.table.kinds ≡ side_by_names names.old (plain_term t.now) (plain_readings known.now)) }
+    ensures bound { OnOk result (names.new.table.bound ≡ names.old.table.bound) }
+    ensures program { OnOk result (names.new.program ≡ names.old.program) }
 {
-    let working = type_of_width(wider(width_of(t), width_of(u)));
-    related(alloc, relation, working, (type_of(t), type_of(u)), x, y)
+    if is_pointer_term(t) {
+        let c = pointer_code(alloc, t, known, names)?;
+        Ok(Side::Pointer(c))
+    } else {
+        let c = term_code(alloc, t, known, names)?;
+        Ok(Side::Number(c))
+    }
 }
 
-// A value that is known.
-fn again(alloc: Global, value: &MonExpr) -> Result<Code, AllocError>
-    ensures { IfOk result (λ c. code_of c [] ≡ sure_code (plain_expr value.now) []) }
-{
-    let value = copy_of(alloc, value)?;
-    Ok(Code {
-        stmts: Vec::new(alloc),
-        flag: None,
-        value,
-    })
-}
-
-// A chain from its first term on, whose code this is.
+// A chain from its first side on, whose code this is.
 #[cycle(code)]
 fn chain_code(
     alloc: Global,
     t: &Term,
-    x: Code,
+    x: Side,
     links: &Links,
     known: &[Reading],
     names: &mut Registers<'_>,
 ) -> Result<Code, AllocError>
     ensures code { IfOk result (λ c. code_of c names.new.table.kinds
-        ≡ chain_by names.old (plain_term t.now) (code_of x names.old.table.kinds) (plain_links links.now) (plain_readings known.now)) }
+        ≡ chain_by names.old (plain_term t.now) (side_of x names.old.table.kinds) (plain_links links.now) (plain_readings known.now)) }
     ensures bound { OnOk result (names.new.table.bound ≡ names.old.table.bound) }
     ensures program { OnOk result (names.new.program ≡ names.old.program) }
 {
@@ -263,20 +605,20 @@ fn link(
     alloc: Global,
     relation: Relation,
     sides: (&Term, &Term),
-    x: Code,
+    x: Side,
     rest: &Links,
     known: &[Reading],
     names: &mut Registers<'_>,
 ) -> Result<Code, AllocError>
-    ensures code { IfOk result (λ c. code_of c names.new.table.kinds ≡ chain_by names.old (plain_term sides.entry.0.now) (code_of x names.old.table.kinds)
+    ensures code { IfOk result (λ c. code_of c names.new.table.kinds ≡ chain_by names.old (plain_term sides.entry.0.now) (side_of x names.old.table.kinds)
         (link_of relation sides.entry.1.now rest.now) (plain_readings known.now)) }
     ensures bound { OnOk result (names.new.table.bound ≡ names.old.table.bound) }
     ensures program { OnOk result (names.new.program ≡ names.old.program) }
 {
     let (t, u) = sides;
-    let y = term_code(alloc, u, known, names)?;
+    let y = side_code(alloc, u, known, names)?;
     match rest {
-        Links::End => relation_code(alloc, relation, t, u, x, y),
+        Links::End => related_code(alloc, relation, (t, u), x, y, names),
         Links::Link(_, _, _, _) => more_links(alloc, relation, (t, u), (x, y), rest, known, names),
     }
 }
@@ -287,21 +629,21 @@ fn more_links(
     alloc: Global,
     relation: Relation,
     sides: (&Term, &Term),
-    codes: (Code, Code),
+    codes: (Side, Side),
     rest: &Links,
     known: &[Reading],
     names: &mut Registers<'_>,
 ) -> Result<Code, AllocError>
     ensures code { IfOk result (λ c. code_of c names.new.table.kinds ≡ more_links (unit_of names.old) names.old.table.bound relation
-        (plain_term sides.entry.0.now) (plain_term sides.entry.1.now) (code_of codes.0 []) (code_of codes.1 names.old.table.kinds)
+        (plain_term sides.entry.0.now) (plain_term sides.entry.1.now) (side_of codes.0 []) (side_of codes.1 names.old.table.kinds)
         (plain_links rest.now) (plain_readings known.now)) }
     ensures bound { OnOk result (names.new.table.bound ≡ names.old.table.bound) }
     ensures program { OnOk result (names.new.program ≡ names.old.program) }
 {
     let (t, u) = sides;
     let (x, y) = codes;
-    let next = again(alloc, &y.value)?;
-    let first = relation_code(alloc, relation, t, u, x, y)?;
+    let next = again(alloc, &y)?;
+    let first = related_code(alloc, relation, (t, u), x, y, names)?;
     let more = known_after_relation(alloc, known, t, u)?;
     let others = chain_code(alloc, u, next, rest, &more, names)?;
     connected(alloc, Connective::And, first, others, names)
@@ -327,6 +669,8 @@ pub fn pred_code(
         PredKind::Not(q) => denied(alloc, q, known, names),
         PredKind::Connected(connective, a, b) => sides(alloc, *connective, (a, b), known, names),
         PredKind::Choice(c, a, b) => one_of(alloc, c, (a, b), known, names),
+        PredKind::Asks(question, z) => asks(alloc, *question, z, known, names),
+        PredKind::Separated(zones) => separated(alloc, zones, known, names),
     }
 }
 
@@ -359,7 +703,7 @@ fn chain(
     ensures bound { OnOk result (names.new.table.bound ≡ names.old.table.bound) }
     ensures program { OnOk result (names.new.program ≡ names.old.program) }
 {
-    let x = term_code(alloc, t, known, names)?;
+    let x = side_code(alloc, t, known, names)?;
     chain_code(alloc, t, x, links, known, names)
 }
 
@@ -419,5 +763,38 @@ fn one_of(
     let more = known_after(alloc, known, c)?;
     let x = pred_code(alloc, a, &more, names)?;
     let y = pred_code(alloc, b, &more, names)?;
-    branch(alloc, MonType::I32, z, x, y, names)
+    branched(alloc, MonType::I32, z, x, y, names)
+}
+
+// A question about a zone.
+#[cycle(code)]
+fn asks(
+    alloc: Global,
+    question: MemoryQuestion,
+    z: &Zone,
+    known: &[Reading],
+    names: &mut Registers<'_>,
+) -> Result<Code, AllocError>
+    ensures code { IfOk result (λ c. code_of c names.new.table.kinds ≡ pred_by names.old (asks_of question z.now) (plain_readings known.now)) }
+    ensures bound { OnOk result (names.new.table.bound ≡ names.old.table.bound) }
+    ensures program { OnOk result (names.new.program ≡ names.old.program) }
+{
+    let c = zone_code(alloc, z, known, names)?;
+    zone_asked(alloc, question, z.align, c, names)
+}
+
+// Zones that share no byte.
+#[cycle(code)]
+fn separated(
+    alloc: Global,
+    zones: &Zones,
+    known: &[Reading],
+    names: &mut Registers<'_>,
+) -> Result<Code, AllocError>
+    ensures code { IfOk result (λ c. code_of c names.new.table.kinds ≡ pred_by names.old (separated_of zones.now) (plain_readings known.now)) }
+    ensures bound { OnOk result (names.new.table.bound ≡ names.old.table.bound) }
+    ensures program { OnOk result (names.new.program ≡ names.old.program) }
+{
+    let c = zones_code(alloc, zones, known, names)?;
+    separated_code(alloc, c, names)
 }

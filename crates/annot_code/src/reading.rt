@@ -2,14 +2,14 @@
 
 ghost use Rattle.std.specs.Prelude.{◌≡◌, ◌++◌, OnOk, IfOk, option_map};
 ghost use Rattle.c_syntax.specs.Ctypes.{plain_type};
-ghost use Rattle.c_syntax.specs.Logic.{plain_links, plain_pred, plain_term};
-ghost use Rattle.annot_code.specs.Code.{is_known, is_same_reading, known_at_right, sure_readings, sure_readings_of_links, sure_readings_of_term};
-ghost use Rattle.annot_code.specs.Code.{term_type};
-ghost use Rattle.annot_code.specs.Plain.{plain_reading, plain_readings};
+ghost use Rattle.c_syntax.specs.Logic.{plain_pred, plain_term, plain_zones};
+ghost use Rattle.annot_code.specs.Code.{is_known, is_same_reading, known_at_right, readings_of_variable, sure_readings};
+ghost use Rattle.annot_code.specs.Code.{sure_readings_of_place, sure_readings_of_term, sure_readings_of_zone, sure_readings_of_zones, term_type};
+ghost use Rattle.annot_code.specs.Plain.{plain_reading, plain_readings, plain_zone};
 
 use c_effects::conversion::value_type;
 use c_syntax::CType;
-use c_syntax::logic::{Connective, Links, Pred, PredKind, Term, TermKind};
+use c_syntax::logic::{Connective, Links, Pred, PredKind, Term, TermKind, Zone, ZoneKind, Zones};
 use mon_syntax::{MonType, same_type};
 use std::alloc::{AllocError, Global};
 
@@ -46,23 +46,88 @@ pub fn is_known(known: &[Reading], x: Reading) -> bool
     }
 }
 
+// What is read of a variable.
+fn read_variable(t: &Option<CType>, decl: u32, to: &mut Vec<Reading>) -> Result<(), AllocError>
+    ensures { OnOk result (plain_readings to.new.items ≡ plain_readings to.old.items ++ readings_of_variable (option_map plain_type t.now) decl) }
+{
+    match t {
+        Some(CType::Int(_) | CType::Ptr(_)) => {
+            to.push(Reading {
+                decl,
+                kind: term_type(t),
+            })?;
+            Ok(())
+        }
+        Some(CType::Void | CType::Array(..) | CType::Struct(_) | CType::Named(_)) | None => Ok(()),
+        Some(CType::StructTag(..) | CType::EnumTag(..)) => Ok(()),
+    }
+}
+
 // What is read wherever a term has a value.
+#[cycle(term)]
 fn read_in_term(t: &Term, to: &mut Vec<Reading>) -> Result<(), AllocError>
     ensures { OnOk result (plain_readings to.new.items ≡ plain_readings to.old.items ++ sure_readings_of_term (plain_term t.now)) }
 {
     match &*t.kind {
         TermKind::Number(_) | TermKind::Letter(_) | TermKind::Choice(_, _, _) => Ok(()),
-        TermKind::Variable(x) => {
-            to.push(Reading {
-                decl: x.decl,
-                kind: term_type(&t.ctype),
-            })?;
-            Ok(())
-        }
+        TermKind::Null => Ok(()),
+        TermKind::Variable(x) => read_variable(&t.ctype, x.decl, to),
         TermKind::Unary(_, a) | TermKind::Cast(_, a) => read_in_term(a, to),
+        TermKind::Deref(a) | TermKind::Told(_, a) => read_in_term(a, to),
+        TermKind::Member(_, a) | TermKind::Address(a) => read_in_place(a, to),
         TermKind::Binary(_, a, b) => {
             read_in_term(a, to)?;
             read_in_term(b, to)
+        }
+        TermKind::Moved(_, _, a, b) => {
+            read_in_term(a, to)?;
+            read_in_term(b, to)
+        }
+        TermKind::Difference(_, a, b) => {
+            read_in_term(a, to)?;
+            read_in_term(b, to)
+        }
+    }
+}
+
+// What is read wherever a place stands somewhere.
+#[cycle(term)]
+fn read_in_place(t: &Term, to: &mut Vec<Reading>) -> Result<(), AllocError>
+    ensures { OnOk result (plain_readings to.new.items ≡ plain_readings to.old.items ++ sure_readings_of_place (plain_term t.now)) }
+{
+    match &*t.kind {
+        TermKind::Deref(a) => read_in_term(a, to),
+        TermKind::Member(_, a) => read_in_place(a, to),
+        TermKind::Number(_) | TermKind::Letter(_) | TermKind::Variable(_) => Ok(()),
+        TermKind::Unary(_, _) | TermKind::Binary(_, _, _) | TermKind::Cast(_, _) => Ok(()),
+        TermKind::Choice(_, _, _) | TermKind::Null | TermKind::Address(_) => Ok(()),
+        TermKind::Moved(_, _, _, _) | TermKind::Difference(_, _, _) => Ok(()),
+        TermKind::Told(_, _) => Ok(()),
+    }
+}
+
+// What is read wherever a zone has bytes.
+fn read_in_zone(z: &Zone, to: &mut Vec<Reading>) -> Result<(), AllocError>
+    ensures { OnOk result (plain_readings to.new.items ≡ plain_readings to.old.items ++ sure_readings_of_zone (plain_zone z.now)) }
+{
+    match &*z.kind {
+        ZoneKind::Object(a) => read_in_term(a, to),
+        ZoneKind::Elements(a, low, high) => {
+            read_in_term(a, to)?;
+            read_in_term(low, to)?;
+            read_in_term(high, to)
+        }
+    }
+}
+
+fn read_in_zones(zones: &Zones, to: &mut Vec<Reading>) -> Result<(), AllocError>
+    ensures { OnOk result (plain_readings to.new.items ≡ plain_readings to.old.items ++ sure_readings_of_zones (plain_zones zones.now)) }
+{
+    match zones {
+        Zones::End => Ok(()),
+        Zones::More(z, rest) => {
+            read_in_zone(z, to)?;
+            read_in_zones(rest, to)
         }
     }
 }
@@ -94,6 +159,8 @@ pub fn read_in(p: &Pred, to: &mut Vec<Reading>) -> Result<(), AllocError>
             read_in(b, to)
         }
         PredKind::Choice(c, _, _) => read_in(c, to),
+        PredKind::Asks(_, z) => read_in_zone(z, to),
+        PredKind::Separated(zones) => read_in_zones(zones, to),
     }
 }
 

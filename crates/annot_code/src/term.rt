@@ -7,7 +7,7 @@ ghost use Rattle.c_effects.specs.Named.{unit_of};
 ghost use Rattle.mon_syntax.specs.declared.tree.MonOp.TheVariants.{Eq, Ne};
 ghost use Rattle.mon_syntax.specs.declared.tree.MonType.TheVariants.{I32};
 ghost use Rattle.mon_syntax.specs.Trees.{Binary, Constant, plain_expr, plain_stmt_kind};
-ghost use Rattle.annot_code.specs.Code.{cast_value, is_known, sure_code, truth_code, type_of_width, unary_value};
+ghost use Rattle.annot_code.specs.Code.{cast_value, is_known, no_code, sure_code, truth_code, type_of_width, unary_value};
 ghost use Rattle.annot_code.specs.Code.{variable_code, variable_value, wider, with_value};
 ghost use Rattle.annot_code.specs.Plain.{code_of, plain_reading, plain_readings};
 
@@ -34,6 +34,19 @@ pub fn number_code(alloc: Global, w: Width, n: i128) -> Result<Code, AllocError>
     Ok(Code {
         stmts: Vec::new(alloc),
         flag: None,
+        value,
+    })
+}
+
+/// What has no code.
+pub fn no_code(alloc: Global) -> Result<Code, AllocError>
+    ensures { IfOk result (λ c. code_of c [] ≡ no_code []) }
+{
+    let never = constant(alloc, MonType::I32, 0)?;
+    let value = constant(alloc, MonType::I32, 0)?;
+    Ok(Code {
+        stmts: Vec::new(alloc),
+        flag: Some(never),
         value,
     })
 }
@@ -65,7 +78,8 @@ fn variable_value(
     in_type(alloc, x.kind, w, value)
 }
 
-fn access_of(kind: MonType) -> AccessSize
+/// How many bytes a value of a type has.
+pub fn access_of(kind: MonType) -> AccessSize
     ensures { result ≡ access_of kind }
 {
     match kind {

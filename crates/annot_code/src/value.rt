@@ -181,7 +181,8 @@ pub fn unary_value(
     in_type(alloc, working, result_type, value)
 }
 
-fn relation_operator(relation: Relation) -> MonOp
+/// The operator of a relation.
+pub fn relation_operator(relation: Relation) -> MonOp
     ensures { result ≡ relation_operator relation }
 {
     match relation {

@@ -1,11 +1,12 @@
 -- The scalars of a struct that is assigned: the target copies what the source copies.
-use Rattle.std.proofs.Common.{◌≡◌, ℕ, ◌+◌, List, [], ◌∷◌, Option, Some, None, slice_get, refl, sym, ap, ◌∙◌, arith}
+use Rattle.std.proofs.Common.{◌≡◌, ℕ, ◌+◌, ◌≤◌, List, [], ◌∷◌, Option, Some, None, slice_get, refl, sym, ap, ◌∙◌, arith}
 use Rattle.std.proofs.lemmas.List.{append-nil}
 use Rattle.c_syntax.specs.declared.place.Place.{Place}
 use Rattle.c_syntax.specs.declared.types.CInt.TheVariants.{I8, U8, I16, U16, I32, U32, I64, U64}
 use Rattle.c_syntax.specs.Layouts.{Scalar, IntegerType, PointerType, scalar_size}
 use Rattle.c_model.specs.Memory.{Pointer, Value, Points, Store, copy, copy_all, shifted}
 use Rattle.c_model.specs.HeapLaws.{sizes_of}
+use Rattle.c_model.specs.SoundStates.{AreScalarSizes}
 use Rattle.c_model.proofs.StructCopies.{first_copy}
 use Rattle.c_model.specs.State.{State, defined, ◌>>=◌, put_store, copy_object}
 use Rattle.mon_syntax.specs.declared.tree.MemoryCall.TheVariants.{Copy}
@@ -38,6 +39,22 @@ copied_size (IntegerType U32) = refl
 copied_size (IntegerType I64) = refl
 copied_size (IntegerType U64) = refl
 copied_size PointerType = refl
+
+-- each has 8 bytes at most
+few_bytes : (k : Scalar) → scalar_size k ≤ 8
+few_bytes (IntegerType I8) = omega arith
+few_bytes (IntegerType U8) = omega arith
+few_bytes (IntegerType I16) = omega arith
+few_bytes (IntegerType U16) = omega arith
+few_bytes (IntegerType I32) = omega arith
+few_bytes (IntegerType U32) = omega arith
+few_bytes (IntegerType I64) = omega arith
+few_bytes (IntegerType U64) = omega arith
+few_bytes PointerType = omega arith
+
+sizes_few : (cs : List (ℕ × Scalar)) → AreScalarSizes (sizes_of cs)
+sizes_few [] = tt
+sizes_few (c ∷ cs) = (few_bytes c.1, sizes_few cs)
 
 module _ (w : Setting) (n : ℕ) where
   copy_runs : (k : Scalar) (x y : MonExpression) (p q : Pointer) (t : Target) (regs : List Value) (saved : Store) → Has w x regs t.mem (Points p) → Has w y regs t.mem (Points q) → copy t.mem.store p q (scalar_size k) ≡ Some saved
@@ -86,7 +103,7 @@ module _ (w : Setting) (n : ℕ) where
       by : (o : Option Store) → copy_all s.store (shifted to d) (shifted from e) (sizes_of cs) ≡ o → Reaches w Anything low regs s (copy_object at (shifted to d) (shifted from e) (sizes_of cs) s) code
       by None copies = undefined_now w Anything low regs s (copy_object at (shifted to d) (shifted from e) (sizes_of cs) s) code at (source None copies)
       by (Some saved) copies =
-          let kept = copied_all_saved s.store saved (shifted to d) (shifted from e) (sizes_of cs) bounded copies in
+          let kept = copied_all_saved s.store saved (shifted to d) (shifted from e) (sizes_of cs) bounded (sizes_few cs) copies in
           Arrives tt (record s { store = saved }) regs (with_store saved t) [] (same_all low regs)
           (record { scope = refl; calls = refl; live = kept.live; longer = omega (arith, kept.long); bounded = kept.bounded; spent = omega arith; output = sym (append-nil s.output); marks = refl })
           (record { store_is = refl; frames = b.frames; steps = b.steps; input = b.input })

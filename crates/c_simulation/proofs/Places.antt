@@ -283,8 +283,8 @@ module _ (w : Setting) (n : ℕ) (t : Target) (s : State) (store_is : t.mem.stor
   record Distance (p q : Pointer) (d : ℤ) : Type 0 where
     from : ℕ
     to : ℕ
-    from_small : from ≤ 2 ^ 62
-    to_small : to ≤ 2 ^ 62
+    from_small : from ≤ 2 ^ 32
+    to_small : to ≤ 2 ^ 32
     is : d ≡ pos from -ℤ pos to
 
   distance_is : (p q : Pointer) (d : ℤ) → IsSmall p → IsSmall q → distance s.store p q ≡ Some d → Distance p q d

@@ -129,18 +129,18 @@ unmoved store (Into n i) q e = by (live_size (block_at store n)) e
 
 -- each live block is small
 abbrev pub AreSmall : Store → Type 0
-AreSmall store = (n size : ℕ) → live_size (block_at store n) ≡ Some size → size ≤ 2 ^ 62
+AreSmall store = (n size : ℕ) → live_size (block_at store n) ≡ Some size → size ≤ 2 ^ 32
 
 pub bounded_live : (store : Store) → Bounded store → AreSmall store
 bounded_live store h zero size e = absurd cc
 bounded_live store h (suc k) size e = by (slice_get store k) refl e
   where
-    by : (o : Option Block) → slice_get store k ≡ o → live_size o ≡ Some size → size ≤ 2 ^ 62
+    by : (o : Option Block) → slice_get store k ≡ o → live_size o ≡ Some size → size ≤ 2 ^ 32
     by None f g = absurd cc
     by (Some b) f g = decided b.live g
       where
-        decided : (t : Bool) → (if t then Some b.size else None) ≡ Some size → size ≤ 2 ^ 62
-        decided true g = let same : b.size ≡ size = cc in omega (arith, same, (bounded_at store k b h f).0)
+        decided : (t : Bool) → (if t then Some b.size else None) ≡ Some size → size ≤ 2 ^ 32
+        decided true g = let same : b.size ≡ size = cc in omega (arith, same, (bounded_at store k b h f).small)
         decided false g = absurd cc
 
 -- a place inside a small block
@@ -159,10 +159,10 @@ no_bytes : (z : ℤ) → z *ℤ pos 0 ≡ pos 0
 no_bytes (pos a) = ap pos (omega arith)
 no_bytes (negsuc a) = let none : suc a * 0 ≡ 0 = omega arith in ap (λ n. neg_ℤ (pos n)) none
 
-pub positive_fits : (a : ℕ) → a ≤ 2 ^ 62 → fits I64 (pos a) ≡ true
+pub positive_fits : (a : ℕ) → a ≤ 2 ^ 32 → fits I64 (pos a) ≡ true
 positive_fits a le = lt-ltb a (2 ^ 63) (omega arith)
 
-pub negative_fits : (a : ℕ) → a ≤ 2 ^ 62 → fits I64 (negsuc a) ≡ true
+pub negative_fits : (a : ℕ) → a ≤ 2 ^ 32 → fits I64 (negsuc a) ≡ true
 negative_fits a le = lt-ltb a (2 ^ 63) (omega arith)
 
 times : (a u : ℕ) → a * suc u ≡ a + a * u
@@ -176,7 +176,7 @@ sum_back i m j e = by (nat_lt i (suc m)) refl e
     by true l f = absurd cc
     by false l f = grind (arith, nat_tests, l)
 
-pub within_i64 : (i unit j : ℕ) (z : ℤ) → i ≤ 2 ^ 62 → j ≤ 2 ^ 62 → pos i +ℤ (z *ℤ pos unit) ≡ pos j → convert I64 (convert I64 z *ℤ pos unit) ≡ z *ℤ pos unit
+pub within_i64 : (i unit j : ℕ) (z : ℤ) → i ≤ 2 ^ 32 → j ≤ 2 ^ 32 → pos i +ℤ (z *ℤ pos unit) ≡ pos j → convert I64 (convert I64 z *ℤ pos unit) ≡ z *ℤ pos unit
 within_i64 i zero j z li lj e = ap (convert I64) (no_bytes (convert I64 z)) ∙ sym (no_bytes z)
 within_i64 i (suc u) j (pos a) li lj e =
     let sum : i + a * suc u ≡ j = cc in
@@ -192,7 +192,7 @@ within_i64 i (suc u) j (negsuc a) li lj e =
 -- where a pointer was moved by so many bytes
 pub record Landed (store : Store) (i : ℕ) (d : ℤ) : Type 0 where
   pub to : ℕ
-  pub small : to ≤ 2 ^ 62
+  pub small : to ≤ 2 ^ 32
   pub sum : pos i +ℤ d ≡ pos to
 
 pub landed : (store : Store) (n i : ℕ) (d : ℤ) (q : Pointer) → AreSmall store → moved store (Into n i) d ≡ Some q → Landed store i d
@@ -207,7 +207,7 @@ landed store n i d q small e = by (pos i +ℤ d) (live_size (block_at store n)) 
         decided true le g = record { to = j; small = omega (arith, leb-true j size le, small n size found); sum = sum }
         decided false le g = absurd cc
 
-pub steps_fit : (store : Store) (n i unit : ℕ) (z : ℤ) (q : Pointer) → AreSmall store → i ≤ 2 ^ 62 → moved store (Into n i) (z *ℤ pos unit) ≡ Some q → convert I64 (convert I64 z *ℤ pos unit) ≡ z *ℤ pos unit
+pub steps_fit : (store : Store) (n i unit : ℕ) (z : ℤ) (q : Pointer) → AreSmall store → i ≤ 2 ^ 32 → moved store (Into n i) (z *ℤ pos unit) ≡ Some q → convert I64 (convert I64 z *ℤ pos unit) ≡ z *ℤ pos unit
 steps_fit store n i unit z q small li e =
     let l = landed store n i (z *ℤ pos unit) q small e in
     within_i64 i unit l.to z li l.small l.sum

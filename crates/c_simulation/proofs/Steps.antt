@@ -13,7 +13,7 @@ use Rattle.mon_syntax.specs.Arithmetic.{wrap, operate}
 use Rattle.c_simulation.proofs.Integers.{wrap_is}
 use Rattle.c_simulation.proofs.Pointers.{AreSmall, landed, within_i64, positive_fits, negative_fits}
 
-opposite_fits : (a : ℕ) → a ≤ 2 ^ 62 → fits I64 (neg_ℤ (pos a)) ≡ true
+opposite_fits : (a : ℕ) → a ≤ 2 ^ 32 → fits I64 (neg_ℤ (pos a)) ≡ true
 opposite_fits zero le = refl
 opposite_fits (suc a) le = negative_fits a (omega (arith, le))
 
@@ -27,11 +27,11 @@ opposite_product (negsuc a) unit = let plus : pos 0 -ℤ negsuc a ≡ pos (suc a
 back_sum : (i j : ℕ) (d : ℤ) → pos i +ℤ neg_ℤ d ≡ pos j → pos j +ℤ d ≡ pos i
 back_sum i j d e = omega (arith, ints, e)
 
-back_fits : (i j : ℕ) (d : ℤ) → i ≤ 2 ^ 62 → j ≤ 2 ^ 62 → pos j +ℤ d ≡ pos i → fits I64 (neg_ℤ d) ≡ true
+back_fits : (i j : ℕ) (d : ℤ) → i ≤ 2 ^ 32 → j ≤ 2 ^ 32 → pos j +ℤ d ≡ pos i → fits I64 (neg_ℤ d) ≡ true
 back_fits i j (pos a) li lj e = let sum : j + a ≡ i = cc in opposite_fits a (omega (arith, sum, li))
 back_fits i j (negsuc a) li lj e = positive_fits (suc a) (omega (arith, ints, e, lj))
 
-pub steps_back_fit : (store : Store) (n i unit : ℕ) (z : ℤ) (q : Pointer) → AreSmall store → i ≤ 2 ^ 62 → moved store (Into n i) ((pos 0 -ℤ z) *ℤ pos unit) ≡ Some q
+pub steps_back_fit : (store : Store) (n i unit : ℕ) (z : ℤ) (q : Pointer) → AreSmall store → i ≤ 2 ^ 32 → moved store (Into n i) ((pos 0 -ℤ z) *ℤ pos unit) ≡ Some q
     → wrap kind.I64 (neg_ℤ (convert I64 (convert I64 z *ℤ pos unit))) ≡ (pos 0 -ℤ z) *ℤ pos unit
 steps_back_fit store n i unit z q small li e =
     let l = landed store n i ((pos 0 -ℤ z) *ℤ pos unit) q small e in
@@ -42,7 +42,7 @@ steps_back_fit store n i unit z q small li e =
 
 -- ---- differences
 
-quotient_fits : (d : ℤ) (u : ℕ) → ((a : ℕ) → d ≡ pos a → a ≤ 2 ^ 62) → ((a : ℕ) → d ≡ negsuc a → suc a ≤ 2 ^ 62) → fits I64 (int_div d (pos (suc u))) ≡ true
+quotient_fits : (d : ℤ) (u : ℕ) → ((a : ℕ) → d ≡ pos a → a ≤ 2 ^ 32) → ((a : ℕ) → d ≡ negsuc a → suc a ≤ 2 ^ 32) → fits I64 (int_div d (pos (suc u))) ≡ true
 quotient_fits (pos a) u h g = positive_fits (a / suc u) (omega (arith, h a refl))
 quotient_fits (negsuc a) u h g = opposite_fits (suc a / suc u) (omega (arith, g a refl))
 
@@ -55,7 +55,7 @@ quotient_is d v u e fit = by (int_eq (pos (suc u)) (pos 0)) e
         let is : int_div d (pos (suc u)) ≡ v = cc in
         (ap Some (wrap_is I64 (int_div d (pos (suc u))) fit ∙ is), subst (λ v. fits I64 v ≡ true) is fit)
 
-pub difference_fits : (i j unit : ℕ) (v : ℤ) → i ≤ 2 ^ 62 → j ≤ 2 ^ 62 → quotient (pos i -ℤ pos j) (pos unit) ≡ Some v → (operate mon.Div kind.I64 (pos i -ℤ pos j) (pos unit) ≡ Some v) × (fits I64 v ≡ true)
+pub difference_fits : (i j unit : ℕ) (v : ℤ) → i ≤ 2 ^ 32 → j ≤ 2 ^ 32 → quotient (pos i -ℤ pos j) (pos unit) ≡ Some v → (operate mon.Div kind.I64 (pos i -ℤ pos j) (pos unit) ≡ Some v) × (fits I64 v ≡ true)
 difference_fits i j zero v li lj e = absurd cc
 difference_fits i j (suc u) v li lj e =
     quotient_is (pos i -ℤ pos j) v u e (quotient_fits (pos i -ℤ pos j) u (λ a f. omega (arith, ints, f, li)) (λ a f. omega (arith, ints, f, lj)))

@@ -5,8 +5,9 @@ use Rattle.c_syntax.specs.Programs.{StringLiteral, TranslationUnit}
 use Rattle.c_syntax.specs.declared.types.CInt.TheVariants.{U64}
 use Rattle.c_syntax.specs.Layouts.{Scalar, IntegerType, PointerType, size_of}
 use Rattle.c_model.specs.Integers.{fits}
-use Rattle.c_model.specs.Memory.{Pointer, Null, Into, Value, Integer, Points, Byte, Unwritten, Number, Piece, LoosePiece, Store, block_at, live_size}
+use Rattle.c_model.specs.Memory.{Pointer, Null, Into, Value, Integer, Points, Byte, Unwritten, Number, Piece, LoosePiece, Block, Store, block_at, live_size}
 use Rattle.c_model.specs.State.{State, Scope, Mark, find}
+use Rattle.c_model.specs.Together.{AreTogether}
 use Rattle.c_model.specs.Meaning.{Callee, tables_of, text_at, literal}
 use Rattle.mon_syntax.specs.Registers.{Bindings, register_of}
 use Rattle.mon_syntax.specs.Meaning.{Result, Flow, exec_all, eval}
@@ -90,10 +91,10 @@ pub record Knows (w : Setting) (s : Sight) : Type 0 where
 
 -- ---- values and bytes
 
--- an offset that a step of 64 bits reaches
+-- an offset within a block
 abbrev pub IsSmall : Pointer → Type 0
 IsSmall Null = Unit {0}
-IsSmall (Into n i) = i ≤ 2 ^ 62
+IsSmall (Into n i) = i ≤ 2 ^ 32
 
 -- a value of the scalar type
 abbrev pub IsOf : Scalar → Value → Type 0
@@ -119,10 +120,16 @@ pub record IsInside (store : Store) (p : Pointer) : Type 0 where
   pub live : live_size (block_at store block) ≡ Some size
   pub within : offset ≤ size
 
--- blocks whose sizes, bytes and pointers are within what a machine has
+-- a block whose size, bytes and pointers are within what a machine has: it has as many bytes as its size says, and pieces of its pointers stand together
+pub record IsBounded (b : Block) : Type 0 where
+  pub small : b.size ≤ 2 ^ 32
+  pub long : length b.bytes ≡ b.size
+  pub bytes : AreBytes b.bytes
+  pub together : AreTogether b.bytes
+
 abbrev pub Bounded : Store → Type 0
 Bounded [] = Unit {0}
-Bounded (b ∷ bs) = (b.size ≤ 2 ^ 62) × AreBytes b.bytes × Bounded bs
+Bounded (b ∷ bs) = IsBounded b × Bounded bs
 
 -- ---- where a statement stands in a call
 

@@ -31,7 +31,7 @@ use Rattle.interval_infer.specs.InSight.{AreFound}
 use Rattle.annot_code.specs.Beside.{judging}
 use Rattle.c_simulation.specs.SameRegisters.{Same}
 use Rattle.annot_code.proofs.Asserted.{assertion_grows, behind_grows}
-use Rattle.annot_code.proofs.Beside.{stands_anchored, ranges_hold, predicate_found}
+use Rattle.annot_code.proofs.Beside.{stands_anchored, ranges_hold, typed_predicates_are_found}
 use Rattle.annot_code.proofs.Theorem.{code_judges}
 use Rattle.instrument.proofs.RangedTrees.{AreRangedAsserts}
 use Rattle.c_simulation.proofs.Results.{one_is, before_is, writes_none}
@@ -109,7 +109,7 @@ module _ (w : Setting) (n : ℕ) (low : ℕ) (bound : Bindings) (s : State) (t :
         let j = judgement w.unit bound c rs in
         subst (λ i. Follows w h low regs Next s (source.judged a (pred c s [] i) s) (runs w n t (asserted a j) regs)) b.steps
         (answer_follows a j rs regs (pred c s [] t.steps) behind kept (subst (λ i. steps_of (pred c s [] t.steps) ≤ i) b.steps (steps_pred c s [] t.steps))
-        (code_judges (asked regs) c rs (stands_anchored w n low bound s t regs b.store_is anchored) (ranges_hold s bounded) r (predicate_found sight s.scope found c q) behind room))
+        (code_judges (asked regs) c rs (stands_anchored w n low bound s t regs b.store_is bounded anchored) (ranges_hold s bounded) r (typed_predicates_are_found sight s.scope found c q) behind room))
 
     assertion_follows : (sight : Sight) → AreFound sight.entities s.scope → (a : Annotation) → IsAssert a → ClauseTyped sight a.body → ClauseRanged a.body → (rs : List MonType) → low ≤ length rs
         → (regs : List Value) → length (behind_assertion w.unit bound rs a) ≤ length regs → IsKept w low s.marks regs → Anchored w low bound regs s.scope → Follows w h low regs Next s (check a s) (runs w n t (assertion w.unit bound rs a) regs)

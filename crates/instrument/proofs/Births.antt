@@ -21,7 +21,7 @@ use Rattle.track_scopes.specs.Lives.{AreFrom, Point, PointInOrder, PointToBorn, 
 use Rattle.c_simulation.specs.Standing.{Setting, Bounded, Here, Standing, IsAnchored, InRegister, AtGlobal, IsInSight, Anchored}
 use Rattle.c_simulation.specs.Keeping.{Keeps}
 use Rattle.c_simulation.proofs.Following.{anchored_same, kept_same}
-use Rattle.c_simulation.proofs.Bounds.{bounded_append, replicated_bytes}
+use Rattle.c_simulation.proofs.Bounds.{bounded_append, bounded_filled}
 use Rattle.instrument.proofs.Own.{AreOwn, AllCanBeBorn}
 use Rattle.mon_syntax.specs.declared.tree.MonType.TheVariants.{Ptr}
 use Rattle.c_simulation.specs.SameRegisters.{Same}
@@ -171,7 +171,7 @@ can_be_born p (d ∷ ds) s to e = by (λ g. can_be_born p ds born to g) (full_at
 
 -- where there was room
 pub bounded_new : (store : Store) (size : ℕ) → full_at_stack_birth standard_sizes store size ≡ None → Bounded store → Bounded (store ++ new_block Stack size ∷ [])
-bounded_new store size e h = bounded_append store (new_block Stack size) h (omega (arith, size_of_born store size e)) (replicated_bytes size Unwritten tt)
+bounded_new store size e h = bounded_append store (new_block Stack size) h (bounded_filled (new_block Stack size) size Unwritten refl refl (omega (arith, size_of_born store size e)) tt (λ k p f. absurd cc))
 
 pub bounded_born : (structs : List StructType) (ds : List Declaration) (s to : State) → births structs ds s ≡ Normal tt to → Bounded s.store → Bounded to.store
 bounded_born structs [] s to e h = let same : s ≡ to = cc in subst (λ (x : State). Bounded x.store) same h

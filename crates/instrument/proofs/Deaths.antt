@@ -5,6 +5,7 @@ use Rattle.mon_syntax.specs.BlockMemory.{is_live_on_stack}
 use Rattle.mon_syntax.specs.LiveBlocks.{LiveBlock, noted, live_from, live_in}
 use Rattle.track_scopes.specs.Lives.{AreFrom, AreBefore}
 use Rattle.c_simulation.specs.Standing.{Bounded}
+use Rattle.c_simulation.proofs.Bounds.{bounded_as}
 use Rattle.instrument.proofs.Lives.{up_to, AllUpTo, AllAbove, up_to-all, up_to-behind, live-numbered, live-killed}
 
 abbrev pub ended : Block → Block
@@ -65,8 +66,8 @@ kill_more (suc m) (suc n) (b ∷ bs) le = ap (λ cs. b ∷ cs) (kill_more m n bs
 
 pub bounded_killed : (n : ℕ) (store : Store) → Bounded store → Bounded (kill_from n store)
 bounded_killed n [] h = tt
-bounded_killed zero (b ∷ bs) h = (h.0, h.1, bounded_killed zero bs h.2)
-bounded_killed (suc n) (b ∷ bs) h = (h.0, h.1, bounded_killed n bs h.2)
+bounded_killed zero (b ∷ bs) h = (bounded_as b (record b { live = b.live && not (is_stack b.kind) }) refl refl h.0, bounded_killed zero bs h.1)
+bounded_killed (suc n) (b ∷ bs) h = (h.0, bounded_killed n bs h.1)
 
 -- ---- lists of blocks that live
 

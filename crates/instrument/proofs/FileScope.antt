@@ -17,6 +17,8 @@ use Rattle.c_model.specs.UnitTyping.{room_fault, room_fault_from, room_with}
 use Rattle.mon_syntax.specs.BlockMemory.{pointers_from}
 use Rattle.c_effects.specs.Expressions.{object_of_literal}
 use Rattle.instrument.specs.Translation.{monitored_globals}
+use Rattle.c_model.proofs.SoundStores.{none_together}
+use Rattle.c_simulation.proofs.Bounds.{HaveNone, replicated_none}
 use Rattle.c_simulation.specs.Standing.{Setting, AreOctets, AreBytes, Bounded, Knows}
 use Rattle.instrument.proofs.Starts.{literal_points}
 
@@ -49,7 +51,7 @@ knows_at w s structs texts pointers bytes = record {
 -- ---- the blocks with which a run begins
 
 record HasRoom (size : ℕ) (rest : Type 0) : Type 0 where
-  pub small : size ≤ 2 ^ 62
+  pub small : size ≤ 2 ^ 32
   pub others : rest
 
 room_first : (structs : List StructType) (taken : ℕ) (o : StaticObject) (os : List StaticObject) → room_fault_from structs taken (o ∷ os) ≡ None
@@ -76,15 +78,27 @@ literal_long : (bs : List ℕ) → length (map NumberByte bs ++ NumberByte 0 ∷
 literal_long [] = refl
 literal_long (b ∷ bs) = let h = literal_long bs in omega (arith, h)
 
+literal_none : (bs : List ℕ) → HaveNone (map NumberByte bs ++ NumberByte 0 ∷ [])
+literal_none [] zero k p e = absurd cc
+literal_none [] (suc i) k p e = absurd cc
+literal_none (b ∷ bs) zero k p e = absurd cc
+literal_none (b ∷ bs) (suc i) k p e = literal_none bs i k p e
+
 bounded_objects : (structs : List StructType) (taken : ℕ) (os : List StaticObject) → room_fault_from structs taken os ≡ None → AreTexts (literals_of os) → Bounded (map (block_of_object structs) os)
 bounded_objects structs taken [] e h = tt
 bounded_objects structs taken (OfGlobal d ∷ os) e h =
     let size = size_of structs d.ctype in
     let r = room_first structs taken (OfGlobal d) os e in
-    (omega (arith, length-replicate size (NumberByte 0), r.small), zero_bytes size, bounded_objects structs (room_with structs taken (OfGlobal d)) os r.others h)
+    let small : length (replicate size (NumberByte 0)) ≤ 2 ^ 32 = omega (arith, length-replicate size (NumberByte 0), r.small) in (
+      record { small = small; long = refl; bytes = zero_bytes size; together = none_together (replicate size (NumberByte 0)) (replicated_none size (NumberByte 0) (λ k p f. absurd cc)) },
+      bounded_objects structs (room_with structs taken (OfGlobal d)) os r.others h,
+    )
 bounded_objects structs taken (OfLiteral x ∷ os) e h =
     let r = room_first structs taken (OfLiteral x) os e in
-    (omega (arith, literal_long x.bytes, r.small), literal_bytes x.bytes h.0, bounded_objects structs (room_with structs taken (OfLiteral x)) os r.others h.1)
+    let small : length (map NumberByte x.bytes ++ NumberByte 0 ∷ []) ≤ 2 ^ 32 = omega (arith, literal_long x.bytes, r.small) in (
+      record { small = small; long = refl; bytes = literal_bytes x.bytes h.0; together = none_together (map NumberByte x.bytes ++ NumberByte 0 ∷ []) (literal_none x.bytes) },
+      bounded_objects structs (room_with structs taken (OfLiteral x)) os r.others h.1,
+    )
 
 -- globals and literals have room
 pub bounded_at_start : (p : TranslationUnit) → room_fault p ≡ None → AreTexts p.texts → Bounded (map (block_of_object p.structs) (static_objects p))

@@ -8,6 +8,7 @@ use Rattle.c_syntax.specs.declared.types.CInt.TheVariants.{I8, I32, U64 as Unsig
 use Rattle.c_syntax.specs.declared.expression.Use.{Use}
 use Rattle.c_syntax.specs.Ctypes.{PlainType, Void, Int, Ptr, int_type}
 use Rattle.c_model.specs.Integers.{fits, bits_of, byte_of}
+use Rattle.c_model.specs.Memory.{Piece as PieceByte}
 use Rattle.c_model.specs.Memory.{Pointer, Null, Into, Value, Integer, Points, NoValue, Byte, Unwritten, Number, Store, Room, At, NoRoom, heap_room, heap_block, standard_sizes, freed}
 use Rattle.c_model.specs.State.{State, Input, InputTail, EndOfInput, InputFault, Spent, Exits, Full, ReadFault, Over, Outcome, on_outcome, ◌>>=◌, stop, defined, give, put_store, read_byte, allocate, heap_birth}
 use Rattle.c_syntax.specs.Expressions.{Expressions}
@@ -35,7 +36,9 @@ use Rattle.c_effects.specs.Effects as effects
 use Rattle.c_effects.specs.Effects.{index_of, call}
 use Rattle.c_simulation.proofs.Results.{one_is}
 use Rattle.c_simulation.specs.Standing.{Setting, Target, runs, Has, IsSmall, IsByte, AreBytes, Bounded}
-use Rattle.c_simulation.proofs.Bounds.{replicated_bytes}
+use Rattle.c_model.specs.Together.{AreTogether}
+use Rattle.c_model.proofs.SoundStores.{none_together}
+use Rattle.c_simulation.proofs.Bounds.{replicated_bytes, replicated_none}
 use Rattle.instrument.proofs.Heap.{live_with_heap, bounded_with_heap, room_small, freed_saved}
 use Rattle.c_simulation.proofs.Following.{later_same}
 use Rattle.c_simulation.proofs.Calls.{Even, Called, Gives, EndsRun, HasNoMeaning, AreOf, HaveAll, Begin, takes, CallDoes, DoesCall, AllDo}
@@ -77,10 +80,10 @@ Answers t f vs = replied over_blocks (act_on_blocks f vs t.mem) t
 
 module _ (s : State) (t : Target) (even : Even s t) (bounded : Bounded s.store) where
   -- a birth, where there is room for so many bytes
-  born : (room : Room) (bytes : List Byte) → ((place : ℕ) → room ≡ At place → length bytes ≤ 2 ^ 62) → AreBytes bytes
+  born : (room : Room) (bytes : List Byte) → ((place : ℕ) → room ≡ At place → length bytes ≤ 2 ^ 32) → AreBytes bytes → AreTogether bytes
       → Called s (Ptr Void) (heap_birth room bytes s) (replied over_blocks (blocks.heap_birth room bytes t.mem) t)
-  born (NoRoom full) bytes small are = EndsRun (Full full) (machine.Full full) s [] refl refl (sym (append-nil s.output)) (ap (λ k. Stops (machine.Full full) k []) even.steps)
-  born (At place) bytes small are =
+  born (NoRoom full) bytes small are apart = EndsRun (Full full) (machine.Full full) s [] refl refl (sym (append-nil s.output)) (ap (λ k. Stops (machine.Full full) k []) even.steps)
+  born (At place) bytes small are apart =
       let v = Points (Into (length s.store + 1) 0) in
       let to : State = record s { store = s.store ++ heap_block place bytes ∷ [] } in
       let there : Target = record t { mem = record t.mem { store = t.mem.store ++ heap_block place bytes ∷ [] } } in
@@ -90,7 +93,7 @@ module _ (s : State) (t : Target) (even : Even s t) (bounded : Bounded s.store) 
         calls = refl;
         live = live_with_heap s.store place bytes;
         longer = omega (arith, length-append s.store (heap_block place bytes ∷ []));
-        bounded = bounded_with_heap s.store place bytes bounded (small place refl) are;
+        bounded = bounded_with_heap s.store place bytes bounded (small place refl) are apart;
         spent = omega arith;
         output = sym (append-nil s.output);
         marks = refl;
@@ -98,13 +101,13 @@ module _ (s : State) (t : Target) (even : Even s t) (bounded : Bounded s.store) 
       (record { store_is = ap (λ store. store ++ heap_block place bytes ∷ []) even.store_is; frames = even.frames; steps = even.steps; input = even.input })
       refl (ap (λ (store : Store). Done (Points (Into (length store + 1) 0)) there []) even.store_is)
 
-  allocated : (n : ℕ) (b : Byte) → IsByte b → Called s (Ptr Void) (allocate n b s) (replied over_blocks (blocks.allocate n b t.mem) t)
-  allocated n b is = by (nat_eq n 0)
+  allocated : (n : ℕ) (b : Byte) → IsByte b → ((k : ℕ) (p : Pointer) → b ≡ PieceByte p k → ⊥) → Called s (Ptr Void) (allocate n b s) (replied over_blocks (blocks.allocate n b t.mem) t)
+  allocated n b is none = by (nat_eq n 0)
     where
       room : Store → Room
       room store = heap_room standard_sizes store n
 
-      small : (place : ℕ) → room s.store ≡ At place → length (replicate n b) ≤ 2 ^ 62
+      small : (place : ℕ) → room s.store ≡ At place → length (replicate n b) ≤ 2 ^ 32
       small place e = omega (arith, room_small s.store n place e, length-replicate n b)
 
       by : (zero : Bool)
@@ -113,7 +116,7 @@ module _ (s : State) (t : Target) (even : Even s t) (bounded : Bounded s.store) 
       by true = Gives (Some (Points Null)) (Points Null) s t [] (Null, refl, tt) refl (later_same s bounded) even refl refl
       by false =
           subst (λ store. Called s (Ptr Void) (heap_birth (room s.store) (replicate n b) s) (replied over_blocks (blocks.heap_birth (room store) (replicate n b) t.mem) t)) (sym even.store_is)
-          (born (room s.store) (replicate n b) small (replicated_bytes n b is))
+          (born (room s.store) (replicate n b) small (replicated_bytes n b is) (none_together (replicate n b) (replicated_none n b none)))
 
   ended : (T : Tables) (p : Pointer) (at : Place) → Called s Void (library_call T at (Some (codes "free")) (Points p ∷ []) s) (replied over_blocks (becomes t.mem (freed t.mem.store p)) t)
   ended T p at =
@@ -255,7 +258,7 @@ module _ (w : Setting) (n depth : ℕ) (calls : w.call ≡ call_of w.unit depth)
       by z fit s t even bounded at into regs args has begin =
           DoesCall (Answers t Malloc (Integer z ∷ [])) (acts Malloc into args (Integer z ∷ []) t regs has)
           (subst (λ size. Called s (Ptr Void) (allocate (bits_of UnsignedLong z) Unwritten s) (replied over_blocks (blocks.allocate size Unwritten t.mem) t)) (sym (same_bits z fit))
-          (allocated s t even bounded (bits_of UnsignedLong z) Unwritten tt))
+          (allocated s t even bounded (bits_of UnsignedLong z) Unwritten tt (λ k p f. absurd cc)))
 
   pub calloc_does : name ≡ codes "calloc" → AllDo w n f es (Ptr Void) (Int UnsignedLong ∷ Int UnsignedLong ∷ [])
   calloc_does is =
@@ -269,7 +272,7 @@ module _ (w : Setting) (n depth : ℕ) (calls : w.call ≡ call_of w.unit depth)
           let same : lowest_bits U64 i * lowest_bits U64 j ≡ size = ap (λ a. a * lowest_bits U64 j) (same_bits i f) ∙ ap (λ b. bits_of UnsignedLong i * b) (same_bits j g) in
           DoesCall (Answers t Calloc (Integer i ∷ Integer j ∷ [])) (acts Calloc into args (Integer i ∷ Integer j ∷ []) t regs has)
           (subst (λ k. Called s (Ptr Void) (allocate size (Number 0) s) (replied over_blocks (blocks.allocate k (Number 0) t.mem) t)) (sym same)
-          (allocated s t even bounded size (Number 0) (omega arith)))
+          (allocated s t even bounded size (Number 0) (omega arith) (λ k p f. absurd cc)))
 
   pub free_does : name ≡ codes "free" → AllDo w n f es Void (Ptr Void ∷ [])
   free_does is =

@@ -24,7 +24,8 @@ use Rattle.c_effects.proofs.ZeroRuns.{widest_is, zero_at}
 use Rattle.track_scopes.specs.Lives.{with_store}
 use Rattle.c_simulation.specs.SameRegisters.{Same}
 use Rattle.c_simulation.proofs.Integers.{is_number}
-use Rattle.c_simulation.proofs.Bounds.{replicated_bytes, saved_bytes}
+use Rattle.c_model.proofs.Together.{no_pieces_fit}
+use Rattle.c_simulation.proofs.Bounds.{replicated_bytes, replicated_none, saved_bytes}
 use Rattle.c_simulation.proofs.Values.{constant_has}
 use Rattle.c_simulation.proofs.Results.{before_is, writes_none}
 use Rattle.c_simulation.specs.Following.{written}
@@ -233,7 +234,8 @@ module _ (w : Setting) (n : ℕ) (low : ℕ) where
       by : Others → (o : Option Store) → save_bytes store q size (zeros size) ≡ o → Reaches w Anything low regs s (zero_scalars at p (c ∷ cs) now) (runs w n t (zeros_at r low d m (c ∷ cs)) regs)
       by goes None saves = IsUndefined at now [] (source None saves) (sym (append-nil s.output)) (record { rest = written (runs w n t (zeros_at r low d m (c ∷ cs)) regs); is = refl })
       by goes (Some saved) saves =
-          let kept = saved_bytes store saved q size (zeros size) later.bounded (replicated_bytes size (NumberByte 0) (omega arith)) saves in
+          let kept = saved_bytes store saved q size (zeros size) later.bounded (replicated_bytes size (NumberByte 0) (omega arith)) (let l = length-replicate size (NumberByte 0) in omega (arith, l))
+          (λ i aligned. no_pieces_fit (zeros size) i (replicated_none size (NumberByte 0) (λ k p f. absurd cc))) saves in
           subst (λ x. Reaches w Anything low regs s x (runs w n t (zeros_at r low d m (c ∷ cs)) regs)) (sym (source (Some saved) saves))
           (go goes saved
           (record { scope = refl; calls = refl; live = kept.live ∙ later.live; longer = omega (arith, later.longer, kept.long); bounded = kept.bounded; spent = omega arith; output = sym (append-nil s.output); marks = refl })
