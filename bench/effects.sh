@@ -12,6 +12,8 @@ trap 'rm -rf "$scratch"' EXIT
 
 # shellcheck source=bench/workloads
 . "$top/bench/workloads"
+# shellcheck source=bench/counting
+. "$top/bench/counting"
 
 # the Fibonacci number of this index, as one sum of two calls
 fib_sum_of() {
@@ -122,22 +124,6 @@ first_of_16_of() {
 
 last_of_16_of() {
   turns_of "$1" 15 "$(cases 16)"
-}
-
-# the processor's instructions of a command
-instructions_of() {
-  valgrind --tool=callgrind --callgrind-out-file=/dev/null "$@" 2>&1 >"$scratch/out" | sed -n 's/.*Collected : \([0-9]*\).*/\1/p'
-}
-
-# those of one unit of a workload, by two sizes that are so many units apart
-unit_takes() {
-  local workload=$1 less=$2 more=$3 units=$4 few many
-  "${workload}_of" "$less" >"$scratch/less.c"
-  "${workload}_of" "$more" >"$scratch/more.c"
-  few=$(instructions_of "$program" run "$scratch/less.c")
-  many=$(instructions_of "$program" run "$scratch/more.c")
-  # what reads the text is the same but for the digits of a number
-  awk -v units="$units" -v a="$few" -v b="$many" 'BEGIN { printf "%.1f", (b - a) / units }'
 }
 
 # those of a byte that a loop reads, by inputs of two lengths
