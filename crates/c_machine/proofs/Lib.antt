@@ -30,3 +30,4 @@ pub mod Valued
 pub mod Ends
 pub mod Alone
 pub mod Asserting
+pub mod Checking

@@ -21,6 +21,7 @@ mod writing;
 // runs of instructions at once
 mod asserted;
 mod case_tests;
+mod checked_elements;
 mod elements;
 mod forms;
 mod frames;
@@ -31,6 +32,7 @@ mod sequences;
 mod series;
 mod singles;
 mod statements;
+mod validity;
 
 // runs
 mod whole;
