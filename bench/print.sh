@@ -7,8 +7,13 @@ set -euo pipefail
 top=$(cd -- "$(dirname -- "${BASH_SOURCE[0]}")/.." && pwd)
 scratch=$(mktemp -d)
 trap 'rm -rf "$scratch"' EXIT
+program=$top/crates/eacsl/out/eacsl
+
+# shellcheck source=bench/counting
+. "$top/bench/counting"
 
 lines=1000000
+line='printf("%d %s\n", i, "abc")'
 
 # a loop of so many turns with this in each
 loop_of() {
@@ -20,6 +25,14 @@ int main(void) {
   return 0;
 }
 C
+}
+
+line_of() {
+  loop_of "$1" "$line"
+}
+
+bare_of() {
+  loop_of "$1" ''
 }
 
 # what 5 runs of a command with its output in a file take, which must end with the status 0: milliseconds by the clock, and of user time
@@ -43,34 +56,25 @@ compiled_takes() {
 
 # a line of figures: what, and the nanoseconds a line by ./eacsl and by gcc's program, each with the user time of it
 beside() {
-  loop_of "$lines" "$2" >"$scratch/a.c"
+  "${2}_of" "$lines" >"$scratch/a.c"
   awk -v name="$1" -v n="$lines" '{ printf "%-34s %10.1f %10.1f %10.1f %10.1f\n", name, $1 / n * 1e6, $2 / n * 1e6, $3 / n * 1e6, $4 / n * 1e6 }' \
-    <<<"$(measured "$top/crates/eacsl/out/eacsl" run "$scratch/a.c") $(compiled_takes "$scratch/a.c")"
+    <<<"$(measured "$program" run "$scratch/a.c") $(compiled_takes "$scratch/a.c")"
 }
 
-# the processor's instructions of a run of so many turns
-instructions_of() {
-  loop_of "$1" "$2" >"$scratch/a.c"
-  valgrind --tool=callgrind --callgrind-out-file=/dev/null "$top/crates/eacsl/out/eacsl" run "$scratch/a.c" 2>&1 >"$scratch/output" |
-    sed -n 's/.*Collected : \([0-9]*\).*/\1/p'
-}
-
-# a line of figures: what, and the processor's instructions of a turn, by two sizes
+# a line of figures: what, and the processor's instructions of a turn
 each() {
-  awk -v name="$1" -v few="$(instructions_of 1000 "$2")" -v many="$(instructions_of 101000 "$2")" 'BEGIN { printf "%-34s %10.1f\n", name, (many - few) / 100000 }'
+  printf '%-34s %10s\n' "$1" "$(unit_takes "$2" 1000 101000 100000)"
 }
 
 # builds the proved program where that is due, so that no figure is of an unproved one
 "$top/eacsl" --build >&2
 
-line='printf("%d %s\n", i, "abc")'
-
 printf '%-34s %10s %10s %10s %10s\n' 'nanoseconds a line' eacsl user 'gcc -O0' user
-beside 'a line' "$line"
-beside 'the loop alone' ''
+beside 'a line' line
+beside 'the loop alone' bare
 
 if command -v valgrind >/dev/null; then
   printf '\n%-34s %10s\n' "the processor's instructions" eacsl
-  each 'a line' "$line"
-  each 'the loop alone' ''
+  each 'a line' line
+  each 'the loop alone' bare
 fi
