@@ -24,11 +24,9 @@ void sort(int *from, int *end) {
 
 int main(void) {
   sort(numbers, numbers + COUNT);
-  int least = numbers[0];
   for (int i = 0; i < COUNT; i++) {
-    int next = numbers[i];
-    //@ assert least <= next;
-    printf("%d\n", least = next);
+    //@ assert i == 0 || numbers[i - 1] <= numbers[i];
+    printf("%d\n", numbers[i]);
   }
   return COUNT;
 }

@@ -7,8 +7,7 @@ struct buffer {
 };
 
 int put(struct buffer *buffer, unsigned char byte) {
-  unsigned count = buffer->count;
-  //@ assert count < SIZE;
+  //@ assert buffer->count < SIZE;
   buffer->bytes[buffer->count++] = byte;
   return buffer->count == SIZE;
 }

@@ -29,9 +29,8 @@ int main(void) {
   for (char last = 'a'; list; list = node.next) {
     node = *list;
     free(list), living--;
-    char letter = node.letter;
-    //@ assert last <= letter;
-    putchar(last = letter);
+    //@ assert last <= node.letter;
+    putchar(last = node.letter);
   }
   putchar('\n');
   //@ assert living == 0;
