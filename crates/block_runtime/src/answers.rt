@@ -49,6 +49,7 @@ fn are_separated(p: u64, o: i128, n: i128, q: u64, u: i128, m: i128) -> bool
 
 impl Runtime {
     /// `__e_acsl_valid(P, O, N, A)`
+    #[inline(always)]
     pub fn valid(&self, p: u64, o: i128, n: i128, a: u64) -> Result<i32, RunFault>
         requires { IsWidth a }
         ensures { result ≡ Ok (truth (flat_valid self.now p o n a)) }
@@ -82,6 +83,7 @@ impl Runtime {
     }
 
     /// `__e_acsl_pointer(P, O)`
+    #[inline(always)]
     pub fn pointer(&self, p: u64, o: i128) -> Result<i32, RunFault>
         ensures { result ≡ Ok (truth (flat_pointer self.now p o)) }
     {

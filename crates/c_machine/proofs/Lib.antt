@@ -31,3 +31,4 @@ pub mod Ends
 pub mod Alone
 pub mod Asserting
 pub mod Checking
+pub mod Through
