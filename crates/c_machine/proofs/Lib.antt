@@ -32,3 +32,4 @@ pub mod Alone
 pub mod Asserting
 pub mod Checking
 pub mod Through
+pub mod Indexed
