@@ -7,8 +7,6 @@ function piece(kind, text) {
     else if (kind == "code") read_code(text)
 }
 
-# ---- clauses
-
 function read_note(kind, text,    end) {
     while (kind == "note" && (end = index(text, ";")) > 0) {
         add(substr(text, 1, end))
@@ -40,27 +38,6 @@ function finish(    i) {
         if (function_name != "") print "in the function `" function_name "`"
     }
     exit
-}
-
-# ---- functions: at depth 0 a name, parentheses and a brace
-
-function read_code(text,    words, count, i, at, c) {
-    count = split(text, words, /[^A-Za-z0-9_]/)
-    at = 0
-    for (i = 1; i <= count; i++) {
-        at += length(words[i]) + 1
-        if (words[i] != "") last = words[i]
-        c = substr(text, at, 1)
-        if (c !~ /[ \t\r\f\v]/ && c != "") read_mark(c)
-    }
-}
-
-function read_mark(c) {
-    if (c == "(" && depth == 0 && open_parentheses++ == 0) called = last
-    else if (c == ")" && depth == 0) open_parentheses--
-    else if (c == "{" && depth++ == 0 && last == ")") function_name = called
-    else if (c == "}" && --depth == 0) function_name = ""
-    last = c
 }
 
 # A directive is a blank.
