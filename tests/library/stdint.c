@@ -28,7 +28,7 @@ void limits(void) {
 void constants(void) {
   put(sizeof(INT8_C(1)) + sizeof(UINT8_C(1)) + sizeof(INT16_C(1)) + sizeof(UINT16_C(1)));
   put(sizeof(INT32_C(1)));
-  put(sizeof(UINT64_C(1)));
+  put(sizeof(INT64_C(1)) + sizeof(UINT64_C(1)));
   put(sizeof(INTMAX_C(1)));
   put(-1 < UINT8_MAX);
   put(-1 < UINT16_MAX);
@@ -36,6 +36,9 @@ void constants(void) {
   put(-1 < UINT64_MAX);
   put(-1 < UINT32_C(7));
   put(-1 < UINT8_C(7));
+  put(-1 < UINT16_C(7));
+  put(-1 < UINT64_C(7));
+  put(-1 < UINTMAX_C(7));
   put(UINT64_C(18446744073709551615) == UINT64_MAX);
   printf("\n");
 }
