@@ -1,5 +1,7 @@
 # Puts what the preprocessor gives on the lines of FILE: each of its tokens keeps its line, and what an `#include` brings in stands on the line of that. Names
 # that begin with `front` become what they stand for in annotations.
+#
+# From the environment: front, line_feeds (how many FILE has).
 
 # `source` is the line of FILE that is read, `at` the one that is written, `depth` counts the headers that are open.
 BEGIN {
@@ -134,7 +136,8 @@ depth > 0 { read_header_line($0); next }
     source++
 }
 
+# The end of FILE keeps its line.
 END {
     if (waiting != "") begin_text(at + 1)
-    print "\n"
+    go_to(ENVIRON["line_feeds"] + 1)
 }
