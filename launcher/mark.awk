@@ -3,7 +3,9 @@
 #
 # From the environment: room, front, file (a copy of FILE), path (FILE's own), shown (its name in messages), library (the folder of the library's headers).
 
+# A preprocessor ends a line at a carriage return, too, if it isn't at the end of one.
 function piece(kind, text) {
+    gsub(/\r/, kind == "quoted" ? "\\r" : " ", text)
     if (kind == "open") write((ending ~ /[A-Za-z0-9_.]/ ? " " : "") front "begin ")
     else if (kind == "close") write(" " front "end ")
     else if (kind == "note") write_note(text)
@@ -126,6 +128,7 @@ function mark_file(path, name,    line, goes_on) {
     write("# 1 \"" escaped(name) "\"\n")
     while ((getline line < path) > 0) {
         line = joined(line, path)
+        sub(/\r+$/, "", line)
         if (mode == "code" && !goes_on) is_define = 0
         if (mode == "code" && !goes_on && line ~ /^[ \t\r\f\v]*#/) line = substr(line, directive(line))
         goes_on = ends_in_splice(line)
