@@ -40,11 +40,6 @@ function finish(    i) {
     exit
 }
 
-# A directive is a blank.
-mode == "code" && /^[ \t\r\f\v]*#/ { next }
-
-{ lex($0, 0) }
-
 END {
     if (wanted == 0 && number == 0) print "the text has no annotation"
 }

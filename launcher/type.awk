@@ -52,7 +52,3 @@ NR == line + 0 {
     print wanted_type()
     exit
 }
-
-mode == "code" && /^[ \t\r\f\v]*#/ { next }
-
-{ lex($0, 0) }

@@ -162,9 +162,8 @@ void *memmove(void *__to, const void *__from, size_t __count) {
   unsigned char *__target = __to;
   const unsigned char *__source = __from;
   int __inside = 0;
-  for (size_t __i = 0; __i < __count && !__inside; __i++) {
+  for (size_t __i = 0; __i < __count && !__inside; __i++)
     __inside = __source + __i == __target;
-  }
   for (size_t __i = 0; __i < __count; __i++) {
     size_t __at = __inside ? __count - 1 - __i : __i;
     //@ assert 0 <= __source[__at] <= UCHAR_MAX;
