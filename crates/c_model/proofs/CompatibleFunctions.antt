@@ -12,8 +12,9 @@ use Rattle.c_model.specs.ExpressionTyping.{no_name, Sight, with_object, inner, i
 use Rattle.c_model.specs.DeclarationTyping.{scalar_type, typed_result, typed_global, typed_typedef, typed_member, typed_enumerators}
 use Rattle.c_model.specs.StatementTyping.{typed_items}
 use Rattle.c_model.specs.UnitTyping.{FileItem, StructHead, Member, AnEnum, ATypedef, AGlobal, AFunction, items_of_file, with_type, with_tag, with_function, with_parameters, same_signature, is_compatible, is_compatible_with_all}
-use Rattle.c_model.specs.UnitTyping.{function_name, typed_parameters, fitting_type, typed_type_of_function, typed_heading, typed_body, typed_function}
+use Rattle.c_model.specs.UnitTyping.{function_name, typed_parameters, fitting_type, typed_type_of_function, typed_heading, typed_body, typed_parts, typed_function}
 use Rattle.c_model.specs.UnitTyping.{Progress, new_tag, typed_enum, typed_item_of_file, typed_items_of_file, at_start, with_progress, typed_unit}
+use Rattle.c_model.proofs.LabelledFunctions.{gives_function}
 use Rattle.c_model.proofs.TypedParts.{Gives, gives_of, gives_one, gives_both, gives_where, gives_self}
 use Rattle.c_model.proofs.TypedSoundness.{gives_limited}
 use Rattle.c_model.proofs.TypedDeclarations.{anything}
@@ -81,12 +82,15 @@ heading_fits s before f =
     good_is : {t u : PlainType} → ◌≡◌ {A = Checked PlainType} (Good t) (Good u) → t ≡ u
     good_is j = cc
 
-function_fits : (p : TranslationUnit) (s : Sight) (before : List Function) (f : Function) → Gives (Fits before) (typed_function p s before f)
-function_fits p s before f =
+parts_fits : (p : TranslationUnit) (s : Sight) (before : List Function) (f : Function) → Gives (Fits before) (typed_parts p s before f)
+parts_fits p s before f =
     gives_one (Fits before) (Fits before) (typed_heading s before f) (λ g. one_part (typed_body (with_parameters (inner (with_function p s g)) g.params) g.result g.body) (λ b. Good (record g { body = b })))
     (heading_fits s before f) (λ g h.
     gives_one (λ c. is_there c ≡ is_there g.body) (Fits before) (typed_body (with_parameters (inner (with_function p s g)) g.params) g.result g.body) (λ b. Good (record g { body = b }))
     (body_there (with_parameters (inner (with_function p s g)) g.params) g.result g.body) (λ b e. fits_with_body before g b e ∙ h))
+
+function_fits : (p : TranslationUnit) (s : Sight) (before : List Function) (f : Function) → Gives (Fits before) (typed_function p s before f)
+function_fits p s before f = gives_function (Fits before) p s before f (parts_fits p s before f)
 
 -- ---- files
 

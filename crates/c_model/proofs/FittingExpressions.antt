@@ -27,7 +27,7 @@ use Rattle.c_model.proofs.NeverStuckRuns.{NoJump}
 use Rattle.c_model.proofs.NeverStuckValues.{gives_address}
 use Rattle.c_model.proofs.SoundRuns.{after_bind, after_read, after_write, after_any, after_defined, after_tested, after_pointed, compound_placed, sound_eval, sound_place, sound_evals, PlaceOf, PlacedAt}
 use Rattle.c_model.proofs.SoundStores.{value_onward}
-use Rattle.c_model.specs.SoundJudgements.{IsCharacter, LettersFit}
+use Rattle.c_model.specs.LetterValues.{IsCharacter, LettersFit}
 use Rattle.c_model.proofs.FittingValues.{FitsIn, fits_as, no_scalar_fits, Ends, well_ends, defined_ends, on_after, on_ends, cond_ends, some_ends, truth_fits, one_fits, plus_fits, minus_fits}
 use Rattle.c_model.proofs.FittingValues.{flip_fits, pair_fits, number_fits, address_fits, null_fits, compound_fits, bump_fits, read_fits, read_scalar_fits, named_fits}
 

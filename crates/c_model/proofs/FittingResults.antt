@@ -43,7 +43,8 @@ use Rattle.c_model.proofs.SoundPrograms.{programs_are_direct}
 use Rattle.c_model.proofs.SoundRuns.{vals_onward, after_bind, sound_eval}
 use Rattle.c_model.proofs.SoundStatements.{declares_left, declares_right, directly_in, directly_first, keeps_condition_of, keeps_condition, keeps_effect, keeps_exec, keeps_first, keeps_item, keeps_items, keeps_body_of}
 use Rattle.c_model.proofs.SoundSteps.{Keeps, keeps_then, keeps_bind, keeps_done, keeps_step, keeps_entry, keeps_ending, keeps_alone, keeps_mark, keeps_frame, keeps_births, keeps_invariants, keeps_value, keeps_compared}
-use Rattle.c_model.specs.SoundJudgements.{LettersFit, IsValueIn, GivesResult}
+use Rattle.c_model.specs.LetterValues.{LettersFit}
+use Rattle.c_model.specs.SoundJudgements.{IsValueIn, GivesResult}
 use Rattle.c_model.proofs.FittingValues.{FitsIn, fits_as, no_scalar_fits, Ends, well_ends, on_after, on_ends, some_ends}
 use Rattle.c_model.proofs.FittingExpressions.{CallsFit, fit_eval}
 
@@ -440,7 +441,7 @@ value_in store (Named x) v h g = tt
 value_in store (StructTag x tag) v h g = tt
 value_in store (EnumTag x at) v h g = tt
 
-module _ (p : TranslationUnit) (q : IsProgram p) (letters : EachInFunctions LettersFit p.funcs) where
+module _ (p : TranslationUnit) (q : IsProgram p) where
   direct : IsDirect p
   direct = programs_are_direct p q
 
@@ -455,7 +456,7 @@ module _ (p : TranslationUnit) (q : IsProgram p) (letters : EachInFunctions Lett
       let o = own i f e in
       let inside = inner here.sight in
       rets_body p (call_of p n) (calls_keep_sound p direct n) direct.octets (calls_give p q n) fit (with_parameters inside f.params) (sees_parameters p f.params inside (sees_inner p here.sight here.sees)) f.result f.body
-      (read_at p.funcs i f q.effects e).body here.typed.body (letters_at p.funcs i f letters e) o.body o.variables n
+      (read_at p.funcs i f q.effects e).body here.typed.body (letters_at p.funcs i f q.characters.funcs e) o.body o.variables n
 
   abbrev EndsIn : ℕ → Use → PlainType → Place → List Value → State → Bool → Option Function → Type 0
   EndsIn n f t at vs s b o = Ends (FitsIn t) ((if b then library_call (tables_of p) at (slice_get p.names f.name) vs else call_with (tables_of p) (global_scope p) o (call_of p n) n at vs) s)

@@ -1,11 +1,9 @@
 -- Each state in which a run of a program of an accepted text judges an annotation is sound, and what functions give is of their types.
-use Rattle.std.proofs.Common.{◌≡◌, ℕ, zero, suc, List, [], ◌∷◌, Some, None, slice_get, codes, sym, ◌∙◌, subst}
+use Rattle.std.proofs.Common.{◌≡◌, suc, Some, codes, sym, ◌∙◌, subst}
 use Rattle.c_syntax.specs.Ctypes.{int_type}
 use Rattle.c_syntax.specs.Programs.{Function, TranslationUnit}
 use Rattle.c_model.specs.AcceptedPrograms.{IsProgram}
-use Rattle.c_model.specs.Formed.{AreAsserts}
 use Rattle.c_model.specs.Meaning.{function_named, start}
-use Rattle.c_model.specs.ReadTree.{FunctionsRead}
 use Rattle.c_model.specs.TypedTrees.{IsInteger}
 use Rattle.c_model.proofs.NeverStuck.{main_is}
 use Rattle.c_model.proofs.SoundPrograms.{programs_are_direct}
@@ -13,12 +11,6 @@ use Rattle.c_model.proofs.SoundStarts.{starts_are_sound}
 use Rattle.c_model.specs.SoundJudgements.{JudgedStatesAreSound, HasResults, GivenResultsFit}
 use Rattle.c_model.proofs.FittingResults.{results_fit}
 use Rattle.c_model.proofs.SoundJudgements.{judgements_sound}
-
--- no function has a contract yet
-no_contract : (fs : List Function) (i : ℕ) (f : Function) → FunctionsRead AreAsserts fs → slice_get fs i ≡ Some f → f.contract ≡ None
-no_contract [] i f h e = absurd cc
-no_contract (g ∷ fs) zero f h e = let same : g ≡ f = cc in subst (λ (x : Function). x.contract ≡ None) same h.0.no_contract
-no_contract (g ∷ fs) (suc i) f h e = no_contract fs i f h.1 e
 
 main_integer : (p : TranslationUnit) → IsProgram p → (f : Function) → function_named p (codes "main") p.funcs ≡ Some f → IsInteger f.result
 main_integer p q f e =
@@ -30,13 +22,10 @@ main_integer p q f e =
     by e = cc
 
 has_results : (p : TranslationUnit) → IsProgram p → HasResults p
-has_results p q = record {
-  gives = λ i f c e is. let none = no_contract p.funcs i f q.effects e in absurd cc;
-  main = λ f c e is. main_integer p q f e;
-}
+has_results p q = record { gives = λ i f c e is. results_fit p q i f e; main = λ f c e is. main_integer p q f e }
 
 pub judged_states_are_sound : JudgedStatesAreSound
 judged_states_are_sound p q input n = judgements_sound p (programs_are_direct p q) (has_results p q) (suc n) (start p input n) (starts_are_sound p q input n)
 
 pub results_are_fit : GivenResultsFit
-results_are_fit p q letters i f e = results_fit p q letters i f e
+results_are_fit p q i f e = results_fit p q i f e

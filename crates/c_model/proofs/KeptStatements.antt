@@ -1,5 +1,5 @@
 -- Typing keeps the forms of statements and functions: annotations and declarations stay where they may stand, and statements are as deep.
-use Rattle.std.proofs.Common.{◌≡◌, suc, ◌+◌, ◌≤◌, max, List, [], ◌∷◌, Option, Some, None, not, ◌&&◌, refl, sym, ap, ◌∙◌, subst}
+use Rattle.std.proofs.Common.{◌≡◌, suc, ◌+◌, ◌≤◌, max, List, [], ◌∷◌, Option, Some, None, not, ◌&&◌, refl, sym, ap, subst}
 use Rattle.c_syntax.specs.declared.place.Place.{Place}
 use Rattle.c_syntax.specs.declared.types.CInt.{CInt}
 use Rattle.std.specs.Prelude.{ℤ, Bool, true, false}
@@ -14,11 +14,12 @@ use Rattle.c_model.specs.ExpressionGrammar.{most_nested}
 use Rattle.c_model.specs.ExpressionTyping.{no_type, Sight, inner, is_void, is_assigned, decayed_of, typed, typed_type}
 use Rattle.c_model.specs.StatementTyping.{Around, in_loop, in_switch, behind, behind_first, typed_condition, typed_maybe, returned, typed_declarations, typed_statement, typed_else, typed_first, typed_item, typed_items}
 use Rattle.c_model.specs.StatementTyping.{case_number, case_value, controlling, typed_cases}
-use Rattle.c_model.specs.UnitTyping.{with_function, with_parameters, function_name, typed_parameters, typed_heading, typed_body, typed_function}
+use Rattle.c_model.specs.UnitTyping.{with_function, with_parameters, function_name, typed_parameters, typed_heading, typed_body, typed_parts, typed_function}
 use Rattle.c_model.specs.TypedTrees.{IsResult}
 use Rattle.c_model.specs.Formed.{AreReadAsserts, depth, depth_of_cases, depth_of_else, depth_of_item, depth_of_items}
 use Rattle.c_model.specs.EffectPlaces.{IsNoDeclaration, DeclareNothing, FirstPlaced, StatementPlaced, CasesPlaced, ElsePlaced, ItemPlaced, ItemsPlaced}
 use Rattle.c_model.specs.ReadTree.{BodyRead, FunctionRead}
+use Rattle.c_model.proofs.LabelledFunctions.{gives_function}
 use Rattle.c_model.proofs.TypedParts.{Gives, gives_one, gives_where}
 use Rattle.c_model.proofs.TypedDeclarations.{anything}
 use Rattle.c_model.proofs.TypedHeadings.{gives_heading}
@@ -99,7 +100,8 @@ mutual
       record { placed = (p.0, f, l.placed); deep = ap (λ n. 1 + n) l.deep }))))
   statement_kept s r (Break at) p = gives_where (IsKept (Break at)) r.breaks (no_type at) (Good (Break at)) (λ e. record { placed = tt; deep = refl })
   statement_kept s r (Continue at) p = gives_where (IsKept (Continue at)) r.loops (no_type at) (Good (Continue at)) (λ e. record { placed = tt; deep = refl })
-  statement_kept s r (Labelled at l a) p = absurd p
+  statement_kept s r (Labelled at l a) p =
+      gives_one (IsKept a) (IsKept (Labelled at l a)) (typed_statement s r a) (λ a. Good (Labelled at l a)) (statement_kept s r a p) (λ x k. record { placed = k.placed; deep = ap (λ n. 1 + n) k.deep })
   statement_kept s r (Switch at e cases) p =
       gives_one (λ (x : CInt × Expression). Unit {0}) (IsKept (Switch at e cases)) (one_part (decayed_of (typed s e)) controlling) (λ x. one_part (typed_cases s (in_switch r) x.0 [] false cases) (λ cases. Good (Switch at x.1 cases)))
       (anything (one_part (decayed_of (typed s e)) controlling)) (λ x u.
@@ -159,18 +161,20 @@ body_kept s t (Some _) p = absurd p
 record IsHeading (f g : Function) : Type 0 where
   result : IsResult g.result
   body : g.body ≡ f.body
-  contract : g.contract ≡ f.contract
 
 heading_kept : (s : Sight) (before : List Function) (f : Function) → Gives (IsHeading f) (typed_heading s before f)
 heading_kept s before f =
     gives_heading (λ n. Unit {0}) IsResult (λ ds. Unit {0}) (IsHeading f) s before f (anything (function_name s f)) (result_is s (is_definition f) f.place f.result)
-    (anything (typed_parameters (inner s) (is_definition f) f.params)) (λ n t ds u i v. record { result = i; body = refl; contract = refl })
+    (anything (typed_parameters (inner s) (is_definition f) f.params)) (λ n t ds u i v. record { result = i; body = refl })
 
-pub function_kept : (p : TranslationUnit) (s : Sight) (before : List Function) (f : Function) → FunctionRead AreReadAsserts f → Gives (FunctionRead AreReadAsserts) (typed_function p s before f)
-function_kept p s before f q =
+parts_kept : (p : TranslationUnit) (s : Sight) (before : List Function) (f : Function) → FunctionRead AreReadAsserts f → Gives (FunctionRead AreReadAsserts) (typed_parts p s before f)
+parts_kept p s before f q =
     gives_one (IsHeading f) (FunctionRead AreReadAsserts) (typed_heading s before f)
     (λ f. one_part (typed_body (with_parameters (inner (with_function p s f)) f.params) f.result f.body) (λ b. Good (record f { body = b }))) (heading_kept s before f) (λ g k.
     let inside = with_parameters (inner (with_function p s g)) g.params in
     gives_one (BodyRead AreReadAsserts) (FunctionRead AreReadAsserts) (typed_body inside g.result g.body) (λ b. Good (record g { body = b }))
     (body_kept inside g.result g.body (subst (BodyRead AreReadAsserts) (sym k.body) q.body))
-    (λ b r. record { no_contract = k.contract ∙ q.no_contract; body = r }))
+    (λ b r. record { body = r }))
+
+pub function_kept : (p : TranslationUnit) (s : Sight) (before : List Function) (f : Function) → FunctionRead AreReadAsserts f → Gives (FunctionRead AreReadAsserts) (typed_function p s before f)
+function_kept p s before f q = gives_function (FunctionRead AreReadAsserts) p s before f (parts_kept p s before f q)

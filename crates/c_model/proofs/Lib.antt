@@ -42,6 +42,7 @@ pub mod TypedInitialisers
 pub mod TypedDeclarations
 pub mod TypedStatements
 pub mod TypedHeadings
+pub mod TypedLabels
 pub mod TypedFunctions
 pub mod NotedWider
 pub mod NotedTrees
@@ -57,7 +58,14 @@ pub mod SignaturesInSight
 pub mod ResolvedCalls
 pub mod NotedFiles
 pub mod OperandParentheses
+pub mod LabelledFunctions
 pub mod NotedTerms
+pub mod NotedContracts
+pub mod ContractsStand
+pub mod AssumedBehaviors
+pub mod StepsLeft
+pub mod TypedContracts
+pub mod UnrangedContracts
 pub mod NotedForms
 pub mod NotedPrograms
 pub mod KeptStatements
@@ -70,6 +78,7 @@ pub mod RangedTrees
 pub mod UnrangedTerms
 pub mod UnrangedStatements
 pub mod RangedStatements
+pub mod UnrangedLabels
 pub mod UnrangedFunctions
 pub mod UnrangedFiles
 pub mod RangedPrograms
@@ -88,6 +97,8 @@ pub mod FirmTypes
 pub mod SmallTypedExpressions
 pub mod SmallTypedStatements
 pub mod SmallTypedFiles
+pub mod TypedEach
+pub mod TypedLetters
 pub mod AcceptedFiles
 pub mod FileOrder
 pub mod TypedFileSights
@@ -123,3 +134,7 @@ pub mod COnlyPieces
 pub mod CRefusalLaws
 pub mod CNameLaws
 pub mod CListLaws
+pub mod PlacedTerms
+pub mod PlacedFunctions
+pub mod UnrangedPlaces
+pub mod TypedForms

@@ -3,7 +3,7 @@
 use Rattle.std.proofs.Common.{◌≡◌, ℕ, suc, List, [], ◌∷◌, ◌++◌, map, Option, Some, Bool, true, false, ◌&&◌, cond, if◌then◌else◌, nat_eq, nat_lt, refl, sym, ap, ◌∙◌, subst, arith}
 use Rattle.std.proofs.lemmas.Bool.Decides.{nat_tests}
 use Rattle.c_syntax.specs.Statements.{Declaration, Statement}
-use Rattle.c_syntax.specs.Programs.{StructMember, StructType, EnumType, Function, TranslationUnit}
+use Rattle.c_syntax.specs.Programs.{StructMember, StructType, EnumType, FunctionContract, Function, TranslationUnit}
 use Rattle.c_model.specs.Library.{is_there}
 use Rattle.c_model.specs.Meaning.{is_definition}
 use Rattle.c_model.specs.UnitTyping.{FileItem, StructHead, Member, AnEnum, ATypedef, AGlobal, AFunction, offset_of_item, member_items, struct_items, inserted, in_order, items_of_file}
@@ -11,12 +11,13 @@ use Rattle.c_model.specs.UnitTyping.{definition_of, first_declaration, number_or
 use Rattle.c_model.specs.TextOrder.{Between, functions_among}
 use Rattle.c_model.proofs.SignaturesInSight.{offsets_of}
 
--- ---- functions with typed asserts
+-- ---- functions with typed annotations
 
--- g is f with another body, where it has one
+-- g is f with another contract and another body, where it has one
 pub record HasOtherBody (f g : Function) : Type 0 where
+  pub contract : Option FunctionContract
   pub body : Option Statement
-  pub is : g ≡ record f { body = body }
+  pub is : g ≡ record f { contract = contract; body = body }
   pub there : is_there body ≡ is_there f.body
 
 abbrev pub HaveOtherBodies : List Function → List Function → Type 0
@@ -31,7 +32,7 @@ same_place f g h = ap (λ (x : Function). x.place.offset) h.is
 pub same_name : (f g : Function) → HasOtherBody f g → g.name ≡ f.name
 same_name f g h = ap (λ (x : Function). x.name) h.is
 
-same_definition : (f g : Function) → HasOtherBody f g → is_definition g ≡ is_definition f
+pub same_definition : (f g : Function) → HasOtherBody f g → is_definition g ≡ is_definition f
 same_definition f g h = ap (λ (x : Function). is_definition x) h.is ∙ h.there
 
 -- ---- signatures

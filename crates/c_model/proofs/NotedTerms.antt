@@ -3,7 +3,7 @@ use Rattle.std.proofs.Common.{◌≡◌, ℕ, suc, ◌+◌, ◌-◌, ◌^◌, �
 use Rattle.std.proofs.lemmas.Bool.{leb-true}
 use Rattle.std.proofs.lemmas.Bool.Decides.{nat_tests}
 use Rattle.std.proofs.lemmas.Int.{ints}
-use Rattle.std.specs.Prelude.{bytes_eq, nat_le}
+use Rattle.std.specs.Prelude.{bytes_eq, nat_le, option_map}
 use Rattle.std.specs.List.{AllByRecursion}
 use Rattle.c_syntax.specs.declared.place.Place.{Place}
 use Rattle.c_syntax.specs.declared.types.CInt.{CInt}
@@ -13,6 +13,8 @@ use Rattle.c_syntax.specs.declared.expression.UnOp.TheVariants as unary
 use Rattle.c_syntax.specs.declared.expression.BinOp.{BinOp}
 use Rattle.c_syntax.specs.declared.expression.BinOp.TheVariants as operator
 use Rattle.c_syntax.specs.declared.logic.Connective.{Connective}
+use Rattle.c_syntax.specs.declared.logic.Label.{Label}
+use Rattle.c_syntax.specs.declared.logic.Label.TheVariants as label
 use Rattle.c_syntax.specs.declared.logic.MemoryQuestion.{MemoryQuestion}
 use Rattle.c_syntax.specs.declared.logic.MemoryQuestion.TheVariants.{Valid, ValidRead, Initialized}
 use Rattle.c_syntax.specs.Ctypes.{PlainType}
@@ -22,17 +24,19 @@ use Rattle.c_syntax.specs.Layouts.{member_among, members_of}
 use Rattle.c_syntax.specs.Logic.{LogicTerm, Deref, Links, NoLink, Linked, Predicate, Zone, Zones, Another, ClauseBody, Raw, Holds, Value, Annotation, Behaviors}
 use Rattle.c_model.specs.Integers.{fits, integer_type}
 use Rattle.c_model.specs.Checked.{Checked, Good, Bad, faulty, given, one_part, pair_of}
-use Rattle.c_model.specs.Library.{Constants, constants, constant_in, library_constant, is_there}
+use Rattle.c_model.specs.Library.{Constants, constants, constant_in, library_constant}
 use Rattle.c_model.specs.ExpressionTyping as c
-use Rattle.c_model.specs.ExpressionTyping.{no_name, no_type, Entity, AnObject, AnEnumerator, Sight, name_at, entity_named, is_null_word, is_void, is_struct, is_scalar, most_bytes, too_large, typed_type, known_type}
+use Rattle.c_model.specs.ExpressionTyping.{no_name, no_type, is_among, Entity, AnObject, AnEnumerator, Sight, name_at, entity_named, is_null_word, is_void, is_struct, is_scalar, most_bytes, too_large, typed_type, known_type}
 use Rattle.c_model.specs.PredicateTyping.{range_to_infer, place_of_term, Sorted, ATerm, APredicate, APlace, ValueSort, AnInteger, APointer, NoValue, type_of_term, sort_of_term, is_integer, pointee, as_value, value_in, as_term, as_integer, as_pointer}
-use Rattle.c_model.specs.PredicateTyping.{integer_holds, as_predicate, object_place, number, null, library_term, term_named, on_integer, on_integers, deref, address, address_at, member_at, member_of, dot, arrow, are_known, with_terms}
-use Rattle.c_model.specs.PredicateTyping.{sum_of, difference_of, element_of, sum, difference, index, unary_on, binary_on, cast_integer, cast_pointer, cast, size_in, connected, choice_target, pointer_choice, choice_of_terms, branch, choice_between}
+use Rattle.c_model.specs.PredicateTyping.{integer_holds, as_predicate, variable, formal_value, object_place, result_in, no_label, has_past, has_old, at_label, labelled, number, null, library_term, term_named, on_integer, on_integers, deref, address}
+use Rattle.c_model.specs.PredicateTyping.{address_at, member_at, member_of, dot, arrow, are_known, with_terms}
+use Rattle.c_model.specs.PredicateTyping.{sum_of, difference_of, element_of, index, unary_on, binary_on, cast_integer, cast_pointer, cast, size_in, connected, choice_target, pointer_choice, choice_of_terms, branch, choice_between}
 use Rattle.c_model.specs.PredicateTyping.{where_measured}
 use Rattle.c_model.specs.PredicateTyping.{chosen, Side, side_of, are_related, right_side, related, told, where_asked, object_zone, elements_zone, typed_form, typed_links, typed_zone, typed_zones, clause_holds, typed_clause, typed_annotations}
 use Rattle.c_model.specs.Formed.{tokens_of_term, tokens_of_links, tokens_of_predicate, tokens_of_zone, tokens_of_zones, IsLogicNumber, TermNumbered, LinksNumbered, PredicateNumbered, ZoneNumbered, ZonesNumbered, IsShortClause, AreAsserts}
 use Rattle.c_model.specs.Formed.{level_of, parentheses_around, operator_of_term, operator_of_form, tokens_of_form, tokens_of_form_links, tokens_of_form_zone, tokens_of_form_zones, FormNumbered, FormLinksNumbered, FormZoneNumbered, FormZonesNumbered}
 use Rattle.c_model.specs.Formed.{IsShortReading, AreReadAsserts}
+use Rattle.c_model.specs.AnnotationSights.{ClauseSight, InBody, AtEntry, AtEnd, UnderLabel, AnnotationSight, formals_in, under_label, marked, beginning, sight_at, label_named, is_past}
 use Rattle.c_model.specs.FileItems.{SeesValues}
 use Rattle.c_model.proofs.TypedParts.{Gives, gives_one, gives_both, gives_given, gives_where, gives_sized, gives_if}
 use Rattle.c_model.proofs.PredicateTrees.{gives_measured, gives_pair, gives_limited, Any, anything}
@@ -203,16 +207,50 @@ library_kept s at x = by (library_constant (name_at s.names x)) refl
     by (Some k) e = (library_constant_is (name_at s.names x) k e, omega arith, bare None)
     by None e = null_kept at (is_null_word s x)
 
-name_kept : (s : Sight) → SeesValues s → (at : Place) (x : ℕ) → Gives (SortedKept 1 None) (term_named s at x)
-name_kept s k at x = by (entity_named x s.entities) refl
+-- a parameter in an `ensures` has no more tokens than its name
+formal_kept : (k : ClauseSight) (at : Place) (x : ℕ) (b : c.Object) → TermKept 1 None (formal_value k (variable at x b))
+formal_kept (InBody v) at x b = (tt, omega arith, bare None)
+formal_kept AtEntry at x b = (tt, omega arith, bare None)
+formal_kept (AtEnd formals t) at x b = (tt, omega arith, bare None)
+formal_kept (UnderLabel formals) at x b = (tt, omega arith, bare None)
+
+entity_kept : (k : ClauseSight) (at : Place) (x : ℕ) (b : c.Object) → SortedKept 1 None (object_place k at x b)
+entity_kept k at x b = by (is_among b.decl (formals_in k))
   where
-    by : (o : Option Entity) → entity_named x s.entities ≡ o → Gives (SortedKept 1 None) (elim o [
-      | Some e ↦ elim e [ AnObject b ↦ Good (object_place at x b) | AnEnumerator j ↦ Good (number at j.value) ]
-      | None ↦ library_term s at x
+    by : (f : Bool) → SortedKept 1 None (cond f (ATerm (formal_value k (variable at x b))) (APlace (variable at x b)))
+    by true = formal_kept k at x b
+    by false = (tt, omega arith, bare None)
+
+name_kept : (s : AnnotationSight) → SeesValues s.here → (at : Place) (x : ℕ) → Gives (SortedKept 1 None) (term_named s at x)
+name_kept s k at x = by (entity_named x s.here.entities) refl
+  where
+    by : (o : Option Entity) → entity_named x s.here.entities ≡ o → Gives (SortedKept 1 None) (elim o [
+      | Some e ↦ elim e [ AnObject b ↦ Good (object_place s.clause at x b) | AnEnumerator j ↦ Good (number at j.value) ]
+      | None ↦ library_term s.here at x
     ])
-    by (Some (AnObject b)) e = (tt, omega arith, bare None)
+    by (Some (AnObject b)) e = entity_kept s.clause at x b
     by (Some (AnEnumerator j)) e = (value_is j.value (k x j e), omega arith, bare None)
-    by None e = library_kept s at x
+    by None e = library_kept s.here at x
+
+-- ---- results, and terms at labels
+
+result_kept : (k : ClauseSight) (at : Place) → Gives (SortedKept 1 None) (result_in k at)
+result_kept (InBody v) at = tt
+result_kept AtEntry at = tt
+result_kept (AtEnd formals t) at = gives_where (SortedKept 1 None) (not (is_void t)) (no_type at) _ (λ e. (tt, omega arith, bare None))
+result_kept (UnderLabel formals) at = tt
+
+values_of : (n : ℕ) (o : Option BinOp) (k : Checked Sorted) → Gives (SortedKept n o) k → Gives (SortedKept n o) (value_in k)
+values_of n o k w = gives_one (SortedKept n o) (SortedKept n o) k as_value w (value_kept n o)
+
+labelled_kept : (s : AnnotationSight) (at place : Place) (n : ℕ) (o : Option BinOp) (refused : Bool → Bool) (k : AnnotationSight → Checked Sorted)
+    → ((l : Label) (u : AnnotationSight) → sight_at s l ≡ Some u → Gives (SortedKept n o) (k u)) → (l : Option Label) → Gives (SortedKept (suc n) None) (labelled s at place l refused k)
+labelled_kept s at place n o refused k h None =
+    gives_where (SortedKept (suc n) None) (not (refused true)) (no_label at) _ (λ e. gives_one (SortedKept n o) (SortedKept (suc n) None) (value_in (k s)) _ (values_of n o (k s) (h label.Here s refl)) (λ a v. tt))
+labelled_kept s at place n o refused k h (Some l) =
+    gives_where (SortedKept (suc n) None) (not (refused (is_past l))) (no_label at) _ (λ e. gives_given (SortedKept (suc n) None) (sight_at s l) (no_label at) _ (λ u f.
+    gives_one (SortedKept n o) (SortedKept (suc n) None) (value_in (k u)) (at_label at l) (values_of n o (k u) (h l u f)) (λ a v.
+    gives_one (TermKept n o) (SortedKept (suc n) None) (as_term at a) _ (term_kept at n o a v) (λ t x. (x.0, omega (arith, x.1), bare None)))))
 
 -- ---- operators
 
@@ -402,45 +440,74 @@ elements_kept s q at l m n i j k a lo hi u v w =
 
 -- ---- forms
 
+-- enumerators that are in sight of an annotation, here and at labels, are values of `int`
+abbrev ClauseSees : ClauseSight → Type 0
+ClauseSees (InBody v) = SeesValues v
+ClauseSees AtEntry = Unit {0}
+ClauseSees (AtEnd formals t) = Unit {0}
+ClauseSees (UnderLabel formals) = Unit {0}
+
+pub record SeesAll (s : AnnotationSight) : Type 0 where
+  pub here : SeesValues s.here
+  pub clause : ClauseSees s.clause
+  pub labels : (l : ℕ) (v : Sight) → marked l s.labels ≡ Some v → SeesValues v
+
+beginning_sees : (here : Sight) (k : ClauseSight) → SeesValues here → ClauseSees k → (v : Sight) → beginning here k ≡ Some v → SeesValues v
+beginning_sees here (InBody w) h k v e = let same : w ≡ v = cc in subst SeesValues same k
+beginning_sees here AtEntry h k v e = absurd cc
+beginning_sees here (AtEnd formals t) h k v e = let same : here ≡ v = cc in subst SeesValues same h
+beginning_sees here (UnderLabel formals) h k v e = absurd cc
+
+sees_under : (s : AnnotationSight) (u : AnnotationSight) (o : Option Sight) → ((v : Sight) → o ≡ Some v → SeesValues v) → option_map (under_label s) o ≡ Some u → SeesAll u
+sees_under s u None h g = absurd cc
+sees_under s u (Some v) h g = let same : under_label s v ≡ u = cc in subst SeesAll same (record { here = h v refl; clause = tt; labels = λ l w e. absurd cc })
+
+sees_at : (s : AnnotationSight) → SeesAll s → (l : Label) (u : AnnotationSight) → sight_at s l ≡ Some u → SeesAll u
+sees_at s k label.Here u e = let same : s ≡ u = cc in subst SeesAll same k
+sees_at s k label.Pre u e = sees_under s u (beginning s.here s.clause) (beginning_sees s.here s.clause k.here k.clause) e
+sees_at s k (label.Marked l) u e = sees_under s u (marked l s.labels) (k.labels l) e
+
 -- what is typed has no more tokens than a form
 abbrev FormKept : Form → Sorted → Type 0
 FormKept f = SortedKept (tokens_of_form f) (operator_of_form f)
 
 values_kept : (f : Form) (k : Checked Sorted) → Gives (FormKept f) k → Gives (FormKept f) (value_in k)
-values_kept f k w = gives_one (FormKept f) (FormKept f) k as_value w (value_kept (tokens_of_form f) (operator_of_form f))
+values_kept f k w = values_of (tokens_of_form f) (operator_of_form f) k w
 
-one_kept : (R : Sorted → Type 0) (s : Sight) (a : Form) → Gives (FormKept a) (typed_form s a) → (m : Sorted → Checked Sorted) → ((x : Sorted) → FormKept a x → Gives R (m x)) → Gives R (one_part (value_in (typed_form s a)) m)
+one_kept : (R : Sorted → Type 0) (s : AnnotationSight) (a : Form) → Gives (FormKept a) (typed_form s a) → (m : Sorted → Checked Sorted) → ((x : Sorted) → FormKept a x → Gives R (m x)) → Gives R (one_part (value_in (typed_form s a)) m)
 one_kept R s a v m f = gives_one (FormKept a) R (value_in (typed_form s a)) m (values_kept a (typed_form s a) v) f
 
-two_kept : (R : Sorted → Type 0) (s : Sight) (a b : Form) → Gives (FormKept a) (typed_form s a) → Gives (FormKept b) (typed_form s b) → (m : Sorted × Sorted → Checked Sorted) → ((x y : Sorted) → FormKept a x → FormKept b y → Gives R (m (x, y)))
+two_kept : (R : Sorted → Type 0) (s : AnnotationSight) (a b : Form) → Gives (FormKept a) (typed_form s a) → Gives (FormKept b) (typed_form s b) → (m : Sorted × Sorted → Checked Sorted)
+    → ((x y : Sorted) → FormKept a x → FormKept b y → Gives R (m (x, y)))
     → Gives R (one_part (pair_of (value_in (typed_form s a)) (value_in (typed_form s b))) m)
 two_kept R s a b v w m f = gives_pair (FormKept a) (FormKept b) R (value_in (typed_form s a)) (value_in (typed_form s b)) m (values_kept a (typed_form s a) v) (values_kept b (typed_form s b) w) f
 
-pair_kept : (s : Sight) (a b : Form) → Gives (FormKept a) (typed_form s a) → Gives (FormKept b) (typed_form s b) → Gives (λ (p : Sorted × Sorted). FormKept a p.0 × FormKept b p.1) (pair_of (value_in (typed_form s a)) (value_in (typed_form s b)))
+pair_kept : (s : AnnotationSight) (a b : Form) → Gives (FormKept a) (typed_form s a) → Gives (FormKept b) (typed_form s b)
+    → Gives (λ (p : Sorted × Sorted). FormKept a p.0 × FormKept b p.1) (pair_of (value_in (typed_form s a)) (value_in (typed_form s b)))
 pair_kept s a b v w =
     gives_both (FormKept a) (FormKept b) (λ (p : Sorted × Sorted). FormKept a p.0 × FormKept b p.1) (value_in (typed_form s a)) (value_in (typed_form s b)) (λ a b. Good (a, b)) (values_kept a (typed_form s a) v)
     (values_kept b (typed_form s b) w) (λ a b v w. (v, w))
 
 mutual
-  form_kept : (s : Sight) → SeesValues s → (f : Form) → FormNumbered f → Gives (FormKept f) (typed_form s f)
+  form_kept : (s : AnnotationSight) → SeesAll s → (f : Form) → FormNumbered f → Gives (FormKept f) (typed_form s f)
   form_kept s k (read.Number at n) h = (h, omega arith, bare None)
   form_kept s k (read.Letter at n) h = (h, omega arith, bare None)
   form_kept s k (read.Truth at b) h = (tt, omega arith)
-  form_kept s k (read.Name at x) h = name_kept s k at x.name
+  form_kept s k (read.Name at x) h = name_kept s k.here at x.name
   form_kept s k (read.Unary at op a) h =
       gives_one (FormKept a) (FormKept (read.Unary at op a)) (typed_form s a) (unary_on at op) (form_kept s k a h) (unary_kept at op (tokens_of_form a) (operator_of_form a))
   form_kept s k (read.Binary at op a b) h =
-      two_kept (FormKept (read.Binary at op a b)) s a b (form_kept s k a h.0) (form_kept s k b h.1) (λ p. binary_on s at op p.0 p.1) (binary_kept s at op (tokens_of_form a) (tokens_of_form b) (operator_of_form a) (operator_of_form b))
+      two_kept (FormKept (read.Binary at op a b)) s a b (form_kept s k a h.0) (form_kept s k b h.1) (λ p. binary_on s.here at op p.0 p.1) (binary_kept s.here at op (tokens_of_form a) (tokens_of_form b) (operator_of_form a) (operator_of_form b))
   form_kept s k (read.Cast at Integers a) h =
       one_kept (FormKept (read.Cast at Integers a)) s a (form_kept s k a h) (cast_integer at Integers) (cast_integer_kept at Integers (tokens_of_form a) (operator_of_form a))
   form_kept s k (read.Cast at (OfC to) a) h =
       let n = tokens_of_form a in
-      gives_limited (SortedKept (suc n) None) s at (known_type s to) _
-      (gives_pair Any (FormKept a) (SortedKept (suc n) None) (typed_type s at to) (value_in (typed_form s a)) (λ p. cast at p.0 p.1) (anything (typed_type s at to)) (values_kept a (typed_form s a) (form_kept s k a h))
+      gives_limited (SortedKept (suc n) None) s.here at (known_type s.here to) _
+      (gives_pair Any (FormKept a) (SortedKept (suc n) None) (typed_type s.here at to) (value_in (typed_form s a)) (λ p. cast at p.0 p.1) (anything (typed_type s.here at to)) (values_kept a (typed_form s a) (form_kept s k a h))
       (λ t x v w. cast_kept at t n (operator_of_form a) x w))
   form_kept s k (read.SizeOf at u) h =
-      gives_limited (SortedKept 1 None) s at (known_type s u) _
-      (gives_one Any (SortedKept 1 None) (typed_type s at u) (size_in s at) (anything (typed_type s at u)) (λ t v. gives_sized (SortedKept 1 None) s at t _ (λ e. (natural _, omega arith, bare None))))
+      gives_limited (SortedKept 1 None) s.here at (known_type s.here u) _
+      (gives_one Any (SortedKept 1 None) (typed_type s.here at u) (size_in s.here at) (anything (typed_type s.here at u)) (λ t v. gives_sized (SortedKept 1 None) s.here at t _ (λ e. (natural _, omega arith, bare None))))
   form_kept s k (read.Chain at a links) h =
       let m = tokens_of_form a in
       let n = tokens_of_form_links links in
@@ -455,13 +522,13 @@ mutual
       let n = tokens_of_form b in
       gives_pair (FormKept j) (λ (p : Sorted × Sorted). FormKept a p.0 × FormKept b p.1) (SortedKept (suc (l + m + n)) None) (value_in (typed_form s j))
       (pair_of (value_in (typed_form s a)) (value_in (typed_form s b))) (λ p. chosen at p.0 (p.1).0 (p.1).1) (values_kept j (typed_form s j) (form_kept s k j h.0)) (pair_kept s a b (form_kept s k a h.1) (form_kept s k b h.2))
-      (λ x p u w. chosen_kept s at l m n (operator_of_form j) (operator_of_form a) (operator_of_form b) x p.0 p.1 u w.0 w.1)
+      (λ x p u w. chosen_kept s.here at l m n (operator_of_form j) (operator_of_form a) (operator_of_form b) x p.0 p.1 u w.0 w.1)
   form_kept s k (read.Null at) h = (tt, omega arith, bare None)
   form_kept s k (read.Index at a b) h =
-      two_kept (FormKept (read.Index at a b)) s a b (form_kept s k a h.0) (form_kept s k b h.1) (λ p. index s at p.0 p.1) (index_kept s at (tokens_of_form a) (tokens_of_form b) (operator_of_form a) (operator_of_form b))
+      two_kept (FormKept (read.Index at a b)) s a b (form_kept s k a h.0) (form_kept s k b h.1) (λ p. index s.here at p.0 p.1) (index_kept s.here at (tokens_of_form a) (tokens_of_form b) (operator_of_form a) (operator_of_form b))
   form_kept s k (read.Dot at a m) h =
-      gives_one (FormKept a) (FormKept (read.Dot at a m)) (typed_form s a) (dot s at m) (form_kept s k a h) (dot_kept s at m (tokens_of_form a) (operator_of_form a))
-  form_kept s k (read.Arrow at a m) h = one_kept (FormKept (read.Arrow at a m)) s a (form_kept s k a h) (arrow s at m) (arrow_kept s at m (tokens_of_form a) (operator_of_form a))
+      gives_one (FormKept a) (FormKept (read.Dot at a m)) (typed_form s a) (dot s.here at m) (form_kept s k a h) (dot_kept s.here at m (tokens_of_form a) (operator_of_form a))
+  form_kept s k (read.Arrow at a m) h = one_kept (FormKept (read.Arrow at a m)) s a (form_kept s k a h) (arrow s.here at m) (arrow_kept s.here at m (tokens_of_form a) (operator_of_form a))
   form_kept s k (read.Told at f a) h =
       let n = tokens_of_form a in
       let o = operator_of_form a in
@@ -470,8 +537,14 @@ mutual
       gives_one (ZoneKept (tokens_of_form_zone z)) (FormKept (read.Asks at q z)) (typed_zone s q at z) _ (zone_kept s k q at z h) (λ y w. (w.0, omega (arith, w.1)))
   form_kept s k (read.Separated at zs) h =
       gives_one (ZonesKept (tokens_of_form_zones zs)) (FormKept (read.Separated at zs)) (typed_zones s at zs) _ (zones_kept s k at zs h) (λ y w. (w.0, omega (arith, w.1)))
+  form_kept s k (read.Result at) h = result_kept s.clause at
+  form_kept s k (read.Old at a) h =
+      gives_where (SortedKept (suc (tokens_of_form a)) None) (has_old s.clause) (no_label at) _ (λ e.
+      labelled_kept s at at (tokens_of_form a) (operator_of_form a) (λ b. has_past b a) (λ u. typed_form u a) (λ l u g. form_kept u (sees_at s k l u g) a h) (Some label.Pre))
+  form_kept s k (read.At at a place l) h =
+      labelled_kept s at place (tokens_of_form a) (operator_of_form a) (λ b. has_past b a) (λ u. typed_form u a) (λ j u g. form_kept u (sees_at s k j u g) a h) (label_named s l)
 
-  links_kept : (s : Sight) → SeesValues s → (left : Side) (links : FormLinks) → FormLinksNumbered links → Gives (LinksKept (tokens_of_form_links links)) (typed_links s left links)
+  links_kept : (s : AnnotationSight) → SeesAll s → (left : Side) (links : FormLinks) → FormLinksNumbered links → Gives (LinksKept (tokens_of_form_links links)) (typed_links s left links)
   links_kept s k left read.NoLink h = (tt, omega arith)
   links_kept s k left (read.Linked at r b rest) h =
       let m = tokens_of_form b in
@@ -482,16 +555,16 @@ mutual
       (gives_one (FormKept b) (TermKept m o) (value_in (typed_form s b)) (right_side at left side) (values_kept b (typed_form s b) (form_kept s k b h.0)) (right_kept at left side m o)) (links_kept s k side rest h.1)
       (λ t rest v w. ((v.0, w.0), omega (arith, v.1, w.1)))
 
-  zone_kept : (s : Sight) → SeesValues s → (q : MemoryQuestion) (at : Place) (z : FormZone) → FormZoneNumbered z → Gives (ZoneKept (tokens_of_form_zone z)) (typed_zone s q at z)
+  zone_kept : (s : AnnotationSight) → SeesAll s → (q : MemoryQuestion) (at : Place) (z : FormZone) → FormZoneNumbered z → Gives (ZoneKept (tokens_of_form_zone z)) (typed_zone s q at z)
   zone_kept s k q at (read.Object a) h =
-      gives_one (FormKept a) (ZoneKept (tokens_of_form a)) (value_in (typed_form s a)) (object_zone s q at) (values_kept a (typed_form s a) (form_kept s k a h)) (object_kept s q at (tokens_of_form a) (operator_of_form a))
+      gives_one (FormKept a) (ZoneKept (tokens_of_form a)) (value_in (typed_form s a)) (object_zone s.here q at) (values_kept a (typed_form s a) (form_kept s k a h)) (object_kept s.here q at (tokens_of_form a) (operator_of_form a))
   zone_kept s k q at (read.Elements plus a lo hi) h =
       let whole = ZoneKept (suc (tokens_of_form a + tokens_of_form lo + tokens_of_form hi)) in
       gives_pair (FormKept a) (λ (p : Sorted × Sorted). FormKept lo p.0 × FormKept hi p.1) whole (value_in (typed_form s a)) (pair_of (value_in (typed_form s lo)) (value_in (typed_form s hi)))
-      (λ p. elements_zone s q plus p.0 (p.1).0 (p.1).1) (values_kept a (typed_form s a) (form_kept s k a h.0)) (pair_kept s lo hi (form_kept s k lo h.1) (form_kept s k hi h.2))
-      (λ x p u w. elements_kept s q plus (tokens_of_form a) (tokens_of_form lo) (tokens_of_form hi) (operator_of_form a) (operator_of_form lo) (operator_of_form hi) x p.0 p.1 u w.0 w.1)
+      (λ p. elements_zone s.here q plus p.0 (p.1).0 (p.1).1) (values_kept a (typed_form s a) (form_kept s k a h.0)) (pair_kept s lo hi (form_kept s k lo h.1) (form_kept s k hi h.2))
+      (λ x p u w. elements_kept s.here q plus (tokens_of_form a) (tokens_of_form lo) (tokens_of_form hi) (operator_of_form a) (operator_of_form lo) (operator_of_form hi) x p.0 p.1 u w.0 w.1)
 
-  zones_kept : (s : Sight) → SeesValues s → (at : Place) (zs : FormZones) → FormZonesNumbered zs → Gives (ZonesKept (tokens_of_form_zones zs)) (typed_zones s at zs)
+  zones_kept : (s : AnnotationSight) → SeesAll s → (at : Place) (zs : FormZones) → FormZonesNumbered zs → Gives (ZonesKept (tokens_of_form_zones zs)) (typed_zones s at zs)
   zones_kept s k at read.NoZone h = (tt, omega arith)
   zones_kept s k at (read.Another z rest) h =
       let m = tokens_of_form_zone z in
@@ -506,32 +579,32 @@ clause_holds_kept n o (ATerm t) w = holds_kept (place_of_term t) n o t w
 clause_holds_kept n o (APredicate p) w = w
 clause_holds_kept n o (APlace t) w = holds_kept (place_of_term t) n o t w
 
-clause_kept : (s : Sight) → SeesValues s → (b : ClauseBody) → IsShortReading b → Gives IsShortClause (typed_clause s b)
+pub clause_kept : (s : AnnotationSight) → SeesAll s → (b : ClauseBody) → IsShortReading b → Gives IsShortClause (typed_clause s b)
 clause_kept s k (Raw f) h = gives_one (FormKept f) IsShortClause (value_in (typed_form s f)) _ (values_kept f (typed_form s f) (form_kept s k f h.numbered)) (λ a v.
     gives_one (PredicateKept (tokens_of_form f)) IsShortClause (clause_holds a) (λ p. Good (Holds p)) (clause_holds_kept (tokens_of_form f) (operator_of_form f) a v) (λ p w. record { numbered = w.0; short = omega (arith, w.1, h.short) }))
 clause_kept s k (Holds p) h = absurd h
 clause_kept s k (Value t) h = absurd h
 clause_kept s k (Behaviors names) h = absurd h
 
-asserts_kept : (s : Sight) → SeesValues s → (annots : List Annotation) → AreReadAsserts annots → Gives AreAsserts (typed_annotations s annots)
+asserts_kept : (s : AnnotationSight) → SeesAll s → (annots : List Annotation) → AreReadAsserts annots → Gives AreAsserts (typed_annotations s annots)
 asserts_kept s k [] h = tt
 asserts_kept s k (a ∷ rest) h =
     gives_one IsShortClause AreAsserts (typed_clause s a.body) (λ b. one_part (typed_annotations s rest) (λ rest. Good (record a { body = b } ∷ rest))) (clause_kept s k a.body h.0.body) (λ b v.
     gives_one AreAsserts AreAsserts (typed_annotations s rest) (λ rest. Good (record a { body = b } ∷ rest)) (asserts_kept s k rest h.1) (λ rest w. (record { kind = h.0.kind; body = v }, w)))
 
-none_kept : (s : Sight) (annots : List Annotation) → annots ≡ [] → Gives (λ b. b ≡ []) (typed_annotations s annots)
+none_kept : (s : AnnotationSight) (annots : List Annotation) → annots ≡ [] → Gives (λ b. b ≡ []) (typed_annotations s annots)
 none_kept s annots e = subst (λ a. Gives (λ b. b ≡ []) (typed_annotations s a)) (sym e) refl
 
 -- what is kept of annotations
-pub record AreSameNotes (s : Sight) (a b : List Annotation) : Type 0 where
-  pub asserts : SeesValues s → AreReadAsserts a → AreAsserts b
+pub record AreSameNotes (s : AnnotationSight) (a b : List Annotation) : Type 0 where
+  pub asserts : SeesAll s → AreReadAsserts a → AreAsserts b
   pub none : a ≡ [] → b ≡ []
 
-pub annotations_kept : (s : Sight) (annots : List Annotation) → Gives (AreSameNotes s annots) (typed_annotations s annots)
+pub annotations_kept : (s : AnnotationSight) (annots : List Annotation) → Gives (AreSameNotes s annots) (typed_annotations s annots)
 annotations_kept s annots =
-    by (typed_annotations s annots) (gives_if (SeesValues s × AreReadAsserts annots) AreAsserts (typed_annotations s annots) (λ h. asserts_kept s h.0 annots h.1))
+    by (typed_annotations s annots) (gives_if (SeesAll s × AreReadAsserts annots) AreAsserts (typed_annotations s annots) (λ h. asserts_kept s h.0 annots h.1))
     (gives_if (annots ≡ []) (λ b. b ≡ []) (typed_annotations s annots) (none_kept s annots))
   where
-    by : (c : Checked (List Annotation)) → Gives (λ b. SeesValues s × AreReadAsserts annots → AreAsserts b) c → Gives (λ b. annots ≡ [] → b ≡ []) c → Gives (AreSameNotes s annots) c
+    by : (c : Checked (List Annotation)) → Gives (λ b. SeesAll s × AreReadAsserts annots → AreAsserts b) c → Gives (λ b. annots ≡ [] → b ≡ []) c → Gives (AreSameNotes s annots) c
     by (Good b) f g = record { asserts = λ k h. f (k, h); none = g }
     by (Bad x xs) f g = tt

@@ -1,5 +1,6 @@
 -- Annotations that are typed are well typed.
-use Rattle.std.proofs.Common.{◌≡◌, ℕ, ◌≤◌, ◌⊎◌, ◌&&◌, ◌||◌, ℤ, pos, refl, sym, ap, subst, arith, inl, inr, List, [], ◌∷◌, Option, Some, None, Bool, true, false, cond, not}
+use Rattle.std.proofs.Common.{◌≡◌, ℕ, ◌⊎◌, ◌&&◌, ◌||◌, ℤ, pos, refl, sym, ap, subst, arith, inl, inr, List, [], ◌∷◌, Option, Some, None, Bool, true, false, cond, not}
+use Rattle.std.specs.Prelude.{option_map}
 use Rattle.std.proofs.lemmas.Bool.{leb-true}
 use Rattle.std.proofs.lemmas.Bool.Decides.{Decides-int_eq, nat_tests}
 use Rattle.std.specs.Ordering.{int_eq}
@@ -10,41 +11,44 @@ use Rattle.c_syntax.specs.declared.expression.UnOp.{UnOp}
 use Rattle.c_syntax.specs.declared.expression.UnOp.TheVariants as unary
 use Rattle.c_syntax.specs.declared.expression.BinOp.{BinOp}
 use Rattle.c_syntax.specs.declared.expression.BinOp.TheVariants as operator
-use Rattle.c_syntax.specs.declared.logic.BlockFact.{BlockFact}
 use Rattle.c_syntax.specs.declared.logic.Connective.{Connective}
+use Rattle.c_syntax.specs.declared.logic.Label.{Label}
+use Rattle.c_syntax.specs.declared.logic.Label.TheVariants as label
 use Rattle.c_syntax.specs.declared.logic.MemoryQuestion.{MemoryQuestion}
 use Rattle.c_syntax.specs.declared.logic.MemoryQuestion.TheVariants.{Valid, ValidRead, Initialized}
-use Rattle.c_syntax.specs.declared.logic.PointerOp.TheVariants.{Plus, Minus}
 use Rattle.c_syntax.specs.Ctypes.{PlainType, Void, Int, Ptr, Array, Struct, StructTag, EnumTag}
 use Rattle.c_syntax.specs.Ctypes as ctype
 use Rattle.c_syntax.specs.Formulas as read
 use Rattle.c_syntax.specs.Formulas.{CastType, Integers, OfC, Form, FormLinks, FormZone, FormZones}
-use Rattle.c_syntax.specs.Logic.{LogicTerm, Number, Chain, Deref, Links, NoLink, Linked, Predicate, Asks, Separated, Zone, Zones, Another, ClauseBody, Raw, Holds, Value, Annotation, Behaviors}
+use Rattle.c_syntax.specs.Logic.{LogicTerm, Number, Chain, Deref, Links, NoLink, Linked, Predicate, Another, ClauseBody, Raw, Holds, Value, Annotation, Behaviors}
 use Rattle.c_syntax.specs.Layouts.{size_of, align_of, member_among, members_of}
 use Rattle.c_model.specs.Integers.{integer_type}
 use Rattle.c_model.specs.Library.{library_constant, is_there}
 use Rattle.c_model.specs.Checked.{Fault, Checked, Good, Bad, faulty, given, where_so, one_part, pair_of}
 use Rattle.c_model.specs.ExpressionTyping as c
-use Rattle.c_model.specs.ExpressionTyping.{no_name, no_type, Entity, AnObject, AnEnumerator, Sight, name_at, entity_named, is_null_word, is_void, is_struct, is_scalar, besides, is_within_limits, most_bytes, too_large, limited, typed_type, known_type}
+use Rattle.c_model.specs.ExpressionTyping.{no_name, no_type, use_as, is_among, Entity, AnObject, AnEnumerator, Sight, name_at, entity_named, is_null_word, is_void, is_struct, is_scalar, besides, is_within_limits, most_bytes, too_large, limited}
+use Rattle.c_model.specs.ExpressionTyping.{typed_type, known_type}
 use Rattle.c_model.specs.PredicateTyping.{range_to_infer, place_of_term, Sorted, ATerm, APredicate, APlace, ValueSort, AnInteger, APointer, NoValue, type_of_term, sort_of_term, is_integer, pointee, as_value, value_in, as_term, as_integer, as_pointer}
-use Rattle.c_model.specs.PredicateTyping.{integer_holds, as_predicate, object_place, number, null, library_term, term_named, on_integer, on_integers, deref, address, address_at, member_at, member_of, dot, arrow, are_known, with_terms}
+use Rattle.c_model.specs.PredicateTyping.{integer_holds, as_predicate, variable, formal_value, object_place, result_use, result_in, no_label, has_past, has_old, at_label, labelled, number, null, library_term, term_named, on_integer, on_integers}
+use Rattle.c_model.specs.PredicateTyping.{deref, address, address_at, member_at, member_of, dot, arrow, are_known, with_terms}
 use Rattle.c_model.specs.PredicateTyping.{sum_of, difference_of, element_of, sum, difference, index, unary_on, binary_on, cast_integer, cast_pointer, cast, size_in, connected, choice_target, pointer_choice, choice_of_terms, branch, choice_between}
 use Rattle.c_model.specs.PredicateTyping.{chosen, Side, AnySide, IntegerSide, ZeroSide, PointerSide, OtherSide, side_of_sort, side_of_sorted, side_of, are_related, right_side, related, told, where_asked, object_zone, elements_zone}
 use Rattle.c_model.specs.PredicateTyping.{is_alignment, is_measured, where_measured, typed_form, typed_links, typed_zone, typed_zones, clause_holds, typed_clause, typed_annotations}
 use Rattle.c_model.specs.TypedPredicates.{IsIntegerTerm, IsPointerTerm, PointsTo, IsPlace, IsZeroTerm, AreRelated, IsOnInteger, IsCastType, OfInteger, OfPointer, BetweenIntegers, BetweenPointers, TermTyped, LinksTyped, ZoneTyped, ZonesTyped}
-use Rattle.c_model.specs.TypedPredicates.{IsSize, IsExtent, IsAlignment, HasLink, PredicateTyped, ClauseTyped, AnnotationsTyped, IsRead, AreRead, TypedAnnotationsAreKnown}
+use Rattle.c_model.specs.AnnotationSights.{ClauseSight, InBody, AtEntry, AtEnd, UnderLabel, AnnotationSight, formals_in, under_label, beginning, sight_at, label_named, is_past}
+use Rattle.c_model.specs.TypedPredicates.{TermDenotes, IsResult, IsSize, IsAlignment, PredicateTyped, ClauseTyped, AnnotationsTyped, IsRead, AreRead, TypedAnnotationsAreKnown}
 use Rattle.c_model.proofs.TypedParts.{Gives, gives_of, gives_one, gives_both, gives_given, gives_where, gives_sized, and_true, there_is}
 
 -- what is known of a form by its sort
-abbrev SortedTyped : Sight → Sorted → Type 0
+abbrev SortedTyped : AnnotationSight → Sorted → Type 0
 SortedTyped s (ATerm t) = TermTyped s t
 SortedTyped s (APredicate p) = PredicateTyped s p
 SortedTyped s (APlace t) = IsPlace t × TermTyped s t
 
-abbrev IntegerTyped : Sight → LogicTerm → Type 0
+abbrev IntegerTyped : AnnotationSight → LogicTerm → Type 0
 IntegerTyped s t = IsIntegerTerm t × TermTyped s t
 
-abbrev PointerTyped : Sight → PlainType × LogicTerm → Type 0
+abbrev PointerTyped : AnnotationSight → PlainType × LogicTerm → Type 0
 PointerTyped s p = PointsTo p.0 p.1 × TermTyped s p.1
 
 -- ---- tests of sorts
@@ -71,7 +75,7 @@ struct_is (EnumTag x at) e = absurd cc
 
 -- ---- what forms demand of their parts
 
-value_well : (s : Sight) (a : Sorted) → SortedTyped s a → Gives (SortedTyped s) (as_value a)
+value_well : (s : AnnotationSight) (a : Sorted) → SortedTyped s a → Gives (SortedTyped s) (as_value a)
 value_well s (ATerm t) w = w
 value_well s (APredicate p) w = w
 value_well s (APlace t) w = by (sort_of_term t)
@@ -81,26 +85,26 @@ value_well s (APlace t) w = by (sort_of_term t)
     by (APointer u) = w.1
     by NoValue = tt
 
-values_well : (s : Sight) (k : Checked Sorted) → Gives (SortedTyped s) k → Gives (SortedTyped s) (value_in k)
+values_well : (s : AnnotationSight) (k : Checked Sorted) → Gives (SortedTyped s) k → Gives (SortedTyped s) (value_in k)
 values_well s k w = gives_one (SortedTyped s) (SortedTyped s) k as_value w (value_well s)
 
-term_well : (s : Sight) (at : Place) (a : Sorted) → SortedTyped s a → Gives (TermTyped s) (as_term at a)
+term_well : (s : AnnotationSight) (at : Place) (a : Sorted) → SortedTyped s a → Gives (TermTyped s) (as_term at a)
 term_well s at (ATerm t) w = w
 term_well s at (APredicate p) w = tt
 term_well s at (APlace t) w = w.1
 
-integer_well : (s : Sight) (at : Place) (a : Sorted) → SortedTyped s a → Gives (IntegerTyped s) (as_integer at a)
+integer_well : (s : AnnotationSight) (at : Place) (a : Sorted) → SortedTyped s a → Gives (IntegerTyped s) (as_integer at a)
 integer_well s at a w =
     gives_one (TermTyped s) (IntegerTyped s) (as_term at a) _ (term_well s at a w) (λ t v. gives_where (IntegerTyped s) (is_integer (sort_of_term t)) (no_type at) (Good t) (λ e. (integer_is (sort_of_term t) e, v)))
 
-pointer_well : (s : Sight) (at : Place) (a : Sorted) → SortedTyped s a → Gives (PointerTyped s) (as_pointer at a)
+pointer_well : (s : AnnotationSight) (at : Place) (a : Sorted) → SortedTyped s a → Gives (PointerTyped s) (as_pointer at a)
 pointer_well s at a w =
     gives_one (TermTyped s) (PointerTyped s) (as_term at a) _ (term_well s at a w) (λ t v. gives_given (PointerTyped s) (pointee (sort_of_term t)) (no_type at) (λ u. Good (u, t)) (λ u e. (pointee_is (sort_of_term t) u e, v)))
 
-holds_well : (s : Sight) (at : Place) (t : LogicTerm) → TermTyped s t → Gives (PredicateTyped s) (integer_holds at t)
+holds_well : (s : AnnotationSight) (at : Place) (t : LogicTerm) → TermTyped s t → Gives (PredicateTyped s) (integer_holds at t)
 holds_well s at t w = gives_where (PredicateTyped s) (is_integer (sort_of_term t)) (no_type at) _ (λ e. (integer_is (sort_of_term t) e, w))
 
-predicate_well : (s : Sight) (at : Place) (a : Sorted) → SortedTyped s a → Gives (PredicateTyped s) (as_predicate at a)
+predicate_well : (s : AnnotationSight) (at : Place) (a : Sorted) → SortedTyped s a → Gives (PredicateTyped s) (as_predicate at a)
 predicate_well s at (ATerm t) w = holds_well s at t w
 predicate_well s at (APredicate p) w = w
 predicate_well s at (APlace t) w = holds_well s at t w.1
@@ -139,99 +143,141 @@ gives_measured R s at u c h =
 
 -- ---- names
 
-null_well : (s : Sight) (at : Place) (b : Bool) → Gives (SortedTyped s) (cond b (Good (null at)) (faulty (no_name at)))
+null_well : (s : AnnotationSight) (at : Place) (b : Bool) → Gives (SortedTyped s) (cond b (Good (null at)) (faulty (no_name at)))
 null_well s at true = refl
 null_well s at false = tt
 
-library_well : (s : Sight) (at : Place) (x : ℕ) → Gives (SortedTyped s) (library_term s at x)
-library_well s at x = by (library_constant (name_at s.names x))
+library_well : (s : AnnotationSight) (at : Place) (x : ℕ) → Gives (SortedTyped s) (library_term s.here at x)
+library_well s at x = by (library_constant (name_at s.here.names x))
   where
-    by : (o : Option (CInt × ℤ)) → Gives (SortedTyped s) (elim o [ Some k ↦ Good (number at k.1) | None ↦ cond (is_null_word s x) (Good (null at)) (faulty (no_name at)) ])
+    by : (o : Option (CInt × ℤ)) → Gives (SortedTyped s) (elim o [ Some k ↦ Good (number at k.1) | None ↦ cond (is_null_word s.here x) (Good (null at)) (faulty (no_name at)) ])
     by (Some k) = refl
-    by None = null_well s at (is_null_word s x)
+    by None = null_well s at (is_null_word s.here x)
 
-named_well : (s : Sight) (at : Place) (x : ℕ) → Gives (SortedTyped s) (term_named s at x)
-named_well s at x = by (entity_named x s.entities) refl
+-- a parameter in an `ensures` is read where the call begins
+formal_well : (s : AnnotationSight) (k : ClauseSight) → s.clause ≡ k → (at : Place) (x : ℕ) (b : c.Object) → entity_named x s.here.entities ≡ Some (AnObject b) → TermTyped s (formal_value k (variable at x b))
+formal_well s k is at x b e = by k is
   where
-    by : (o : Option Entity) → entity_named x s.entities ≡ o → Gives (SortedTyped s) (elim o [
-      | Some e ↦ elim e [ AnObject b ↦ Good (object_place at x b) | AnEnumerator k ↦ Good (number at k.value) ]
-      | None ↦ library_term s at x
+    denoted : TermDenotes s.here (Some b.ctype) (use_as x b.decl)
+    denoted = record { ctype = b.ctype; is = refl; denotes = record { object = b; found = e; decl = refl; ctype = refl } }
+
+    by : (k : ClauseSight) → s.clause ≡ k → TermTyped s (formal_value k (variable at x b))
+    by (InBody v) is = denoted
+    by AtEntry is = denoted
+    by (AtEnd formals t) is = (under_label s s.here, ap (λ j. option_map (under_label s) (beginning s.here j)) is, refl, denoted)
+    by (UnderLabel formals) is = denoted
+
+entity_well : (s : AnnotationSight) (at : Place) (x : ℕ) (b : c.Object) → entity_named x s.here.entities ≡ Some (AnObject b) → SortedTyped s (object_place s.clause at x b)
+entity_well s at x b e = by (is_among b.decl (formals_in s.clause))
+  where
+    by : (f : Bool) → SortedTyped s (cond f (ATerm (formal_value s.clause (variable at x b))) (APlace (variable at x b)))
+    by true = formal_well s s.clause refl at x b e
+    by false = (tt, record { ctype = b.ctype; is = refl; denotes = record { object = b; found = e; decl = refl; ctype = refl } })
+
+named_well : (s : AnnotationSight) (at : Place) (x : ℕ) → Gives (SortedTyped s) (term_named s at x)
+named_well s at x = by (entity_named x s.here.entities) refl
+  where
+    by : (o : Option Entity) → entity_named x s.here.entities ≡ o → Gives (SortedTyped s) (elim o [
+      | Some e ↦ elim e [ AnObject b ↦ Good (object_place s.clause at x b) | AnEnumerator k ↦ Good (number at k.value) ]
+      | None ↦ library_term s.here at x
     ])
-    by (Some (AnObject b)) e = (tt, record { ctype = b.ctype; is = refl; denotes = record { object = b; found = e; decl = refl; ctype = refl } })
+    by (Some (AnObject b)) e = entity_well s at x b e
     by (Some (AnEnumerator k)) e = refl
     by None e = library_well s at x
 
+-- ---- results, and terms at labels
+
+not_true : (b : Bool) → not b ≡ true → b ≡ false
+not_true true e = absurd cc
+not_true false e = refl
+
+result_well : (s : AnnotationSight) (k : ClauseSight) → s.clause ≡ k → (at : Place) → Gives (SortedTyped s) (result_in k at)
+result_well s (InBody v) is at = tt
+result_well s AtEntry is at = tt
+result_well s (AtEnd formals t) is at =
+    gives_where (SortedTyped s) (not (is_void t)) (no_type at) _ (λ e. subst (λ (k : ClauseSight). IsResult k (Some t) result_use) (sym is) (refl, refl, not_true (is_void t) e))
+result_well s (UnderLabel formals) is at = tt
+
+labelled_well : (s : AnnotationSight) (at place : Place) (refused : Bool → Bool) (k : AnnotationSight → Checked Sorted) → ((l : Label) (u : AnnotationSight) → sight_at s l ≡ Some u → Gives (SortedTyped u) (k u)) → (l : Option Label)
+    → Gives (SortedTyped s) (labelled s at place l refused k)
+labelled_well s at place refused k h None =
+    gives_where (SortedTyped s) (not (refused true)) (no_label at) _ (λ e. gives_one (SortedTyped s) (SortedTyped s) (value_in (k s)) _ (values_well s (k s) (h label.Here s refl)) (λ a v. tt))
+labelled_well s at place refused k h (Some l) =
+    gives_where (SortedTyped s) (not (refused (is_past l))) (no_label at) _ (λ e. gives_given (SortedTyped s) (sight_at s l) (no_label at) _ (λ u f.
+    gives_one (SortedTyped u) (SortedTyped s) (value_in (k u)) (at_label at l) (values_well u (k u) (h l u f)) (λ a v.
+    gives_one (TermTyped u) (SortedTyped s) (as_term at a) _ (term_well u at a v) (λ t x. (u, f, refl, x)))))
+
 -- ---- operators
 
-on_integer_well : (s : Sight) (at : Place) (op : UnOp) → IsOnInteger op → (a : Sorted) → SortedTyped s a → Gives (SortedTyped s) (on_integer at op a)
+on_integer_well : (s : AnnotationSight) (at : Place) (op : UnOp) → IsOnInteger op → (a : Sorted) → SortedTyped s a → Gives (SortedTyped s) (on_integer at op a)
 on_integer_well s at op is a w = gives_one (IntegerTyped s) (SortedTyped s) (as_integer at a) _ (integer_well s at a w) (λ t v. (refl, is, v.0, v.1))
 
-on_integers_well : (s : Sight) (at : Place) (op : BinOp) (a b : Sorted) → SortedTyped s a → SortedTyped s b → Gives (SortedTyped s) (on_integers at op a b)
+on_integers_well : (s : AnnotationSight) (at : Place) (op : BinOp) (a b : Sorted) → SortedTyped s a → SortedTyped s b → Gives (SortedTyped s) (on_integers at op a b)
 on_integers_well s at op a b v w =
     gives_one (IntegerTyped s) (SortedTyped s) (as_integer at a) _ (integer_well s at a v) (λ t x.
     gives_one (IntegerTyped s) (SortedTyped s) (as_integer at b) _ (integer_well s at b w) (λ u y. (refl, x.0, y.0, x.1, y.1)))
 
-deref_well : (s : Sight) (at : Place) (a : Sorted) → SortedTyped s a → Gives (SortedTyped s) (deref at a)
+deref_well : (s : AnnotationSight) (at : Place) (a : Sorted) → SortedTyped s a → Gives (SortedTyped s) (deref at a)
 deref_well s at a w =
     gives_one (PointerTyped s) (SortedTyped s) (as_pointer at a) _ (pointer_well s at a w) (λ p v. gives_where (SortedTyped s) (not (is_void p.0)) (no_type at) _ (λ e. (tt, (p.0, refl, v.0, v.1))))
 
-address_well : (s : Sight) (at : Place) (a : Sorted) → SortedTyped s a → Gives (SortedTyped s) (address at a)
+address_well : (s : AnnotationSight) (at : Place) (a : Sorted) → SortedTyped s a → Gives (SortedTyped s) (address at a)
 address_well s at (ATerm t) w = tt
 address_well s at (APredicate p) w = tt
 address_well s at (APlace t) w = gives_given (SortedTyped s) (type_of_term t) (no_type at) (address_at at t) (λ u e. (u, refl, e, w.0, w.1))
 
-member_well : (s : Sight) (at : Place) (m : ℕ) (t : LogicTerm) (u : PlainType) → type_of_term t ≡ Some u → IsPlace t → TermTyped s t → Gives (SortedTyped s) (member_of s at m t u)
+member_well : (s : AnnotationSight) (at : Place) (m : ℕ) (t : LogicTerm) (u : PlainType) → type_of_term t ≡ Some u → IsPlace t → TermTyped s t → Gives (SortedTyped s) (member_of s.here at m t u)
 member_well s at m t u e p w =
     gives_where (SortedTyped s) (is_struct u) (no_type at) _ (λ h.
-    gives_sized (SortedTyped s) s at u _ (λ k.
-    gives_given (SortedTyped s) (member_among m (members_of s.structs u)) (no_name at) (member_at at t) (λ f g.
+    gives_sized (SortedTyped s) s.here at u _ (λ k.
+    gives_given (SortedTyped s) (member_among m (members_of s.here.structs u)) (no_name at) (member_at at t) (λ f g.
     gives_where (SortedTyped s) (nat_le f.offset most_bytes) (too_large at) _ (λ j.
     let is = struct_is u h in
     (tt, (f.ctype, refl, is.0, subst (λ (v : PlainType). type_of_term t ≡ Some v) is.1 e, p, w, leb-true f.offset most_bytes j))))))
 
-dot_well : (s : Sight) (at : Place) (m : ℕ) (a : Sorted) → SortedTyped s a → Gives (SortedTyped s) (dot s at m a)
+dot_well : (s : AnnotationSight) (at : Place) (m : ℕ) (a : Sorted) → SortedTyped s a → Gives (SortedTyped s) (dot s.here at m a)
 dot_well s at m (ATerm t) w = tt
 dot_well s at m (APredicate p) w = tt
-dot_well s at m (APlace t) w = gives_given (SortedTyped s) (type_of_term t) (no_type at) (member_of s at m t) (λ u e. member_well s at m t u e w.0 w.1)
+dot_well s at m (APlace t) w = gives_given (SortedTyped s) (type_of_term t) (no_type at) (member_of s.here at m t) (λ u e. member_well s at m t u e w.0 w.1)
 
-arrow_well : (s : Sight) (at : Place) (m : ℕ) (a : Sorted) → SortedTyped s a → Gives (SortedTyped s) (arrow s at m a)
+arrow_well : (s : AnnotationSight) (at : Place) (m : ℕ) (a : Sorted) → SortedTyped s a → Gives (SortedTyped s) (arrow s.here at m a)
 arrow_well s at m a w =
     gives_one (PointerTyped s) (SortedTyped s) (as_pointer at a) _ (pointer_well s at a w) (λ p v. member_well s at m (Deref at (Some p.0) range_to_infer p.1) p.0 refl tt (p.0, refl, v.0, v.1))
 
 -- ---- pointers and integers
 
 -- goes on with two terms where what they point to is known
-known_well : (s : Sight) (at : Place) (a b : Sorted) (k : LogicTerm → LogicTerm → Checked Sorted) → SortedTyped s a → SortedTyped s b
+known_well : (s : AnnotationSight) (at : Place) (a b : Sorted) (k : LogicTerm → LogicTerm → Checked Sorted) → SortedTyped s a → SortedTyped s b
     → ((t u : LogicTerm) → TermTyped s t → TermTyped s u → Gives (SortedTyped s) (k t u))
-    → Gives (SortedTyped s) (with_terms s at a b k)
+    → Gives (SortedTyped s) (with_terms s.here at a b k)
 known_well s at a b k v w h =
-    gives_where (SortedTyped s) (are_known s a b) (no_name at) (one_part (as_term at a) (λ t. one_part (as_term at b) (k t))) (λ e.
+    gives_where (SortedTyped s) (are_known s.here a b) (no_name at) (one_part (as_term at a) (λ t. one_part (as_term at b) (k t))) (λ e.
     gives_one (TermTyped s) (SortedTyped s) (as_term at a) (λ t. one_part (as_term at b) (k t)) (term_well s at a v) (λ t x.
     gives_one (TermTyped s) (SortedTyped s) (as_term at b) (k t) (term_well s at b w) (λ u y. h t u x y)))
 
-module _ (s : Sight) (at : Place) (t u : LogicTerm) (v : TermTyped s t) (w : TermTyped s u) where
-  sum_by : (k l : ValueSort) → sort_of_term t ≡ k → sort_of_term u ≡ l → Gives (SortedTyped s) (sum_of s at t u k l)
+module _ (s : AnnotationSight) (at : Place) (t u : LogicTerm) (v : TermTyped s t) (w : TermTyped s u) where
+  sum_by : (k l : ValueSort) → sort_of_term t ≡ k → sort_of_term u ≡ l → Gives (SortedTyped s) (sum_of s.here at t u k l)
   sum_by AnInteger AnInteger e f = (refl, e, f, v, w)
-  sum_by (APointer x) AnInteger e f = gives_measured (SortedTyped s) s at x _ (λ h. (x, refl, e, f, v, w, h.0))
-  sum_by AnInteger (APointer x) e f = gives_measured (SortedTyped s) s at x _ (λ h. (x, refl, f, e, w, v, h.0))
+  sum_by (APointer x) AnInteger e f = gives_measured (SortedTyped s) s.here at x _ (λ h. (x, refl, e, f, v, w, h.0))
+  sum_by AnInteger (APointer x) e f = gives_measured (SortedTyped s) s.here at x _ (λ h. (x, refl, f, e, w, v, h.0))
   sum_by (APointer x) (APointer y) e f = tt
   sum_by NoValue l e f = tt
   sum_by AnInteger NoValue e f = tt
   sum_by (APointer x) NoValue e f = tt
 
-  difference_by : (k l : ValueSort) → sort_of_term t ≡ k → sort_of_term u ≡ l → Gives (SortedTyped s) (difference_of s at t u k l)
+  difference_by : (k l : ValueSort) → sort_of_term t ≡ k → sort_of_term u ≡ l → Gives (SortedTyped s) (difference_of s.here at t u k l)
   difference_by AnInteger AnInteger e f = (refl, e, f, v, w)
-  difference_by (APointer x) AnInteger e f = gives_measured (SortedTyped s) s at x _ (λ h. (x, refl, e, f, v, w, h.0))
-  difference_by (APointer x) (APointer y) e f = gives_where (SortedTyped s) (c.same_type x y) (no_type at) _ (λ g. gives_measured (SortedTyped s) s at x _ (λ h. (refl, (x, e), (y, f), v, w, h.0)))
+  difference_by (APointer x) AnInteger e f = gives_measured (SortedTyped s) s.here at x _ (λ h. (x, refl, e, f, v, w, h.0))
+  difference_by (APointer x) (APointer y) e f = gives_where (SortedTyped s) (c.same_type x y) (no_type at) _ (λ g. gives_measured (SortedTyped s) s.here at x _ (λ h. (refl, (x, e), (y, f), v, w, h.0)))
   difference_by AnInteger (APointer x) e f = tt
   difference_by NoValue l e f = tt
   difference_by AnInteger NoValue e f = tt
   difference_by (APointer x) NoValue e f = tt
 
-  element_by : (k l : ValueSort) → sort_of_term t ≡ k → sort_of_term u ≡ l → Gives (SortedTyped s) (element_of s at t u k l)
+  element_by : (k l : ValueSort) → sort_of_term t ≡ k → sort_of_term u ≡ l → Gives (SortedTyped s) (element_of s.here at t u k l)
   element_by AnInteger AnInteger e f = tt
-  element_by (APointer x) AnInteger e f = gives_measured (SortedTyped s) s at x _ (λ h. (tt, (x, refl, refl, (x, refl, e, f, v, w, h.0))))
-  element_by AnInteger (APointer x) e f = gives_measured (SortedTyped s) s at x _ (λ h. (tt, (x, refl, refl, (x, refl, f, e, w, v, h.0))))
+  element_by (APointer x) AnInteger e f = gives_measured (SortedTyped s) s.here at x _ (λ h. (tt, (x, refl, refl, (x, refl, e, f, v, w, h.0))))
+  element_by AnInteger (APointer x) e f = gives_measured (SortedTyped s) s.here at x _ (λ h. (tt, (x, refl, refl, (x, refl, f, e, w, v, h.0))))
   element_by (APointer x) (APointer y) e f = tt
   element_by NoValue l e f = tt
   element_by AnInteger NoValue e f = tt
@@ -246,16 +292,16 @@ module _ (s : Sight) (at : Place) (t u : LogicTerm) (v : TermTyped s t) (w : Ter
   choice_by p z AnInteger NoValue e f = tt
   choice_by p z (APointer x) NoValue e f = tt
 
-sum_well : (s : Sight) (at : Place) (a b : Sorted) → SortedTyped s a → SortedTyped s b → Gives (SortedTyped s) (sum s at a b)
+sum_well : (s : AnnotationSight) (at : Place) (a b : Sorted) → SortedTyped s a → SortedTyped s b → Gives (SortedTyped s) (sum s.here at a b)
 sum_well s at a b v w = known_well s at a b _ v w (λ t u x y. sum_by s at t u x y (sort_of_term t) (sort_of_term u) refl refl)
 
-difference_well : (s : Sight) (at : Place) (a b : Sorted) → SortedTyped s a → SortedTyped s b → Gives (SortedTyped s) (difference s at a b)
+difference_well : (s : AnnotationSight) (at : Place) (a b : Sorted) → SortedTyped s a → SortedTyped s b → Gives (SortedTyped s) (difference s.here at a b)
 difference_well s at a b v w = known_well s at a b _ v w (λ t u x y. difference_by s at t u x y (sort_of_term t) (sort_of_term u) refl refl)
 
-index_well : (s : Sight) (at : Place) (a b : Sorted) → SortedTyped s a → SortedTyped s b → Gives (SortedTyped s) (index s at a b)
+index_well : (s : AnnotationSight) (at : Place) (a b : Sorted) → SortedTyped s a → SortedTyped s b → Gives (SortedTyped s) (index s.here at a b)
 index_well s at a b v w = known_well s at a b _ v w (λ t u x y. element_by s at t u x y (sort_of_term t) (sort_of_term u) refl refl)
 
-binary_well : (s : Sight) (at : Place) (op : BinOp) (a b : Sorted) → SortedTyped s a → SortedTyped s b → Gives (SortedTyped s) (binary_on s at op a b)
+binary_well : (s : AnnotationSight) (at : Place) (op : BinOp) (a b : Sorted) → SortedTyped s a → SortedTyped s b → Gives (SortedTyped s) (binary_on s.here at op a b)
 binary_well s at operator.Add a b v w = sum_well s at a b v w
 binary_well s at operator.Sub a b v w = difference_well s at a b v w
 binary_well s at operator.Mul a b v w = on_integers_well s at operator.Mul a b v w
@@ -273,11 +319,11 @@ binary_well s at operator.Le a b v w = on_integers_well s at operator.Le a b v w
 binary_well s at operator.Gt a b v w = on_integers_well s at operator.Gt a b v w
 binary_well s at operator.Ge a b v w = on_integers_well s at operator.Ge a b v w
 
-not_well : (s : Sight) (at : Place) (a : Sorted) → SortedTyped s a → Gives (SortedTyped s) (unary_on at unary.Not a)
+not_well : (s : AnnotationSight) (at : Place) (a : Sorted) → SortedTyped s a → Gives (SortedTyped s) (unary_on at unary.Not a)
 not_well s at a w =
     gives_one (SortedTyped s) (SortedTyped s) (as_value a) _ (value_well s a w) (λ b v. gives_one (PredicateTyped s) (SortedTyped s) (as_predicate at b) _ (predicate_well s at b v) (λ p x. x))
 
-unary_well : (s : Sight) (at : Place) (op : UnOp) (a : Sorted) → SortedTyped s a → Gives (SortedTyped s) (unary_on at op a)
+unary_well : (s : AnnotationSight) (at : Place) (op : UnOp) (a : Sorted) → SortedTyped s a → Gives (SortedTyped s) (unary_on at op a)
 unary_well s at unary.Plus a w = gives_one (SortedTyped s) (SortedTyped s) (as_value a) _ (value_well s a w) (on_integer_well s at unary.Plus tt)
 unary_well s at unary.Minus a w = gives_one (SortedTyped s) (SortedTyped s) (as_value a) _ (value_well s a w) (on_integer_well s at unary.Minus tt)
 unary_well s at unary.Flip a w = gives_one (SortedTyped s) (SortedTyped s) (as_value a) _ (value_well s a w) (on_integer_well s at unary.Flip tt)
@@ -287,13 +333,13 @@ unary_well s at unary.Address a w = address_well s at a w
 
 -- ---- casts
 
-cast_integer_well : (s : Sight) (at : Place) (to : CastType) → IsCastType to → (a : Sorted) → SortedTyped s a → Gives (SortedTyped s) (cast_integer at to a)
+cast_integer_well : (s : AnnotationSight) (at : Place) (to : CastType) → IsCastType to → (a : Sorted) → SortedTyped s a → Gives (SortedTyped s) (cast_integer at to a)
 cast_integer_well s at to is a w = gives_one (IntegerTyped s) (SortedTyped s) (as_integer at a) _ (integer_well s at a w) (λ t v. (OfInteger refl is v.0, v.1))
 
-cast_pointer_well : (s : Sight) (at : Place) (u : PlainType) (a : Sorted) → SortedTyped s a → Gives (SortedTyped s) (cast_pointer at u a)
+cast_pointer_well : (s : AnnotationSight) (at : Place) (u : PlainType) (a : Sorted) → SortedTyped s a → Gives (SortedTyped s) (cast_pointer at u a)
 cast_pointer_well s at u a w = gives_one (PointerTyped s) (SortedTyped s) (as_pointer at a) _ (pointer_well s at a w) (λ p v. (OfPointer u p.0 refl refl v.0, v.1))
 
-cast_well : (s : Sight) (at : Place) (to : PlainType) (a : Sorted) → SortedTyped s a → Gives (SortedTyped s) (cast at to a)
+cast_well : (s : AnnotationSight) (at : Place) (to : PlainType) (a : Sorted) → SortedTyped s a → Gives (SortedTyped s) (cast at to a)
 cast_well s at to a w = by (integer_type to) refl
   where
     by : (o : Option CInt) → integer_type to ≡ o → Gives (SortedTyped s) (elim o [ Some k ↦ cast_integer at (OfC to) a | None ↦ given (c.pointed to) (no_type at) (λ u. cast_pointer at u a) ])
@@ -302,24 +348,24 @@ cast_well s at to a w = by (integer_type to) refl
 
 -- ---- predicates and choices
 
-connected_well : (s : Sight) (at : Place) (k : Connective) (a b : Sorted) → SortedTyped s a → SortedTyped s b → Gives (SortedTyped s) (connected at k a b)
+connected_well : (s : AnnotationSight) (at : Place) (k : Connective) (a b : Sorted) → SortedTyped s a → SortedTyped s b → Gives (SortedTyped s) (connected at k a b)
 connected_well s at k a b v w =
     gives_one (PredicateTyped s) (SortedTyped s) (as_predicate at a) _ (predicate_well s at a v) (λ p x.
     gives_one (PredicateTyped s) (SortedTyped s) (as_predicate at b) _ (predicate_well s at b w) (λ q y. (x, y)))
 
-branch_well : (s : Sight) (at : Place) (p : Predicate) (a b : Sorted) → PredicateTyped s p → SortedTyped s a → SortedTyped s b → Gives (SortedTyped s) (branch at p a b)
+branch_well : (s : AnnotationSight) (at : Place) (p : Predicate) (a b : Sorted) → PredicateTyped s p → SortedTyped s a → SortedTyped s b → Gives (SortedTyped s) (branch at p a b)
 branch_well s at p a b z v w =
     gives_one (PredicateTyped s) (SortedTyped s) (as_predicate at a) _ (predicate_well s at a v) (λ q x.
     gives_one (PredicateTyped s) (SortedTyped s) (as_predicate at b) _ (predicate_well s at b w) (λ r y. (z, x, y)))
 
-between_well : (s : Sight) (at : Place) (p : Predicate) (a b : Sorted) → PredicateTyped s p → SortedTyped s a → SortedTyped s b → Gives (SortedTyped s) (choice_between at p a b)
+between_well : (s : AnnotationSight) (at : Place) (p : Predicate) (a b : Sorted) → PredicateTyped s p → SortedTyped s a → SortedTyped s b → Gives (SortedTyped s) (choice_between at p a b)
 between_well s at p (ATerm t) (ATerm u) z v w = choice_by s at t u v w p z (sort_of_term t) (sort_of_term u) refl refl
 between_well s at p (ATerm t) (APredicate q) z v w = branch_well s at p (ATerm t) (APredicate q) z v w
 between_well s at p (ATerm t) (APlace u) z v w = branch_well s at p (ATerm t) (APlace u) z v w
 between_well s at p (APredicate q) b z v w = branch_well s at p (APredicate q) b z v w
 between_well s at p (APlace t) b z v w = branch_well s at p (APlace t) b z v w
 
-chosen_well : (s : Sight) (at : Place) (k a b : Sorted) → SortedTyped s k → SortedTyped s a → SortedTyped s b → Gives (SortedTyped s) (chosen at k a b)
+chosen_well : (s : AnnotationSight) (at : Place) (k a b : Sorted) → SortedTyped s k → SortedTyped s a → SortedTyped s b → Gives (SortedTyped s) (chosen at k a b)
 chosen_well s at k a b u v w = gives_one (PredicateTyped s) (SortedTyped s) (as_predicate at k) _ (predicate_well s at k u) (λ p z. between_well s at p a b z v w)
 
 -- ---- sides of relations
@@ -394,6 +440,9 @@ side_says (read.Arrow place x j) at a t m e = sorted_says at a t e
 side_says (read.Told place f x) at a t m e = sorted_says at a t e
 side_says (read.Asks place q z) at a t m e = sorted_says at a t e
 side_says (read.Separated place zs) at a t m e = sorted_says at a t e
+side_says (read.Result place) at a t m e = sorted_says at a t e
+side_says (read.Old place x) at a t m e = sorted_says at a t e
+side_says (read.At place x other l) at a t m e = sorted_says at a t e
 
 -- a checked value, and that it is this one
 known : {A : Type 0} (P : A → Type 0) (k : Checked A) → Gives P k → Gives (λ a. P a × (k ≡ Good a)) k
@@ -424,7 +473,7 @@ anything (Bad f fs) = tt
 abbrev pub Any : PlainType → Type 0
 Any t = Unit {0}
 
-made : (s : Sight) (f : Form) → Gives (MadeOf f) (value_in (typed_form s f))
+made : (s : AnnotationSight) (f : Form) → Gives (MadeOf f) (value_in (typed_form s f))
 made s (read.Number at n) = refl
 made s (read.Letter at n) = anything (value_in (typed_form s (read.Letter at n)))
 made s (read.Truth at b) = anything (value_in (typed_form s (read.Truth at b)))
@@ -443,12 +492,15 @@ made s (read.Arrow at x m) = anything (value_in (typed_form s (read.Arrow at x m
 made s (read.Told at f x) = anything (value_in (typed_form s (read.Told at f x)))
 made s (read.Asks at q z) = anything (value_in (typed_form s (read.Asks at q z)))
 made s (read.Separated at zs) = anything (value_in (typed_form s (read.Separated at zs)))
+made s (read.Result at) = anything (value_in (typed_form s (read.Result at)))
+made s (read.Old at x) = anything (value_in (typed_form s (read.Old at x)))
+made s (read.At at x place l) = anything (value_in (typed_form s (read.At at x place l)))
 
 -- the right side of a relation
-abbrev RightTyped : Sight → Side → Side → LogicTerm → Type 0
+abbrev RightTyped : AnnotationSight → Side → Side → LogicTerm → Type 0
 RightTyped s left right t = (are_related left right ≡ true) × SideSays right t × TermTyped s t
 
-right_well : (s : Sight) (at : Place) (left : Side) (f : Form) (k : Checked Sorted) → Gives (MadeOf f) k → Gives (SortedTyped s) k → Gives (RightTyped s left (side_of f k)) (one_part k (right_side at left (side_of f k)))
+right_well : (s : AnnotationSight) (at : Place) (left : Side) (f : Form) (k : Checked Sorted) → Gives (MadeOf f) k → Gives (SortedTyped s) k → Gives (RightTyped s left (side_of f k)) (one_part k (right_side at left (side_of f k)))
 right_well s at left f (Bad x xs) m w = tt
 right_well s at left f (Good a) m w =
     gives_where (RightTyped s left (side_of f (Good a))) (are_related left (side_of f (Good a))) (no_type at) (as_term at a) (λ e. by (as_term at a) refl (term_well s at a w) e)
@@ -458,10 +510,10 @@ right_well s at left f (Good a) m w =
     by (Bad x xs) h v e = tt
 
 -- what is known of links behind a side
-abbrev LinksFit : Sight → Side → Links → Type 0
+abbrev LinksFit : AnnotationSight → Side → Links → Type 0
 LinksFit s left links = (a : LogicTerm) → SideSays left a → LinksTyped s a links
 
-chain_well : (s : Sight) (at : Place) (f : Form) (k : Checked Sorted) (a : Sorted) (links : Links) → Gives (MadeOf f) k → k ≡ Good a → SortedTyped s a → LinksFit s (side_of f k) links → Gives (SortedTyped s) (related at a links)
+chain_well : (s : AnnotationSight) (at : Place) (f : Form) (k : Checked Sorted) (a : Sorted) (links : Links) → Gives (MadeOf f) k → k ≡ Good a → SortedTyped s a → LinksFit s (side_of f k) links → Gives (SortedTyped s) (related at a links)
 chain_well s at f k a NoLink m e v w = tt
 chain_well s at f k a (Linked place r b rest) m e v w = by (as_term at a) refl (term_well s at a v)
   where
@@ -476,27 +528,28 @@ asked_well P s at Valid u k w = gives_measured P s at u k w
 asked_well P s at ValidRead u k w = gives_measured P s at u k w
 asked_well P s at Initialized u k w = gives_where P (is_scalar u) (no_type at) (where_measured s at u k) (λ e. gives_measured P s at u k w)
 
-object_well : (s : Sight) (q : MemoryQuestion) (at : Place) (a : Sorted) → SortedTyped s a → Gives (ZoneTyped s) (object_zone s q at a)
-object_well s q at a w = gives_one (PointerTyped s) (ZoneTyped s) (as_pointer at a) _ (pointer_well s at a w) (λ p v. asked_well (ZoneTyped s) s at q p.0 _ (λ g. ((p.0, v.0), v.1, g.0, g.1)))
+object_well : (s : AnnotationSight) (q : MemoryQuestion) (at : Place) (a : Sorted) → SortedTyped s a → Gives (ZoneTyped s) (object_zone s.here q at a)
+object_well s q at a w = gives_one (PointerTyped s) (ZoneTyped s) (as_pointer at a) _ (pointer_well s at a w) (λ p v. asked_well (ZoneTyped s) s.here at q p.0 _ (λ g. ((p.0, v.0), v.1, g.0, g.1)))
 
-elements_well : (s : Sight) (q : MemoryQuestion) (at : Place) (a lo hi : Sorted) → SortedTyped s a → SortedTyped s lo → SortedTyped s hi → Gives (ZoneTyped s) (elements_zone s q at a lo hi)
+elements_well : (s : AnnotationSight) (q : MemoryQuestion) (at : Place) (a lo hi : Sorted) → SortedTyped s a → SortedTyped s lo → SortedTyped s hi → Gives (ZoneTyped s) (elements_zone s.here q at a lo hi)
 elements_well s q at a lo hi u v w =
-    gives_one (PointerTyped s) (ZoneTyped s) (as_pointer at a) _ (pointer_well s at a u) (λ p x. asked_well (ZoneTyped s) s at q p.0 _ (λ g.
+    gives_one (PointerTyped s) (ZoneTyped s) (as_pointer at a) _ (pointer_well s at a u) (λ p x. asked_well (ZoneTyped s) s.here at q p.0 _ (λ g.
     gives_one (IntegerTyped s) (ZoneTyped s) (as_integer at lo) _ (integer_well s at lo v) (λ l y.
     gives_one (IntegerTyped s) (ZoneTyped s) (as_integer at hi) _ (integer_well s at hi w) (λ h z. ((p.0, x.0), y.0, z.0, x.1, y.1, z.1, g.0, g.1)))))
 
 -- parts that are values, from what is known of the parts
-value_of_form : (s : Sight) (f : Form) → Gives (SortedTyped s) (typed_form s f) → Gives (SortedTyped s) (value_in (typed_form s f))
+value_of_form : (s : AnnotationSight) (f : Form) → Gives (SortedTyped s) (typed_form s f) → Gives (SortedTyped s) (value_in (typed_form s f))
 value_of_form s f w = values_well s (typed_form s f) w
 
-one_well : (s : Sight) (a : Form) (k : Sorted → Checked Sorted) → Gives (SortedTyped s) (typed_form s a) → ((x : Sorted) → SortedTyped s x → Gives (SortedTyped s) (k x)) → Gives (SortedTyped s) (one_part (value_in (typed_form s a)) k)
+one_well : (s : AnnotationSight) (a : Form) (k : Sorted → Checked Sorted) → Gives (SortedTyped s) (typed_form s a) → ((x : Sorted) → SortedTyped s x → Gives (SortedTyped s) (k x)) → Gives (SortedTyped s) (one_part (value_in (typed_form s a)) k)
 one_well s a k v h = gives_one (SortedTyped s) (SortedTyped s) (value_in (typed_form s a)) k (value_of_form s a v) h
 
-two_well : (s : Sight) (a b : Form) (k : Sorted × Sorted → Checked Sorted) → Gives (SortedTyped s) (typed_form s a) → Gives (SortedTyped s) (typed_form s b) → ((x y : Sorted) → SortedTyped s x → SortedTyped s y → Gives (SortedTyped s) (k (x, y)))
+two_well : (s : AnnotationSight) (a b : Form) (k : Sorted × Sorted → Checked Sorted) → Gives (SortedTyped s) (typed_form s a) → Gives (SortedTyped s) (typed_form s b)
+    → ((x y : Sorted) → SortedTyped s x → SortedTyped s y → Gives (SortedTyped s) (k (x, y)))
     → Gives (SortedTyped s) (one_part (pair_of (value_in (typed_form s a)) (value_in (typed_form s b))) k)
 two_well s a b k v w h = gives_pair (SortedTyped s) (SortedTyped s) (SortedTyped s) (value_in (typed_form s a)) (value_in (typed_form s b)) k (value_of_form s a v) (value_of_form s b w) h
 
-pair_well : (s : Sight) (a b : Form) → Gives (SortedTyped s) (typed_form s a) → Gives (SortedTyped s) (typed_form s b)
+pair_well : (s : AnnotationSight) (a b : Form) → Gives (SortedTyped s) (typed_form s a) → Gives (SortedTyped s) (typed_form s b)
     → Gives (λ (p : Sorted × Sorted). SortedTyped s p.0 × SortedTyped s p.1) (pair_of (value_in (typed_form s a)) (value_in (typed_form s b)))
 pair_well s a b v w =
     gives_both (SortedTyped s) (SortedTyped s) (λ (p : Sorted × Sorted). SortedTyped s p.0 × SortedTyped s p.1) (value_in (typed_form s a)) (value_in (typed_form s b)) (λ a b. Good (a, b)) (value_of_form s a v) (value_of_form s b w)
@@ -505,19 +558,20 @@ pair_well s a b v w =
 -- ---- forms
 
 mutual
-  form_well : (s : Sight) (f : Form) → Gives (SortedTyped s) (typed_form s f)
+  form_well : (s : AnnotationSight) (f : Form) → Gives (SortedTyped s) (typed_form s f)
   form_well s (read.Number at n) = refl
   form_well s (read.Letter at n) = refl
   form_well s (read.Truth at b) = tt
   form_well s (read.Name at x) = named_well s at x.name
   form_well s (read.Unary at op a) = gives_one (SortedTyped s) (SortedTyped s) (typed_form s a) (unary_on at op) (form_well s a) (unary_well s at op)
-  form_well s (read.Binary at op a b) = two_well s a b (λ p. binary_on s at op p.0 p.1) (form_well s a) (form_well s b) (binary_well s at op)
+  form_well s (read.Binary at op a b) = two_well s a b (λ p. binary_on s.here at op p.0 p.1) (form_well s a) (form_well s b) (binary_well s at op)
   form_well s (read.Cast at Integers a) = one_well s a (cast_integer at Integers) (form_well s a) (cast_integer_well s at Integers tt)
   form_well s (read.Cast at (OfC to) a) =
-      gives_limited (SortedTyped s) s at (known_type s to) _ (gives_pair Any (SortedTyped s) (SortedTyped s) (typed_type s at to) (value_in (typed_form s a)) (λ p. cast at p.0 p.1) (anything (typed_type s at to)) (value_of_form s a (form_well s a))
+      gives_limited (SortedTyped s) s.here at (known_type s.here to) _ (gives_pair Any (SortedTyped s) (SortedTyped s) (typed_type s.here at to) (value_in (typed_form s a)) (λ p. cast at p.0 p.1) (anything (typed_type s.here at to))
+      (value_of_form s a (form_well s a))
       (λ t x v w. cast_well s at t x w))
   form_well s (read.SizeOf at u) =
-      gives_limited (SortedTyped s) s at (known_type s u) _ (gives_one Any (SortedTyped s) (typed_type s at u) (size_in s at) (anything (typed_type s at u)) (λ t v. gives_sized (SortedTyped s) s at t _ (λ e. refl)))
+      gives_limited (SortedTyped s) s.here at (known_type s.here u) _ (gives_one Any (SortedTyped s) (typed_type s.here at u) (size_in s.here at) (anything (typed_type s.here at u)) (λ t v. gives_sized (SortedTyped s) s.here at t _ (λ e. refl)))
   form_well s (read.Chain at a links) =
       let side = side_of a (value_in (typed_form s a)) in
       gives_pair (λ x. SortedTyped s x × (value_in (typed_form s a) ≡ Good x)) (LinksFit s side) (SortedTyped s) (value_in (typed_form s a)) (typed_links s side links) (λ p. related at p.0 p.1)
@@ -527,47 +581,51 @@ mutual
       gives_pair (SortedTyped s) (λ (p : Sorted × Sorted). SortedTyped s p.0 × SortedTyped s p.1) (SortedTyped s) (value_in (typed_form s k)) (pair_of (value_in (typed_form s a)) (value_in (typed_form s b))) (λ p. chosen at p.0 (p.1).0 (p.1).1)
       (value_of_form s k (form_well s k)) (pair_well s a b (form_well s a) (form_well s b)) (λ x p u w. chosen_well s at x p.0 p.1 u w.0 w.1)
   form_well s (read.Null at) = refl
-  form_well s (read.Index at a b) = two_well s a b (λ p. index s at p.0 p.1) (form_well s a) (form_well s b) (index_well s at)
-  form_well s (read.Dot at a m) = gives_one (SortedTyped s) (SortedTyped s) (typed_form s a) (dot s at m) (form_well s a) (dot_well s at m)
-  form_well s (read.Arrow at a m) = one_well s a (arrow s at m) (form_well s a) (arrow_well s at m)
+  form_well s (read.Index at a b) = two_well s a b (λ p. index s.here at p.0 p.1) (form_well s a) (form_well s b) (index_well s at)
+  form_well s (read.Dot at a m) = gives_one (SortedTyped s) (SortedTyped s) (typed_form s a) (dot s.here at m) (form_well s a) (dot_well s at m)
+  form_well s (read.Arrow at a m) = one_well s a (arrow s.here at m) (form_well s a) (arrow_well s at m)
   form_well s (read.Told at f a) =
       one_well s a (told at f) (form_well s a) (λ b w. gives_one (PointerTyped s) (SortedTyped s) (as_pointer at b) _ (pointer_well s at b w) (λ p v. (refl, (p.0, v.0), v.1)))
   form_well s (read.Asks at q z) = gives_one (ZoneTyped s) (SortedTyped s) (typed_zone s q at z) _ (zone_well s q at z) (λ z w. w)
   form_well s (read.Separated at zs) = gives_one (ZonesTyped s) (SortedTyped s) (typed_zones s at zs) _ (zones_well s at zs) (λ zs w. w)
+  form_well s (read.Result at) = result_well s s.clause refl at
+  form_well s (read.Old at a) =
+      gives_where (SortedTyped s) (has_old s.clause) (no_label at) _ (λ e. labelled_well s at at (λ b. has_past b a) (λ u. typed_form u a) (λ l u f. form_well u a) (Some label.Pre))
+  form_well s (read.At at a place l) = labelled_well s at place (λ b. has_past b a) (λ u. typed_form u a) (λ k u f. form_well u a) (label_named s l)
 
-  links_well : (s : Sight) (left : Side) (links : FormLinks) → Gives (LinksFit s left) (typed_links s left links)
+  links_well : (s : AnnotationSight) (left : Side) (links : FormLinks) → Gives (LinksFit s left) (typed_links s left links)
   links_well s left read.NoLink = λ a h. tt
   links_well s left (read.Linked at r b rest) =
       let side = side_of b (value_in (typed_form s b)) in
       gives_pair (RightTyped s left side) (LinksFit s side) (LinksFit s left) (one_part (value_in (typed_form s b)) (right_side at left side)) (typed_links s side rest) (λ p. Good (Linked at r p.0 p.1))
       (right_well s at left b (value_in (typed_form s b)) (made s b) (value_of_form s b (form_well s b))) (links_well s side rest) (λ t ls v w a h. (related_well left side a t h v.1 v.0, v.2, w t v.1))
 
-  zone_well : (s : Sight) (q : MemoryQuestion) (at : Place) (z : FormZone) → Gives (ZoneTyped s) (typed_zone s q at z)
-  zone_well s q at (read.Object a) = gives_one (SortedTyped s) (ZoneTyped s) (value_in (typed_form s a)) (object_zone s q at) (value_of_form s a (form_well s a)) (object_well s q at)
+  zone_well : (s : AnnotationSight) (q : MemoryQuestion) (at : Place) (z : FormZone) → Gives (ZoneTyped s) (typed_zone s q at z)
+  zone_well s q at (read.Object a) = gives_one (SortedTyped s) (ZoneTyped s) (value_in (typed_form s a)) (object_zone s.here q at) (value_of_form s a (form_well s a)) (object_well s q at)
   zone_well s q at (read.Elements plus a lo hi) =
       gives_pair (SortedTyped s) (λ (p : Sorted × Sorted). SortedTyped s p.0 × SortedTyped s p.1) (ZoneTyped s) (value_in (typed_form s a)) (pair_of (value_in (typed_form s lo)) (value_in (typed_form s hi)))
-      (λ p. elements_zone s q plus p.0 (p.1).0 (p.1).1) (value_of_form s a (form_well s a)) (pair_well s lo hi (form_well s lo) (form_well s hi)) (λ x p u w. elements_well s q plus x p.0 p.1 u w.0 w.1)
+      (λ p. elements_zone s.here q plus p.0 (p.1).0 (p.1).1) (value_of_form s a (form_well s a)) (pair_well s lo hi (form_well s lo) (form_well s hi)) (λ x p u w. elements_well s q plus x p.0 p.1 u w.0 w.1)
 
-  zones_well : (s : Sight) (at : Place) (zs : FormZones) → Gives (ZonesTyped s) (typed_zones s at zs)
+  zones_well : (s : AnnotationSight) (at : Place) (zs : FormZones) → Gives (ZonesTyped s) (typed_zones s at zs)
   zones_well s at read.NoZone = tt
   zones_well s at (read.Another z rest) =
       gives_pair (ZoneTyped s) (ZonesTyped s) (ZonesTyped s) (typed_zone s ValidRead at z) (typed_zones s at rest) (λ p. Good (Another p.0 p.1)) (zone_well s ValidRead at z) (zones_well s at rest) (λ z zs v w. (v, w))
 
 -- ---- clauses
 
-clause_holds_well : (s : Sight) (a : Sorted) → SortedTyped s a → Gives (PredicateTyped s) (clause_holds a)
+clause_holds_well : (s : AnnotationSight) (a : Sorted) → SortedTyped s a → Gives (PredicateTyped s) (clause_holds a)
 clause_holds_well s (ATerm t) w = holds_well s (place_of_term t) t w
 clause_holds_well s (APredicate p) w = w
 clause_holds_well s (APlace t) w = holds_well s (place_of_term t) t w.1
 
-clause_well : (s : Sight) (b : ClauseBody) → IsRead b → Gives (ClauseTyped s) (typed_clause s b)
+pub clause_well : (s : AnnotationSight) (b : ClauseBody) → IsRead b → Gives (ClauseTyped s) (typed_clause s b)
 clause_well s (Raw f) r =
     gives_one (SortedTyped s) (ClauseTyped s) (value_in (typed_form s f)) _ (value_of_form s f (form_well s f)) (λ a v. gives_one (PredicateTyped s) (ClauseTyped s) (clause_holds a) (λ p. Good (Holds p)) (clause_holds_well s a v) (λ p w. w))
 clause_well s (Holds p) r = absurd r
 clause_well s (Value t) r = absurd r
 clause_well s (Behaviors names) r = absurd r
 
-pub annotations_well : (s : Sight) (annots : List Annotation) → AreRead annots → Gives (AnnotationsTyped s) (typed_annotations s annots)
+pub annotations_well : (s : AnnotationSight) (annots : List Annotation) → AreRead annots → Gives (AnnotationsTyped s) (typed_annotations s annots)
 annotations_well s [] r = tt
 annotations_well s (a ∷ rest) r =
     gives_one (ClauseTyped s) (AnnotationsTyped s) (typed_clause s a.body) (λ b. one_part (typed_annotations s rest) (λ rest. Good (record a { body = b } ∷ rest))) (clause_well s a.body r.0) (λ b v.

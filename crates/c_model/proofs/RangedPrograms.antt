@@ -1,19 +1,26 @@
 -- What is known of an accepted program is known of it with ranges, and it means the same.
 use Rattle.std.proofs.Common.{◌≡◌, ◌<◌, ◌^◌, map, length, None, sym, ap, ◌∙◌, subst}
-use Rattle.c_syntax.specs.Programs.{TranslationUnit}
+use Rattle.std.specs.List.{AllByRecursion}
+use Rattle.c_syntax.specs.Programs.{Function, TranslationUnit}
 use Rattle.c_model.specs.UnitTyping.{items_of_file, sight_with, room_fault, main_fault}
 use Rattle.c_model.specs.TypedPrograms.{ProgramTyped, ItemsTyped}
 use Rattle.c_model.specs.FullExpressions.{EachDeclared, EachInFunctions}
+use Rattle.c_model.specs.LetterValues.{LettersFit}
 use Rattle.c_model.specs.Sizes.{IsSmall}
 use Rattle.c_model.specs.SmallTypes.{TypesSmall}
-use Rattle.c_model.specs.Formed.{AreAsserts, number_of, Ascend, AreNamed, FunctionsNamed}
+use Rattle.c_model.specs.FormedContracts.{ContractsFormed}
+use Rattle.c_model.specs.KeptTerms.{planned, StandApart}
+use Rattle.c_model.specs.Formed.{IsShortClause, AreAsserts, number_of, Ascend, AreNamed, FunctionsNamed}
 use Rattle.c_model.specs.ReadTree.{Between, numbers_of_items, FunctionsRead, TextsAreBytes}
 use Rattle.c_model.specs.FileItems.{FileNoted, FileResolved}
 use Rattle.c_model.specs.AcceptedPrograms.{AreConstant, IsProgram}
 use Rattle.c_model.specs.UnrangedPrograms.{unranged_unit, RangedProgramsArePrograms}
 use Rattle.c_model.proofs.UnrangedTerms.{Alike, alike, itself}
+use Rattle.c_model.specs.TypedAnnotations.{ContractsNoted}
+use Rattle.c_model.proofs.UnrangedContracts.{contracts_formed, all_contracts_noted}
 use Rattle.c_model.proofs.UnrangedFunctions.{functions_read, functions_named, functions_each, same_length, same_main}
 use Rattle.c_model.proofs.UnrangedFiles.{same_items, same_numbers_of_items, file_noted, file_typed, file_resolved}
+use Rattle.c_model.proofs.UnrangedPlaces.{functions_apart}
 use Rattle.c_model.proofs.RangedStatements.{ranging_keeps_units}
 
 -- what is the same without ranges is kept
@@ -60,8 +67,11 @@ module _ (p q : TranslationUnit) (e : unranged_unit q ≡ unranged_unit p) (h : 
   program_kept = record {
     typed = over ProgramTyped program_typed h.typed;
     noted = over NotedUnit unit_noted h.noted;
+    contracts_noted = over ContractsNoted all_contracts_noted h.contracts_noted;
     resolved = over ResolvedUnit unit_resolved h.resolved;
     effects = over (λ (p : TranslationUnit). FunctionsRead AreAsserts p.funcs) (λ (p : TranslationUnit). functions_read p.funcs) h.effects;
+    contracts = over (λ (p : TranslationUnit). ContractsFormed IsShortClause p.funcs) (λ (p : TranslationUnit). contracts_formed p.funcs) h.contracts;
+    kept_apart = over (λ (p : TranslationUnit). AllByRecursion (λ (f : Function). StandApart (planned f)) p.funcs) (λ (p : TranslationUnit). functions_apart p.funcs) h.kept_apart;
     constant = over (λ (p : TranslationUnit). AreConstant p.globals) (λ (p : TranslationUnit). itself) h.constant;
     small = record {
       globals = over (λ (p : TranslationUnit). EachDeclared IsSmall p.globals) (λ (p : TranslationUnit). itself) h.small.globals;
@@ -70,6 +80,10 @@ module _ (p q : TranslationUnit) (e : unranged_unit q ≡ unranged_unit p) (h : 
     small_types = record {
       globals = over (λ (p : TranslationUnit). EachDeclared (TypesSmall p.structs) p.globals) (λ (p : TranslationUnit). itself) h.small_types.globals;
       funcs = over (λ (p : TranslationUnit). EachInFunctions (TypesSmall p.structs) p.funcs) (λ (p : TranslationUnit). alike (functions_each (TypesSmall p.structs) p.funcs)) h.small_types.funcs;
+    };
+    characters = record {
+      globals = over (λ (p : TranslationUnit). EachDeclared LettersFit p.globals) (λ (p : TranslationUnit). itself) h.characters.globals;
+      funcs = over (λ (p : TranslationUnit). EachInFunctions LettersFit p.funcs) (λ (p : TranslationUnit). alike (functions_each LettersFit p.funcs)) h.characters.funcs;
     };
     named = over (λ (p : TranslationUnit). FunctionsNamed p.names p.funcs) (λ (p : TranslationUnit). functions_named p.names p.funcs) h.named;
     globals_named = over (λ (p : TranslationUnit). AreNamed p.names p.globals) (λ (p : TranslationUnit). itself) h.globals_named;

@@ -211,26 +211,27 @@ mutual
         same = g.same;
       })))
 
-clause_ranged : (b : ClauseBody) → Gives (IsRangedClause b) (ranged_clause b)
-clause_ranged (Raw f) = record { ranged = tt; same = refl }
-clause_ranged (Holds p) =
-    gives_one (IsRangedPredicate [] p) (IsRangedClause (Holds p)) (ranged_pred [] p) (λ q. Good (Holds q)) (pred_ranged [] p) (λ q h. record { ranged = h.ranged; same = ap Holds h.same })
-clause_ranged (Value t) =
-    gives_one (IsRangedTerm [] t) (IsRangedClause (Value t)) (ranged_term [] t) (λ u. Good (Value u)) (term_ranged [] t) (λ u h. record { ranged = h.ranged; same = ap Value h.same })
-clause_ranged (Behaviors names) = record { ranged = tt; same = refl }
+clause_ranged : (seen : Seen) (b : ClauseBody) → Gives (IsRangedClause seen b) (ranged_clause seen b)
+clause_ranged seen (Raw f) = record { ranged = tt; same = refl }
+clause_ranged seen (Holds p) =
+    gives_one (IsRangedPredicate seen p) (IsRangedClause seen (Holds p)) (ranged_pred seen p) (λ q. Good (Holds q)) (pred_ranged seen p) (λ q h. record { ranged = h.ranged; same = ap Holds h.same })
+clause_ranged seen (Value t) =
+    gives_one (IsRangedTerm seen t) (IsRangedClause seen (Value t)) (ranged_term seen t) (λ u. Good (Value u)) (term_ranged seen t) (λ u h. record { ranged = h.ranged; same = ap Value h.same })
+clause_ranged seen (Behaviors names) = record { ranged = tt; same = refl }
 
-clause_and_rest : (a : Annotation) (c : ClauseBody) (xs ys : List Annotation) → IsRangedClause a.body c → AreRangedAnnotations xs ys → AreRangedAnnotations (a ∷ xs) (record a { body = c } ∷ ys)
-clause_and_rest a c xs ys h k =
+clause_and_rest : (seen : Seen) (a : Annotation) (c : ClauseBody) (xs ys : List Annotation) → IsRangedClause seen a.body c → AreRangedAnnotations seen xs ys → AreRangedAnnotations seen (a ∷ xs) (record a { body = c } ∷ ys)
+clause_and_rest seen a c xs ys h k =
     record {
       ranged = (h.ranged, k.ranged);
       same = ap (λ b. record a { body = b } ∷ unranged_annotations ys) h.same ∙ ap (λ zs. record a { body = unranged_clause a.body } ∷ zs) k.same;
     }
 
-pub annotations_ranged : (xs : List Annotation) → Gives (AreRangedAnnotations xs) (ranged_annotations xs)
-annotations_ranged [] = record { ranged = tt; same = refl }
-annotations_ranged (a ∷ xs) =
-    gives_both (IsRangedClause a.body) (AreRangedAnnotations xs) (AreRangedAnnotations (a ∷ xs)) (ranged_clause a.body) (ranged_annotations xs) (λ c ys. Good (record a { body = c } ∷ ys)) (clause_ranged a.body) (annotations_ranged xs)
-    (λ c ys h k. clause_and_rest a c xs ys h k)
+pub annotations_ranged : (seen : Seen) (xs : List Annotation) → Gives (AreRangedAnnotations seen xs) (ranged_annotations seen xs)
+annotations_ranged seen [] = record { ranged = tt; same = refl }
+annotations_ranged seen (a ∷ xs) =
+    gives_both (IsRangedClause seen a.body) (AreRangedAnnotations seen xs) (AreRangedAnnotations seen (a ∷ xs)) (ranged_clause seen a.body) (ranged_annotations seen xs) (λ c ys. Good (record a { body = c } ∷ ys)) (clause_ranged seen a.body)
+    (annotations_ranged seen xs)
+    (λ c ys h k. clause_and_rest seen a c xs ys h k)
 
 -- ---- the laws
 
@@ -241,7 +242,7 @@ pub ranging_keeps_predicates : RangingKeepsPredicates
 ranging_keeps_predicates seen p q e = gives_of (IsRangedPredicate seen p) (ranged_pred seen p) q (pred_ranged seen p) e
 
 pub ranging_keeps_annotations : RangingKeepsAnnotations
-ranging_keeps_annotations xs ys e = gives_of (AreRangedAnnotations xs) (ranged_annotations xs) ys (annotations_ranged xs) e
+ranging_keeps_annotations seen xs ys e = gives_of (AreRangedAnnotations seen xs) (ranged_annotations seen xs) ys (annotations_ranged seen xs) e
 
 -- ---- what they mean
 

@@ -25,11 +25,12 @@ use Rattle.c_model.specs.DeclarationTyping.{typed_maybe_initialiser, own_name, t
 use Rattle.c_model.specs.DeclarationTyping.{scalar_type, typed_parameter_type, known_parameter_type, typed_result, typed_value, with_enumerator, typed_enumerators}
 use Rattle.c_model.specs.StatementTyping.{Around, in_loop, behind, behind_first, condition, typed_condition, typed_maybe, returned, typed_declarations, typed_statement, typed_else, typed_first}
 use Rattle.c_model.specs.StatementTyping.{typed_item, typed_items}
-use Rattle.c_model.specs.UnitTyping.{with_function, with_parameter, with_parameters, function_name, typed_parameters, typed_heading, typed_body, typed_function}
+use Rattle.c_model.specs.UnitTyping.{with_function, with_parameter, with_parameters, function_name, typed_parameters, typed_heading, typed_body, typed_parts as function_parts, typed_function}
 use Rattle.c_model.specs.TypedTrees.{TypedAs, around_body}
 use Rattle.c_model.specs.TypedReadings.{MaybeTypedAs, InBraces, WithoutBraces, InitialiserTypedAs, InitialisersTypedAs, AloneTypedAs, MaybeInitialiserTypedAs, DeclarationTypedAs, DeclarationsTypedAs, SameDeclaration}
 use Rattle.c_model.specs.TypedReadings.{SameDeclarations, EnumeratorsTypedAs, StatementTypedAs, ElseTypedAs, FirstTypedAs, ItemTypedAs, ItemsTypedAs, BodyTypedAs, FunctionTypedAs}
 use Rattle.c_model.proofs.TypedHeadings.{gives_heading}
+use Rattle.c_model.proofs.LabelledFunctions.{gives_function}
 use Rattle.c_model.proofs.TypedParts.{Gives, gives_of, gives_one, gives_both, gives_given, gives_where, gives_too_many}
 use Rattle.c_model.proofs.TypedReading.{in_type_as, decayed_as, typed_as}
 use Rattle.c_model.proofs.TypedDeclarations.{anything}
@@ -286,7 +287,7 @@ statement_is_read s r a b is = gives_of (StatementTypedAs a) (typed_statement s 
 
 -- ---- functions
 
-body_as : (s : Sight) (t : PlainType) (b : Option Statement) → Gives (BodyTypedAs b) (typed_body s t b)
+pub body_as : (s : Sight) (t : PlainType) (b : Option Statement) → Gives (BodyTypedAs b) (typed_body s t b)
 body_as s t None = refl
 body_as s t (Some (Block at items)) =
     gives_one (ItemsTypedAs items) (BodyTypedAs (Some (Block at items))) (typed_items s (around_body t) items) (λ items. Good (Some (Block at items))) (items_as s (around_body t) items)
@@ -307,8 +308,8 @@ heading_as s before f =
     gives_heading (λ n. Unit {0}) (λ t. Unit {0}) (SameDeclarations f.params) (HeadingAs f) s before f (anything (function_name s f)) (anything (typed_result s (is_definition f) f.place f.result))
     (parameters_as (inner s) (is_definition f) f.params) (λ n t ds u v w. record { place = refl; name = refl; params = w; contract = refl; body = refl; close = refl })
 
-pub function_as : (p : TranslationUnit) (s : Sight) (before : List Function) (f : Function) → Gives (FunctionTypedAs f) (typed_function p s before f)
-function_as p s before f = gives_one (HeadingAs f) (FunctionTypedAs f) (typed_heading s before f) _ (heading_as s before f) (λ g v.
+function_parts_as : (p : TranslationUnit) (s : Sight) (before : List Function) (f : Function) → Gives (FunctionTypedAs f) (function_parts p s before f)
+function_parts_as p s before f = gives_one (HeadingAs f) (FunctionTypedAs f) (typed_heading s before f) _ (heading_as s before f) (λ g v.
     gives_one (BodyTypedAs g.body) (FunctionTypedAs f) (typed_body (with_parameters (inner (with_function p s g)) g.params) g.result g.body) (λ b. Good (record g { body = b }))
     (body_as (with_parameters (inner (with_function p s g)) g.params) g.result g.body) (λ b w. record {
       place = v.place;
@@ -318,6 +319,9 @@ function_as p s before f = gives_one (HeadingAs f) (FunctionTypedAs f) (typed_he
       body = subst (λ a. BodyTypedAs a b) v.body w;
       close = v.close;
     }))
+
+pub function_as : (p : TranslationUnit) (s : Sight) (before : List Function) (f : Function) → Gives (FunctionTypedAs f) (typed_function p s before f)
+function_as p s before f = gives_function (FunctionTypedAs f) p s before f (function_parts_as p s before f)
 
 -- a typed function says what was read
 pub function_is_read : (p : TranslationUnit) (s : Sight) (before : List Function) (f g : Function) → typed_function p s before f ≡ Good g → FunctionTypedAs f g

@@ -83,7 +83,7 @@ compatible_all (b ∷ before) g h x n c e =
         subst (λ i. SameTypes i g) same (compatible b g x named n c2)
     by rest c2 false y f = rest f
 
-first_behind : (x : ℕ) (before : List Function) (g h : Function) (fs : List Function) → g.name ≡ x → first_declared x (before ++ (g ∷ fs)) ≡ Some h → is_compatible_with_all before g ≡ true → SameTypes h g
+pub first_behind : (x : ℕ) (before : List Function) (g h : Function) (fs : List Function) → g.name ≡ x → first_declared x (before ++ (g ∷ fs)) ≡ Some h → is_compatible_with_all before g ≡ true → SameTypes h g
 first_behind x before g h fs n e c = by (first_declared x before) refl
   where
     none : (bs : List Function) → first_declared x bs ≡ None → first_declared x (bs ++ (g ∷ fs)) ≡ Some g

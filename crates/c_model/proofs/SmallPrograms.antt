@@ -9,10 +9,11 @@ use Rattle.c_model.specs.ExpressionTyping.{Sight, with_object, inner}
 use Rattle.c_model.specs.DeclarationTyping.{typed_global, typed_typedef, typed_result, typed_member, typed_enumerators}
 use Rattle.c_model.specs.StatementTyping.{typed_items}
 use Rattle.c_model.specs.UnitTyping.{FileItem, StructHead, Member, AnEnum, ATypedef, AGlobal, AFunction, offset_of_item, member_items, struct_items, inserted, in_order, items_of_file, with_type, with_tag, with_function}
-use Rattle.c_model.specs.UnitTyping.{with_parameters, function_name, typed_parameters, typed_heading, typed_body, typed_function, Progress, new_tag, typed_enum, typed_item_of_file}
+use Rattle.c_model.specs.UnitTyping.{with_parameters, function_name, typed_parameters, typed_heading, typed_body, typed_parts, typed_function, Progress, new_tag, typed_enum, typed_item_of_file}
 use Rattle.c_model.specs.UnitTyping.{typed_items_of_file, at_start, with_progress, typed_unit}
 use Rattle.c_model.specs.FullExpressions.{EachInDeclaration, EachDeclared, EachInItems, EachInBody, EachInFunctions}
 use Rattle.c_model.specs.Sizes.{IsSmall}
+use Rattle.c_model.proofs.LabelledFunctions.{gives_function}
 use Rattle.c_model.proofs.TypedParts.{Gives, gives_one}
 use Rattle.c_model.proofs.TypedDeclarations.{anything}
 use Rattle.c_model.proofs.TypedHeadings.{gives_heading}
@@ -49,11 +50,14 @@ heading_short s before f h =
     gives_heading (λ n. Unit {0}) (λ t. Unit {0}) (λ ds. Unit {0}) HasShort s before f (anything (function_name s f)) (anything (typed_result s (is_definition f) f.place f.result))
     (anything (typed_parameters (inner s) (is_definition f) f.params)) (λ n t ds u v w. h)
 
-function_small : (p : TranslationUnit) (s : Sight) (before : List Function) (f : Function) → HasShort f → Gives HasSmall (typed_function p s before f)
-function_small p s before f h =
+parts_small : (p : TranslationUnit) (s : Sight) (before : List Function) (f : Function) → HasShort f → Gives HasSmall (typed_parts p s before f)
+parts_small p s before f h =
     gives_one HasShort HasSmall (typed_heading s before f) (λ f. one_part (typed_body (with_parameters (inner (with_function p s f)) f.params) f.result f.body) (λ b. Good (record f { body = b }))) (heading_short s before f h) (λ g k.
     gives_one (EachInBody IsSmall) HasSmall (typed_body (with_parameters (inner (with_function p s g)) g.params) g.result g.body) (λ b. Good (record g { body = b }))
     (body_small (with_parameters (inner (with_function p s g)) g.params) g.result g.body k) (λ b l. l))
+
+function_small : (p : TranslationUnit) (s : Sight) (before : List Function) (f : Function) → HasShort f → Gives HasSmall (typed_function p s before f)
+function_small p s before f h = gives_function HasSmall p s before f (parts_small p s before f h)
 
 -- ---- what a file declares
 

@@ -19,9 +19,8 @@ use Rattle.c_model.specs.UnitTyping.{with_progress, typed_unit, room_with, room_
 use Rattle.c_model.specs.PlacedTrees.{MembersInOrder}
 use Rattle.c_model.specs.TextOrder.{InTextOrder}
 use Rattle.c_model.specs.TypedPrograms.{AreLaidOut}
-use Rattle.c_model.specs.FullExpressions.{EachInDeclaration, EachDeclared, EachInBody, EachInFunctions}
+use Rattle.c_model.specs.FullExpressions.{EachInDeclaration, EachDeclared, EachInBody, EachInFunctions, EachExpression}
 use Rattle.c_model.specs.SmallTypes.{TypesSmall}
-use Rattle.c_model.specs.AcceptedPrograms.{EachExpression}
 use Rattle.c_model.proofs.StaticObjects.{literals_of, literals_are}
 use Rattle.c_model.proofs.TypedParts.{Gives, gives_of, gives_one, gives_both, gives_where, gives_sized}
 use Rattle.c_model.proofs.KnownTypes.{type_is_known}

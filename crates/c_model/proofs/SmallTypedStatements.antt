@@ -7,6 +7,7 @@ use Rattle.c_model.specs.Integers.{integer_type}
 use Rattle.c_model.specs.ExpressionTyping.{in_int}
 use Rattle.c_model.specs.FullExpressions.{EachInCases}
 use Rattle.c_model.proofs.TypedHeadings.{gives_heading}
+use Rattle.c_model.proofs.LabelledFunctions.{gives_function}
 use Rattle.c_model.proofs.TypedParts.{gives_given}
 use Rattle.std.proofs.Common.{◌≡◌, zero, suc, refl, sym, ◌∙◌, subst, List, [], ◌∷◌, ◌++◌, map, Option, Some, None, Bool, true, false, not, ◌&&◌, cond, if◌then◌else◌, slice_get}
 use Rattle.c_syntax.specs.declared.place.Place.{Place}
@@ -25,7 +26,7 @@ use Rattle.c_model.specs.DeclarationTyping.{Slots, Each, Members, next_slot, slo
 use Rattle.c_model.specs.DeclarationTyping.{place_of_initialiser, typed_maybe_initialiser, is_anything, is_static, own_name, typed_object_type, typed_variable, typed_global, is_declared_in_file, typed_result, typed_parameter}
 use Rattle.c_model.specs.DeclarationTyping as declaration
 use Rattle.c_model.specs.StatementTyping.{Around, in_loop, behind, behind_first, condition, typed_condition, typed_maybe, returned, typed_declarations, typed_statement, typed_else, typed_first, typed_item, typed_items}
-use Rattle.c_model.specs.UnitTyping.{types_of, signature, with_function, with_parameter, with_parameters, function_name, typed_parameters, typed_heading, typed_body, typed_function}
+use Rattle.c_model.specs.UnitTyping.{types_of, signature, with_function, with_parameter, with_parameters, function_name, typed_parameters, typed_heading, typed_body, typed_parts, typed_function}
 use Rattle.c_model.specs.TypedTrees.{WhereAny, around_body}
 use Rattle.c_model.specs.FullExpressions.{EachInitial, EachPart, EachInDeclaration, EachDeclared, EachIn, EachInElse, EachInFirst, EachInItem, EachInItems, EachInBody}
 use Rattle.c_model.specs.SmallTypes.{TypesSmall}
@@ -370,8 +371,8 @@ module _ (new : List StructType) (all : AreSmallStructs new)
       pub body : EachInBody E f.body
       pub sight : IsSmallSight new (with_function p s f)
 
-    pub function_small : (p : TranslationUnit) (s : Sight) → IsSmallSight new s → Grows s.structs new → (before : List Function) (f : Function) → Gives (IsFunctionThen p s) (typed_function p s before f)
-    function_small p s i g before f =
+    parts_small : (p : TranslationUnit) (s : Sight) → IsSmallSight new s → Grows s.structs new → (before : List Function) (f : Function) → Gives (IsFunctionThen p s) (typed_parts p s before f)
+    parts_small p s i g before f =
         gives_one HasSmallType (IsFunctionThen p s) (typed_heading s before f) (λ f. one_part (typed_body (with_parameters (inner (with_function p s f)) f.params) f.result f.body) (λ b. Good (record f { body = b })))
         (heading_small s i g before f) (λ h k.
         let w = sees_function p s i h k in
@@ -380,3 +381,6 @@ module _ (new : List StructType) (all : AreSmallStructs new)
         (body_small inside (sees_parameters (inner (with_function p s h)) (sees_inner (with_function p s h) w) h.params k.1)
         (grows_same s.structs inside.structs (parameters_structs (inner (with_function p s h)) h.params) g) h.result k.0 h.body)
         (λ b l. record { body = l; sight = sees_function p s i (record h { body = b }) k }))
+
+    pub function_small : (p : TranslationUnit) (s : Sight) → IsSmallSight new s → Grows s.structs new → (before : List Function) (f : Function) → Gives (IsFunctionThen p s) (typed_function p s before f)
+    function_small p s i g before f = gives_function (IsFunctionThen p s) p s before f (parts_small p s i g before f)

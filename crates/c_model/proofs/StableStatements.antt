@@ -259,4 +259,5 @@ module _ (new : List StructType) (levels tags enums : List ℕ)
       params = are_parameters_kept (inner s) f.params h.params;
       body = subst (λ s. BodyTyped s f.result f.body) (sym (parameters_last (inner s) f.params))
           (body_kept (with_parameters (inner s) f.params) (subst (λ ss. Widens ss new) (sym (parameters_structs (inner s) f.params)) w) f.result f.body h.body);
+      labels = h.labels;
     }

@@ -9,12 +9,16 @@ use Rattle.c_model.specs.Library.{is_library_name, is_there}
 use Rattle.c_model.specs.Checked.{Checked, Good, Bad, one_part}
 use Rattle.c_model.specs.ExpressionTyping.{is_unknown, Signature, Sight, name_at, function_called, type_named, with_object, inner, declared_here, is_void, is_scalar, is_struct, sized, limited, typed_type, known_type}
 use Rattle.c_model.specs.DeclarationTyping.{own_name, scalar_type, typed_result, typed_parameter_type, known_parameter_type, parameter_name, typed_parameter}
-use Rattle.c_model.specs.StatementTyping.{typed_items}
-use Rattle.c_model.specs.UnitTyping.{with_function, with_parameter, with_parameters, typed_parameters, typed_heading, typed_body, typed_function}
+use Rattle.c_model.specs.StatementTyping.{typed_items, typed_labels}
+use Rattle.c_model.specs.UnitTyping.{with_function, with_parameter, with_parameters, typed_parameters, typed_heading, typed_body, typed_parts, typed_function}
 use Rattle.c_model.specs.TypedTrees.{IsScalar, IsResult, GivesNothing, GivesScalar, IsParameter, AreParameters, around_body, BodyTyped, FunctionTyped, ItemsTyped}
+use Rattle.c_model.specs.TypedReadings.{BodyTypedAs}
 use Rattle.c_model.specs.PlacedTrees.{IsOffset, ParametersAtOffsets, BodyAtOffsets, FunctionAtOffsets}
 use Rattle.c_model.specs.TextTypingLaws.{IsWholeSight}
 use Rattle.c_model.proofs.TypedHeadings.{gives_heading}
+use Rattle.c_model.proofs.LabelledFunctions.{gives_labelled}
+use Rattle.c_model.proofs.ReadStatements.{body_as}
+use Rattle.c_model.proofs.TypedLabels.{body_labels}
 use Rattle.c_model.proofs.TypedParts.{Gives, gives_of, gives_one, gives_both, gives_where, void_is, scalar_is}
 use Rattle.c_model.proofs.TypedSoundness.{gives_limited}
 use Rattle.c_model.proofs.TypedDeclarations.{anything, none_there, own_name_is, after_object}
@@ -144,6 +148,18 @@ body_typed s i t (Some (Block at items)) o =
     gives_one (ItemsTyped s (around_body t)) (BodyTyped s t) (typed_items s (around_body t) items) (λ items. Good (Some (Block at items))) (items_typed s i (around_body t) items o) (λ items w. w)
 body_typed s i t (Some _) o = tt
 
+-- a body that is typed and has the labels of the one that was read
+record IsBody (s : Sight) (t : PlainType) (a b : Option Statement) : Type 0 where
+  typed : BodyTyped s t b
+  labels : typed_labels b ≡ typed_labels a
+
+whole_body : (s : Sight) → IsWholeSight s → (t : PlainType) (b : Option Statement) → BodyAtOffsets b → Gives (IsBody s t b) (typed_body s t b)
+whole_body s i t b o = by (typed_body s t b) (body_typed s i t b o) (body_as s t b)
+  where
+    by : (c : Checked (Option Statement)) → Gives (BodyTyped s t) c → Gives (BodyTypedAs b) c → Gives (IsBody s t b) c
+    by (Good d) h k = record { typed = h; labels = body_labels b d k }
+    by (Bad f fs) h k = tt
+
 -- ---- functions
 
 -- a function with a typed heading
@@ -166,23 +182,26 @@ pub record IsFunctionThen (p : TranslationUnit) (s : Sight) (f : Function) : Typ
   pub typed : FunctionTyped (with_function p s f) f
   pub sight : IsWholeSight (with_function p s f)
 
-pub function_typed : (p : TranslationUnit) (s : Sight) → IsWholeSight s → (before : List Function) (f : Function) → FunctionAtOffsets f → Gives (IsFunctionThen p s) (typed_function p s before f)
-function_typed p s i before f o =
+parts_typed : (p : TranslationUnit) (s : Sight) → IsWholeSight s → (before : List Function) (f : Function) → FunctionAtOffsets f → typed_labels f.body ≡ Good tt → Gives (IsFunctionThen p s) (typed_parts p s before f)
+parts_typed p s i before f o distinct =
     gives_one (IsHeading s f) (IsFunctionThen p s) (typed_heading s before f) _ (heading_typed s before f o) (λ g v.
     let w = after_function p s i g v.result in
-    gives_one (BodyTyped (with_parameters (inner (with_function p s g)) g.params) g.result) (IsFunctionThen p s)
-    (typed_body (with_parameters (inner (with_function p s g)) g.params) g.result g.body) (λ b. Good (record g { body = b }))
-    (body_typed (with_parameters (inner (with_function p s g)) g.params)
-    (after_parameters (inner (with_function p s g)) (inner_sight (with_function p s g) w) g.params v.params.offsets) g.result g.body (subst BodyAtOffsets (sym v.body) o.body))
+    let inside = with_parameters (inner (with_function p s g)) g.params in
+    gives_one (IsBody inside g.result g.body) (IsFunctionThen p s) (typed_body inside g.result g.body) (λ b. Good (record g { body = b }))
+    (whole_body inside (after_parameters (inner (with_function p s g)) (inner_sight (with_function p s g) w) g.params v.params.offsets) g.result g.body (subst BodyAtOffsets (sym v.body) o.body))
     (λ b h. record {
       typed = record {
         own_name = v.own_name;
         result = v.result;
         params = among_parameters (with_function p s g).functions (inner s) g.params v.params.are;
-        body = h;
+        body = h.typed;
+        labels = h.labels ∙ ap typed_labels v.body ∙ distinct;
       };
       sight = after_function p s i (record g { body = b }) v.result;
     }))
+
+pub function_typed : (p : TranslationUnit) (s : Sight) → IsWholeSight s → (before : List Function) (f : Function) → FunctionAtOffsets f → Gives (IsFunctionThen p s) (typed_function p s before f)
+function_typed p s i before f o = gives_labelled (IsFunctionThen p s) p s before f (parts_typed p s i before f o)
 
 -- the law of functions
 pub function_is_typed : (p : TranslationUnit) (s : Sight) (before : List Function) (f g : Function) → IsWholeSight s → FunctionAtOffsets f → typed_function p s before f ≡ Good g

@@ -1,5 +1,5 @@
 -- What is known of functions doesn't look at the ranges of their annotations: it is the same without them.
-use Rattle.std.proofs.Common.{◌≡◌, ℕ, suc, ◌≤◌, ◌&&◌, cond, nat_eq, List, [], ◌∷◌, ◌++◌, map, length, Option, Some, None, option_map, refl, ap}
+use Rattle.std.proofs.Common.{◌≡◌, ℕ, suc, ◌≤◌, ◌&&◌, cond, nat_eq, List, [], ◌∷◌, ◌++◌, map, length, Option, Some, None, option_map, refl, sym, ap, ◌∙◌}
 use Rattle.std.specs.Prelude.{bytes_eq, codes}
 use Rattle.c_syntax.specs.Expressions.{Expression}
 use Rattle.c_syntax.specs.Ctypes.{PlainType, int_type}
@@ -10,12 +10,15 @@ use Rattle.c_model.specs.Meaning.{is_definition}
 use Rattle.c_model.specs.ExpressionTyping.{Sight, inner, name_at, same_type}
 use Rattle.c_model.specs.UnitTyping.{definition_of, first_declaration, number_or, types_of, signature, with_parameters, has_no_parameters, no_main, main_fault}
 use Rattle.c_model.specs.TypedTrees.{around_body, BodyTyped, FunctionTyped}
+use Rattle.c_model.specs.AnnotationSights.{AnnotationSight}
+use Rattle.c_model.specs.AnnotationTyping.{in_body}
 use Rattle.c_model.specs.TypedAnnotations.{BodyNoted, FunctionNoted}
 use Rattle.c_model.specs.Formed.{AreAsserts, number_of, numbers_of, declared_in_body, AreNamed, FunctionNamed, FunctionsNamed}
 use Rattle.c_model.specs.FullExpressions.{EachInBody, EachInFunctions}
 use Rattle.c_model.specs.ExpressionGrammar.{most_nested}
 use Rattle.c_model.specs.ReadTree.{BodyRead, FunctionRead, FunctionsRead}
 use Rattle.c_model.specs.UnrangedPrograms.{unranged_statement, unranged_function}
+use Rattle.c_model.proofs.UnrangedLabels.{body_labels}
 use Rattle.c_model.proofs.UnrangedTerms.{Alike, alike, itself, beside}
 use Rattle.c_model.proofs.UnrangedStatements.{items_typed, items_noted, each_in_items, same_depth, same_declared, items_placed}
 
@@ -26,7 +29,7 @@ body_typed s t None = refl
 body_typed s t (Some (Block at items)) = items_typed s (around_body t) items
 body_typed s t (Some _) = refl
 
-body_noted : (s : Sight) (b : Option Statement) → BodyNoted s (option_map unranged_statement b) ≡ BodyNoted s b
+body_noted : (s : AnnotationSight) (b : Option Statement) → BodyNoted s (option_map unranged_statement b) ≡ BodyNoted s b
 body_noted s None = refl
 body_noted s (Some (Block at items)) = items_noted s items
 body_noted s (Some _) = refl
@@ -54,18 +57,19 @@ body_there (Some a) = refl
 pub function_typed : (s : Sight) (f : Function) → Alike (FunctionTyped s (unranged_function f)) (FunctionTyped s f)
 function_typed s f =
     let body = alike (body_typed (with_parameters (inner s) f.params) f.result f.body) in
+    let labels = body_labels f.body in
     record {
-      to = λ h. record { own_name = h.own_name; result = h.result; params = h.params; body = body.to h.body };
-      from = λ h. record { own_name = h.own_name; result = h.result; params = h.params; body = body.from h.body };
+      to = λ h. record { own_name = h.own_name; result = h.result; params = h.params; body = body.to h.body; labels = sym labels ∙ h.labels };
+      from = λ h. record { own_name = h.own_name; result = h.result; params = h.params; body = body.from h.body; labels = labels ∙ h.labels };
     }
 
 pub function_noted : (s : Sight) (f : Function) → FunctionNoted s (unranged_function f) ≡ FunctionNoted s f
-function_noted s f = body_noted (with_parameters (inner s) f.params) f.body
+function_noted s f = body_noted (in_body (with_parameters (inner s) f.params)) f.body
 
 function_read : (f : Function) → Alike (FunctionRead AreAsserts (unranged_function f)) (FunctionRead AreAsserts f)
 function_read f = record {
-  to = λ h. record { no_contract = h.no_contract; body = (body_read f.body).to h.body };
-  from = λ h. record { no_contract = h.no_contract; body = (body_read f.body).from h.body };
+  to = λ h. record { body = (body_read f.body).to h.body };
+  from = λ h. record { body = (body_read f.body).from h.body };
 }
 
 function_named : (names : List (List ℕ)) (f : Function) → Alike (FunctionNamed names (unranged_function f)) (FunctionNamed names f)

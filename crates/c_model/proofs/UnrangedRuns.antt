@@ -7,12 +7,12 @@ use Rattle.c_syntax.specs.Statements.{Statement}
 use Rattle.c_syntax.specs.Programs.{Function, TranslationUnit}
 use Rattle.c_model.specs.Memory.{Value}
 use Rattle.c_model.specs.State.{Scope, Input, ◌>>=◌, ◌>>◌, give, step, frame, alone, mark, births, called}
-use Rattle.c_model.specs.ContractChecks.{entry, ending}
-use Rattle.c_model.specs.Meaning.{Tables, Callee, is_definition, is_of_library, library_call, definition_at, returned_by, parameters, body_with, call_with, after_main, main_with, tables_of, global_scope, call_of, has_name, function_named}
+use Rattle.c_model.specs.Meaning.{Tables, Callee, is_definition, is_of_library, library_call, definition_at, returned_by, parameters, body_with, call_with, main_with, tables_of, global_scope, call_of, has_name, function_named}
 use Rattle.c_model.specs.Meaning.{initialise_all}
 use Rattle.c_model.specs.Meaning.{start, whole, ran, run}
 use Rattle.c_model.specs.UnrangedPrograms.{unranged_statement, unranged_function, unranged_unit, RangesKeepRuns}
 use Rattle.c_model.proofs.UnrangedStatements.{same_exec}
+use Rattle.c_model.proofs.UnrangedContracts.{same_entry, same_ending, same_after_main}
 use Rattle.c_model.proofs.UnrangedFunctions.{same_definition}
 use Rattle.c_model.proofs.UnrangedFiles.{same_definition_at}
 use Rattle.c_model.proofs.RangedStatements.{ranging_keeps_units}
@@ -26,11 +26,11 @@ module _ (T : Tables) (call : Callee) (n : ℕ) where
   same_call_with globals None = refl
   same_call_with globals (Some f) = λ i at vs.
       step >> called (frame >> alone globals >> parameters T at f.params vs >> mark None
-      >> (entry f.contract >>= λ hs. (λ s. returned_by f (same_body f.body i s)) >>= λ v. ending f.contract hs v >> give v))
+      >> (same_entry f.contract i >>= λ hs. (λ s. returned_by f (same_body f.body i s)) >>= λ v. same_ending f.contract hs v i >> give v))
 
   same_main_with : (o : Option Function) → main_with T (option_map unranged_function o) call n ≡ main_with T o call n
   same_main_with None = refl
-  same_main_with (Some f) = λ i. called (frame >> births T.structs f.params >> mark None >> (entry f.contract >>= λ hs s. after_main f.contract hs (same_body f.body i s)))
+  same_main_with (Some f) = λ i. called (frame >> births T.structs f.params >> mark None >> (same_entry f.contract i >>= λ hs s. same_after_main f.contract hs (same_body f.body i s) i))
 
 module _ (p : TranslationUnit) where
   one_deeper : (n : ℕ) → call_of (unranged_unit p) n ≡ call_of p n → (at : Place) (f : Use) (vs : List Value) → call_of (unranged_unit p) (suc n) at f vs ≡ call_of p (suc n) at f vs

@@ -4,6 +4,8 @@ use Rattle.c_syntax.specs.declared.types.CInt.{CInt}
 use Rattle.c_syntax.specs.Ctypes.{Int}
 use Rattle.c_syntax.specs.Expressions.{type_of}
 use Rattle.c_model.specs.StatementTyping.{in_switch}
+use Rattle.c_model.specs.AnnotationSights.{AnnotationSight}
+use Rattle.c_model.specs.AnnotationTyping.{inside_block, inside_for, with_label, behind_labels, labels_behind, behind_noted, behind_case}
 use Rattle.c_model.specs.Conversions.{promoted}
 use Rattle.c_model.specs.TypedTrees.{CasesTyped, IsCaseValue}
 use Rattle.c_model.specs.TypedAnnotations.{CasesNoted}
@@ -73,38 +75,67 @@ mutual
   items_typed s r NoItem = refl
   items_typed s r (Then x rest) = λ i. item_typed s r x i × (ap (λ t. ItemsTyped t r (unranged_items rest)) (same_behind s x) ∙ items_typed (behind s x) r rest) i
 
+-- ---- annotations
+
+same_labels : (s : AnnotationSight) (a : Statement) → behind_labels s (unranged_statement a) ≡ behind_labels s a
+same_labels s (Empty at) = refl
+same_labels s (Eval at e) = refl
+same_labels s (Block at items) = refl
+same_labels s (If at e a b) = refl
+same_labels s (While at annots e a) = refl
+same_labels s (Do at a e) = refl
+same_labels s (For at annots first e step a) = refl
+same_labels s (Break at) = refl
+same_labels s (Continue at) = refl
+same_labels s (Return at e) = refl
+same_labels s (Labelled at l a) = same_labels (with_label s l) a
+same_labels s (Switch at e cases) = refl
+
+same_labels_behind : (s : AnnotationSight) (x : BlockItem) → labels_behind s (unranged_item x) ≡ labels_behind s x
+same_labels_behind s (Declare ds) = refl
+same_labels_behind s (Specify at t) = refl
+same_labels_behind s (Run a) = same_labels s a
+same_labels_behind s (Asserts annots) = refl
+
+same_noted : (s : AnnotationSight) (x : BlockItem) → behind_noted s (unranged_item x) ≡ behind_noted s x
+same_noted s x = λ i. record (same_labels_behind s x i) { here = same_behind s.here x i }
+
+same_case : (s : AnnotationSight) (items : BlockItems) → behind_case s (unranged_items items) ≡ behind_case s items
+same_case s NoItem = refl
+same_case s (Then x rest) = ap (λ t. behind_case t (unranged_items rest)) (same_labels_behind s x) ∙ same_case (labels_behind s x) rest
+
 mutual
-  statement_noted : (s : Sight) (a : Statement) → StatementNoted s (unranged_statement a) ≡ StatementNoted s a
+  statement_noted : (s : AnnotationSight) (a : Statement) → StatementNoted s (unranged_statement a) ≡ StatementNoted s a
   statement_noted s (Empty at) = refl
   statement_noted s (Eval at e) = refl
-  statement_noted s (Block at items) = items_noted (inner s) items
+  statement_noted s (Block at items) = items_noted (inside_block s) items
   statement_noted s (If at e a b) = λ i. statement_noted s a i × else_noted s b i
   statement_noted s (While at annots e a) = λ i. annotations_typed s annots i × statement_noted s a i
   statement_noted s (Do at a e) = statement_noted s a
-  statement_noted s (For at annots first e step a) = λ i. annotations_typed s annots i × statement_noted (behind_first (inner s) first) a i
+  statement_noted s (For at annots first e step a) = λ i. annotations_typed s annots i × statement_noted (inside_for s first) a i
   statement_noted s (Break at) = refl
   statement_noted s (Continue at) = refl
   statement_noted s (Return at e) = refl
-  statement_noted s (Labelled at l a) = statement_noted s a
+  statement_noted s (Labelled at l a) = statement_noted (with_label s l) a
   statement_noted s (Switch at e cases) = cases_noted s cases
 
-  cases_noted : (s : Sight) (cases : Cases) → CasesNoted s (unranged_cases cases) ≡ CasesNoted s cases
+  cases_noted : (s : AnnotationSight) (cases : Cases) → CasesNoted s (unranged_cases cases) ≡ CasesNoted s cases
   cases_noted s NoCase = refl
-  cases_noted s (AnotherCase at v items rest) = λ i. items_noted s items i × cases_noted s rest i
+  cases_noted s (AnotherCase at v items rest) = λ i. items_noted s items i × (ap (λ t. CasesNoted t (unranged_cases rest)) (same_case s items) ∙ cases_noted (behind_case s items) rest) i
 
-  else_noted : (s : Sight) (b : ElsePart) → ElseNoted s (unranged_else b) ≡ ElseNoted s b
+  else_noted : (s : AnnotationSight) (b : ElsePart) → ElseNoted s (unranged_else b) ≡ ElseNoted s b
   else_noted s NoElse = refl
   else_noted s (Else a) = statement_noted s a
 
-  item_noted : (s : Sight) (x : BlockItem) → ItemNoted s (unranged_item x) ≡ ItemNoted s x
+  item_noted : (s : AnnotationSight) (x : BlockItem) → ItemNoted s (unranged_item x) ≡ ItemNoted s x
   item_noted s (Declare ds) = refl
   item_noted s (Specify at t) = refl
   item_noted s (Run a) = statement_noted s a
   item_noted s (Asserts annots) = annotations_typed s annots
 
-  pub items_noted : (s : Sight) (xs : BlockItems) → ItemsNoted s (unranged_items xs) ≡ ItemsNoted s xs
+  pub items_noted : (s : AnnotationSight) (xs : BlockItems) → ItemsNoted s (unranged_items xs) ≡ ItemsNoted s xs
   items_noted s NoItem = refl
-  items_noted s (Then x rest) = λ i. item_noted s x i × (ap (λ t. ItemsNoted t (unranged_items rest)) (same_behind s x) ∙ items_noted (behind s x) rest) i
+  items_noted s (Then x rest) = λ i. item_noted s x i × (ap (λ t. ItemsNoted t (unranged_items rest)) (same_noted s x) ∙ items_noted (behind_noted s x) rest) i
 
 -- ---- expressions, depth and declarations
 
@@ -235,7 +266,7 @@ mutual
   statement_placed (Break at) = itself
   statement_placed (Continue at) = itself
   statement_placed (Return at e) = itself
-  statement_placed (Labelled at l a) = itself
+  statement_placed (Labelled at l a) = statement_placed a
   statement_placed (Switch at e cases) = cases_placed cases
 
   cases_placed : (cs : Cases) → Alike (CasesPlaced AreAsserts (unranged_cases cs)) (CasesPlaced AreAsserts cs)

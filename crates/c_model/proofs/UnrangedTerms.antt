@@ -12,7 +12,7 @@ use Rattle.c_model.specs.Logic.{TermValue, Mathematical, Environment, Answer, Sa
 use Rattle.c_model.specs.Predicates.{term, clause, check_in, checks_in, checks, invariant, invariants, variant, variant_in, valued, value_of, is_smaller}
 use Rattle.c_model.specs.Predicates.{compared}
 use Rattle.c_model.specs.Meaning.{after_body, turn_with}
-use Rattle.c_model.specs.ExpressionTyping.{Sight}
+use Rattle.c_model.specs.AnnotationSights.{AnnotationSight, sight_at}
 use Rattle.c_model.specs.PredicateTyping.{AnInteger, APointer, sort_of, type_of_term, told_type}
 use Rattle.c_model.specs.TypedPredicates.{IsSize, IsExtent, IsAlignment, HasLink, IsOnInteger, IsCast, IsChoice, IsIntegerTerm, IsPointerTerm, IsPlace, IsZeroTerm, AreRelated, TermTyped, LinksTyped}
 use Rattle.c_model.specs.TypedPredicates.{ZoneTyped, ZonesTyped, PredicateTyped, ClauseTyped, AnnotationsTyped}
@@ -109,7 +109,7 @@ related_kept a b i =
     (integer_kept a i × integer_kept b i) ⊎ (pointer_kept a i × pointer_kept b i) ⊎ (pointer_kept a i × zero_kept b i) ⊎ (zero_kept a i × pointer_kept b i)
 
 mutual
-  term_typed : (s : Sight) (t : LogicTerm) → TermTyped s (unranged_term t) ≡ TermTyped s t
+  term_typed : (s : AnnotationSight) (t : LogicTerm) → TermTyped s (unranged_term t) ≡ TermTyped s t
   term_typed s (Number at c r n) = refl
   term_typed s (Letter at c r n) = refl
   term_typed s (Variable at c r x) = refl
@@ -118,7 +118,7 @@ mutual
   term_typed s (Cast at c r to a) = λ i. IsCast c to (sort_of (type_kept a i)) × term_typed s a i
   term_typed s (Choice at c r p a b) = λ i. IsChoice c (sort_of (type_kept a i)) (sort_of (type_kept b i)) × predicate_typed s p i × term_typed s a i × term_typed s b i
   term_typed s (Named at c r x) = refl
-  term_typed s (At at c r l a) = refl
+  term_typed s (At at c r l a) = λ i. (u : AnnotationSight) × (sight_at s l ≡ Some u) × (c ≡ type_kept a i) × term_typed u a i
   term_typed s (Null at c r) = refl
   term_typed s (Deref at c r a) = λ i. (u : PlainType) × (c ≡ Some u) × (sort_of (type_kept a i) ≡ APointer u) × term_typed s a i
   term_typed s (Member at c r d a) = λ i. (u : PlainType) × (c ≡ Some u) × (n : ℕ) × (type_kept a i ≡ Some (Struct n)) × place_kept a i × term_typed s a i × IsExtent d
@@ -127,19 +127,19 @@ mutual
   term_typed s (Difference at c r n a b) = λ i. (c ≡ None) × pointer_kept a i × pointer_kept b i × term_typed s a i × term_typed s b i × IsSize n
   term_typed s (Told at c r f a) = λ i. (c ≡ told_type f) × pointer_kept a i × term_typed s a i
 
-  links_typed : (s : Sight) (a : LogicTerm) (l : Links) → LinksTyped s (unranged_term a) (unranged_links l) ≡ LinksTyped s a l
+  links_typed : (s : AnnotationSight) (a : LogicTerm) (l : Links) → LinksTyped s (unranged_term a) (unranged_links l) ≡ LinksTyped s a l
   links_typed s a NoLink = refl
   links_typed s a (Linked at r t rest) = λ i. related_kept a t i × term_typed s t i × links_typed s t rest i
 
-  zone_typed : (s : Sight) (z : Zone) → ZoneTyped s (unranged_zone z) ≡ ZoneTyped s z
+  zone_typed : (s : AnnotationSight) (z : Zone) → ZoneTyped s (unranged_zone z) ≡ ZoneTyped s z
   zone_typed s (Object at n m a) = λ i. pointer_kept a i × term_typed s a i × IsSize n × IsAlignment m
   zone_typed s (Elements at n m a lo hi) = λ i. pointer_kept a i × integer_kept lo i × integer_kept hi i × term_typed s a i × term_typed s lo i × term_typed s hi i × IsSize n × IsAlignment m
 
-  zones_typed : (s : Sight) (zs : Zones) → ZonesTyped s (unranged_zones zs) ≡ ZonesTyped s zs
+  zones_typed : (s : AnnotationSight) (zs : Zones) → ZonesTyped s (unranged_zones zs) ≡ ZonesTyped s zs
   zones_typed s NoZone = refl
   zones_typed s (Another z rest) = λ i. zone_typed s z i × zones_typed s rest i
 
-  predicate_typed : (s : Sight) (p : Predicate) → PredicateTyped s (unranged_pred p) ≡ PredicateTyped s p
+  predicate_typed : (s : AnnotationSight) (p : Predicate) → PredicateTyped s (unranged_pred p) ≡ PredicateTyped s p
   predicate_typed s (Truth at b) = refl
   predicate_typed s (NonZero at t) = λ i. integer_kept t i × term_typed s t i
   predicate_typed s (Chain at t links) = λ i. term_typed s t i × links_typed s t links i × link_kept links i
@@ -150,13 +150,13 @@ mutual
   predicate_typed s (Asks at f z) = zone_typed s z
   predicate_typed s (Separated at zs) = zones_typed s zs
 
-clause_typed : (s : Sight) (b : ClauseBody) → ClauseTyped s (unranged_clause b) ≡ ClauseTyped s b
+pub clause_typed : (s : AnnotationSight) (b : ClauseBody) → ClauseTyped s (unranged_clause b) ≡ ClauseTyped s b
 clause_typed s (Raw f) = refl
 clause_typed s (Holds p) = predicate_typed s p
 clause_typed s (Value t) = refl
 clause_typed s (Behaviors names) = refl
 
-pub annotations_typed : (s : Sight) (xs : List Annotation) → AnnotationsTyped s (unranged_annotations xs) ≡ AnnotationsTyped s xs
+pub annotations_typed : (s : AnnotationSight) (xs : List Annotation) → AnnotationsTyped s (unranged_annotations xs) ≡ AnnotationsTyped s xs
 annotations_typed s [] = refl
 annotations_typed s (a ∷ rest) = λ i. clause_typed s a.body i × annotations_typed s rest i
 
@@ -278,7 +278,7 @@ predicate_short p = record {
   from = λ h. record { numbered = (alike (predicate_numbered p)).from h.numbered; short = subst (λ n. n ≤ 400) (sym (predicate_tokens p)) h.short };
 }
 
-clause_short : (b : ClauseBody) → Alike (IsShortClause (unranged_clause b)) (IsShortClause b)
+pub clause_short : (b : ClauseBody) → Alike (IsShortClause (unranged_clause b)) (IsShortClause b)
 clause_short (Raw f) = itself
 clause_short (Holds p) = predicate_short p
 clause_short (Value t) = record {
@@ -303,19 +303,19 @@ are_none (a ∷ rest) = record { to = λ e. cc; from = λ e. cc }
 
 -- ---- meaning
 
-same_judged : (a : Annotation) (b : ClauseBody) (x : Answer) (s : State) → judged (record a { body = b }) x s ≡ judged a x s
+pub same_judged : (a : Annotation) (b : ClauseBody) (x : Answer) (s : State) → judged (record a { body = b }) x s ≡ judged a x s
 same_judged a b (Says true n) s = refl
 same_judged a b (Says false n) s = refl
 same_judged a b (SaysNothing n) s = refl
 same_judged a b OutOfSteps s = refl
 
-same_clause : (b : ClauseBody) (s : State) (e : Environment) (n : ℕ) → clause (unranged_clause b) s e n ≡ clause b s e n
+pub same_clause : (b : ClauseBody) (s : State) (e : Environment) (n : ℕ) → clause (unranged_clause b) s e n ≡ clause b s e n
 same_clause (Raw f) s e n = refl
 same_clause (Holds p) s e n = answer_kept p s e n
 same_clause (Value t) s e n = refl
 same_clause (Behaviors names) s e n = refl
 
-same_check : (e : Environment) (a : Annotation) (s : State) → check_in e (record a { body = unranged_clause a.body }) s ≡ check_in e a s
+pub same_check : (e : Environment) (a : Annotation) (s : State) → check_in e (record a { body = unranged_clause a.body }) s ≡ check_in e a s
 same_check e a s = same_judged a (unranged_clause a.body) (clause (unranged_clause a.body) s e s.steps) s ∙ ap (λ x. judged a x s) (same_clause a.body s e s.steps)
 
 pub same_checks_in : (e : Environment) (xs : List Annotation) → checks_in e (unranged_annotations xs) ≡ checks_in e xs

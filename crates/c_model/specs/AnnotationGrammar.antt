@@ -1,7 +1,5 @@
--- The grammar of annotations, with the forms that are read (ACSL 2.2, 2.4.1, 2.7):
+-- The grammar of the forms of annotations, as they are read (ACSL 2.2, 2.4.3, 2.7); the clauses that they stand in are those of ClauseGrammar:
 --
---   annotation  = ANNOT-OPEN assert { assert } ANNOT-CLOSE
---   assert      = "assert" form ";"
 --   form        = equivalence [ "?" form ":" form ]
 --   equivalence = implication { "<==>" implication }
 --   implication = disjunction [ "==>" implication ]
@@ -17,25 +15,24 @@
 --   product     = prefix { ( "*" | "/" | "%" ) prefix }
 --   prefix      = ( "+" | "-" | "!" | "~" | "*" | "&" ) prefix | "(" ( type | "integer" ) ")" prefix | "sizeof" "(" type ")" | postfix
 --   postfix     = primary { "[" form "]" | "." ANYNAME | "->" ANYNAME }
---   primary     = NAME | NUMBER | CHAR | "\true" | "\false" | "\null" | "(" form ")"
+--   primary     = NAME | NUMBER | CHAR | "\true" | "\false" | "\null" | "\result" | "(" form ")"
+--               | "\old" "(" form ")" | "\at" "(" form "," NAME ")"
 --               | ( "\base_addr" | "\block_length" | "\offset" ) "(" form ")"
 --               | ( "\valid" | "\valid_read" | "\initialized" ) "(" zone ")" | "\separated" "(" zone "," zone { "," zone } ")"
 --   zone        = form [ "+" "(" form ".." form ")" ]
 --
--- The type of a cast and of `sizeof` is C's. `integer` is no NAME, and `assert` is one; each of them may be the name of a member. A clause is
--- told by its word also where a typedef makes that the name of a type. A clause has at most 400 tokens. Relations bind closer than `&`, as in C.
--- Names and their declarations are set by typing.
+-- The type of a cast and of `sizeof` is C's. `integer` is no NAME, and words of clauses are; each of them may be the name of a member. Relations bind
+-- closer than `&`, as in C. Names and their declarations are set by typing, and so are labels.
 --
 -- Only behind a form in parentheses is it seen whether a `+` before it adds, or begins the range of a zone, whose form is then the whole one before
 -- the `+`. So a form is read in one of two modes. In that of a zone a sum goes on with a range too, and nothing goes on behind one; it is handed on
 -- to what may stand last in a form: the right operand of each level, and the last part of a choice.
-use Rattle.std.specs.Prelude.{ℕ, ◌+◌, List, [], ◌∷◌, ◌++◌, Option, Some, None, Bool, cond, eqb}
-use Rattle.grammar.specs.Syntax.{Syntax, none, gives, one, ◌then◌, choice, many, knot, at_most}
+use Rattle.std.specs.Prelude.{ℕ, List, [], ◌∷◌, ◌++◌, Option, Some, None, Bool, cond, eqb}
+use Rattle.grammar.specs.Syntax.{Syntax, none, gives, one, ◌then◌, choice, many, knot}
 use Rattle.c_syntax.specs.declared.place.Place.{Place}
 use Rattle.c_syntax.specs.declared.expression.BinOp.TheVariants.{Add, Sub, Mul, Div, Rem, Shl, Shr, BitAnd, BitOr, BitXor}
 use Rattle.c_syntax.specs.declared.expression.UnOp.{UnOp}
 use Rattle.c_syntax.specs.declared.expression.UnOp.TheVariants.{Plus, Minus, Not, Flip, Deref, Address}
-use Rattle.c_syntax.specs.declared.annotation.Kind.TheVariants as clause
 use Rattle.c_syntax.specs.declared.annotation.Relation.{Relation}
 use Rattle.c_syntax.specs.declared.annotation.Relation.TheVariants as relation
 use Rattle.c_syntax.specs.declared.logic.BlockFact.{BlockFact}
@@ -43,8 +40,7 @@ use Rattle.c_syntax.specs.declared.logic.Connective.TheVariants as connective
 use Rattle.c_syntax.specs.declared.logic.MemoryQuestion.{MemoryQuestion}
 use Rattle.c_syntax.specs.Formulas.{CastType, Integers, OfC, Form, Number, Letter, Truth, Name, Unary, Binary, Cast, SizeOf, Chain, Connected, Choice}
 use Rattle.c_syntax.specs.Formulas.{FormLinks, NoLink, Linked, Null, Index, Dot, Arrow, Told, Asks, Separated, FormZone, Object, Elements, FormZones, NoZone}
-use Rattle.c_syntax.specs.Formulas.{Another}
-use Rattle.c_syntax.specs.Logic.{Annotation, Raw}
+use Rattle.c_syntax.specs.Formulas.{Another, Result, Old, At}
 use Rattle.c_syntax.specs.Tokens as token
 use Rattle.c_syntax.specs.Tokens.{PlainTokenKind, PlainToken}
 use Rattle.c_model.specs.declared.formulas.FormulaOperator.{FormulaOperator}
@@ -56,17 +52,16 @@ use Rattle.c_model.specs.declared.formulas.ChainDirection.TheVariants.{Start, Eq
 use Rattle.c_model.specs.declared.vocabulary.Keyword.TheVariants as keyword
 use Rattle.c_model.specs.declared.vocabulary.LogicWord.TheVariants as logic
 use Rattle.c_model.specs.declared.vocabulary.Word.{Word}
-use Rattle.c_model.specs.declared.vocabulary.TypeName.TheVariants.{DeclaredAssert}
 use Rattle.c_model.specs.declared.vocabulary.Word.TheVariants as word
 use Rattle.c_model.specs.Vocabulary.{Vocabulary, word_at}
 use Rattle.c_model.specs.Punctuators.{shift_left, shift_right, less_equal, greater_equal, equal, not_equal, and_and, or_or, plus, minus, times, divide}
-use Rattle.c_model.specs.Punctuators.{percent, less, greater, exclamation, tilde, ampersand, bar, caret, question, colon, semicolon, left_paren}
+use Rattle.c_model.specs.Punctuators.{percent, less, greater, exclamation, tilde, ampersand, bar, caret, question, colon, left_paren}
 use Rattle.c_model.specs.Punctuators.{right_paren, equivalent, implies, caret_caret, comma, dot, arrow, left_bracket, right_bracket, dots}
-use Rattle.c_model.specs.Terminals.{placed, mark_entry, expression_limit}
-use Rattle.c_model.specs.ExpressionGrammar.{name_kind, type_name_kind, number_kind, letter_kind, annot_open_kind, annot_close_kind, keyword_kind, mark_kind}
-use Rattle.c_model.specs.ExpressionGrammar.{word_kind, token_kind, letter_of, number_of, kinds_of, first_type, use_of, most_in_expression}
+use Rattle.c_model.specs.Terminals.{placed, mark_entry}
+use Rattle.c_model.specs.ExpressionGrammar.{name_kind, number_kind, letter_kind, keyword_kind, mark_kind}
+use Rattle.c_model.specs.ExpressionGrammar.{word_kind, token_kind, letter_of, number_of, kinds_of, first_type, use_of, any_name}
 use Rattle.c_model.specs.ExpressionGrammar.{null_kind, fact_kind, question_kind, separated_kind, fixed, mark, reserved, closed, type_name, expression}
-use Rattle.c_model.specs.ExpressionGrammar.{any_name}
+use Rattle.c_model.specs.ExpressionGrammar.{result_kind, old_kind, at_kind}
 
 -- ---- kinds of tokens in annotations: those of C, but that `integer` has a kind of its own
 
@@ -97,15 +92,6 @@ fact_word _ = None
 abbrev pub question_word : Word → Option MemoryQuestion
 question_word (word.Logic (logic.Asks q)) = Some q
 question_word _ = None
-
-abbrev pub assert_word_of : Word → Option (Unit {0})
-assert_word_of word.Assert = Some tt
-assert_word_of (word.TypeName DeclaredAssert) = Some tt
-assert_word_of _ = None
-
--- what begins a clause, also where a `typedef` declares its word; it serves `parse` alone
-abbrev pub first_clause : List ℕ
-first_clause = name_kind ∷ type_name_kind ∷ []
 
 -- what a postfix form goes on with; it serves `parse` alone
 abbrev pub first_behind : List ℕ
@@ -224,10 +210,6 @@ unended_only G x = elim x.1 [ None ↦ G x.0 | Some r ↦ none ]
 abbrev pub as_it_is : {A : Type 0} → A → A
 as_it_is a = a
 
--- the assert with the number n at this place
-abbrev pub assertion : ℕ → Place → Form → Annotation
-assertion n at f = record { number = n; kind = clause.Assert; place = at; body = Raw f }
-
 module _ (ws : Vocabulary) where
   -- ---- single tokens
 
@@ -253,11 +235,6 @@ module _ (ws : Vocabulary) where
   -- the word `integer`, by its place
   abbrev pub integer_word : Syntax PlainToken Place
   integer_word = one (λ t. cond (eqb (formula_kind ws t) integer_kind) (Some t.place) None)
-
-  -- the word `assert`
-  abbrev pub assert_word : PlainTokenKind → Option (Unit {0})
-  assert_word (token.Word n) = assert_word_of (word_at ws n)
-  assert_word _ = None
 
   -- ---- what stands in a form; F stands for a form inside another, in each mode
 
@@ -311,18 +288,35 @@ module _ (ws : Vocabulary) where
   unfoldable pub separated_form : Syntax PlainToken FormZone → Syntax PlainToken Form
   separated_form Z = fixed ws separated_kind then λ at. mark ws left_paren then λ _. some_zones Z then λ zs. closed ws (Separated at (zones_of zs))
 
-  -- NAME | NUMBER | CHAR | "\true" | "\false" | "\null"
+  -- "\result"
+  unfoldable pub result_form : Syntax PlainToken Form
+  result_form = fixed ws result_kind then λ at. gives (Result at)
+
+  -- "\old" "(" form ")"
+  unfoldable pub old_form : Syntax PlainToken Form → Syntax PlainToken Form
+  old_form E = fixed ws old_kind then λ at. mark ws left_paren then λ _. E then λ x. closed ws (Old at x)
+
+  -- "\at" "(" form "," NAME ")"
+  unfoldable pub labelled_form : Syntax PlainToken Form → Syntax PlainToken Form
+  labelled_form E =
+      fixed ws at_kind then λ at. mark ws left_paren then λ _. E then λ x. mark ws comma then λ _. one (placed formula_name_of) then λ l.
+      closed ws (At at x l.1 l.0)
+
+  -- NAME | NUMBER | CHAR | "\true" | "\false" | "\null" | "\result"
   unfoldable pub atom : Syntax PlainToken Form
   atom =
       choice (formula_kind ws) (name_kind ∷ []) named_form
-      (choice (formula_kind ws) (null_kind ∷ []) null_form literal_form)
+      (choice (formula_kind ws) (null_kind ∷ []) null_form
+      (choice (formula_kind ws) (result_kind ∷ []) result_form literal_form))
 
   -- a primary form that begins with no parenthesis
   unfoldable pub worded : Syntax PlainToken Form → Syntax PlainToken FormZone → Syntax PlainToken Form
   worded E Z =
       choice (formula_kind ws) (fact_kind ∷ []) (told_form E)
       (choice (formula_kind ws) (question_kind ∷ []) (asked_form Z)
-      (choice (formula_kind ws) (separated_kind ∷ []) (separated_form Z) atom))
+      (choice (formula_kind ws) (separated_kind ∷ []) (separated_form Z)
+      (choice (formula_kind ws) (old_kind ∷ []) (old_form E)
+      (choice (formula_kind ws) (at_kind ∷ []) (labelled_form E) atom))))
 
   -- ---- postfix forms
 
@@ -544,24 +538,3 @@ module _ (ws : Vocabulary) where
 
   abbrev pub form : Syntax PlainToken Form
   form = whole forms
-
-  -- ---- annotations
-
-  -- "assert" form ";", with the number n
-  unfoldable pub assert_clause : ℕ → Syntax PlainToken Annotation
-  assert_clause n = one (placed assert_word) then λ a. form then λ f. mark ws semicolon then λ _. gives (assertion n a.1 f)
-
-  -- the same within the limit of its tokens
-  unfoldable pub full_clause : ℕ → Syntax PlainToken Annotation
-  full_clause n = at_most expression_limit most_in_expression (assert_clause n)
-
-  -- an assert after others, with the number of the next one
-  unfoldable pub next_assert : List Annotation × ℕ → Syntax PlainToken (List Annotation × ℕ)
-  next_assert x = full_clause x.1 then λ a. gives (x.0 ++ a ∷ [], x.1 + 1)
-
-  -- assert { assert }, which take the numbers from n on and give the one after
-  unfoldable pub asserts : ℕ → Syntax PlainToken (List Annotation × ℕ)
-  asserts n = next_assert ([], n) then λ x. many (formula_kind ws) (λ _. first_clause) next_assert x
-
-  unfoldable pub annotations : ℕ → Syntax PlainToken (List Annotation × ℕ)
-  annotations n = fixed ws annot_open_kind then λ _. asserts n then λ x. fixed ws annot_close_kind then λ _. gives x

@@ -37,8 +37,7 @@ module _ (AreSo : List Annotation → Type 0) where
     StatementPlaced (Break at) = Unit {0}
     StatementPlaced (Continue at) = Unit {0}
     StatementPlaced (Return at e) = Unit {0}
-    -- labels are not translated yet
-    StatementPlaced (Labelled at l a) = ⊥
+    StatementPlaced (Labelled at l a) = StatementPlaced a
     StatementPlaced (Switch at e cases) = CasesPlaced cases
 
     -- nothing is declared directly in a `switch`

@@ -14,7 +14,7 @@
 --
 -- An expression that stands in no other has at most 400 tokens. A TYPENAME is the name of a type, and an ANYNAME is a NAME or a TYPENAME.
 -- Types and declarations are set by typing.
-use Rattle.std.specs.Prelude.{ℕ, zero, suc, ◌+◌, ℤ, List, [], ◌∷◌, ◌++◌, Option, Some, None, option_map, Bool, true, false, cond, eqb, slice_get}
+use Rattle.std.specs.Prelude.{ℕ, zero, suc, ◌+◌, ◌-◌, ℤ, List, [], ◌∷◌, ◌++◌, Option, Some, None, option_map, Bool, true, false, cond, eqb, slice_get}
 use Rattle.grammar.specs.Syntax.{Syntax, among, gives, one, ◌then◌, choice, many, knot, at_most}
 use Rattle.c_syntax.specs.declared.place.Place.{Place}
 use Rattle.c_syntax.specs.declared.types.CInt.{CInt}
@@ -47,7 +47,7 @@ use Rattle.c_model.specs.declared.vocabulary.LogicWord.TheVariants as logic
 use Rattle.c_model.specs.declared.vocabulary.Word.{Word}
 use Rattle.c_model.specs.declared.vocabulary.Word.TheVariants as word
 use Rattle.c_model.specs.declared.vocabulary.TypeName.{TypeName}
-use Rattle.c_model.specs.declared.vocabulary.TypeName.TheVariants.{Library, Declared, DeclaredAssert}
+use Rattle.c_model.specs.declared.vocabulary.TypeName.TheVariants.{Library, Declared, DeclaredClause}
 use Rattle.c_model.specs.declared.vocabulary.SignWords.{SignWords}
 use Rattle.c_model.specs.declared.vocabulary.SignWords.TheVariants as sign
 use Rattle.c_model.specs.declared.vocabulary.SizeWords.{SizeWords}
@@ -140,21 +140,33 @@ question_kind = 37
 abbrev pub separated_kind : ℕ
 separated_kind = 38
 
+abbrev pub result_kind : ℕ
+result_kind = 39
+
+abbrev pub old_kind : ℕ
+old_kind = 40
+
+abbrev pub at_kind : ℕ
+at_kind = 41
+
 abbrev pub logic_word_kind : LogicWord → ℕ
 logic_word_kind (logic.Truth b) = logic_kind
 logic_word_kind logic.Null = null_kind
 logic_word_kind (logic.Told f) = fact_kind
 logic_word_kind (logic.Asks q) = question_kind
 logic_word_kind logic.Separated = separated_kind
+logic_word_kind logic.Result = result_kind
+logic_word_kind logic.Old = old_kind
+logic_word_kind logic.At = at_kind
 logic_word_kind logic.Kept = logic_kind
 
 abbrev pub mark_kind : ℕ → ℕ
-mark_kind m = 40 + m
+mark_kind m = 60 + m
 
 abbrev pub word_kind : Word → ℕ
 word_kind (word.Keyword k) = keyword_kind k
 word_kind (word.TypeName t) = type_name_kind
-word_kind word.Assert = name_kind
+word_kind (word.Clause c) = name_kind
 word_kind word.Integer = name_kind
 word_kind (word.Logic w) = logic_word_kind w
 word_kind word.Name = name_kind
@@ -335,7 +347,7 @@ declared_type t stars ns = arrays_of (pointers stars.count t) ns
 abbrev pub named_type : ℕ → TypeName → PlainType
 named_type n (Library t) = Int t
 named_type n Declared = Named n
-named_type n DeclaredAssert = Named n
+named_type n (DeclaredClause c) = Named n
 
 abbrev pub type_named_by : ℕ → Word → Option PlainType
 type_named_by n (word.TypeName t) = Some (named_type n t)
@@ -681,12 +693,22 @@ module _ (ws : Vocabulary) where
   unfoldable pub expression : Syntax PlainToken Expression
   expression = with_commas (expression_at Assignment)
 
-  -- the same with the place of its first token, as a statement begins with it
-  unfoldable pub placed_expression : Syntax PlainToken (Expression × Place)
-  placed_expression =
-      operand expression (expression_at Assignment) type_use.Casts then λ x.
+  -- what stands behind the first operand, with the place of its first token, as a statement begins with it
+  unfoldable pub placed_rest : ReadOperand → Syntax PlainToken (Expression × Place)
+  placed_rest x =
       behind_form expression (expression_at Assignment) (expression_at Conditional) x.form x.expression then λ y.
       many (kind ws) (λ _. mark_kind comma ∷ []) (next_part (expression_at Assignment)) y then λ e. gives (e, x.first)
+
+  unfoldable pub placed_expression : Syntax PlainToken (Expression × Place)
+  placed_expression = operand expression (expression_at Assignment) type_use.Casts then placed_rest
+
+  -- the same where it begins with no name, and what stands behind a name that it begins with
+  unfoldable pub nameless_expression : Syntax PlainToken (Expression × Place)
+  nameless_expression =
+      operand_but_name expression (operand expression (expression_at Assignment)) type_use.Casts then placed_rest
+
+  unfoldable pub expression_behind : ℕ × Place → Syntax PlainToken (Expression × Place)
+  expression_behind x = behind_variable expression (expression_at Assignment) x then placed_rest
 
   -- ---- expressions that stand in no other
 
@@ -695,6 +717,13 @@ module _ (ws : Vocabulary) where
 
   unfoldable pub full_placed_expression : Syntax PlainToken (Expression × Place)
   full_placed_expression = at_most expression_limit most_in_expression placed_expression
+
+  unfoldable pub full_nameless_expression : Syntax PlainToken (Expression × Place)
+  full_nameless_expression = at_most expression_limit most_in_expression nameless_expression
+
+  -- the name is one of its tokens
+  unfoldable pub full_expression_behind : ℕ × Place → Syntax PlainToken (Expression × Place)
+  full_expression_behind x = at_most expression_limit (most_in_expression - 1) (expression_behind x)
 
   unfoldable pub full_expression_at : Level → Syntax PlainToken Expression
   full_expression_at l = at_most expression_limit most_in_expression (expression_at l)

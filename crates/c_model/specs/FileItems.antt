@@ -1,4 +1,4 @@
--- What is called in a typed file, and its asserts: each item with what is in sight where it stands.
+-- What is called in a typed file, and its annotations: each item with what is in sight where it stands.
 use Rattle.std.specs.Prelude.{◌≡◌, ℕ, ℤ, pos, ◌+ℤ◌, true, List, [], ◌∷◌, Some}
 use Rattle.c_syntax.specs.declared.types.CInt.TheVariants.{I32}
 use Rattle.c_syntax.specs.Ctypes.{PlainType}
@@ -12,9 +12,9 @@ use Rattle.c_model.specs.TypedTrees.{IsScalar, WellTyped, WhereAny}
 use Rattle.c_model.specs.TypedAnnotations.{FunctionNoted}
 use Rattle.c_model.specs.PlacedTrees.{IsOffset}
 
--- ---- asserts and calls
+-- ---- annotations and calls
 
--- a function's asserts are typed where they stand
+-- a function's annotations are typed where they stand
 abbrev pub ItemNoted : TranslationUnit → Sight → FileItem → Type 0
 ItemNoted p s (AFunction f) = FunctionNoted (with_function p s f) f
 ItemNoted p s _ = Unit {0}

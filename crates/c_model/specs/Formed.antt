@@ -270,6 +270,9 @@ abbrev mutual
   tokens_of_form (formula.Told at f a) = suc (tokens_of_form a)
   tokens_of_form (formula.Asks at q z) = suc (tokens_of_form_zone z)
   tokens_of_form (formula.Separated at zs) = suc (tokens_of_form_zones zs)
+  tokens_of_form (formula.Result at) = 1
+  tokens_of_form (formula.Old at a) = suc (tokens_of_form a)
+  tokens_of_form (formula.At at a place l) = suc (tokens_of_form a)
 
   pub tokens_of_form_links : FormLinks → ℕ
   tokens_of_form_links formula.NoLink = 0
@@ -303,6 +306,9 @@ abbrev mutual
   FormNumbered (formula.Told at f a) = FormNumbered a
   FormNumbered (formula.Asks at q z) = FormZoneNumbered z
   FormNumbered (formula.Separated at zs) = FormZonesNumbered zs
+  FormNumbered (formula.Result at) = Unit {0}
+  FormNumbered (formula.Old at a) = FormNumbered a
+  FormNumbered (formula.At at a place l) = FormNumbered a
 
   pub FormLinksNumbered : FormLinks → Type 0
   FormLinksNumbered formula.NoLink = Unit {0}

@@ -6,7 +6,7 @@ use Rattle.c_syntax.specs.Statements.{Switch, Cases, NoCase, AnotherCase}
 use Rattle.c_syntax.specs.Statements.{Initialiser, One, Many, Initialisers, NoInitialiser, Listed, Declaration, Statement, Empty, Eval, Block, If, While, Do}
 use Rattle.c_syntax.specs.Statements.{For, Break, Continue, Return, Labelled, ElsePart, NoElse, Else, ForFirst, NoFirst, First}
 use Rattle.c_syntax.specs.Statements.{BlockItem, Declare, Specify, Run, Asserts, BlockItems, NoItem, Then}
-use Rattle.c_syntax.specs.Programs.{Function}
+use Rattle.c_syntax.specs.Programs.{Function, TranslationUnit}
 use Rattle.c_model.specs.TypedTrees.{WhereAny}
 
 module _ (P : Expression → Type 0) where
@@ -72,3 +72,8 @@ module _ (P : Expression → Type 0) where
   abbrev pub EachInFunctions : List Function → Type 0
   EachInFunctions [] = Unit {0}
   EachInFunctions (f ∷ fs) = EachInBody f.body × EachInFunctions fs
+
+  -- of a program
+  pub record EachExpression (p : TranslationUnit) : Type 0 where
+    pub globals : EachDeclared p.globals
+    pub funcs : EachInFunctions p.funcs

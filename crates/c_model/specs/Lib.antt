@@ -25,6 +25,7 @@ pub mod Growth
 pub mod Steps
 pub mod Laws
 pub mod PrintingLaws
+pub mod ContractLaws
 pub mod HeapLaws
 pub mod Characters
 pub mod Places
@@ -36,9 +37,11 @@ pub mod ExpressionGrammar
 pub mod DeclarationGrammar
 pub mod ProgramGrammar
 pub mod AnnotationGrammar
+pub mod ClauseGrammar
 pub mod Checked
 pub mod Library
 pub mod ExpressionTyping
+pub mod AnnotationSights
 pub mod DeclarationTyping
 pub mod StatementTyping
 pub mod UnitTyping
@@ -61,9 +64,11 @@ pub mod TextTypingLaws
 pub mod Pure
 pub mod Sizes
 pub mod FullExpressions
+pub mod LetterValues
 pub mod EffectPlaces
 pub mod FileItems
 pub mod Formed
+pub mod FormedContracts
 pub mod MonitoredTokens
 pub mod MonitoredTokenLaws
 pub mod Comments
@@ -78,7 +83,10 @@ pub mod Ranges
 pub mod TermRanges
 pub mod AnnotationRanges
 pub mod PredicateTyping
+pub mod ContractTyping
 pub mod TypedPredicates
 pub mod Unranged
 pub mod UnrangedPrograms
 pub mod Limits
+pub mod KeptTerms
+pub mod PlacedForms

@@ -1,11 +1,13 @@
--- The typing of annotations (ACSL 2.2, 2.3, 2.7), after that of the text's C: of each form that is read, whether it is a term, of unbounded
+-- The typing of annotations (ACSL 2.2, 2.3, 2.4.3, 2.7), after that of the text's C: of each form that is read, whether it is a term, of unbounded
 -- integers or of pointers, a predicate, or a place, which a term reads and `&` and `.` take as it is. A name denotes an object that is in sight where
 -- the annotation stands, or an integer that an enumerator or a constant of the library stands for; `NULL` is a null pointer. In the typed tree each
 -- use has its declaration, each place and each pointer its type, each step of a pointer the size of its elements, each member its offset, and each
 -- constant is its value. Where C99 has a form too, the demands are those of its expressions (6.5.2.1, 6.5.2.3, 6.5.3.2, 6.5.6), with one aside: any two
 -- pointers are compared, and a literal of value 0 is a null pointer beside one.
--- Faults are of code 5 for a name and for a struct whose members aren't known, of code 6 for a sort or a type, of code 11 for a type that passes a limit:
--- also where a size, an alignment or an offset is kept, whose types are within limits by their declarations.
+-- A term at a label is typed with what is in sight there. A parameter in an `ensures` has its value at the beginning of the call, and is no place.
+-- Faults are of code 5 for a name and for a struct whose members aren't known, of code 6 for a sort or a type, of code 9 for a label or for what may not
+-- stand under one, of code 11 for a type that passes a limit: also where a size, an alignment or an offset is kept, whose types are within limits by
+-- their declarations.
 use Rattle.std.specs.Prelude.{ℕ, ℤ, pos, List, [], ◌∷◌, Option, Some, None, Bool, true, false, not, ◌||◌, ◌&&◌, cond, nat_le, nat_eq}
 use Rattle.std.specs.Ordering.{int_eq}
 use Rattle.c_syntax.specs.declared.place.Place.{Place}
@@ -17,7 +19,11 @@ use Rattle.c_syntax.specs.declared.expression.UnOp.{UnOp}
 use Rattle.c_syntax.specs.declared.expression.UnOp.TheVariants as unary
 use Rattle.c_syntax.specs.declared.logic.BlockFact.{BlockFact}
 use Rattle.c_syntax.specs.declared.logic.BlockFact.TheVariants.{BaseAddr, BlockLength, Offset}
+use Rattle.c_syntax.specs.RefusalCodes.{label_code}
+use Rattle.c_syntax.specs.declared.expression.Use.{Use}
 use Rattle.c_syntax.specs.declared.logic.Connective.{Connective}
+use Rattle.c_syntax.specs.declared.logic.Label.{Label}
+use Rattle.c_syntax.specs.declared.logic.Label.TheVariants.{Pre}
 use Rattle.c_syntax.specs.declared.logic.MemoryQuestion.{MemoryQuestion}
 use Rattle.c_syntax.specs.declared.logic.MemoryQuestion.TheVariants.{Valid, ValidRead, Initialized}
 use Rattle.c_syntax.specs.declared.logic.PointerOp.{PointerOp}
@@ -32,12 +38,15 @@ use Rattle.c_syntax.specs.Logic.{Chain, Not, Connected, Branch, ClauseBody, Raw,
 use Rattle.c_syntax.specs.Logic.{Difference, Told, Asks, Separated, Zone, Object, Elements, Zones, NoZone, Another}
 use Rattle.c_syntax.specs.Layouts.{size_of, align_of, member_among, members_of}
 use Rattle.c_model.specs.Integers.{integer_type}
-use Rattle.c_model.specs.Library.{library_constant, is_there}
+use Rattle.c_model.specs.Library.{library_constant}
 use Rattle.c_model.specs.Ranges.{from_to}
-use Rattle.c_model.specs.Checked.{Checked, Good, Bad, faulty, given, where_so, one_part, pair_of}
+use Rattle.c_model.specs.Checked.{Fault, Checked, Good, Bad, faulty, given, where_so, one_part, pair_of}
+use Rattle.c_model.specs.ContractChecks.{result_number}
+use Rattle.c_model.specs.AnnotationSights.{ClauseSight, InBody, AtEntry, AtEnd, UnderLabel, AnnotationSight, formals_in, sight_at, label_named, is_past}
 use Rattle.c_model.specs.ExpressionTyping as c
 use Rattle.c_model.specs.ExpressionTyping.{no_name, no_type, AnObject, AnEnumerator, Sight, name_at, entity_named, use_as, same_type, is_void, is_unknown}
 use Rattle.c_model.specs.ExpressionTyping.{limited, known_type, typed_type, sized, where_sized, most_bytes, too_large, is_struct, is_scalar, is_null_word}
+use Rattle.c_model.specs.ExpressionTyping.{is_among}
 
 -- what a form is by its sort
 pub data Sorted : Type 0 where
@@ -169,8 +178,18 @@ as_predicate at (APlace t) = integer_holds at t
 
 -- ---- names
 
-abbrev pub object_place : Place → ℕ → c.Object → Sorted
-object_place at x b = APlace (Variable at (Some b.ctype) range_to_infer (use_as x b.decl))
+abbrev pub variable : Place → ℕ → c.Object → LogicTerm
+variable at x b = Variable at (Some b.ctype) range_to_infer (use_as x b.decl)
+
+-- a parameter in an `ensures` is read at the beginning of the call (ACSL 2.3.2), where what is under a label is evaluated
+abbrev pub formal_value : ClauseSight → LogicTerm → LogicTerm
+formal_value (InBody s) t = t
+formal_value AtEntry t = t
+formal_value (AtEnd formals result) t = At (place_of_term t) (type_of_term t) range_to_infer Pre t
+formal_value (UnderLabel formals) t = t
+
+abbrev pub object_place : ClauseSight → Place → ℕ → c.Object → Sorted
+object_place k at x b = cond (is_among b.decl (formals_in k)) (ATerm (formal_value k (variable at x b))) (APlace (variable at x b))
 
 abbrev pub number : Place → ℤ → Sorted
 number at n = ATerm (Number at None range_to_infer n)
@@ -186,11 +205,89 @@ library_term s at x = elim (library_constant (name_at s.names x)) [
 ]
 
 -- a name; that of a function has no meaning in annotations
-abbrev pub term_named : Sight → Place → ℕ → Checked Sorted
-term_named s at x = elim (entity_named x s.entities) [
-  | Some e ↦ elim e [ AnObject b ↦ Good (object_place at x b) | AnEnumerator k ↦ Good (number at k.value) ]
-  | None ↦ library_term s at x
+abbrev pub term_named : AnnotationSight → Place → ℕ → Checked Sorted
+term_named s at x = elim (entity_named x s.here.entities) [
+  | Some e ↦ elim e [ AnObject b ↦ Good (object_place s.clause at x b) | AnEnumerator k ↦ Good (number at k.value) ]
+  | None ↦ library_term s.here at x
 ]
+
+-- ---- the result of a function (ACSL 2.3.1)
+
+-- its number is no declaration's
+abbrev pub result_use : Use
+result_use = use_as result_number result_number
+
+abbrev pub result_of : Place → PlainType → Checked Sorted
+result_of at t = where_so (not (is_void t)) (no_type at) (Good (ATerm (Named at (Some t) range_to_infer result_use)))
+
+-- `\result`, in an `ensures` of a function that gives a value
+abbrev pub result_in : ClauseSight → Place → Checked Sorted
+result_in (InBody s) at = faulty (no_type at)
+result_in AtEntry at = faulty (no_type at)
+result_in (AtEnd formals t) at = result_of at t
+result_in (UnderLabel formals) at = faulty (no_type at)
+
+-- ---- terms at labels (ACSL 2.4.3)
+
+abbrev pub no_label : Place → Fault
+no_label at = record { code = label_code; place = at }
+
+-- whether `\old` or `\at`, or one of them or `\result`, stands in a form
+abbrev mutual
+  pub has_past : Bool → Form → Bool
+  has_past b (read.Number at n) = false
+  has_past b (read.Letter at n) = false
+  has_past b (read.Truth at v) = false
+  has_past b (read.Name at x) = false
+  has_past b (read.Unary at op a) = has_past b a
+  has_past b (read.Binary at op a c) = has_past b a || has_past b c
+  has_past b (read.Cast at to a) = has_past b a
+  has_past b (read.SizeOf at u) = false
+  has_past b (read.Chain at a links) = has_past b a || links_have_past b links
+  has_past b (read.Connected at k a c) = has_past b a || has_past b c
+  has_past b (read.Choice at k a c) = has_past b k || has_past b a || has_past b c
+  has_past b (read.Null at) = false
+  has_past b (read.Index at a c) = has_past b a || has_past b c
+  has_past b (read.Dot at a m) = has_past b a
+  has_past b (read.Arrow at a m) = has_past b a
+  has_past b (read.Told at f a) = has_past b a
+  has_past b (read.Asks at q z) = zone_has_past b z
+  has_past b (read.Separated at zs) = zones_have_past b zs
+  has_past b (read.Result at) = b
+  has_past b (read.Old at a) = true
+  has_past b (read.At at a place l) = true
+
+  pub links_have_past : Bool → FormLinks → Bool
+  links_have_past b read.NoLink = false
+  links_have_past b (read.Linked at r a rest) = has_past b a || links_have_past b rest
+
+  pub zone_has_past : Bool → FormZone → Bool
+  zone_has_past b (read.Object a) = has_past b a
+  zone_has_past b (read.Elements at a lo hi) = has_past b a || has_past b lo || has_past b hi
+
+  pub zones_have_past : Bool → FormZones → Bool
+  zones_have_past b read.NoZone = false
+  zones_have_past b (read.Another z rest) = zone_has_past b z || zones_have_past b rest
+
+-- a term where `\old` or `\at` stands at this place
+abbrev pub at_label : Place → Label → Sorted → Checked Sorted
+at_label at l a = one_part (as_term at a) (λ t. Good (ATerm (At at (type_of_term t) range_to_infer l t)))
+
+-- `\old` stands in an `ensures`
+abbrev pub has_old : ClauseSight → Bool
+has_old (InBody v) = false
+has_old AtEntry = false
+has_old (AtEnd formals t) = true
+has_old (UnderLabel formals) = false
+
+-- a form at this label, by what typing makes of it in a sight
+abbrev pub where_seen : AnnotationSight → Label → Place → (AnnotationSight → Checked Sorted) → Checked Sorted
+where_seen s l at k = given (sight_at s l) (no_label at) (λ u. one_part (value_in (k u)) (at_label at l))
+
+-- a form at a label whose name stands at the second place, where it isn't refused for what stands in it
+abbrev pub labelled : AnnotationSight → Place → Place → Option Label → (Bool → Bool) → (AnnotationSight → Checked Sorted) → Checked Sorted
+labelled s at place None refused k = where_so (not (refused true)) (no_label at) (one_part (value_in (k s)) (λ a. faulty (no_label place)))
+labelled s at place (Some l) refused k = where_so (not (refused (is_past l))) (no_label at) (where_seen s l at k)
 
 -- ---- operators on integers
 
@@ -461,47 +558,51 @@ elements_zone s q at a lo hi =
 -- ---- forms
 
 abbrev mutual
-  pub typed_form : Sight → Form → Checked Sorted
+  pub typed_form : AnnotationSight → Form → Checked Sorted
   typed_form s (read.Number at n) = Good (number at n)
   typed_form s (read.Letter at n) = Good (ATerm (Letter at None range_to_infer n))
   typed_form s (read.Truth at b) = Good (APredicate (Truth at b))
   typed_form s (read.Name at x) = term_named s at x.name
   typed_form s (read.Unary at op a) = one_part (typed_form s a) (unary_on at op)
   typed_form s (read.Binary at op a b) =
-      one_part (pair_of (value_in (typed_form s a)) (value_in (typed_form s b))) (λ p. binary_on s at op p.0 p.1)
+      one_part (pair_of (value_in (typed_form s a)) (value_in (typed_form s b))) (λ p. binary_on s.here at op p.0 p.1)
   typed_form s (read.Cast at Integers a) = one_part (value_in (typed_form s a)) (cast_integer at Integers)
   typed_form s (read.Cast at (OfC to) a) =
-      limited s at (known_type s to) (one_part (pair_of (typed_type s at to) (value_in (typed_form s a))) (λ p. cast at p.0 p.1))
-  typed_form s (read.SizeOf at u) = limited s at (known_type s u) (one_part (typed_type s at u) (size_in s at))
+      limited s.here at (known_type s.here to) (one_part (pair_of (typed_type s.here at to) (value_in (typed_form s a))) (λ p. cast at p.0 p.1))
+  typed_form s (read.SizeOf at u) = limited s.here at (known_type s.here u) (one_part (typed_type s.here at u) (size_in s.here at))
   typed_form s (read.Chain at a links) =
       one_part (pair_of (value_in (typed_form s a)) (typed_links s (side_of a (value_in (typed_form s a))) links)) (λ p. related at p.0 p.1)
   typed_form s (read.Connected at k a b) = one_part (pair_of (value_in (typed_form s a)) (value_in (typed_form s b))) (λ p. connected at k p.0 p.1)
   typed_form s (read.Choice at k a b) =
       one_part (pair_of (value_in (typed_form s k)) (pair_of (value_in (typed_form s a)) (value_in (typed_form s b)))) (λ p. chosen at p.0 (p.1).0 (p.1).1)
   typed_form s (read.Null at) = Good (null at)
-  typed_form s (read.Index at a b) = one_part (pair_of (value_in (typed_form s a)) (value_in (typed_form s b))) (λ p. index s at p.0 p.1)
-  typed_form s (read.Dot at a m) = one_part (typed_form s a) (dot s at m)
-  typed_form s (read.Arrow at a m) = one_part (value_in (typed_form s a)) (arrow s at m)
+  typed_form s (read.Index at a b) = one_part (pair_of (value_in (typed_form s a)) (value_in (typed_form s b))) (λ p. index s.here at p.0 p.1)
+  typed_form s (read.Dot at a m) = one_part (typed_form s a) (dot s.here at m)
+  typed_form s (read.Arrow at a m) = one_part (value_in (typed_form s a)) (arrow s.here at m)
   typed_form s (read.Told at f a) = one_part (value_in (typed_form s a)) (told at f)
   typed_form s (read.Asks at q z) = one_part (typed_zone s q at z) (λ z. Good (APredicate (Asks at q z)))
   typed_form s (read.Separated at zs) = one_part (typed_zones s at zs) (λ zs. Good (APredicate (Separated at zs)))
+  typed_form s (read.Result at) = result_in s.clause at
+  typed_form s (read.Old at a) =
+      where_so (has_old s.clause) (no_label at) (labelled s at at (Some Pre) (λ b. has_past b a) (λ u. typed_form u a))
+  typed_form s (read.At at a place l) = labelled s at place (label_named s l) (λ b. has_past b a) (λ u. typed_form u a)
 
   -- the relations of a chain behind a side; each wants sides that go together, where its right one has no fault, and all faults of its left side
   -- come before it
-  pub typed_links : Sight → Side → FormLinks → Checked Links
+  pub typed_links : AnnotationSight → Side → FormLinks → Checked Links
   typed_links s left read.NoLink = Good NoLink
   typed_links s left (read.Linked at r b rest) =
       one_part (pair_of (one_part (value_in (typed_form s b)) (right_side at left (side_of b (value_in (typed_form s b)))))
       (typed_links s (side_of b (value_in (typed_form s b))) rest)) (λ p. Good (Linked at r p.0 p.1))
 
   -- the zone of a predicate whose word stands at this place
-  pub typed_zone : Sight → MemoryQuestion → Place → FormZone → Checked Zone
-  typed_zone s q at (read.Object a) = one_part (value_in (typed_form s a)) (object_zone s q at)
+  pub typed_zone : AnnotationSight → MemoryQuestion → Place → FormZone → Checked Zone
+  typed_zone s q at (read.Object a) = one_part (value_in (typed_form s a)) (object_zone s.here q at)
   typed_zone s q at (read.Elements plus a lo hi) =
       one_part (pair_of (value_in (typed_form s a)) (pair_of (value_in (typed_form s lo)) (value_in (typed_form s hi)))) (λ p.
-      elements_zone s q plus p.0 (p.1).0 (p.1).1)
+      elements_zone s.here q plus p.0 (p.1).0 (p.1).1)
 
-  pub typed_zones : Sight → Place → FormZones → Checked Zones
+  pub typed_zones : AnnotationSight → Place → FormZones → Checked Zones
   typed_zones s at read.NoZone = Good NoZone
   typed_zones s at (read.Another z rest) = one_part (pair_of (typed_zone s ValidRead at z) (typed_zones s at rest)) (λ p. Good (Another p.0 p.1))
 
@@ -513,13 +614,13 @@ clause_holds (ATerm t) = integer_holds (place_of_term t) t
 clause_holds (APredicate p) = Good p
 clause_holds (APlace t) = integer_holds (place_of_term t) t
 
-abbrev pub typed_clause : Sight → ClauseBody → Checked ClauseBody
+abbrev pub typed_clause : AnnotationSight → ClauseBody → Checked ClauseBody
 typed_clause s (Raw f) = one_part (value_in (typed_form s f)) (λ a. one_part (clause_holds a) (λ p. Good (Holds p)))
 typed_clause s (Holds p) = Good (Holds p)
 typed_clause s (Value t) = Good (Value t)
 typed_clause s (Behaviors names) = Good (Behaviors names)
 
-abbrev pub typed_annotations : Sight → List Annotation → Checked (List Annotation)
+abbrev pub typed_annotations : AnnotationSight → List Annotation → Checked (List Annotation)
 typed_annotations s [] = Good []
 typed_annotations s (a ∷ rest) =
     one_part (typed_clause s a.body) (λ b. one_part (typed_annotations s rest) (λ rest. Good (record a { body = b } ∷ rest)))

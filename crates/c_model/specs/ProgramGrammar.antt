@@ -1,26 +1,27 @@
--- The grammar of annotated C, with the trees that are read (C99 6.8, 6.9, ACSL for asserts); declarations stand in DeclarationGrammar, and
+-- The grammar of annotated C, with the trees that are read (C99 6.8, 6.9, ACSL 2.3, 2.4); declarations stand in DeclarationGrammar, and
 -- expressions in ExpressionGrammar:
 --
 --   unit       = { { annotation } external }
 --   external   = spec [ declared { "," declared } ] ";" | spec dtor { "," dtor } ";" | spec { "*" } NAME "(" params ")" ( ";" | body )
 --   body       = "{" { item } "}"
---   item       = annotation | decl | stmt
---   stmt       = "{" { item } "}" | ";" | comma ";"
+--   item       = asserts | contract branch | decl | stmt
+--   stmt       = "{" { item } "}" | ";" | comma ";" | NAME ":" branch
 --              | "if" "(" comma ")" branch [ "else" branch ]
 --              | "while" "(" comma ")" branch | "do" branch "while" "(" comma ")" ";"
 --              | "for" "(" ( decl | [ comma ] ";" ) [ comma ] ";" [ comma ] ")" branch
 --              | "switch" "(" comma ")" "{" { case } "}"
 --              | "break" ";" | "continue" ";" | "return" [ comma ] ";"
---   case       = ( "case" cond | "default" ) ":" { annotation | stmt }
---   annotation : see AnnotationGrammar
+--   case       = ( "case" cond | "default" ) ":" { asserts | contract branch | stmt }
+--   annotation : see ClauseGrammar; asserts and contract are those with asserts, and those with a contract
 --
--- An annotation that is no item stands where no assert may: it is passed over, and the place of the first of these is kept. A branch with an
+-- Asserts are items, and a contract stands directly before a function, which has at most one among all its declarations (ACSL 2.3). Any other annotation
+-- stands where none of its kind may: it is passed over, and the place of the first word of the first of these is kept. A branch or a statement with an
 -- annotation is a statement inside which the branch after it stands.
 --
 -- A spec has "typedef" among the words before its type, as it may have "static", and then it stands in the second form, and else in the
 -- others. A name that a typedef declares is the name of a type from the end of its declarator on. The stars before the name of a function,
 -- with the name, have at most 400 tokens. Statements are at most 200 deep, a function's body being 1 deep. "else" goes with the nearest "if".
-use Rattle.std.specs.Prelude.{ℕ, zero, suc, ◌-◌, List, [], ◌∷◌, ◌++◌, Option, Some, None, Bool, true, false, cond, slice_set}
+use Rattle.std.specs.Prelude.{ℕ, zero, suc, ◌-◌, List, [], ◌∷◌, ◌++◌, Option, Some, None, Bool, true, false, ◌||◌, ◌&&◌, cond, nat_eq, slice_set}
 use Rattle.grammar.specs.Syntax.{Syntax, none, gives, ◌then◌, choice, many, deep}
 use Rattle.c_syntax.specs.declared.place.Place.{Place}
 use Rattle.c_syntax.specs.Ctypes.{PlainType}
@@ -29,7 +30,7 @@ use Rattle.c_syntax.specs.Statements as statement
 use Rattle.c_syntax.specs.Statements.{Declaration, Statement, ElsePart, NoElse, ForFirst, NoFirst, First, BlockItem, BlockItems, NoItem, Then}
 use Rattle.c_syntax.specs.Statements.{Cases, NoCase, AnotherCase}
 use Rattle.c_syntax.specs.Logic.{Annotation}
-use Rattle.c_syntax.specs.Programs.{Function, StringLiteral, TranslationUnit}
+use Rattle.c_syntax.specs.Programs.{FunctionContract, Function, StringLiteral, TranslationUnit}
 use Rattle.c_syntax.specs.Tokens as token
 use Rattle.c_syntax.specs.Tokens.{PlainToken}
 use Rattle.c_model.specs.declared.declarations.AnnotationState.{AnnotationState}
@@ -41,12 +42,13 @@ use Rattle.c_model.specs.declared.vocabulary.Keyword.TheVariants as keyword
 use Rattle.c_model.specs.Vocabulary.{Vocabulary, word_at, declared_word}
 use Rattle.c_model.specs.Punctuators.{semicolon, colon, comma, left_paren, left_brace, right_brace}
 use Rattle.c_model.specs.Terminals.{nesting_limit}
-use Rattle.c_model.specs.ExpressionGrammar.{annot_open_kind, keyword_kind, mark_kind, kind, first_type, first_expression, pointers}
+use Rattle.c_model.specs.ExpressionGrammar.{name_kind, annot_open_kind, keyword_kind, mark_kind, kind, first_type, first_expression, pointers, name}
 use Rattle.c_model.specs.ExpressionGrammar.{most_nested, mark, reserved, closed}
-use Rattle.c_model.specs.ExpressionGrammar.{full_expression, full_placed_expression, full_expression_at}
+use Rattle.c_model.specs.ExpressionGrammar.{full_expression, full_placed_expression, full_nameless_expression, full_expression_behind, full_expression_at}
 use Rattle.c_model.specs.DeclarationGrammar.{Declarator, Definitions, names_function, declared_by, nameless, ended, full_dtor, initialised, more_declared}
 use Rattle.c_model.specs.DeclarationGrammar.{declaration, parameters, file_spec}
-use Rattle.c_model.specs.AnnotationGrammar.{annotations}
+use Rattle.c_model.specs.ClauseGrammar.{ReadAnnotation, annotations}
+use Rattle.c_model.specs.Library.{is_there}
 
 -- ---- what begins what: these sets serve `parse` alone
 
@@ -105,27 +107,36 @@ abbrev mutual
 abbrev pub Numbered : Type 1
 Numbered = AnnotationState → Syntax PlainToken (Statement × AnnotationState)
 
--- the first of the places of misplaced annotations, with that of annotations that follow
-abbrev pub first_misplaced : Option Place → List Annotation → Option Place
-first_misplaced (Some at) clauses = Some at
-first_misplaced None [] = None
-first_misplaced None (a ∷ clauses) = Some a.place
+-- the place of the first word of asserts, or of a contract
+abbrev pub first_word : List Annotation → Option FunctionContract → Option Place
+first_word asserts (Some c) = Some c.place
+first_word [] None = None
+first_word (a ∷ asserts) None = Some a.place
+
+-- the first of the places of misplaced annotations, with that of an annotation that follows
+abbrev pub first_misplaced : Option Place → Option Place → Option Place
+first_misplaced (Some at) place = Some at
+first_misplaced None place = place
 
 -- after annotations that stand where they may, with the number of the next clause
 abbrev pub after_placed : AnnotationState → ℕ → AnnotationState
 after_placed s n = record { number = n; misplaced = s.misplaced }
 
 -- after annotations that don't
-abbrev pub after_misplaced : AnnotationState → List Annotation × ℕ → AnnotationState
-after_misplaced s x = record { number = x.1; misplaced = first_misplaced s.misplaced x.0 }
+abbrev pub after_misplaced : AnnotationState → ReadAnnotation × ℕ → AnnotationState
+after_misplaced s x = record { number = x.1; misplaced = first_misplaced s.misplaced (first_word x.0.0 x.0.1) }
 
-abbrev pub function_with : PlainType → ℕ × Place → List Declaration → Option Statement → Place → Function
-function_with t f params body close = record {
+-- after a contract that no function takes
+abbrev pub without : AnnotationState → Option FunctionContract → AnnotationState
+without s c = record s { misplaced = first_misplaced s.misplaced (first_word [] c) }
+
+abbrev pub function_with : PlainType → ℕ × Place → List Declaration → Option FunctionContract → Option Statement → Place → Function
+function_with t f params contract body close = record {
   place = f.1;
   name = f.0;
   result = t;
   params = params;
-  contract = None;
+  contract = contract;
   body = body;
   close = close;
 }
@@ -138,6 +149,8 @@ pub record FileParts : Type 0 where
   pub globals : List Declaration
   pub functions : List Function
   pub annotations : AnnotationState
+  -- the contract that stands directly before what is read next
+  pub awaiting : Option FunctionContract
 
 abbrev pub no_parts : Vocabulary → FileParts
 no_parts ws = record {
@@ -147,7 +160,31 @@ no_parts ws = record {
   globals = [];
   functions = [];
   annotations = record { number = 1; misplaced = None };
+  awaiting = None;
 }
+
+-- whether a function of this name has a contract
+abbrev pub has_contract : ℕ → List Function → Bool
+has_contract x [] = false
+has_contract x (f ∷ fs) = (nat_eq f.name x && is_there f.contract) || has_contract x fs
+
+-- what a function of this name takes of a contract before it: all, or nothing where one has a contract already
+abbrev pub taken : Option FunctionContract → Bool → Option FunctionContract
+taken c again = cond again None c
+
+abbrev pub left_over : Option FunctionContract → Bool → Option FunctionContract
+left_over c again = cond again c None
+
+abbrev pub contract_taken : FileParts → ℕ → Option FunctionContract
+contract_taken x f = taken x.awaiting (has_contract f x.functions)
+
+-- the annotations before the body of a function of this name
+abbrev pub after_contract : FileParts → ℕ → AnnotationState
+after_contract x f = without x.annotations (left_over x.awaiting (has_contract f x.functions))
+
+-- a contract that nothing took is misplaced
+abbrev pub awaiting_nothing : FileParts → FileParts
+awaiting_nothing x = record x { annotations = without x.annotations x.awaiting; awaiting = None }
 
 -- a type that a `typedef` declares, and its name, which is that of a type from here on (C99 6.7.7)
 abbrev pub with_typedef : PlainType → FileParts → Declarator → FileParts
@@ -189,11 +226,11 @@ unit_with names texts x = record {
 module _ (ws : Vocabulary) where
   -- ---- annotations, whose asserts take the next numbers
 
-  -- an annotation where no assert may stand
+  -- an annotation where none may stand
   unfoldable pub misplaced : AnnotationState → Syntax PlainToken AnnotationState
   misplaced s = annotations ws s.number then λ x. gives (after_misplaced s x)
 
-  -- ---- statements; T stands for a statement in a block, and S for one inside another
+  -- ---- statements; T stands for a statement in a block, B for one behind an annotation there, and S for one inside another
 
   -- "(" comma ")"
   unfoldable pub condition : Syntax PlainToken Expression
@@ -251,24 +288,34 @@ module _ (ws : Vocabulary) where
   unfoldable pub return_statement : Numbered
   return_statement n = reserved ws keyword.Return then λ at. returned then λ e. gives (statement.Return at e, n)
 
-  -- an annotation as an item
-  unfoldable pub placed_annotation : AnnotationState → Syntax PlainToken (BlockItem × AnnotationState)
-  placed_annotation n = annotations ws n.number then λ x. gives (statement.Asserts x.0, after_placed n x.1)
+  -- a statement as an item
+  unfoldable pub run_item : Numbered → AnnotationState → Syntax PlainToken (BlockItem × AnnotationState)
+  run_item T n = T n then λ x. gives (statement.Run x.0, x.1)
 
-  unfoldable pub item : Numbered → AnnotationState → Syntax PlainToken (BlockItem × AnnotationState)
-  item T n =
-      choice (kind ws) (annot_open_kind ∷ []) (placed_annotation n)
-      (choice (kind ws) first_type (declaration ws then λ i. gives (i, n)) (T n then λ x. gives (statement.Run x.0, x.1)))
+  -- what stands behind an annotation in a block: nothing behind asserts, which are an item, and a branch behind a contract
+  unfoldable pub behind_annotation : Numbered → AnnotationState → ReadAnnotation × ℕ → Syntax PlainToken (BlockItem × AnnotationState)
+  behind_annotation B n x = elim x.0.1 [
+    | None ↦ gives (statement.Asserts x.0.0, after_placed n x.1)
+    | Some c ↦ run_item B (after_misplaced n x)
+  ]
 
-  unfoldable pub items_once : Numbered → List BlockItem × AnnotationState → Syntax PlainToken (List BlockItem × AnnotationState)
-  items_once T x = item T x.1 then λ i. gives (x.0 ++ i.0 ∷ [], i.1)
+  unfoldable pub annotated_item : Numbered → AnnotationState → Syntax PlainToken (BlockItem × AnnotationState)
+  annotated_item B n = annotations ws n.number then λ x. behind_annotation B n x
+
+  unfoldable pub item : Numbered → Numbered → AnnotationState → Syntax PlainToken (BlockItem × AnnotationState)
+  item T B n =
+      choice (kind ws) (annot_open_kind ∷ []) (annotated_item B n)
+      (choice (kind ws) first_type (declaration ws then λ i. gives (i, n)) (run_item T n))
+
+  unfoldable pub items_once : Numbered → Numbered → List BlockItem × AnnotationState → Syntax PlainToken (List BlockItem × AnnotationState)
+  items_once T B x = item T B x.1 then λ i. gives (x.0 ++ i.0 ∷ [], i.1)
 
   -- { item }, after the items x
-  unfoldable pub items : Numbered → List BlockItem × AnnotationState → Syntax PlainToken (List BlockItem × AnnotationState)
-  items T x = many (kind ws) (λ _. first_item) (items_once T) x
+  unfoldable pub items : Numbered → Numbered → List BlockItem × AnnotationState → Syntax PlainToken (List BlockItem × AnnotationState)
+  items T B x = many (kind ws) (λ _. first_item) (items_once T B) x
 
-  unfoldable pub block : Numbered → Numbered
-  block T n = mark ws left_brace then λ at. items T ([], n) then λ x. mark ws right_brace then λ _. gives (statement.Block at (block_items x.0), x.1)
+  unfoldable pub block : Numbered → Numbered → Numbered
+  block T B n = mark ws left_brace then λ at. items T B ([], n) then λ x. mark ws right_brace then λ _. gives (statement.Block at (block_items x.0), x.1)
 
   unfoldable pub empty_statement : Numbered
   empty_statement n = mark ws semicolon then λ at. gives (statement.Empty at, n)
@@ -286,45 +333,58 @@ module _ (ws : Vocabulary) where
   unfoldable pub case_label : Syntax PlainToken (Place × Option Expression)
   case_label = choice (kind ws) (keyword_kind keyword.Case ∷ []) valued_case default_case
 
-  -- annotation | stmt
-  unfoldable pub case_item : Numbered → AnnotationState → Syntax PlainToken (BlockItem × AnnotationState)
-  case_item T n = choice (kind ws) (annot_open_kind ∷ []) (placed_annotation n) (T n then λ x. gives (statement.Run x.0, x.1))
+  -- asserts | contract branch | stmt
+  unfoldable pub case_item : Numbered → Numbered → AnnotationState → Syntax PlainToken (BlockItem × AnnotationState)
+  case_item T B n = choice (kind ws) (annot_open_kind ∷ []) (annotated_item B n) (run_item T n)
 
-  unfoldable pub case_items_once : Numbered → List BlockItem × AnnotationState → Syntax PlainToken (List BlockItem × AnnotationState)
-  case_items_once T x = case_item T x.1 then λ i. gives (x.0 ++ i.0 ∷ [], i.1)
+  unfoldable pub case_items_once : Numbered → Numbered → List BlockItem × AnnotationState → Syntax PlainToken (List BlockItem × AnnotationState)
+  case_items_once T B x = case_item T B x.1 then λ i. gives (x.0 ++ i.0 ∷ [], i.1)
 
-  -- { annotation | stmt }, after the items x
-  unfoldable pub case_items : Numbered → List BlockItem × AnnotationState → Syntax PlainToken (List BlockItem × AnnotationState)
-  case_items T x = many (kind ws) (λ _. first_branch) (case_items_once T) x
+  -- { asserts | contract branch | stmt }, after the items x
+  unfoldable pub case_items : Numbered → Numbered → List BlockItem × AnnotationState → Syntax PlainToken (List BlockItem × AnnotationState)
+  case_items T B x = many (kind ws) (λ _. first_branch) (case_items_once T B) x
 
   -- case, after others
-  unfoldable pub next_case : Numbered → List ReadCase × AnnotationState → Syntax PlainToken (List ReadCase × AnnotationState)
-  next_case T x = case_label then λ l. case_items T ([], x.1) then λ y. gives (x.0 ++ record { place = l.0; value = l.1; items = y.0 } ∷ [], y.1)
+  unfoldable pub next_case : Numbered → Numbered → List ReadCase × AnnotationState → Syntax PlainToken (List ReadCase × AnnotationState)
+  next_case T B x = case_label then λ l. case_items T B ([], x.1) then λ y. gives (x.0 ++ record { place = l.0; value = l.1; items = y.0 } ∷ [], y.1)
 
   -- { case }, after the cases x
-  unfoldable pub cases : Numbered → List ReadCase × AnnotationState → Syntax PlainToken (List ReadCase × AnnotationState)
-  cases T x = many (kind ws) (λ _. first_case) (next_case T) x
+  unfoldable pub cases : Numbered → Numbered → List ReadCase × AnnotationState → Syntax PlainToken (List ReadCase × AnnotationState)
+  cases T B x = many (kind ws) (λ _. first_case) (next_case T B) x
 
-  unfoldable pub switch_statement : Numbered → Numbered
-  switch_statement T n =
-      reserved ws keyword.Switch then λ at. condition then λ e. mark ws left_brace then λ _. cases T ([], n) then λ x.
+  unfoldable pub switch_statement : Numbered → Numbered → Numbered
+  switch_statement T B n =
+      reserved ws keyword.Switch then λ at. condition then λ e. mark ws left_brace then λ _. cases T B ([], n) then λ x.
       mark ws right_brace then λ _. gives (statement.Switch at e (cases_of x.0), x.1)
 
-  -- comma ";"
+  -- comma ";", where it begins with no name
   unfoldable pub effect_statement : Numbered
-  effect_statement n = full_placed_expression ws then λ e. ended ws (statement.Eval e.1 e.0, n)
+  effect_statement n = full_nameless_expression ws then λ e. ended ws (statement.Eval e.1 e.0, n)
 
-  unfoldable pub statement_of : Numbered → Numbered → Numbered
-  statement_of T S n =
-      choice (kind ws) (mark_kind left_brace ∷ []) (block T n)
+  -- ":" branch, after a name, which is a label (C99 6.8.1)
+  unfoldable pub labelled_statement : Numbered → ℕ × Place → Numbered
+  labelled_statement S x n = mark ws colon then λ _. S n then λ y. gives (statement.Labelled x.1 x.0 y.0, y.1)
+
+  -- the rest of comma ";", after a name that it begins with
+  unfoldable pub effect_behind : ℕ × Place → Numbered
+  effect_behind x n = full_expression_behind ws x then λ e. ended ws (statement.Eval e.1 e.0, n)
+
+  -- a statement that begins with a name: only behind that is it seen which one it is
+  unfoldable pub named_statement : Numbered → Numbered
+  named_statement S n = name ws then λ x. choice (kind ws) (mark_kind colon ∷ []) (labelled_statement S x n) (effect_behind x n)
+
+  unfoldable pub statement_of : Numbered → Numbered → Numbered → Numbered
+  statement_of T B S n =
+      choice (kind ws) (mark_kind left_brace ∷ []) (block T B n)
       (choice (kind ws) (mark_kind semicolon ∷ []) (empty_statement n)
       (choice (kind ws) (keyword_kind keyword.If ∷ []) (selection S n)
       (choice (kind ws) (keyword_kind keyword.While ∷ []) (while_loop S n)
       (choice (kind ws) (keyword_kind keyword.Do ∷ []) (do_loop S n)
       (choice (kind ws) (keyword_kind keyword.For ∷ []) (for_loop S n)
-      (choice (kind ws) (keyword_kind keyword.Switch ∷ []) (switch_statement T n)
+      (choice (kind ws) (keyword_kind keyword.Switch ∷ []) (switch_statement T B n)
       (choice (kind ws) (keyword_kind keyword.Return ∷ []) (return_statement n)
-      (choice (kind ws) (keyword_kind keyword.Break ∷ keyword_kind keyword.Continue ∷ []) (jump n) (effect_statement n)))))))))
+      (choice (kind ws) (keyword_kind keyword.Break ∷ keyword_kind keyword.Continue ∷ []) (jump n)
+      (choice (kind ws) (name_kind ∷ []) (named_statement S n) (effect_statement n))))))))))
 
   -- a statement inside another, with or without annotations before it
   unfoldable pub branch_of : Numbered → Numbered → Numbered
@@ -333,28 +393,35 @@ module _ (ws : Vocabulary) where
   unfoldable mutual
     -- a statement in which statements stand at most d deep, itself included; one deeper passes the limit
     pub statement_in : ℕ → Numbered
-    statement_in zero n = deep nesting_limit (kind ws) first_statement (statement_of (λ m. none) (λ m. none) n)
-    statement_in (suc d) n = statement_of (statement_in d) (branch_in d) n
+    statement_in zero n = deep nesting_limit (kind ws) first_statement (statement_of (λ m. none) (λ m. none) (λ m. none) n)
+    statement_in (suc d) n = statement_of (statement_in d) (inside_in d) (branch_in d) n
 
     -- the same inside another
     pub branch_in : ℕ → Numbered
-    branch_in zero n = deep nesting_limit (kind ws) first_branch (branch_of (statement_of (λ m. none) (λ m. none)) (λ m. none) n)
-    branch_in (suc d) n = branch_of (statement_of (statement_in d) (branch_in d)) (branch_in d) n
+    branch_in zero n = deep nesting_limit (kind ws) first_branch (branch_of (statement_of (λ m. none) (λ m. none) (λ m. none)) (λ m. none) n)
+    branch_in (suc d) n = branch_of (statement_of (statement_in d) (inside_in d) (branch_in d)) (branch_in d) n
+
+    -- what stands inside a statement of that depth that begins with an annotation; that one passes the limit where it is one deeper
+    pub inside_in : ℕ → Numbered
+    inside_in zero n = deep nesting_limit (kind ws) first_branch (branch_of (statement_of (λ m. none) (λ m. none) (λ m. none)) (λ m. none) n)
+    inside_in (suc d) n = branch_in d n
 
   -- ---- functions (C99 6.9.1)
 
   -- ";", or a body
-  unfoldable pub function_rest : PlainType → ℕ × Place → List Declaration → AnnotationState → Syntax PlainToken (Function × AnnotationState)
-  function_rest t f params n =
-      choice (kind ws) (mark_kind semicolon ∷ []) (mark ws semicolon then λ at. gives (function_with t f params None at, n))
-      (mark ws left_brace then λ start. items (statement_in (most_nested - 1)) ([], n) then λ x.
-      mark ws right_brace then λ close. gives (function_with t f params (Some (statement.Block start (block_items x.0))) close, x.1))
+  unfoldable pub function_rest : PlainType → ℕ × Place → List Declaration → Option FunctionContract → AnnotationState
+      → Syntax PlainToken (Function × AnnotationState)
+  function_rest t f params c n =
+      choice (kind ws) (mark_kind semicolon ∷ []) (mark ws semicolon then λ at. gives (function_with t f params c None at, n))
+      (mark ws left_brace then λ start. items (statement_in (most_nested - 1)) (inside_in (most_nested - 1)) ([], n) then λ x.
+      mark ws right_brace then λ close. gives (function_with t f params c (Some (statement.Block start (block_items x.0))) close, x.1))
 
   -- a function or a prototype, after its name
   unfoldable pub function : PlainType → FileParts → Declarator → Syntax PlainToken FileParts
   function t x d =
-      mark ws left_paren then λ _. parameters ws then λ params. function_rest (pointers d.stars.count t) (d.name, d.place) params x.annotations then λ f.
-      gives (record x { functions = x.functions ++ f.0 ∷ []; annotations = f.1 })
+      mark ws left_paren then λ _. parameters ws then λ params.
+      function_rest (pointers d.stars.count t) (d.name, d.place) params (contract_taken x d.name) (after_contract x d.name) then λ f.
+      gives (record x { functions = x.functions ++ f.0 ∷ []; annotations = f.1; awaiting = None })
 
   -- ---- declarations at file scope (C99 6.9.2)
 
@@ -394,16 +461,24 @@ behind_spec storage.Typedef t x = typedefs t x
 behind_spec storage.Static t x = declared_at_file x.words t x
 behind_spec storage.Nothing t x = declared_at_file x.words t x
 
--- { annotation }
-unfoldable pub strays : Vocabulary → AnnotationState → Syntax PlainToken AnnotationState
-strays ws s = many (kind ws) (λ _. annot_open_kind ∷ []) (misplaced ws) s
+-- an annotation before a declaration; a contract before it is not directly before the declaration
+unfoldable pub next_stray : Vocabulary → AnnotationState × Option FunctionContract → Syntax PlainToken (AnnotationState × Option FunctionContract)
+next_stray ws x = annotations ws x.0.number then λ y. gives (elim y.0.1 [
+  | None ↦ (after_misplaced (without x.0 x.1) y, None)
+  | Some c ↦ (after_placed (without x.0 x.1) y.1, Some c)
+])
+
+-- { annotation }, with the contract that is the last of them
+unfoldable pub strays : Vocabulary → AnnotationState → Syntax PlainToken (AnnotationState × Option FunctionContract)
+strays ws s = many (kind ws) (λ _. annot_open_kind ∷ []) (next_stray ws) (s, None)
 
 unfoldable pub declared_external : FileParts → Syntax PlainToken FileParts
 declared_external x = file_spec x.words x.definitions then λ s. behind_spec s.storage s.ctype (record x { definitions = s.definitions })
 
 -- { annotation } external
 unfoldable pub external : FileParts → Syntax PlainToken FileParts
-external x = strays x.words x.annotations then λ s. declared_external (record x { annotations = s })
+external x =
+    strays x.words x.annotations then λ s. declared_external (record x { annotations = s.0; awaiting = s.1 }) then λ y. gives (awaiting_nothing y)
 
 -- a kind that all tokens have, which serves `parse` alone
 abbrev pub any_kind : PlainToken → ℕ

@@ -1,5 +1,5 @@
 -- What is known of each tree that is read of a text, whatever it contains, before it is typed: its places stand in the order of the text, annotations and
--- declarations stand only where the grammar puts them, its expressions are short, and what it declares has names.
+-- declarations stand only where the grammar puts them, its expressions are short, its letters are values of `char`, and what it declares has names.
 use Rattle.std.specs.Prelude.{◌≡◌, ℕ, suc, ◌<◌, ◌≤◌, ◌^◌, List, [], length, Option, Some, None}
 use Rattle.std.specs.List.{AllByRecursion}
 use Rattle.c_syntax.specs.Expressions.{Expression}
@@ -7,8 +7,11 @@ use Rattle.c_syntax.specs.Logic.{Annotation}
 use Rattle.c_syntax.specs.Statements.{Statement, Block}
 use Rattle.c_syntax.specs.Programs.{StringLiteral, Function, TranslationUnit}
 use Rattle.c_model.specs.ExpressionGrammar.{most_nested}
-use Rattle.c_model.specs.Formed.{nodes_of, most_read, depth, AreReadAsserts, AreNamed, FunctionsNamed}
-use Rattle.c_model.specs.FullExpressions.{EachDeclared, EachInFunctions}
+use Rattle.c_model.specs.Formed.{nodes_of, most_read, depth, IsShortReading, AreReadAsserts, AreNamed, FunctionsNamed}
+use Rattle.c_model.specs.FormedContracts.{ContractsFormed}
+use Rattle.c_model.specs.FullExpressions.{EachDeclared, EachInFunctions, EachExpression}
+use Rattle.c_model.specs.LetterValues.{LettersFit}
+use Rattle.c_model.specs.PlacedForms.{AnnotationsApart}
 use Rattle.c_model.specs.EffectPlaces.{ItemsPlaced}
 pub use Rattle.c_model.specs.TextOrder.{Between, offset_of_constant, numbers_of_item, numbers_of_items, HasMembers, InTextOrder}
 pub use Rattle.c_model.specs.TextOrder.{enums_among, typedefs_among, globals_among, functions_among, struct_among}
@@ -28,7 +31,6 @@ module _ (AreSo : List Annotation → Type 0) where
   BodyRead (Some _) = ⊥
 
   pub record FunctionRead (f : Function) : Type 0 where
-    pub no_contract : f.contract ≡ None
     pub body : BodyRead f.body
 
   abbrev pub FunctionsRead : List Function → Type 0
@@ -48,8 +50,12 @@ TextsAreBytes ts = AllByRecursion (λ (t : StringLiteral). AreBytes t.bytes) ts
 pub record ReadTree (p : TranslationUnit) : Type 0 where
   pub order : InTextOrder p
   pub functions : FunctionsRead AreReadAsserts p.funcs
+  pub contracts : ContractsFormed IsShortReading p.funcs
+  -- no two parts of its annotations stand at one place
+  pub annotations_apart : AnnotationsApart p.funcs
   pub functions_short : EachInFunctions IsShort p.funcs
   pub globals_short : EachDeclared IsShort p.globals
+  pub characters : EachExpression LettersFit p
   pub functions_named : FunctionsNamed p.names p.funcs
   pub globals_named : AreNamed p.names p.globals
   pub texts : TextsAreBytes p.texts

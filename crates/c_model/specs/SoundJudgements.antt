@@ -1,12 +1,9 @@
 -- Ours: each state in which a run of a program of an accepted text judges an annotation is sound, and `\result` is a value of its function's type there.
-use Rattle.std.specs.Prelude.{◌≡◌, ℕ, ℤ, pos, negsuc, ◌≤ℤ◌, true, Some, slice_get, codes}
+use Rattle.std.specs.Prelude.{◌≡◌, ℕ, ℤ, true, Some, slice_get, codes}
 use Rattle.std.specs.List.{AllByRecursion}
 use Rattle.c_syntax.specs.Ctypes.{PlainType, Void, Int, Ptr, Array, Struct, Named, StructTag, EnumTag}
-use Rattle.c_syntax.specs.Expressions.{Expression, Node, Number, Letter, Text, Variable, Unary, Binary, Both, Either, Choice, Assign, Bump, Call, Cast}
-use Rattle.c_syntax.specs.Expressions.{SizeOfType, SizeOfExpr, Index, Dot, Arrow, Comma, Expressions, NoExpression, Following}
 use Rattle.c_syntax.specs.Programs.{FunctionContract, Function, TranslationUnit}
 use Rattle.c_model.specs.AcceptedPrograms.{IsProgram}
-use Rattle.c_model.specs.FullExpressions.{EachInFunctions}
 use Rattle.c_model.specs.Integers.{fits}
 use Rattle.c_model.specs.Memory.{Pointer, Value, Integer, Points, Store}
 use Rattle.c_model.specs.Meaning.{tables_of, call_of, body_with, returned_by, function_named}
@@ -35,10 +32,6 @@ pub record IsSoundJudgement (p : TranslationUnit) (j : Judgement) : Type 0 where
   pub sound : IsSoundState p j.state
   pub result : WhereAny (λ (r : Result). IsValueIn j.state.store r.ctype r.value) j.result
 
--- each state in which a run of a program of an accepted text judges an annotation, from its start on, on each input and with any number of steps
-abbrev pub JudgedStatesAreSound : Type 0
-JudgedStatesAreSound = (p : TranslationUnit) → IsProgram p → (input : Input) (n : ℕ) → AllByRecursion (IsSoundJudgement p) (judged p input n)
-
 -- ---- results
 
 -- what the body of a function gives from a sound state on is a value of the function's type
@@ -56,41 +49,10 @@ abbrev pub JudgementsAreSound : Type 0
 JudgementsAreSound = (p : TranslationUnit) → IsDirect p → HasResults p → (n : ℕ) (s : State) → IsSoundState p s
     → AllByRecursion (IsSoundJudgement p) (judged_whole p n s)
 
--- ---- letters
+-- each state in which a run of a program of an accepted text judges an annotation is sound, on each input and with any number of steps
+abbrev pub JudgedStatesAreSound : Type 0
+JudgedStatesAreSound = (p : TranslationUnit) → IsProgram p → (input : Input) (n : ℕ) → AllByRecursion (IsSoundJudgement p) (judged p input n)
 
--- a value of `char` (C99 6.4.4.4 p10)
-pub record IsCharacter (z : ℤ) : Type 0 where
-  pub low : negsuc 127 ≤ℤ z
-  pub high : z ≤ℤ pos 127
-
--- each letter in an expression is one
-abbrev mutual
-  pub LettersFit : Expression → Type 0
-  LettersFit (Node at t (Number n k)) = Unit {0}
-  LettersFit (Node at t (Letter n)) = IsCharacter n
-  LettersFit (Node at t (Text n)) = Unit {0}
-  LettersFit (Node at t (Variable x)) = Unit {0}
-  LettersFit (Node at t (Unary op a)) = LettersFit a
-  LettersFit (Node at t (Binary op a b)) = LettersFit a × LettersFit b
-  LettersFit (Node at t (Both a b)) = LettersFit a × LettersFit b
-  LettersFit (Node at t (Either a b)) = LettersFit a × LettersFit b
-  LettersFit (Node at t (Choice a b c)) = LettersFit a × LettersFit b × LettersFit c
-  LettersFit (Node at t (Assign op a b)) = LettersFit a × LettersFit b
-  LettersFit (Node at t (Bump op a)) = LettersFit a
-  LettersFit (Node at t (Call f args)) = AllLettersFit args
-  LettersFit (Node at t (Cast to a)) = LettersFit a
-  LettersFit (Node at t (SizeOfType u)) = Unit {0}
-  LettersFit (Node at t (SizeOfExpr a)) = Unit {0}
-  LettersFit (Node at t (Index a b)) = LettersFit a × LettersFit b
-  LettersFit (Node at t (Dot a m)) = LettersFit a
-  LettersFit (Node at t (Arrow a m)) = LettersFit a
-  LettersFit (Node at t (Comma a b)) = LettersFit a × LettersFit b
-
-  pub AllLettersFit : Expressions → Type 0
-  AllLettersFit NoExpression = Unit {0}
-  AllLettersFit (Following e es) = LettersFit e × AllLettersFit es
-
--- with such letters each function of a program of an accepted text gives values of its type
+-- each function of a program of an accepted text gives values of its type
 abbrev pub GivenResultsFit : Type 0
-GivenResultsFit = (p : TranslationUnit) → IsProgram p → EachInFunctions LettersFit p.funcs → (i : ℕ) (f : Function) → slice_get p.funcs i ≡ Some f
-    → GivesResult p f
+GivenResultsFit = (p : TranslationUnit) → IsProgram p → (i : ℕ) (f : Function) → slice_get p.funcs i ≡ Some f → GivesResult p f

@@ -1,5 +1,5 @@
 -- The typing of declarations in blocks and of statements (C99 6.2.1, 6.7, 6.8): the typed tree, or the faults of its smallest faulty parts.
-use Rattle.std.specs.Prelude.{ℤ, Bool, true, false, not, ◌&&◌, ◌||◌, List, [], ◌∷◌, Option, Some, None}
+use Rattle.std.specs.Prelude.{ℕ, ℤ, Bool, true, false, not, ◌&&◌, ◌||◌, List, [], ◌∷◌, ◌++◌, Option, Some, None}
 use Rattle.std.specs.Ordering.{int_eq}
 use Rattle.c_syntax.specs.declared.place.Place.{Place}
 use Rattle.c_syntax.specs.Ctypes.{PlainType, Int}
@@ -12,7 +12,7 @@ use Rattle.c_model.specs.Checked.{Checked, Good, one_part, given, where_so}
 use Rattle.c_model.specs.Integers.{convert, integer_type}
 use Rattle.c_model.specs.Conversions.{promoted}
 use Rattle.c_model.specs.ExpressionTyping.{no_type, Sight, with_object, with_objects, inner, is_void, is_scalar, in_type, in_int, is_assigned, constant}
-use Rattle.c_model.specs.ExpressionTyping.{decayed_of, typed, typed_type}
+use Rattle.c_model.specs.ExpressionTyping.{decayed_of, typed, typed_type, no_name, is_among}
 use Rattle.c_model.specs.DeclarationTyping.{typed_variable}
 
 -- where a statement stands: what its function gives, whether `break` leaves something there, and whether it is inside a loop
@@ -79,6 +79,53 @@ case_number k at z = Node at (Int k) (Number z (Some k))
 abbrev pub typed_declarations : Sight → List Declaration → Checked (List Declaration)
 typed_declarations s [] = Good []
 typed_declarations s (d ∷ ds) = one_part (typed_variable s d) (λ d. one_part (typed_declarations (with_object s d) ds) (λ ds. Good (d ∷ ds)))
+
+-- ---- labels, which have names of their own (C99 6.2.3, 6.8.1)
+
+-- the labels of a statement in the order of the text, each at its place
+abbrev mutual
+  pub labels_within : Statement → List (Place × ℕ)
+  labels_within (Empty at) = []
+  labels_within (Eval at e) = []
+  labels_within (Block at items) = labels_in_items items
+  labels_within (If at e a b) = labels_within a ++ labels_in_else b
+  labels_within (While at annots e a) = labels_within a
+  labels_within (Do at a e) = labels_within a
+  labels_within (For at annots first e step a) = labels_within a
+  labels_within (Break at) = []
+  labels_within (Continue at) = []
+  labels_within (Return at e) = []
+  labels_within (Labelled at l a) = (at, l) ∷ labels_within a
+  labels_within (Switch at e cases) = labels_in_cases cases
+
+  pub labels_in_cases : Cases → List (Place × ℕ)
+  labels_in_cases NoCase = []
+  labels_in_cases (AnotherCase at v items rest) = labels_in_items items ++ labels_in_cases rest
+
+  pub labels_in_else : ElsePart → List (Place × ℕ)
+  labels_in_else NoElse = []
+  labels_in_else (Else a) = labels_within a
+
+  pub labels_in_items : BlockItems → List (Place × ℕ)
+  labels_in_items NoItem = []
+  labels_in_items (Then i rest) = labels_in_item i ++ labels_in_items rest
+
+  pub labels_in_item : BlockItem → List (Place × ℕ)
+  labels_in_item (Declare ds) = []
+  labels_in_item (Specify at t) = []
+  labels_in_item (Run a) = labels_within a
+  labels_in_item (Asserts annots) = []
+
+-- labels behind those of these names: no two of one function have one name (C99 6.8.1 p3)
+abbrev pub distinct_labels : List ℕ → List (Place × ℕ) → Checked (Unit {0})
+distinct_labels names [] = Good tt
+distinct_labels names (l ∷ ls) = where_so (not (is_among l.1 names)) (no_name l.0) (distinct_labels (l.1 ∷ names) ls)
+
+abbrev pub typed_labels : Option Statement → Checked (Unit {0})
+typed_labels None = Good tt
+typed_labels (Some a) = distinct_labels [] (labels_within a)
+
+-- ---- statements
 
 -- an expression statement reads nothing of an object that has no scalar type, and so an array is no pointer there (C99 6.8.3)
 abbrev mutual

@@ -260,16 +260,17 @@ abbrev mutual
       (one_part (ranged_guards (seen_binders (range_of a).lo bs (lowered below (range_of b).hi) seen) at rest p) (λ gp.
       Good (Guarded a bs below b gp.0, gp.1))))
 
--- a clause that is typed is a predicate, or the value of a variant
-abbrev pub ranged_clause : ClauseBody → Checked ClauseBody
-ranged_clause (Raw f) = Good (Raw f)
-ranged_clause (Holds p) = one_part (ranged_pred [] p) (λ p. Good (Holds p))
-ranged_clause (Value t) = one_part (ranged_term [] t) (λ t. Good (Value t))
-ranged_clause (Behaviors names) = Good (Behaviors names)
+-- a clause that is typed is a predicate, or the value of a variant; these names are in sight
+abbrev pub ranged_clause : Seen → ClauseBody → Checked ClauseBody
+ranged_clause seen (Raw f) = Good (Raw f)
+ranged_clause seen (Holds p) = one_part (ranged_pred seen p) (λ p. Good (Holds p))
+ranged_clause seen (Value t) = one_part (ranged_term seen t) (λ t. Good (Value t))
+ranged_clause seen (Behaviors names) = Good (Behaviors names)
 
-abbrev pub ranged_annotations : List Annotation → Checked (List Annotation)
-ranged_annotations [] = Good []
-ranged_annotations (a ∷ rest) = both_parts (ranged_clause a.body) (ranged_annotations rest) (λ b rest. Good (record a { body = b } ∷ rest))
+abbrev pub ranged_annotations : Seen → List Annotation → Checked (List Annotation)
+ranged_annotations seen [] = Good []
+ranged_annotations seen (a ∷ rest) =
+    both_parts (ranged_clause seen a.body) (ranged_annotations seen rest) (λ b rest. Good (record a { body = b } ∷ rest))
 
 -- ---- trees that keep the range of each term
 

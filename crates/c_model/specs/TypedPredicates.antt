@@ -1,7 +1,7 @@
--- What is known of typed annotations (ACSL 2.2, 2.7): a variable is an object that is in sight where the annotation stands, and each form has parts of the
--- sorts that it wants: integers, pointers, and places where `&` and a member stand; sizes, alignments and offsets that trees keep are those of C's types, and
--- a chain has a relation. And the law that typing gives such trees.
-use Rattle.std.specs.Prelude.{◌≡◌, ℕ, ◌≤◌, pos, List, [], ◌∷◌, Option, Some, None, ◌⊎◌}
+-- What is known of typed annotations (ACSL 2.2, 2.4.3, 2.7): a variable is an object that is in sight where the annotation stands, and each form has
+-- parts of the sorts that it wants: integers, pointers, and places where `&` and a member stand; sizes, alignments and offsets that trees keep are those
+-- of C's types, and a chain has a relation; a term at a label is so where that stands. And the law that typing gives such trees.
+use Rattle.std.specs.Prelude.{◌≡◌, ℕ, ◌≤◌, pos, false, List, [], ◌∷◌, Option, Some, None, ◌⊎◌}
 use Rattle.c_syntax.specs.declared.expression.Use.{Use}
 use Rattle.c_syntax.specs.declared.expression.UnOp.{UnOp}
 use Rattle.c_syntax.specs.declared.expression.UnOp.TheVariants as unary
@@ -12,7 +12,9 @@ use Rattle.c_syntax.specs.Logic.{Chain, Not, Connected, Branch, Quantified, Clau
 use Rattle.c_syntax.specs.Logic.{Behaviors, Null, Deref, Member, Address, Moved, Difference, Told, Asks, Separated, Zone, Object, Elements, Zones, NoZone}
 use Rattle.c_syntax.specs.Logic.{Another}
 use Rattle.c_model.specs.Checked.{Good}
-use Rattle.c_model.specs.ExpressionTyping.{Sight, most_bytes}
+use Rattle.c_model.specs.ContractChecks.{result_number}
+use Rattle.c_model.specs.ExpressionTyping.{Sight, most_bytes, is_void}
+use Rattle.c_model.specs.AnnotationSights.{ClauseSight, AtEnd, AnnotationSight, sight_at}
 use Rattle.c_model.specs.PredicateTyping.{ValueSort, AnInteger, APointer, sort_of_term, type_of_term, told_type, typed_annotations}
 use Rattle.c_model.specs.TypedTrees.{IsInteger, Denotes}
 
@@ -91,17 +93,22 @@ abbrev pub HasLink : Links → Type 0
 HasLink NoLink = ⊥
 HasLink (Linked at r t rest) = Unit {0}
 
+-- the result of a function that gives a value of this type (ACSL 2.3.1)
+abbrev pub IsResult : ClauseSight → Option PlainType → Use → Type 0
+IsResult (AtEnd formals u) t x = (x.decl ≡ result_number) × (t ≡ Some u) × (is_void u ≡ false)
+IsResult _ t x = ⊥
+
 abbrev mutual
-  pub TermTyped : Sight → LogicTerm → Type 0
+  pub TermTyped : AnnotationSight → LogicTerm → Type 0
   TermTyped s (Number at t r n) = t ≡ None
   TermTyped s (Letter at t r n) = t ≡ None
-  TermTyped s (Variable at t r x) = TermDenotes s t x
+  TermTyped s (Variable at t r x) = TermDenotes s.here t x
   TermTyped s (Unary at t r op a) = (t ≡ None) × IsOnInteger op × IsIntegerTerm a × TermTyped s a
   TermTyped s (Binary at t r op a b) = (t ≡ None) × IsIntegerTerm a × IsIntegerTerm b × TermTyped s a × TermTyped s b
   TermTyped s (Cast at t r to a) = IsCast t to (sort_of_term a) × TermTyped s a
   TermTyped s (Choice at t r c a b) = IsChoice t (sort_of_term a) (sort_of_term b) × PredicateTyped s c × TermTyped s a × TermTyped s b
-  TermTyped s (Named at t r x) = ⊥
-  TermTyped s (At at t r l a) = ⊥
+  TermTyped s (Named at t r x) = IsResult s.clause t x
+  TermTyped s (At at t r l a) = (u : AnnotationSight) × (sight_at s l ≡ Some u) × (t ≡ type_of_term a) × TermTyped u a
   TermTyped s (Null at t r) = t ≡ Some (Ptr Void)
   TermTyped s (Deref at t r a) = (u : PlainType) × (t ≡ Some u) × PointsTo u a × TermTyped s a
   TermTyped s (Member at t r d a) = (u : PlainType) × (t ≡ Some u) × (n : ℕ) × (type_of_term a ≡ Some (Struct n)) × IsPlace a × TermTyped s a × IsExtent d
@@ -111,20 +118,20 @@ abbrev mutual
   TermTyped s (Told at t r f a) = (t ≡ told_type f) × IsPointerTerm a × TermTyped s a
 
   -- the relations of a chain behind a side
-  pub LinksTyped : Sight → LogicTerm → Links → Type 0
+  pub LinksTyped : AnnotationSight → LogicTerm → Links → Type 0
   LinksTyped s a NoLink = Unit {0}
   LinksTyped s a (Linked at r t rest) = AreRelated a t × TermTyped s t × LinksTyped s t rest
 
-  pub ZoneTyped : Sight → Zone → Type 0
+  pub ZoneTyped : AnnotationSight → Zone → Type 0
   ZoneTyped s (Object at n m a) = IsPointerTerm a × TermTyped s a × IsSize n × IsAlignment m
   ZoneTyped s (Elements at n m a lo hi) =
       IsPointerTerm a × IsIntegerTerm lo × IsIntegerTerm hi × TermTyped s a × TermTyped s lo × TermTyped s hi × IsSize n × IsAlignment m
 
-  pub ZonesTyped : Sight → Zones → Type 0
+  pub ZonesTyped : AnnotationSight → Zones → Type 0
   ZonesTyped s NoZone = Unit {0}
   ZonesTyped s (Another z rest) = ZoneTyped s z × ZonesTyped s rest
 
-  pub PredicateTyped : Sight → Predicate → Type 0
+  pub PredicateTyped : AnnotationSight → Predicate → Type 0
   PredicateTyped s (Truth at b) = Unit {0}
   PredicateTyped s (NonZero at t) = IsIntegerTerm t × TermTyped s t
   PredicateTyped s (Chain at t links) = TermTyped s t × LinksTyped s t links × HasLink links
@@ -136,13 +143,13 @@ abbrev mutual
   PredicateTyped s (Separated at zs) = ZonesTyped s zs
 
 -- a clause that is read isn't typed yet
-abbrev pub ClauseTyped : Sight → ClauseBody → Type 0
+abbrev pub ClauseTyped : AnnotationSight → ClauseBody → Type 0
 ClauseTyped s (Raw f) = ⊥
 ClauseTyped s (Holds p) = PredicateTyped s p
 ClauseTyped s (Value t) = ⊥
 ClauseTyped s (Behaviors names) = ⊥
 
-abbrev pub AnnotationsTyped : Sight → List Annotation → Type 0
+abbrev pub AnnotationsTyped : AnnotationSight → List Annotation → Type 0
 AnnotationsTyped s [] = Unit {0}
 AnnotationsTyped s (a ∷ rest) = ClauseTyped s a.body × AnnotationsTyped s rest
 
@@ -160,4 +167,4 @@ AreRead [] = Unit {0}
 AreRead (a ∷ rest) = IsRead a.body × AreRead rest
 
 abbrev pub TypedAnnotationsAreKnown : Type 0
-TypedAnnotationsAreKnown = (s : Sight) (a b : List Annotation) → AreRead a → typed_annotations s a ≡ Good b → AnnotationsTyped s b
+TypedAnnotationsAreKnown = (s : AnnotationSight) (a b : List Annotation) → AreRead a → typed_annotations s a ≡ Good b → AnnotationsTyped s b

@@ -34,7 +34,7 @@ use Rattle.c_model.specs.ExpressionTyping.{is_printf, with_object}
 use Rattle.c_model.specs.ExpressionTyping.{inner, declared_here, is_character, Enumerator, AnEnumerator, use_as, typed}
 use Rattle.c_model.specs.Checked.{Good}
 use Rattle.c_model.specs.UnitTyping.{with_parameter, with_parameters}
-use Rattle.c_model.specs.StatementTyping.{Around, in_loop, in_switch, behind, behind_first}
+use Rattle.c_model.specs.StatementTyping.{Around, in_loop, in_switch, behind, behind_first, typed_labels}
 
 -- ---- types
 
@@ -365,6 +365,8 @@ pub record FunctionTyped (s : Sight) (f : Function) : Type 0 where
   pub result : IsResult f.result
   pub params : AreParameters (inner s) f.params
   pub body : BodyTyped (with_parameters (inner s) f.params) f.result f.body
+  -- no two of its labels have one name (C99 6.8.1 p3)
+  pub labels : typed_labels f.body ≡ Good tt
 
 -- ---- a typed tree is the read tree but for types, casts and constants
 

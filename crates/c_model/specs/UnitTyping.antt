@@ -19,7 +19,7 @@ use Rattle.c_model.specs.ExpressionTyping.{no_name, Signature, Sight, name_at, i
 use Rattle.c_model.specs.ExpressionTyping.{constant, levels_of, typed_type}
 use Rattle.c_model.specs.DeclarationTyping.{greater, own_name, typed_result, typed_global, typed_typedef, typed_parameter, typed_member, with_enumerator}
 use Rattle.c_model.specs.DeclarationTyping.{typed_enumerators}
-use Rattle.c_model.specs.StatementTyping.{typed_items}
+use Rattle.c_model.specs.StatementTyping.{typed_items, typed_labels}
 
 -- ---- what a file declares, in the order of the text (C99 6.2.1 p7)
 
@@ -201,11 +201,14 @@ typed_body s t (Some (Block at items)) = one_part (typed_items s (record { resul
     (λ items. Good (Some (Block at items)))
 typed_body s t b = Good b
 
--- a function is in sight in its own body
-abbrev pub typed_function : TranslationUnit → Sight → List Function → Function → Checked Function
-typed_function p s before f =
+-- a function but for its labels; it is in sight in its own body
+abbrev pub typed_parts : TranslationUnit → Sight → List Function → Function → Checked Function
+typed_parts p s before f =
     one_part (typed_heading s before f) (λ f.
     one_part (typed_body (with_parameters (inner (with_function p s f)) f.params) f.result f.body) (λ b. Good (record f { body = b })))
+
+abbrev pub typed_function : TranslationUnit → Sight → List Function → Function → Checked Function
+typed_function p s before f = both_parts (typed_labels f.body) (typed_parts p s before f) (λ u g. Good g)
 
 -- ---- files
 

@@ -73,16 +73,16 @@ abbrev pub unranged_annotations : List Annotation → List Annotation
 unranged_annotations [] = []
 unranged_annotations (a ∷ rest) = record a { body = unranged_clause a.body } ∷ unranged_annotations rest
 
--- each clause that is a predicate keeps the range of each of its terms
-abbrev pub ClauseRanged : ClauseBody → Type 0
-ClauseRanged (Raw f) = Unit {0}
-ClauseRanged (Holds p) = PredicateRanged [] p
-ClauseRanged (Value t) = TermRanged [] t
-ClauseRanged (Behaviors names) = Unit {0}
+-- each clause that is a predicate keeps the range of each of its terms, with these names in sight
+abbrev pub ClauseRanged : Seen → ClauseBody → Type 0
+ClauseRanged seen (Raw f) = Unit {0}
+ClauseRanged seen (Holds p) = PredicateRanged seen p
+ClauseRanged seen (Value t) = TermRanged seen t
+ClauseRanged seen (Behaviors names) = Unit {0}
 
-abbrev pub AnnotationsRanged : List Annotation → Type 0
-AnnotationsRanged [] = Unit {0}
-AnnotationsRanged (a ∷ rest) = ClauseRanged a.body × AnnotationsRanged rest
+abbrev pub AnnotationsRanged : Seen → List Annotation → Type 0
+AnnotationsRanged seen [] = Unit {0}
+AnnotationsRanged seen (a ∷ rest) = ClauseRanged seen a.body × AnnotationsRanged seen rest
 
 -- the second tree is the first one with ranges, each of which is right
 pub record IsRangedTerm (n : Seen) (t u : LogicTerm) : Type 0 where
@@ -105,12 +105,12 @@ pub record IsRangedPredicate (n : Seen) (p q : Predicate) : Type 0 where
   pub ranged : PredicateRanged n q
   pub same : unranged_pred q ≡ unranged_pred p
 
-pub record IsRangedClause (b c : ClauseBody) : Type 0 where
-  pub ranged : ClauseRanged c
+pub record IsRangedClause (seen : Seen) (b c : ClauseBody) : Type 0 where
+  pub ranged : ClauseRanged seen c
   pub same : unranged_clause c ≡ unranged_clause b
 
-pub record AreRangedAnnotations (xs ys : List Annotation) : Type 0 where
-  pub ranged : AnnotationsRanged ys
+pub record AreRangedAnnotations (seen : Seen) (xs ys : List Annotation) : Type 0 where
+  pub ranged : AnnotationsRanged seen ys
   pub same : unranged_annotations ys ≡ unranged_annotations xs
 
 -- ---- the laws
@@ -122,7 +122,7 @@ abbrev pub RangingKeepsPredicates : Type 0
 RangingKeepsPredicates = (n : Seen) (p q : Predicate) → ranged_pred n p ≡ Good q → IsRangedPredicate n p q
 
 abbrev pub RangingKeepsAnnotations : Type 0
-RangingKeepsAnnotations = (xs ys : List Annotation) → ranged_annotations xs ≡ Good ys → AreRangedAnnotations xs ys
+RangingKeepsAnnotations = (seen : Seen) (xs ys : List Annotation) → ranged_annotations seen xs ≡ Good ys → AreRangedAnnotations seen xs ys
 
 abbrev pub RangesKeepValues : Type 0
 RangesKeepValues = (t : LogicTerm) (s : State) (e : Environment) → term (unranged_term t) s e ≡ term t s e

@@ -4,12 +4,13 @@ use Rattle.std.specs.Prelude.{◌≡◌, ℕ, List, [], ◌∷◌, map, Option, 
 use Rattle.c_syntax.specs.Statements.{Statement, Empty, Eval, Block, If, While, Do, For, Break, Continue, Return, Labelled, ElsePart, NoElse, Else, Switch}
 use Rattle.c_syntax.specs.Statements.{Cases, NoCase, AnotherCase}
 use Rattle.c_syntax.specs.Statements.{BlockItem, Declare, Specify, Run, Asserts, BlockItems, NoItem, Then}
-use Rattle.c_syntax.specs.Programs.{Function, TranslationUnit}
+use Rattle.c_syntax.specs.Programs.{NamedBehavior, FunctionContract, Function, TranslationUnit}
 use Rattle.c_model.specs.Checked.{Good}
 use Rattle.c_model.specs.State.{Input}
 use Rattle.c_model.specs.Meaning.{run}
 use Rattle.c_model.specs.AcceptedPrograms.{IsProgram}
-use Rattle.c_model.specs.AnnotationRanges.{ranged_unit}
+use Rattle.c_model.specs.TermRanges.{Seen}
+use Rattle.c_model.specs.AnnotationRanges.{seen_result, ranged_unit}
 use Rattle.c_model.specs.Unranged.{unranged_annotations, AnnotationsRanged}
 
 abbrev mutual
@@ -45,8 +46,19 @@ abbrev mutual
   unranged_items NoItem = NoItem
   unranged_items (Then i rest) = Then (unranged_item i) (unranged_items rest)
 
+abbrev pub unranged_behavior : NamedBehavior → NamedBehavior
+unranged_behavior b = record b { clauses = unranged_annotations b.clauses }
+
+abbrev pub unranged_contract : FunctionContract → FunctionContract
+unranged_contract c = record {
+  place = c.place;
+  clauses = unranged_annotations c.clauses;
+  behaviors = map unranged_behavior c.behaviors;
+  covers = unranged_annotations c.covers;
+}
+
 abbrev pub unranged_function : Function → Function
-unranged_function f = record f { body = option_map unranged_statement f.body }
+unranged_function f = record f { contract = option_map unranged_contract f.contract; body = option_map unranged_statement f.body }
 
 abbrev pub unranged_unit : TranslationUnit → TranslationUnit
 unranged_unit p = record p { funcs = map unranged_function p.funcs }
@@ -59,9 +71,9 @@ abbrev mutual
   StatementRanged (Eval at e) = Unit {0}
   StatementRanged (Block at items) = ItemsRanged items
   StatementRanged (If at e a b) = StatementRanged a × ElseRanged b
-  StatementRanged (While at annots e a) = AnnotationsRanged annots × StatementRanged a
+  StatementRanged (While at annots e a) = AnnotationsRanged [] annots × StatementRanged a
   StatementRanged (Do at a e) = StatementRanged a
-  StatementRanged (For at annots first e step a) = AnnotationsRanged annots × StatementRanged a
+  StatementRanged (For at annots first e step a) = AnnotationsRanged [] annots × StatementRanged a
   StatementRanged (Break at) = Unit {0}
   StatementRanged (Continue at) = Unit {0}
   StatementRanged (Return at e) = Unit {0}
@@ -80,7 +92,7 @@ abbrev mutual
   ItemRanged (Declare ds) = Unit {0}
   ItemRanged (Specify at t) = Unit {0}
   ItemRanged (Run a) = StatementRanged a
-  ItemRanged (Asserts annots) = AnnotationsRanged annots
+  ItemRanged (Asserts annots) = AnnotationsRanged [] annots
 
   pub ItemsRanged : BlockItems → Type 0
   ItemsRanged NoItem = Unit {0}
@@ -90,8 +102,16 @@ abbrev pub BodyRanged : Option Statement → Type 0
 BodyRanged None = Unit {0}
 BodyRanged (Some a) = StatementRanged a
 
+abbrev pub BehaviorsRanged : Seen → List NamedBehavior → Type 0
+BehaviorsRanged seen [] = Unit {0}
+BehaviorsRanged seen (b ∷ bs) = AnnotationsRanged seen b.clauses × BehaviorsRanged seen bs
+
+abbrev pub ContractRanged : Seen → Option FunctionContract → Type 0
+ContractRanged seen None = Unit {0}
+ContractRanged seen (Some c) = AnnotationsRanged seen c.clauses × BehaviorsRanged seen c.behaviors
+
 abbrev pub FunctionRanged : Function → Type 0
-FunctionRanged f = BodyRanged f.body
+FunctionRanged f = ContractRanged (seen_result f.result) f.contract × BodyRanged f.body
 
 abbrev pub FunctionsRanged : List Function → Type 0
 FunctionsRanged [] = Unit {0}

@@ -7,7 +7,8 @@ use Rattle.c_syntax.specs.declared.logic.MemoryQuestion.TheVariants.{Valid, Vali
 use Rattle.c_model.specs.declared.vocabulary.Keyword.{Keyword}
 use Rattle.c_model.specs.declared.vocabulary.Keyword.TheVariants.{Char, Short, Int, Long, Signed, Unsigned, Void, Const, Static, If, Else, While, Do, For}
 use Rattle.c_model.specs.declared.vocabulary.Keyword.TheVariants.{Break, Continue, Return, Sizeof, Struct, Enum, Typedef, Switch, Case, Default, Kept}
-use Rattle.c_model.specs.declared.vocabulary.TypeName.TheVariants.{Library, Declared, DeclaredAssert}
+use Rattle.c_model.specs.declared.vocabulary.TypeName.TheVariants.{Library, Declared, DeclaredClause}
+use Rattle.c_model.specs.declared.vocabulary.ClauseWord.TheVariants as clause
 use Rattle.c_model.specs.declared.vocabulary.LogicWord.{LogicWord}
 use Rattle.c_model.specs.declared.vocabulary.LogicWord.TheVariants as logic
 use Rattle.c_model.specs.declared.vocabulary.Word.{Word}
@@ -41,18 +42,22 @@ kept_keywords =
     ∷ (codes "union", word.Keyword Kept) ∷ (codes "float", word.Keyword Kept) ∷ (codes "double", word.Keyword Kept) ∷ (codes "_Bool", word.Keyword Kept)
     ∷ (codes "_Complex", word.Keyword Kept) ∷ (codes "_Imaginary", word.Keyword Kept) ∷ []
 
--- types of the library (C99 7.17), and words of annotations (ACSL)
+-- types of the library (C99 7.17), and words of annotations (ACSL 2.2.3, 2.3, 2.4)
 abbrev pub other_words : Words
 other_words =
-    (codes "size_t", word.TypeName (Library U64)) ∷ (codes "ptrdiff_t", word.TypeName (Library I64)) ∷ (codes "assert", word.Assert)
-    ∷ (codes "integer", word.Integer) ∷ []
+    (codes "size_t", word.TypeName (Library U64)) ∷ (codes "ptrdiff_t", word.TypeName (Library I64)) ∷ (codes "assert", word.Clause clause.Assert)
+    ∷ (codes "integer", word.Integer) ∷ (codes "requires", word.Clause clause.Requires) ∷ (codes "assumes", word.Clause clause.Assumes)
+    ∷ (codes "ensures", word.Clause clause.Ensures) ∷ (codes "behavior", word.Clause clause.Behavior)
+    ∷ (codes "complete", word.Clause clause.Complete) ∷ (codes "disjoint", word.Clause clause.Disjoint)
+    ∷ (codes "behaviors", word.Clause clause.Behaviors) ∷ []
 
 -- the words that begin with `\`, by what stands after it (ACSL 2.2)
 abbrev pub logic_words : List (List ℕ × LogicWord)
 logic_words =
     (codes "true", logic.Truth true) ∷ (codes "false", logic.Truth false) ∷ (codes "null", logic.Null) ∷ (codes "base_addr", logic.Told BaseAddr)
     ∷ (codes "block_length", logic.Told BlockLength) ∷ (codes "offset", logic.Told Offset) ∷ (codes "valid", logic.Asks Valid)
-    ∷ (codes "valid_read", logic.Asks ValidRead) ∷ (codes "initialized", logic.Asks Initialized) ∷ (codes "separated", logic.Separated) ∷ []
+    ∷ (codes "valid_read", logic.Asks ValidRead) ∷ (codes "initialized", logic.Asks Initialized) ∷ (codes "separated", logic.Separated)
+    ∷ (codes "result", logic.Result) ∷ (codes "old", logic.Old) ∷ (codes "at", logic.At) ∷ []
 
 -- a word that begins with `\` stands in annotations alone
 abbrev pub name_or_logic : List ℕ → Word
@@ -70,9 +75,9 @@ Vocabulary = List Word
 abbrev pub word_at : Vocabulary → ℕ → Word
 word_at ws n = elim (slice_get ws n) [ None ↦ word.Name | Some w ↦ w ]
 
--- what a word is once a `typedef` declares it (C99 6.7.7): a clause of annotations is told by its name all the same
+-- what a word is once a `typedef` declares it (C99 6.7.7): a clause of annotations is told by its word all the same
 abbrev pub declared_word : Word → Word
-declared_word word.Assert = word.TypeName DeclaredAssert
+declared_word (word.Clause c) = word.TypeName (DeclaredClause c)
 declared_word _ = word.TypeName Declared
 
 -- ---- the words that name an integer type, in any order (C99 6.7.2 p2)

@@ -35,3 +35,14 @@ pub enum ChainDirection {
     /// `!=`, which stands alone.
     Ended,
 }
+
+/// Where clauses stand that say a form (ACSL 2.3, 2.4.1).
+#[derive(Clone, Copy, PartialEq, Eq, Debug)]
+pub enum ClauseGroup {
+    /// In an annotation of asserts.
+    Asserts,
+    /// In a contract, outside its behaviors.
+    Contract,
+    /// In a behavior.
+    Behavior,
+}

@@ -10,6 +10,7 @@ ghost use Rattle.c_model.specs.HeapLaws.{HeapPlacesFit, HeapPlacesAreLeast, Full
 ghost use Rattle.c_model.specs.HeapLaws.{AllocatedBlocksAreNew, NoBytesGiveNull, FreedBlocksDie, LiveBlocksCanBeFreed, FreeLetsNullBe, DeadBlocksHaveNoUse};
 ghost use Rattle.c_model.specs.HeapLaws.{StatementsKeepBlocks, StatementsKeepPlaces, ScalarsStandInOrder, AssignedStructsAreCopies, AssignedStructsKeepTheRest};
 ghost use Rattle.c_model.specs.Laws.{FuelIsEnough, StepsFall, LoopsTurn, DoLoopsTurn, ForLoopsTurn, RunsNeedNoFuel, RunsSpendSteps, OutputGrows};
+ghost use Rattle.c_model.specs.ContractLaws.{AnswersNeedNoSteps, BehaviorsHoldByAssumptions};
 ghost use Rattle.c_model.specs.PrintingLaws.{BytesArePrinted, FormatsAreSpelled, LiteralsAreFound};
 ghost use Rattle.c_model.specs.SoundJudgements.{GivenResultsFit, JudgedStatesAreSound, JudgementsAreSound};
 ghost use Rattle.c_model.specs.SoundStates.{BirthsKeepSound, BodiesKeepSound, CopiesKeepSound, DeathsKeepSound, ExpressionsKeepSound, FreesKeepSound};
@@ -19,6 +20,7 @@ ghost use Rattle.c_model.specs.SoundStates.{StatementsKeepSound};
 ghost use Rattle.c_model.specs.TypedTrees.{TypingLaws};
 ghost use Rattle.c_model.specs.TextTypingLaws.{TextTypingLaws};
 ghost use Rattle.c_model.specs.TypedPredicates.{TypedAnnotationsAreKnown};
+ghost use Rattle.c_model.specs.TypedAnnotations.{TypedContractsAreKnown};
 ghost use Rattle.c_model.specs.Laws.{ProgramsNeverStuck, AgreementIsReflexive, AgreementIsTransitive, AgreementGoesOn};
 
 /// Integers: a value is the value of its bits, a result that fits stands, one that does not is undefined in a signed
@@ -106,6 +108,14 @@ pub fn typing()
 /// Annotations: what typing makes of those that are read is well typed.
 pub fn annotations()
     ensures typed { TypedAnnotationsAreKnown }
+    ensures contracts { TypedContractsAreKnown }
+{}
+
+/// Contracts: where a call goes on behind the checks at its beginning, a behavior holds exactly where all its `assumes` are true when the call
+/// begins; and what an annotation says, true or false, is one, with however many steps left.
+pub fn contracts()
+    ensures assumed { BehaviorsHoldByAssumptions }
+    ensures one { AnswersNeedNoSteps }
 {}
 
 /// Agreement of runs: each agrees with itself, and what agrees with a run in two steps agrees with it, also with the source's.

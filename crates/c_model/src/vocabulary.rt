@@ -41,8 +41,23 @@ pub enum TypeName {
     Library(CInt),
     /// A type that a `typedef` of the file declares.
     Declared,
-    /// One with the name `assert`, which still begins a clause of annotations.
-    DeclaredAssert,
+    /// One with a name that is a word of clauses, which it still is.
+    DeclaredClause(ClauseWord),
+}
+
+/// A word of the clauses of annotations, which is a name besides (ACSL 2.3, 2.4).
+#[derive(Clone, Copy, PartialEq, Eq, Debug)]
+pub enum ClauseWord {
+    Assert,
+    Requires,
+    Assumes,
+    Ensures,
+    /// `behavior`, before the name of one.
+    Behavior,
+    Complete,
+    Disjoint,
+    /// `behaviors`, behind `complete` and `disjoint`.
+    Behaviors,
 }
 
 /// A word that begins with `\` (ACSL 2.2).
@@ -58,6 +73,12 @@ pub enum LogicWord {
     Asks(MemoryQuestion),
     /// `\separated`
     Separated,
+    /// `\result`
+    Result,
+    /// `\old`
+    Old,
+    /// `\at`
+    At,
     /// A word that no production has.
     Kept,
 }
@@ -67,8 +88,8 @@ pub enum LogicWord {
 pub enum Word {
     Keyword(Keyword),
     TypeName(TypeName),
-    /// `assert`, which is a name besides.
-    Assert,
+    /// A word of clauses, which is a name besides.
+    Clause(ClauseWord),
     /// `integer`, which is a name of C and a type of annotations.
     Integer,
     /// A word of annotations that begins with `\`.

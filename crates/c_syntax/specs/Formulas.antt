@@ -1,4 +1,4 @@
--- The plain form of what is read of annotations (ACSL 2.2, 2.3), before typing tells terms from predicates: without boxes.
+-- The plain form of what is read of annotations (ACSL 2.2, 2.3, 2.4.3), before typing tells terms from predicates: without boxes.
 use Rattle.std.specs.Prelude.{ℕ, ℤ, Bool}
 use Rattle.c_syntax.specs.declared.place.Place.{Place}
 use Rattle.c_syntax.specs.declared.expression.Use.{Use}
@@ -51,6 +51,10 @@ mutual
     Told : Place → BlockFact → Form → Form
     Asks : Place → MemoryQuestion → FormZone → Form
     Separated : Place → FormZones → Form
+    Result : Place → Form
+    Old : Place → Form → Form
+    -- a form at a label, with the place and the number of its name
+    At : Place → Form → Place → ℕ → Form
 
   -- the relations of a chain, each with its place and the form after it
   pub data FormLinks : Type 0 where
@@ -86,6 +90,9 @@ abbrev mutual
   plain_form_kind at (code.Told' f pa p a) = Told at f (plain_form_kind pa a)
   plain_form_kind at (code.Asks f z) = Asks at f (plain_form_zone z)
   plain_form_kind at (code.Separated zs) = Separated at (plain_form_zones zs)
+  plain_form_kind at code.Result = Result at
+  plain_form_kind at (code.Old' pa p a) = Old at (plain_form_kind pa a)
+  plain_form_kind at (code.At' pa p a pl l) = At at (plain_form_kind pa a) pl l
 
   pub plain_form_links : FormulaLinks → FormLinks
   plain_form_links links.End = NoLink

@@ -142,6 +142,8 @@ abbrev mutual
   plain_term_kind at (term.Difference' n pa p a ta ra pb q b tb rb) t r = Difference at t r n (plain_term_kind pa a (option_map plain_type ta) ra)
       (plain_term_kind pb b (option_map plain_type tb) rb)
   plain_term_kind at (term.Told' f pa p a ta ra) t r = Told at t r f (plain_term_kind pa a (option_map plain_type ta) ra)
+  plain_term_kind at (term.Named x) t r = Named at t r x
+  plain_term_kind at (term.At' l pa p a ta ra) t r = At at t r l (plain_term_kind pa a (option_map plain_type ta) ra)
 
   pub plain_links : code_links.Links → Links
   plain_links code_links.End = NoLink
@@ -175,6 +177,7 @@ plain_pred p = plain_pred_kind p.place p.kind.value
 abbrev pub plain_body : Body → ClauseBody
 plain_body (body.Raw f) = Raw (plain_form f)
 plain_body (body.Truth p) = Holds (plain_pred p)
+plain_body (body.Names names) = Behaviors names.items
 
 abbrev pub plain_annot : Annot → Annotation
 plain_annot a = record { number = a.number; kind = a.kind; place = a.place; body = plain_body a.body }

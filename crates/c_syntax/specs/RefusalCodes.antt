@@ -29,6 +29,10 @@ type_code = 6
 abbrev pub misplaced_code : ℕ
 misplaced_code = 7
 
+-- a label that isn't known, or what may not stand under one
+abbrev pub label_code : ℕ
+label_code = 9
+
 -- a term whose values may pass signed 128 bits
 abbrev pub range_code : ℕ
 range_code = 10

@@ -110,6 +110,7 @@ abbrev mutual
   plain_stmt_kind at code.Continue = Continue at
   plain_stmt_kind at (code.Return e) = Return at (option_map plain_expr e)
   plain_stmt_kind at (code.Switch' e shape row) = Switch at (plain_expr e) (plain_case_row row)
+  plain_stmt_kind at (code.Labelled' l pa p a) = Labelled at l (plain_stmt_kind pa a)
 
   pub plain_case_row : {m : _} → Row_of-Case m → Cases
   plain_case_row end_of-Case = NoCase

@@ -21,6 +21,9 @@ pub const TYPE: u8 = 6;
 /// An annotation where none of its kind may stand.
 pub const MISPLACED: u8 = 7;
 
+/// A label that isn't known, or what may not stand under one.
+pub const LABEL: u8 = 9;
+
 /// A term whose values may pass signed 128 bits.
 pub const RANGE: u8 = 10;
 

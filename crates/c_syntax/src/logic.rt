@@ -1,4 +1,4 @@
-//! Annotations (ACSL 2.2, 2.3, 2.7): forms as they are read, terms of unbounded integers and of pointers, predicates, and the
+//! Annotations (ACSL 2.2, 2.3, 2.4.3, 2.7): forms as they are read, terms of unbounded integers and of pointers, predicates, and the
 //! clauses that they stand in.
 //!
 //! The place of a form is that of an expression of the same form: an operator's token for a binary one and for `?:`, the first
@@ -125,6 +125,12 @@ pub enum FormulaKind {
     Asks(MemoryQuestion, FormulaZone),
     /// `\separated`
     Separated(FormulaZones),
+    /// `\result`
+    Result,
+    /// `\old (form)`
+    Old(Formula),
+    /// `\at (form, label)`, with the place and the number of the label's name.
+    At(Formula, Place, u32),
 }
 
 /// Bytes that a predicate is about, as they are read.
@@ -193,6 +199,10 @@ pub enum TermKind {
     Difference(u32, Term, Term),
     /// `\base_addr`, `\block_length` or `\offset`.
     Told(BlockFact, Term),
+    /// A name that annotations give a meaning of their own, as `\result`.
+    Named(Use),
+    /// The value of a term at a label: `\at(term, label)` and `\old(term)`.
+    At(Label, Term),
 }
 
 /// The relations of a chain, each with its token's place and the term after it.
@@ -265,6 +275,8 @@ pub enum Body {
     Raw(Formula),
     /// A predicate, by typing.
     Truth(Pred),
+    /// The behaviors that `complete` and `disjoint` name, each at its place; none are all of them.
+    Names(Vec<(Place, u32)>),
 }
 
 /// A clause of an annotation.

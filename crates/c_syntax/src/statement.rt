@@ -74,4 +74,6 @@ pub enum StmtKind {
     Return(Option<Expr>),
     /// `switch`, with its cases (C99 6.8.4.2).
     Switch(Expr, Vec<Case>),
+    /// `label:`, by the number of the label's name, and the statement behind it (C99 6.8.1).
+    Labelled(u32, Stmt),
 }

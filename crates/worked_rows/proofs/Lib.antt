@@ -52,6 +52,8 @@ mod WorkedFormats
 mod WorkedRuns
 mod WorkedCalls
 pub mod WorkedContracts
+pub mod WorkedContractForms
+pub mod WorkedContractTyping
 mod WorkedBehaviors
 mod WorkedLabels
 mod WorkedLoops

@@ -1,5 +1,5 @@
 -- Forms and asserts with what is read of them, by computation (ACSL 2.2, 2.4.1).
-use Rattle.std.proofs.Common.{◌≡◌, ℕ, suc, ◌+◌, true, List, [], ◌∷◌, ◌++◌, length, Ok, Err, refl}
+use Rattle.std.proofs.Common.{◌≡◌, ℕ, suc, ◌+◌, true, List, [], ◌∷◌, ◌++◌, length, Ok, Err, None, refl}
 use Rattle.grammar.specs.Syntax.{At}
 use Rattle.c_syntax.specs.declared.place.Place.{Place}
 use Rattle.c_syntax.specs.declared.types.CInt.TheVariants.{I32}
@@ -9,8 +9,11 @@ use Rattle.c_syntax.specs.declared.annotation.Relation.TheVariants.{Lt, Le, Gt, 
 use Rattle.c_syntax.specs.declared.logic.Connective.TheVariants.{And, Xor, Or, Implies, Iff}
 use Rattle.c_syntax.specs.Ctypes.{Int}
 use Rattle.c_syntax.specs.Formulas.{Integers, OfC, Form, Truth, Name, Unary, Binary, Cast, SizeOf, Chain, Connected, Choice, NoLink, Linked}
+use Rattle.c_syntax.specs.declared.annotation.Kind.TheVariants.{Assert}
+use Rattle.c_syntax.specs.Logic.{Annotation, Raw}
 use Rattle.c_syntax.specs.Tokens as token
 use Rattle.c_syntax.specs.Tokens.{PlainTokenKind, PlainToken}
+use Rattle.c_model.specs.declared.vocabulary.ClauseWord.TheVariants as clause_word
 use Rattle.c_model.specs.declared.vocabulary.Keyword.TheVariants as keyword
 use Rattle.c_model.specs.declared.vocabulary.LogicWord.TheVariants as logic
 use Rattle.c_model.specs.declared.vocabulary.Word.TheVariants as word
@@ -23,7 +26,8 @@ use Rattle.c_model.specs.AnnotationGrammar.{cast_behind, cast_to_type, cast_to_i
 use Rattle.c_model.specs.AnnotationGrammar.{ranged, behind_first}
 use Rattle.c_model.specs.AnnotationGrammar.{added_parenthesis, added, sum_once, sum_more, zone_sum, linked, links_of, links, chain_behind, chain_of, implied, implication_behind, implication_of, chosen_behind, choice_behind, implication}
 use Rattle.c_model.specs.AnnotationGrammar.{form_of, forms, form}
-use Rattle.c_model.specs.AnnotationGrammar.{assertion, assert_clause, full_clause, next_assert, asserts, annotations}
+use Rattle.c_model.specs.AnnotationGrammar.{result_form, old_form, labelled_form}
+use Rattle.c_model.specs.ClauseGrammar.{clause_with, form_clause, full_clause, next_clause, more_clauses, asserts, clauses, annotations}
 
 -- a place in a text of one line in which each token has one column
 abbrev at : ℕ → Place
@@ -66,8 +70,12 @@ abbrev old_word : PlainTokenKind
 old_word = token.Word 9
 
 abbrev words : Vocabulary
-words = word.Name ∷ word.Name ∷ word.Name ∷ word.Name ∷ word.Integer ∷ word.Keyword keyword.Int ∷ word.Logic (logic.Truth true) ∷ word.Assert
+words = word.Name ∷ word.Name ∷ word.Name ∷ word.Name ∷ word.Integer ∷ word.Keyword keyword.Int ∷ word.Logic (logic.Truth true) ∷ word.Clause clause_word.Assert
     ∷ word.Keyword keyword.Sizeof ∷ word.Logic logic.Kept ∷ []
+
+-- the assert with the number n at this place
+abbrev assertion : ℕ → Place → Form → Annotation
+assertion n p f = clause_with n Assert p (Raw f)
 
 -- the name with this number at this place
 abbrev name : ℕ → ℕ → Form
@@ -99,7 +107,8 @@ operators_bind : AreRead (
     ∷ (a ∷ token.Mark bar ∷ b ∷ token.Mark ampersand ∷ c ∷ [], Binary (at 1) BitOr (name 0 0) (Binary (at 3) BitAnd (name 1 2) (name 2 4)))
     ∷ (token.Mark exclamation ∷ a ∷ token.Mark and_and ∷ b ∷ [], Connected (at 2) And (Unary (at 0) Not (name 0 1)) (name 1 3))
     ∷ [])
-unfolding whole zone named_form literal_form sized_form null_form told_form asked_form next_zone some_zones separated_form atom worded indexed dotted pointed postfix_once postfixes worded_postfix cast_behind cast_to_type cast_to_integer
+unfolding whole zone named_form literal_form sized_form null_form result_form old_form labelled_form told_form asked_form next_zone some_zones separated_form atom worded indexed dotted pointed postfix_once postfixes worded_postfix cast_behind
+    cast_to_type cast_to_integer
     closed_postfix parenthesised behind_parenthesis prefixed bare_prefix prefix_of prefix joined_once joined_more joined factor added_rest ranged behind_first added_parenthesis added sum_once sum_more zone_sum linked links_of links
     chain_behind chain_of implied implication_behind implication_of chosen_behind choice_behind implication form_of forms
 operators_bind = (refl, (refl, (refl, (refl, (refl, (refl, (refl, (refl, tt))))))))
@@ -113,7 +122,8 @@ connectives_bind : AreRead (
     ∷ (a ∷ token.Mark equivalent ∷ b ∷ token.Mark equivalent ∷ c ∷ [], Connected (at 3) Iff (Connected (at 1) Iff (name 0 0) (name 1 2)) (name 2 4))
     ∷ (a ∷ token.Mark implies ∷ b ∷ token.Mark equivalent ∷ c ∷ [], Connected (at 3) Iff (Connected (at 1) Implies (name 0 0) (name 1 2)) (name 2 4))
     ∷ [])
-unfolding whole zone named_form literal_form sized_form null_form told_form asked_form next_zone some_zones separated_form atom worded indexed dotted pointed postfix_once postfixes worded_postfix cast_behind cast_to_type cast_to_integer
+unfolding whole zone named_form literal_form sized_form null_form result_form old_form labelled_form told_form asked_form next_zone some_zones separated_form atom worded indexed dotted pointed postfix_once postfixes worded_postfix cast_behind
+    cast_to_type cast_to_integer
     closed_postfix parenthesised behind_parenthesis prefixed bare_prefix prefix_of prefix joined_once joined_more joined factor added_rest ranged behind_first added_parenthesis added sum_once sum_more zone_sum linked links_of links
     chain_behind chain_of implied implication_behind implication_of chosen_behind choice_behind implication form_of forms
 connectives_bind = (refl, (refl, (refl, (refl, (refl, (refl, tt))))))
@@ -123,7 +133,8 @@ choices_bind : AreRead (
     (a ∷ token.Mark question ∷ b ∷ token.Mark colon ∷ c ∷ token.Mark question ∷ a ∷ token.Mark colon ∷ d ∷ [], Choice (at 1) (name 0 0) (name 1 2) (Choice (at 5) (name 2 4) (name 0 6) (name 3 8)))
     ∷ (a ∷ token.Mark implies ∷ b ∷ token.Mark question ∷ c ∷ token.Mark colon ∷ d ∷ [], Choice (at 3) (Connected (at 1) Implies (name 0 0) (name 1 2)) (name 2 4) (name 3 6))
     ∷ [])
-unfolding whole zone named_form literal_form sized_form null_form told_form asked_form next_zone some_zones separated_form atom worded indexed dotted pointed postfix_once postfixes worded_postfix cast_behind cast_to_type cast_to_integer
+unfolding whole zone named_form literal_form sized_form null_form result_form old_form labelled_form told_form asked_form next_zone some_zones separated_form atom worded indexed dotted pointed postfix_once postfixes worded_postfix cast_behind
+    cast_to_type cast_to_integer
     closed_postfix parenthesised behind_parenthesis prefixed bare_prefix prefix_of prefix joined_once joined_more joined factor added_rest ranged behind_first added_parenthesis added sum_once sum_more zone_sum linked links_of links
     chain_behind chain_of implied implication_behind implication_of chosen_behind choice_behind implication form_of forms
 choices_bind = (refl, (refl, tt))
@@ -137,7 +148,8 @@ chains_are_read : AreRead (
     ∷ (a ∷ token.Mark not_equal ∷ b ∷ [], Chain (at 1) (name 0 0) (Linked (at 1) Ne (name 1 2) NoLink))
     ∷ (token.Mark left_paren ∷ a ∷ token.Mark less ∷ b ∷ token.Mark right_paren ∷ token.Mark greater ∷ c ∷ [], Chain (at 5) (Chain (at 2) (name 0 1) (Linked (at 2) Lt (name 1 3) NoLink)) (Linked (at 5) Gt (name 2 6) NoLink))
     ∷ [])
-unfolding whole zone named_form literal_form sized_form null_form told_form asked_form next_zone some_zones separated_form atom worded indexed dotted pointed postfix_once postfixes worded_postfix cast_behind cast_to_type cast_to_integer
+unfolding whole zone named_form literal_form sized_form null_form result_form old_form labelled_form told_form asked_form next_zone some_zones separated_form atom worded indexed dotted pointed postfix_once postfixes worded_postfix cast_behind
+    cast_to_type cast_to_integer
     closed_postfix parenthesised behind_parenthesis prefixed bare_prefix prefix_of prefix joined_once joined_more joined factor added_rest ranged behind_first added_parenthesis added sum_once sum_more zone_sum linked links_of links
     chain_behind chain_of implied implication_behind implication_of chosen_behind choice_behind implication form_of forms closed
 chains_are_read = (refl, (refl, (refl, (refl, tt))))
@@ -149,9 +161,10 @@ chains_go_one_way : AreRefused (
     ∷ (a ∷ token.Mark not_equal ∷ b ∷ token.Mark equal ∷ c ∷ [], 4)
     ∷ (a ∷ token.Mark not_equal ∷ b ∷ token.Mark not_equal ∷ c ∷ [], 4)
     ∷ [])
-unfolding whole zone named_form literal_form sized_form null_form told_form asked_form next_zone some_zones separated_form atom worded indexed dotted pointed postfix_once postfixes worded_postfix cast_behind cast_to_type cast_to_integer
+unfolding whole zone named_form literal_form sized_form null_form result_form old_form labelled_form told_form asked_form next_zone some_zones separated_form atom worded indexed dotted pointed postfix_once postfixes worded_postfix cast_behind
+    cast_to_type cast_to_integer
     closed_postfix parenthesised behind_parenthesis prefixed bare_prefix prefix_of prefix joined_once joined_more joined factor added_rest ranged behind_first added_parenthesis added sum_once sum_more zone_sum linked links_of links
-    chain_behind chain_of implied implication_behind implication_of chosen_behind choice_behind implication form_of forms full_clause next_assert asserts annotations assert_clause
+    chain_behind chain_of implied implication_behind implication_of chosen_behind choice_behind implication form_of forms form_clause full_clause next_clause more_clauses asserts clauses annotations
 chains_go_one_way = (refl, (refl, (refl, (refl, tt))))
 
 -- ---- casts, `sizeof` and words
@@ -163,7 +176,8 @@ casts_and_words : AreRead (
     ∷ (sizeof_word ∷ token.Mark left_paren ∷ int ∷ token.Mark right_paren ∷ [], SizeOf (at 0) (Int I32))
     ∷ (true_word ∷ token.Mark and_and ∷ assert ∷ [], Connected (at 1) And (Truth (at 0) true) (name 7 2))
     ∷ [])
-unfolding whole zone named_form literal_form sized_form null_form told_form asked_form next_zone some_zones separated_form atom worded indexed dotted pointed postfix_once postfixes worded_postfix cast_behind cast_to_type cast_to_integer
+unfolding whole zone named_form literal_form sized_form null_form result_form old_form labelled_form told_form asked_form next_zone some_zones separated_form atom worded indexed dotted pointed postfix_once postfixes worded_postfix cast_behind
+    cast_to_type cast_to_integer
     closed_postfix parenthesised behind_parenthesis prefixed bare_prefix prefix_of prefix joined_once joined_more joined factor added_rest ranged behind_first added_parenthesis added sum_once sum_more zone_sum linked links_of links
     chain_behind chain_of implied implication_behind implication_of chosen_behind choice_behind implication form_of forms closed type_name type_words consts base untagged_base integer_words integer_word star_words brackets
 casts_and_words = (refl, (refl, (refl, (refl, tt))))
@@ -176,17 +190,19 @@ words_are_refused : AreRefused (
     ∷ (token.Mark left_paren ∷ a ∷ token.Mark right_paren ∷ b ∷ [], 3)
     ∷ (old_word ∷ token.Mark left_paren ∷ a ∷ token.Mark right_paren ∷ [], 6)
     ∷ [])
-unfolding whole zone named_form literal_form sized_form null_form told_form asked_form next_zone some_zones separated_form atom worded indexed dotted pointed postfix_once postfixes worded_postfix cast_behind cast_to_type cast_to_integer
+unfolding whole zone named_form literal_form sized_form null_form result_form old_form labelled_form told_form asked_form next_zone some_zones separated_form atom worded indexed dotted pointed postfix_once postfixes worded_postfix cast_behind
+    cast_to_type cast_to_integer
     closed_postfix parenthesised behind_parenthesis prefixed bare_prefix prefix_of prefix joined_once joined_more joined factor added_rest ranged behind_first added_parenthesis added sum_once sum_more zone_sum linked links_of links
-    chain_behind chain_of implied implication_behind implication_of chosen_behind choice_behind implication form_of forms closed full_clause next_assert asserts annotations assert_clause
+    chain_behind chain_of implied implication_behind implication_of chosen_behind choice_behind implication form_of forms closed form_clause full_clause next_clause more_clauses asserts clauses annotations
 words_are_refused = (refl, (refl, (refl, (refl, (refl, tt)))))
 
 -- ---- annotations
 
 -- the asserts of an annotation take numbers one after another: assert a; assert b;
 two_asserts : (annotations words 3).parse (tokens_from 0 (token.AnnotOpen ∷ assert ∷ a ∷ token.Mark semicolon ∷ assert ∷ b ∷ token.Mark semicolon ∷ token.AnnotClose ∷ [])) ≡
-    Ok ((assertion 3 (at 1) (name 0 2) ∷ assertion 4 (at 4) (name 1 5) ∷ [], 5), [])
-unfolding whole zone named_form literal_form sized_form null_form told_form asked_form next_zone some_zones separated_form atom worded indexed dotted pointed postfix_once postfixes worded_postfix cast_behind cast_to_type cast_to_integer
+    Ok (((assertion 3 (at 1) (name 0 2) ∷ assertion 4 (at 4) (name 1 5) ∷ [], None), 5), [])
+unfolding whole zone named_form literal_form sized_form null_form result_form old_form labelled_form told_form asked_form next_zone some_zones separated_form atom worded indexed dotted pointed postfix_once postfixes worded_postfix cast_behind
+    cast_to_type cast_to_integer
     closed_postfix parenthesised behind_parenthesis prefixed bare_prefix prefix_of prefix joined_once joined_more joined factor added_rest ranged behind_first added_parenthesis added sum_once sum_more zone_sum linked links_of links
-    chain_behind chain_of implied implication_behind implication_of chosen_behind choice_behind implication form_of forms full_clause next_assert asserts annotations assert_clause
+    chain_behind chain_of implied implication_behind implication_of chosen_behind choice_behind implication form_of forms form_clause full_clause next_clause more_clauses asserts clauses annotations
 two_asserts = refl

@@ -17,6 +17,7 @@ use Rattle.c_syntax.specs.Logic as logic
 use Rattle.c_syntax.specs.Logic.{LogicTerm, Raw, Holds}
 use Rattle.c_model.specs.Checked.{Checked, Good, Bad, one_part}
 use Rattle.c_model.specs.Library.{library_constant}
+use Rattle.c_model.specs.AnnotationTyping.{in_body}
 use Rattle.c_model.specs.PredicateTyping as typing
 use Rattle.c_model.specs.PredicateTyping.{Sorted, ATerm, APredicate, APlace, ValueSort, sort_of_term, range_to_infer, typed_form, typed_clause}
 use Rattle.worked_rows.proofs.WorkedSight.{at, fault, int, char, unsigned_long, struct_s, struct_u, sight, three, f}
@@ -38,7 +39,7 @@ sort (APredicate p) = IsPredicate
 sort (APlace t) = sort_of_value (sort_of_term t)
 
 abbrev sort_of : Form → Checked Sort
-sort_of g = one_part (typed_form sight g) (λ s. Good (sort s))
+sort_of g = one_part (typed_form (in_body sight) g) (λ s. Good (sort s))
 
 abbrev every : {A : Type 0} → List A → Checked Sort → List (Checked Sort)
 every xs r = map (λ x. r) xs
@@ -80,14 +81,14 @@ truths = refl
 objects : map (λ (x : ℕ). sort_of (named x 0)) (0 ∷ 1 ∷ 2 ∷ 3 ∷ 4 ∷ 5 ∷ 6 ∷ 7 ∷ []) ≡ replicate 8 (Good AnInteger)
 objects = refl
 
-an_object_keeps_its_type : typed_form sight (c 0) ≡ Good (APlace (c_at 0))
+an_object_keeps_its_type : typed_form (in_body sight) (c 0) ≡ Good (APlace (c_at 0))
 an_object_keeps_its_type = refl
 
 -- N, EOF
-an_enumerator_is_its_value : typed_form sight (named 19 0) ≡ Good (ATerm (number (pos 3) 0))
+an_enumerator_is_its_value : typed_form (in_body sight) (named 19 0) ≡ Good (ATerm (number (pos 3) 0))
 an_enumerator_is_its_value = refl
 
-a_constant_is_its_value : typed_form sight (named 26 0) ≡ Good (ATerm (number (negsuc 0) 0))
+a_constant_is_its_value : typed_form (in_body sight) (named 26 0) ≡ Good (ATerm (number (negsuc 0) 0))
 unfolding library_constant
 a_constant_is_its_value = refl
 
@@ -120,7 +121,7 @@ signs_of_integers : map (λ (op : UnOp). sort_of (Unary (at 0) op (c 1))) signs 
 signs_of_integers = refl
 
 -- -c, ~c
-signs_keep_their_operands : map (λ (op : UnOp). typed_form sight (Unary (at 0) op (c 1))) signs ≡ map (λ (op : UnOp). Good (ATerm (logic.Unary (at 0) None range_to_infer op (c_at 1)))) signs
+signs_keep_their_operands : map (λ (op : UnOp). typed_form (in_body sight) (Unary (at 0) op (c 1))) signs ≡ map (λ (op : UnOp). Good (ATerm (logic.Unary (at 0) None range_to_infer op (c_at 1)))) signs
 signs_keep_their_operands = refl
 
 no_signs_of_predicates : map (λ (op : UnOp). sort_of (Unary (at 0) op (less 2))) signs ≡ every signs (fault 6 0)
@@ -136,7 +137,7 @@ no_predicate_on_the_right : operated (c 0) (less 6) ≡ every operators (fault 6
 no_predicate_on_the_right = refl
 
 -- nothing is converted: c - 1
-an_operator_keeps_its_operands : typed_form sight (Binary (at 2) Sub (c 0) (one 4)) ≡ Good (ATerm (logic.Binary (at 2) None range_to_infer Sub (c_at 0) (number (pos 1) 4)))
+an_operator_keeps_its_operands : typed_form (in_body sight) (Binary (at 2) Sub (c 0) (one 4)) ≡ Good (ATerm (logic.Binary (at 2) None range_to_infer Sub (c_at 0) (number (pos 1) 4)))
 an_operator_keeps_its_operands = refl
 
 -- ---- relations want two integers, or two pointers, and give predicates
@@ -164,7 +165,7 @@ relations_of_pointers : related (named 8 0) (named 8 4) ≡ every relations (Goo
 relations_of_pointers = refl
 
 -- 1 <= c < 1
-a_chain_is_one_predicate : typed_form sight (Chain (at 2) (one 0) (Linked (at 2) relation.Le (c 5) (Linked (at 7) relation.Lt (one 9) NoLink)))
+a_chain_is_one_predicate : typed_form (in_body sight) (Chain (at 2) (one 0) (Linked (at 2) relation.Le (c 5) (Linked (at 7) relation.Lt (one 9) NoLink)))
     ≡ Good (APredicate (logic.Chain (at 2) (number (pos 1) 0) (logic.Linked (at 2) relation.Le (c_at 5) (logic.Linked (at 7) relation.Lt (number (pos 1) 9) logic.NoLink))))
 a_chain_is_one_predicate = refl
 
@@ -186,7 +187,7 @@ no_pointer_is_connected : connected (named 8 0) (c 5) ≡ every connectives (fau
 no_pointer_is_connected = refl
 
 -- c ==> !1
-integers_that_arent_zero : typed_form sight (Connected (at 2) Implies (c 0) (Unary (at 6) unary.Not (one 7)))
+integers_that_arent_zero : typed_form (in_body sight) (Connected (at 2) Implies (c 0) (Unary (at 6) unary.Not (one 7)))
     ≡ Good (APredicate (logic.Connected (at 2) Implies (logic.NonZero (at 0) (c_at 0)) (logic.Not (at 6) (logic.NonZero (at 7) (number (pos 1) 7)))))
 integers_that_arent_zero = refl
 
@@ -242,7 +243,7 @@ no_cast_to_an_unknown_name = refl
 -- ---- `sizeof` wants a type that has a size, and is its number
 
 abbrev size : PlainType → Checked Sorted
-size t = typed_form sight (SizeOf (at 0) t)
+size t = typed_form (in_body sight) (SizeOf (at 0) t)
 
 abbrev bytes : ℕ → Checked Sorted
 bytes n = Good (ATerm (number (pos n) 0))
@@ -262,8 +263,8 @@ no_size_of_an_unknown_struct = refl
 
 -- ---- clauses are predicates
 
-a_clause_of_a_predicate : typed_clause sight (Raw (Truth (at 0) true)) ≡ Good (Holds (logic.Truth (at 0) true))
+a_clause_of_a_predicate : typed_clause (in_body sight) (Raw (Truth (at 0) true)) ≡ Good (Holds (logic.Truth (at 0) true))
 a_clause_of_a_predicate = refl
 
-a_clause_of_an_integer : typed_clause sight (Raw (c 0)) ≡ Good (Holds (logic.NonZero (at 0) (c_at 0)))
+a_clause_of_an_integer : typed_clause (in_body sight) (Raw (c 0)) ≡ Good (Holds (logic.NonZero (at 0) (c_at 0)))
 a_clause_of_an_integer = refl

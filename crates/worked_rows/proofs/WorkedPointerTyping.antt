@@ -1,6 +1,5 @@
 -- What pointers, places and zones of annotations demand and the trees that they give (ACSL 2.2, 2.7), by computation. What is in sight is that of `WorkedSight`.
-use Rattle.std.proofs.Common.{◌≡◌, ℕ, ◌+◌, pos, true, List, [], ◌∷◌, map, Option, Some, None, refl}
-use Rattle.c_syntax.specs.declared.annotation.Relation.{Relation}
+use Rattle.std.proofs.Common.{◌≡◌, ℕ, ◌+◌, pos, true, [], ◌∷◌, map, Option, Some, None, refl}
 use Rattle.c_syntax.specs.declared.annotation.Relation.TheVariants as relation
 use Rattle.c_syntax.specs.declared.expression.BinOp.TheVariants.{Add, Sub, Mul}
 use Rattle.c_syntax.specs.declared.expression.UnOp.TheVariants as unary
@@ -16,12 +15,12 @@ use Rattle.c_syntax.specs.Formulas.{Separated, Object, Elements, NoZone, Another
 use Rattle.c_syntax.specs.Logic as logic
 use Rattle.c_syntax.specs.Logic.{LogicTerm, Raw}
 use Rattle.c_model.specs.Checked.{Fault, Checked, Good, Bad, refusing}
-use Rattle.c_model.specs.Library.{library_constant}
+use Rattle.c_model.specs.AnnotationTyping.{in_body}
 use Rattle.c_model.specs.PredicateTyping.{Sorted, ATerm, APredicate, APlace, range_to_infer, typed_form, typed_clause}
-use Rattle.worked_rows.proofs.WorkedSight.{at, fault, int, char, long, struct_s, struct_u, sight}
+use Rattle.worked_rows.proofs.WorkedSight.{at, fault, int, char, long, struct_s, sight}
 
 abbrev typed : Form → Checked Sorted
-typed g = typed_form sight g
+typed g = typed_form (in_body sight) g
 
 abbrev named : ℕ → ℕ → Form
 named x o = Name (at o) (record { name = x; decl = 0 })
@@ -193,7 +192,7 @@ no_choices_of_pointers = refl
 no_predicates : typed (Connected (at 2) And (p 0) (Truth (at 5) true)) ∷ typed (Unary (at 0) unary.Not (p 1)) ∷ [] ≡ fault 6 2 ∷ fault 6 0 ∷ []
 no_predicates = refl
 
-no_clause_of_a_pointer : typed_clause sight (Raw (p 0)) ≡ fault 6 0
+no_clause_of_a_pointer : typed_clause (in_body sight) (Raw (p 0)) ≡ fault 6 0
 no_clause_of_a_pointer = refl
 
 -- ---- facts and questions

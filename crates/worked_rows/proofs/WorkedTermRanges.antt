@@ -291,11 +291,11 @@ out_of_sight_behind_it = refl
 
 -- ---- clauses
 
-a_variant_has_a_range : refusing (ranged_clause (Value square)) ≡ None
+a_variant_has_a_range : refusing (ranged_clause [] (Value square)) ≡ None
 a_variant_has_a_range = refl
 
-or_is_refused : refusing (ranged_clause (Value (Binary (there 3) None any Mul square l))) ≡ refused_at 3
+or_is_refused : refusing (ranged_clause [] (Value (Binary (there 3) None any Mul square l))) ≡ refused_at 3
 or_is_refused = refl
 
-names_of_behaviors_have_none : refusing (ranged_clause (Behaviors ((there 3, 71) ∷ []))) ≡ None
+names_of_behaviors_have_none : refusing (ranged_clause [] (Behaviors ((there 3, 71) ∷ []))) ≡ None
 names_of_behaviors_have_none = refl

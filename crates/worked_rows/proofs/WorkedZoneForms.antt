@@ -1,5 +1,5 @@
 -- Forms of pointers, places and zones with what is read of them, by computation (ACSL 2.2, 2.7).
-use Rattle.std.proofs.Common.{◌≡◌, ℕ, suc, ◌+◌, true, List, [], ◌∷◌, ◌++◌, length, Ok, Err, refl}
+use Rattle.std.proofs.Common.{◌≡◌, ℕ, suc, ◌+◌, List, [], ◌∷◌, ◌++◌, length, Ok, Err, refl}
 use Rattle.grammar.specs.Syntax.{At}
 use Rattle.c_syntax.specs.declared.place.Place.{Place}
 use Rattle.c_syntax.specs.declared.types.CInt.TheVariants.{I32}
@@ -13,19 +13,21 @@ use Rattle.c_syntax.specs.Ctypes.{Int}
 use Rattle.c_syntax.specs.Formulas.{Integers, OfC, Form, Name, Unary, Binary, Cast, Chain, Connected, Choice, NoLink, Linked, Null, Index, Dot, Arrow, Told, Asks, Separated, Object, Elements, NoZone, Another}
 use Rattle.c_syntax.specs.Tokens as token
 use Rattle.c_syntax.specs.Tokens.{PlainTokenKind, PlainToken, Mark}
+use Rattle.c_model.specs.declared.vocabulary.ClauseWord.TheVariants as clause_word
 use Rattle.c_model.specs.declared.vocabulary.Keyword.TheVariants as keyword
 use Rattle.c_model.specs.declared.vocabulary.LogicWord.TheVariants as logic
 use Rattle.c_model.specs.declared.vocabulary.TypeName.TheVariants.{Declared}
 use Rattle.c_model.specs.declared.vocabulary.Word.TheVariants as word
 use Rattle.c_model.specs.Vocabulary.{Vocabulary}
-use Rattle.c_model.specs.Punctuators.{shift_left, equal, and_and, plus, minus, times, divide, less, ampersand, question, colon, semicolon, left_paren, right_paren, left_bracket, right_bracket, dot, arrow, comma, dots}
+use Rattle.c_model.specs.Punctuators.{shift_left, equal, and_and, plus, minus, times, less, ampersand, question, colon, semicolon, left_paren, right_paren, left_bracket, right_bracket, dot, arrow, comma, dots}
 use Rattle.c_model.specs.ExpressionGrammar.{use_of, integer_words, integer_word, untagged_base, base, consts, type_words, star_words, brackets, type_name, closed}
 use Rattle.c_model.specs.AnnotationGrammar.{whole, zone, named_form, literal_form, sized_form, null_form, told_form, asked_form, next_zone, some_zones, separated_form, atom, worded, indexed, dotted, pointed, postfix_once, postfixes, worded_postfix}
 use Rattle.c_model.specs.AnnotationGrammar.{cast_behind, cast_to_type, cast_to_integer, closed_postfix, parenthesised, behind_parenthesis, prefixed, bare_prefix, prefix_of, prefix, joined_once, joined_more, joined, factor, added_rest}
 use Rattle.c_model.specs.AnnotationGrammar.{ranged, behind_first}
 use Rattle.c_model.specs.AnnotationGrammar.{added_parenthesis, added, sum_once, sum_more, zone_sum, linked, links_of, links, chain_behind, chain_of, implied, implication_behind, implication_of, chosen_behind, choice_behind, implication}
 use Rattle.c_model.specs.AnnotationGrammar.{form_of, forms, form}
-use Rattle.c_model.specs.AnnotationGrammar.{assert_clause, full_clause, next_assert, asserts, annotations}
+use Rattle.c_model.specs.AnnotationGrammar.{result_form, old_form, labelled_form}
+use Rattle.c_model.specs.ClauseGrammar.{form_clause, full_clause, next_clause, more_clauses, asserts, clauses, annotations}
 
 -- a place in a text of one line in which each token has one column
 abbrev at : ℕ → Place
@@ -84,7 +86,7 @@ abbrev declared : PlainTokenKind
 declared = token.Word 15
 
 abbrev words : Vocabulary
-words = word.Name ∷ word.Name ∷ word.Name ∷ word.Name ∷ word.Integer ∷ word.Keyword keyword.Int ∷ word.Assert ∷ word.Logic logic.Null ∷ word.Logic (logic.Told BaseAddr) ∷ word.Logic (logic.Told BlockLength)
+words = word.Name ∷ word.Name ∷ word.Name ∷ word.Name ∷ word.Integer ∷ word.Keyword keyword.Int ∷ word.Clause clause_word.Assert ∷ word.Logic logic.Null ∷ word.Logic (logic.Told BaseAddr) ∷ word.Logic (logic.Told BlockLength)
     ∷ word.Logic (logic.Told Offset) ∷ word.Logic (logic.Asks Valid) ∷ word.Logic (logic.Asks ValidRead) ∷ word.Logic (logic.Asks Initialized) ∷ word.Logic logic.Separated ∷ word.TypeName Declared ∷ []
 
 -- the name with this number at this place
@@ -118,7 +120,8 @@ places_are_read : AreRead (
     ∷ (a ∷ Mark left_bracket ∷ b ∷ Mark plus ∷ c ∷ Mark right_bracket ∷ Mark left_bracket ∷ d ∷ Mark right_bracket ∷ [], Index (at 6) (Index (at 1) (name 0 0) (Binary (at 3) Add (name 1 2) (name 2 4))) (name 3 7))
     ∷ (null ∷ [], Null (at 0))
     ∷ [])
-unfolding whole zone named_form literal_form sized_form null_form told_form asked_form next_zone some_zones separated_form atom worded indexed dotted pointed postfix_once postfixes worded_postfix cast_behind cast_to_type cast_to_integer
+unfolding whole zone named_form literal_form sized_form null_form result_form old_form labelled_form told_form asked_form next_zone some_zones separated_form atom worded indexed dotted pointed postfix_once postfixes worded_postfix cast_behind
+    cast_to_type cast_to_integer
     closed_postfix parenthesised behind_parenthesis prefixed bare_prefix prefix_of prefix joined_once joined_more joined factor added_rest ranged behind_first added_parenthesis added sum_once sum_more zone_sum linked links_of links
     chain_behind chain_of implied implication_behind implication_of chosen_behind choice_behind implication form_of forms closed type_name type_words consts base untagged_base integer_words integer_word star_words brackets
 places_are_read = (refl, (refl, (refl, (refl, (refl, (refl, (refl, (refl, (refl, tt)))))))))
@@ -130,7 +133,8 @@ prefixes_are_weaker : AreRead (
     ∷ (a ∷ Mark times ∷ Mark times ∷ b ∷ [], Binary (at 1) Mul (name 0 0) (Unary (at 2) Deref (name 1 3)))
     ∷ (a ∷ Mark minus ∷ Mark ampersand ∷ b ∷ [], Binary (at 1) Sub (name 0 0) (Unary (at 2) Address (name 1 3)))
     ∷ [])
-unfolding whole zone named_form literal_form sized_form null_form told_form asked_form next_zone some_zones separated_form atom worded indexed dotted pointed postfix_once postfixes worded_postfix cast_behind cast_to_type cast_to_integer
+unfolding whole zone named_form literal_form sized_form null_form result_form old_form labelled_form told_form asked_form next_zone some_zones separated_form atom worded indexed dotted pointed postfix_once postfixes worded_postfix cast_behind
+    cast_to_type cast_to_integer
     closed_postfix parenthesised behind_parenthesis prefixed bare_prefix prefix_of prefix joined_once joined_more joined factor added_rest ranged behind_first added_parenthesis added sum_once sum_more zone_sum linked links_of links
     chain_behind chain_of implied implication_behind implication_of chosen_behind choice_behind implication form_of forms closed type_name type_words consts base untagged_base integer_words integer_word star_words brackets
 prefixes_are_weaker = (refl, (refl, (refl, (refl, tt))))
@@ -140,7 +144,8 @@ members_have_any_name : AreRead (
     (a ∷ Mark dot ∷ declared ∷ [], Dot (at 1) (name 0 0) 15)
     ∷ (a ∷ Mark arrow ∷ integer ∷ [], Arrow (at 1) (name 0 0) 4)
     ∷ [])
-unfolding whole zone named_form literal_form sized_form null_form told_form asked_form next_zone some_zones separated_form atom worded indexed dotted pointed postfix_once postfixes worded_postfix cast_behind cast_to_type cast_to_integer
+unfolding whole zone named_form literal_form sized_form null_form result_form old_form labelled_form told_form asked_form next_zone some_zones separated_form atom worded indexed dotted pointed postfix_once postfixes worded_postfix cast_behind
+    cast_to_type cast_to_integer
     closed_postfix parenthesised behind_parenthesis prefixed bare_prefix prefix_of prefix joined_once joined_more joined factor added_rest ranged behind_first added_parenthesis added sum_once sum_more zone_sum linked links_of links
     chain_behind chain_of implied implication_behind implication_of chosen_behind choice_behind implication form_of forms closed type_name type_words consts base untagged_base integer_words integer_word star_words brackets
 members_have_any_name = (refl, (refl, tt))
@@ -152,7 +157,8 @@ facts_are_read : AreRead (
     ∷ (offset_word ∷ Mark left_paren ∷ a ∷ Mark right_paren ∷ Mark equal ∷ b ∷ [], Chain (at 4) (Told (at 0) Offset (name 0 2)) (Linked (at 4) Eq (name 1 5) NoLink))
     ∷ (base_word ∷ Mark left_paren ∷ a ∷ Mark right_paren ∷ Mark left_bracket ∷ b ∷ Mark right_bracket ∷ [], Index (at 4) (Told (at 0) BaseAddr (name 0 2)) (name 1 5))
     ∷ [])
-unfolding whole zone named_form literal_form sized_form null_form told_form asked_form next_zone some_zones separated_form atom worded indexed dotted pointed postfix_once postfixes worded_postfix cast_behind cast_to_type cast_to_integer
+unfolding whole zone named_form literal_form sized_form null_form result_form old_form labelled_form told_form asked_form next_zone some_zones separated_form atom worded indexed dotted pointed postfix_once postfixes worded_postfix cast_behind
+    cast_to_type cast_to_integer
     closed_postfix parenthesised behind_parenthesis prefixed bare_prefix prefix_of prefix joined_once joined_more joined factor added_rest ranged behind_first added_parenthesis added sum_once sum_more zone_sum linked links_of links
     chain_behind chain_of implied implication_behind implication_of chosen_behind choice_behind implication form_of forms closed type_name type_words consts base untagged_base integer_words integer_word star_words brackets
 facts_are_read = (refl, (refl, (refl, (refl, tt))))
@@ -168,7 +174,8 @@ questions_are_read : AreRead (
       Connected (at 5) And (Asks (at 0) Initialized (Object (Unary (at 2) Address (name 0 3)))) (Asks (at 6) Valid (Object (name 1 8))),
     )
     ∷ [])
-unfolding whole zone named_form literal_form sized_form null_form told_form asked_form next_zone some_zones separated_form atom worded indexed dotted pointed postfix_once postfixes worded_postfix cast_behind cast_to_type cast_to_integer
+unfolding whole zone named_form literal_form sized_form null_form result_form old_form labelled_form told_form asked_form next_zone some_zones separated_form atom worded indexed dotted pointed postfix_once postfixes worded_postfix cast_behind
+    cast_to_type cast_to_integer
     closed_postfix parenthesised behind_parenthesis prefixed bare_prefix prefix_of prefix joined_once joined_more joined factor added_rest ranged behind_first added_parenthesis added sum_once sum_more zone_sum linked links_of links
     chain_behind chain_of implied implication_behind implication_of chosen_behind choice_behind implication form_of forms closed type_name type_words consts base untagged_base integer_words integer_word star_words brackets
 questions_are_read = (refl, (refl, (refl, tt)))
@@ -184,7 +191,8 @@ ranges_are_read : AreRead (
       Asks (at 0) Valid (Elements (at 6) (Index (at 3) (name 0 2) (name 1 4)) (name 2 8) (name 3 10)),
     )
     ∷ [])
-unfolding whole zone named_form literal_form sized_form null_form told_form asked_form next_zone some_zones separated_form atom worded indexed dotted pointed postfix_once postfixes worded_postfix cast_behind cast_to_type cast_to_integer
+unfolding whole zone named_form literal_form sized_form null_form result_form old_form labelled_form told_form asked_form next_zone some_zones separated_form atom worded indexed dotted pointed postfix_once postfixes worded_postfix cast_behind
+    cast_to_type cast_to_integer
     closed_postfix parenthesised behind_parenthesis prefixed bare_prefix prefix_of prefix joined_once joined_more joined factor added_rest ranged behind_first added_parenthesis added sum_once sum_more zone_sum linked links_of links
     chain_behind chain_of implied implication_behind implication_of chosen_behind choice_behind implication form_of forms closed type_name type_words consts base untagged_base integer_words integer_word star_words brackets
 ranges_are_read = (refl, (refl, (refl, (refl, (refl, tt)))))
@@ -207,7 +215,8 @@ the_whole_form_is_before_a_range : AreRead ((
       Asks (at 0) Valid (Elements (at 5) (Connected (at 3) And (name 0 2) (name 1 4)) (name 2 7) (name 3 9)),
     )
     ∷ [])
-unfolding whole zone named_form literal_form sized_form null_form told_form asked_form next_zone some_zones separated_form atom worded indexed dotted pointed postfix_once postfixes worded_postfix cast_behind cast_to_type cast_to_integer
+unfolding whole zone named_form literal_form sized_form null_form result_form old_form labelled_form told_form asked_form next_zone some_zones separated_form atom worded indexed dotted pointed postfix_once postfixes worded_postfix cast_behind
+    cast_to_type cast_to_integer
     closed_postfix parenthesised behind_parenthesis prefixed bare_prefix prefix_of prefix joined_once joined_more joined factor added_rest ranged behind_first added_parenthesis added sum_once sum_more zone_sum linked links_of links
     chain_behind chain_of implied implication_behind implication_of chosen_behind choice_behind implication form_of forms closed type_name type_words consts base untagged_base integer_words integer_word star_words brackets
 the_whole_form_is_before_a_range = (refl, (refl, (refl, (refl, tt))))
@@ -233,7 +242,8 @@ a_parenthesis_is_an_operand : AreRead (
       Asks (at 0) Valid (Elements (at 7) (Binary (at 3) Add (name 0 2) (name 1 5)) (name 2 9) (name 3 11)),
     )
     ∷ [])
-unfolding whole zone named_form literal_form sized_form null_form told_form asked_form next_zone some_zones separated_form atom worded indexed dotted pointed postfix_once postfixes worded_postfix cast_behind cast_to_type cast_to_integer
+unfolding whole zone named_form literal_form sized_form null_form result_form old_form labelled_form told_form asked_form next_zone some_zones separated_form atom worded indexed dotted pointed postfix_once postfixes worded_postfix cast_behind
+    cast_to_type cast_to_integer
     closed_postfix parenthesised behind_parenthesis prefixed bare_prefix prefix_of prefix joined_once joined_more joined factor added_rest ranged behind_first added_parenthesis added sum_once sum_more zone_sum linked links_of links
     chain_behind chain_of implied implication_behind implication_of chosen_behind choice_behind implication form_of forms closed type_name type_words consts base untagged_base integer_words integer_word star_words brackets
 a_parenthesis_is_an_operand = (refl, (refl, (refl, (refl, (refl, (refl, tt))))))
@@ -246,7 +256,8 @@ zones_are_separated : AreRead (
       Separated (at 0) (Another (Elements (at 3) (name 0 2) (name 1 5) (name 2 7)) (Another (Object (name 1 10)) (Another (Object (Binary (at 13) Add (name 2 12) (name 3 14))) NoZone))),
     )
     ∷ [])
-unfolding whole zone named_form literal_form sized_form null_form told_form asked_form next_zone some_zones separated_form atom worded indexed dotted pointed postfix_once postfixes worded_postfix cast_behind cast_to_type cast_to_integer
+unfolding whole zone named_form literal_form sized_form null_form result_form old_form labelled_form told_form asked_form next_zone some_zones separated_form atom worded indexed dotted pointed postfix_once postfixes worded_postfix cast_behind
+    cast_to_type cast_to_integer
     closed_postfix parenthesised behind_parenthesis prefixed bare_prefix prefix_of prefix joined_once joined_more joined factor added_rest ranged behind_first added_parenthesis added sum_once sum_more zone_sum linked links_of links
     chain_behind chain_of implied implication_behind implication_of chosen_behind choice_behind implication form_of forms closed type_name type_words consts base untagged_base integer_words integer_word star_words brackets
 zones_are_separated = (refl, (refl, tt))
@@ -265,8 +276,9 @@ ranges_end_zones_alone : AreRefused (
     ∷ (a ∷ Mark plus ∷ Mark left_paren ∷ b ∷ Mark dots ∷ c ∷ Mark right_paren ∷ [], 5)
     ∷ (a ∷ Mark dot ∷ Mark left_paren ∷ b ∷ Mark right_paren ∷ [], 5)
     ∷ [])
-unfolding whole zone named_form literal_form sized_form null_form told_form asked_form next_zone some_zones separated_form atom worded indexed dotted pointed postfix_once postfixes worded_postfix cast_behind cast_to_type cast_to_integer
+unfolding whole zone named_form literal_form sized_form null_form result_form old_form labelled_form told_form asked_form next_zone some_zones separated_form atom worded indexed dotted pointed postfix_once postfixes worded_postfix cast_behind
+    cast_to_type cast_to_integer
     closed_postfix parenthesised behind_parenthesis prefixed bare_prefix prefix_of prefix joined_once joined_more joined factor added_rest ranged behind_first added_parenthesis added sum_once sum_more zone_sum linked links_of links
-    chain_behind chain_of implied implication_behind implication_of chosen_behind choice_behind implication form_of forms closed type_name type_words consts base untagged_base integer_words integer_word star_words brackets full_clause
-    next_assert asserts annotations assert_clause
+    chain_behind chain_of implied implication_behind implication_of chosen_behind choice_behind implication form_of forms closed type_name type_words consts base untagged_base integer_words integer_word star_words brackets form_clause
+    full_clause next_clause more_clauses asserts clauses annotations
 ranges_end_zones_alone = (refl, (refl, (refl, (refl, (refl, (refl, (refl, (refl, (refl, tt)))))))))
