@@ -1,5 +1,5 @@
 -- From what the production gave to what the answer means.
-use Rattle.std.proofs.Common.{◌≡◌, ℕ, zero, suc, ◌+◌, ◌-◌, ◌<◌, ◌≤◌, ◌⊎◌, inl, inr, false, List, [], ◌∷◌, ◌++◌, length, drop, None, Result, Ok, Err, refl, sym, ap, subst, ◌∙◌, arith}
+use Rattle.std.proofs.Common.{◌≡◌, ℕ, zero, suc, ◌+◌, ◌-◌, ◌<◌, ◌≤◌, ◌⊎◌, inl, inr, false, List, [], ◌∷◌, ◌++◌, length, drop, Option, Result, Ok, Err, refl, sym, ap, subst, ◌∙◌, arith}
 use Rattle.std.proofs.lemmas.List.{length-map}
 use Rattle.std.proofs.Math.Seq.{drop-nil}
 use Rattle.grammar.specs.Syntax.{ParseFault, At, Over, sees}
@@ -8,6 +8,7 @@ use Rattle.grammar.proofs.Bounds.{rest_below}
 use Rattle.grammar.proofs.Theorem.{found, refused_at, refused_over, rest_is, rest_within_text, at_most_one, readings_begin, fronts_begin, one_limit}
 use Rattle.c_syntax.specs.declared.token.Token.{Token}
 use Rattle.c_syntax.specs.Logic.{Annotation}
+use Rattle.c_syntax.specs.Programs.{FunctionContract}
 use Rattle.c_syntax.specs.Tokens.{PlainToken, PlainTokens, plain_token}
 use Rattle.c_syntax.specs.declared.refusal.FrontFault.{FrontFault}
 use Rattle.c_syntax.specs.declared.refusal.FrontFault.TheVariants as front
@@ -16,7 +17,7 @@ use Rattle.c_syntax.specs.declared.fault.ReadFault.TheVariants as fault
 use Rattle.c_model.specs.Vocabulary.{Vocabulary}
 use Rattle.c_model.specs.TokenWords.{syntax_refusal}
 use Rattle.c_model.specs.ExpressionGrammar.{kind, annot_open_kind}
-use Rattle.c_model.specs.AnnotationGrammar.{annotations}
+use Rattle.c_model.specs.ClauseGrammar.{ReadAnnotation, annotations}
 use Rattle.token_reader.specs.Reading.{plain_list, label, Fails}
 use Rattle.token_reader.specs.Answers.{RefusesWith, RefusesFault}
 use Rattle.c_expr_parser.specs.Answers.{NotRead}
@@ -25,7 +26,7 @@ use Rattle.acsl_parser.specs.Answers.{annotation_at, words_of, IsReadAt, Refuses
 use Rattle.acsl_parser.proofs.ExactAnnotations.{annotations_good}
 
 abbrev Numbered : Type 0
-Numbered = List Annotation × ℕ
+Numbered = ReadAnnotation × ℕ
 
 abbrev Reading : Type 0
 Reading = Result (Numbered × List PlainToken) ParseFault
@@ -103,19 +104,20 @@ module _ (ts : PlainTokens) (types : List ℕ) (at first : ℕ) (start : at ≤ 
   go_on : (x : Numbered) (rest : List PlainToken) → Found (annotations (words_of ts types) first) (drop at ts.list) x rest → length rest < length (drop at ts.list)
   go_on x rest f = rest_below (kind (words_of ts types)) (annotations (words_of ts types) first) (annot_open_kind ∷ []) (λ _. []) (exact (words_of ts types) first) (drop at ts.list) x f.front rest f.longest.parts f.reading
 
-  read_at : (clauses : List Annotation) (next : ℕ) (rest : List PlainToken) (k : ℕ) → annotation_at ts types at first ≡ Ok ((clauses, next), rest) → k + length rest ≡ length ts.list → IsReadAt ts types at first clauses None k
-  read_at clauses next rest k h l =
-      let same : rest ≡ drop k ts.list = behind_is (clauses, next) rest k h l in
-      let q : annotation_at ts types at first ≡ Ok ((clauses, next), drop k ts.list) = h ∙ ap (λ (r : List PlainToken). Ok ((clauses, next), r)) same in
-      let less = go_on (clauses, next) rest (found_at (clauses, next) rest h) in
+  read_at : (clauses : List Annotation) (contract : Option FunctionContract) (next : ℕ) (rest : List PlainToken) (k : ℕ) → annotation_at ts types at first ≡ Ok (((clauses, contract), next), rest) → k + length rest ≡ length ts.list
+      → IsReadAt ts types at first clauses contract k
+  read_at clauses contract next rest k h l =
+      let x : Numbered = ((clauses, contract), next) in
+      let same : rest ≡ drop k ts.list = behind_is x rest k h l in
+      let q : annotation_at ts types at first ≡ Ok (x, drop k ts.list) = h ∙ ap (λ (r : List PlainToken). Ok (x, r)) same in
+      let less = go_on x rest (found_at x rest h) in
       let long = drop_long at ts.list in
       record {
         forth = omega (arith, less, long, l, start);
         within = omega (arith, l);
         next = next;
         parsed = q;
-        found = found_at (clauses, next) (drop k ts.list) q;
-        no_contract = refl;
+        found = found_at x (drop k ts.list) q;
       }
 
   not_read : (f : ParseFault) → annotation_at ts types at first ≡ Err f → NotRead (annotations (words_of ts types) first) (drop at ts.list) f
@@ -145,9 +147,10 @@ module _ (ts : PlainTokens) (types : List ℕ) (at first : ℕ) (ws : Vocabulary
   starts : at ≤ length ts.list
   starts = omega (arith, start, length-map list plain_token, ap length same_list)
 
-  pub annotation_read : (clauses : List Annotation) (next : ℕ) (left : List Token) (k : ℕ) → Parsed ws first (plain_list rest) ≡ Ok ((clauses, next), plain_list left) → k + length left ≡ length list → IsReadAt ts types at first clauses None k
-  annotation_read clauses next left k h l =
-      read_at ts types at first starts clauses next (plain_list left) k (sym same ∙ h) (omega (arith, l, length-map left plain_token, length-map list plain_token, ap length same_list))
+  pub annotation_read : (clauses : List Annotation) (contract : Option FunctionContract) (next : ℕ) (left : List Token) (k : ℕ) → Parsed ws first (plain_list rest) ≡ Ok (((clauses, contract), next), plain_list left) → k + length left ≡ length list
+      → IsReadAt ts types at first clauses contract k
+  annotation_read clauses contract next left k h l =
+      read_at ts types at first starts clauses contract next (plain_list left) k (sym same ∙ h) (omega (arith, l, length-map left plain_token, length-map list plain_token, ap length same_list))
 
   pub annotation_refused : (r : ReadFault) (e : FrontFault) → Fails r (Parsed ws first (plain_list rest)) → RefusesFault ts r e → RefusesAt ts types at first e
   annotation_refused r e h g = fault_at ts types at first starts r e (subst (λ (x : Reading). Fails r x) same h) g

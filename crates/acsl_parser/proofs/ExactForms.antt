@@ -17,12 +17,14 @@ use Rattle.c_model.specs.declared.formulas.FormulaOperator.{FormulaOperator}
 use Rattle.c_model.specs.declared.vocabulary.Keyword.TheVariants as keyword
 use Rattle.c_model.specs.Vocabulary.{Vocabulary}
 use Rattle.c_model.specs.Punctuators.{plus, question, colon, left_paren, right_paren, left_bracket, right_bracket, comma, dot, arrow, dots, implies}
-use Rattle.c_model.specs.ExpressionGrammar.{name_kind, number_kind, letter_kind, logic_kind, null_kind, fact_kind, question_kind, separated_kind, keyword_kind, mark_kind, kinds_of, first_type, closed, type_name, expression}
+use Rattle.c_model.specs.ExpressionGrammar.{name_kind, number_kind, letter_kind, logic_kind, null_kind, fact_kind, question_kind, separated_kind, result_kind, old_kind, at_kind, keyword_kind, mark_kind, kinds_of, first_type, closed, type_name}
+use Rattle.c_model.specs.ExpressionGrammar.{expression}
 use Rattle.c_model.specs.AnnotationGrammar.{integer_kind, formula_kind, first_behind, prefix_operators, product_operators, sum_operators, difference_operators, shift_operators, bit_and_operators, bit_xor_operators, bit_or_operators}
 use Rattle.c_model.specs.AnnotationGrammar.{conjunction_operators}
 use Rattle.c_model.specs.AnnotationGrammar.{exclusion_operators, disjunction_operators, equivalence_operators, relations_behind, direction_behind, Spanned, unended_kinds, unended, unended_only, as_it_is, whole, zone, named_form}
 use Rattle.c_model.specs.AnnotationGrammar.{literal_form, sized_form}
-use Rattle.c_model.specs.AnnotationGrammar.{null_form, told_form, asked_form, next_zone, some_zones, separated_form, atom, worded, indexed, dotted, pointed, postfix_once, postfixes, worded_postfix, cast_behind, cast_to_type, cast_to_integer}
+use Rattle.c_model.specs.AnnotationGrammar.{null_form, told_form, asked_form, next_zone, some_zones, separated_form, result_form, old_form, labelled_form, atom, worded, indexed, dotted, pointed, postfix_once, postfixes, worded_postfix, cast_behind}
+use Rattle.c_model.specs.AnnotationGrammar.{cast_to_type, cast_to_integer}
 use Rattle.c_model.specs.AnnotationGrammar.{closed_postfix, parenthesised, behind_parenthesis, prefixed, bare_prefix, prefix_of, prefix, joined_once, joined_more, joined, factor, product, added_rest, ranged, behind_first}
 use Rattle.c_model.specs.AnnotationGrammar.{added_parenthesis, added, sum_once}
 use Rattle.c_model.specs.AnnotationGrammar.{sum_more, zone_sum, linked, links_of, links, chain_behind, chain_of, implied, implication_behind, implication_of, chosen_behind, choice_behind, sum, shift, chain, bit_and, bit_xor, bit_or, conjunction}
@@ -33,10 +35,10 @@ use Rattle.acsl_parser.proofs.FormulaTokens.{AreForms, in_annotations, fixed_for
 -- ---- what begins a form, and what it can go on with, by levels: in both modes the same
 
 abbrev pub first_atom : List ℕ
-first_atom = name_kind ∷ null_kind ∷ number_kind ∷ letter_kind ∷ logic_kind ∷ []
+first_atom = name_kind ∷ null_kind ∷ result_kind ∷ number_kind ∷ letter_kind ∷ logic_kind ∷ []
 
 abbrev pub first_worded : List ℕ
-first_worded = fact_kind ∷ question_kind ∷ separated_kind ∷ first_atom
+first_worded = fact_kind ∷ question_kind ∷ separated_kind ∷ old_kind ∷ at_kind ∷ first_atom
 
 abbrev pub first_bare : List ℕ
 first_bare = kinds_of prefix_operators ++ (keyword_kind keyword.Sizeof ∷ first_worded)
@@ -131,9 +133,13 @@ module _ (ws : Vocabulary) where
   unfolding null_form
   null_good = declared (seq (fixed_form ws null_kind (record { name = refl; integer = refl })) (λ at. given _) refl) refl
 
+  result_good : {n : ℕ} → AreForms ws n (result_form ws) (result_form ws) false (result_kind ∷ []) []
+  unfolding result_form
+  result_good = declared (seq (fixed_form ws result_kind (record { name = refl; integer = refl })) (λ at. given _) refl) refl
+
   pub atom_good : {n : ℕ} → AreForms ws n (atom ws) (atom ws) false first_atom []
   unfolding atom
-  atom_good = declared (either (name_kind ∷ []) named_good (either (null_kind ∷ []) null_good literal_good refl) refl) refl
+  atom_good = declared (either (name_kind ∷ []) named_good (either (null_kind ∷ []) null_good (either (result_kind ∷ []) result_good literal_good refl) refl) refl) refl
 
   -- ---- postfix forms, where forms inside them are read exactly
 
@@ -182,9 +188,21 @@ module _ (ws : Vocabulary) where
     separated_good =
         declared (after (fixed_form ws separated_kind (record { name = refl; integer = refl })) (λ at. seq (mark_form ws left_paren) (λ _. seq some_zones_good (λ zs. closed_form _) refl) refl) refl) refl
 
+    old_good : AreForms ws (suc n) (old_form ws E) (old_form ws E') false (old_kind ∷ []) []
+    unfolding old_form
+    old_good = declared (after (fixed_form ws old_kind (record { name = refl; integer = refl })) (λ at. seq (mark_form ws left_paren) (λ _. seq e (λ x. closed_form _) refl) refl) refl) refl
+
+    labelled_good : AreForms ws (suc n) (labelled_form ws E) (labelled_form ws E') false (at_kind ∷ []) []
+    unfolding labelled_form
+    labelled_good =
+        declared (after (fixed_form ws at_kind (record { name = refl; integer = refl })) (λ at. seq (mark_form ws left_paren) (λ _.
+        seq e (λ x. seq (mark_form ws comma) (λ _. seq (name_form ws) (λ l. closed_form _) refl) refl) refl) refl) refl) refl
+
     worded_good : AreForms ws (suc n) (worded ws E Z) (worded ws E' Z') false first_worded []
     unfolding worded
-    worded_good = declared (either (fact_kind ∷ []) told_good (either (question_kind ∷ []) asked_good (either (separated_kind ∷ []) separated_good atom_good refl) refl) refl) refl
+    worded_good =
+        declared (either (fact_kind ∷ []) told_good (either (question_kind ∷ []) asked_good (either (separated_kind ∷ []) separated_good
+        (either (old_kind ∷ []) old_good (either (at_kind ∷ []) labelled_good atom_good refl) refl) refl) refl) refl) refl
 
     worded_postfix_good : AreForms ws (suc n) (worded_postfix ws E Z) (worded_postfix ws E' Z') false first_worded first_behind
     unfolding worded_postfix

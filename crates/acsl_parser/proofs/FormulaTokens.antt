@@ -12,14 +12,12 @@ use Rattle.c_syntax.specs.declared.logic.BlockFact.{BlockFact}
 use Rattle.c_syntax.specs.declared.logic.MemoryQuestion.{MemoryQuestion}
 use Rattle.c_model.specs.declared.vocabulary.LogicWord.TheVariants as logic
 use Rattle.c_model.specs.declared.vocabulary.Word.{Word}
-use Rattle.c_model.specs.declared.vocabulary.TypeName.TheVariants.{DeclaredAssert}
 use Rattle.c_model.specs.declared.vocabulary.Word.TheVariants as word
 use Rattle.c_model.specs.Vocabulary.{Vocabulary, word_at}
 use Rattle.c_model.specs.Terminals.{placed, mark_entry}
 use Rattle.c_model.specs.ExpressionGrammar.{type_name_kind, fact_kind, question_kind, first_any_name, any_name_of, any_name, name_kind, number_kind, letter_kind, logic_kind, mark_kind, word_kind, token_kind, kind, number_of, letter_of}
 use Rattle.c_model.specs.ExpressionGrammar.{kinds_of, first_type, fixed}
-use Rattle.c_model.specs.AnnotationGrammar.{fact_word, fact_of, question_word, question_of, integer_kind, formula_word_kind, formula_token_kind, formula_kind, formula_name_of, truth_word, truth_of, integer_word, first_clause}
-use Rattle.c_model.specs.AnnotationGrammar.{assert_word_of, assert_word}
+use Rattle.c_model.specs.AnnotationGrammar.{fact_word, fact_of, question_word, question_of, integer_kind, formula_word_kind, formula_token_kind, formula_kind, formula_name_of, truth_word, truth_of, integer_word}
 use Rattle.c_expr_parser.proofs.ExactTokens.{fixed_good, number_good, letter_good, marks_good}
 
 -- a production of annotations is read exactly, with these sets
@@ -40,7 +38,7 @@ pub record NoName (ks : List ℕ) : Type 0 where
   pub integer : among integer_kind ks ≡ false
 
 -- the kinds of punctuators are those of no word
-marks_no_word : {A : Type 0} (k : ℕ) (table : List (ℕ × A)) → k < 40 → among k (kinds_of table) ≡ false
+marks_no_word : {A : Type 0} (k : ℕ) (table : List (ℕ × A)) → k < 60 → among k (kinds_of table) ≡ false
 marks_no_word k [] h = refl
 marks_no_word {A} k (x ∷ xs) h = tested (eqb k (mark_kind x.0)) refl (marks_no_word k xs h)
   where
@@ -56,7 +54,7 @@ module _ (ws : Vocabulary) where
   word_same ks h word.Integer = h.name ∙ sym h.integer
   word_same ks h (word.Keyword k) = refl
   word_same ks h (word.TypeName t) = refl
-  word_same ks h word.Assert = refl
+  word_same ks h (word.Clause c) = refl
   word_same ks h (word.Logic w) = refl
   word_same ks h word.Name = refl
 
@@ -86,14 +84,14 @@ module _ (ws : Vocabulary) where
   in_annotations first more f m g = recast first (λ _. more) (λ t h. sym (token_same first f t.kind) ∙ h) (λ x t h. sym (token_same more m t.kind) ∙ h) g
 
   -- the other way round, where a name may be of these kinds
-  token_is : (ks : List ℕ) → among integer_kind ks ≡ false → (t : PlainTokenKind) → among (formula_token_kind ws t) ks ≡ true → among (token_kind ws t) ks ≡ true
+  pub token_is : (ks : List ℕ) → among integer_kind ks ≡ false → (t : PlainTokenKind) → among (formula_token_kind ws t) ks ≡ true → among (token_kind ws t) ks ≡ true
   token_is ks h (tokens.Word n) e = word_is (word_at ws n) e
     where
       word_is : (w : Word) → among (formula_word_kind w) ks ≡ true → among (word_kind w) ks ≡ true
       word_is word.Integer e = absurd cc
       word_is (word.Keyword k) e = e
       word_is (word.TypeName t) e = e
-      word_is word.Assert e = e
+      word_is (word.Clause c) e = e
       word_is (word.Logic w) e = e
       word_is word.Name e = e
   token_is ks h (tokens.Number z c) e = e
@@ -128,16 +126,16 @@ module _ (ws : Vocabulary) where
 
   -- ---- tokens of annotations alone
 
-  placed_among : {A : Type 0} (f : PlainTokenKind → Option A) (ks : List ℕ) → ((t : PlainTokenKind) (x : A) → f t ≡ Some x → among (formula_token_kind ws t) ks ≡ true) → (t : PlainToken) (y : A × Place) → placed f t ≡ Some y
-      → among (formula_kind ws t) ks ≡ true
-  placed_among {A} f ks h t y e = tested (f t.kind) refl e
+  pub placed_among : {A : Type 0} (K : PlainTokenKind → ℕ) (f : PlainTokenKind → Option A) (ks : List ℕ) → ((t : PlainTokenKind) (x : A) → f t ≡ Some x → among (K t) ks ≡ true) → (t : PlainToken) (y : A × Place) → placed f t ≡ Some y
+      → among (K t.kind) ks ≡ true
+  placed_among {A} K f ks h t y e = tested (f t.kind) refl e
     where
-      tested : (o : Option A) → f t.kind ≡ o → elim o [ Some x ↦ Some (x, t.place) | None ↦ None ] ≡ Some y → among (formula_kind ws t) ks ≡ true
+      tested : (o : Option A) → f t.kind ≡ o → elim o [ Some x ↦ Some (x, t.place) | None ↦ None ] ≡ Some y → among (K t.kind) ks ≡ true
       tested (Some x) is e = h t.kind x is
       tested None is e = absurd cc
 
   placed_form : {A : Type 0} {n : ℕ} (f : PlainTokenKind → Option A) (ks : List ℕ) → ((t : PlainTokenKind) (x : A) → f t ≡ Some x → among (formula_token_kind ws t) ks ≡ true) → AreForms ws n (one (placed f)) (one (placed f)) false ks []
-  placed_form f ks h = token (placed f) ks (placed_among f ks h)
+  placed_form f ks h = token (placed f) ks (placed_among (formula_token_kind ws) f ks h)
 
   name_among : (t : PlainTokenKind) (m : ℕ) → formula_name_of ws t ≡ Some m → among (formula_token_kind ws t) (name_kind ∷ []) ≡ true
   name_among (tokens.Word k) m e = tested (eqb (formula_word_kind (word_at ws k)) name_kind) e
@@ -192,7 +190,7 @@ module _ (ws : Vocabulary) where
   member_word word.Integer e = refl
   member_word (word.Keyword k) e = within_among first_any_name first_member (word_kind (word.Keyword k)) refl e
   member_word (word.TypeName t) e = refl
-  member_word word.Assert e = refl
+  member_word (word.Clause c) e = refl
   member_word (word.Logic w) e = within_among first_any_name first_member (word_kind (word.Logic w)) refl e
   member_word word.Name e = refl
 
@@ -212,15 +210,3 @@ module _ (ws : Vocabulary) where
 
   pub integer_form : {n : ℕ} → AreForms ws n (integer_word ws) (integer_word ws) false (integer_kind ∷ []) []
   integer_form = token _ (integer_kind ∷ []) integer_among
-
-  begins_clause : (w : Word) (x : Unit {0}) → assert_word_of w ≡ Some x → among (formula_word_kind w) first_clause ≡ true
-  begins_clause word.Assert x e = refl
-  begins_clause (word.TypeName DeclaredAssert) x e = refl
-  begins_clause _ x e = absurd cc
-
-  assert_among : (t : PlainTokenKind) (x : Unit {0}) → assert_word ws t ≡ Some x → among (formula_token_kind ws t) first_clause ≡ true
-  assert_among (tokens.Word k) x e = begins_clause (word_at ws k) x e
-  assert_among _ x e = absurd cc
-
-  pub assert_form : {n : ℕ} → AreForms ws n (one (placed (assert_word ws))) (one (placed (assert_word ws))) false first_clause []
-  assert_form = placed_form (assert_word ws) first_clause assert_among

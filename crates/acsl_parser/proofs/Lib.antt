@@ -1,4 +1,5 @@
 pub mod FormulaTokens
+pub mod ClauseTokens
 pub mod ExactForms
 pub mod UnlimitedForms
 pub mod ExactAnnotations

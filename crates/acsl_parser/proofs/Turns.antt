@@ -7,25 +7,29 @@ use Rattle.grammar.proofs.Productions.{one_lower, turn, turn_fails, turn_ends, t
 use Rattle.c_syntax.specs.declared.fault.ReadFault.{ReadFault}
 use Rattle.c_syntax.specs.declared.token.Token.{Token}
 use Rattle.c_syntax.specs.Formulas.{Form, FormZone}
+use Rattle.c_syntax.specs.declared.place.Place.{Place}
 use Rattle.c_syntax.specs.Logic.{Annotation}
+use Rattle.c_syntax.specs.Programs.{FunctionContract}
 use Rattle.c_syntax.specs.Tokens.{PlainToken}
+use Rattle.c_model.specs.declared.formulas.ClauseGroup.{ClauseGroup}
 use Rattle.c_model.specs.declared.formulas.FormulaMode.{FormulaMode}
 use Rattle.c_model.specs.Vocabulary.{Vocabulary}
 use Rattle.c_model.specs.Punctuators.{comma}
 use Rattle.c_model.specs.ExpressionGrammar.{kinds_of, mark_kind}
-use Rattle.c_model.specs.AnnotationGrammar.{first_behind, first_clause, formula_kind, FormRange, Spanned, unended_kinds, unended_only, joined_once, joined_more, sum_once, sum_more}
-use Rattle.c_model.specs.AnnotationGrammar.{postfix_once, postfixes, next_zone, form, next_assert}
+use Rattle.c_model.specs.AnnotationGrammar.{first_behind, formula_kind, FormRange, Spanned, unended_kinds, unended_only, joined_once, joined_more, sum_once, sum_more}
+use Rattle.c_model.specs.AnnotationGrammar.{postfix_once, postfixes, next_zone, form}
+use Rattle.c_model.specs.ClauseGrammar.{clause_kind, first_in, first_cover, behavior_kind, next_clause, more_clauses, next_behavior, more_behaviors, next_name, next_cover, more_covers}
 use Rattle.token_reader.specs.Reading.{plain_list, Fails}
 use Rattle.token_reader.proofs.Faults.{again}
 use Rattle.token_reader.proofs.Shorter.{shorter}
 use Rattle.acsl_parser.specs.declared.tables.Level.{Level}
 use Rattle.acsl_parser.specs.declared.tables.Level.TheVariants as level
-use Rattle.acsl_parser.specs.Reading.{any_zone, operators, operand, more_zones, more_asserts}
+use Rattle.acsl_parser.specs.Reading.{any_zone, operators, operand, more_zones, more_names}
 use Rattle.acsl_parser.proofs.FormulaTokens.{IsForm}
 use Rattle.acsl_parser.proofs.ExactForms.{first_form, more_product, more_sum, more_chain, more_bit_and, more_bit_xor, more_bit_or, more_conjunction, more_exclusion, more_implication, more_form, form_good, zones_good}
 use Rattle.acsl_parser.proofs.ExactForms.{factor_good, product_good}
 use Rattle.acsl_parser.proofs.ExactForms.{sum_good, chain_good, bit_and_good, bit_xor_good, bit_or_good, conjunction_good, exclusion_good, implication_good, once_good, sum_once_good, postfix_once_good, next_zone_good, turn_good, fits}
-use Rattle.acsl_parser.proofs.ExactAnnotations.{next_assert_good}
+use Rattle.acsl_parser.proofs.ExactAnnotations.{turns_in, next_name_good, next_clause_good, next_behavior_good, next_cover_good}
 
 -- what an operand of a level can go on with
 abbrev more_operand : Level → List ℕ
@@ -166,22 +170,72 @@ module _ (ws : Vocabulary) where
   unfolding more_zones
   zones_end x ts s = turn_ends (mark_kind comma ∷ []) (next_zone ws (any_zone ws)) (λ z. (zone_exact z).here) refl x ts s
 
-  -- ---- asserts
+  -- ---- clauses of a group
 
-  pub asserts_turn : (x y : List Annotation × ℕ) (ts rest : List PlainToken) → sees (formula_kind ws) first_clause ts ≡ true → (next_assert ws x).parse ts ≡ Ok (y, rest) → (more_asserts ws x).parse ts ≡ (more_asserts ws y).parse rest
-  unfolding more_asserts
-  asserts_turn x y ts rest s e = turn first_clause (next_assert ws) (λ z. (next_assert_good ws z).here) refl x y ts rest s e
+  pub clauses_turn : (g : ClauseGroup) (x y : List Annotation × ℕ) (ts rest : List PlainToken) → sees (clause_kind ws) (first_in g) ts ≡ true → (next_clause ws g x).parse ts ≡ Ok (y, rest)
+      → (more_clauses ws g x).parse ts ≡ (more_clauses ws g y).parse rest
+  unfolding more_clauses
+  clauses_turn g x y ts rest s e = turn (first_in g) (next_clause ws g) (λ z. (next_clause_good ws {n = 0} g z).here) (turns_in g) x y ts rest s e
 
-  pub asserts_fails : (x : List Annotation × ℕ) (ts : List PlainToken) (e : ReadFault) → sees (formula_kind ws) first_clause ts ≡ true → Fails e ((next_assert ws x).parse ts) → Fails e ((more_asserts ws x).parse ts)
-  unfolding more_asserts
-  asserts_fails x ts e s = again e (λ d. turn_fails first_clause (next_assert ws) (λ z. (next_assert_good ws z).here) refl x ts d s)
+  pub clauses_fails : (g : ClauseGroup) (x : List Annotation × ℕ) (ts : List PlainToken) (e : ReadFault) → sees (clause_kind ws) (first_in g) ts ≡ true → Fails e ((next_clause ws g x).parse ts) → Fails e ((more_clauses ws g x).parse ts)
+  unfolding more_clauses
+  clauses_fails g x ts e s = again e (λ d. turn_fails (first_in g) (next_clause ws g) (λ z. (next_clause_good ws {n = 0} g z).here) (turns_in g) x ts d s)
 
-  pub asserts_ends : (x : List Annotation × ℕ) (ts : List PlainToken) → sees (formula_kind ws) first_clause ts ≡ false → (more_asserts ws x).parse ts ≡ Ok (x, ts)
-  unfolding more_asserts
-  asserts_ends x ts s = turn_ends first_clause (next_assert ws) (λ z. (next_assert_good ws z).here) refl x ts s
+  pub clauses_ends : (g : ClauseGroup) (x : List Annotation × ℕ) (ts : List PlainToken) → sees (clause_kind ws) (first_in g) ts ≡ false → (more_clauses ws g x).parse ts ≡ Ok (x, ts)
+  unfolding more_clauses
+  clauses_ends g x ts s = turn_ends (first_in g) (next_clause ws g) (λ z. (next_clause_good ws {n = 0} g z).here) (turns_in g) x ts s
 
-  pub asserts_shorter : (x y : List Annotation × ℕ) (ts rest : List Token) → (next_assert ws x).parse (plain_list ts) ≡ Ok (y, plain_list rest) → length rest < length ts
-  asserts_shorter x y ts rest e = shorter (next_assert ws x) (next_assert_good ws x).here ts rest y e
+  pub clauses_shorter : (g : ClauseGroup) (x y : List Annotation × ℕ) (ts rest : List Token) → (next_clause ws g x).parse (plain_list ts) ≡ Ok (y, plain_list rest) → length rest < length ts
+  clauses_shorter g x y ts rest e = shorter (next_clause ws g x) (next_clause_good ws {n = 0} g x).here ts rest y e
+
+  -- ---- behaviors, and clauses that name them
+
+  pub behaviors_turn : (x y : FunctionContract × ℕ) (ts rest : List PlainToken) → sees (clause_kind ws) (behavior_kind ∷ []) ts ≡ true → (next_behavior ws x).parse ts ≡ Ok (y, rest) → (more_behaviors ws x).parse ts ≡ (more_behaviors ws y).parse rest
+  unfolding more_behaviors
+  behaviors_turn x y ts rest s e = turn (behavior_kind ∷ []) (next_behavior ws) (λ z. (next_behavior_good ws {n = 0} z).here) refl x y ts rest s e
+
+  pub behaviors_fails : (x : FunctionContract × ℕ) (ts : List PlainToken) (e : ReadFault) → sees (clause_kind ws) (behavior_kind ∷ []) ts ≡ true → Fails e ((next_behavior ws x).parse ts) → Fails e ((more_behaviors ws x).parse ts)
+  unfolding more_behaviors
+  behaviors_fails x ts e s = again e (λ d. turn_fails (behavior_kind ∷ []) (next_behavior ws) (λ z. (next_behavior_good ws {n = 0} z).here) refl x ts d s)
+
+  pub behaviors_ends : (x : FunctionContract × ℕ) (ts : List PlainToken) → sees (clause_kind ws) (behavior_kind ∷ []) ts ≡ false → (more_behaviors ws x).parse ts ≡ Ok (x, ts)
+  unfolding more_behaviors
+  behaviors_ends x ts s = turn_ends (behavior_kind ∷ []) (next_behavior ws) (λ z. (next_behavior_good ws {n = 0} z).here) refl x ts s
+
+  pub behaviors_shorter : (x y : FunctionContract × ℕ) (ts rest : List Token) → (next_behavior ws x).parse (plain_list ts) ≡ Ok (y, plain_list rest) → length rest < length ts
+  behaviors_shorter x y ts rest e = shorter (next_behavior ws x) (next_behavior_good ws {n = 0} x).here ts rest y e
+
+  pub covers_turn : (x y : FunctionContract × ℕ) (ts rest : List PlainToken) → sees (clause_kind ws) first_cover ts ≡ true → (next_cover ws x).parse ts ≡ Ok (y, rest) → (more_covers ws x).parse ts ≡ (more_covers ws y).parse rest
+  unfolding more_covers
+  covers_turn x y ts rest s e = turn first_cover (next_cover ws) (λ z. (next_cover_good ws {n = 0} z).here) refl x y ts rest s e
+
+  pub covers_fails : (x : FunctionContract × ℕ) (ts : List PlainToken) (e : ReadFault) → sees (clause_kind ws) first_cover ts ≡ true → Fails e ((next_cover ws x).parse ts) → Fails e ((more_covers ws x).parse ts)
+  unfolding more_covers
+  covers_fails x ts e s = again e (λ d. turn_fails first_cover (next_cover ws) (λ z. (next_cover_good ws {n = 0} z).here) refl x ts d s)
+
+  pub covers_ends : (x : FunctionContract × ℕ) (ts : List PlainToken) → sees (clause_kind ws) first_cover ts ≡ false → (more_covers ws x).parse ts ≡ Ok (x, ts)
+  unfolding more_covers
+  covers_ends x ts s = turn_ends first_cover (next_cover ws) (λ z. (next_cover_good ws {n = 0} z).here) refl x ts s
+
+  pub covers_shorter : (x y : FunctionContract × ℕ) (ts rest : List Token) → (next_cover ws x).parse (plain_list ts) ≡ Ok (y, plain_list rest) → length rest < length ts
+  covers_shorter x y ts rest e = shorter (next_cover ws x) (next_cover_good ws {n = 0} x).here ts rest y e
+
+  -- ---- names of behaviors
+
+  pub names_turn : (x y : List (Place × ℕ)) (ts rest : List PlainToken) → sees (formula_kind ws) (mark_kind comma ∷ []) ts ≡ true → (next_name ws x).parse ts ≡ Ok (y, rest) → (more_names ws x).parse ts ≡ (more_names ws y).parse rest
+  unfolding more_names
+  names_turn x y ts rest s e = turn (mark_kind comma ∷ []) (next_name ws) (λ z. (next_name_good ws {n = 0} z).here) refl x y ts rest s e
+
+  pub names_fails : (x : List (Place × ℕ)) (ts : List PlainToken) (e : ReadFault) → sees (formula_kind ws) (mark_kind comma ∷ []) ts ≡ true → Fails e ((next_name ws x).parse ts) → Fails e ((more_names ws x).parse ts)
+  unfolding more_names
+  names_fails x ts e s = again e (λ d. turn_fails (mark_kind comma ∷ []) (next_name ws) (λ z. (next_name_good ws {n = 0} z).here) refl x ts d s)
+
+  pub names_ends : (x : List (Place × ℕ)) (ts : List PlainToken) → sees (formula_kind ws) (mark_kind comma ∷ []) ts ≡ false → (more_names ws x).parse ts ≡ Ok (x, ts)
+  unfolding more_names
+  names_ends x ts s = turn_ends (mark_kind comma ∷ []) (next_name ws) (λ z. (next_name_good ws {n = 0} z).here) refl x ts s
+
+  pub names_shorter : (x y : List (Place × ℕ)) (ts rest : List Token) → (next_name ws x).parse (plain_list ts) ≡ Ok (y, plain_list rest) → length rest < length ts
+  names_shorter x y ts rest e = shorter (next_name ws x) (next_name_good ws {n = 0} x).here ts rest y e
 
 -- ---- what the code of each repetition cites
 
@@ -193,4 +247,10 @@ pub ruleset postfix_rules = (postfix_turn, postfix_fails, postfix_ends)
 
 pub ruleset zones_rules = (zones_turn, zones_fails, zones_end)
 
-pub ruleset asserts_rules = (asserts_turn, asserts_fails, asserts_ends, asserts_shorter)
+pub ruleset clauses_rules = (clauses_turn, clauses_fails, clauses_ends, clauses_shorter)
+
+pub ruleset behaviors_rules = (behaviors_turn, behaviors_fails, behaviors_ends, behaviors_shorter)
+
+pub ruleset covers_rules = (covers_turn, covers_fails, covers_ends, covers_shorter)
+
+pub ruleset names_rules = (names_turn, names_fails, names_ends, names_shorter)

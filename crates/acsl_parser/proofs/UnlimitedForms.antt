@@ -12,13 +12,15 @@ use Rattle.c_model.specs.declared.formulas.FormulaOperator.{FormulaOperator}
 use Rattle.c_model.specs.declared.vocabulary.Keyword.TheVariants as keyword
 use Rattle.c_model.specs.Vocabulary.{Vocabulary}
 use Rattle.c_model.specs.Punctuators.{plus, question, left_paren, left_bracket, comma, dot, dots, implies}
-use Rattle.c_model.specs.ExpressionGrammar.{name_kind, number_kind, letter_kind, null_kind, fact_kind, question_kind, separated_kind, keyword_kind, mark_kind, kinds_of, first_type, type_name, expression}
+use Rattle.c_model.specs.ExpressionGrammar.{name_kind, number_kind, letter_kind, null_kind, fact_kind, question_kind, separated_kind, result_kind, old_kind, at_kind, keyword_kind, mark_kind, kinds_of, first_type, type_name, expression}
 use Rattle.c_model.specs.AnnotationGrammar.{integer_kind, formula_kind, first_behind, prefix_operators, sum_operators, relations_behind, Spanned, unended_kinds, unended, unended_only, as_it_is, whole, zone, named_form, literal_form, sized_form}
-use Rattle.c_model.specs.AnnotationGrammar.{null_form, told_form, asked_form, next_zone, some_zones, separated_form, atom, worded, indexed, dotted, pointed, postfix_once, postfixes, worded_postfix, cast_behind, cast_to_type, cast_to_integer}
+use Rattle.c_model.specs.AnnotationGrammar.{null_form, told_form, asked_form, next_zone, some_zones, separated_form, result_form, old_form, labelled_form, atom, worded, indexed, dotted, pointed, postfix_once, postfixes, worded_postfix, cast_behind}
+use Rattle.c_model.specs.AnnotationGrammar.{cast_to_type, cast_to_integer}
 use Rattle.c_model.specs.AnnotationGrammar.{closed_postfix, parenthesised, behind_parenthesis, prefixed, bare_prefix, prefix_of, prefix, joined_once, joined_more, joined, factor, product, added_rest, ranged, behind_first}
 use Rattle.c_model.specs.AnnotationGrammar.{added_parenthesis, added, sum_once}
 use Rattle.c_model.specs.AnnotationGrammar.{sum_more, zone_sum, linked, links_of, links, chain_behind, chain_of, implied, implication_behind, implication_of, chosen_behind, choice_behind, sum, bit_or, disjunction, implication, form_of, forms}
-use Rattle.c_model.specs.AnnotationGrammar.{assert_clause}
+use Rattle.c_model.specs.declared.formulas.ClauseGroup.{ClauseGroup}
+use Rattle.c_model.specs.ClauseGrammar.{form_clause, behavior_name, next_name, some_names, behavior_names, cover_clause}
 use Rattle.c_expr_parser.proofs.Unlimited.{closed_free, type_name_free, expression_free}
 
 module _ (ws : Vocabulary) where
@@ -43,9 +45,15 @@ module _ (ws : Vocabulary) where
   unfolding null_form
   null_free = late_then (late_one _) (λ at. late_gives _)
 
+  result_free : Unlimited (result_form ws)
+  unfolding result_form
+  result_free = late_then (late_one _) (λ at. late_gives _)
+
   atom_free : Unlimited (atom ws)
   unfolding atom
-  atom_free = late_choice (formula_kind ws) (name_kind ∷ []) named_free (late_choice (formula_kind ws) (null_kind ∷ []) null_free literal_free)
+  atom_free =
+      late_choice (formula_kind ws) (name_kind ∷ []) named_free
+      (late_choice (formula_kind ws) (null_kind ∷ []) null_free (late_choice (formula_kind ws) (result_kind ∷ []) result_free literal_free))
 
   module _ {E : Syntax PlainToken Form} (e : Unlimited E) where
     postfix_once_free : (x : Form) → Unlimited (postfix_once ws E x)
@@ -68,12 +76,15 @@ module _ (ws : Vocabulary) where
     next_zone_free zs = late_then (late_one _) (λ _. late_then z (λ x. late_gives _))
 
     worded_free : Unlimited (worded ws E Z)
-    unfolding worded told_form asked_form separated_form some_zones
+    unfolding worded told_form asked_form separated_form some_zones old_form labelled_form
     worded_free =
         late_choice (formula_kind ws) (fact_kind ∷ []) (late_then (late_one _) (λ f. late_then (late_one _) (λ _. late_then e (λ x. closed_free ws _))))
         (late_choice (formula_kind ws) (question_kind ∷ []) (late_then (late_one _) (λ q. late_then (late_one _) (λ _. late_then z (λ x. closed_free ws _))))
         (late_choice (formula_kind ws) (separated_kind ∷ [])
-        (late_then (late_one _) (λ at. late_then (late_one _) (λ _. late_then (late_then z (λ x. late_then (next_zone_free _) (λ zs. late_many (formula_kind ws) (λ _. mark_kind comma ∷ []) next_zone_free zs))) (λ zs. closed_free ws _)))) atom_free))
+        (late_then (late_one _) (λ at. late_then (late_one _) (λ _. late_then (late_then z (λ x. late_then (next_zone_free _) (λ zs. late_many (formula_kind ws) (λ _. mark_kind comma ∷ []) next_zone_free zs))) (λ zs. closed_free ws _))))
+        (late_choice (formula_kind ws) (old_kind ∷ []) (late_then (late_one _) (λ at. late_then (late_one _) (λ _. late_then e (λ x. closed_free ws _))))
+        (late_choice (formula_kind ws) (at_kind ∷ [])
+        (late_then (late_one _) (λ at. late_then (late_one _) (λ _. late_then e (λ x. late_then (late_one _) (λ _. late_then (late_one _) (λ l. closed_free ws _)))))) atom_free))))
 
     worded_postfix_free : Unlimited (worded_postfix ws E Z)
     unfolding worded_postfix
@@ -226,6 +237,25 @@ module _ (ws : Vocabulary) where
   unfolding forms
   forms_free m = late_knot (λ F f s. form_of_free f s) m
 
-  pub clause_free : (n : ℕ) → Unlimited (assert_clause ws n)
-  unfolding assert_clause
-  clause_free n = late_then (late_one _) (λ a. late_then (whole_free forms_free) (λ f. late_then (late_one _) (λ _. late_gives _)))
+  pub clause_free : (g : ClauseGroup) (n : ℕ) → Unlimited (form_clause ws g n)
+  unfolding form_clause
+  clause_free g n = late_then (late_one _) (λ k. late_then (whole_free forms_free) (λ f. late_then (late_one _) (λ _. late_gives _)))
+
+  -- ---- clauses that name behaviors
+
+  name_free : Unlimited (behavior_name ws)
+  unfolding behavior_name
+  name_free = late_then (late_one _) (λ x. late_gives _)
+
+  next_name_free : (names : List (Place × ℕ)) → Unlimited (next_name ws names)
+  unfolding next_name
+  next_name_free names = late_then (late_one _) (λ _. late_then name_free (λ x. late_gives _))
+
+  names_free : Unlimited (behavior_names ws)
+  unfolding behavior_names some_names
+  names_free =
+      late_choice (formula_kind ws) (name_kind ∷ []) (late_then name_free (λ x. late_many (formula_kind ws) (λ _. mark_kind comma ∷ []) next_name_free _)) (late_gives _)
+
+  pub cover_free : (n : ℕ) → Unlimited (cover_clause ws n)
+  unfolding cover_clause
+  cover_free n = late_then (late_one _) (λ k. late_then (late_one _) (λ _. late_then names_free (λ names. late_then (late_one _) (λ _. late_gives _))))

@@ -1,6 +1,6 @@
--- Ours, in words of the grammar of ACSL 2.2 and 2.4.1 that stands in c_model/specs/AnnotationGrammar.
+-- Ours, in words of the grammar of ACSL 2.2 to 2.4 that stands in c_model/specs/ClauseGrammar.
 -- What the answers on the tokens of a text mean.
-use Rattle.std.specs.Prelude.{◌≡◌, ◌≤◌, ◌<◌, ℕ, List, [], ◌∷◌, length, drop, slice_set, Option, None, Result, Ok, Err}
+use Rattle.std.specs.Prelude.{◌≡◌, ◌≤◌, ◌<◌, ℕ, List, [], ◌∷◌, length, drop, slice_set, Option, Result, Ok, Err}
 use Rattle.grammar.specs.Syntax.{ParseFault}
 use Rattle.grammar.specs.Exact.{Found}
 use Rattle.c_syntax.specs.Logic.{Annotation}
@@ -11,7 +11,7 @@ use Rattle.c_syntax.specs.declared.refusal.FrontFault.TheVariants as front
 use Rattle.c_model.specs.Vocabulary.{Vocabulary, declared_word, word_at}
 use Rattle.c_model.specs.Phases.{vocabulary}
 use Rattle.c_model.specs.TokenWords.{syntax_refusal}
-use Rattle.c_model.specs.AnnotationGrammar.{annotations}
+use Rattle.c_model.specs.ClauseGrammar.{ReadAnnotation, annotations}
 use Rattle.c_expr_parser.specs.Answers.{NotRead}
 
 -- what words are where typedefs declare these of them (C99 6.7.7)
@@ -25,7 +25,7 @@ words_of ts types = with_types (vocabulary ts) types
 -- ---- the annotation at a place of the tokens, whose clauses take the numbers from `first` on
 
 -- the tokens from the place on, read as an annotation; with its clauses comes the number of the next one
-abbrev pub annotation_at : PlainTokens → List ℕ → ℕ → ℕ → Result ((List Annotation × ℕ) × List PlainToken) ParseFault
+abbrev pub annotation_at : PlainTokens → List ℕ → ℕ → ℕ → Result ((ReadAnnotation × ℕ) × List PlainToken) ParseFault
 annotation_at ts types at first = (annotations (words_of ts types) first).parse (drop at ts.list)
 
 -- The tokens between the places are read as the annotation: they are the longest run from there on that begins one, and no token passes a limit.
@@ -34,9 +34,8 @@ pub record IsReadAt (ts : PlainTokens) (types : List ℕ) (at first : ℕ) (all 
   pub within : behind ≤ length ts.list
   -- the number of the next clause
   pub next : ℕ
-  pub parsed : annotation_at ts types at first ≡ Ok ((all, next), drop behind ts.list)
-  pub found : Found (annotations (words_of ts types) first) (drop at ts.list) (all, next) (drop behind ts.list)
-  pub no_contract : contract ≡ None
+  pub parsed : annotation_at ts types at first ≡ Ok (((all, contract), next), drop behind ts.list)
+  pub found : Found (annotations (words_of ts types) first) (drop at ts.list) ((all, contract), next) (drop behind ts.list)
 
 -- No annotation is read there: the tokens before the refused one begin an annotation and are none, and with it they don't begin one (E4), or it is the
 -- first that passes the limit (E11).

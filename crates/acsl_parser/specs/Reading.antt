@@ -1,11 +1,11 @@
--- Ours: productions of ACSL 2.2 and 2.4.1 (c_model/specs/AnnotationGrammar), cut as the code reads them.
+-- Ours: productions of ACSL 2.2 and 2.3 (c_model/specs/AnnotationGrammar, ClauseGrammar), cut as the code reads them.
 -- Levels of operators, and repetitions after what is read.
 use Rattle.std.specs.Prelude.{ℕ, List, [], ◌∷◌, Option, Some, None, option_map}
 use Rattle.grammar.specs.Syntax.{Syntax, gives, many}
+use Rattle.c_syntax.specs.declared.place.Place.{Place}
 use Rattle.c_syntax.specs.declared.logic.Formula.{Formula}
 use Rattle.c_syntax.specs.declared.logic.FormulaLinks.{FormulaLinks}
 use Rattle.c_syntax.specs.Formulas.{Form, FormLinks, NoLink, FormZone, plain_form, plain_form_links}
-use Rattle.c_syntax.specs.Logic.{Annotation}
 use Rattle.c_syntax.specs.Tokens.{PlainToken}
 use Rattle.c_model.specs.declared.formulas.ChainDirection.{ChainDirection}
 use Rattle.c_model.specs.declared.formulas.FormulaMode.{FormulaMode}
@@ -13,9 +13,10 @@ use Rattle.c_model.specs.declared.formulas.FormulaOperator.{FormulaOperator}
 use Rattle.c_model.specs.Vocabulary.{Vocabulary}
 use Rattle.c_model.specs.AnnotationGrammar.{product_operators, sum_operators, shift_operators, bit_and_operators, bit_xor_operators, bit_or_operators}
 use Rattle.c_model.specs.AnnotationGrammar.{conjunction_operators, exclusion_operators, disjunction_operators}
-use Rattle.c_model.specs.AnnotationGrammar.{equivalence_operators, first_clause, formula_kind, FormRange, range_at, Spanned}
+use Rattle.c_model.specs.AnnotationGrammar.{equivalence_operators, formula_kind, FormRange, range_at, Spanned}
 use Rattle.c_model.specs.AnnotationGrammar.{prefix, factor, product, sum, shift, chain, bit_and, bit_xor, bit_or, conjunction, exclusion, implication}
-use Rattle.c_model.specs.AnnotationGrammar.{links, zone, next_zone, forms, form, next_assert}
+use Rattle.c_model.specs.AnnotationGrammar.{links, zone, next_zone, forms, form}
+use Rattle.c_model.specs.ClauseGrammar.{next_name}
 use Rattle.c_model.specs.ExpressionGrammar.{mark_kind}
 use Rattle.c_model.specs.Punctuators.{comma}
 use Rattle.acsl_parser.specs.declared.span.Span.{Span}
@@ -83,6 +84,6 @@ module _ (ws : Vocabulary) where
   unfoldable pub more_zones : List FormZone → Syntax PlainToken (List FormZone)
   more_zones zs = many (formula_kind ws) (λ _. mark_kind comma ∷ []) (next_zone ws any_zone) zs
 
-  -- asserts after others
-  unfoldable pub more_asserts : List Annotation × ℕ → Syntax PlainToken (List Annotation × ℕ)
-  more_asserts x = many (formula_kind ws) (λ _. first_clause) (next_assert ws) x
+  -- names of behaviors after others
+  unfoldable pub more_names : List (Place × ℕ) → Syntax PlainToken (List (Place × ℕ))
+  more_names names = many (formula_kind ws) (λ _. mark_kind comma ∷ []) (next_name ws) names

@@ -4,13 +4,13 @@ ghost use Rattle.std.specs.Prelude.{◌≡◌, ◌≤◌, ◌<◌, length, optio
 ghost use Rattle.c_syntax.specs.Formulas.{plain_form, plain_form_kind};
 ghost use Rattle.grammar.specs.Syntax.{gives};
 ghost use Rattle.c_model.specs.ExpressionGrammar.{closed};
-ghost use Rattle.c_model.specs.AnnotationGrammar.{named_form, literal_form, sized_form, null_form, atom};
+ghost use Rattle.c_model.specs.AnnotationGrammar.{named_form, literal_form, sized_form, null_form, result_form, atom};
 ghost use Rattle.token_reader.specs.Reading.{Gives, plain_list};
 ghost use Rattle.acsl_parser.specs.Reading.{plain_range, plain_spanned};
 
 use crate::span::{Read, Span, SpannedForm};
 use crate::terminals::{formula_name, next_is, truth};
-use c_expr_parser::kinds::{LEFT_PAREN, LETTER, NAME, NULL, NUMBER, RIGHT_PAREN, SIZEOF};
+use c_expr_parser::kinds::{LEFT_PAREN, LETTER, NAME, NULL, NUMBER, RESULT, RIGHT_PAREN, SIZEOF};
 use c_expr_parser::terminals::{kept, letter, number, skip};
 use c_expr_parser::type_name;
 use c_model::vocabulary::Word;
@@ -124,6 +124,16 @@ fn null_form<'a>(alloc: Global, words: &[Word], tokens: &'a [Token]) -> Read<'a,
     with_form(alloc, place, FormulaKind::Null, rest)
 }
 
+/// `\result`
+#[tactic(auto, unfolding(c_model::specs::AnnotationGrammar::result_form))]
+fn result_form<'a>(alloc: Global, words: &[Word], tokens: &'a [Token]) -> Read<'a, Formula>
+    ensures read { Gives (λ x. (plain_form x.0, plain_list x.1.now)) result ((result_form words.now).parse (plain_list tokens.now)) }
+    ensures shorter { IfOk result (λ x. length x.1.now < length tokens.now) }
+{
+    let (place, rest) = skip(words, RESULT, tokens)?;
+    with_form(alloc, place, FormulaKind::Result, rest)
+}
+
 /// A form of one token.
 #[tactic(auto, unfolding(c_model::specs::AnnotationGrammar::atom))]
 pub fn atom<'a>(alloc: Global, words: &[Word], tokens: &'a [Token]) -> Read<'a, Formula>
@@ -134,6 +144,8 @@ pub fn atom<'a>(alloc: Global, words: &[Word], tokens: &'a [Token]) -> Read<'a, 
         named_form(alloc, words, tokens)
     } else if next_is(words, NULL, tokens) {
         null_form(alloc, words, tokens)
+    } else if next_is(words, RESULT, tokens) {
+        result_form(alloc, words, tokens)
     } else {
         literal_form(alloc, words, tokens)
     }

@@ -1,9 +1,10 @@
-//! From tokens to annotations of C (ACSL 2.2, 2.4.1).
+//! From tokens to annotations of C (ACSL 2.2, 2.3, 2.4).
 //!
 //! A function for each production of the grammar reads the tokens.
 #![tactic(auto)]
 
 // What single tokens stand for.
+mod clause_words;
 mod tables;
 mod terminals;
 mod words;
@@ -17,9 +18,11 @@ mod primary;
 mod span;
 mod sum;
 
-// Clauses within the limit of their tokens, and the annotation at a place.
+// Clauses within the limit of their tokens, contracts, and the annotation at a place.
 mod annotation;
+mod clause;
+mod contract;
 mod read;
 
-pub use annotation::annotations;
+pub use annotation::{ReadAnnotation, annotations};
 pub use read::{one_annotation, read_annot};

@@ -1,8 +1,8 @@
-//! What is told of blocks and asked about zones (ACSL 2.7).
+//! Terms at labels (ACSL 2.4.3); what is told of blocks and asked about zones (ACSL 2.7).
 
 ghost use Rattle.std.specs.Prelude.{◌≤◌, ◌<◌, length, map, IfOk};
 ghost use Rattle.c_syntax.specs.Formulas.{plain_form, plain_form_zone};
-ghost use Rattle.c_model.specs.AnnotationGrammar.{asked_form, told_form, next_zone, some_zones, separated_form, worded, form};
+ghost use Rattle.c_model.specs.AnnotationGrammar.{old_form, labelled_form, asked_form, told_form, next_zone, some_zones, separated_form, worded, form};
 ghost use Rattle.acsl_parser.specs.Reading.{any_zone, more_zones};
 ghost use Rattle.token_reader.specs.Reading.{Gives, plain_list};
 
@@ -10,13 +10,41 @@ use crate::atoms::{atom, closed};
 use crate::formula::{form, zone};
 use crate::parts::zones_of;
 use crate::span::Read;
-use crate::terminals::{fact, next_is, question};
-use c_expr_parser::kinds::{COMMA, FACT, LEFT_PAREN, QUESTION_WORD, SEPARATED};
+use crate::terminals::{fact, formula_name, next_is, question};
+use c_expr_parser::kinds::{AT, COMMA, FACT, LEFT_PAREN, OLD, QUESTION_WORD, SEPARATED};
 use c_expr_parser::terminals::{kept, skip};
 use c_model::vocabulary::Word;
 use c_syntax::Token;
 use c_syntax::logic::{Formula, FormulaKind, FormulaZone};
 use std::alloc::Global;
+
+/// A form at the beginning of the call.
+#[tactic(auto, unfolding(c_model::specs::AnnotationGrammar::old_form))]
+#[cycle(formula)]
+fn old_form<'a>(alloc: Global, words: &[Word], tokens: &'a [Token]) -> Read<'a, Formula>
+    ensures read { Gives (λ x. (plain_form x.0, plain_list x.1.now)) result ((old_form words.now (form words.now)).parse (plain_list tokens.now)) }
+    ensures shorter { IfOk result (λ x. length x.1.now < length tokens.now) }
+{
+    let (place, rest) = skip(words, OLD, tokens)?;
+    let (_, rest) = skip(words, LEFT_PAREN, rest)?;
+    let (x, rest) = form(alloc, words, rest)?;
+    closed(alloc, words, place, FormulaKind::Old(x), rest)
+}
+
+/// A form at a label.
+#[tactic(auto, unfolding(c_model::specs::AnnotationGrammar::labelled_form))]
+#[cycle(formula)]
+fn labelled_form<'a>(alloc: Global, words: &[Word], tokens: &'a [Token]) -> Read<'a, Formula>
+    ensures read { Gives (λ x. (plain_form x.0, plain_list x.1.now)) result ((labelled_form words.now (form words.now)).parse (plain_list tokens.now)) }
+    ensures shorter { IfOk result (λ x. length x.1.now < length tokens.now) }
+{
+    let (place, rest) = skip(words, AT, tokens)?;
+    let (_, rest) = skip(words, LEFT_PAREN, rest)?;
+    let (x, rest) = form(alloc, words, rest)?;
+    let (x, (_, rest)) = kept(x, skip(words, COMMA, rest))?;
+    let (x, (name, at, rest)) = kept(x, formula_name(words, rest))?;
+    closed(alloc, words, place, FormulaKind::At(x, at, name), rest)
+}
 
 /// What is told of a pointer's block.
 #[tactic(auto, unfolding(c_model::specs::AnnotationGrammar::told_form))]
@@ -132,6 +160,10 @@ pub fn worded<'a>(alloc: Global, words: &[Word], tokens: &'a [Token]) -> Read<'a
         asked_form(alloc, words, tokens)
     } else if next_is(words, SEPARATED, tokens) {
         separated_form(alloc, words, tokens)
+    } else if next_is(words, OLD, tokens) {
+        old_form(alloc, words, tokens)
+    } else if next_is(words, AT, tokens) {
+        labelled_form(alloc, words, tokens)
     } else {
         atom(alloc, words, tokens)
     }

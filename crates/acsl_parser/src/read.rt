@@ -6,7 +6,7 @@ ghost use Rattle.c_syntax.specs.Logic.{plain_annot};
 ghost use Rattle.c_syntax.specs.Programs.{plain_contract};
 ghost use Rattle.c_syntax.specs.Tokens.{plain_tokens};
 ghost use Rattle.c_model.specs.Vocabulary.{Vocabulary};
-ghost use Rattle.c_model.specs.AnnotationGrammar.{annotations};
+ghost use Rattle.c_model.specs.ClauseGrammar.{annotations};
 ghost use Rattle.acsl_parser.specs.Answers.{IsReadAt, RefusesAt};
 
 use crate::annotation::annotations;
@@ -25,7 +25,7 @@ fn place_behind(list: &[Token], left: &[Token]) -> usize
 
 /// The annotation that stands at a place of the tokens, counted from 0, and the place of the first token after it. Its clauses take the
 /// numbers from `first` on, and `types` are the names that typedefs before it declare. Or its refusal, with code 4 at the first token that
-/// can't follow those before it, and with code 11 at the 401st of a clause. No annotation is a function's contract yet.
+/// can't follow those before it, and with code 11 at the 401st of a clause.
 pub fn read_annot(
     alloc: Global,
     tokens: &Tokens,
@@ -42,7 +42,7 @@ pub fn read_annot(
     let list = tokens.list.as_slice();
     let (_, rest) = list.split_at(at);
     match annotations(alloc, words.as_slice(), first, rest) {
-        Ok((clauses, _, left)) => Ok((clauses, None, place_behind(list, left))),
+        Ok((read, _, left)) => Ok((read.0, read.1, place_behind(list, left))),
         Err(fault) => Err(refuse(alloc, tokens, fault)),
     }
 }

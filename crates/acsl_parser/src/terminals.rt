@@ -5,13 +5,13 @@ ghost use Rattle.grammar.specs.Syntax.{sees, one};
 ghost use Rattle.c_syntax.specs.Tokens.{plain_token};
 ghost use Rattle.c_model.specs.Terminals.{placed};
 ghost use Rattle.c_model.specs.ExpressionGrammar.{first_type, kinds_of};
-ghost use Rattle.c_model.specs.AnnotationGrammar.{first_behind, first_clause, formula_kind, formula_word_kind, formula_name_of};
-ghost use Rattle.c_model.specs.AnnotationGrammar.{truth_word, truth_of, fact_word, fact_of, question_word, question_of, integer_word, assert_word};
+ghost use Rattle.c_model.specs.AnnotationGrammar.{first_behind, formula_kind, formula_word_kind, formula_name_of};
+ghost use Rattle.c_model.specs.AnnotationGrammar.{truth_word, truth_of, fact_word, fact_of, question_word, question_of, integer_word};
 ghost use Rattle.token_reader.specs.Reading.{Gives, TakesNoMemory, plain_list};
 
-use c_expr_parser::kinds::{ARROW, DOT, LEFT_BRACKET, NAME, TYPE_NAME, kind, word_at, word_kind};
+use c_expr_parser::kinds::{ARROW, DOT, LEFT_BRACKET, NAME, kind, word_at, word_kind};
 use c_expr_parser::terminals as c_terminals;
-use c_model::vocabulary::{LogicWord, TypeName, Word};
+use c_model::vocabulary::{LogicWord, Word};
 use c_syntax::fault::ReadFault;
 use c_syntax::logic::{BlockFact, MemoryQuestion};
 use c_syntax::{Place, Token, TokenKind};
@@ -25,14 +25,14 @@ fn formula_word_kind(word: Word) -> u32
 {
     match word {
         Word::Integer => INTEGER,
-        Word::Keyword(_) | Word::TypeName(_) | Word::Assert | Word::Logic(_) | Word::Name => {
+        Word::Keyword(_) | Word::TypeName(_) | Word::Clause(_) | Word::Logic(_) | Word::Name => {
             word_kind(word)
         }
     }
 }
 
 /// The kind of a token of an annotation.
-fn formula_kind(words: &[Word], token: &Token) -> u32
+pub fn formula_kind(words: &[Word], token: &Token) -> u32
     ensures { result ≡ formula_kind words.now (plain_token token.now) }
 {
     match &token.kind {
@@ -53,19 +53,6 @@ pub fn next_is(words: &[Word], wanted: u32, tokens: &[Token]) -> bool
     match tokens {
         [] => false,
         [token, ..] => formula_kind(words, token) == wanted,
-    }
-}
-
-/// Whether a word comes next that may begin a clause.
-pub fn next_begins_clause(words: &[Word], tokens: &[Token]) -> bool
-    ensures { result ≡ sees (formula_kind words.now) first_clause (plain_list tokens.now) }
-{
-    match tokens {
-        [] => false,
-        [token, ..] => {
-            let kind = formula_kind(words, token);
-            kind == NAME || kind == TYPE_NAME
-        }
     }
 }
 
@@ -229,26 +216,5 @@ pub fn integer_word<'a>(
                 Err(ReadFault::At(left(tokens)))
             }
         }
-    }
-}
-
-/// The word `assert`, by its place.
-pub fn assert_word<'a>(
-    words: &[Word],
-    tokens: &'a [Token],
-) -> Result<(Place, &'a [Token]), ReadFault>
-    ensures read { Gives (λ x. ((tt, x.0), plain_list x.1.now)) result ((one (placed (assert_word words.now))).parse (plain_list tokens.now)) }
-    ensures shorter { IfOk result (λ x. length x.1.now < length tokens.now) }
-    ensures sure { IfErr result TakesNoMemory }
-{
-    match tokens {
-        [] => Err(ReadFault::At(0)),
-        [token, rest @ ..] => match &token.kind {
-            TokenKind::Word(number) => match word_at(words, *number) {
-                Word::Assert | Word::TypeName(TypeName::DeclaredAssert) => Ok((token.place, rest)),
-                _ => Err(ReadFault::At(left(tokens))),
-            },
-            _ => Err(ReadFault::At(left(tokens))),
-        },
     }
 }

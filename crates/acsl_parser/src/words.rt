@@ -14,7 +14,7 @@ fn declared_word(word: Word) -> Word
     ensures { result ≡ declared_word word }
 {
     match word {
-        Word::Assert => Word::TypeName(TypeName::DeclaredAssert),
+        Word::Clause(word) => Word::TypeName(TypeName::DeclaredClause(word)),
         Word::Keyword(_) | Word::TypeName(_) | Word::Integer | Word::Logic(_) | Word::Name => {
             Word::TypeName(TypeName::Declared)
         }

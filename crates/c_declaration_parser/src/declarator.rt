@@ -201,12 +201,12 @@ pub fn full_dtor<'a>(
     if tokens.len() <= MOST {
         return dtor(alloc, words, named, tokens);
     }
-    match dtor(alloc, words, named, window(tokens)) {
+    match dtor(alloc, words, named, window(tokens, MOST)) {
         Ok((d, rest)) => match rest.len() {
-            0 => Err(passed(tokens.len())),
-            left => Ok((d, behind(tokens, left))),
+            0 => Err(passed(tokens.len(), MOST)),
+            left => Ok((d, behind(tokens, MOST, left))),
         },
-        Err(fault) => Err(resumed(fault, tokens.len())),
+        Err(fault) => Err(resumed(fault, tokens.len(), MOST)),
     }
 }
 
@@ -262,11 +262,11 @@ pub(crate) fn full_abstract_dtor<'a>(
     if tokens.len() <= MOST {
         return abstract_dtor(alloc, words, tokens);
     }
-    match abstract_dtor(alloc, words, window(tokens)) {
+    match abstract_dtor(alloc, words, window(tokens, MOST)) {
         Ok((d, rest)) => match rest.len() {
-            0 => Err(passed(tokens.len())),
-            left => Ok((d, behind(tokens, left))),
+            0 => Err(passed(tokens.len(), MOST)),
+            left => Ok((d, behind(tokens, MOST, left))),
         },
-        Err(fault) => Err(resumed(fault, tokens.len())),
+        Err(fault) => Err(resumed(fault, tokens.len(), MOST)),
     }
 }

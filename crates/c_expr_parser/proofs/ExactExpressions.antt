@@ -1,5 +1,5 @@
 -- Expressions are read exactly.
-use Rattle.std.proofs.Common.{◌≡◌, ℕ, zero, suc, Bool, true, false, List, [], ◌∷◌, ◌++◌, refl}
+use Rattle.std.proofs.Common.{◌≡◌, ℕ, zero, suc, ◌-◌, Bool, true, false, List, [], ◌∷◌, ◌++◌, refl}
 use Rattle.grammar.specs.Syntax.{Syntax, ◌then◌}
 use Rattle.grammar.specs.Exact.{IsExact, Same}
 use Rattle.grammar.proofs.Forms.{knot_form}
@@ -23,10 +23,10 @@ use Rattle.c_model.specs.ExpressionGrammar.{first_type, first_expression, first_
 use Rattle.c_model.specs.ExpressionGrammar.{literal_first}
 use Rattle.c_model.specs.ExpressionGrammar.{behind_variable, Operand, closed, literal, cast_rest, sized_type, paren_rest, behind_paren, prefixed, sized, bump_first, operand_but_name, operand_of, operand}
 use Rattle.c_model.specs.Terminals.{expression_limit}
-use Rattle.c_model.specs.ExpressionGrammar.{most_in_expression, full_expression, full_placed_expression, full_expression_at}
+use Rattle.c_model.specs.ExpressionGrammar.{most_in_expression, full_expression, full_placed_expression, full_nameless_expression, full_expression_behind, full_expression_at}
 use Rattle.c_model.specs.ExpressionGrammar.{next_argument, arguments, call_rest, joined_once, behind_operand, choice_rest, conditional_rest, assigned, behind_unary, behind_form, at_level, next_part, with_commas, expression_of, expression_at}
-use Rattle.c_model.specs.ExpressionGrammar.{expression, placed_expression}
-use Rattle.c_expr_parser.proofs.Unlimited.{level_free, expression_free, placed_free}
+use Rattle.c_model.specs.ExpressionGrammar.{expression, ReadOperand, placed_rest, placed_expression, nameless_expression, expression_behind}
+use Rattle.c_expr_parser.proofs.Unlimited.{level_free, expression_free, placed_free, nameless_free, behind_name_free}
 use Rattle.c_expr_parser.proofs.ExactTokens.{IsRead, AreRead, fixed_good, name_good, any_name_good, number_good, letter_good, marks_good}
 use Rattle.c_expr_parser.proofs.ExactTypes.{apart_none, enlarged, more_type, type_good, stars_good}
 
@@ -70,6 +70,10 @@ more_commas = mark_kind comma ∷ more_expression
 -- what a type can go on with that has stars and brackets
 abbrev pub more_type_name : List ℕ
 more_type_name = mark_kind times ∷ mark_kind left_bracket ∷ more_type
+
+-- what stands behind the first operand of an expression with commas
+abbrev pub placed_rest_kinds : List ℕ
+placed_rest_kinds = behind_unary_kinds ++ mark_kind comma ∷ []
 
 -- an operand that begins with no name
 abbrev pub first_but_name : List ℕ
@@ -348,12 +352,25 @@ module _ (ws : Vocabulary) where
   pub levels_good : (l : Level) → IsRead ws (expression_at ws l) false first_expression more_expression
   levels_good l = same (level_exact l)
 
+  placed_rest_good : (x : ReadOperand) → AreRead ws 1 (placed_rest ws x) (placed_rest ws x) true placed_rest_kinds more_commas
+  unfolding placed_rest
+  placed_rest_good x =
+      declared (seq (behind_form_good expression_good (levels_good Assignment) (levels_good Conditional) x.form x.expression)
+      (λ y. seq (again_and_again (mark_kind comma ∷ []) (next_part_good (same (level_exact Assignment))) refl y) (λ e. given _) refl) refl) refl
+
   pub placed_good : IsRead ws (placed_expression ws) false first_expression more_commas
   unfolding placed_expression
-  placed_good =
-      one_lower (declared (seq (operand_good expression_good (levels_good Assignment) Casts)
-      (λ x. seq (behind_form_good expression_good (levels_good Assignment) (levels_good Conditional) x.form x.expression)
-      (λ y. seq (again_and_again (mark_kind comma ∷ []) (next_part_good (same (level_exact Assignment))) refl y) (λ e. given _) refl) refl) refl) refl)
+  placed_good = one_lower (declared (seq (operand_good expression_good (levels_good Assignment) Casts) placed_rest_good refl) refl)
+
+  -- where it begins with no name, and behind one
+  pub nameless_good : IsRead ws (nameless_expression ws) false first_but_name more_commas
+  unfolding nameless_expression
+  nameless_good =
+      one_lower (declared (seq (but_name_good expression_good (λ u. one_lower (operand_good expression_good (levels_good Assignment) u)) Casts) placed_rest_good refl) refl)
+
+  pub behind_name_good : (x : ℕ × Place) → IsRead ws (expression_behind ws x) true (more_operand ++ placed_rest_kinds) (more_operand ++ more_commas)
+  unfolding expression_behind
+  behind_name_good x = declared (seq (behind_variable_good expression_good (levels_good Assignment) x) (λ y. one_lower (placed_rest_good y)) refl) refl
 
   pub operand_is : (u : TypeUse) (ts : List PlainToken) → (operand ws (expression ws) (expression_at ws Assignment) u).parse ts
       ≡ (operand_of ws (expression ws) (expression_at ws Assignment) (operand ws (expression ws) (expression_at ws Assignment)) u).parse ts
@@ -369,6 +386,14 @@ module _ (ws : Vocabulary) where
   pub full_placed_good : IsRead ws (full_placed_expression ws) false first_expression more_commas
   unfolding full_placed_expression
   full_placed_good = counted expression_limit most_in_expression (placed_free ws) (placed_free ws) placed_good
+
+  pub full_nameless_good : IsRead ws (full_nameless_expression ws) false first_but_name more_commas
+  unfolding full_nameless_expression
+  full_nameless_good = counted expression_limit most_in_expression (nameless_free ws) (nameless_free ws) nameless_good
+
+  pub full_behind_name_good : (x : ℕ × Place) → IsRead ws (full_expression_behind ws x) true (more_operand ++ placed_rest_kinds) (more_operand ++ more_commas)
+  unfolding full_expression_behind
+  full_behind_name_good x = counted expression_limit (most_in_expression - 1) (behind_name_free ws x) (behind_name_free ws x) (behind_name_good x)
 
   pub full_level_good : (l : Level) → IsRead ws (full_expression_at ws l) false first_expression more_expression
   unfolding full_expression_at

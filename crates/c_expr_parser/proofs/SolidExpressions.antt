@@ -30,11 +30,11 @@ use Rattle.c_model.specs.ExpressionGrammar.{words_behind, most_in_expression, Op
 use Rattle.c_model.specs.Terminals.{expression_limit}
 use Rattle.c_model.specs.ExpressionGrammar.{sized, operand_but_name, operand_of, operand, joined_once, behind_operand, choice_rest, conditional_rest, next_argument, arguments, call_rest, assigned, behind_unary, behind_form, at_level, next_part}
 use Rattle.c_model.specs.ExpressionGrammar.{with_commas}
-use Rattle.c_model.specs.ExpressionGrammar.{expression_at, expression, placed_expression, full_expression, full_placed_expression, full_expression_at}
+use Rattle.c_model.specs.ExpressionGrammar.{expression_at, expression, ReadOperand, placed_rest, placed_expression, nameless_expression, full_expression, full_placed_expression, full_nameless_expression, full_expression_at}
 use Rattle.c_expr_parser.proofs.Unlimited.{level_free, expression_free}
 use Rattle.c_expr_parser.proofs.ExactTypes.{apart_none, words_fit, words_within, more_type, first_untagged}
 use Rattle.c_expr_parser.proofs.ExactExpressions.{kinds_below, more_below, AreApart, levels_apart, level_within, below_within, postfix_apart, behind_kinds, behind_unary_kinds, more_operand, more_expression, more_commas, more_type_name}
-use Rattle.c_expr_parser.proofs.ExactExpressions.{first_but_name, both_true, operand_good}
+use Rattle.c_expr_parser.proofs.ExactExpressions.{first_but_name, placed_rest_kinds, both_true, operand_good}
 use Rattle.c_expr_parser.proofs.ExactExpressions.{level_exact, level_is, levels_good, expression_good, operand_is}
 use Rattle.c_expr_parser.proofs.Steps.{consts_turn, consts_ends}
 use Rattle.c_expr_parser.proofs.TakenTokens.{Solid, fixed_solid, name_solid, any_name_solid, number_solid, letter_solid, marks_solid, next_words_solid, typedef_name_solid}
@@ -382,13 +382,27 @@ module _ (ws : Vocabulary) where
 
   -- ---- with the place of its first token
 
+  placed_rest_solid : (n : ℕ) (x : ReadOperand) → Solid ws (suc n) (placed_rest ws x) false true placed_rest_kinds more_commas
+  unfolding placed_rest
+  placed_rest_solid n x =
+      listed (seq_solid (behind_form_solid n (level_solid_at n) x.form x.expression)
+      (λ y. seq_solid (many_solid (mark_kind comma ∷ []) refl refl (suc n) (λ z. next_part_solid (level_solid_at (suc n) Assignment) z) y) (λ e. gives_solid _) refl) refl) refl
+
   placed_solid : (n : ℕ) → Solid ws n (placed_expression ws) true false first_expression more_commas
   unfolding placed_expression
-  placed_solid n = lower n (omega arith)
-      (listed (seq_solid (operand_solid n (level_solid_at n) Casts) (λ x. seq_solid (behind_form_solid n (level_solid_at n) x.form x.expression)
-      (λ y. seq_solid (many_solid (mark_kind comma ∷ []) refl refl (suc n) (λ z. next_part_solid (level_solid_at (suc n) Assignment) z) y) (λ e. gives_solid _) refl) refl) refl) refl)
+  placed_solid n = lower n (omega arith) (listed (seq_solid (operand_solid n (level_solid_at n) Casts) (placed_rest_solid n) refl) refl)
 
   -- a token of a kind that can begin one begins one
   pub placed_begins : (t : PlainToken) → among (kind ws t) first_expression ≡ true → (full_placed_expression ws).begun (t ∷ [])
   unfolding full_placed_expression
   placed_begins t h = opened (kind ws) (placed_expression ws) first_expression (λ _. more_commas) (placed_solid 0).exact t (λ e. (placed_solid 2).opens refl t [] (omega arith) h e)
+
+  nameless_solid : (n : ℕ) → Solid ws n (nameless_expression ws) true false first_but_name more_commas
+  unfolding nameless_expression
+  nameless_solid n =
+      listed (seq_solid (lower n (omega arith) (but_name_solid (expression_solid n) (λ u. lower n (omega arith) (operand_solid n (level_solid_at n) u)) Casts)) (λ x. lower n (omega arith) (placed_rest_solid n x)) refl) refl
+
+  -- the same of one that begins with no name
+  pub nameless_begins : (t : PlainToken) → among (kind ws t) first_but_name ≡ true → (full_nameless_expression ws).begun (t ∷ [])
+  unfolding full_nameless_expression
+  nameless_begins t h = opened (kind ws) (nameless_expression ws) first_but_name (λ _. more_commas) (nameless_solid 0).exact t (λ e. (nameless_solid 2).opens refl t [] (omega arith) h e)

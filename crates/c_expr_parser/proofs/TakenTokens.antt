@@ -89,12 +89,15 @@ keyword_small keyword.Case = omega arith
 keyword_small keyword.Default = omega arith
 keyword_small keyword.Kept = omega arith
 
-logic_small : (w : LogicWord) → logic_word_kind w ≤ 38
+logic_small : (w : LogicWord) → logic_word_kind w ≤ 41
 logic_small (logic.Truth b) = omega arith
 logic_small logic.Null = omega arith
 logic_small (logic.Told f) = omega arith
 logic_small (logic.Asks q) = omega arith
 logic_small logic.Separated = omega arith
+logic_small logic.Result = omega arith
+logic_small logic.Old = omega arith
+logic_small logic.At = omega arith
 logic_small logic.Kept = omega arith
 
 -- no word of annotations has the kind of a literal, of the name of a type, or of a word of an integer type
@@ -104,6 +107,9 @@ no_logic_literal logic.Null k l g h = let e = eqb-true 35 k h in omega (arith, e
 no_logic_literal (logic.Told f) k l g h = let e = eqb-true 36 k h in omega (arith, e)
 no_logic_literal (logic.Asks q) k l g h = let e = eqb-true 37 k h in omega (arith, e)
 no_logic_literal logic.Separated k l g h = let e = eqb-true 38 k h in omega (arith, e)
+no_logic_literal logic.Result k l g h = let e = eqb-true 39 k h in omega (arith, e)
+no_logic_literal logic.Old k l g h = let e = eqb-true 40 k h in omega (arith, e)
+no_logic_literal logic.At k l g h = let e = eqb-true 41 k h in omega (arith, e)
 no_logic_literal logic.Kept k l g h = let e = eqb-true 5 k h in omega (arith, e)
 
 no_logic_type_name : (w : LogicWord) → eqb (logic_word_kind w) type_name_kind ≡ true → ⊥
@@ -112,6 +118,9 @@ no_logic_type_name logic.Null h = cc
 no_logic_type_name (logic.Told f) h = cc
 no_logic_type_name (logic.Asks q) h = cc
 no_logic_type_name logic.Separated h = cc
+no_logic_type_name logic.Result h = cc
+no_logic_type_name logic.Old h = cc
+no_logic_type_name logic.At h = cc
 no_logic_type_name logic.Kept h = cc
 
 no_logic_integer : (w : LogicWord) → 10 ≤ logic_word_kind w → logic_word_kind w ≤ 15 → ⊥
@@ -120,12 +129,15 @@ no_logic_integer logic.Null l g = omega (arith, l, g)
 no_logic_integer (logic.Told f) l g = omega (arith, l, g)
 no_logic_integer (logic.Asks q) l g = omega (arith, l, g)
 no_logic_integer logic.Separated l g = omega (arith, l, g)
+no_logic_integer logic.Result l g = omega (arith, l, g)
+no_logic_integer logic.Old l g = omega (arith, l, g)
+no_logic_integer logic.At l g = omega (arith, l, g)
 no_logic_integer logic.Kept l g = omega (arith, l, g)
 
-pub word_small : (w : Word) → word_kind w ≤ 38
+pub word_small : (w : Word) → word_kind w ≤ 41
 word_small (word.Keyword k) = let s = keyword_small k in omega (arith, s)
 word_small (word.TypeName t) = omega arith
-word_small word.Assert = omega arith
+word_small (word.Clause c) = omega arith
 word_small word.Integer = omega arith
 word_small (word.Logic w) = logic_small w
 word_small word.Name = omega arith
@@ -134,7 +146,7 @@ word_small word.Name = omega arith
 pub no_literal : (w : Word) (k : ℕ) → 1 ≤ k → k ≤ 3 → eqb (word_kind w) k ≡ true → ⊥
 no_literal (word.Keyword n) k l g h = let e = eqb-true (keyword_kind n) k h in let s = keyword_large n in omega (arith, e, s)
 no_literal (word.TypeName t) k l g h = let e = eqb-true 4 k h in omega (arith, e)
-no_literal word.Assert k l g h = let e = eqb-true 0 k h in omega (arith, e)
+no_literal (word.Clause c) k l g h = let e = eqb-true 0 k h in omega (arith, e)
 no_literal word.Integer k l g h = let e = eqb-true 0 k h in omega (arith, e)
 no_literal (word.Logic w) k l g h = no_logic_literal w k l g h
 no_literal word.Name k l g h = let e = eqb-true 0 k h in omega (arith, e)
@@ -289,7 +301,7 @@ module _ (ws : Vocabulary) where
   marks_taken : {A : Type 0} (table : List (ℕ × A)) (t : PlainTokenKind) → among (token_kind ws t) (kinds_of table) ≡ true → (x : A) × (mark_entry table t ≡ Some x)
   marks_taken {A} table t h = by t h
     where
-      other : (k : PlainTokenKind) → token_kind ws k ≤ 38 → among (token_kind ws k) (kinds_of table) ≡ true → (x : A) × (mark_entry table k ≡ Some x)
+      other : (k : PlainTokenKind) → token_kind ws k ≤ 41 → among (token_kind ws k) (kinds_of table) ≡ true → (x : A) × (mark_entry table k ≡ Some x)
       other k small g = in_table _ (token_kind ws k) table (λ m x is e. absurd (omega (arith, small, is))) g
 
       by : (k : PlainTokenKind) → among (token_kind ws k) (kinds_of table) ≡ true → (x : A) × (mark_entry table k ≡ Some x)
@@ -311,7 +323,7 @@ module _ (ws : Vocabulary) where
       by_word : (w : Word) → among (word_kind w) (words_behind x) ≡ true → (10 ≤ word_kind w) × (word_kind w ≤ 15) → (y : IntegerWords) × (elim (keyword_of ws w) [ None ↦ None | Some k ↦ words_with x k ] ≡ Some y)
       by_word (word.Keyword k) g r = words_taken x k g
       by_word (word.TypeName c) g r = absurd (let l = r.0 in omega (arith, l))
-      by_word word.Assert g r = absurd (let l = r.0 in omega (arith, l))
+      by_word (word.Clause c) g r = absurd (let l = r.0 in omega (arith, l))
       by_word word.Integer g r = absurd (let l = r.0 in omega (arith, l))
       by_word (word.Logic w) g r = absurd (no_logic_integer w r.0 r.1)
       by_word word.Name g r = absurd (let l = r.0 in omega (arith, l))

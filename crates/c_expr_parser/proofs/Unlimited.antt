@@ -25,7 +25,7 @@ use Rattle.c_model.specs.ExpressionGrammar.{more_consts, star, next_star, star_w
 use Rattle.c_model.specs.ExpressionGrammar.{behind_variable}
 use Rattle.c_model.specs.ExpressionGrammar.{bump_first, operand_of, operand, joined_once, behind_operand, choice_rest, conditional_rest, next_argument, arguments, call_rest, assigned, bumped, behind_unary, behind_form, at_level, next_part}
 use Rattle.c_model.specs.ExpressionGrammar.{with_commas}
-use Rattle.c_model.specs.ExpressionGrammar.{expression_of, expression_at, expression, placed_expression}
+use Rattle.c_model.specs.ExpressionGrammar.{expression_of, expression_at, expression, ReadOperand, placed_rest, placed_expression, nameless_expression, expression_behind}
 
 module _ (ws : Vocabulary) where
   -- ---- types
@@ -270,9 +270,19 @@ module _ (ws : Vocabulary) where
   unfolding expression
   expression_free = with_commas_free (level_free Assignment)
 
+  placed_rest_free : (x : ReadOperand) → Unlimited (placed_rest ws x)
+  unfolding placed_rest
+  placed_rest_free x =
+      late_then (behind_form_free expression_free (level_free Assignment) (level_free Conditional) x.form x.expression) (λ y. late_then (parts_free (level_free Assignment) y) (λ e. late_gives _))
+
   pub placed_free : Unlimited (placed_expression ws)
   unfolding placed_expression
-  placed_free =
-      late_then (operand_free expression_free (level_free Assignment) Casts)
-      (λ x. late_then (behind_form_free expression_free (level_free Assignment) (level_free Conditional) x.form x.expression)
-      (λ y. late_then (parts_free (level_free Assignment) y) (λ e. late_gives _)))
+  placed_free = late_then (operand_free expression_free (level_free Assignment) Casts) placed_rest_free
+
+  pub nameless_free : Unlimited (nameless_expression ws)
+  unfolding nameless_expression
+  nameless_free = late_then (but_name_free expression_free (λ u. operand_free expression_free (level_free Assignment) u) Casts) placed_rest_free
+
+  pub behind_name_free : (x : ℕ × Place) → Unlimited (expression_behind ws x)
+  unfolding expression_behind
+  behind_name_free x = late_then (behind_variable_free expression_free (level_free Assignment) x) placed_rest_free

@@ -8,7 +8,7 @@ ghost use Rattle.c_model.specs.ExpressionGrammar.{written_length, bracket, brack
 ghost use Rattle.c_model.specs.ExpressionGrammar.{cast_rest, sized_type, paren_rest, behind_paren, prefixed, sized, bump_first, operand_but_name};
 ghost use Rattle.c_model.specs.ExpressionGrammar.{next_argument, arguments, call_rest, behind_variable, operand, joined_once, behind_operand, choice_rest};
 ghost use Rattle.c_model.specs.ExpressionGrammar.{conditional_rest, assigned, behind_unary, behind_form, next_part};
-ghost use Rattle.c_model.specs.ExpressionGrammar.{expression_at, expression, placed_expression};
+ghost use Rattle.c_model.specs.ExpressionGrammar.{expression_at, expression};
 ghost use Rattle.c_expr_parser.specs.Reading.{plain_operand, plain_brackets, more_brackets, right_operand, more_joined, more_arguments, more_parts};
 ghost use Rattle.token_reader.specs.Reading.{Gives, plain_list};
 
@@ -348,7 +348,7 @@ fn bump_first<'a>(
 /// An operand that begins with no name.
 #[tactic(auto, unfolding(c_model::specs::ExpressionGrammar::operand_but_name, c_model::specs::ExpressionGrammar::literal_first))]
 #[cycle(expression)]
-fn operand_but_name<'a>(
+pub fn operand_but_name<'a>(
     alloc: Global,
     words: &[Word],
     type_use: TypeUse,
@@ -462,7 +462,7 @@ fn call_rest<'a>(
 /// A postfix expression that begins with a name.
 #[tactic(auto, unfolding(c_model::specs::ExpressionGrammar::behind_variable))]
 #[cycle(expression)]
-fn behind_variable<'a>(
+pub fn behind_variable<'a>(
     alloc: Global,
     words: &[Word],
     number: u32,
@@ -485,7 +485,7 @@ fn behind_variable<'a>(
 /// A unary expression, or what a type in parentheses begins.
 #[tactic(auto, using(crate::proofs::ExactExpressions::operand_is), unfolding(c_model::specs::ExpressionGrammar::operand_of))]
 #[cycle(expression)]
-fn operand<'a>(
+pub fn operand<'a>(
     alloc: Global,
     words: &[Word],
     type_use: TypeUse,
@@ -679,7 +679,7 @@ fn behind_unary<'a>(
 /// What stands after an operand of the form: after a cast no assignment.
 #[tactic(auto, unfolding(c_model::specs::ExpressionGrammar::behind_form))]
 #[cycle(expression)]
-fn behind_form<'a>(
+pub fn behind_form<'a>(
     alloc: Global,
     words: &[Word],
     form: Form,
@@ -742,7 +742,7 @@ fn next_part<'a>(
 /// The parts of a comma after the left side.
 #[tactic(auto, using(crate::proofs::Steps::parts_rules))]
 #[cycle(expression)]
-fn more_parts<'a>(
+pub fn more_parts<'a>(
     alloc: Global,
     words: &[Word],
     left: Expr,
@@ -774,21 +774,4 @@ pub fn expression<'a>(
 {
     let (left, rest) = expression_at(alloc, words, Level::Assignment, tokens)?;
     more_parts(alloc, words, left, rest)
-}
-
-/// An expression of any length, with the place of its first token.
-#[tactic(auto, unfolding(c_model::specs::ExpressionGrammar::placed_expression, crate::specs::Reading::more_parts))]
-pub fn placed_expression<'a>(
-    alloc: Global,
-    words: &[Word],
-    tokens: &'a [Token],
-) -> Result<(Expr, Place, &'a [Token]), ReadFault>
-    ensures read { Gives (λ x. ((plain_expr x.0, x.1), plain_list x.2.now)) result ((placed_expression words.now).parse (plain_list tokens.now)) }
-    ensures shorter { IfOk result (λ x. length x.2.now < length tokens.now) }
-{
-    let (x, rest) = operand(alloc, words, TypeUse::Casts, tokens)?;
-    let first = x.first;
-    let (left, rest) = behind_form(alloc, words, x.form, x.expression, rest)?;
-    let (e, rest) = more_parts(alloc, words, left, rest)?;
-    Ok((e, first, rest))
 }

@@ -85,8 +85,14 @@ pub const QUESTION_WORD: u32 = 37;
 
 pub const SEPARATED: u32 = 38;
 
+pub const RESULT: u32 = 39;
+
+pub const OLD: u32 = 40;
+
+pub const AT: u32 = 41;
+
 /// The kind of the first punctuator in the list of all; the others follow.
-pub const FIRST_MARK: u32 = 40;
+pub const FIRST_MARK: u32 = 60;
 
 pub const ARROW: u32 = FIRST_MARK + punctuator::ARROW as u32;
 
@@ -183,6 +189,9 @@ fn logic_word_kind(word: LogicWord) -> u32
         LogicWord::Told(_) => FACT,
         LogicWord::Asks(_) => QUESTION_WORD,
         LogicWord::Separated => SEPARATED,
+        LogicWord::Result => RESULT,
+        LogicWord::Old => OLD,
+        LogicWord::At => AT,
     }
 }
 
@@ -193,7 +202,7 @@ pub fn word_kind(word: Word) -> u32
         Word::Keyword(keyword) => keyword_kind(keyword),
         Word::TypeName(_) => TYPE_NAME,
         Word::Logic(word) => logic_word_kind(word),
-        Word::Assert | Word::Integer | Word::Name => NAME,
+        Word::Clause(_) | Word::Integer | Word::Name => NAME,
     }
 }
 

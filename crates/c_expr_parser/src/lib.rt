@@ -18,6 +18,7 @@ pub mod types;
 // Expressions inside others.
 mod expression;
 mod parts;
+mod placed;
 
 // The brackets of declarators.
 pub mod lengths;

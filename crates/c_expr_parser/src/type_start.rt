@@ -42,7 +42,7 @@ fn type_start_of(words: &[Word], number: u32, word: Word) -> Option<TypeStart>
             Some(x) => Some(TypeStart::Integer(x)),
             None => None,
         },
-        Word::Assert | Word::Integer | Word::Logic(_) | Word::Name => None,
+        Word::Clause(_) | Word::Integer | Word::Logic(_) | Word::Name => None,
     }
 }
 

@@ -237,7 +237,7 @@ pub fn named_type(number: u32, name: TypeName) -> BaseType
 {
     match name {
         TypeName::Library(kind) => BaseType::Int(kind),
-        TypeName::Declared | TypeName::DeclaredAssert => BaseType::Named(number),
+        TypeName::Declared | TypeName::DeclaredClause(_) => BaseType::Named(number),
     }
 }
 

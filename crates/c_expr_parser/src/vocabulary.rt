@@ -7,7 +7,7 @@ ghost use Rattle.c_model.specs.declared.vocabulary.LogicWord.TheVariants.{Kept};
 ghost use Rattle.c_model.specs.Terminals.{found_in};
 
 use crate::kinds::word_at;
-use c_model::vocabulary::{Keyword, LogicWord, TypeName, Word};
+use c_model::vocabulary::{ClauseWord, Keyword, LogicWord, TypeName, Word};
 use c_syntax::logic::{BlockFact, MemoryQuestion};
 use c_syntax::{CInt, Name};
 use std::alloc::{AllocError, Global};
@@ -79,8 +79,15 @@ fn other_word(bytes: &[u8], other: Word) -> Word
         &[
             (b"size_t", Word::TypeName(TypeName::Library(CInt::U64))),
             (b"ptrdiff_t", Word::TypeName(TypeName::Library(CInt::I64))),
-            (b"assert", Word::Assert),
+            (b"assert", Word::Clause(ClauseWord::Assert)),
             (b"integer", Word::Integer),
+            (b"requires", Word::Clause(ClauseWord::Requires)),
+            (b"assumes", Word::Clause(ClauseWord::Assumes)),
+            (b"ensures", Word::Clause(ClauseWord::Ensures)),
+            (b"behavior", Word::Clause(ClauseWord::Behavior)),
+            (b"complete", Word::Clause(ClauseWord::Complete)),
+            (b"disjoint", Word::Clause(ClauseWord::Disjoint)),
+            (b"behaviors", Word::Clause(ClauseWord::Behaviors)),
         ],
         bytes,
         other,
@@ -103,6 +110,9 @@ fn logic_word(bytes: &[u8]) -> LogicWord
             (b"valid_read", LogicWord::Asks(MemoryQuestion::ValidRead)),
             (b"initialized", LogicWord::Asks(MemoryQuestion::Initialized)),
             (b"separated", LogicWord::Separated),
+            (b"result", LogicWord::Result),
+            (b"old", LogicWord::Old),
+            (b"at", LogicWord::At),
         ],
         bytes,
         LogicWord::Kept,
@@ -145,7 +155,7 @@ fn declared_word(word: Word) -> Word
     ensures { result ≡ declared_word word }
 {
     match word {
-        Word::Assert => Word::TypeName(TypeName::DeclaredAssert),
+        Word::Clause(word) => Word::TypeName(TypeName::DeclaredClause(word)),
         Word::Keyword(_) | Word::TypeName(_) | Word::Integer | Word::Logic(_) | Word::Name => {
             Word::TypeName(TypeName::Declared)
         }

@@ -1,7 +1,7 @@
 -- Statements of each depth, functions and whole texts are read exactly, so tokens are read in one way at most.
-use Rattle.std.proofs.Common.{◌≡◌, ℕ, zero, suc, ◌-◌, Bool, true, false, cond, eqb, List, [], ◌∷◌, refl, arith}
+use Rattle.std.proofs.Common.{◌≡◌, ℕ, zero, suc, ◌-◌, Bool, true, false, cond, eqb, List, [], ◌∷◌, Option, None, refl, arith}
 use Rattle.std.proofs.lemmas.Bool.{eqb-true}
-use Rattle.grammar.specs.Syntax.{none, among, choice}
+use Rattle.grammar.specs.Syntax.{none, among, choice, deep}
 use Rattle.grammar.specs.Exact.{AtMostOne, IsGood}
 use Rattle.grammar.proofs.Parts.{widen, none_exact}
 use Rattle.grammar.proofs.Productions.{seq, either, again_and_again, declared, given, same, too_deep, recast}
@@ -9,7 +9,7 @@ use Rattle.grammar.proofs.Theorem.{at_most_one}
 use Rattle.c_syntax.specs.declared.place.Place.{Place}
 use Rattle.c_syntax.specs.Ctypes.{PlainType}
 use Rattle.c_syntax.specs.Statements.{Declaration}
-use Rattle.c_syntax.specs.Programs.{StringLiteral}
+use Rattle.c_syntax.specs.Programs.{StringLiteral, FunctionContract}
 use Rattle.c_syntax.specs.Tokens as tokens
 use Rattle.c_syntax.specs.Tokens.{PlainTokenKind, PlainToken}
 use Rattle.c_model.specs.declared.declarations.AnnotationState.{AnnotationState}
@@ -21,13 +21,15 @@ use Rattle.c_model.specs.Punctuators.{assign, semicolon, comma, left_paren, left
 use Rattle.c_model.specs.ExpressionGrammar.{annot_open_kind, mark_kind, token_kind, kind, most_nested}
 use Rattle.c_model.specs.Terminals.{nesting_limit}
 use Rattle.c_model.specs.DeclarationGrammar.{first_spec, Declarator, names_function, ended}
-use Rattle.c_model.specs.ProgramGrammar.{first_statement, first_branch, statement_in, branch_in, FileParts, with_typedef, no_parts, function_rest, function, globals, behind_declarator, declared_at_file, next_typedef, more_typedefs}
-use Rattle.c_model.specs.ProgramGrammar.{typedefs, behind_spec, strays, declared_external, external, any_kind, more_external, unit}
+use Rattle.c_model.specs.ProgramGrammar.{first_statement, first_branch, statement_of, branch_of, statement_in, branch_in, inside_in, FileParts, after_contract, contract_taken, awaiting_nothing, with_typedef, no_parts, function_rest}
+use Rattle.c_model.specs.ProgramGrammar.{function, globals, behind_declarator, declared_at_file, next_typedef, more_typedefs}
+use Rattle.c_model.specs.ProgramGrammar.{typedefs, behind_spec, next_stray, strays, declared_external, external, any_kind, more_external, unit}
 use Rattle.c_expr_parser.proofs.ExactTokens.{IsRead, fixed_good}
 use Rattle.c_expr_parser.proofs.TakenTokens.{word_small}
 use Rattle.c_parser.proofs.Openings.{opens, branch_opens}
 use Rattle.c_declaration_parser.proofs.ExactDeclarations.{first_dtor, more_dtor, ended_good, full_dtor_good, initialised_good, more_declared_good, parameters_good, file_spec_good}
-use Rattle.c_parser.proofs.ExactStatements.{ReadsStatements, ReadsBranches, more_statement, misplaced_good, statement_of_good, branch_of_good, items_good}
+use Rattle.c_parser.proofs.ExactStatements.{ReadsStatements, ReadsBranches, more_statement, statement_of_good, branch_of_good, items_good}
+use Rattle.acsl_parser.proofs.ExactAnnotations.{annotations_good}
 
 module _ (ws : Vocabulary) where
   none_reads : ReadsStatements ws (λ m. none)
@@ -39,34 +41,44 @@ module _ (ws : Vocabulary) where
   record AreGood (d : ℕ) : Type 0 where
     statement : ReadsStatements ws (statement_in ws d)
     branch : ReadsBranches ws (branch_in ws d)
+    inside : ReadsBranches ws (inside_in ws d)
+
+  -- one statement too deep, with an annotation or without
+  deeper : ReadsBranches ws (λ n. deep nesting_limit (kind ws) first_branch (branch_of ws (statement_of ws (λ m. none) (λ m. none) (λ m. none)) (λ m. none) n))
+  deeper k =
+      too_deep nesting_limit first_branch (branch_of_good ws (statement_of_good ws none_reads no_branch no_branch) no_branch k).here (branch_opens ws (λ m. none) (λ m. none) (λ m. none) k)
 
   at_depth : (d : ℕ) → AreGood d
   unfolding statement_in
   at_depth zero = record {
-    statement = λ k. too_deep nesting_limit first_statement (statement_of_good ws none_reads no_branch k).here (opens ws (λ m. none) (λ m. none) k);
-    branch = λ k. too_deep nesting_limit first_branch (branch_of_good ws (statement_of_good ws none_reads no_branch) no_branch k).here (branch_opens ws (λ m. none) (λ m. none) k);
+    statement = λ k. too_deep nesting_limit first_statement (statement_of_good ws none_reads no_branch no_branch k).here (opens ws (λ m. none) (λ m. none) (λ m. none) k);
+    branch = deeper;
+    inside = deeper;
   }
   at_depth (suc d) =
       let h = at_depth d in
-      let each = statement_of_good ws h.statement h.branch in
-      record { statement = each; branch = branch_of_good ws each h.branch }
+      let each = statement_of_good ws h.statement h.inside h.branch in
+      record { statement = each; branch = branch_of_good ws each h.branch; inside = h.branch }
 
   pub statement_good : (d : ℕ) → ReadsStatements ws (statement_in ws d)
   statement_good d = (at_depth d).statement
 
+  pub inside_good : (d : ℕ) → ReadsBranches ws (inside_in ws d)
+  inside_good d = (at_depth d).inside
+
   -- ---- functions and objects
 
-  function_rest_good : (t : PlainType) (f : ℕ × Place) (params : List Declaration) (n : AnnotationState) → IsRead ws (function_rest ws t f params n) false (mark_kind semicolon ∷ mark_kind left_brace ∷ []) []
+  function_rest_good : (t : PlainType) (f : ℕ × Place) (params : List Declaration) (c : Option FunctionContract) (n : AnnotationState) → IsRead ws (function_rest ws t f params c n) false (mark_kind semicolon ∷ mark_kind left_brace ∷ []) []
   unfolding function_rest
-  function_rest_good t f params n =
+  function_rest_good t f params c n =
       declared (either (mark_kind semicolon ∷ []) (seq (fixed_good ws (mark_kind semicolon)) (λ at. given _) refl)
-      (seq (fixed_good ws (mark_kind left_brace)) (λ start. seq (items_good ws (statement_good (most_nested - 1)) ([], n)) (λ x. seq (fixed_good ws (mark_kind right_brace)) (λ close. given _) refl) refl) refl)
+      (seq (fixed_good ws (mark_kind left_brace)) (λ start. seq (items_good ws (statement_good (most_nested - 1)) (inside_good (most_nested - 1)) ([], n)) (λ x. seq (fixed_good ws (mark_kind right_brace)) (λ close. given _) refl) refl) refl)
       refl) refl
 
   function_good : (t : PlainType) (x : FileParts) (d : Declarator) → IsRead ws (function ws t x d) false (mark_kind left_paren ∷ []) []
   unfolding function
   function_good t x d =
-      declared (seq (fixed_good ws (mark_kind left_paren)) (λ _. seq (parameters_good ws) (λ params. seq (function_rest_good _ _ params x.annotations) (λ f. given _) refl) refl) refl) refl
+      declared (seq (fixed_good ws (mark_kind left_paren)) (λ _. seq (parameters_good ws) (λ params. seq (function_rest_good _ _ params (contract_taken x d.name) (after_contract x d.name)) (λ f. given _) refl) refl) refl) refl
 
   -- what stands after the first declarator of objects
   abbrev first_globals : List ℕ
@@ -162,9 +174,14 @@ declared_read : (x : FileParts) → IsRead x.words (declared_external x) false f
 unfolding declared_external
 declared_read x = declared (seq (file_spec_good x.words x.definitions) (λ s. behind_spec_good s.storage s.ctype _) refl) refl
 
+pub next_stray_good : (ws : Vocabulary) (x : AnnotationState × Option FunctionContract) → IsRead ws (next_stray ws x) false (annot_open_kind ∷ []) []
+unfolding next_stray
+next_stray_good ws x = declared (seq (annotations_good ws x.0.number) (λ y. given _) refl) refl
+
 external_read : (x : FileParts) → IsRead x.words (external x) false (annot_open_kind ∷ first_spec) []
 unfolding external strays
-external_read x = declared (seq (again_and_again (annot_open_kind ∷ []) (misplaced_good x.words) refl x.annotations) (λ s. declared_read (record x { annotations = s })) refl) refl
+external_read x =
+    declared (seq (again_and_again (annot_open_kind ∷ []) (next_stray_good x.words) refl (x.annotations, None)) (λ s. seq (declared_read (record x { annotations = s.0; awaiting = s.1 })) (λ y. given (awaiting_nothing y)) refl) refl) refl
 
 -- what each token is among
 abbrev pub any : List ℕ

@@ -1,5 +1,5 @@
 -- Annotations and statements are read exactly.
-use Rattle.std.proofs.Common.{◌≡◌, ℕ, Bool, true, false, cond, List, [], ◌∷◌, ◌++◌, refl, inl, inr}
+use Rattle.std.proofs.Common.{◌≡◌, ℕ, Bool, true, false, cond, List, [], ◌∷◌, ◌++◌, None, Some, refl, inl, inr}
 use Rattle.grammar.specs.Syntax.{gives, ◌then◌, choice}
 use Rattle.grammar.specs.Exact.{IsGood}
 use Rattle.grammar.proofs.Sets.{within, apart}
@@ -8,29 +8,30 @@ use Rattle.grammar.proofs.Bounds.{then_good, same_good}
 use Rattle.grammar.proofs.Productions.{seq, either, again_and_again, declared, given, seq_to, made, either_to, maybe_to}
 use Rattle.c_syntax.specs.declared.place.Place.{Place}
 use Rattle.c_syntax.specs.Expressions.{Expression}
-use Rattle.c_syntax.specs.Statements.{Statement, BlockItem, If, NoElse, Else, While, For, Run}
+use Rattle.c_syntax.specs.Statements.{Statement, BlockItem, If, NoElse, Else, While, For, Labelled, Run}
 use Rattle.c_model.specs.declared.declarations.AnnotationState.{AnnotationState}
 use Rattle.c_model.specs.declared.vocabulary.Keyword.TheVariants as keyword
 use Rattle.c_model.specs.Vocabulary.{Vocabulary}
 use Rattle.c_model.specs.Punctuators.{semicolon, colon, left_paren, right_paren, left_brace, right_brace}
-use Rattle.c_model.specs.ExpressionGrammar.{annot_open_kind, keyword_kind, mark_kind, kind, first_type, first_expression}
+use Rattle.c_model.specs.ExpressionGrammar.{name_kind, annot_open_kind, keyword_kind, mark_kind, kind, first_type, first_expression}
 use Rattle.c_model.specs.declared.operands.Level.TheVariants.{Conditional}
+use Rattle.c_model.specs.ClauseGrammar.{ReadAnnotation}
 use Rattle.c_model.specs.ProgramGrammar.{first_statement, first_branch, first_item, first_case, is_open, Numbered, ReadCase}
 use Rattle.c_model.specs.ProgramGrammar.{valued_case, default_case, case_label, case_item, case_items_once, case_items, next_case, cases, switch_statement}
-use Rattle.c_model.specs.ProgramGrammar.{misplaced, placed_annotation, condition, else_branch, else_part, selection, while_loop, do_loop, for_first, maybe_ended, returned, for_behind, for_loop, jump}
-use Rattle.c_model.specs.ProgramGrammar.{return_statement, item, items_once, items, block, empty_statement, effect_statement, statement_of, branch_of}
-use Rattle.c_expr_parser.proofs.ExactTokens.{IsRead, fixed_good}
+use Rattle.c_model.specs.ProgramGrammar.{misplaced, run_item, behind_annotation, annotated_item, condition, else_branch, else_part, selection, while_loop, do_loop, for_first, maybe_ended, returned, for_behind, for_loop, jump}
+use Rattle.c_model.specs.ProgramGrammar.{return_statement, item, items_once, items, block, empty_statement, effect_statement, effect_behind, labelled_statement, named_statement, statement_of, branch_of}
+use Rattle.c_expr_parser.proofs.ExactTokens.{IsRead, fixed_good, name_good}
 use Rattle.c_expr_parser.proofs.ExactTypes.{enlarged}
 use Rattle.acsl_parser.proofs.ExactAnnotations.{annotations_good}
 use Rattle.c_declaration_parser.proofs.ExactDeclarations.{ended_good, declaration_good}
-use Rattle.c_expr_parser.proofs.ExactExpressions.{closed_good, full_expression_good, full_placed_good, full_level_good}
+use Rattle.c_expr_parser.proofs.ExactExpressions.{first_but_name, more_operand, placed_rest_kinds, closed_good, full_expression_good, full_placed_good, full_nameless_good, full_behind_name_good, full_level_good}
+
+-- what stands behind a name with which `comma ";"` begins
+abbrev behind_first_name : List ℕ
+behind_first_name = more_operand ++ placed_rest_kinds ++ mark_kind semicolon ∷ []
 
 module _ (ws : Vocabulary) where
   -- ---- annotations
-
-  placed_good : (n : AnnotationState) → IsRead ws (placed_annotation ws n) false (annot_open_kind ∷ []) []
-  unfolding placed_annotation
-  placed_good n = declared (seq (annotations_good ws n.number) (λ x. given _) refl) refl
 
   pub misplaced_good : (n : AnnotationState) → IsRead ws (misplaced ws n) false (annot_open_kind ∷ []) []
   unfolding misplaced
@@ -74,9 +75,13 @@ module _ (ws : Vocabulary) where
   unfolding empty_statement
   empty_good n = declared (seq (fixed_good ws (mark_kind semicolon)) (λ at. given _) refl) refl
 
-  effect_good : (n : AnnotationState) → IsRead ws (effect_statement ws n) false first_expression []
+  effect_good : (n : AnnotationState) → IsRead ws (effect_statement ws n) false first_but_name []
   unfolding effect_statement
-  effect_good n = declared (seq (full_placed_good ws) (λ e. ended_good ws _) refl) refl
+  effect_good n = declared (seq (full_nameless_good ws) (λ e. ended_good ws _) refl) refl
+
+  effect_behind_good : (x : ℕ × Place) (n : AnnotationState) → IsRead ws (effect_behind ws x n) false behind_first_name []
+  unfolding effect_behind
+  effect_behind_good x n = declared (seq (full_behind_name_good ws x) (λ e. ended_good ws _) refl) refl
 
 -- ---- an `if` without `else` at the end can go on with `else`
 
@@ -115,22 +120,38 @@ ReadsStatements ws T = (k : AnnotationState) → IsGood (kind ws) 0 (T k) (T k) 
 abbrev pub ReadsBranches : Vocabulary → Numbered → Type 0
 ReadsBranches ws S = (k : AnnotationState) → IsGood (kind ws) 0 (S k) (S k) false first_branch more_statement
 
-module _ (ws : Vocabulary) {T : Numbered} (t : ReadsStatements ws T) where
-  item_good : (k : AnnotationState) → IsRead ws (item ws T k) false first_item an_else
+module _ (ws : Vocabulary) where
+  -- a statement of either sort as an item
+  run_good : (T : Numbered) (first : List ℕ) (k : AnnotationState) → IsGood (kind ws) 0 (T k) (T k) false first more_statement → IsRead ws (run_item ws T k) false first an_else
+  unfolding run_item
+  run_good T first k t = made {more = λ _. an_else} (λ x. (Run x.0, x.1)) t (λ x. within_else (is_open x.0))
+
+module _ (ws : Vocabulary) {B : Numbered} (b : ReadsBranches ws B) where
+  behind_good : (k : AnnotationState) (x : ReadAnnotation × ℕ) → IsRead ws (behind_annotation ws B k x) true first_branch an_else
+  unfolding behind_annotation
+  behind_good k ((a, None), n) = declared (given _) refl
+  behind_good k ((a, Some c), n) = declared (run_good ws B first_branch _ (b _)) refl
+
+  annotated_good : (k : AnnotationState) → IsRead ws (annotated_item ws B k) false (annot_open_kind ∷ []) an_else
+  unfolding annotated_item
+  annotated_good k = declared (seq (annotations_good ws k.number) (behind_good k) refl) refl
+
+module _ (ws : Vocabulary) {T B : Numbered} (t : ReadsStatements ws T) (b : ReadsBranches ws B) where
+  item_good : (k : AnnotationState) → IsRead ws (item ws T B k) false first_item an_else
   unfolding item
   item_good k =
-      declared (either (annot_open_kind ∷ []) (placed_good ws k)
-      (either first_type (seq (declaration_good ws) (λ i. given _) refl) (made {more = λ _. an_else} (λ x. (Run x.0, x.1)) (t k) (λ x. within_else (is_open x.0))) refl) refl) refl
+      declared (either (annot_open_kind ∷ []) (annotated_good ws b k)
+      (either first_type (seq (declaration_good ws) (λ i. given _) refl) (run_good ws T first_statement k (t k)) refl) refl) refl
 
-  pub items_once_good : (x : List BlockItem × AnnotationState) → IsRead ws (items_once ws T x) false first_item an_else
+  pub items_once_good : (x : List BlockItem × AnnotationState) → IsRead ws (items_once ws T B x) false first_item an_else
   unfolding items_once
   items_once_good x = declared (seq (item_good x.1) (λ i. given _) refl) refl
 
-  pub items_good : (x : List BlockItem × AnnotationState) → IsRead ws (items ws T x) true first_item (keyword_kind keyword.Else ∷ first_item)
+  pub items_good : (x : List BlockItem × AnnotationState) → IsRead ws (items ws T B x) true first_item (keyword_kind keyword.Else ∷ first_item)
   unfolding items
   items_good x = declared (again_and_again first_item items_once_good refl x) refl
 
-  block_good : (k : AnnotationState) → IsRead ws (block ws T k) false (mark_kind left_brace ∷ []) []
+  block_good : (k : AnnotationState) → IsRead ws (block ws T B k) false (mark_kind left_brace ∷ []) []
   unfolding block
   block_good k = declared (seq (fixed_good ws (mark_kind left_brace)) (λ at. seq (items_good ([], k)) (λ x. seq (fixed_good ws (mark_kind right_brace)) (λ _. given _) refl) refl) refl) refl
 
@@ -150,28 +171,28 @@ module _ (ws : Vocabulary) where
   unfolding case_label
   case_label_good = declared (either (keyword_kind keyword.Case ∷ []) valued_case_good default_case_good refl) refl
 
-module _ (ws : Vocabulary) {T : Numbered} (t : ReadsStatements ws T) where
-  case_item_good : (k : AnnotationState) → IsRead ws (case_item ws T k) false first_branch an_else
+module _ (ws : Vocabulary) {T B : Numbered} (t : ReadsStatements ws T) (b : ReadsBranches ws B) where
+  case_item_good : (k : AnnotationState) → IsRead ws (case_item ws T B k) false first_branch an_else
   unfolding case_item
-  case_item_good k = declared (either (annot_open_kind ∷ []) (placed_good ws k) (made {more = λ _. an_else} (λ x. (Run x.0, x.1)) (t k) (λ x. within_else (is_open x.0))) refl) refl
+  case_item_good k = declared (either (annot_open_kind ∷ []) (annotated_good ws b k) (run_good ws T first_statement k (t k)) refl) refl
 
-  pub case_items_once_good : (x : List BlockItem × AnnotationState) → IsRead ws (case_items_once ws T x) false first_branch an_else
+  pub case_items_once_good : (x : List BlockItem × AnnotationState) → IsRead ws (case_items_once ws T B x) false first_branch an_else
   unfolding case_items_once
   case_items_once_good x = declared (seq (case_item_good x.1) (λ i. given _) refl) refl
 
-  case_items_good : (x : List BlockItem × AnnotationState) → IsRead ws (case_items ws T x) true first_branch (keyword_kind keyword.Else ∷ first_branch)
+  case_items_good : (x : List BlockItem × AnnotationState) → IsRead ws (case_items ws T B x) true first_branch (keyword_kind keyword.Else ∷ first_branch)
   unfolding case_items
   case_items_good x = declared (again_and_again first_branch case_items_once_good refl x) refl
 
-  pub next_case_good : (x : List ReadCase × AnnotationState) → IsRead ws (next_case ws T x) false first_case (keyword_kind keyword.Else ∷ first_branch)
+  pub next_case_good : (x : List ReadCase × AnnotationState) → IsRead ws (next_case ws T B x) false first_case (keyword_kind keyword.Else ∷ first_branch)
   unfolding next_case
   next_case_good x = declared (seq (case_label_good ws) (λ l. seq (case_items_good ([], x.1)) (λ y. given _) refl) refl) refl
 
-  cases_good : (x : List ReadCase × AnnotationState) → IsRead ws (cases ws T x) true first_case (keyword_kind keyword.Else ∷ first_case ++ first_branch)
+  cases_good : (x : List ReadCase × AnnotationState) → IsRead ws (cases ws T B x) true first_case (keyword_kind keyword.Else ∷ first_case ++ first_branch)
   unfolding cases
   cases_good x = declared (again_and_again first_case next_case_good refl x) refl
 
-  switch_good : (k : AnnotationState) → IsRead ws (switch_statement ws T k) false (keyword_kind keyword.Switch ∷ []) []
+  switch_good : (k : AnnotationState) → IsRead ws (switch_statement ws T B k) false (keyword_kind keyword.Switch ∷ []) []
   unfolding switch_statement
   switch_good k =
       declared (seq (fixed_good ws (keyword_kind keyword.Switch)) (λ at. seq (condition_good ws) (λ e. seq (fixed_good ws (mark_kind left_brace)) (λ _. seq (cases_good ([], k)) (λ x.
@@ -229,6 +250,16 @@ module _ (ws : Vocabulary) {S : Numbered} (s : ReadsBranches ws S) where
       seq_to (fixed_good ws (keyword_kind keyword.For)) (λ at. seq_to (fixed_good ws (mark_kind left_paren)) (λ _. seq_to (for_first_good ws k) (λ first.
       seq_to (maybe_ended_good ws) (λ e. seq_to (for_behind_good ws) (λ behind. made (λ x. (For at [] first.0 e behind x.0, x.1)) (s first.1) (λ x. within_same (is_open x.0))) refl) refl) refl) refl) refl
 
+  labelled_good : (x : ℕ × Place) (k : AnnotationState) → IsGood (kind ws) 0 (labelled_statement ws S x k) (labelled_statement ws S x k) false (mark_kind colon ∷ []) more_statement
+  unfolding labelled_statement
+  labelled_good x k = seq_to (fixed_good ws (mark_kind colon)) (λ _. made (λ y. (Labelled x.1 x.0 y.0, y.1)) (s k) (λ y. within_same (is_open y.0))) refl
+
+  named_good : (k : AnnotationState) → IsGood (kind ws) 0 (named_statement ws S k) (named_statement ws S k) false (name_kind ∷ []) more_statement
+  unfolding named_statement
+  named_good k =
+      seq_to (name_good ws) (λ x. either_to (mark_kind colon ∷ []) {first = mark_kind colon ∷ behind_first_name} {more = more_statement} (labelled_good x k) (effect_behind_good ws x k)
+      refl (λ y. within_same (is_open y.0)) (λ y. refl)) refl
+
 abbrev jumps : List ℕ
 jumps = keyword_kind keyword.Break ∷ keyword_kind keyword.Continue ∷ []
 
@@ -236,19 +267,21 @@ jumps = keyword_kind keyword.Break ∷ keyword_kind keyword.Continue ∷ []
 abbrev behind_loops : List ℕ
 behind_loops = keyword_kind keyword.Switch ∷ keyword_kind keyword.Return ∷ jumps ++ first_expression
 
-module _ (ws : Vocabulary) {T S : Numbered} (t : ReadsStatements ws T) (s : ReadsBranches ws S) where
-  pub statement_of_good : (k : AnnotationState) → IsGood (kind ws) 0 (statement_of ws T S k) (statement_of ws T S k) false first_statement more_statement
+module _ (ws : Vocabulary) {T B S : Numbered} (t : ReadsStatements ws T) (b : ReadsBranches ws B) (s : ReadsBranches ws S) where
+  pub statement_of_good : (k : AnnotationState) → IsGood (kind ws) 0 (statement_of ws T B S k) (statement_of ws T B S k) false first_statement more_statement
   unfolding statement_of
   statement_of_good k =
-      either_to (mark_kind left_brace ∷ []) (block_good ws t k)
+      either_to (mark_kind left_brace ∷ []) (block_good ws t b k)
       (either_to (mark_kind semicolon ∷ []) {first = mark_kind semicolon ∷ keyword_kind keyword.If ∷ keyword_kind keyword.While ∷ keyword_kind keyword.Do ∷ keyword_kind keyword.For ∷ behind_loops} (empty_good ws k)
       (either_to (keyword_kind keyword.If ∷ []) {first = keyword_kind keyword.If ∷ keyword_kind keyword.While ∷ keyword_kind keyword.Do ∷ keyword_kind keyword.For ∷ behind_loops} (selection_good ws s k)
       (either_to (keyword_kind keyword.While ∷ []) {first = keyword_kind keyword.While ∷ keyword_kind keyword.Do ∷ keyword_kind keyword.For ∷ behind_loops} (while_good ws s k)
       (either_to (keyword_kind keyword.Do ∷ []) {first = keyword_kind keyword.Do ∷ keyword_kind keyword.For ∷ behind_loops} (do_good ws s k)
       (either_to (keyword_kind keyword.For ∷ []) {first = keyword_kind keyword.For ∷ behind_loops} (for_good ws s k)
-      (either_to (keyword_kind keyword.Switch ∷ []) {first = behind_loops} (switch_good ws t k)
+      (either_to (keyword_kind keyword.Switch ∷ []) {first = behind_loops} (switch_good ws t b k)
       (either_to (keyword_kind keyword.Return ∷ []) {first = keyword_kind keyword.Return ∷ jumps ++ first_expression} (return_good ws k)
-      (either_to jumps {first = jumps ++ first_expression} {more = more_statement} (jump_good ws k) (effect_good ws k) refl (λ x. refl) (λ x. refl))
+      (either_to jumps {first = jumps ++ first_expression} {more = more_statement} (jump_good ws k)
+      (either_to (name_kind ∷ []) {first = first_expression} {more = more_statement} (named_good ws s k) (effect_good ws k) refl (λ x. within_same (is_open x.0)) (λ x. refl))
+      refl (λ x. refl) (λ x. within_same (is_open x.0)))
       refl (λ x. refl) (λ x. within_same (is_open x.0)))
       refl (λ x. refl) (λ x. within_same (is_open x.0)))
       refl (λ x. within_same (is_open x.0)) (λ x. within_same (is_open x.0)))
@@ -258,6 +291,7 @@ module _ (ws : Vocabulary) {T S : Numbered} (t : ReadsStatements ws T) (s : Read
       refl (λ x. refl) (λ x. within_same (is_open x.0)))
       refl (λ x. refl) (λ x. within_same (is_open x.0))
 
+module _ (ws : Vocabulary) {T S : Numbered} (t : ReadsStatements ws T) (s : ReadsBranches ws S) where
   pub branch_of_good : (k : AnnotationState) → IsGood (kind ws) 0 (branch_of ws T S k) (branch_of ws T S k) false first_branch more_statement
   unfolding branch_of
   branch_of_good k =

@@ -4,6 +4,7 @@ pub mod ExactStatements
 pub mod ExactPrograms
 -- what a production gives, step by step
 pub mod Rows
+pub mod Contracted
 pub mod FirstItems
 pub mod Steps
 pub mod FileSteps

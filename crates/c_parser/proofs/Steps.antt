@@ -9,18 +9,18 @@ use Rattle.c_model.specs.declared.declarations.AnnotationState.{AnnotationState}
 use Rattle.c_model.specs.Vocabulary.{Vocabulary}
 use Rattle.c_model.specs.ExpressionGrammar.{kind}
 use Rattle.c_model.specs.Terminals.{nesting_limit}
-use Rattle.c_model.specs.ProgramGrammar.{first_statement, first_branch, first_item, first_case, ReadCase, items_once, items, case_items_once, case_items, next_case, cases, statement_of, branch_of, statement_in, branch_in}
+use Rattle.c_model.specs.ProgramGrammar.{first_statement, first_branch, first_item, first_case, ReadCase, items_once, items, case_items_once, case_items, next_case, cases, statement_of, branch_of, statement_in, branch_in, inside_in}
 use Rattle.c_syntax.specs.declared.fault.ReadFault.{ReadFault}
 use Rattle.token_reader.specs.Reading.{plain_list, Fails}
 use Rattle.token_reader.proofs.Faults.{again}
 use Rattle.c_parser.proofs.ExactStatements.{items_once_good, case_items_once_good, next_case_good}
 use Rattle.token_reader.proofs.Shorter.{shorter}
-use Rattle.c_parser.proofs.ExactPrograms.{statement_good}
+use Rattle.c_parser.proofs.ExactPrograms.{statement_good, inside_good}
 
 -- ---- limits
 
 module _ (ws : Vocabulary) where
-  pub statement_is : (d : ℕ) (n : AnnotationState) (ts : List PlainToken) → 0 < d → (statement_in ws d n).parse ts ≡ (statement_of ws (statement_in ws (d - 1)) (branch_in ws (d - 1)) n).parse ts
+  pub statement_is : (d : ℕ) (n : AnnotationState) (ts : List PlainToken) → 0 < d → (statement_in ws d n).parse ts ≡ (statement_of ws (statement_in ws (d - 1)) (inside_in ws (d - 1)) (branch_in ws (d - 1)) n).parse ts
   unfolding statement_in
   statement_is zero n ts h = absurd (omega arith)
   statement_is (suc d) n ts h = let e : suc d - 1 ≡ d = omega arith in rw e refl
@@ -50,60 +50,78 @@ module _ (ws : Vocabulary) where
   branch_at zero n ts h s = rw s refl
   branch_at (suc d) n ts h s = absurd (omega arith)
 
+  -- what stands inside a statement of that depth, where an annotation begins it
+  pub inside_is : (d : ℕ) (n : AnnotationState) (ts : List PlainToken) → 0 < d → (inside_in ws d n).parse ts ≡ (branch_in ws (d - 1) n).parse ts
+  unfolding statement_in
+  inside_is zero n ts h = absurd (omega arith)
+  inside_is (suc d) n ts h = let e : suc d - 1 ≡ d = omega arith in rw e refl
+
+  pub inside_over : (d : ℕ) (n : AnnotationState) (ts : List PlainToken) → d ≡ 0 → sees (kind ws) first_branch ts ≡ true → (inside_in ws d n).parse ts ≡ Err (Over nesting_limit (length ts))
+  unfolding statement_in
+  inside_over zero n ts h s = rw s refl
+  inside_over (suc d) n ts h s = absurd (omega arith)
+
+  pub inside_at : (d : ℕ) (n : AnnotationState) (ts : List PlainToken) → d ≡ 0 → sees (kind ws) first_branch ts ≡ false → (inside_in ws d n).parse ts ≡ Err (At (length ts))
+  unfolding statement_in
+  inside_at zero n ts h s = rw s refl
+  inside_at (suc d) n ts h s = absurd (omega arith)
+
 -- ---- a turn of a repetition: one more, a fault, and none
 
 module _ (ws : Vocabulary) where
   module _ (d : ℕ) where
-    pub items_turn : (x y : List BlockItem × AnnotationState) (ts rest : List PlainToken) → sees (kind ws) first_item ts ≡ true → (items_once ws (statement_in ws d) x).parse ts ≡ Ok (y, rest)
-        → (items ws (statement_in ws d) x).parse ts ≡ (items ws (statement_in ws d) y).parse rest
+    pub items_turn : (x y : List BlockItem × AnnotationState) (ts rest : List PlainToken) → sees (kind ws) first_item ts ≡ true → (items_once ws (statement_in ws d) (inside_in ws d) x).parse ts ≡ Ok (y, rest)
+        → (items ws (statement_in ws d) (inside_in ws d) x).parse ts ≡ (items ws (statement_in ws d) (inside_in ws d) y).parse rest
     unfolding items
-    items_turn x y ts rest s e = turn first_item (items_once ws (statement_in ws d)) (λ z. (items_once_good ws (statement_good ws d) z).here) refl x y ts rest s e
+    items_turn x y ts rest s e = turn first_item (items_once ws (statement_in ws d) (inside_in ws d)) (λ z. (items_once_good ws (statement_good ws d) (inside_good ws d) z).here) refl x y ts rest s e
 
-    pub items_fails : (x : List BlockItem × AnnotationState) (ts : List PlainToken) (e : ReadFault) → sees (kind ws) first_item ts ≡ true → Fails e ((items_once ws (statement_in ws d) x).parse ts) → Fails e ((items ws (statement_in ws d) x).parse ts)
+    pub items_fails : (x : List BlockItem × AnnotationState) (ts : List PlainToken) (e : ReadFault) → sees (kind ws) first_item ts ≡ true → Fails e ((items_once ws (statement_in ws d) (inside_in ws d) x).parse ts)
+        → Fails e ((items ws (statement_in ws d) (inside_in ws d) x).parse ts)
     unfolding items
-    items_fails x ts e s = again e (λ f. turn_fails first_item (items_once ws (statement_in ws d)) (λ z. (items_once_good ws (statement_good ws d) z).here) refl x ts f s)
+    items_fails x ts e s = again e (λ f. turn_fails first_item (items_once ws (statement_in ws d) (inside_in ws d)) (λ z. (items_once_good ws (statement_good ws d) (inside_good ws d) z).here) refl x ts f s)
 
-    pub items_ends : (x : List BlockItem × AnnotationState) (ts : List PlainToken) → sees (kind ws) first_item ts ≡ false → (items ws (statement_in ws d) x).parse ts ≡ Ok (x, ts)
+    pub items_ends : (x : List BlockItem × AnnotationState) (ts : List PlainToken) → sees (kind ws) first_item ts ≡ false → (items ws (statement_in ws d) (inside_in ws d) x).parse ts ≡ Ok (x, ts)
     unfolding items
-    items_ends x ts s = turn_ends first_item (items_once ws (statement_in ws d)) (λ z. (items_once_good ws (statement_good ws d) z).here) refl x ts s
+    items_ends x ts s = turn_ends first_item (items_once ws (statement_in ws d) (inside_in ws d)) (λ z. (items_once_good ws (statement_good ws d) (inside_good ws d) z).here) refl x ts s
 
-    pub items_shorter : (x y : List BlockItem × AnnotationState) (ts rest : List Token) → (items_once ws (statement_in ws d) x).parse (plain_list ts) ≡ Ok (y, plain_list rest) → length rest < length ts
-    items_shorter x y ts rest e = shorter (items_once ws (statement_in ws d) x) (items_once_good ws (statement_good ws d) x).here ts rest y e
+    pub items_shorter : (x y : List BlockItem × AnnotationState) (ts rest : List Token) → (items_once ws (statement_in ws d) (inside_in ws d) x).parse (plain_list ts) ≡ Ok (y, plain_list rest) → length rest < length ts
+    items_shorter x y ts rest e = shorter (items_once ws (statement_in ws d) (inside_in ws d) x) (items_once_good ws (statement_good ws d) (inside_good ws d) x).here ts rest y e
 
     -- ---- `switch`
 
-    pub case_items_turn : (x y : List BlockItem × AnnotationState) (ts rest : List PlainToken) → sees (kind ws) first_branch ts ≡ true → (case_items_once ws (statement_in ws d) x).parse ts ≡ Ok (y, rest)
-        → (case_items ws (statement_in ws d) x).parse ts ≡ (case_items ws (statement_in ws d) y).parse rest
+    pub case_items_turn : (x y : List BlockItem × AnnotationState) (ts rest : List PlainToken) → sees (kind ws) first_branch ts ≡ true → (case_items_once ws (statement_in ws d) (inside_in ws d) x).parse ts ≡ Ok (y, rest)
+        → (case_items ws (statement_in ws d) (inside_in ws d) x).parse ts ≡ (case_items ws (statement_in ws d) (inside_in ws d) y).parse rest
     unfolding case_items
-    case_items_turn x y ts rest s e = turn first_branch (case_items_once ws (statement_in ws d)) (λ z. (case_items_once_good ws (statement_good ws d) z).here) refl x y ts rest s e
+    case_items_turn x y ts rest s e = turn first_branch (case_items_once ws (statement_in ws d) (inside_in ws d)) (λ z. (case_items_once_good ws (statement_good ws d) (inside_good ws d) z).here) refl x y ts rest s e
 
-    pub case_items_fails : (x : List BlockItem × AnnotationState) (ts : List PlainToken) (e : ReadFault) → sees (kind ws) first_branch ts ≡ true → Fails e ((case_items_once ws (statement_in ws d) x).parse ts)
-        → Fails e ((case_items ws (statement_in ws d) x).parse ts)
+    pub case_items_fails : (x : List BlockItem × AnnotationState) (ts : List PlainToken) (e : ReadFault) → sees (kind ws) first_branch ts ≡ true → Fails e ((case_items_once ws (statement_in ws d) (inside_in ws d) x).parse ts)
+        → Fails e ((case_items ws (statement_in ws d) (inside_in ws d) x).parse ts)
     unfolding case_items
-    case_items_fails x ts e s = again e (λ f. turn_fails first_branch (case_items_once ws (statement_in ws d)) (λ z. (case_items_once_good ws (statement_good ws d) z).here) refl x ts f s)
+    case_items_fails x ts e s = again e (λ f. turn_fails first_branch (case_items_once ws (statement_in ws d) (inside_in ws d)) (λ z. (case_items_once_good ws (statement_good ws d) (inside_good ws d) z).here) refl x ts f s)
 
-    pub case_items_ends : (x : List BlockItem × AnnotationState) (ts : List PlainToken) → sees (kind ws) first_branch ts ≡ false → (case_items ws (statement_in ws d) x).parse ts ≡ Ok (x, ts)
+    pub case_items_ends : (x : List BlockItem × AnnotationState) (ts : List PlainToken) → sees (kind ws) first_branch ts ≡ false → (case_items ws (statement_in ws d) (inside_in ws d) x).parse ts ≡ Ok (x, ts)
     unfolding case_items
-    case_items_ends x ts s = turn_ends first_branch (case_items_once ws (statement_in ws d)) (λ z. (case_items_once_good ws (statement_good ws d) z).here) refl x ts s
+    case_items_ends x ts s = turn_ends first_branch (case_items_once ws (statement_in ws d) (inside_in ws d)) (λ z. (case_items_once_good ws (statement_good ws d) (inside_good ws d) z).here) refl x ts s
 
-    pub case_items_shorter : (x y : List BlockItem × AnnotationState) (ts rest : List Token) → (case_items_once ws (statement_in ws d) x).parse (plain_list ts) ≡ Ok (y, plain_list rest) → length rest < length ts
-    case_items_shorter x y ts rest e = shorter (case_items_once ws (statement_in ws d) x) (case_items_once_good ws (statement_good ws d) x).here ts rest y e
+    pub case_items_shorter : (x y : List BlockItem × AnnotationState) (ts rest : List Token) → (case_items_once ws (statement_in ws d) (inside_in ws d) x).parse (plain_list ts) ≡ Ok (y, plain_list rest) → length rest < length ts
+    case_items_shorter x y ts rest e = shorter (case_items_once ws (statement_in ws d) (inside_in ws d) x) (case_items_once_good ws (statement_good ws d) (inside_good ws d) x).here ts rest y e
 
-    pub cases_turn : (x y : List ReadCase × AnnotationState) (ts rest : List PlainToken) → sees (kind ws) first_case ts ≡ true → (next_case ws (statement_in ws d) x).parse ts ≡ Ok (y, rest)
-        → (cases ws (statement_in ws d) x).parse ts ≡ (cases ws (statement_in ws d) y).parse rest
+    pub cases_turn : (x y : List ReadCase × AnnotationState) (ts rest : List PlainToken) → sees (kind ws) first_case ts ≡ true → (next_case ws (statement_in ws d) (inside_in ws d) x).parse ts ≡ Ok (y, rest)
+        → (cases ws (statement_in ws d) (inside_in ws d) x).parse ts ≡ (cases ws (statement_in ws d) (inside_in ws d) y).parse rest
     unfolding cases
-    cases_turn x y ts rest s e = turn first_case (next_case ws (statement_in ws d)) (λ z. (next_case_good ws (statement_good ws d) z).here) refl x y ts rest s e
+    cases_turn x y ts rest s e = turn first_case (next_case ws (statement_in ws d) (inside_in ws d)) (λ z. (next_case_good ws (statement_good ws d) (inside_good ws d) z).here) refl x y ts rest s e
 
-    pub cases_fails : (x : List ReadCase × AnnotationState) (ts : List PlainToken) (e : ReadFault) → sees (kind ws) first_case ts ≡ true → Fails e ((next_case ws (statement_in ws d) x).parse ts) → Fails e ((cases ws (statement_in ws d) x).parse ts)
+    pub cases_fails : (x : List ReadCase × AnnotationState) (ts : List PlainToken) (e : ReadFault) → sees (kind ws) first_case ts ≡ true → Fails e ((next_case ws (statement_in ws d) (inside_in ws d) x).parse ts)
+        → Fails e ((cases ws (statement_in ws d) (inside_in ws d) x).parse ts)
     unfolding cases
-    cases_fails x ts e s = again e (λ f. turn_fails first_case (next_case ws (statement_in ws d)) (λ z. (next_case_good ws (statement_good ws d) z).here) refl x ts f s)
+    cases_fails x ts e s = again e (λ f. turn_fails first_case (next_case ws (statement_in ws d) (inside_in ws d)) (λ z. (next_case_good ws (statement_good ws d) (inside_good ws d) z).here) refl x ts f s)
 
-    pub cases_ends : (x : List ReadCase × AnnotationState) (ts : List PlainToken) → sees (kind ws) first_case ts ≡ false → (cases ws (statement_in ws d) x).parse ts ≡ Ok (x, ts)
+    pub cases_ends : (x : List ReadCase × AnnotationState) (ts : List PlainToken) → sees (kind ws) first_case ts ≡ false → (cases ws (statement_in ws d) (inside_in ws d) x).parse ts ≡ Ok (x, ts)
     unfolding cases
-    cases_ends x ts s = turn_ends first_case (next_case ws (statement_in ws d)) (λ z. (next_case_good ws (statement_good ws d) z).here) refl x ts s
+    cases_ends x ts s = turn_ends first_case (next_case ws (statement_in ws d) (inside_in ws d)) (λ z. (next_case_good ws (statement_good ws d) (inside_good ws d) z).here) refl x ts s
 
-    pub cases_shorter : (x y : List ReadCase × AnnotationState) (ts rest : List Token) → (next_case ws (statement_in ws d) x).parse (plain_list ts) ≡ Ok (y, plain_list rest) → length rest < length ts
-    cases_shorter x y ts rest e = shorter (next_case ws (statement_in ws d) x) (next_case_good ws (statement_good ws d) x).here ts rest y e
+    pub cases_shorter : (x y : List ReadCase × AnnotationState) (ts rest : List Token) → (next_case ws (statement_in ws d) (inside_in ws d) x).parse (plain_list ts) ≡ Ok (y, plain_list rest) → length rest < length ts
+    cases_shorter x y ts rest e = shorter (next_case ws (statement_in ws d) (inside_in ws d) x) (next_case_good ws (statement_good ws d) (inside_good ws d) x).here ts rest y e
 
 -- ---- what the code of each production cites
 
@@ -116,3 +134,5 @@ pub ruleset items_rules = (items_turn, items_fails, items_ends, items_shorter)
 pub ruleset statement_rules = (statement_is, statement_over, statement_at)
 
 pub ruleset branch_rules = (branch_is, branch_over, branch_at)
+
+pub ruleset inside_rules = (inside_is, inside_over, inside_at)

@@ -1,2 +1,3 @@
+pub mod Contracted
 pub mod Reading
 pub mod Answers

@@ -8,20 +8,20 @@ use Rattle.c_syntax.specs.Tokens.{PlainToken}
 use Rattle.c_syntax.specs.declared.statement.Item.{Item}
 use Rattle.c_syntax.specs.declared.statement.Case as code_case
 use Rattle.c_syntax.specs.Expressions.{Expression, plain_expr}
-use Rattle.c_syntax.specs.Statements.{Statement, Block, Do, For, Break, Continue, ForFirst, NoFirst, First, plain_decl, plain_item, plain_stmt}
-use Rattle.c_syntax.specs.Programs.{Function, plain_func}
+use Rattle.c_syntax.specs.Statements.{Statement, Block, Do, Eval, For, Break, Continue, ForFirst, NoFirst, First, plain_decl, plain_item, plain_stmt}
+use Rattle.c_syntax.specs.Programs.{Function, FunctionContract, plain_contract, plain_func}
 use Rattle.c_model.specs.declared.declarations.AnnotationState.{AnnotationState}
-use Rattle.c_model.specs.declared.operands.Stars.{Stars}
 use Rattle.c_model.specs.Vocabulary.{Vocabulary}
 use Rattle.c_model.specs.declared.vocabulary.Keyword.TheVariants as keyword
 use Rattle.c_parser.specs.declared.loops.ForHeading as code_heading
 use Rattle.c_parser.specs.declared.function.Body.{Body}
 use Rattle.c_parser.specs.declared.program.FileParts as code_parts
 use Rattle.c_model.specs.Punctuators.{comma, left_paren, left_brace, right_brace}
-use Rattle.c_model.specs.ExpressionGrammar.{kind, mark, reserved, mark_kind, most_nested, pointers}
-use Rattle.c_model.specs.DeclarationGrammar.{parameters}
-use Rattle.c_model.specs.ProgramGrammar.{FileParts, Numbered, ReadCase, block_items}
-use Rattle.c_model.specs.ProgramGrammar.{for_first, maybe_ended, for_behind, items, statement_in, function_rest, next_typedef}
+use Rattle.c_model.specs.ExpressionGrammar.{annot_open_kind, kind, mark, reserved, mark_kind, most_nested, pointers, full_placed_expression}
+use Rattle.c_model.specs.DeclarationGrammar.{Declarator, parameters}
+use Rattle.c_model.specs.ClauseGrammar.{ReadAnnotation}
+use Rattle.c_model.specs.ProgramGrammar.{FileParts, Numbered, ReadCase, block_items, first_misplaced, after_placed, after_misplaced}
+use Rattle.c_model.specs.ProgramGrammar.{for_first, maybe_ended, for_behind, items, statement_in, inside_in, function_rest, next_typedef, next_stray}
 use Rattle.c_declaration_parser.specs.Reading.{plain_definitions}
 pub use Rattle.c_model.specs.DeclarationGrammar.{ended}
 
@@ -48,6 +48,10 @@ module _ (ws : Vocabulary) where
   unfoldable pub continue_statement : Numbered
   continue_statement n = reserved ws keyword.Continue then λ at. ended ws (Continue at, n)
 
+  -- comma ";", first in the parentheses of a `for`
+  unfoldable pub for_effect : Numbered
+  for_effect n = full_placed_expression ws then λ e. ended ws (Eval e.1 e.0, n)
+
   -- what stands before the body of a `for`
   unfoldable pub for_heading : AnnotationState → Syntax PlainToken (ForHeading × AnnotationState)
   for_heading n =
@@ -57,16 +61,32 @@ module _ (ws : Vocabulary) where
   -- a function's body with the place of its closing brace
   unfoldable pub function_body : AnnotationState → Syntax PlainToken ((Statement × Place) × AnnotationState)
   function_body n =
-      mark ws left_brace then λ start. items ws (statement_in ws (most_nested - 1)) ([], n) then λ x.
+      mark ws left_brace then λ start. items ws (statement_in ws (most_nested - 1)) (inside_in ws (most_nested - 1)) ([], n) then λ x.
       mark ws right_brace then λ close. gives ((Block start (block_items x.0), close), x.1)
 
   -- ";", after a `do` with its condition
   abbrev pub ended_do : Place → Statement → Expression → AnnotationState → Syntax PlainToken (Statement × AnnotationState)
   ended_do at a e n = ended ws (Do at a e, n)
 
-  -- a function or a prototype, after its stars and its name
-  unfoldable pub function_behind : PlainType → Stars → ℕ × Place → AnnotationState → Syntax PlainToken (Function × AnnotationState)
-  function_behind t stars f n = mark ws left_paren then λ _. parameters ws then λ params. function_rest ws (pointers stars.count t) f params n
+  -- a function or a prototype with this contract, after its stars and its name
+  unfoldable pub function_behind : PlainType → Declarator → Option FunctionContract → AnnotationState → Syntax PlainToken (Function × AnnotationState)
+  function_behind t d c n =
+      mark ws left_paren then λ _. parameters ws then λ params. function_rest ws (pointers d.stars.count t) (d.name, d.place) params c n
+
+  -- annotations before a declaration, after those that are read, with the contract that is the last of them
+  unfoldable pub more_strays : AnnotationState × Option FunctionContract → Syntax PlainToken (AnnotationState × Option FunctionContract)
+  more_strays x = many (kind ws) (λ _. annot_open_kind ∷ []) (next_stray ws) x
+
+-- after an annotation at this place that is misplaced, where there is one
+abbrev pub with_misplaced : AnnotationState → Option Place → AnnotationState
+with_misplaced s place = record s { misplaced = first_misplaced s.misplaced place }
+
+-- what an annotation before a declaration leaves: a contract waits for a function, and asserts are misplaced
+abbrev pub behind_stray : AnnotationState → ReadAnnotation × ℕ → AnnotationState × Option FunctionContract
+behind_stray s y = elim y.0.1 [
+  | None ↦ (after_misplaced s y, None)
+  | Some c ↦ (after_placed s y.1, Some c)
+]
 
 unfoldable pub other_typedefs : PlainType → FileParts → Syntax PlainToken FileParts
 other_typedefs t x = many (kind []) (λ _. mark_kind comma ∷ []) (next_typedef t) x
@@ -96,6 +116,7 @@ plain_parts x = record {
   definitions = plain_definitions x.definitions;
   typedefs = map plain_decl x.typedefs.items;
   globals = map plain_decl x.globals.items;
-  functions = map plain_func x.functions.items;
+  functions = map plain_func x.functions.all.items;
   annotations = x.annotations;
+  awaiting = option_map plain_contract x.awaiting;
 }

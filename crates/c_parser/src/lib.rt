@@ -14,6 +14,7 @@ mod statement;
 
 // Functions and whole texts.
 mod function;
+mod functions;
 mod names;
 mod program;
 mod read;

@@ -3,12 +3,14 @@
 ghost use Rattle.std.specs.Prelude.{◌≡◌, option_map, IfOk};
 ghost use Rattle.c_syntax.specs.Expressions.{plain_expr};
 ghost use Rattle.c_syntax.specs.Statements.{plain_stmt, plain_stmt_kind};
-ghost use Rattle.c_model.specs.ProgramGrammar.{condition, effect_statement, for_first, maybe_ended, returned, for_behind};
+ghost use Rattle.c_model.specs.ProgramGrammar.{condition, effect_statement, effect_behind, for_first, maybe_ended, returned, for_behind};
 ghost use Rattle.token_reader.specs.Reading.{Gives, plain_list};
-ghost use Rattle.c_parser.specs.Reading.{plain_first, plain_heading, counted, for_heading, for_with};
+ghost use Rattle.c_parser.specs.Reading.{plain_first, plain_heading, counted, for_effect, for_heading, for_with};
 
 use c_declaration_parser::declaration::declaration;
-use c_expr_parser::full::{full_expression, full_placed_expression};
+use c_expr_parser::full::{
+    full_expression, full_expression_behind, full_nameless_expression, full_placed_expression,
+};
 use c_expr_parser::kinds::{FOR, LEFT_PAREN, RIGHT_PAREN, SEMICOLON};
 use c_expr_parser::terminals::{kept, next_begins_expression, next_begins_type, skip};
 use c_model::declarations::AnnotationState;
@@ -16,6 +18,9 @@ use c_model::vocabulary::Word;
 use c_syntax::fault::ReadFault;
 use c_syntax::{Expr, Item, Place, Stmt, StmtKind, Token};
 use std::alloc::{AllocError, Global};
+
+/// A statement, what is read of annotations after it, and what stands behind it.
+pub type StatementRead<'a> = Result<(Stmt, AnnotationState, &'a [Token]), ReadFault>;
 
 /// `"(" comma ")"`
 #[tactic(auto, unfolding(c_model::specs::ProgramGrammar::condition, c_model::specs::ExpressionGrammar::closed))]
@@ -47,23 +52,57 @@ pub fn with_statement<'a>(
     kind: StmtKind,
     state: AnnotationState,
     tokens: &'a [Token],
-) -> Result<(Stmt, AnnotationState, &'a [Token]), ReadFault>
+) -> StatementRead<'a>
     ensures { Gives (λ x. ((plain_stmt x.0, x.1), plain_list x.2.now)) result ((counted (plain_stmt_kind place kind) state).parse
         (plain_list tokens.now)) }
 {
     Ok((statement_at(alloc, place, kind)?, state, tokens))
 }
 
-/// `comma ";"`
+/// `comma ";"`, where it begins with no name.
 #[tactic(auto, unfolding(c_model::specs::ProgramGrammar::effect_statement, c_model::specs::DeclarationGrammar::ended))]
 pub fn effect_statement<'a>(
     alloc: Global,
     words: &[Word],
     state: AnnotationState,
     tokens: &'a [Token],
-) -> Result<(Stmt, AnnotationState, &'a [Token]), ReadFault>
+) -> StatementRead<'a>
     ensures { Gives (λ x. ((plain_stmt x.0, x.1), plain_list x.2.now)) result
         ((effect_statement words.now state).parse (plain_list tokens.now)) }
+{
+    let (e, place, rest) = full_nameless_expression(alloc, words, tokens)?;
+    let (_, rest) = skip(words, SEMICOLON, rest)?;
+    with_statement(alloc, place, StmtKind::Eval(e), state, rest)
+}
+
+/// The rest of `comma ";"`, after a name that it begins with.
+#[tactic(auto, unfolding(c_model::specs::ProgramGrammar::effect_behind, c_model::specs::DeclarationGrammar::ended))]
+pub fn effect_behind<'a>(
+    alloc: Global,
+    words: &[Word],
+    number: u32,
+    place: Place,
+    state: AnnotationState,
+    tokens: &'a [Token],
+) -> StatementRead<'a>
+    ensures { Gives (λ x. ((plain_stmt x.0, x.1), plain_list x.2.now)) result
+        ((effect_behind words.now (number, place) state).parse (plain_list tokens.now)) }
+{
+    let (e, first, rest) = full_expression_behind(alloc, words, number, place, tokens)?;
+    let (_, rest) = skip(words, SEMICOLON, rest)?;
+    with_statement(alloc, first, StmtKind::Eval(e), state, rest)
+}
+
+/// `comma ";"`, first in the parentheses of a `for`.
+#[tactic(auto, unfolding(crate::specs::Reading::for_effect, c_model::specs::DeclarationGrammar::ended))]
+fn for_effect<'a>(
+    alloc: Global,
+    words: &[Word],
+    state: AnnotationState,
+    tokens: &'a [Token],
+) -> StatementRead<'a>
+    ensures { Gives (λ x. ((plain_stmt x.0, x.1), plain_list x.2.now)) result
+        ((for_effect words.now state).parse (plain_list tokens.now)) }
 {
     let (e, place, rest) = full_placed_expression(alloc, words, tokens)?;
     let (_, rest) = skip(words, SEMICOLON, rest)?;
@@ -71,7 +110,7 @@ pub fn effect_statement<'a>(
 }
 
 /// `decl | [ comma ] ";"`
-#[tactic(auto, unfolding(c_model::specs::ProgramGrammar::for_first, c_model::specs::ProgramGrammar::effect_statement, crate::specs::Reading::ended))]
+#[tactic(auto, unfolding(c_model::specs::ProgramGrammar::for_first, crate::specs::Reading::for_effect, crate::specs::Reading::ended))]
 pub fn for_first<'a>(
     alloc: Global,
     words: &[Word],
@@ -85,7 +124,7 @@ pub fn for_first<'a>(
         let (item, rest) = declaration(alloc, words, tokens)?;
         Ok((Some(item), state, rest))
     } else if next_begins_expression(words, tokens) {
-        let (s, state, rest) = effect_statement(alloc, words, state, tokens)?;
+        let (s, state, rest) = for_effect(alloc, words, state, tokens)?;
         Ok((Some(Item::Run(s)), state, rest))
     } else {
         let (_, rest) = skip(words, SEMICOLON, tokens)?;

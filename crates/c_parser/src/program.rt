@@ -4,28 +4,29 @@ ghost use Rattle.std.specs.Prelude.{◌≡◌, map, IfErr, OnOk, []};
 ghost use Rattle.c_syntax.specs.declared.fault.ReadFault.TheVariants.{Memory};
 ghost use Rattle.c_syntax.specs.Programs.{plain_program, plain_text};
 ghost use Rattle.c_model.specs.ProgramGrammar.{with_typedef, function, globals, behind_declarator, declared_at_file, next_typedef, more_typedefs};
-ghost use Rattle.c_model.specs.ProgramGrammar.{typedefs, behind_spec, strays, declared_external, external, more_external, no_parts, unit_with};
+ghost use Rattle.c_model.specs.ProgramGrammar.{typedefs, behind_spec, declared_external, external, awaiting_nothing, more_external, no_parts, unit_with};
 ghost use Rattle.c_expr_parser.specs.Reading.{plain_base};
 ghost use Rattle.token_reader.specs.Reading.{Gives, plain_list};
 ghost use Rattle.c_declaration_parser.specs.Reading.{plain_declarator};
 ghost use Rattle.c_parser.specs.Reading.{plain_parts, other_typedefs, function_behind};
 
-use crate::annotation::misplaced;
+use crate::annotation::{contract_place, left_place, more_strays, taken, with_misplaced};
 use crate::function::function_behind;
+use crate::functions::Functions;
 use c_declaration_parser::declaration::{initialised, more_declared};
 use c_declaration_parser::declarator::{
     Declarator, declared_by, full_dtor, nameless, names_function,
 };
 use c_declaration_parser::specifier::file_spec;
 use c_declaration_parser::tagged::Definitions;
-use c_expr_parser::kinds::{ANNOT_OPEN, COMMA, LEFT_PAREN, SEMICOLON};
+use c_expr_parser::kinds::{COMMA, LEFT_PAREN, SEMICOLON};
 use c_expr_parser::terminals::{next_is, skip};
 use c_expr_parser::types::BaseType;
 use c_expr_parser::vocabulary::name_type;
 use c_model::declarations::{AnnotationState, Named, Storage};
 use c_model::vocabulary::Word;
 use c_syntax::fault::ReadFault;
-use c_syntax::{Decl, Func, Name, Program, Text, Token};
+use c_syntax::{Contract, Decl, Name, Program, Text, Token};
 use std::alloc::Global;
 use std::mem::replace;
 
@@ -36,9 +37,14 @@ pub struct FileParts {
     pub definitions: Definitions,
     pub typedefs: Vec<Decl>,
     pub globals: Vec<Decl>,
-    pub functions: Vec<Func>,
+    pub functions: Functions,
     pub annotations: AnnotationState,
+    /// The contract that stands directly before what is read next.
+    pub awaiting: Option<Contract>,
 }
+
+/// Parts that were read, and what stands behind them.
+type PartsRead<'a> = Result<(FileParts, &'a [Token]), ReadFault>;
 
 fn no_definitions(alloc: Global) -> Definitions
     ensures structs { result.structs.items ≡ [] }
@@ -59,11 +65,12 @@ pub fn no_parts(alloc: Global, words: Vec<Word>) -> FileParts
         definitions: no_definitions(alloc),
         typedefs: Vec::new(alloc),
         globals: Vec::new(alloc),
-        functions: Vec::new(alloc),
+        functions: Functions::new(alloc),
         annotations: AnnotationState {
             number: 1,
             misplaced: None,
         },
+        awaiting: None,
     }
 }
 
@@ -77,15 +84,17 @@ fn function<'a>(
     parts: FileParts,
     d: Declarator,
     tokens: &'a [Token],
-) -> Result<(FileParts, &'a [Token]), ReadFault>
+) -> PartsRead<'a>
     ensures { Gives (λ x. (plain_parts x.0, plain_list x.1.now)) result
         ((function (plain_parts parts).words (plain_base base) (plain_parts parts) (plain_declarator d)).parse (plain_list tokens.now)) }
 {
     let mut parts = parts;
+    let again = parts.functions.have_contract(d.name);
+    let awaiting = replace(&mut parts.awaiting, None);
+    let state = with_misplaced(parts.annotations, left_place(&awaiting, again));
+    let contract = taken(awaiting, again);
     let words = parts.words.as_slice();
-    let state = parts.annotations;
-    let read = function_behind(alloc, words, base, d.stars, d.name, d.place, state, tokens);
-    let (f, state, rest) = read?;
+    let (f, state, rest) = function_behind(alloc, words, base, &d, contract, state, tokens)?;
     parts.functions.push(f)?;
     parts.annotations = state;
     Ok((parts, rest))
@@ -99,7 +108,7 @@ fn globals<'a>(
     parts: FileParts,
     d: Declarator,
     tokens: &'a [Token],
-) -> Result<(FileParts, &'a [Token]), ReadFault>
+) -> PartsRead<'a>
     ensures { Gives (λ x. (plain_parts x.0, plain_list x.1.now)) result
         ((globals (plain_parts parts).words (plain_base base) (plain_parts parts) (plain_declarator d)).parse (plain_list tokens.now)) }
 {
@@ -120,7 +129,7 @@ fn behind_declarator<'a>(
     parts: FileParts,
     d: Declarator,
     tokens: &'a [Token],
-) -> Result<(FileParts, &'a [Token]), ReadFault>
+) -> PartsRead<'a>
     ensures { Gives (λ x. (plain_parts x.0, plain_list x.1.now)) result
         ((behind_declarator (plain_parts parts).words (plain_base base) (plain_parts parts) (plain_declarator d)).parse (plain_list tokens.now)) }
 {
@@ -142,7 +151,7 @@ fn declared_at_file<'a>(
     base: BaseType,
     parts: FileParts,
     tokens: &'a [Token],
-) -> Result<(FileParts, &'a [Token]), ReadFault>
+) -> PartsRead<'a>
     ensures { Gives (λ x. (plain_parts x.0, plain_list x.1.now)) result
         ((declared_at_file (plain_parts parts).words (plain_base base) (plain_parts parts)).parse (plain_list tokens.now)) }
 {
@@ -183,7 +192,7 @@ fn next_typedef<'a>(
     base: BaseType,
     parts: FileParts,
     tokens: &'a [Token],
-) -> Result<(FileParts, &'a [Token]), ReadFault>
+) -> PartsRead<'a>
     ensures { Gives (λ x. (plain_parts x.0, plain_list x.1.now)) result
         ((next_typedef (plain_base base) (plain_parts parts)).parse (plain_list tokens.now)) }
 {
@@ -201,7 +210,7 @@ fn other_typedefs<'a>(
     base: BaseType,
     parts: FileParts,
     tokens: &'a [Token],
-) -> Result<(FileParts, &'a [Token]), ReadFault>
+) -> PartsRead<'a>
     ensures { Gives (λ x. (plain_parts x.0, plain_list x.1.now)) result
         ((other_typedefs (plain_base base) (plain_parts parts)).parse (plain_list tokens.now)) }
 {
@@ -222,7 +231,7 @@ fn more_typedefs<'a>(
     base: BaseType,
     parts: FileParts,
     tokens: &'a [Token],
-) -> Result<(FileParts, &'a [Token]), ReadFault>
+) -> PartsRead<'a>
     ensures { Gives (λ x. (plain_parts x.0, plain_list x.1.now)) result
         ((more_typedefs (plain_base base) (plain_parts parts)).parse (plain_list tokens.now)) }
 {
@@ -238,7 +247,7 @@ fn typedefs<'a>(
     base: BaseType,
     parts: FileParts,
     tokens: &'a [Token],
-) -> Result<(FileParts, &'a [Token]), ReadFault>
+) -> PartsRead<'a>
     ensures { Gives (λ x. (plain_parts x.0, plain_list x.1.now)) result
         ((typedefs (plain_base base) (plain_parts parts)).parse (plain_list tokens.now)) }
 {
@@ -257,7 +266,7 @@ fn behind_spec<'a>(
     base: BaseType,
     parts: FileParts,
     tokens: &'a [Token],
-) -> Result<(FileParts, &'a [Token]), ReadFault>
+) -> PartsRead<'a>
     ensures { Gives (λ x. (plain_parts x.0, plain_list x.1.now)) result
         ((behind_spec storage (plain_base base) (plain_parts parts)).parse (plain_list tokens.now)) }
 {
@@ -267,33 +276,9 @@ fn behind_spec<'a>(
     }
 }
 
-/// Annotations at file scope.
-#[tactic(auto, using(crate::proofs::FileSteps::strays_rules))]
-fn strays<'a>(
-    alloc: Global,
-    words: &[Word],
-    state: AnnotationState,
-    tokens: &'a [Token],
-) -> Result<(AnnotationState, &'a [Token]), ReadFault>
-    ensures { Gives (λ x. (x.0, plain_list x.1.now)) result ((strays words.now state).parse (plain_list tokens.now)) }
-{
-    let mut state = state;
-    let mut rest = tokens;
-    'turn: while next_is(words, ANNOT_OPEN, rest) {
-        let (more, after) = misplaced(alloc, words, state, rest)?;
-        state = more;
-        rest = after;
-    }
-    Ok((state, rest))
-}
-
 /// One more declaration, function or prototype.
 #[tactic(auto, unfolding(c_model::specs::ProgramGrammar::declared_external))]
-fn declared_external<'a>(
-    alloc: Global,
-    parts: FileParts,
-    tokens: &'a [Token],
-) -> Result<(FileParts, &'a [Token]), ReadFault>
+fn declared_external<'a>(alloc: Global, parts: FileParts, tokens: &'a [Token]) -> PartsRead<'a>
     ensures { Gives (λ x. (plain_parts x.0, plain_list x.1.now)) result ((declared_external (plain_parts parts)).parse (plain_list tokens.now)) }
 {
     let mut parts = parts;
@@ -303,29 +288,33 @@ fn declared_external<'a>(
     behind_spec(alloc, spec.storage, spec.base, parts, rest)
 }
 
+/// A contract that nothing took is misplaced.
+fn awaiting_nothing(parts: FileParts) -> FileParts
+    ensures { plain_parts result ≡ awaiting_nothing (plain_parts parts) }
+{
+    let mut parts = parts;
+    parts.annotations = with_misplaced(parts.annotations, contract_place(&parts.awaiting));
+    parts.awaiting = None;
+    parts
+}
+
 /// One more declaration, function or prototype, after annotations.
-#[tactic(auto, unfolding(c_model::specs::ProgramGrammar::external))]
-fn external<'a>(
-    alloc: Global,
-    parts: FileParts,
-    tokens: &'a [Token],
-) -> Result<(FileParts, &'a [Token]), ReadFault>
+#[tactic(auto, unfolding(c_model::specs::ProgramGrammar::external, c_model::specs::ProgramGrammar::strays, crate::specs::Reading::more_strays))]
+fn external<'a>(alloc: Global, parts: FileParts, tokens: &'a [Token]) -> PartsRead<'a>
     ensures { Gives (λ x. (plain_parts x.0, plain_list x.1.now)) result ((external (plain_parts parts)).parse (plain_list tokens.now)) }
 {
     let mut parts = parts;
     let words = parts.words.as_slice();
-    let (state, rest) = strays(alloc, words, parts.annotations, tokens)?;
+    let (state, awaiting, rest) = more_strays(alloc, words, parts.annotations, None, tokens)?;
     parts.annotations = state;
-    declared_external(alloc, parts, rest)
+    parts.awaiting = awaiting;
+    let (parts, rest) = declared_external(alloc, parts, rest)?;
+    Ok((awaiting_nothing(parts), rest))
 }
 
 /// What a text declares, after these parts, as far as there are tokens.
 #[tactic(auto, using(crate::proofs::FileSteps::externals_rules))]
-pub fn more_external<'a>(
-    alloc: Global,
-    parts: FileParts,
-    tokens: &'a [Token],
-) -> Result<(FileParts, &'a [Token]), ReadFault>
+pub fn more_external<'a>(alloc: Global, parts: FileParts, tokens: &'a [Token]) -> PartsRead<'a>
     ensures { Gives (λ x. (plain_parts x.0, plain_list x.1.now)) result ((more_external (plain_parts parts)).parse (plain_list tokens.now)) }
 {
     let mut parts = parts;
@@ -356,7 +345,7 @@ pub fn make_unit(alloc: Global, names: Vec<Name>, texts: Vec<Text>, parts: FileP
         enums: definitions.enums,
         typedefs,
         globals,
-        funcs: functions,
+        funcs: functions.all,
         strays: Vec::new(alloc),
     }
 }

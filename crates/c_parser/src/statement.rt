@@ -1,35 +1,43 @@
 //! Statements (C99 6.8), which take what is read of annotations before them and give that after.
 
-ghost use Rattle.std.specs.Prelude.{◌≡◌, map, IfOk};
+ghost use Rattle.std.specs.Prelude.{◌≡◌, map, option_map, IfOk};
+ghost use Rattle.c_syntax.specs.Logic.{plain_annot};
 ghost use Rattle.c_syntax.specs.Expressions.{plain_expr};
 ghost use Rattle.c_syntax.specs.Statements.{plain_stmt, plain_item};
 ghost use Rattle.c_syntax.specs.Statements as statement;
+ghost use Rattle.c_syntax.specs.Programs.{plain_contract};
 ghost use Rattle.c_model.specs.ProgramGrammar.{is_open, block_items, else_branch, else_part, selection, while_loop, do_loop, for_loop, jump, return_statement};
-ghost use Rattle.c_model.specs.ProgramGrammar.{item, items_once, items, block, empty_statement, statement_of, statement_in, branch_in};
+ghost use Rattle.c_model.specs.ProgramGrammar.{behind_annotation, annotated_item, run_item, item, items_once, items, block, empty_statement};
+ghost use Rattle.c_model.specs.ProgramGrammar.{labelled_statement, named_statement, statement_of, statement_in, branch_in, inside_in};
 ghost use Rattle.c_model.specs.ProgramGrammar.{case_item, case_items_once, case_items, next_case, cases, switch_statement};
 ghost use Rattle.token_reader.specs.Reading.{Gives, plain_list};
 ghost use Rattle.c_parser.specs.Reading.{break_statement, continue_statement, ended_do, read_case};
 
-use crate::annotation::{misplaced, placed_annotation};
+use crate::annotation::{after_placed, first_misplaced, make_asserts, misplaced};
 use crate::cases::{case_label, make_switch};
 use crate::loops::{
-    condition, effect_statement, for_heading, for_kind, returned, statement_at, with_statement,
+    StatementRead, condition, effect_behind, effect_statement, for_heading, for_kind, returned,
+    statement_at, with_statement,
 };
 use crate::terminals::{
     next_begins_branch, next_begins_case, next_begins_item, next_begins_statement, next_is_jump,
 };
+use acsl_parser::{ReadAnnotation, annotations};
 use c_declaration_parser::declaration::declaration;
 use c_expr_parser::kinds::{
-    ANNOT_OPEN, BREAK, CONTINUE, DO, ELSE, FOR, IF, LEFT_BRACE, RETURN, RIGHT_BRACE, SEMICOLON,
-    SWITCH, WHILE,
+    ANNOT_OPEN, BREAK, COLON, CONTINUE, DO, ELSE, FOR, IF, LEFT_BRACE, NAME, RETURN, RIGHT_BRACE,
+    SEMICOLON, SWITCH, WHILE,
 };
-use c_expr_parser::terminals::{kept, next_begins_type, next_is, skip};
+use c_expr_parser::terminals::{kept, name, next_begins_type, next_is, skip};
 use c_model::declarations::AnnotationState;
 use c_model::vocabulary::Word;
 use c_syntax::fault::{Limit, ReadFault};
 use c_syntax::{Case, Expr, Item, Place, Stmt, StmtKind, Token};
 use std::alloc::{AllocError, Global};
 use token_reader::terminals::left;
+
+/// An item of a block, what is read of annotations after it, and what stands behind it.
+type ItemRead<'a> = Result<(Item, AnnotationState, &'a [Token]), ReadFault>;
 
 /// Whether a further `else` would go with an `if` at the statement's end.
 fn is_open(s: &Stmt) -> bool
@@ -40,6 +48,7 @@ fn is_open(s: &Stmt) -> bool
         StmtKind::If(_, _, Some(last)) => is_open(last),
         StmtKind::While(_, _, last) => is_open(last),
         StmtKind::For(_, _, _, _, last) => is_open(last),
+        StmtKind::Labelled(_, last) => is_open(last),
         StmtKind::Empty
         | StmtKind::Eval(_)
         | StmtKind::Block(_)
@@ -70,7 +79,7 @@ fn break_statement<'a>(
     words: &[Word],
     state: AnnotationState,
     tokens: &'a [Token],
-) -> Result<(Stmt, AnnotationState, &'a [Token]), ReadFault>
+) -> StatementRead<'a>
     ensures { Gives (λ x. ((plain_stmt x.0, x.1), plain_list x.2.now)) result
         ((break_statement words.now state).parse (plain_list tokens.now)) }
 {
@@ -86,7 +95,7 @@ fn continue_statement<'a>(
     words: &[Word],
     state: AnnotationState,
     tokens: &'a [Token],
-) -> Result<(Stmt, AnnotationState, &'a [Token]), ReadFault>
+) -> StatementRead<'a>
     ensures { Gives (λ x. ((plain_stmt x.0, x.1), plain_list x.2.now)) result
         ((continue_statement words.now state).parse (plain_list tokens.now)) }
 {
@@ -102,7 +111,7 @@ fn jump<'a>(
     words: &[Word],
     state: AnnotationState,
     tokens: &'a [Token],
-) -> Result<(Stmt, AnnotationState, &'a [Token]), ReadFault>
+) -> StatementRead<'a>
     ensures { Gives (λ x. ((plain_stmt x.0, x.1), plain_list x.2.now)) result
         ((jump words.now state).parse (plain_list tokens.now)) }
 {
@@ -120,7 +129,7 @@ fn return_statement<'a>(
     words: &[Word],
     state: AnnotationState,
     tokens: &'a [Token],
-) -> Result<(Stmt, AnnotationState, &'a [Token]), ReadFault>
+) -> StatementRead<'a>
     ensures { Gives (λ x. ((plain_stmt x.0, x.1), plain_list x.2.now)) result
         ((return_statement words.now state).parse (plain_list tokens.now)) }
 {
@@ -136,7 +145,7 @@ fn empty_statement<'a>(
     words: &[Word],
     state: AnnotationState,
     tokens: &'a [Token],
-) -> Result<(Stmt, AnnotationState, &'a [Token]), ReadFault>
+) -> StatementRead<'a>
     ensures { Gives (λ x. ((plain_stmt x.0, x.1), plain_list x.2.now)) result
         ((empty_statement words.now state).parse (plain_list tokens.now)) }
 {
@@ -156,7 +165,7 @@ fn else_branch<'a>(
     then: Stmt,
     state: AnnotationState,
     tokens: &'a [Token],
-) -> Result<(Stmt, AnnotationState, &'a [Token]), ReadFault>
+) -> StatementRead<'a>
     ensures { Gives (λ x. ((plain_stmt x.0, x.1), plain_list x.2.now)) result
         ((else_branch words.now (branch_in words.now levels) place (plain_expr e) (plain_stmt then, state)).parse (plain_list tokens.now)) }
 {
@@ -181,7 +190,7 @@ fn else_part<'a>(
     then: Stmt,
     state: AnnotationState,
     tokens: &'a [Token],
-) -> Result<(Stmt, AnnotationState, &'a [Token]), ReadFault>
+) -> StatementRead<'a>
     ensures { Gives (λ x. ((plain_stmt x.0, x.1), plain_list x.2.now)) result
         ((else_part words.now (branch_in words.now levels) place (plain_expr e) (plain_stmt then, state)).parse (plain_list tokens.now)) }
 {
@@ -204,7 +213,7 @@ fn selection<'a>(
     levels: u32,
     state: AnnotationState,
     tokens: &'a [Token],
-) -> Result<(Stmt, AnnotationState, &'a [Token]), ReadFault>
+) -> StatementRead<'a>
     ensures { Gives (λ x. ((plain_stmt x.0, x.1), plain_list x.2.now)) result
         ((selection words.now (branch_in words.now levels) state).parse (plain_list tokens.now)) }
 {
@@ -224,7 +233,7 @@ fn while_loop<'a>(
     levels: u32,
     state: AnnotationState,
     tokens: &'a [Token],
-) -> Result<(Stmt, AnnotationState, &'a [Token]), ReadFault>
+) -> StatementRead<'a>
     ensures { Gives (λ x. ((plain_stmt x.0, x.1), plain_list x.2.now)) result
         ((while_loop words.now (branch_in words.now levels) state).parse (plain_list tokens.now)) }
 {
@@ -245,7 +254,7 @@ fn ended_do<'a>(
     e: Expr,
     state: AnnotationState,
     tokens: &'a [Token],
-) -> Result<(Stmt, AnnotationState, &'a [Token]), ReadFault>
+) -> StatementRead<'a>
     ensures { Gives (λ x. ((plain_stmt x.0, x.1), plain_list x.2.now)) result
         ((ended_do words.now place (plain_stmt body) (plain_expr e) state).parse (plain_list tokens.now)) }
 {
@@ -263,7 +272,7 @@ fn do_loop<'a>(
     levels: u32,
     state: AnnotationState,
     tokens: &'a [Token],
-) -> Result<(Stmt, AnnotationState, &'a [Token]), ReadFault>
+) -> StatementRead<'a>
     ensures { Gives (λ x. ((plain_stmt x.0, x.1), plain_list x.2.now)) result
         ((do_loop words.now (branch_in words.now levels) state).parse (plain_list tokens.now)) }
 {
@@ -284,7 +293,7 @@ fn for_loop<'a>(
     levels: u32,
     state: AnnotationState,
     tokens: &'a [Token],
-) -> Result<(Stmt, AnnotationState, &'a [Token]), ReadFault>
+) -> StatementRead<'a>
     ensures { Gives (λ x. ((plain_stmt x.0, x.1), plain_list x.2.now)) result
         ((for_loop words.now (branch_in words.now levels) state).parse (plain_list tokens.now)) }
 {
@@ -292,6 +301,71 @@ fn for_loop<'a>(
     let (heading, (body, state, rest)) = kept(heading, branch(alloc, words, levels, state, rest))?;
     let place = heading.place;
     with_statement(alloc, place, for_kind(alloc, heading, body), state, rest)
+}
+
+/// A statement as an item.
+#[tactic(auto, unfolding(c_model::specs::ProgramGrammar::run_item))]
+#[cycle(statement)]
+fn run_item<'a>(
+    alloc: Global,
+    words: &[Word],
+    levels: u32,
+    state: AnnotationState,
+    tokens: &'a [Token],
+) -> ItemRead<'a>
+    ensures { Gives (λ x. ((plain_item x.0, x.1), plain_list x.2.now)) result
+        ((run_item words.now (statement_in words.now levels) state).parse (plain_list tokens.now)) }
+{
+    let (s, state, rest) = statement(alloc, words, levels, state, tokens)?;
+    Ok((make_run(s), state, rest))
+}
+
+/// What stands behind an annotation in a block: nothing behind asserts, which are an item, and a statement behind a contract, where
+/// none may stand.
+#[tactic(auto, unfolding(c_model::specs::ProgramGrammar::behind_annotation, c_model::specs::ProgramGrammar::run_item))]
+#[cycle(statement)]
+fn behind_annotation<'a>(
+    alloc: Global,
+    words: &[Word],
+    levels: u32,
+    state: AnnotationState,
+    read: ReadAnnotation,
+    number: u32,
+    tokens: &'a [Token],
+) -> ItemRead<'a>
+    ensures { Gives (λ x. ((plain_item x.0, x.1), plain_list x.2.now)) result
+        ((behind_annotation words.now (inside_in words.now levels) state
+        ((map plain_annot read.0.items, option_map plain_contract read.1), number)).parse (plain_list tokens.now)) }
+{
+    let (asserts, contract) = read;
+    match contract {
+        None => Ok((make_asserts(asserts), after_placed(state, number), tokens)),
+        Some(contract) => {
+            let misplaced = first_misplaced(state.misplaced, Some(contract.place));
+            drop(contract);
+            drop(asserts);
+            let state = AnnotationState { number, misplaced };
+            let (s, state, rest) = inside(alloc, words, levels, state, tokens)?;
+            Ok((make_run(s), state, rest))
+        }
+    }
+}
+
+/// An annotation, and what stands behind it.
+#[tactic(auto, unfolding(c_model::specs::ProgramGrammar::annotated_item))]
+#[cycle(statement)]
+fn annotated_item<'a>(
+    alloc: Global,
+    words: &[Word],
+    levels: u32,
+    state: AnnotationState,
+    tokens: &'a [Token],
+) -> ItemRead<'a>
+    ensures { Gives (λ x. ((plain_item x.0, x.1), plain_list x.2.now)) result
+        ((annotated_item words.now (inside_in words.now levels) state).parse (plain_list tokens.now)) }
+{
+    let (read, number, rest) = annotations(alloc, words, state.number, tokens)?;
+    behind_annotation(alloc, words, levels, state, read, number, rest)
 }
 
 /// An annotation, a declaration or a statement.
@@ -303,18 +377,17 @@ fn item<'a>(
     levels: u32,
     state: AnnotationState,
     tokens: &'a [Token],
-) -> Result<(Item, AnnotationState, &'a [Token]), ReadFault>
+) -> ItemRead<'a>
     ensures { Gives (λ x. ((plain_item x.0, x.1), plain_list x.2.now)) result
-        ((item words.now (statement_in words.now levels) state).parse (plain_list tokens.now)) }
+        ((item words.now (statement_in words.now levels) (inside_in words.now levels) state).parse (plain_list tokens.now)) }
 {
     if next_is(words, ANNOT_OPEN, tokens) {
-        placed_annotation(alloc, words, state, tokens)
+        annotated_item(alloc, words, levels, state, tokens)
     } else if next_begins_type(words, tokens) {
         let (item, rest) = declaration(alloc, words, tokens)?;
         Ok((item, state, rest))
     } else {
-        let (s, state, rest) = statement(alloc, words, levels, state, tokens)?;
-        Ok((make_run(s), state, rest))
+        run_item(alloc, words, levels, state, tokens)
     }
 }
 
@@ -329,7 +402,7 @@ fn items_once<'a>(
     tokens: &'a [Token],
 ) -> Result<(Vec<Item>, AnnotationState, &'a [Token]), ReadFault>
     ensures { Gives (λ x. ((map plain_item x.0.items, x.1), plain_list x.2.now)) result
-        ((items_once words.now (statement_in words.now levels) (map plain_item all.items, state)).parse (plain_list tokens.now)) }
+        ((items_once words.now (statement_in words.now levels) (inside_in words.now levels) (map plain_item all.items, state)).parse (plain_list tokens.now)) }
 {
     let mut all = all;
     let (one, state, rest) = item(alloc, words, levels, state, tokens)?;
@@ -349,7 +422,7 @@ pub fn items<'a>(
     tokens: &'a [Token],
 ) -> Result<(Vec<Item>, AnnotationState, &'a [Token]), ReadFault>
     ensures { Gives (λ x. ((map plain_item x.0.items, x.1), plain_list x.2.now)) result
-        ((items words.now (statement_in words.now levels) (map plain_item all.items, state)).parse (plain_list tokens.now)) }
+        ((items words.now (statement_in words.now levels) (inside_in words.now levels) (map plain_item all.items, state)).parse (plain_list tokens.now)) }
 {
     let mut all = all;
     let mut state = state;
@@ -372,9 +445,9 @@ fn block<'a>(
     levels: u32,
     state: AnnotationState,
     tokens: &'a [Token],
-) -> Result<(Stmt, AnnotationState, &'a [Token]), ReadFault>
+) -> StatementRead<'a>
     ensures { Gives (λ x. ((plain_stmt x.0, x.1), plain_list x.2.now)) result
-        ((block words.now (statement_in words.now levels) state).parse (plain_list tokens.now)) }
+        ((block words.now (statement_in words.now levels) (inside_in words.now levels) state).parse (plain_list tokens.now)) }
 {
     let (place, rest) = skip(words, LEFT_BRACE, tokens)?;
     let (all, state, rest) = items(alloc, words, levels, Vec::new(alloc), state, rest)?;
@@ -391,15 +464,14 @@ fn case_item<'a>(
     levels: u32,
     state: AnnotationState,
     tokens: &'a [Token],
-) -> Result<(Item, AnnotationState, &'a [Token]), ReadFault>
+) -> ItemRead<'a>
     ensures { Gives (λ x. ((plain_item x.0, x.1), plain_list x.2.now)) result
-        ((case_item words.now (statement_in words.now levels) state).parse (plain_list tokens.now)) }
+        ((case_item words.now (statement_in words.now levels) (inside_in words.now levels) state).parse (plain_list tokens.now)) }
 {
     if next_is(words, ANNOT_OPEN, tokens) {
-        placed_annotation(alloc, words, state, tokens)
+        annotated_item(alloc, words, levels, state, tokens)
     } else {
-        let (s, state, rest) = statement(alloc, words, levels, state, tokens)?;
-        Ok((make_run(s), state, rest))
+        run_item(alloc, words, levels, state, tokens)
     }
 }
 
@@ -414,7 +486,8 @@ fn case_items_once<'a>(
     tokens: &'a [Token],
 ) -> Result<(Vec<Item>, AnnotationState, &'a [Token]), ReadFault>
     ensures { Gives (λ x. ((map plain_item x.0.items, x.1), plain_list x.2.now)) result
-        ((case_items_once words.now (statement_in words.now levels) (map plain_item all.items, state)).parse (plain_list tokens.now)) }
+        ((case_items_once words.now (statement_in words.now levels) (inside_in words.now levels) (map plain_item all.items, state)).parse
+        (plain_list tokens.now)) }
 {
     let mut all = all;
     let (one, state, rest) = case_item(alloc, words, levels, state, tokens)?;
@@ -434,7 +507,7 @@ fn case_items<'a>(
     tokens: &'a [Token],
 ) -> Result<(Vec<Item>, AnnotationState, &'a [Token]), ReadFault>
     ensures { Gives (λ x. ((map plain_item x.0.items, x.1), plain_list x.2.now)) result
-        ((case_items words.now (statement_in words.now levels) (map plain_item all.items, state)).parse (plain_list tokens.now)) }
+        ((case_items words.now (statement_in words.now levels) (inside_in words.now levels) (map plain_item all.items, state)).parse (plain_list tokens.now)) }
 {
     let mut all = all;
     let mut state = state;
@@ -460,7 +533,7 @@ fn next_case<'a>(
     tokens: &'a [Token],
 ) -> Result<(Vec<Case>, AnnotationState, &'a [Token]), ReadFault>
     ensures { Gives (λ x. ((map read_case x.0.items, x.1), plain_list x.2.now)) result
-        ((next_case words.now (statement_in words.now levels) (map read_case all.items, state)).parse (plain_list tokens.now)) }
+        ((next_case words.now (statement_in words.now levels) (inside_in words.now levels) (map read_case all.items, state)).parse (plain_list tokens.now)) }
 {
     let (all, (place, value, rest)) = kept(all, case_label(alloc, words, tokens))?;
     let ((all, value), (items, state, rest)) = kept(
@@ -488,7 +561,7 @@ fn cases<'a>(
     tokens: &'a [Token],
 ) -> Result<(Vec<Case>, AnnotationState, &'a [Token]), ReadFault>
     ensures { Gives (λ x. ((map read_case x.0.items, x.1), plain_list x.2.now)) result
-        ((cases words.now (statement_in words.now levels) (map read_case all.items, state)).parse (plain_list tokens.now)) }
+        ((cases words.now (statement_in words.now levels) (inside_in words.now levels) (map read_case all.items, state)).parse (plain_list tokens.now)) }
 {
     let mut all = all;
     let mut state = state;
@@ -512,9 +585,9 @@ fn switch_statement<'a>(
     levels: u32,
     state: AnnotationState,
     tokens: &'a [Token],
-) -> Result<(Stmt, AnnotationState, &'a [Token]), ReadFault>
+) -> StatementRead<'a>
     ensures { Gives (λ x. ((plain_stmt x.0, x.1), plain_list x.2.now)) result
-        ((switch_statement words.now (statement_in words.now levels) state).parse (plain_list tokens.now)) }
+        ((switch_statement words.now (statement_in words.now levels) (inside_in words.now levels) state).parse (plain_list tokens.now)) }
 {
     let (place, rest) = skip(words, SWITCH, tokens)?;
     let (e, rest) = condition(alloc, words, rest)?;
@@ -527,6 +600,49 @@ fn switch_statement<'a>(
     Ok((make_switch(alloc, place, e, all)?, state, rest))
 }
 
+/// `":" stmt`, behind a name, which is a label.
+#[tactic(auto, unfolding(c_model::specs::ProgramGrammar::labelled_statement))]
+#[cycle(statement)]
+#[inline(never)]
+fn labelled_statement<'a>(
+    alloc: Global,
+    words: &[Word],
+    levels: u32,
+    number: u32,
+    place: Place,
+    state: AnnotationState,
+    tokens: &'a [Token],
+) -> StatementRead<'a>
+    ensures { Gives (λ x. ((plain_stmt x.0, x.1), plain_list x.2.now)) result
+        ((labelled_statement words.now (branch_in words.now levels) (number, place) state).parse (plain_list tokens.now)) }
+{
+    let (_, rest) = skip(words, COLON, tokens)?;
+    let (inner, state, rest) = branch(alloc, words, levels, state, rest)?;
+    with_statement(alloc, place, StmtKind::Labelled(number, inner), state, rest)
+}
+
+/// A statement that begins with a name.
+#[tactic(auto, unfolding(c_model::specs::ProgramGrammar::named_statement))]
+#[cycle(statement)]
+#[inline(never)]
+fn named_statement<'a>(
+    alloc: Global,
+    words: &[Word],
+    levels: u32,
+    state: AnnotationState,
+    tokens: &'a [Token],
+) -> StatementRead<'a>
+    ensures { Gives (λ x. ((plain_stmt x.0, x.1), plain_list x.2.now)) result
+        ((named_statement words.now (branch_in words.now levels) state).parse (plain_list tokens.now)) }
+{
+    let (number, place, rest) = name(words, tokens)?;
+    if next_is(words, COLON, rest) {
+        labelled_statement(alloc, words, levels, number, place, state, rest)
+    } else {
+        effect_behind(alloc, words, number, place, state, rest)
+    }
+}
+
 /// A statement in which statements stand at most so many levels deep, itself included.
 #[tactic(auto, using(crate::proofs::Steps::statement_rules), unfolding(c_model::specs::ProgramGrammar::statement_of))]
 #[cycle(statement)]
@@ -536,7 +652,7 @@ fn statement<'a>(
     levels: u32,
     state: AnnotationState,
     tokens: &'a [Token],
-) -> Result<(Stmt, AnnotationState, &'a [Token]), ReadFault>
+) -> StatementRead<'a>
     ensures { Gives (λ x. ((plain_stmt x.0, x.1), plain_list x.2.now)) result ((statement_in words.now levels state).parse
         (plain_list tokens.now)) }
 {
@@ -566,6 +682,8 @@ fn statement<'a>(
         return_statement(alloc, words, state, tokens)
     } else if next_is_jump(words, tokens) {
         jump(alloc, words, state, tokens)
+    } else if next_is(words, NAME, tokens) {
+        named_statement(alloc, words, levels, state, tokens)
     } else {
         effect_statement(alloc, words, state, tokens)
     }
@@ -580,7 +698,7 @@ fn branch<'a>(
     levels: u32,
     state: AnnotationState,
     tokens: &'a [Token],
-) -> Result<(Stmt, AnnotationState, &'a [Token]), ReadFault>
+) -> StatementRead<'a>
     ensures { Gives (λ x. ((plain_stmt x.0, x.1), plain_list x.2.now)) result ((branch_in words.now levels state).parse
         (plain_list tokens.now)) }
 {
@@ -597,4 +715,27 @@ fn branch<'a>(
     } else {
         statement(alloc, words, levels, state, tokens)
     }
+}
+
+/// What stands inside a statement in which statements stand at most so many levels deep, where an annotation begins it.
+#[tactic(auto, using(crate::proofs::Steps::inside_rules))]
+#[cycle(statement)]
+fn inside<'a>(
+    alloc: Global,
+    words: &[Word],
+    levels: u32,
+    state: AnnotationState,
+    tokens: &'a [Token],
+) -> StatementRead<'a>
+    ensures { Gives (λ x. ((plain_stmt x.0, x.1), plain_list x.2.now)) result ((inside_in words.now levels state).parse
+        (plain_list tokens.now)) }
+{
+    if levels == 0 {
+        return if next_begins_branch(words, tokens) {
+            Err(ReadFault::Over(Limit::Nesting, left(tokens)))
+        } else {
+            Err(ReadFault::At(left(tokens)))
+        };
+    }
+    branch(alloc, words, levels - 1, state, tokens)
 }

@@ -4,7 +4,7 @@ use Rattle.grammar.specs.Syntax.{Syntax, none, gives, one, knot_at}
 use Rattle.grammar.specs.Exact.{Same}
 use Rattle.grammar_laws.proofs.Chains.{Reaches, still, sequence, alternatives, repetition, inner_knot, reached, knot_line}
 use Rattle.c_syntax.specs.declared.place.Place.{Place}
-use Rattle.c_syntax.specs.Formulas.{CastType, Integers, OfC, Form, Unary, Binary, Cast, Index, Told, Asks, Separated, Connected, Choice, FormLinks, NoLink, Linked, FormZone}
+use Rattle.c_syntax.specs.Formulas.{CastType, Integers, OfC, Form, Unary, Binary, Cast, Index, Told, Asks, Separated, Old, At, Connected, Choice, FormLinks, NoLink, Linked, FormZone}
 use Rattle.c_syntax.specs.declared.expression.BinOp.TheVariants.{Add}
 use Rattle.c_syntax.specs.declared.logic.Connective.TheVariants as connective
 use Rattle.c_syntax.specs.Tokens.{PlainToken}
@@ -17,9 +17,10 @@ use Rattle.c_model.specs.declared.vocabulary.Keyword.TheVariants as keyword
 use Rattle.c_model.specs.Vocabulary.{Vocabulary}
 use Rattle.c_model.specs.Terminals.{placed, mark_entry}
 use Rattle.c_model.specs.Punctuators.{plus, left_paren, right_paren, left_bracket, right_bracket, comma, dot, dots, question, colon, implies}
-use Rattle.c_model.specs.ExpressionGrammar.{kinds_of, first_type, fact_kind, question_kind, separated_kind, keyword_kind, mark_kind, fixed, mark, closed, type_name, expression}
-use Rattle.c_model.specs.AnnotationGrammar.{formula_kind, integer_kind, first_behind, fact_of, question_of, integer_word, Spanned, range_at, zone_of, zones_of, unended_kinds, unended, unended_only, as_it_is}
-use Rattle.c_model.specs.AnnotationGrammar.{whole, zone, told_form, asked_form, next_zone, some_zones, separated_form, atom, worded, indexed, dotted, pointed, postfix_once, postfixes, worded_postfix, cast_behind, cast_to_type}
+use Rattle.c_model.specs.ExpressionGrammar.{kinds_of, first_type, fact_kind, question_kind, separated_kind, old_kind, at_kind, keyword_kind, mark_kind, fixed, mark, closed, type_name, expression}
+use Rattle.c_model.specs.AnnotationGrammar.{formula_kind, integer_kind, first_behind, fact_of, question_of, formula_name_of, integer_word, Spanned, range_at, zone_of, zones_of, unended_kinds, unended, unended_only, as_it_is}
+use Rattle.c_model.specs.AnnotationGrammar.{whole, zone, told_form, asked_form, next_zone, some_zones, separated_form, old_form, labelled_form, atom, worded, indexed, dotted, pointed, postfix_once, postfixes, worded_postfix, cast_behind}
+use Rattle.c_model.specs.AnnotationGrammar.{cast_to_type}
 use Rattle.c_model.specs.AnnotationGrammar.{cast_to_integer, closed_postfix, parenthesised, behind_parenthesis, prefix_operators, prefixed, bare_prefix, prefix_of, prefix, sized_form, joined_once, joined_more, joined, joined_forms}
 use Rattle.c_model.specs.AnnotationGrammar.{factor, product, added_rest, ranged, behind_first, added_parenthesis, added, sum_once, sum_more, zone_sum, relations_behind, direction_behind, linked, links_of, links, chain_behind, chain_of}
 use Rattle.c_model.specs.AnnotationGrammar.{chained, implied, implication_behind, implication_of, chosen_behind, choice_behind, sum, shift, chain, bit_and, bit_xor, bit_or, conjunction, exclusion, disjunction, implication, equivalence}
@@ -124,14 +125,18 @@ module _ (ws : Vocabulary) where
 
   module _ {E : ℕ → Forms} {E' : Forms} {Z : ℕ → Zones} {Z' : Zones} (e : Reaches E E') (z : Reaches Z Z') where
     worded_reaches : Reaches (λ k. worded ws (E k) (Z k)) (worded ws E' Z')
-    unfolding worded told_form asked_form separated_form some_zones
+    unfolding worded told_form asked_form separated_form some_zones old_form labelled_form
     worded_reaches =
         alternatives (formula_kind ws) (fact_kind ∷ []) (sequence (still (one (placed (fact_of ws)))) (λ f. sequence (still (mark ws left_paren)) (λ _. sequence e (λ x. still (closed ws (Told f.1 f.0 x))))))
         (alternatives (formula_kind ws) (question_kind ∷ []) (sequence (still (one (placed (question_of ws)))) (λ q. sequence (still (mark ws left_paren)) (λ _. sequence z (λ x. still (closed ws (Asks q.1 q.0 x))))))
         (alternatives (formula_kind ws) (separated_kind ∷ [])
         (sequence (still (fixed ws separated_kind)) (λ at. sequence (still (mark ws left_paren)) (λ _.
         sequence (sequence z (λ x. sequence (next_zone_reaches z (x ∷ [])) (λ xs. repetition (formula_kind ws) (λ _. mark_kind comma ∷ []) (next_zone_reaches z) xs))) (λ xs. still (closed ws (Separated at (zones_of xs)))))))
-        (still (atom ws))))
+        (alternatives (formula_kind ws) (old_kind ∷ []) (sequence (still (fixed ws old_kind)) (λ at. sequence (still (mark ws left_paren)) (λ _. sequence e (λ x. still (closed ws (Old at x))))))
+        (alternatives (formula_kind ws) (at_kind ∷ [])
+        (sequence (still (fixed ws at_kind)) (λ at. sequence (still (mark ws left_paren)) (λ _. sequence e (λ x. sequence (still (mark ws comma)) (λ _.
+        sequence (still (one (placed (formula_name_of ws)))) (λ l. still (closed ws (At at x l.1 l.0))))))))
+        (still (atom ws))))))
 
     worded_postfix_reaches : Reaches (λ k. worded_postfix ws (E k) (Z k)) (worded_postfix ws E' Z')
     unfolding worded_postfix

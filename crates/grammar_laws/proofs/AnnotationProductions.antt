@@ -1,22 +1,22 @@
--- The productions of annotations are those of the head of their grammar.
+-- The productions of prefix forms are those of the head of their grammar.
 use Rattle.std.proofs.Common.{ℕ, List, [], ◌∷◌, refl, inl, inr}
-use Rattle.grammar.specs.Syntax.{Syntax, gives, ◌then◌, many}
+use Rattle.grammar.specs.Syntax.{Syntax, gives, one, ◌then◌, many}
 use Rattle.grammar.specs.Exact.{Same}
 use Rattle.grammar.proofs.Forms.{to_left}
 use Rattle.grammar_laws.proofs.Inclusions.{Within, both, forth, back, itself, ◌so◌, either, first, second, each, on, in_turn, after_either, either_before}
 use Rattle.grammar_laws.proofs.Inclusions.{handed, handed_back, three, three_back, turns}
 use Rattle.grammar_laws.proofs.AnnotationKnots.{prefix_knot}
-use Rattle.c_syntax.specs.Formulas.{CastType, Integers, OfC, Form, Index, Dot, Arrow, Cast, Separated, FormZone}
+use Rattle.c_syntax.specs.Formulas.{CastType, Integers, OfC, Form, Number, Letter, Truth, Name, Null, Result, Told, Asks, Old, At, Index, Dot, Arrow, Cast, Separated, FormZone}
 use Rattle.c_syntax.specs.declared.place.Place.{Place}
 use Rattle.c_syntax.specs.Tokens.{PlainToken}
 use Rattle.c_model.specs.Vocabulary.{Vocabulary}
+use Rattle.c_model.specs.Terminals.{placed}
 use Rattle.c_model.specs.Punctuators.{left_paren, right_paren, left_bracket, right_bracket, dot, arrow, comma}
-use Rattle.c_syntax.specs.Logic.{Annotation}
-use Rattle.c_model.specs.ExpressionGrammar.{annot_open_kind, annot_close_kind, fixed, kinds_of, mark_kind, first_type, number_kind, letter_kind, name_kind, null_kind, fact_kind, question_kind, separated_kind}
+use Rattle.c_model.specs.ExpressionGrammar.{fixed, use_of, number_of, letter_of, kinds_of, mark_kind, first_type, number_kind, letter_kind, name_kind, null_kind, fact_kind, question_kind, separated_kind, result_kind, old_kind, at_kind}
 use Rattle.c_model.specs.ExpressionGrammar.{keyword_kind, mark, any_name, type_name, expression, closed}
 use Rattle.c_model.specs.declared.vocabulary.Keyword.TheVariants as keyword
 use Rattle.c_model.specs.AnnotationGrammar as parsed
-use Rattle.c_model.specs.AnnotationGrammar.{formula_kind, integer_kind, integer_word, prefix_operators, first_behind, first_clause, zones_of, annotations, asserts, next_assert}
+use Rattle.c_model.specs.AnnotationGrammar.{formula_kind, integer_kind, integer_word, prefix_operators, first_behind, zones_of, formula_name_of, truth_of, fact_of, question_of}
 use Rattle.grammar_laws.specs.Plain.{◌or◌, repeated}
 use Rattle.grammar_laws.specs.AnnotationProductions as production
 
@@ -84,16 +84,20 @@ module _ (ws : Vocabulary) where
   -- ---- primary forms
 
   worded_forth : Within (parsed.worded ws F Z) (production.primary ws)
-  unfolding parsed.worded parsed.told_form parsed.asked_form parsed.separated_form parsed.next_zone parsed.atom parsed.named_form parsed.null_form parsed.literal_form closed
+  unfolding parsed.worded parsed.told_form parsed.asked_form parsed.separated_form parsed.old_form parsed.labelled_form parsed.next_zone parsed.atom parsed.named_form parsed.null_form parsed.result_form parsed.literal_form closed
   worded_forth =
-      either (formula_kind ws) (fact_kind ∷ []) (second no [] _ (second no [] _ (second no [] _ (second no [] _ (second no [] _ (second no [] _ (first no [] _ (itself _))))))))
-      (either (formula_kind ws) (question_kind ∷ []) (second no [] _ (second no [] _ (second no [] _ (second no [] _ (second no [] _ (second no [] _ (second no [] _ (first no [] _ (itself _)))))))))
-      (either (formula_kind ws) (separated_kind ∷ []) (second no [] _ (second no [] _ (second no [] _ (second no [] _ (second no [] _ (second no [] _ (second no [] _ (second no [] _ (on (fixed ws separated_kind) (λ at. on
-      (mark ws left_paren) (λ _. zones_forth at)))))))))))
+      either (formula_kind ws) (fact_kind ∷ []) (second no [] _ (second no [] _ (second no [] _ (second no [] _ (second no [] _ (second no [] _ (second no [] _ (first no [] _ (itself _)))))))))
+      (either (formula_kind ws) (question_kind ∷ []) (second no [] _ (second no [] _ (second no [] _ (second no [] _ (second no [] _ (second no [] _ (second no [] _ (second no [] _ (first no [] _ (itself _))))))))))
+      (either (formula_kind ws) (separated_kind ∷ [])
+      (second no [] _ (second no [] _ (second no [] _ (second no [] _ (second no [] _ (second no [] _ (second no [] _ (second no [] _ (second no [] _
+      (first no [] _ (on (fixed ws separated_kind) (λ at. on (mark ws left_paren) (λ _. zones_forth at)))))))))))))
+      (either (formula_kind ws) (old_kind ∷ []) (second no [] _ (second no [] _ (second no [] _ (second no [] _ (second no [] _ (second no [] _ (second no [] _ (second no [] _ (second no [] _ (second no [] _ (first no [] _ (itself _))))))))))))
+      (either (formula_kind ws) (at_kind ∷ []) (second no [] _ (second no [] _ (second no [] _ (second no [] _ (second no [] _ (second no [] _ (second no [] _ (second no [] _ (second no [] _ (second no [] _ (second no [] _ (itself _))))))))))))
       (either (formula_kind ws) (name_kind ∷ []) (first no [] _ (itself _))
       (either (formula_kind ws) (null_kind ∷ []) (second no [] _ (second no [] _ (second no [] _ (second no [] _ (first no [] _ (itself _))))))
+      (either (formula_kind ws) (result_kind ∷ []) (second no [] _ (second no [] _ (second no [] _ (second no [] _ (second no [] _ (first no [] _ (itself _)))))))
       (either (formula_kind ws) (number_kind ∷ []) (second no [] _ (first no [] _ (itself _)))
-      (either (formula_kind ws) (letter_kind ∷ []) (second no [] _ (second no [] _ (first no [] _ (itself _)))) (second no [] _ (second no [] _ (second no [] _ (first no [] _ (itself _)))))))))))
+      (either (formula_kind ws) (letter_kind ∷ []) (second no [] _ (second no [] _ (first no [] _ (itself _)))) (second no [] _ (second no [] _ (second no [] _ (first no [] _ (itself _))))))))))))))
 
   -- ---- prefixes
 
@@ -112,7 +116,8 @@ module _ (ws : Vocabulary) where
   unfolding parsed.parenthesised parsed.closed_postfix
   parenthesised_forth =
       on (mark ws left_paren) (λ _. on F (λ x. on (mark ws right_paren) (λ _. forth (postfixes_line x))))
-      so three (mark ws left_paren) (λ _. F) (λ _ _. mark ws right_paren) (λ _ x. x) behind so in_turn (second no [] _ (second no [] _ (second no [] _ (second no [] _ (second no [] _ (first no [] _ (itself _))))))) (λ x. itself (behind x))
+      so three (mark ws left_paren) (λ _. F) (λ _ _. mark ws right_paren) (λ _ x. x) behind
+      so in_turn (second no [] _ (second no [] _ (second no [] _ (second no [] _ (second no [] _ (second no [] _ (first no [] _ (itself _)))))))) (λ x. itself (behind x))
 
   parenthesised_back : Within ((mark ws left_paren then λ _. F then λ x. mark ws right_paren then λ _. gives x) then behind) (mark ws left_paren then λ _. parsed.parenthesised ws F)
   unfolding parsed.parenthesised parsed.closed_postfix
@@ -149,25 +154,72 @@ module _ (ws : Vocabulary) where
 
   in_atom : (X : Syntax PlainToken Form) → Within X (parsed.atom ws) → Within X (parsed.worded ws F Z)
   unfolding parsed.worded
-  in_atom X w = second (formula_kind ws) (fact_kind ∷ []) _ (second (formula_kind ws) (question_kind ∷ []) _ (second (formula_kind ws) (separated_kind ∷ []) _ w))
+  in_atom X w =
+      second (formula_kind ws) (fact_kind ∷ []) _ (second (formula_kind ws) (question_kind ∷ []) _ (second (formula_kind ws) (separated_kind ∷ []) _ (second (formula_kind ws) (old_kind ∷ []) _ (second (formula_kind ws) (at_kind ∷ []) _ w))))
 
-  in_literal : (X : Syntax PlainToken Form) → Within X (parsed.literal_form ws) → Within X (parsed.worded ws F Z)
-  unfolding parsed.atom
-  in_literal X w = in_atom X (second (formula_kind ws) (name_kind ∷ []) _ (second (formula_kind ws) (null_kind ∷ []) _ w))
+  -- a primary form that begins with a word of its own
+  abbrev ByWord : Syntax PlainToken Form
+  ByWord =
+      (one (placed (fact_of ws)) then λ f. mark ws left_paren then λ _. F then λ x. mark ws right_paren then λ _. gives (Told f.1 f.0 x))
+      or (one (placed (question_of ws)) then λ q. mark ws left_paren then λ _. Z then λ z. mark ws right_paren then λ _. gives (Asks q.1 q.0 z))
+      or (fixed ws separated_kind then λ at. mark ws left_paren then λ _. separated_zones at)
+      or (fixed ws old_kind then λ at. mark ws left_paren then λ _. F then λ x. mark ws right_paren then λ _. gives (Old at x))
+      or (fixed ws at_kind then λ at. mark ws left_paren then λ _. F then λ x. mark ws comma then λ _. one (placed (formula_name_of ws)) then λ l.
+      mark ws right_paren then λ _. gives (At at x l.1 l.0))
+
+  by_word_back : Within (ByWord then behind) (parsed.prefix_of ws F Z P)
+  unfolding parsed.worded parsed.told_form parsed.asked_form parsed.separated_form parsed.old_form parsed.labelled_form parsed.next_zone closed
+  by_word_back =
+      simple ByWord
+      (either no [] (first (formula_kind ws) (fact_kind ∷ []) _ (itself _))
+      (either no [] (second (formula_kind ws) (fact_kind ∷ []) _ (first (formula_kind ws) (question_kind ∷ []) _ (itself _)))
+      (either no [] (second (formula_kind ws) (fact_kind ∷ []) _ (second (formula_kind ws) (question_kind ∷ []) _ (first (formula_kind ws) (separated_kind ∷ []) _
+      (on (fixed ws separated_kind) (λ at. on (mark ws left_paren) (λ _. zones_back at))))))
+      (either no [] (second (formula_kind ws) (fact_kind ∷ []) _ (second (formula_kind ws) (question_kind ∷ []) _ (second (formula_kind ws) (separated_kind ∷ []) _ (first (formula_kind ws) (old_kind ∷ []) _ (itself _)))))
+      (second (formula_kind ws) (fact_kind ∷ []) _ (second (formula_kind ws) (question_kind ∷ []) _ (second (formula_kind ws) (separated_kind ∷ []) _ (second (formula_kind ws) (old_kind ∷ []) _
+      (first (formula_kind ws) (at_kind ∷ []) _ (itself _))))))))))
+
+  -- a name, a literal, `\null` or `\result`
+  abbrev ByAtom : Syntax PlainToken Form
+  ByAtom =
+      (one (placed (formula_name_of ws)) then λ x. gives (Name x.1 (use_of x.0)))
+      or (one (placed number_of) then λ n. gives (Number n.1 n.0.0))
+      or (one (placed letter_of) then λ z. gives (Letter z.1 z.0))
+      or (one (placed (truth_of ws)) then λ b. gives (Truth b.1 b.0))
+      or (fixed ws null_kind then λ at. gives (Null at))
+      or (fixed ws result_kind then λ at. gives (Result at))
+
+  atoms_in : Within ByAtom (parsed.atom ws)
+  unfolding parsed.atom parsed.named_form parsed.null_form parsed.result_form parsed.literal_form
+  atoms_in =
+      either no [] (first (formula_kind ws) (name_kind ∷ []) _ (itself _))
+      (either no [] (second (formula_kind ws) (name_kind ∷ []) _ (second (formula_kind ws) (null_kind ∷ []) _ (second (formula_kind ws) (result_kind ∷ []) _ (first (formula_kind ws) (number_kind ∷ []) _ (itself _)))))
+      (either no [] (second (formula_kind ws) (name_kind ∷ []) _ (second (formula_kind ws) (null_kind ∷ []) _ (second (formula_kind ws) (result_kind ∷ []) _ (second (formula_kind ws) (number_kind ∷ []) _
+      (first (formula_kind ws) (letter_kind ∷ []) _ (itself _))))))
+      (either no [] (second (formula_kind ws) (name_kind ∷ []) _ (second (formula_kind ws) (null_kind ∷ []) _ (second (formula_kind ws) (result_kind ∷ []) _ (second (formula_kind ws) (number_kind ∷ []) _
+      (second (formula_kind ws) (letter_kind ∷ []) _ (itself _))))))
+      (either no [] (second (formula_kind ws) (name_kind ∷ []) _ (first (formula_kind ws) (null_kind ∷ []) _ (itself _)))
+      (second (formula_kind ws) (name_kind ∷ []) _ (second (formula_kind ws) (null_kind ∷ []) _ (first (formula_kind ws) (result_kind ∷ []) _ (itself _))))))))
+
+  -- the alternatives in another order: atoms, forms in parentheses, and the others
+  abbrev Closed : Syntax PlainToken Form
+  Closed = mark ws left_paren then λ _. F then λ x. mark ws right_paren then λ _. gives x
+
+  regrouped : Within (production.primary ws) (ByAtom or Closed or ByWord)
+  unfolding parsed.next_zone
+  regrouped =
+      either no [] (first no [] _ (first no [] _ (itself _)))
+      (either no [] (first no [] _ (second no [] _ (first no [] _ (itself _))))
+      (either no [] (first no [] _ (second no [] _ (second no [] _ (first no [] _ (itself _)))))
+      (either no [] (first no [] _ (second no [] _ (second no [] _ (second no [] _ (first no [] _ (itself _))))))
+      (either no [] (first no [] _ (second no [] _ (second no [] _ (second no [] _ (second no [] _ (first no [] _ (itself _)))))))
+      (either no [] (first no [] _ (second no [] _ (second no [] _ (second no [] _ (second no [] _ (second no [] _ (itself _)))))))
+      (second no [] _ (itself (Closed or ByWord))))))))
 
   named_back : Within (production.primary ws then behind) (parsed.prefix_of ws F Z P)
-  unfolding parsed.worded parsed.told_form parsed.asked_form parsed.separated_form parsed.next_zone parsed.atom parsed.named_form parsed.null_form parsed.literal_form closed
   named_back =
-      either_before no [] behind (simple _ (in_atom _ (first (formula_kind ws) (name_kind ∷ []) _ (itself _))))
-      (either_before no [] behind (simple _ (in_literal _ (first (formula_kind ws) (number_kind ∷ []) _ (itself _))))
-      (either_before no [] behind (simple _ (in_literal _ (second (formula_kind ws) (number_kind ∷ []) _ (first (formula_kind ws) (letter_kind ∷ []) _ (itself _)))))
-      (either_before no [] behind (simple _ (in_literal _ (second (formula_kind ws) (number_kind ∷ []) _ (second (formula_kind ws) (letter_kind ∷ []) _ (itself _)))))
-      (either_before no [] behind (simple _ (in_atom _ (second (formula_kind ws) (name_kind ∷ []) _ (first (formula_kind ws) (null_kind ∷ []) _ (itself _)))))
-      (either_before no [] behind (parenthesised_back so parenthesis_in)
-      (either_before no [] behind (simple _ (first (formula_kind ws) (fact_kind ∷ []) _ (itself _)))
-      (either_before no [] behind (simple _ (second (formula_kind ws) (fact_kind ∷ []) _ (first (formula_kind ws) (question_kind ∷ []) _ (itself _))))
-      (simple _ (second (formula_kind ws) (fact_kind ∷ []) _ (second (formula_kind ws) (question_kind ∷ []) _ (first (formula_kind ws) (separated_kind ∷ []) _ (on (fixed ws separated_kind) (λ at. on (mark ws left_paren)
-      (λ _. zones_back at))))))))))))))
+      in_turn regrouped (λ x. itself (behind x))
+      so either_before no [] behind (simple ByAtom (in_atom ByAtom atoms_in)) (either_before no [] behind (parenthesised_back so parenthesis_in) by_word_back)
 
   prefix_back : Within (production.prefix ws) (parsed.prefix_of ws F Z P)
   unfolding parsed.prefix_of parsed.behind_parenthesis parsed.cast_to_type parsed.cast_to_integer parsed.cast_behind parsed.bare_prefix parsed.prefixed parsed.sized_form closed
@@ -182,24 +234,3 @@ module _ (ws : Vocabulary) where
 
   pub prefix_line : Same P (production.prefix ws)
   prefix_line = both (forth (prefix_knot ws F Z) so prefix_forth) (prefix_back so back (prefix_knot ws F Z))
-
-  -- ---- annotations
-
-  abbrev One : ℕ → Syntax PlainToken (List Annotation × ℕ)
-  One n = production.one_assert ws ([], n)
-
-  abbrev more : List Annotation × ℕ → Syntax PlainToken (List Annotation × ℕ)
-  more x = many (formula_kind ws) (λ _. first_clause) (production.one_assert ws) x
-
-  abbrev closing : List Annotation × ℕ → Syntax PlainToken (List Annotation × ℕ)
-  closing x = fixed ws annot_close_kind then λ _. gives x
-
-  pub annotation_line : (n : ℕ) → Same (annotations ws n) (production.annotation ws n)
-  unfolding annotations asserts next_assert
-  annotation_line n =
-      both (on (fixed ws annot_open_kind) (λ _. back (to_left (One n) more closing) so on (One n) (λ x. in_turn (turns (formula_kind ws) (λ _. first_clause) no (λ _. []) (λ y. itself _) x) (λ y. itself _))))
-      (on (fixed ws annot_open_kind) (λ _. on (One n) (λ x. in_turn (turns no (λ _. []) (formula_kind ws) (λ _. first_clause) (λ y. itself _) x) (λ y. itself _)) so forth (to_left (One n) more closing)))
-
-  pub assert_line : (n : ℕ) → Same (parsed.full_clause ws n) (production.assert ws n)
-  unfolding parsed.full_clause parsed.assert_clause
-  assert_line n = both (itself _) (itself _)

@@ -22,7 +22,7 @@ use Rattle.c_model.specs.Terminals.{placed, mark_entry}
 use Rattle.c_model.specs.Punctuators.{comma, left_paren, right_paren}
 use Rattle.c_model.specs.ExpressionGrammar.{ReadOperand, kind, kinds_of, mark_kind, assignment_operators, prefix_bumps, unary_operators, read_as, read_operand}
 use Rattle.c_model.specs.ExpressionGrammar.{mark, reserved, type_name, operand, conditional_rest, assigned, behind_unary, behind_form, at_level, next_part}
-use Rattle.c_model.specs.ExpressionGrammar.{with_commas, expression_at, expression, placed_expression}
+use Rattle.c_model.specs.ExpressionGrammar.{with_commas, expression_at, expression, placed_rest, placed_expression}
 use Rattle.grammar_laws.specs.ExpressionProductions as production
 
 abbrev no : PlainToken → ℕ
@@ -243,7 +243,7 @@ module _ (ws : Vocabulary) where
   Counted x = After x then Placed x
 
   placed_parts : Same (placed_expression ws) (O type_use.Casts then Counted)
-  unfolding placed_expression
+  unfolding placed_expression placed_rest
   placed_parts = both (itself _) (itself _)
 
   commas_parts : Same E (A then More)

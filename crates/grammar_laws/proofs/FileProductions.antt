@@ -1,15 +1,17 @@
 -- The productions of declarations at file scope are those of the heads of their grammars.
-use Rattle.std.proofs.Common.{ℕ, ◌-◌, Bool, true, false, not, List, [], ◌∷◌, ◌++◌, refl, inl, inr}
+use Rattle.std.proofs.Common.{ℕ, ◌-◌, None, Bool, true, false, not, List, [], ◌∷◌, ◌++◌, refl, inl, inr}
 use Rattle.grammar.specs.Syntax.{Syntax, none, gives, ◌then◌, many}
 use Rattle.grammar.specs.Exact.{Same}
 use Rattle.grammar.proofs.Forms.{to_left}
-use Rattle.grammar_laws.specs.Plain.{◌or◌, repeated}
+use Rattle.grammar_laws.specs.Plain.{◌or◌, repeated, only}
 use Rattle.grammar_laws.proofs.Inclusions.{Within, both, forth, back, itself, ◌so◌, either, first, second, each, nothing, on, in_turn, turns, apart_after}
 use Rattle.grammar_laws.proofs.Inclusions.{handed, handed_back, guarded_forth, guarded_back}
 use Rattle.grammar_laws.proofs.StatementProductions.{items_line}
 use Rattle.c_syntax.specs.Ctypes.{PlainType}
 use Rattle.c_syntax.specs.Statements.{Declaration}
+use Rattle.c_syntax.specs.Programs.{Function}
 use Rattle.c_syntax.specs.Tokens.{PlainToken}
+use Rattle.c_model.specs.declared.declarations.AnnotationState.{AnnotationState}
 use Rattle.c_model.specs.declared.declarations.Named.TheVariants as named
 use Rattle.c_model.specs.declared.declarations.Storage.{Storage}
 use Rattle.c_model.specs.declared.declarations.Storage.TheVariants as storage
@@ -19,10 +21,10 @@ use Rattle.c_model.specs.Punctuators.{assign, semicolon, comma, left_paren, left
 use Rattle.c_model.specs.ExpressionGrammar.{kind, mark_kind, keyword_kind, annot_open_kind, most_nested, pointers, mark, star_words}
 use Rattle.c_model.specs.DeclarationGrammar.{Declarator, Definitions, FileSpec, names_function, storage_words, storage_word, more_storage, full_dtor, dtor}
 use Rattle.c_model.specs.DeclarationGrammar.{initialised, declared_once, next_declared, more_declared, ended, parameters, file_spec}
-use Rattle.c_model.specs.ProgramGrammar.{FileParts, with_nameless, with_typedef, statement_in, misplaced, strays, function_rest, behind_declarator}
+use Rattle.c_model.specs.ProgramGrammar.{FileParts, with_nameless, with_typedef, contract_taken, after_contract, awaiting_nothing, statement_in, inside_in, next_stray, strays, function_rest, behind_declarator}
 use Rattle.c_model.specs.ProgramGrammar.{declared_at_file, next_typedef, more_typedefs, typedefs, behind_spec, declared_external, any_kind, more_external}
 use Rattle.c_model.specs.ProgramGrammar as parsed
-use Rattle.grammar_laws.specs.FileProductions.{only, no_storage, is_typedef}
+use Rattle.grammar_laws.specs.FileProductions.{no_storage, is_typedef}
 use Rattle.grammar_laws.specs.DeclarationProductions as written
 use Rattle.grammar_laws.specs.FileProductions as production
 
@@ -91,16 +93,22 @@ module _ (ws : Vocabulary) where
     unfolding parsed.globals initialised
     globals_empty d = inl (inr refl)
 
-    rest_line : (d : Declarator) (params : List Declaration) → Same (function_rest ws (pointers d.stars.count t) (d.name, d.place) params x.annotations) (production.function_rest ws t d params x.annotations)
+    -- the body of a function stands behind its contract
+    abbrev Taken : Declarator → List Declaration → Syntax PlainToken (Function × AnnotationState)
+    Taken d params = production.function_rest ws t d params (contract_taken x d.name) (after_contract x d.name)
+
+    rest_line : (d : Declarator) (params : List Declaration)
+        → Same (function_rest ws (pointers d.stars.count t) (d.name, d.place) params (contract_taken x d.name) (after_contract x d.name)) (Taken d params)
     unfolding function_rest
     rest_line d params =
-        both (each (kind ws) (mark_kind semicolon ∷ []) no [] (itself _) (on (mark ws left_brace) (λ start. in_turn (forth (items_line ws (statement_in ws (most_nested - 1)) x.annotations)) (λ y. itself _))))
-        (each no [] (kind ws) (mark_kind semicolon ∷ []) (itself _) (on (mark ws left_brace) (λ start. in_turn (back (items_line ws (statement_in ws (most_nested - 1)) x.annotations)) (λ y. itself _))))
+        let body = items_line ws (statement_in ws (most_nested - 1)) (inside_in ws (most_nested - 1)) (after_contract x d.name) in
+        both (each (kind ws) (mark_kind semicolon ∷ []) no [] (itself _) (on (mark ws left_brace) (λ start. in_turn (forth body) (λ y. itself _))))
+        (each no [] (kind ws) (mark_kind semicolon ∷ []) (itself _) (on (mark ws left_brace) (λ start. in_turn (back body) (λ y. itself _))))
 
     abbrev Called : Declarator → Syntax PlainToken FileParts
     Called d =
-        mark ws left_paren then λ _. parameters ws then λ params. production.function_rest ws t d params x.annotations then λ f.
-        gives (record x { functions = x.functions ++ f.0 ∷ []; annotations = f.1 })
+        mark ws left_paren then λ _. parameters ws then λ params. Taken d params then λ f.
+        gives (record x { functions = x.functions ++ f.0 ∷ []; annotations = f.1; awaiting = None })
 
     function_line : (d : Declarator) → Same (parsed.function ws t x d) (Called d)
     unfolding parsed.function
@@ -196,11 +204,11 @@ external_line x =
 
 -- ---- units
 
-external_turn : (x : FileParts) → Same (parsed.external x) (repeated (misplaced x.words) x.annotations then λ s. declared_external (record x { annotations = s }))
+external_turn : (x : FileParts) → Same (parsed.external x) (repeated (next_stray x.words) (x.annotations, None) then λ s. declared_external (record x { annotations = s.0; awaiting = s.1 }) then λ z. gives (awaiting_nothing z))
 unfolding parsed.external strays
 external_turn x =
-    both (in_turn (turns (kind x.words) (λ _. annot_open_kind ∷ []) no (λ _. []) (λ s. itself _) x.annotations) (λ s. itself _))
-    (in_turn (turns no (λ _. []) (kind x.words) (λ _. annot_open_kind ∷ []) (λ s. itself _) x.annotations) (λ s. itself _))
+    both (in_turn (turns (kind x.words) (λ _. annot_open_kind ∷ []) no (λ _. []) (λ s. itself _) (x.annotations, None)) (λ s. itself _))
+    (in_turn (turns no (λ _. []) (kind x.words) (λ _. annot_open_kind ∷ []) (λ s. itself _) (x.annotations, None)) (λ s. itself _))
 
 pub unit_line : (x : FileParts) → Same (more_external x) (production.unit x)
 unfolding more_external

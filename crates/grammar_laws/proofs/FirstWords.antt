@@ -45,6 +45,9 @@ no_logic_word logic.Null k l g h = let e = eqb-true 35 k h in omega (arith, g, e
 no_logic_word (logic.Told f) k l g h = let e = eqb-true 36 k h in omega (arith, g, e)
 no_logic_word (logic.Asks q) k l g h = let e = eqb-true 37 k h in omega (arith, g, e)
 no_logic_word logic.Separated k l g h = let e = eqb-true 38 k h in omega (arith, g, e)
+no_logic_word logic.Result k l g h = let e = eqb-true 39 k h in omega (arith, g, e)
+no_logic_word logic.Old k l g h = let e = eqb-true 40 k h in omega (arith, g, e)
+no_logic_word logic.At k l g h = let e = eqb-true 41 k h in omega (arith, g, e)
 no_logic_word logic.Kept k l g h = let e = eqb-true 5 k h in omega (arith, l, e)
 
 const_only : (w : Word) → eqb (word_kind w) (keyword_kind keyword.Const) ≡ true → w ≡ word.Keyword keyword.Const
@@ -90,8 +93,8 @@ module _ (ws : Vocabulary) where
   too_small : (k : Keyword) (m : ℕ) → IsAlone k → m ≤ 8 → eqb m (keyword_kind k) ≡ true → ⊥
   too_small k m s le e = let same : m ≡ keyword_kind k = eqb-true m (keyword_kind k) e in let least = s.least in omega arith
 
-  too_great : (k : Keyword) (m : ℕ) → IsAlone k → eqb (40 + m) (keyword_kind k) ≡ true → ⊥
-  too_great k m s e = let same : 40 + m ≡ keyword_kind k = eqb-true (40 + m) (keyword_kind k) e in let most = s.most in omega arith
+  too_great : (k : Keyword) (m : ℕ) → IsAlone k → eqb (60 + m) (keyword_kind k) ≡ true → ⊥
+  too_great k m s e = let same : 60 + m ≡ keyword_kind k = eqb-true (60 + m) (keyword_kind k) e in let most = s.most in omega arith
 
   word_of_kind : (k : Keyword) (t : PlainTokenKind) → IsAlone k → is_kind k t ≡ true → IsWord t k
   word_of_kind k (token.Word n) s e = (n, refl, s.only (word_at ws n) e)

@@ -16,11 +16,13 @@ pub mod TypeProductions
 pub mod AssignmentProductions
 pub mod CommaLists
 pub mod DeclarationProductions
+pub mod FirstNames
 pub mod StatementProductions
 pub mod FileProductions
 pub mod DeclaratorProductions
 pub mod FirstWords
 pub mod ParameterProductions
 pub mod AnnotationProductions
+pub mod ClauseProductions
 pub mod ChainProductions
 pub mod MonitoredProductions

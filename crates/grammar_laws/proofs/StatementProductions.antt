@@ -1,24 +1,28 @@
 -- The productions of statements are those of the head of their grammar.
-use Rattle.std.proofs.Common.{ℕ, zero, suc, cond, List, [], ◌∷◌, Option, Some, None, refl, inl, inr}
-use Rattle.grammar.specs.Syntax.{Syntax, none, gives, ◌then◌, deep}
+use Rattle.std.proofs.Common.{ℕ, zero, suc, cond, not, List, [], ◌∷◌, Option, Some, None, refl, inl, inr}
+use Rattle.grammar.specs.Syntax.{Syntax, none, gives, ◌then◌, choice, deep}
 use Rattle.grammar.specs.Exact.{Same}
-use Rattle.grammar_laws.specs.Plain.{◌or◌}
+use Rattle.grammar.proofs.Forms.{to_left}
+use Rattle.grammar_laws.specs.Plain.{◌or◌, only}
+use Rattle.grammar_laws.proofs.FirstNames.{full_forth, full_back}
 use Rattle.grammar_laws.proofs.Inclusions.{Within, both, forth, back, itself, ◌so◌, first, each, on, in_turn, turns, unless_forth, unless_back, maybe_forth}
-use Rattle.grammar_laws.proofs.Inclusions.{either, second, maybe_back, deeper}
+use Rattle.grammar_laws.proofs.Inclusions.{either, second, nothing, apart_after, either_before, maybe_back, deeper}
 use Rattle.c_syntax.specs.declared.place.Place.{Place}
 use Rattle.c_syntax.specs.Expressions.{Expression}
 use Rattle.c_syntax.specs.Statements as statement
-use Rattle.c_syntax.specs.Statements.{Statement, NoElse, ForFirst}
+use Rattle.c_syntax.specs.Statements.{Statement, NoElse, ForFirst, BlockItem}
 use Rattle.c_syntax.specs.Tokens.{PlainToken}
 use Rattle.c_model.specs.declared.declarations.AnnotationState.{AnnotationState}
 use Rattle.c_model.specs.declared.vocabulary.Keyword.TheVariants as keyword
 use Rattle.c_model.specs.Vocabulary.{Vocabulary}
-use Rattle.c_model.specs.Punctuators.{semicolon, left_paren, right_paren, left_brace}
+use Rattle.c_model.specs.Punctuators.{semicolon, colon, left_paren, right_paren, left_brace}
 use Rattle.c_model.specs.Terminals.{nesting_limit}
-use Rattle.c_model.specs.ExpressionGrammar.{annot_open_kind, keyword_kind, mark_kind, kind, first_type, first_expression, mark, reserved}
-use Rattle.c_model.specs.ExpressionGrammar.{closed, full_expression}
+use Rattle.c_model.specs.Library.{is_there}
+use Rattle.c_model.specs.ClauseGrammar.{ReadAnnotation, annotations}
+use Rattle.c_model.specs.ExpressionGrammar.{name_kind, annot_open_kind, keyword_kind, mark_kind, kind, first_type, first_expression, mark, reserved}
+use Rattle.c_model.specs.ExpressionGrammar.{closed, name, full_expression, full_nameless_expression, full_expression_behind}
 use Rattle.c_model.specs.DeclarationGrammar.{ended}
-use Rattle.c_model.specs.ProgramGrammar.{Numbered, ReadCase, first_statement, first_item, first_branch, first_case, is_open, statement_of, branch_of, statement_in, branch_in}
+use Rattle.c_model.specs.ProgramGrammar.{Numbered, ReadCase, first_statement, first_item, first_branch, first_case, is_open, after_placed, after_misplaced, statement_of, branch_of, statement_in, branch_in, inside_in}
 use Rattle.c_model.specs.ProgramGrammar as parsed
 use Rattle.grammar_laws.specs.StatementProductions as production
 
@@ -31,21 +35,58 @@ Stated = Statement × AnnotationState
 module _ (ws : Vocabulary) where
   -- ---- items and blocks
 
-  pub item_line : (T : Numbered) (n : AnnotationState) → Same (parsed.item ws T n) (production.item ws T n)
-  unfolding parsed.item parsed.placed_annotation
-  item_line T n =
-      both (each (kind ws) (annot_open_kind ∷ []) no [] (itself _) (each (kind ws) first_type no [] (itself _) (itself _)))
-      (each no [] (kind ws) (annot_open_kind ∷ []) (itself _) (each no [] (kind ws) first_type (itself _) (itself _)))
+  abbrev Itemized : Type 0
+  Itemized = BlockItem × AnnotationState
 
-  pub items_line : (T : Numbered) (n : AnnotationState) → Same (parsed.items ws T ([], n)) (production.items ws T n)
+  -- what stands behind an annotation, for asserts and for a contract
+  abbrev AsAsserts : AnnotationState → ReadAnnotation × ℕ → Syntax PlainToken Itemized
+  AsAsserts n x = only (not (is_there x.0.1)) (gives (statement.Asserts x.0.0, after_placed n x.1))
+
+  abbrev AsContract : Numbered → AnnotationState → ReadAnnotation × ℕ → Syntax PlainToken Itemized
+  AsContract B n x = only (is_there x.0.1) (B (after_misplaced n x) then λ y. gives (statement.Run y.0, y.1))
+
+  module _ (B : Numbered) (n : AnnotationState) where
+    behind_note : (x : ReadAnnotation × ℕ) → Within (parsed.behind_annotation ws B n x) (AsAsserts n x or AsContract B n x)
+    unfolding parsed.behind_annotation parsed.run_item
+    behind_note ((a, None), k) = first no [] none (itself _)
+    behind_note ((a, Some c), k) = second no [] none (itself _)
+
+    asserts_back : (x : ReadAnnotation × ℕ) → ((m : AnnotationState) → (B m).begun []) → Within (AsAsserts n x) (parsed.behind_annotation ws B n x)
+    unfolding parsed.behind_annotation parsed.run_item
+    asserts_back ((a, None), k) empty = itself _
+    asserts_back ((a, Some c), k) empty = nothing _ (inl (empty _))
+
+    contract_back : (x : ReadAnnotation × ℕ) → Within (AsContract B n x) (parsed.behind_annotation ws B n x)
+    unfolding parsed.behind_annotation parsed.run_item
+    contract_back ((a, None), k) = nothing _ refl
+    contract_back ((a, Some c), k) = itself _
+
+    annotated_forth : Within (parsed.annotated_item ws B n) (production.asserts ws n or production.behind_contract ws B n)
+    unfolding parsed.annotated_item
+    annotated_forth = on (annotations ws n.number) behind_note so apart_after no [] (annotations ws n.number) (AsAsserts n) (AsContract B n)
+
+    annotated_back : ((m : AnnotationState) → (B m).begun []) → Within (production.asserts ws n or production.behind_contract ws B n) (parsed.annotated_item ws B n)
+    unfolding parsed.annotated_item
+    annotated_back empty = either no [] (on (annotations ws n.number) (λ x. asserts_back x empty)) (on (annotations ws n.number) contract_back)
+
+  pub item_line : (T B : Numbered) (n : AnnotationState) → ((m : AnnotationState) → (B m).begun []) → Same (parsed.item ws T B n) (production.item ws T B n)
+  unfolding parsed.item parsed.run_item
+  item_line T B n empty =
+      both (either (kind ws) (annot_open_kind ∷ []) (annotated_forth B n so either no [] (first no [] _ (itself _)) (second no [] _ (first no [] _ (itself _))))
+      (second no [] _ (second no [] _ (each (kind ws) first_type no [] (itself _) (itself _)))))
+      (either no [] (first no [] _ (itself _) so annotated_back B n empty so first (kind ws) (annot_open_kind ∷ []) _ (itself _))
+      (either no [] (second no [] _ (itself _) so annotated_back B n empty so first (kind ws) (annot_open_kind ∷ []) _ (itself _))
+      (second (kind ws) (annot_open_kind ∷ []) _ (each no [] (kind ws) first_type (itself _) (itself _)))))
+
+  pub items_line : (T B : Numbered) (n : AnnotationState) → Same (parsed.items ws T B ([], n)) (production.items ws T B n)
   unfolding parsed.items parsed.items_once
-  items_line T n =
+  items_line T B n =
       both (turns (kind ws) (λ _. first_item) no (λ _. []) (λ y. itself _) ([], n)) (turns no (λ _. []) (kind ws) (λ _. first_item) (λ y. itself _) ([], n))
 
-  block_line : (T : Numbered) (n : AnnotationState) → Same (parsed.block ws T n) (production.block ws T n)
+  block_line : (T B : Numbered) (n : AnnotationState) → Same (parsed.block ws T B n) (production.block ws T B n)
   unfolding parsed.block
-  block_line T n =
-      both (on (mark ws left_brace) (λ at. in_turn (forth (items_line T n)) (λ x. itself _))) (on (mark ws left_brace) (λ at. in_turn (back (items_line T n)) (λ x. itself _)))
+  block_line T B n =
+      both (on (mark ws left_brace) (λ at. in_turn (forth (items_line T B n)) (λ x. itself _))) (on (mark ws left_brace) (λ at. in_turn (back (items_line T B n)) (λ x. itself _)))
 
   -- ---- statements
 
@@ -140,9 +181,48 @@ module _ (ws : Vocabulary) where
   unfolding parsed.empty_statement
   empty_line n = both (itself _) (itself _)
 
-  effect_line : (n : AnnotationState) → Same (parsed.effect_statement ws n) (production.effect_statement ws n)
-  unfolding parsed.effect_statement ended
-  effect_line n = both (itself _) (itself _)
+  -- a label, or an expression that begins with a name; and one that doesn't
+  abbrev AsEffect : AnnotationState → Expression × Place → Syntax PlainToken Stated
+  AsEffect n e = mark ws semicolon then λ _. gives (statement.Eval e.1 e.0, n)
+
+  abbrev NamedEffect : AnnotationState → Syntax PlainToken Stated
+  NamedEffect n = name ws then λ x. full_expression_behind ws x then AsEffect n
+
+  abbrev NamelessEffect : AnnotationState → Syntax PlainToken Stated
+  NamelessEffect n = full_nameless_expression ws then AsEffect n
+
+  effect_forth : (n : AnnotationState) → Within (production.effect_statement ws n) (choice (kind ws) (name_kind ∷ []) (NamedEffect n) (NamelessEffect n))
+  effect_forth n =
+      in_turn (full_forth ws) (λ e. itself (AsEffect n e)) so either_before (kind ws) (name_kind ∷ []) (AsEffect n)
+      (back (to_left (name ws) (λ x. full_expression_behind ws x) (AsEffect n)) so first (kind ws) (name_kind ∷ []) _ (itself (NamedEffect n)))
+      (second (kind ws) (name_kind ∷ []) _ (itself (NamelessEffect n)))
+
+  named_in_effect : (n : AnnotationState) → Within (NamedEffect n) (production.effect_statement ws n)
+  named_in_effect n = forth (to_left (name ws) (λ x. full_expression_behind ws x) (AsEffect n)) so in_turn (first (kind ws) (name_kind ∷ []) _ (itself _) so full_back ws) (λ e. itself (AsEffect n e))
+
+  nameless_in_effect : (n : AnnotationState) → Within (NamelessEffect n) (production.effect_statement ws n)
+  nameless_in_effect n = in_turn (second (kind ws) (name_kind ∷ []) _ (itself _) so full_back ws) (λ e. itself (AsEffect n e))
+
+  abbrev Last : Numbered → AnnotationState → Syntax PlainToken Stated
+  Last S n = choice (kind ws) (name_kind ∷ []) (parsed.named_statement ws S n) (parsed.effect_statement ws n)
+
+  last_forth : (S : Numbered) (n : AnnotationState) → Within (Last S n) (production.effect_statement ws n or production.labelled ws S n)
+  unfolding parsed.named_statement parsed.labelled_statement parsed.effect_behind parsed.effect_statement ended
+  last_forth S n =
+      either (kind ws) (name_kind ∷ [])
+      (apart_after (kind ws) (mark_kind colon ∷ []) (name ws) (λ x. parsed.labelled_statement ws S x n) (λ x. parsed.effect_behind ws x n)
+      so either (kind ws) (mark_kind colon ∷ []) (second no [] _ (itself (production.labelled ws S n))) (first no [] _ (named_in_effect n)))
+      (first no [] _ (nameless_in_effect n))
+
+  labelled_back : (S : Numbered) (n : AnnotationState) → Within (production.labelled ws S n) (Last S n)
+  unfolding parsed.named_statement parsed.labelled_statement
+  labelled_back S n = on (name ws) (λ x. first (kind ws) (mark_kind colon ∷ []) _ (itself _)) so first (kind ws) (name_kind ∷ []) _ (itself _)
+
+  effect_back : (S : Numbered) (n : AnnotationState) → Within (production.effect_statement ws n) (Last S n)
+  unfolding parsed.named_statement parsed.effect_behind parsed.effect_statement ended
+  effect_back S n =
+      effect_forth n
+      so each (kind ws) (name_kind ∷ []) (kind ws) (name_kind ∷ []) (on (name ws) (λ x. second (kind ws) (mark_kind colon ∷ []) _ (itself _))) (itself _)
 
   -- ---- `switch`
 
@@ -150,89 +230,108 @@ module _ (ws : Vocabulary) where
   unfolding parsed.case_label parsed.valued_case parsed.default_case
   label_line = both (each (kind ws) (keyword_kind keyword.Case ∷ []) no [] (itself _) (itself _)) (each no [] (kind ws) (keyword_kind keyword.Case ∷ []) (itself _) (itself _))
 
-  case_item_line : (T : Numbered) (n : AnnotationState) → Same (parsed.case_item ws T n) (production.case_item ws T n)
-  unfolding parsed.case_item parsed.placed_annotation
-  case_item_line T n = both (each (kind ws) (annot_open_kind ∷ []) no [] (itself _) (itself _)) (each no [] (kind ws) (annot_open_kind ∷ []) (itself _) (itself _))
+  module _ (T B : Numbered) (empty : (m : AnnotationState) → (B m).begun []) where
+    case_item_line : (n : AnnotationState) → Same (parsed.case_item ws T B n) (production.case_item ws T B n)
+    unfolding parsed.case_item parsed.run_item
+    case_item_line n =
+        both (either (kind ws) (annot_open_kind ∷ []) (annotated_forth B n so either no [] (first no [] _ (itself _)) (second no [] _ (first no [] _ (itself _)))) (second no [] _ (second no [] _ (itself _))))
+        (either no [] (first no [] _ (itself _) so annotated_back B n empty so first (kind ws) (annot_open_kind ∷ []) _ (itself _))
+        (either no [] (second no [] _ (itself _) so annotated_back B n empty so first (kind ws) (annot_open_kind ∷ []) _ (itself _))
+        (second (kind ws) (annot_open_kind ∷ []) _ (itself _))))
 
-  case_items_line : (T : Numbered) (n : AnnotationState) → Same (parsed.case_items ws T ([], n)) (production.case_items ws T n)
-  unfolding parsed.case_items parsed.case_items_once
-  case_items_line T n =
-      both (turns (kind ws) (λ _. first_branch) no (λ _. []) (λ y. in_turn (forth (case_item_line T y.1)) (λ i. itself _)) ([], n))
-      (turns no (λ _. []) (kind ws) (λ _. first_branch) (λ y. in_turn (back (case_item_line T y.1)) (λ i. itself _)) ([], n))
+    case_items_line : (n : AnnotationState) → Same (parsed.case_items ws T B ([], n)) (production.case_items ws T B n)
+    unfolding parsed.case_items parsed.case_items_once
+    case_items_line n =
+        both (turns (kind ws) (λ _. first_branch) no (λ _. []) (λ y. in_turn (forth (case_item_line y.1)) (λ i. itself _)) ([], n))
+        (turns no (λ _. []) (kind ws) (λ _. first_branch) (λ y. in_turn (back (case_item_line y.1)) (λ i. itself _)) ([], n))
 
-  next_case_line : (T : Numbered) (x : List ReadCase × AnnotationState) → Same (parsed.next_case ws T x) (production.next_case ws T x)
-  unfolding parsed.next_case
-  next_case_line T x =
-      both (in_turn (forth label_line) (λ l. in_turn (forth (case_items_line T x.1)) (λ y. itself _))) (in_turn (back label_line) (λ l. in_turn (back (case_items_line T x.1)) (λ y. itself _)))
+    next_case_line : (x : List ReadCase × AnnotationState) → Same (parsed.next_case ws T B x) (production.next_case ws T B x)
+    unfolding parsed.next_case
+    next_case_line x =
+        both (in_turn (forth label_line) (λ l. in_turn (forth (case_items_line x.1)) (λ y. itself _))) (in_turn (back label_line) (λ l. in_turn (back (case_items_line x.1)) (λ y. itself _)))
 
-  cases_line : (T : Numbered) (n : AnnotationState) → Same (parsed.cases ws T ([], n)) (production.cases ws T n)
-  unfolding parsed.cases
-  cases_line T n =
-      both (turns (kind ws) (λ _. first_case) no (λ _. []) (λ y. forth (next_case_line T y)) ([], n)) (turns no (λ _. []) (kind ws) (λ _. first_case) (λ y. back (next_case_line T y)) ([], n))
+    cases_line : (n : AnnotationState) → Same (parsed.cases ws T B ([], n)) (production.cases ws T B n)
+    unfolding parsed.cases
+    cases_line n =
+        both (turns (kind ws) (λ _. first_case) no (λ _. []) (λ y. forth (next_case_line y)) ([], n)) (turns no (λ _. []) (kind ws) (λ _. first_case) (λ y. back (next_case_line y)) ([], n))
 
-  switch_line : (T : Numbered) (n : AnnotationState) → Same (parsed.switch_statement ws T n) (production.switch_statement ws T n)
-  unfolding parsed.switch_statement parsed.condition closed
-  switch_line T n =
-      both (on (reserved ws keyword.Switch) (λ at. on (production.condition ws) (λ e. on (mark ws left_brace) (λ _. in_turn (forth (cases_line T n)) (λ x. itself _)))))
-      (on (reserved ws keyword.Switch) (λ at. on (production.condition ws) (λ e. on (mark ws left_brace) (λ _. in_turn (back (cases_line T n)) (λ x. itself _)))))
+    switch_line : (n : AnnotationState) → Same (parsed.switch_statement ws T B n) (production.switch_statement ws T B n)
+    unfolding parsed.switch_statement parsed.condition closed
+    switch_line n =
+        both (on (reserved ws keyword.Switch) (λ at. on (production.condition ws) (λ e. on (mark ws left_brace) (λ _. in_turn (forth (cases_line n)) (λ x. itself _)))))
+        (on (reserved ws keyword.Switch) (λ at. on (production.condition ws) (λ e. on (mark ws left_brace) (λ _. in_turn (back (cases_line n)) (λ x. itself _)))))
 
-  one_of : (T S : Numbered) (n : AnnotationState) → ((m : AnnotationState) → (S m).begun []) → Same (statement_of ws T S n) (production.stmt ws T S n)
+  one_of : (T B S : Numbered) (n : AnnotationState) → ((m : AnnotationState) → (B m).begun []) → ((m : AnnotationState) → (S m).begun [])
+      → Same (statement_of ws T B S n) (production.stmt ws T B S n)
   unfolding statement_of
-  one_of T S n empty =
+  one_of T B S n empty begins =
       both
-      (either (kind ws) (mark_kind left_brace ∷ []) (first no [] _ (forth (block_line T n)))
+      (either (kind ws) (mark_kind left_brace ∷ []) (first no [] _ (forth (block_line T B n)))
       (either (kind ws) (mark_kind semicolon ∷ []) (second no [] _ (first no [] _ (forth (empty_line n))))
-      (either (kind ws) (keyword_kind keyword.If ∷ []) (second no [] _ (second no [] _ (second no [] _ (first no [] _ (forth (selection_line S n))))))
-      (either (kind ws) (keyword_kind keyword.While ∷ []) (second no [] _ (second no [] _ (second no [] _ (second no [] _ (first no [] _ (forth (while_line S n)))))))
-      (either (kind ws) (keyword_kind keyword.Do ∷ []) (second no [] _ (second no [] _ (second no [] _ (second no [] _ (second no [] _ (first no [] _ (forth (do_line S n))))))))
-      (either (kind ws) (keyword_kind keyword.For ∷ []) (second no [] _ (second no [] _ (second no [] _ (second no [] _ (second no [] _ (second no [] _ (first no [] _ (forth (for_line S n empty)))))))))
-      (either (kind ws) (keyword_kind keyword.Switch ∷ []) (second no [] _ (second no [] _ (second no [] _ (second no [] _ (second no [] _ (second no [] _ (second no [] _ (first no [] _ (forth (switch_line T n))))))))))
-      (either (kind ws) (keyword_kind keyword.Return ∷ []) (second no [] _ (second no [] _ (second no [] _ (second no [] _ (second no [] _ (second no [] _ (second no [] _ (second no [] _ (second no [] _ (forth (return_line n)))))))))))
-      (either (kind ws) (keyword_kind keyword.Break ∷ keyword_kind keyword.Continue ∷ []) (second no [] _ (second no [] _ (second no [] _ (second no [] _ (second no [] _ (second no [] _ (second no [] _
-      (second no [] _ (first no [] _ (forth (jump_line n)))))))))))
-      (second no [] _ (second no [] _ (first no [] _ (forth (effect_line n))))))))))))))
-      (either no [] (first (kind ws) (mark_kind left_brace ∷ []) _ (back (block_line T n)))
+      (either (kind ws) (keyword_kind keyword.If ∷ []) (second no [] _ (second no [] _ (second no [] _ (second no [] _ (first no [] _ (forth (selection_line S n)))))))
+      (either (kind ws) (keyword_kind keyword.While ∷ []) (second no [] _ (second no [] _ (second no [] _ (second no [] _ (second no [] _ (first no [] _ (forth (while_line S n))))))))
+      (either (kind ws) (keyword_kind keyword.Do ∷ []) (second no [] _ (second no [] _ (second no [] _ (second no [] _ (second no [] _ (second no [] _ (first no [] _ (forth (do_line S n)))))))))
+      (either (kind ws) (keyword_kind keyword.For ∷ []) (second no [] _ (second no [] _ (second no [] _ (second no [] _ (second no [] _ (second no [] _ (second no [] _ (first no [] _ (forth (for_line S n begins))))))))))
+      (either (kind ws) (keyword_kind keyword.Switch ∷ []) (second no [] _ (second no [] _ (second no [] _ (second no [] _ (second no [] _ (second no [] _ (second no [] _ (second no [] _ (first no [] _ (forth (switch_line T B empty n)))))))))))
+      (either (kind ws) (keyword_kind keyword.Return ∷ []) (second no [] _ (second no [] _ (second no [] _ (second no [] _ (second no [] _ (second no [] _ (second no [] _ (second no [] _ (second no [] _
+      (second no [] _ (forth (return_line n))))))))))))
+      (either (kind ws) (keyword_kind keyword.Break ∷ keyword_kind keyword.Continue ∷ []) (second no [] _ (second no [] _ (second no [] _ (second no [] _ (second no [] _ (second no [] _ (second no [] _ (second no [] _
+      (second no [] _ (first no [] _ (forth (jump_line n))))))))))))
+      (last_forth S n so either no [] (second no [] _ (second no [] _ (first no [] _ (itself _)))) (second no [] _ (second no [] _ (second no [] _ (first no [] _ (itself _)))))))))))))))
+      (either no [] (first (kind ws) (mark_kind left_brace ∷ []) _ (back (block_line T B n)))
       (either no [] (second (kind ws) (mark_kind left_brace ∷ []) _ (first (kind ws) (mark_kind semicolon ∷ []) _ (back (empty_line n))))
       (either no [] (second (kind ws) (mark_kind left_brace ∷ []) _ (second (kind ws) (mark_kind semicolon ∷ []) _ (second (kind ws) (keyword_kind keyword.If ∷ []) _ (second (kind ws) (keyword_kind keyword.While ∷ []) _
       (second (kind ws) (keyword_kind keyword.Do ∷ []) _ (second (kind ws) (keyword_kind keyword.For ∷ []) _ (second (kind ws) (keyword_kind keyword.Switch ∷ []) _ (second (kind ws) (keyword_kind keyword.Return ∷ []) _
-      (second (kind ws) (keyword_kind keyword.Break ∷ keyword_kind keyword.Continue ∷ []) _ (back (effect_line n)))))))))))
+      (second (kind ws) (keyword_kind keyword.Break ∷ keyword_kind keyword.Continue ∷ []) _ (effect_back S n))))))))))
+      (either no [] (second (kind ws) (mark_kind left_brace ∷ []) _ (second (kind ws) (mark_kind semicolon ∷ []) _ (second (kind ws) (keyword_kind keyword.If ∷ []) _ (second (kind ws) (keyword_kind keyword.While ∷ []) _
+      (second (kind ws) (keyword_kind keyword.Do ∷ []) _ (second (kind ws) (keyword_kind keyword.For ∷ []) _ (second (kind ws) (keyword_kind keyword.Switch ∷ []) _ (second (kind ws) (keyword_kind keyword.Return ∷ []) _
+      (second (kind ws) (keyword_kind keyword.Break ∷ keyword_kind keyword.Continue ∷ []) _ (labelled_back S n))))))))))
       (either no [] (second (kind ws) (mark_kind left_brace ∷ []) _ (second (kind ws) (mark_kind semicolon ∷ []) _ (first (kind ws) (keyword_kind keyword.If ∷ []) _ (back (selection_line S n)))))
       (either no [] (second (kind ws) (mark_kind left_brace ∷ []) _ (second (kind ws) (mark_kind semicolon ∷ []) _ (second (kind ws) (keyword_kind keyword.If ∷ []) _ (first (kind ws) (keyword_kind keyword.While ∷ []) _ (back (while_line S n))))))
-      (either no [] (second (kind ws) (mark_kind left_brace ∷ []) _ (second (kind ws) (mark_kind semicolon ∷ []) _ (second (kind ws) (keyword_kind keyword.If ∷ []) _
-      (second (kind ws) (keyword_kind keyword.While ∷ []) _ (first (kind ws) (keyword_kind keyword.Do ∷ []) _ (back (do_line S n)))))))
       (either no [] (second (kind ws) (mark_kind left_brace ∷ []) _ (second (kind ws) (mark_kind semicolon ∷ []) _ (second (kind ws) (keyword_kind keyword.If ∷ []) _ (second (kind ws) (keyword_kind keyword.While ∷ []) _
-      (second (kind ws) (keyword_kind keyword.Do ∷ []) _ (first (kind ws) (keyword_kind keyword.For ∷ []) _ (back (for_line S n empty))))))))
+      (first (kind ws) (keyword_kind keyword.Do ∷ []) _ (back (do_line S n)))))))
       (either no [] (second (kind ws) (mark_kind left_brace ∷ []) _ (second (kind ws) (mark_kind semicolon ∷ []) _ (second (kind ws) (keyword_kind keyword.If ∷ []) _ (second (kind ws) (keyword_kind keyword.While ∷ []) _
-      (second (kind ws) (keyword_kind keyword.Do ∷ []) _ (second (kind ws) (keyword_kind keyword.For ∷ []) _ (first (kind ws) (keyword_kind keyword.Switch ∷ []) _ (back (switch_line T n)))))))))
+      (second (kind ws) (keyword_kind keyword.Do ∷ []) _ (first (kind ws) (keyword_kind keyword.For ∷ []) _ (back (for_line S n begins))))))))
       (either no [] (second (kind ws) (mark_kind left_brace ∷ []) _ (second (kind ws) (mark_kind semicolon ∷ []) _ (second (kind ws) (keyword_kind keyword.If ∷ []) _ (second (kind ws) (keyword_kind keyword.While ∷ []) _
-      (second (kind ws) (keyword_kind keyword.Do ∷ []) _ (second (kind ws) (keyword_kind keyword.For ∷ []) _ (second (kind ws) (keyword_kind keyword.Switch ∷ []) _
-      (second (kind ws) (keyword_kind keyword.Return ∷ []) _ (first (kind ws) (keyword_kind keyword.Break ∷ keyword_kind keyword.Continue ∷ []) _ (back (jump_line n)))))))))))
+      (second (kind ws) (keyword_kind keyword.Do ∷ []) _ (second (kind ws) (keyword_kind keyword.For ∷ []) _ (first (kind ws) (keyword_kind keyword.Switch ∷ []) _ (back (switch_line T B empty n)))))))))
+      (either no [] (second (kind ws) (mark_kind left_brace ∷ []) _ (second (kind ws) (mark_kind semicolon ∷ []) _ (second (kind ws) (keyword_kind keyword.If ∷ []) _ (second (kind ws) (keyword_kind keyword.While ∷ []) _
+      (second (kind ws) (keyword_kind keyword.Do ∷ []) _ (second (kind ws) (keyword_kind keyword.For ∷ []) _ (second (kind ws) (keyword_kind keyword.Switch ∷ []) _ (second (kind ws) (keyword_kind keyword.Return ∷ []) _
+      (first (kind ws) (keyword_kind keyword.Break ∷ keyword_kind keyword.Continue ∷ []) _ (back (jump_line n)))))))))))
       (second (kind ws) (mark_kind left_brace ∷ []) _ (second (kind ws) (mark_kind semicolon ∷ []) _ (second (kind ws) (keyword_kind keyword.If ∷ []) _ (second (kind ws) (keyword_kind keyword.While ∷ []) _
-      (second (kind ws) (keyword_kind keyword.Do ∷ []) _ (second (kind ws) (keyword_kind keyword.For ∷ []) _
-      (second (kind ws) (keyword_kind keyword.Switch ∷ []) _ (first (kind ws) (keyword_kind keyword.Return ∷ []) _ (back (return_line n)))))))))))))))))))
+      (second (kind ws) (keyword_kind keyword.Do ∷ []) _ (second (kind ws) (keyword_kind keyword.For ∷ []) _ (second (kind ws) (keyword_kind keyword.Switch ∷ []) _
+      (first (kind ws) (keyword_kind keyword.Return ∷ []) _ (back (return_line n))))))))))))))))))))
 
-  statement_of_empty : (T S : Numbered) (n : AnnotationState) → (statement_of ws T S n).begun []
+  statement_of_empty : (T B S : Numbered) (n : AnnotationState) → (statement_of ws T B S n).begun []
   unfolding statement_of parsed.block
-  statement_of_empty T S n = inl (inl (inl refl))
+  statement_of_empty T B S n = inl (inl (inl refl))
 
   branch_empty : (d : ℕ) (n : AnnotationState) → (branch_in ws d n).begun []
   unfolding branch_in branch_of
-  branch_empty zero n = inr (statement_of_empty (λ m. none) (λ m. none) n)
-  branch_empty (suc d) n = inr (statement_of_empty (statement_in ws d) (branch_in ws d) n)
+  branch_empty zero n = inr (statement_of_empty (λ m. none) (λ m. none) (λ m. none) n)
+  branch_empty (suc d) n = inr (statement_of_empty (statement_in ws d) (inside_in ws d) (branch_in ws d) n)
 
-  in_depth : (d : ℕ) (n : AnnotationState) → Same (statement_in ws (suc d) n) (statement_of ws (statement_in ws d) (branch_in ws d) n)
+  pub inside_empty : (d : ℕ) (n : AnnotationState) → (inside_in ws d n).begun []
+  unfolding branch_in branch_of
+  inside_empty zero n = inr (statement_of_empty (λ m. none) (λ m. none) (λ m. none) n)
+  inside_empty (suc d) n = branch_empty d n
+
+  pub inside_line : (d : ℕ) (n : AnnotationState) → Same (inside_in ws (suc d) n) (branch_in ws d n)
+  unfolding branch_in
+  inside_line d n = both (itself _) (itself _)
+
+  in_depth : (d : ℕ) (n : AnnotationState) → Same (statement_in ws (suc d) n) (statement_of ws (statement_in ws d) (inside_in ws d) (branch_in ws d) n)
   unfolding statement_in
   in_depth d n = both (itself _) (itself _)
 
-  pub statement_line : (d : ℕ) (n : AnnotationState) → Same (statement_in ws (suc d) n) (production.stmt ws (statement_in ws d) (branch_in ws d) n)
+  pub statement_line : (d : ℕ) (n : AnnotationState) → Same (statement_in ws (suc d) n) (production.stmt ws (statement_in ws d) (inside_in ws d) (branch_in ws d) n)
   statement_line d n =
-      let s = one_of (statement_in ws d) (branch_in ws d) n (branch_empty d) in
+      let s = one_of (statement_in ws d) (inside_in ws d) (branch_in ws d) n (inside_empty d) (branch_empty d) in
       both (forth (in_depth d n) so forth s) (back s so back (in_depth d n))
 
-  pub deepest_line : (n : AnnotationState) → Same (statement_in ws zero n) (deep nesting_limit no [] (production.stmt ws (λ m. none) (λ m. none) n))
+  pub deepest_line : (n : AnnotationState) → Same (statement_in ws zero n) (deep nesting_limit no [] (production.stmt ws (λ m. none) (λ m. none) (λ m. none) n))
   unfolding statement_in
   deepest_line n =
-      let s = one_of (λ m. none) (λ m. none) n (λ m. refl) in
+      let s = one_of (λ m. none) (λ m. none) (λ m. none) n (λ m. refl) (λ m. refl) in
       both (deeper nesting_limit (kind ws) first_statement no [] (forth s)) (deeper nesting_limit no [] (kind ws) first_statement (back s))
 
   branch_choice : (T S : Numbered) (n : AnnotationState) → Same (branch_of ws T S n) (production.branch ws T S n)

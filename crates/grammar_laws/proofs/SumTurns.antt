@@ -40,6 +40,9 @@ no_word (word.Logic logic.Null) e = cc
 no_word (word.Logic (logic.Told f)) e = cc
 no_word (word.Logic (logic.Asks q)) e = cc
 no_word (word.Logic logic.Separated) e = cc
+no_word (word.Logic logic.Result) e = cc
+no_word (word.Logic logic.Old) e = cc
+no_word (word.Logic logic.At) e = cc
 no_word (word.Logic logic.Kept) e = cc
 no_word _ e = cc
 

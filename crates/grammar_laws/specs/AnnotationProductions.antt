@@ -1,30 +1,29 @@
--- The productions of annotations as the head of c_model/specs/AnnotationGrammar has them (ACSL 2.2, 2.4.1), in its order. What a production
+-- The productions of forms as the head of c_model/specs/AnnotationGrammar has them (ACSL 2.2, 2.4.3, 2.7), in its order. What a production
 -- is made of are the values that are parsed.
-use Rattle.std.specs.Prelude.{ℕ, ◌+◌, List, [], ◌∷◌, ◌++◌}
-use Rattle.grammar.specs.Syntax.{Syntax, gives, one, ◌then◌, at_most}
+use Rattle.std.specs.Prelude.{ℕ, List, [], ◌∷◌, ◌++◌}
+use Rattle.grammar.specs.Syntax.{Syntax, gives, one, ◌then◌}
 use Rattle.grammar_laws.specs.Plain.{◌or◌, repeated, folded}
 use Rattle.c_syntax.specs.declared.place.Place.{Place}
 use Rattle.c_syntax.specs.declared.annotation.Relation.{Relation}
 use Rattle.c_syntax.specs.declared.annotation.Relation.TheVariants as relation
 use Rattle.c_syntax.specs.declared.logic.Connective.TheVariants as connective
 use Rattle.c_syntax.specs.Formulas.{CastType, Integers, OfC, Form, Number, Letter, Truth, Name, Unary, Cast, SizeOf, Connected, Choice, FormLinks, NoLink}
-use Rattle.c_syntax.specs.Formulas.{Linked, Null, Index, Dot, Arrow, Told, Asks, Separated, FormZone, Object, Elements}
-use Rattle.c_syntax.specs.Logic.{Annotation}
+use Rattle.c_syntax.specs.Formulas.{Linked, Null, Index, Dot, Arrow, Told, Asks, Separated, Result, Old, At, FormZone, Object, Elements}
 use Rattle.c_syntax.specs.Tokens.{PlainToken}
 use Rattle.c_model.specs.declared.formulas.FormulaMode.{FormulaMode}
 use Rattle.c_model.specs.declared.formulas.FormulaMode.TheVariants.{Alone}
 use Rattle.c_model.specs.declared.formulas.FormulaOperator.{FormulaOperator}
 use Rattle.c_model.specs.declared.vocabulary.Keyword.TheVariants as keyword
 use Rattle.c_model.specs.Vocabulary.{Vocabulary}
-use Rattle.c_model.specs.Punctuators.{less, less_equal, greater, greater_equal, equal, not_equal, question, colon, semicolon, left_paren, right_paren}
+use Rattle.c_model.specs.Punctuators.{less, less_equal, greater, greater_equal, equal, not_equal, question, colon, left_paren, right_paren}
 use Rattle.c_model.specs.Punctuators.{implies, plus, comma, dot, arrow, dots, left_bracket, right_bracket}
-use Rattle.c_model.specs.Terminals.{placed, mark_entry, expression_limit}
-use Rattle.c_model.specs.ExpressionGrammar.{annot_open_kind, annot_close_kind, number_of, letter_of, use_of, most_in_expression, fixed, mark, reserved}
-use Rattle.c_model.specs.ExpressionGrammar.{type_name, expression, null_kind, separated_kind, any_name}
+use Rattle.c_model.specs.Terminals.{placed, mark_entry}
+use Rattle.c_model.specs.ExpressionGrammar.{number_of, letter_of, use_of, fixed, mark, reserved}
+use Rattle.c_model.specs.ExpressionGrammar.{type_name, expression, null_kind, separated_kind, result_kind, old_kind, at_kind, any_name}
 use Rattle.c_model.specs.AnnotationGrammar as parsed
 use Rattle.c_model.specs.AnnotationGrammar.{prefix_operators, product_operators, sum_operators, shift_operators, bit_and_operators, bit_xor_operators}
 use Rattle.c_model.specs.AnnotationGrammar.{bit_or_operators, conjunction_operators, exclusion_operators, disjunction_operators, equivalence_operators}
-use Rattle.c_model.specs.AnnotationGrammar.{joined_forms, chained, assertion, formula_name_of, truth_of, integer_word, assert_word}
+use Rattle.c_model.specs.AnnotationGrammar.{joined_forms, chained, formula_name_of, truth_of, integer_word}
 use Rattle.c_model.specs.AnnotationGrammar.{Spanned, zones_of, fact_of, question_of}
 
 -- the relations of a chain that goes up, of one that goes down, and the one that stands alone
@@ -59,21 +58,6 @@ module _ (ws : Vocabulary) where
   -- relation shift
   abbrev pub link : List (ℕ × Relation) → Syntax PlainToken (Relation × Place × Form)
   link table = one (placed (mark_entry table)) then λ r. bare (parsed.shift ws) then λ x. gives (r.0, r.1, x)
-
-  -- an assert after others, with the number of the next one
-  abbrev pub one_assert : List Annotation × ℕ → Syntax PlainToken (List Annotation × ℕ)
-  one_assert x = parsed.full_clause ws x.1 then λ a. gives (x.0 ++ a ∷ [], x.1 + 1)
-
-  -- annotation = ANNOT-OPEN assert { assert } ANNOT-CLOSE, where the asserts take the numbers from n on
-  abbrev pub annotation : ℕ → Syntax PlainToken (List Annotation × ℕ)
-  annotation n =
-      fixed ws annot_open_kind then λ _. one_assert ([], n) then λ x. repeated one_assert x then λ y. fixed ws annot_close_kind then λ _. gives y
-
-  -- assert = "assert" form ";", at most 400 tokens
-  abbrev pub assert : ℕ → Syntax PlainToken Annotation
-  assert n =
-      at_most expression_limit most_in_expression
-      (one (placed (assert_word ws)) then λ a. parsed.form ws then λ f. mark ws semicolon then λ _. gives (assertion n a.1 f))
 
   -- form = equivalence [ "?" form ":" form ]
   abbrev pub form : Syntax PlainToken Form
@@ -138,9 +122,10 @@ module _ (ws : Vocabulary) where
   abbrev pub cast_type : Syntax PlainToken CastType
   cast_type = (type_name ws (expression ws) then λ t. gives (OfC t)) or (integer_word ws then λ _. gives Integers)
 
-  -- primary = NAME | NUMBER | CHAR | "\true" | "\false" | "\null" | "(" form ")"
+  -- primary = NAME | NUMBER | CHAR | "\true" | "\false" | "\null" | "\result" | "(" form ")"
   --         | ( "\base_addr" | "\block_length" | "\offset" ) "(" form ")"
   --         | ( "\valid" | "\valid_read" | "\initialized" ) "(" zone ")" | "\separated" "(" zone "," zone { "," zone } ")"
+  --         | "\old" "(" form ")" | "\at" "(" form "," NAME ")"
   abbrev pub primary : Syntax PlainToken Form
   primary =
       (one (placed (formula_name_of ws)) then λ x. gives (Name x.1 (use_of x.0)))
@@ -148,11 +133,15 @@ module _ (ws : Vocabulary) where
       or (one (placed letter_of) then λ z. gives (Letter z.1 z.0))
       or (one (placed (truth_of ws)) then λ b. gives (Truth b.1 b.0))
       or (fixed ws null_kind then λ at. gives (Null at))
+      or (fixed ws result_kind then λ at. gives (Result at))
       or (mark ws left_paren then λ _. F then λ x. mark ws right_paren then λ _. gives x)
       or (one (placed (fact_of ws)) then λ f. mark ws left_paren then λ _. F then λ x. mark ws right_paren then λ _. gives (Told f.1 f.0 x))
       or (one (placed (question_of ws)) then λ q. mark ws left_paren then λ _. Z then λ z. mark ws right_paren then λ _. gives (Asks q.1 q.0 z))
       or (fixed ws separated_kind then λ at. mark ws left_paren then λ _. Z then λ y. next_zone (y ∷ []) then λ ys. repeated next_zone ys then λ zs.
       mark ws right_paren then λ _. gives (Separated at (zones_of zs)))
+      or (fixed ws old_kind then λ at. mark ws left_paren then λ _. F then λ x. mark ws right_paren then λ _. gives (Old at x))
+      or (fixed ws at_kind then λ at. mark ws left_paren then λ _. F then λ x. mark ws comma then λ _. one (placed (formula_name_of ws)) then λ l.
+      mark ws right_paren then λ _. gives (At at x l.1 l.0))
     where
       next_zone : List FormZone → Syntax PlainToken (List FormZone)
       next_zone zs = mark ws comma then λ _. Z then λ z. gives (zs ++ z ∷ [])

@@ -8,7 +8,7 @@ use Rattle.c_model.specs.Terminals.{nesting_limit}
 use Rattle.c_model.specs.Vocabulary.{Vocabulary}
 use Rattle.c_model.specs.DeclarationGrammar.{Definitions, TagHead, braces_in, list_in}
 use Rattle.c_model.specs.DeclarationGrammar as parsed
-use Rattle.c_model.specs.ProgramGrammar.{branch_in, item, statement_in}
+use Rattle.c_model.specs.ProgramGrammar.{branch_in, inside_in, item, statement_in}
 use Rattle.grammar_laws.specs.DeclarationProductions as production
 use Rattle.grammar_laws.specs.StatementProductions as written
 
@@ -39,11 +39,12 @@ MembersAreProductions =
 
 abbrev pub StatementsAreProductions : Type 0
 StatementsAreProductions =
-    (ws : Vocabulary) (n : ℕ) (s : AnnotationState) → Same (statement_in ws (suc n) s) (written.stmt ws (statement_in ws n) (branch_in ws n) s)
+    (ws : Vocabulary) (n : ℕ) (s : AnnotationState) → Same (statement_in ws (suc n) s) (written.stmt ws (statement_in ws n) (inside_in ws n) (branch_in ws n) s)
 
 abbrev pub ItemsAreProductions : Type 0
 ItemsAreProductions =
-    (ws : Vocabulary) (n : ℕ) (s : AnnotationState) → Same (item ws (statement_in ws n) s) (written.item ws (statement_in ws n) s)
+    (ws : Vocabulary) (n : ℕ) (s : AnnotationState)
+    → Same (item ws (statement_in ws n) (inside_in ws n) s) (written.item ws (statement_in ws n) (inside_in ws n) s)
 
 abbrev pub BranchesAreProductions : Type 0
 BranchesAreProductions =
@@ -51,4 +52,9 @@ BranchesAreProductions =
 
 abbrev pub DeeperStatementsAreLate : Type 0
 DeeperStatementsAreLate =
-    (ws : Vocabulary) (s : AnnotationState) → Same (statement_in ws zero s) (deep nesting_limit (λ _. 0) [] (written.stmt ws (λ _. none) (λ _. none) s))
+    (ws : Vocabulary) (s : AnnotationState)
+    → Same (statement_in ws zero s) (deep nesting_limit (λ _. 0) [] (written.stmt ws (λ _. none) (λ _. none) (λ _. none) s))
+
+-- what stands inside a statement behind an annotation is what stands inside one that is one deeper
+abbrev pub InsideIsBranch : Type 0
+InsideIsBranch = (ws : Vocabulary) (n : ℕ) (s : AnnotationState) → Same (inside_in ws (suc n) s) (branch_in ws n s)

@@ -5,6 +5,7 @@ pub mod DeclarationProductions
 pub mod StatementProductions
 pub mod FileProductions
 pub mod AnnotationProductions
+pub mod ClauseProductions
 pub mod MonitoredProductions
 -- at each depth
 pub mod Laws

@@ -1,8 +1,8 @@
 -- The productions of statements as the head of c_model/specs/ProgramGrammar has them (C99 6.8). What a production is made of are the values
--- that are parsed; T stands for a statement in a block, and S for one inside another.
-use Rattle.std.specs.Prelude.{List, [], ◌∷◌, ◌++◌, Option, Some, None, cond}
+-- that are parsed; T stands for a statement in a block, B for one behind an annotation there, and S for one inside another.
+use Rattle.std.specs.Prelude.{List, [], ◌∷◌, ◌++◌, Option, Some, None, not, cond}
 use Rattle.grammar.specs.Syntax.{Syntax, none, gives, ◌then◌}
-use Rattle.grammar_laws.specs.Plain.{◌or◌, repeated}
+use Rattle.grammar_laws.specs.Plain.{◌or◌, repeated, only}
 use Rattle.c_syntax.specs.declared.place.Place.{Place}
 use Rattle.c_syntax.specs.Expressions.{Expression}
 use Rattle.c_syntax.specs.Statements as statement
@@ -13,10 +13,11 @@ use Rattle.c_model.specs.declared.operands.Level.TheVariants.{Conditional}
 use Rattle.c_model.specs.declared.vocabulary.Keyword.TheVariants as keyword
 use Rattle.c_model.specs.Vocabulary.{Vocabulary}
 use Rattle.c_model.specs.Punctuators.{semicolon, colon, left_paren, right_paren, left_brace, right_brace}
-use Rattle.c_model.specs.ExpressionGrammar.{mark, reserved, full_expression, full_placed_expression, full_expression_at}
+use Rattle.c_model.specs.ExpressionGrammar.{mark, reserved, name, full_expression, full_placed_expression, full_expression_at}
 use Rattle.c_model.specs.DeclarationGrammar.{declaration}
-use Rattle.c_model.specs.AnnotationGrammar.{annotations}
-use Rattle.c_model.specs.ProgramGrammar.{Numbered, ReadCase, is_open, block_items, cases_of, after_placed}
+use Rattle.c_model.specs.ClauseGrammar.{annotations}
+use Rattle.c_model.specs.Library.{is_there}
+use Rattle.c_model.specs.ProgramGrammar.{Numbered, ReadCase, is_open, block_items, cases_of, after_placed, after_misplaced}
 use Rattle.c_model.specs.ProgramGrammar as parsed
 
 module _ (ws : Vocabulary) where
@@ -28,19 +29,26 @@ module _ (ws : Vocabulary) where
   abbrev pub condition : Syntax PlainToken Expression
   condition = mark ws left_paren then λ _. full_expression ws then λ e. mark ws right_paren then λ _. gives e
 
-  -- item = annotation | decl | stmt
-  abbrev pub item : Numbered → AnnotationState → Syntax PlainToken (BlockItem × AnnotationState)
-  item T n =
-      (annotations ws n.number then λ x. gives (statement.Asserts x.0, after_placed n x.1)) or (declaration ws then λ i. gives (i, n))
-      or (T n then λ x. gives (statement.Run x.0, x.1))
+  -- asserts
+  abbrev pub asserts : AnnotationState → Syntax PlainToken (BlockItem × AnnotationState)
+  asserts n = annotations ws n.number then λ x. only (not (is_there x.0.1)) (gives (statement.Asserts x.0.0, after_placed n x.1))
+
+  -- contract branch, where the contract is misplaced
+  abbrev pub behind_contract : Numbered → AnnotationState → Syntax PlainToken (BlockItem × AnnotationState)
+  behind_contract B n =
+      annotations ws n.number then λ x. only (is_there x.0.1) (B (after_misplaced n x) then λ y. gives (statement.Run y.0, y.1))
+
+  -- item = asserts | contract branch | decl | stmt
+  abbrev pub item : Numbered → Numbered → AnnotationState → Syntax PlainToken (BlockItem × AnnotationState)
+  item T B n = asserts n or behind_contract B n or (declaration ws then λ i. gives (i, n)) or (T n then λ x. gives (statement.Run x.0, x.1))
 
   -- { item }
-  abbrev pub items : Numbered → AnnotationState → Syntax PlainToken (List BlockItem × AnnotationState)
-  items T n = repeated (λ x. parsed.item ws T x.1 then λ i. gives (x.0 ++ i.0 ∷ [], i.1)) ([], n)
+  abbrev pub items : Numbered → Numbered → AnnotationState → Syntax PlainToken (List BlockItem × AnnotationState)
+  items T B n = repeated (λ x. parsed.item ws T B x.1 then λ i. gives (x.0 ++ i.0 ∷ [], i.1)) ([], n)
 
   -- "{" { item } "}"
-  abbrev pub block : Numbered → Numbered
-  block T n = mark ws left_brace then λ at. items T n then λ x. mark ws right_brace then λ _. gives (statement.Block at (block_items x.0), x.1)
+  abbrev pub block : Numbered → Numbered → Numbered
+  block T B n = mark ws left_brace then λ at. items T B n then λ x. mark ws right_brace then λ _. gives (statement.Block at (block_items x.0), x.1)
 
   -- ";"
   abbrev pub empty : Numbered
@@ -94,37 +102,41 @@ module _ (ws : Vocabulary) where
       (reserved ws keyword.Case then λ at. full_expression_at ws Conditional then λ e. mark ws colon then λ _. gives (at, Some e))
       or (reserved ws keyword.Default then λ at. mark ws colon then λ _. gives (at, None))
 
-  -- annotation | stmt
-  abbrev pub case_item : Numbered → AnnotationState → Syntax PlainToken (BlockItem × AnnotationState)
-  case_item T n = (annotations ws n.number then λ x. gives (statement.Asserts x.0, after_placed n x.1)) or (T n then λ x. gives (statement.Run x.0, x.1))
+  -- asserts | contract branch | stmt
+  abbrev pub case_item : Numbered → Numbered → AnnotationState → Syntax PlainToken (BlockItem × AnnotationState)
+  case_item T B n = asserts n or behind_contract B n or (T n then λ x. gives (statement.Run x.0, x.1))
 
-  -- { annotation | stmt }
-  abbrev pub case_items : Numbered → AnnotationState → Syntax PlainToken (List BlockItem × AnnotationState)
-  case_items T n = repeated (λ x. case_item T x.1 then λ i. gives (x.0 ++ i.0 ∷ [], i.1)) ([], n)
+  -- { asserts | contract branch | stmt }
+  abbrev pub case_items : Numbered → Numbered → AnnotationState → Syntax PlainToken (List BlockItem × AnnotationState)
+  case_items T B n = repeated (λ x. case_item T B x.1 then λ i. gives (x.0 ++ i.0 ∷ [], i.1)) ([], n)
 
-  -- case = ( "case" cond | "default" ) ":" { annotation | stmt }, after others
-  abbrev pub next_case : Numbered → List ReadCase × AnnotationState → Syntax PlainToken (List ReadCase × AnnotationState)
-  next_case T x = case_label then λ l. case_items T x.1 then λ y. gives (x.0 ++ record { place = l.0; value = l.1; items = y.0 } ∷ [], y.1)
+  -- case = ( "case" cond | "default" ) ":" { asserts | contract branch | stmt }, after others
+  abbrev pub next_case : Numbered → Numbered → List ReadCase × AnnotationState → Syntax PlainToken (List ReadCase × AnnotationState)
+  next_case T B x = case_label then λ l. case_items T B x.1 then λ y. gives (x.0 ++ record { place = l.0; value = l.1; items = y.0 } ∷ [], y.1)
 
   -- { case }
-  abbrev pub cases : Numbered → AnnotationState → Syntax PlainToken (List ReadCase × AnnotationState)
-  cases T n = repeated (next_case T) ([], n)
+  abbrev pub cases : Numbered → Numbered → AnnotationState → Syntax PlainToken (List ReadCase × AnnotationState)
+  cases T B n = repeated (next_case T B) ([], n)
 
   -- "switch" "(" comma ")" "{" { case } "}"
-  abbrev pub switch_statement : Numbered → Numbered
-  switch_statement T n =
-      reserved ws keyword.Switch then λ at. condition then λ e. mark ws left_brace then λ _. cases T n then λ x.
+  abbrev pub switch_statement : Numbered → Numbered → Numbered
+  switch_statement T B n =
+      reserved ws keyword.Switch then λ at. condition then λ e. mark ws left_brace then λ _. cases T B n then λ x.
       mark ws right_brace then λ _. gives (statement.Switch at e (cases_of x.0), x.1)
 
   -- comma ";"
   abbrev pub effect_statement : Numbered
   effect_statement n = full_placed_expression ws then λ e. mark ws semicolon then λ _. gives (statement.Eval e.1 e.0, n)
 
+  -- NAME ":" branch
+  abbrev pub labelled : Numbered → Numbered
+  labelled S n = name ws then λ x. mark ws colon then λ _. S n then λ y. gives (statement.Labelled x.1 x.0 y.0, y.1)
+
   -- stmt
-  abbrev pub stmt : Numbered → Numbered → Numbered
-  stmt T S n =
-      block T n or empty n or effect_statement n or selection S n or while_loop S n or do_loop S n or for_loop S n
-      or switch_statement T n or jump n or return_statement n
+  abbrev pub stmt : Numbered → Numbered → Numbered → Numbered
+  stmt T B S n =
+      block T B n or empty n or effect_statement n or labelled S n or selection S n or while_loop S n or do_loop S n or for_loop S n
+      or switch_statement T B n or jump n or return_statement n
 
   -- branch = annotation branch | stmt
   abbrev pub branch : Numbered → Numbered → Numbered

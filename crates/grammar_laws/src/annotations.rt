@@ -4,12 +4,19 @@ ghost use Rattle.std.specs.Prelude.{ℕ};
 ghost use Rattle.grammar.specs.Exact.{Same};
 ghost use Rattle.c_model.specs.Vocabulary.{Vocabulary};
 ghost use Rattle.c_model.specs.AnnotationGrammar as parsed;
+ghost use Rattle.c_model.specs.ClauseGrammar as clauses;
+ghost use Rattle.c_model.specs.declared.formulas.ClauseGroup.{ClauseGroup};
 ghost use Rattle.grammar_laws.specs.AnnotationProductions as production;
+ghost use Rattle.grammar_laws.specs.ClauseProductions as written;
 
-/// Annotations and their asserts.
+/// Annotations, contracts, and their clauses.
 pub fn annotations()
-    ensures annotation { (words : Vocabulary) (number : ℕ) → Same (parsed.annotations words number) (production.annotation words number) }
-    ensures assertion { (words : Vocabulary) (number : ℕ) → Same (parsed.full_clause words number) (production.assert words number) }
+    ensures annotation { (words : Vocabulary) (number : ℕ) → Same (clauses.annotations words number) (written.annotation words number) }
+    ensures clause { (words : Vocabulary) (group : ClauseGroup) (number : ℕ) →
+        Same (clauses.full_clause words group number) (written.clause words group number) }
+    ensures contract { (words : Vocabulary) (number : ℕ) → Same (clauses.contract words number) (written.contract words number) }
+    ensures behavior { (words : Vocabulary) (number : ℕ) → Same (clauses.behavior words number) (written.behavior words number) }
+    ensures cover { (words : Vocabulary) (number : ℕ) → Same (clauses.full_cover words number) (written.cover words number) }
 {}
 
 /// Forms, zones, prefixes and implications, which stand in themselves, and chains of relations.

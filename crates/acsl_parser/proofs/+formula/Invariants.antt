@@ -59,6 +59,12 @@ decreases-prefix::behind_parenthesis l = 100 * length l.tokens.now + 41
 abbrev pub decreases-prefix::prefixed : goal.decreases-prefix::prefixed
 decreases-prefix::prefixed l = 100 * length l.tokens.now + 1
 
+abbrev pub decreases-primary::old_form : goal.decreases-primary::old_form
+decreases-primary::old_form l = 100 * length l.tokens.now + 1
+
+abbrev pub decreases-primary::labelled_form : goal.decreases-primary::labelled_form
+decreases-primary::labelled_form l = 100 * length l.tokens.now + 1
+
 abbrev pub decreases-primary::told_form : goal.decreases-primary::told_form
 decreases-primary::told_form l = 100 * length l.tokens.now + 1
 

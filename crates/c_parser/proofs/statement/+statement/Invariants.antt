@@ -1,6 +1,6 @@
 use Rattle.std.proofs.Common.{◌≡◌, ◌+◌, ◌*◌, length, map}
 use Rattle.c_syntax.specs.Statements.{plain_item}
-use Rattle.c_model.specs.ProgramGrammar.{items, case_items, cases, statement_in}
+use Rattle.c_model.specs.ProgramGrammar.{items, case_items, cases, statement_in, inside_in}
 use Rattle.token_reader.specs.Reading.{plain_list}
 use Rattle.c_parser.specs.Reading.{read_case}
 use Rattle.c_parser.proofs.statement.+statement.Given as goal
@@ -23,59 +23,77 @@ decreases-do_loop l = 10 * l.levels + 4
 abbrev pub decreases-for_loop : goal.decreases-for_loop
 decreases-for_loop l = 10 * l.levels + 4
 
+abbrev pub decreases-run_item : goal.decreases-run_item
+decreases-run_item l = 10 * l.levels + 1
+
+abbrev pub decreases-behind_annotation : goal.decreases-behind_annotation
+decreases-behind_annotation l = 10 * l.levels + 1
+
+abbrev pub decreases-annotated_item : goal.decreases-annotated_item
+decreases-annotated_item l = 10 * l.levels + 2
+
 abbrev pub decreases-item : goal.decreases-item
-decreases-item l = 10 * l.levels + 1
+decreases-item l = 10 * l.levels + 3
 
 abbrev pub decreases-items_once : goal.decreases-items_once
-decreases-items_once l = 10 * l.levels + 2
+decreases-items_once l = 10 * l.levels + 4
 
 abbrev pub decreases-items : goal.decreases-items
-decreases-items l = 10 * l.levels + 3
+decreases-items l = 10 * l.levels + 5
 
 abbrev pub invariant-items-turn : goal.invariant-items-turn
-invariant-items-turn l = (items l.words (statement_in l.words l.levels) (map plain_item l.all.items, l.state)).parse (plain_list l.rest) ≡
-    (items l.words (statement_in l.words l.levels) (map plain_item l.fn.all.items, l.fn.state)).parse (plain_list l.fn.tokens)
+invariant-items-turn l = (items l.words (statement_in l.words l.levels) (inside_in l.words l.levels) (map plain_item l.all.items, l.state)).parse (plain_list l.rest) ≡
+    (items l.words (statement_in l.words l.levels) (inside_in l.words l.levels) (map plain_item l.fn.all.items, l.fn.state)).parse (plain_list l.fn.tokens)
 
 abbrev pub decreases-items-turn : goal.decreases-items-turn
 decreases-items-turn l = length l.rest
 
 abbrev pub decreases-block : goal.decreases-block
-decreases-block l = 10 * l.levels + 4
+decreases-block l = 10 * l.levels + 6
 
 abbrev pub decreases-case_item : goal.decreases-case_item
-decreases-case_item l = 10 * l.levels + 1
+decreases-case_item l = 10 * l.levels + 3
 
 abbrev pub decreases-case_items_once : goal.decreases-case_items_once
-decreases-case_items_once l = 10 * l.levels + 2
+decreases-case_items_once l = 10 * l.levels + 4
 
 abbrev pub decreases-case_items : goal.decreases-case_items
-decreases-case_items l = 10 * l.levels + 3
+decreases-case_items l = 10 * l.levels + 5
 
 abbrev pub invariant-case_items-turn : goal.invariant-case_items-turn
-invariant-case_items-turn l = (case_items l.words (statement_in l.words l.levels) (map plain_item l.all.items, l.state)).parse (plain_list l.rest) ≡
-    (case_items l.words (statement_in l.words l.levels) (map plain_item l.fn.all.items, l.fn.state)).parse (plain_list l.fn.tokens)
+invariant-case_items-turn l = (case_items l.words (statement_in l.words l.levels) (inside_in l.words l.levels) (map plain_item l.all.items, l.state)).parse (plain_list l.rest) ≡
+    (case_items l.words (statement_in l.words l.levels) (inside_in l.words l.levels) (map plain_item l.fn.all.items, l.fn.state)).parse (plain_list l.fn.tokens)
 
 abbrev pub decreases-case_items-turn : goal.decreases-case_items-turn
 decreases-case_items-turn l = length l.rest
 
 abbrev pub decreases-next_case : goal.decreases-next_case
-decreases-next_case l = 10 * l.levels + 4
+decreases-next_case l = 10 * l.levels + 6
 
 abbrev pub decreases-cases : goal.decreases-cases
-decreases-cases l = 10 * l.levels + 5
+decreases-cases l = 10 * l.levels + 7
 
 abbrev pub invariant-cases-turn : goal.invariant-cases-turn
-invariant-cases-turn l = (cases l.words (statement_in l.words l.levels) (map read_case l.all.items, l.state)).parse (plain_list l.rest) ≡
-    (cases l.words (statement_in l.words l.levels) (map read_case l.fn.all.items, l.fn.state)).parse (plain_list l.fn.tokens)
+invariant-cases-turn l = (cases l.words (statement_in l.words l.levels) (inside_in l.words l.levels) (map read_case l.all.items, l.state)).parse (plain_list l.rest) ≡
+    (cases l.words (statement_in l.words l.levels) (inside_in l.words l.levels) (map read_case l.fn.all.items, l.fn.state)).parse (plain_list l.fn.tokens)
 
 abbrev pub decreases-cases-turn : goal.decreases-cases-turn
 decreases-cases-turn l = length l.rest
 
 abbrev pub decreases-switch_statement : goal.decreases-switch_statement
-decreases-switch_statement l = 10 * l.levels + 6
+decreases-switch_statement l = 10 * l.levels + 8
+
+abbrev pub decreases-labelled_statement : goal.decreases-labelled_statement
+decreases-labelled_statement l = 10 * l.levels + 2
+
+abbrev pub decreases-named_statement : goal.decreases-named_statement
+decreases-named_statement l = 10 * l.levels + 3
 
 abbrev pub decreases-statement : goal.decreases-statement
 decreases-statement l = 10 * l.levels
 
 abbrev pub decreases-branch : goal.decreases-branch
 decreases-branch l = 10 * l.levels + 1
+
+abbrev pub decreases-inside : goal.decreases-inside
+decreases-inside l = 10 * l.levels

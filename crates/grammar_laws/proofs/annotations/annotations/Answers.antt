@@ -1,8 +1,17 @@
-use Rattle.grammar_laws.proofs.AnnotationProductions.{annotation_line, assert_line}
+use Rattle.grammar_laws.proofs.ClauseProductions.{annotation_line, clause_line, contract_line, behavior_line, cover_line}
 use Rattle.grammar_laws.proofs.annotations.annotations.Goals as goal
 
 pub returns-clause-annotation : goal.returns-clause-annotation
 returns-clause-annotation c = annotation_line
 
-pub returns-clause-assertion : goal.returns-clause-assertion
-returns-clause-assertion c = assert_line
+pub returns-clause-clause : goal.returns-clause-clause
+returns-clause-clause c = clause_line
+
+pub returns-clause-contract : goal.returns-clause-contract
+returns-clause-contract c = contract_line
+
+pub returns-clause-behavior : goal.returns-clause-behavior
+returns-clause-behavior c = behavior_line
+
+pub returns-clause-cover : goal.returns-clause-cover
+returns-clause-cover c = cover_line

@@ -1,5 +1,5 @@
-use Rattle.c_model.specs.ProgramGrammar.{statement_in}
-use Rattle.grammar_laws.proofs.StatementProductions.{statement_line, item_line, branch_line, deepest_line}
+use Rattle.c_model.specs.ProgramGrammar.{statement_in, inside_in}
+use Rattle.grammar_laws.proofs.StatementProductions.{statement_line, item_line, branch_line, inside_line, inside_empty, deepest_line}
 use Rattle.grammar_laws.proofs.statements.statements.Goals as goal
 
 pub returns-clause-statement : goal.returns-clause-statement
@@ -8,8 +8,11 @@ returns-clause-statement c = statement_line
 pub returns-clause-branch : goal.returns-clause-branch
 returns-clause-branch c = branch_line
 
+pub returns-clause-inside : goal.returns-clause-inside
+returns-clause-inside c = inside_line
+
 pub returns-clause-deepest : goal.returns-clause-deepest
 returns-clause-deepest c = deepest_line
 
 pub returns-clause-item : goal.returns-clause-item
-returns-clause-item c = λ ws n s. item_line ws (statement_in ws n) s
+returns-clause-item c = λ ws n s. item_line ws (statement_in ws n) (inside_in ws n) s (inside_empty ws n)
