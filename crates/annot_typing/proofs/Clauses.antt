@@ -4,12 +4,12 @@ use Rattle.c_syntax.specs.declared.logic.Annot.{Annot}
 use Rattle.c_syntax.specs.declared.logic.Body.{Body}
 use Rattle.c_syntax.specs.Logic.{Annotation, plain_body, plain_annot}
 use Rattle.c_model.specs.Checked.{Good}
-use Rattle.c_model.specs.ExpressionTyping.{Sight}
+use Rattle.c_model.specs.AnnotationSights.{AnnotationSight}
 use Rattle.c_model.specs.PredicateTyping.{typed_annotations, typed_clause}
 use Rattle.c_scopes.proofs.Lists.{behind_parts, list_more}
 
 -- one more annotation is typed
-pub annotations_more : (s : Sight) (all : List Annotation) (list done done' : List Annot) (a : Annot) (body : Body) (rest : List Annot)
+pub annotations_more : (s : AnnotationSight) (all : List Annotation) (list done done' : List Annot) (a : Annot) (body : Body) (rest : List Annot)
     → typed_annotations s all ≡ behind_parts (map plain_annot done) (typed_annotations s (map plain_annot list)) → list ≡ a ∷ rest → typed_clause s (plain_body a.body) ≡ Good (plain_body body)
     → done' ≡ done ++ record a { body = body } ∷ [] → typed_annotations s all ≡ behind_parts (map plain_annot done') (typed_annotations s (map plain_annot rest))
 annotations_more s all list done done' a body rest before is good more =

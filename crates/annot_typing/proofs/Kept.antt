@@ -25,6 +25,8 @@ place_is at (term.Address' pa p a ta ra) t r = refl
 place_is at (term.Moved' op n pa p a ta ra pb q b tb rb) t r = refl
 place_is at (term.Difference' n pa p a ta ra pb q b tb rb) t r = refl
 place_is at (term.Told' f pa p a ta ra) t r = refl
+place_is at (term.Named x) t r = refl
+place_is at (term.At' l pa p a ta ra) t r = refl
 
 type_is : (at : Place) (k : TermKind) (t : Option PlainType) (r : Range) → type_of_term (plain_term_kind at k t r) ≡ t
 type_is at (term.Number n) t r = refl
@@ -41,6 +43,8 @@ type_is at (term.Address' pa p a ta ra) t r = refl
 type_is at (term.Moved' op n pa p a ta ra pb q b tb rb) t r = refl
 type_is at (term.Difference' n pa p a ta ra pb q b tb rb) t r = refl
 type_is at (term.Told' f pa p a ta ra) t r = refl
+type_is at (term.Named x) t r = refl
+type_is at (term.At' l pa p a ta ra) t r = refl
 
 pub place_kept : (t : Term) → place_of_term (plain_term t) ≡ t.place
 place_kept t = place_is t.place t.kind.value (option_map plain_type t.ctype) t.range

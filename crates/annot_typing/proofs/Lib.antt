@@ -8,3 +8,6 @@ pub mod Sizes
 pub mod Casts
 -- annotations one after another
 pub mod Clauses
+pub mod Marks
+pub mod Labels
+pub mod Contracts

@@ -1,5 +1,6 @@
 pub mod Joined
 pub mod Limits
 pub mod Relations
+pub mod Sights
 pub mod Sorts
 pub mod Zones

@@ -6,7 +6,9 @@ ghost use Rattle.c_syntax.specs.Logic.{Raw, plain_annot, plain_body};
 ghost use Rattle.c_model.specs.PredicateTyping.{typed_annotations, typed_clause};
 ghost use Rattle.c_scopes.specs.Answers.{Answers};
 ghost use Rattle.c_scopes.specs.Sights.{plain_sight};
+ghost use Rattle.annot_typing.specs.Sights.{annotation_sight};
 
+use crate::clause_sight::ClauseSight;
 use crate::demand::clause_holds;
 use crate::form::type_value;
 use c_scopes::fault::TypeFault;
@@ -16,10 +18,16 @@ use std::alloc::Global;
 use std::mem::replace;
 
 /// What a form says as a clause.
-fn type_truth(alloc: Global, sight: &Sight, f: &Formula) -> Result<Body, TypeFault>
-    ensures { Answers plain_body (typed_clause (plain_sight sight.now) (Raw (plain_form f.now))) result }
+fn type_truth(
+    alloc: Global,
+    sight: &mut Sight,
+    clause: ClauseSight<'_>,
+    f: &Formula,
+) -> Result<Body, TypeFault>
+    ensures typed { Answers plain_body (typed_clause (annotation_sight (plain_sight sight.old) clause.entry) (Raw (plain_form f.now))) result }
+    ensures same { sight.new ≡ sight.old }
 {
-    let a = type_value(alloc, sight, f)?;
+    let a = type_value(alloc, sight, clause, f)?;
     let p = clause_holds(alloc, a)?;
     Ok(Body::Truth(p))
 }
@@ -31,26 +39,41 @@ fn put(body: &mut Body, by: Body)
     drop(replace(body, by));
 }
 
-fn type_clause(alloc: Global, sight: &Sight, body: &mut Body) -> Result<(), TypeFault>
-    ensures { Answers (λ _. plain_body body.new) (typed_clause (plain_sight sight.now) (plain_body body.old)) result }
+/// Types what a clause says: a form becomes a predicate.
+pub fn type_clause(
+    alloc: Global,
+    sight: &mut Sight,
+    clause: ClauseSight<'_>,
+    body: &mut Body,
+) -> Result<(), TypeFault>
+    ensures typed { Answers (λ _. plain_body body.new) (typed_clause (annotation_sight (plain_sight sight.old) clause.entry) (plain_body body.old)) result }
+    ensures same { sight.new ≡ sight.old }
 {
     match body {
         Body::Truth(_) => Ok(()),
+        Body::Names(_) => Ok(()),
         Body::Raw(f) => {
-            let truth = type_truth(alloc, sight, f)?;
+            let truth = type_truth(alloc, sight, clause, f)?;
             put(body, truth);
             Ok(())
         }
     }
 }
 
-/// Types annotations in turn: each form becomes a predicate.
-pub fn type_clauses(alloc: Global, sight: &Sight, annots: &mut Vec<Annot>) -> Result<(), TypeFault>
-    ensures { Answers (λ _. map plain_annot annots.new.items) (typed_annotations (plain_sight sight.now) (map plain_annot annots.old.items)) result }
+/// Types annotations in turn: each form becomes a predicate. What was in sight before is in sight after it.
+pub fn type_clauses(
+    alloc: Global,
+    sight: &mut Sight,
+    clause: ClauseSight<'_>,
+    annots: &mut Vec<Annot>,
+) -> Result<(), TypeFault>
+    ensures typed { Answers (λ _. map plain_annot annots.new.items)
+        (typed_annotations (annotation_sight (plain_sight sight.old) clause.entry) (map plain_annot annots.old.items)) result }
+    ensures same { sight.new ≡ sight.old }
 {
     for i in 0..annots.len() {
         let annot = &mut annots[i];
-        type_clause(alloc, sight, &mut annot.body)?;
+        type_clause(alloc, sight, clause, &mut annot.body)?;
     }
     Ok(())
 }

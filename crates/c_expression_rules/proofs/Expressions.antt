@@ -52,6 +52,13 @@ form_is s at t (Dot a m) = refl
 form_is s at t (Arrow a m) = refl
 form_is s at t (Comma a b) = two_in_turn (λ a b. Good (Node at (type_of b) (Comma a b))) (typed s a) (decayed_of (typed s b))
 
+-- ---- refusals
+
+-- what is refused is so, whatever would have been made
+pub refused_as : {A S T : Type 0} (p : T → A) (s : S → A) (m : Checked A) (h : TypeFault) → Answers p m (Err h) → Answers s m (Err h)
+refused_as p s m (Refused f) x = x
+refused_as p s m Memory x = tt
+
 -- ---- calls
 
 -- a call by its form

@@ -6,6 +6,8 @@ pub mod CaseLists
 pub mod Newest
 pub mod Objects
 pub mod Firsts
+pub mod Earlier
+pub mod Labels
 pub mod Named
 pub mod Tags
 pub mod Told

@@ -5,19 +5,19 @@ use Rattle.std.proofs.lemmas.List.{map-append}
 use Rattle.std.specs.Map.{lookup}
 use Rattle.std.specs.Prelude.{Result, Ok, Err, OnOk, OnErr}
 use Rattle.c_model.specs.ExpressionTyping.{Entity, AnObject, AnEnumerator, entity_named, has_name, or_else}
-use Rattle.c_scopes.specs.declared.entities.Declared.{Declared}
+use Rattle.c_scopes.specs.declared.declarations.Declared.{Declared}
 use Rattle.c_scopes.specs.Newest.{AreHidden, AreNewest, entities_of, entity_of, hidden_numbers, newest_number, plain_name}
 
-name_is : (x : ℕ) (e : Entity) → has_name x e ≡ nat_eq x (plain_name e)
+pub name_is : (x : ℕ) (e : Entity) → has_name x e ≡ nat_eq x (plain_name e)
 name_is x (AnObject b) = refl
 name_is x (AnEnumerator c) = refl
 
 -- ---- an entity that is found
 
 -- the entity of this number is the newest of the name
-record IsNewest (x : ℕ) (es : List Entity) (n : ℕ) : Type 0 where
-  within : n < length es
-  is : (e : Entity) → e ≡ get_or es n e → entity_named x es ≡ Some e
+pub record IsNewest (x : ℕ) (es : List Entity) (n : ℕ) : Type 0 where
+  pub within : n < length es
+  pub is : (e : Entity) → e ≡ get_or es n e → entity_named x es ≡ Some e
 
 newest_here : (x : ℕ) (e : Entity) (es : List Entity) (n : ℕ) → entity_named x es ≡ None → (b : Bool) → has_name x e ≡ b → cond b (Some 0) None ≡ Some n → IsNewest x (e ∷ es) n
 newest_here x e es zero none true t i = record {
@@ -43,7 +43,7 @@ none_named x (e ∷ es) i = by (none_named x es) (newest_number x es) (has_name 
     by go None true eo j = absurd cc
     by go None false eo j = ap (λ r. or_else r None) (go eo)
 
-newest_is : (x : ℕ) (es : List Entity) (n : ℕ) → newest_number x es ≡ Some n → IsNewest x es n
+pub newest_is : (x : ℕ) (es : List Entity) (n : ℕ) → newest_number x es ≡ Some n → IsNewest x es n
 newest_is x [] n i = absurd cc
 newest_is x (e ∷ es) n i = by (newest_is x es) (newest_number x es) refl i
   where
@@ -53,7 +53,7 @@ newest_is x (e ∷ es) n i = by (newest_is x es) (newest_number x es) refl i
 
 -- ---- among those from a number on
 
-none_behind : (x k : ℕ) (es : List Entity) → newest_number x es ≡ None → entity_named x (drop k es) ≡ None
+pub none_behind : (x k : ℕ) (es : List Entity) → newest_number x es ≡ None → entity_named x (drop k es) ≡ None
 none_behind x zero es i = none_named x es i
 none_behind x (suc k) [] i = refl
 none_behind x (suc k) (e ∷ es) i = by (none_behind x k es) (newest_number x es) (has_name x e) refl i
@@ -182,7 +182,7 @@ last_known es all e newest name is named are =
 pub entities_last : (ds all : List Declared) (d : Declared) → all ≡ ds ++ d ∷ [] → entities_of all ≡ entities_of ds ++ entity_of d ∷ []
 entities_last ds all d is = ap entities_of is ∙ map-append entity_of ds (d ∷ [])
 
-append_one : (a : List Entity) (e : Entity) (b : List Entity) → (a ++ e ∷ []) ++ b ≡ a ++ e ∷ b
+pub append_one : (a : List Entity) (e : Entity) (b : List Entity) → (a ++ e ∷ []) ++ b ≡ a ++ e ∷ b
 append_one [] e b = refl
 append_one (x ∷ a) e b = ap (λ l. x ∷ l) (append_one a e b)
 
@@ -204,11 +204,11 @@ hidden_more ds more d is h are =
     ∙ ap (λ l. l ++ d.hidden ∷ []) are ∙ ap (λ o. hidden_numbers [] (entities_of ds) ++ o ∷ []) h ∙ sym (numbers_last ds d) ∙ ap (λ l. hidden_numbers [] (entities_of l)) (sym is)
 
 -- lists with a last element are the same if both parts are
-record AreSame (A : Type 0) (xs ys : List A) (x y : A) : Type 0 where
-  front : xs ≡ ys
-  last : x ≡ y
+pub record AreSame (A : Type 0) (xs ys : List A) (x y : A) : Type 0 where
+  pub front : xs ≡ ys
+  pub last : x ≡ y
 
-same_ends : {A : Type 0} (xs ys : List A) (x y : A) → xs ++ x ∷ [] ≡ ys ++ y ∷ [] → AreSame A xs ys x y
+pub same_ends : {A : Type 0} (xs ys : List A) (x y : A) → xs ++ x ∷ [] ≡ ys ++ y ∷ [] → AreSame A xs ys x y
 same_ends [] [] x y e = record { front = refl; last = cc }
 same_ends [] (b ∷ []) x y e = absurd cc
 same_ends [] (b ∷ c ∷ ys) x y e = absurd cc

@@ -4,7 +4,7 @@ use Rattle.std.proofs.lemmas.Bool.Decides.{nat_tests}
 use Rattle.std.specs.Map.{lookup}
 use Rattle.std.specs.Prelude.{Result, Ok, Err, OnOk}
 use Rattle.c_model.specs.ExpressionTyping.{Entity, Object, AnObject, AnEnumerator, or_else}
-use Rattle.c_scopes.specs.declared.entities.Declared.{Declared}
+use Rattle.c_scopes.specs.declared.declarations.Declared.{Declared}
 use Rattle.c_scopes.specs.Firsts.{IsNoted}
 use Rattle.c_scopes.specs.Newest.{entities_of, entity_of}
 use Rattle.c_scopes.specs.Objects.{AreFirstObjects, NotesObject, ForgetsObject, object_in, object_with, object_number, decl_in}
@@ -158,6 +158,6 @@ object_forgotten firsts fewer k n this without es e same count are x =
 
 -- ---- one more that is taken away again
 
-pub one_off : (ds : List Declared) (d : Declared) → take (length ds) (ds ++ d ∷ []) ≡ ds
+pub one_off : {A : Type 0} (ds : List A) (d : A) → take (length ds) (ds ++ d ∷ []) ≡ ds
 one_off [] d = refl
 one_off (c ∷ ds) d = ap (λ l. c ∷ l) (one_off ds d)

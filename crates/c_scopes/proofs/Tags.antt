@@ -5,7 +5,7 @@ use Rattle.indexmap.specs.IndexSet.{IndexSet, contains}
 use Rattle.c_model.specs.ExpressionTyping.{is_among}
 use Rattle.c_scopes.specs.Tags.{HasTags}
 
-among_last : (x : ℕ) (tags : List ℕ) (tag : ℕ) → is_among x (tags ++ tag ∷ []) ≡ (is_among x tags || nat_eq x tag)
+pub among_last : (x : ℕ) (tags : List ℕ) (tag : ℕ) → is_among x (tags ++ tag ∷ []) ≡ (is_among x tags || nat_eq x tag)
 among_last x [] tag = by (nat_eq x tag)
   where
     by : (b : Bool) → (b || false) ≡ b

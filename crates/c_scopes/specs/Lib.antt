@@ -2,6 +2,8 @@ pub mod Answers
 pub mod Entities
 pub mod Entity
 pub mod Firsts
+pub mod KnownLabels
+pub mod Labels
 pub mod Library
 pub mod Limits
 pub mod Literals

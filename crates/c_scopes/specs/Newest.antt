@@ -5,7 +5,7 @@ use Rattle.std.specs.Map.{lookup}
 use Rattle.c_model.specs.ExpressionTyping as plain
 use Rattle.c_model.specs.ExpressionTyping.{AnObject, AnEnumerator, has_name, or_else}
 use Rattle.c_scopes.specs.Entity.{plain_entity}
-use Rattle.c_scopes.specs.declared.entities.Declared.{Declared}
+use Rattle.c_scopes.specs.declared.declarations.Declared.{Declared}
 
 abbrev pub plain_name : plain.Entity → ℕ
 plain_name (AnObject b) = b.name

@@ -4,6 +4,7 @@ use Rattle.std.specs.Prelude.{ℕ, Bool, false, nat_eq, Option, Some, None, map,
 use Rattle.c_syntax.specs.Programs.{plain_layout, plain_text}
 use Rattle.c_model.specs.ExpressionTyping as plain
 use Rattle.c_scopes.specs.declared.sight.Sight.{Sight}
+use Rattle.c_scopes.specs.declared.sight.Mark.{Mark}
 use Rattle.c_scopes.specs.Entities.{plain_entities}
 use Rattle.c_scopes.specs.Signatures.{plain_signature}
 use Rattle.c_scopes.specs.TypeNames.{plain_type_name}
@@ -25,6 +26,10 @@ plain_sight s = record {
 -- what is in sight after a block, around which so many entities are
 abbrev pub left : ℕ → ℕ → plain.Sight → plain.Sight
 left count innermost s = record s { entities = take count s.entities; innermost = innermost }
+
+-- with as many in sight as there were, and the innermost scope of then
+abbrev pub seen_again : Mark → Sight → Sight
+seen_again m s = record s { entities = record s.entities { seen = m.count }; innermost = m.innermost }
 
 -- whether the tag of a struct is this one
 abbrev pub has_tag : ℕ → Option ℕ → Bool

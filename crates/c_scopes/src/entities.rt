@@ -1,146 +1,77 @@
-//! The objects and enumerators in sight (C99 6.2.1). Each is found by its name, and an object by the number of its declaration, without a
-//! look at all of them.
+//! The objects and enumerators in sight (C99 6.2.1). Where an annotation looks back at an earlier point of its function, those that were
+//! declared since are out of sight for a while.
 
-ghost use Rattle.std.specs.Prelude.{◌≡◌, [], ◌∷◌, ◌++◌, ◌-◌, cond, drop, is_ok, length, option_map, take};
+ghost use Rattle.std.specs.Prelude.{◌≡◌, [], ◌∷◌, ◌++◌, cond, drop, is_ok, length, option_map, take};
 ghost use Rattle.c_model.specs.ExpressionTyping.{entity_named};
+ghost use Rattle.c_scopes.specs.Entities.{plain_entities};
 ghost use Rattle.c_scopes.specs.Entity.{plain_entity, plain_object};
-ghost use Rattle.c_scopes.specs.Newest.{AreHidden, AreNewest, entities_of};
-ghost use Rattle.c_scopes.specs.Objects.{AreFirstObjects, object_with};
+ghost use Rattle.c_scopes.specs.Objects.{object_with};
 
-use crate::entity::{Entity, Object, decl_of, name_of, object_in};
-use crate::object::{forget_object, note_object};
-use indexmap::IndexMap;
+use crate::declarations::Declarations;
+use crate::entity::{Entity, Object};
 use std::alloc::{AllocError, Global};
 
-/// An object or an enumerator, and the number of the newest before it that has its name.
-#[derive(Drop)]
-pub struct Declared {
-    pub entity: Entity,
-    pub hidden: Option<usize>,
-}
-
-/// Objects and enumerators, the newest last.
+/// The objects and enumerators in sight, the newest last.
 #[derive(Drop)]
 pub struct Entities {
-    pub declared: Vec<Declared>,
-    /// The number of the newest of each name.
-    pub newest: IndexMap<u32, usize>,
-    /// The number of the first object with each declaration.
-    pub firsts: IndexMap<u32, usize>,
-    ghost hidden: { AreHidden declared.items },
-    ghost found: { AreNewest (entities_of declared.items) newest.entries },
-    ghost first: { AreFirstObjects (entities_of declared.items) firsts.entries },
+    pub all: Declarations,
+    /// How many of them are in sight.
+    pub seen: usize,
 }
 
 impl Entities {
     /// None.
     pub fn new(alloc: Global) -> Self
-        ensures { result.declared.items ≡ [] }
+        ensures { plain_entities result ≡ [] }
     {
         Entities {
-            declared: Vec::new(alloc),
-            newest: IndexMap::new(alloc),
-            firsts: IndexMap::new(alloc),
+            all: Declarations::new(alloc),
+            seen: 0,
         }
     }
 
     /// How many there are.
     pub fn len(&self) -> usize
-        ensures { result ≡ length (entities_of self.now.declared.items) }
+        ensures { result ≡ length (plain_entities self.now) }
     {
-        self.declared.len()
+        self.seen.min(self.all.len())
     }
 
     /// The newest of a name.
     pub fn named(&self, name: u32) -> Option<&Entity>
-        ensures { option_map (λ e. plain_entity e.now) result ≡ entity_named name (entities_of self.now.declared.items) }
+        ensures { option_map (λ e. plain_entity e.now) result ≡ entity_named name (plain_entities self.now) }
     {
-        match self.newest.get(&name) {
-            Some(number) => Some(&self.declared[*number].entity),
-            None => None,
-        }
+        self.all.named_before(self.seen, name)
     }
 
     /// The newest of a name among those from a number on.
     pub fn named_from(&self, from: usize, name: u32) -> Option<&Entity>
-        ensures { option_map (λ e. plain_entity e.now) result ≡ entity_named name (drop from (entities_of self.now.declared.items)) }
+        ensures { option_map (λ e. plain_entity e.now) result ≡ entity_named name (drop from (plain_entities self.now)) }
     {
-        match self.newest.get(&name) {
-            Some(number) => {
-                if from <= *number {
-                    Some(&self.declared[*number].entity)
-                } else {
-                    None
-                }
-            }
-            None => None,
-        }
+        self.all.named_between(from, self.seen, name)
     }
 
     /// The first object with the number of a declaration.
     pub fn object_with(&self, decl: u32) -> Option<&Object>
-        ensures { option_map (λ b. plain_object b.now) result ≡ object_with decl (entities_of self.now.declared.items) }
+        ensures { option_map (λ b. plain_object b.now) result ≡ object_with decl (plain_entities self.now) }
     {
-        match self.firsts.get(&decl) {
-            Some(number) => object_in(&self.declared[*number].entity),
-            None => None,
-        }
+        self.all.object_before(self.seen, decl)
     }
 
-    /// One more.
+    /// One more, in the place of those that are out of sight.
     pub fn push(&mut self, entity: Entity) -> Result<(), AllocError>
-        ensures { entities_of self.new.declared.items
-            ≡ cond (is_ok result) (entities_of self.old.declared.items ++ plain_entity entity ∷ []) (entities_of self.old.declared.items) }
+        ensures { plain_entities self.new ≡ cond (is_ok result) (plain_entities self.old ++ plain_entity entity ∷ []) (plain_entities self.old) }
     {
-        let name = name_of(&entity);
-        let decl = decl_of(&entity);
-        let number = self.declared.len();
-        let hidden = self.newest.get(&name).copied();
-        self.declared.push(Declared { entity, hidden })?;
-        match note_object(&mut self.firsts, decl, number) {
-            Ok(()) => match self.newest.insert(name, number) {
-                Ok(_) => Ok(()),
-                Err(e) => {
-                    forget_object(&mut self.firsts, decl, number);
-                    self.declared.truncate(number);
-                    Err(e.into())
-                }
-            },
-            Err(e) => {
-                self.declared.truncate(number);
-                Err(e)
-            }
-        }
-    }
-
-    /// Takes the newest away, so that what it hides is found again.
-    fn pop(&mut self)
-        ensures { entities_of self.new.declared.items ≡ take (length (entities_of self.old.declared.items) - 1) (entities_of self.old.declared.items) }
-    {
-        if let Some(last) = self.declared.pop() {
-            let name = name_of(&last.entity);
-            let decl = decl_of(&last.entity);
-            let hidden = last.hidden;
-            drop(last);
-            forget_object(&mut self.firsts, decl, self.declared.len());
-            match hidden {
-                Some(number) => match self.newest.insert(name, number) {
-                    Ok(_) => (),
-                    Err(_) => (),
-                },
-                None => {
-                    self.newest.swap_remove(&name);
-                }
-            }
-        }
+        self.all.truncate(self.seen);
+        self.all.push(entity)?;
+        self.seen = self.all.len();
+        Ok(())
     }
 
     /// Keeps the first so many.
     pub fn truncate(&mut self, count: usize)
-        ensures { entities_of self.new.declared.items ≡ take count (entities_of self.old.declared.items) }
+        ensures { plain_entities self.new ≡ take count (plain_entities self.old) }
     {
-        while self.declared.len() > count {
-            self.pop();
-        }
+        self.all.truncate(count);
     }
 }

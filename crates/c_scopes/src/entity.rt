@@ -7,6 +7,9 @@ ghost use Rattle.c_scopes.specs.Objects.{object_in, decl_in};
 
 use c_syntax::CType;
 
+/// The number of what annotations call `\result`, which is no declaration's.
+pub const RESULT: u32 = 4_294_967_294;
+
 /// An object, by its name and the number of its declaration.
 #[derive(Drop)]
 pub struct Object {

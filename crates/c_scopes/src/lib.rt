@@ -8,10 +8,12 @@
 pub mod fault;
 
 // tables
+pub mod declarations;
 pub mod entities;
 pub mod entity;
 pub mod first;
 pub mod format;
+pub mod label;
 pub mod library;
 pub mod literal;
 pub mod object;

@@ -7,7 +7,7 @@ ghost use Rattle.c_syntax.specs.Statements.{plain_decl};
 ghost use Rattle.c_model.specs.ExpressionTyping.{declared_here, inner, name_at, number_at};
 ghost use Rattle.c_model.specs.ExpressionTyping.{tagged, with_object};
 ghost use Rattle.c_scopes.specs.Entity.{plain_entity};
-ghost use Rattle.c_scopes.specs.Sights.{has_tag, left, plain_sight};
+ghost use Rattle.c_scopes.specs.Sights.{has_tag, left, plain_sight, seen_again};
 
 use crate::entities::Entities;
 use crate::entity::{Entity, Object};
@@ -140,4 +140,26 @@ pub fn leave(sight: &mut Sight, mark: Mark)
 {
     sight.entities.truncate(mark.count);
     sight.innermost = mark.innermost;
+}
+
+/// Puts what is newer than a mark out of sight. Gives what `show_newer` takes.
+pub fn hide_newer(sight: &mut Sight, mark: Mark) -> Mark
+    ensures hidden { plain_sight sight.new ≡ left mark.count mark.innermost (plain_sight sight.old) }
+    ensures around { sight.old ≡ seen_again result sight.new }
+{
+    let around = Mark {
+        count: sight.entities.seen,
+        innermost: sight.innermost,
+    };
+    sight.entities.seen = mark.count.min(around.count);
+    sight.innermost = mark.innermost;
+    around
+}
+
+/// Puts in sight again what was hidden.
+pub fn show_newer(sight: &mut Sight, around: Mark)
+    ensures { sight.new ≡ seen_again around sight.old }
+{
+    sight.entities.seen = around.count;
+    sight.innermost = around.innermost;
 }

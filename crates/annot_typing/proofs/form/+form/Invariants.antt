@@ -78,3 +78,21 @@ decreases-type_zones l = 8 * size-FormulaZones l.zones.now
 
 abbrev pub decreases-type_first_zone : goal.decreases-type_first_zone
 decreases-type_first_zone l = 8 * max (size-FormulaZone l.z.now) (size-FormulaZones l.rest.now) + 1
+
+abbrev pub decreases-type_in_view : goal.decreases-type_in_view
+decreases-type_in_view l = 8 * size-Formula l.a.now + 2
+
+abbrev pub decreases-type_unlabelled : goal.decreases-type_unlabelled
+decreases-type_unlabelled l = 8 * size-Formula l.a.now + 2
+
+abbrev pub decreases-type_seen : goal.decreases-type_seen
+decreases-type_seen l = 8 * size-Formula l.a.now + 3
+
+abbrev pub decreases-type_labelled : goal.decreases-type_labelled
+decreases-type_labelled l = 8 * size-Formula l.a.now + 4
+
+abbrev pub decreases-type_old : goal.decreases-type_old
+decreases-type_old l = 8 * size-Formula l.a.now + 5
+
+abbrev pub decreases-type_at : goal.decreases-type_at
+decreases-type_at l = 8 * size-Formula l.a.now + 5

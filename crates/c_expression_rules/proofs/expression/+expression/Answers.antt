@@ -1,16 +1,16 @@
-use Rattle.std.proofs.Common.{◌≡◌, ◌+◌, ◌∙◌, ap, take, rules, true, Err, sym, arith, ◌<◌, map, length, slice_set}
+use Rattle.std.proofs.Common.{◌≡◌, ◌+◌, ◌∙◌, ap, take, rules, true, Err, subst, sym, arith, ◌<◌, map, length, slice_set}
 use Rattle.c_syntax.specs.Ctypes.{Array, plain_length, plain_type}
-use Rattle.c_syntax.specs.Expressions.{Expression, Call, Cast, Node, SizeOfExpr, SizeOfType, place_of, plain_expr, plain_exprs, plain_kind, type_of}
+use Rattle.c_syntax.specs.Expressions.{Expression, Assign, Binary, Both, Call, Cast, Comma, Either, Index, Node, SizeOfExpr, SizeOfType, place_of, plain_expr, plain_exprs, plain_kind, type_of}
 use Rattle.c_syntax.specs.declared.types.CType.{CType}
 use Rattle.c_model.specs.Checked.{Good}
-use Rattle.c_model.specs.ExpressionTyping.{argument_for, cast, constant, counted, decayed, decayed_of, first_type, known_type, limited, size_of_expression, typed, typed_length, typed_type}
+use Rattle.c_model.specs.ExpressionTyping.{argument_for, assign, binary, both_of, cast, constant, counted, decayed, decayed_of, either_of, first_type, index, known_type, limited, size_of_expression, typed, typed_length, typed_type}
 use Rattle.c_scopes.specs.Answers.{Answers}
 use Rattle.c_expression_rules.specs.Constants.{has_small_sizes}
-use Rattle.c_expression_rules.specs.Forms.{cast_parts, size_of_parts, typed_call, typed_elements, typed_kind, typed_two}
+use Rattle.c_expression_rules.specs.Forms.{cast_parts, size_of_parts, typed_call, typed_elements, typed_after_place, typed_kind, typed_of_two, typed_place_and_value, typed_two}
 use Rattle.c_scopes.specs.Sights.{plain_sight}
 use Rattle.c_expression_rules.specs.Structs.{limit_answer}
 use Rattle.c_expression_rules.proofs.Besides.{asked_answers, limit_is, limited_told}
-use Rattle.c_expression_rules.proofs.Expressions.{call_form, call_parts, arguments_step, form_is, params_step}
+use Rattle.c_expression_rules.proofs.Expressions.{call_form, call_parts, arguments_step, form_is, params_step, refused_as}
 use Rattle.c_scopes.proofs.InPlace.{done, seen, unvisited_step, within_step}
 use Rattle.c_scopes.proofs.Least.{both_answers, both_made, both_refused, one_refused}
 use Rattle.c_expression_rules.proofs.Small.{small_decayed}
@@ -169,3 +169,94 @@ type_values-returns-clause-typed t c =
     let s = plain_sight c.args.sight.now in
     both_answers (λ (u : Unit {0}). plain_expr c.type_value-first.new.e) (λ u. plain_expr c.type_value-second.new.e) (decayed_of (typed s (plain_expr c.args.a.now))) (decayed_of (typed s (plain_expr c.args.b.now)))
     c.type_value-first.result c.type_value-second.result c.both.result c.type_value-first.ensures.typed c.type_value-second.ensures.typed (sym c.both.ensures.is)
+
+pub type_two-returns-in_err-type_values-in-Binary : goal.type_two-returns-in_err-type_values-in-Binary
+type_two-returns-in_err-type_values-in-Binary t c =
+    let s = plain_sight c.args.sight.now in
+    let f = c.in_err-type_values-in-Binary.field-0.0 in
+    let e : c.from_residual.result ≡ Err f = search rules in
+    let pair : Unit {0} → Expression × Expression = λ u. (plain_expr c.type_values.new.a, plain_expr c.type_values.new.b) in
+    let asked = typed_two s (plain_expr c.in-Binary.a) (plain_expr c.in-Binary.b) in
+    let told : CType → Expression = λ t. Node c.args.place (plain_type t) (Binary c.in-Binary.op (plain_expr c.type_values.new.a) (plain_expr c.type_values.new.b)) in
+    let h : Answers pair asked (Err f) = search rules in
+    let there = one_refused (λ (p : Expression × Expression). binary s c.args.place c.in-Binary.op p.0 p.1) pair told asked f h in
+    let was = subst (λ k. Answers told (typed_of_two s c.args.place (plain_kind k)) (Err f)) (sym c.in-Binary.is) there in
+    rw e was
+
+pub type_two-returns-in_err-type_values-in-Both : goal.type_two-returns-in_err-type_values-in-Both
+type_two-returns-in_err-type_values-in-Both t c =
+    let s = plain_sight c.args.sight.now in
+    let f = c.in_err-type_values-in-Both.field-0.0 in
+    let e : c.from_residual-in_err-type_values-in-Both.result ≡ Err f = search rules in
+    let pair : Unit {0} → Expression × Expression = λ u. (plain_expr c.type_values-in-Both.new.a, plain_expr c.type_values-in-Both.new.b) in
+    let asked = typed_two s (plain_expr c.in-Both.a) (plain_expr c.in-Both.b) in
+    let told : CType → Expression = λ t. Node c.args.place (plain_type t) (Both (plain_expr c.type_values-in-Both.new.a) (plain_expr c.type_values-in-Both.new.b)) in
+    let h : Answers pair asked (Err f) = search rules in
+    let there = one_refused (λ (p : Expression × Expression). both_of c.args.place p.0 p.1) pair told asked f h in
+    let was = subst (λ k. Answers told (typed_of_two s c.args.place (plain_kind k)) (Err f)) (sym c.in-Both.is) there in
+    rw e was
+
+pub type_two-returns-in_err-type_values-in-Either : goal.type_two-returns-in_err-type_values-in-Either
+type_two-returns-in_err-type_values-in-Either t c =
+    let s = plain_sight c.args.sight.now in
+    let f = c.in_err-type_values-in-Either.field-0.0 in
+    let e : c.from_residual-in_err-type_values-in-Either.result ≡ Err f = search rules in
+    let pair : Unit {0} → Expression × Expression = λ u. (plain_expr c.type_values-in-Either.new.a, plain_expr c.type_values-in-Either.new.b) in
+    let asked = typed_two s (plain_expr c.in-Either.a) (plain_expr c.in-Either.b) in
+    let told : CType → Expression = λ t. Node c.args.place (plain_type t) (Either (plain_expr c.type_values-in-Either.new.a) (plain_expr c.type_values-in-Either.new.b)) in
+    let h : Answers pair asked (Err f) = search rules in
+    let there = one_refused (λ (p : Expression × Expression). either_of c.args.place p.0 p.1) pair told asked f h in
+    let was = subst (λ k. Answers told (typed_of_two s c.args.place (plain_kind k)) (Err f)) (sym c.in-Either.is) there in
+    rw e was
+
+pub type_two-returns-in_err-type_values-in-Index : goal.type_two-returns-in_err-type_values-in-Index
+type_two-returns-in_err-type_values-in-Index t c =
+    let s = plain_sight c.args.sight.now in
+    let f = c.in_err-type_values-in-Index.field-0.0 in
+    let e : c.from_residual-in_err-type_values-in-Index.result ≡ Err f = search rules in
+    let pair : Unit {0} → Expression × Expression = λ u. (plain_expr c.type_values-in-Index.new.a, plain_expr c.type_values-in-Index.new.b) in
+    let asked = typed_two s (plain_expr c.in-Index.a) (plain_expr c.in-Index.b) in
+    let told : CType → Expression = λ t. Node c.args.place (plain_type t) (Index (plain_expr c.type_values-in-Index.new.a) (plain_expr c.type_values-in-Index.new.b)) in
+    let h : Answers pair asked (Err f) = search rules in
+    let there = one_refused (λ (p : Expression × Expression). index s c.args.place p.0 p.1) pair told asked f h in
+    let was = subst (λ k. Answers told (typed_of_two s c.args.place (plain_kind k)) (Err f)) (sym c.in-Index.is) there in
+    rw e was
+
+pub type_after_place-returns-in_err-type_place_and_value-in-Assign : goal.type_after_place-returns-in_err-type_place_and_value-in-Assign
+type_after_place-returns-in_err-type_place_and_value-in-Assign t c =
+    let s = plain_sight c.args.sight.now in
+    let f = c.in_err-type_place_and_value-in-Assign.field-0.0 in
+    let e : c.from_residual.result ≡ Err f = search rules in
+    let pair : Unit {0} → Expression × Expression = λ u. (plain_expr c.type_place_and_value.new.a, plain_expr c.type_place_and_value.new.b) in
+    let asked = typed_place_and_value s (plain_expr c.in-Assign.a) (plain_expr c.in-Assign.b) in
+    let told : CType → Expression = λ t. Node c.args.place (plain_type t) (Assign c.in-Assign.op (plain_expr c.type_place_and_value.new.a) (plain_expr c.type_place_and_value.new.b)) in
+    let h : Answers pair asked (Err f) = search rules in
+    let there = one_refused (λ (p : Expression × Expression). assign s c.args.place c.in-Assign.op p.0 p.1) pair told asked f h in
+    let was = subst (λ k. Answers told (typed_after_place s c.args.place (plain_kind k)) (Err f)) (sym c.in-Assign.is) there in
+    rw e was
+
+pub type_after_place-returns-in_err-type_place_and_value-in-Comma : goal.type_after_place-returns-in_err-type_place_and_value-in-Comma
+type_after_place-returns-in_err-type_place_and_value-in-Comma t c =
+    let s = plain_sight c.args.sight.now in
+    let f = c.in_err-type_place_and_value-in-Comma.field-0.0 in
+    let e : c.from_residual-in_err-type_place_and_value-in-Comma.result ≡ Err f = search rules in
+    let pair : Unit {0} → Expression × Expression = λ u. (plain_expr c.type_place_and_value-in-Comma.new.a, plain_expr c.type_place_and_value-in-Comma.new.b) in
+    let asked = typed_place_and_value s (plain_expr c.in-Comma.a) (plain_expr c.in-Comma.b) in
+    let told : CType → Expression = λ t. Node c.args.place (plain_type t) (Comma (plain_expr c.type_place_and_value-in-Comma.new.a) (plain_expr c.type_place_and_value-in-Comma.new.b)) in
+    let h : Answers pair asked (Err f) = search rules in
+    let there = one_refused (λ (p : Expression × Expression). Good (Node c.args.place (type_of p.1) (Comma p.0 p.1))) pair told asked f h in
+    let was = subst (λ k. Answers told (typed_after_place s c.args.place (plain_kind k)) (Err f)) (sym c.in-Comma.is) there in
+    rw e was
+
+pub type_expr-returns-in_err-ctype-clause-typed : goal.type_expr-returns-in_err-ctype-clause-typed
+type_expr-returns-in_err-ctype-clause-typed t c =
+    let s = plain_sight c.args.sight.now in
+    let e = c.args.e.now in
+    let is : c.from_residual.result ≡ Err c.in_err-ctype.field-0.0 = search rules in
+    let kind = plain_kind e.kind.value in
+    let told : CType → Expression = λ t. Node e.place (plain_type t) (plain_kind c.type_kind.new.kind) in
+    let f = c.in_err-ctype.field-0.0 in
+    let h : Answers told (typed_kind s e.place kind) (Err f) = search rules in
+    let there = subst (λ m. Answers told m (Err f)) (sym (form_is s e.place (plain_type e.ctype) kind)) h in
+    let left : Unit {0} → Expression = λ u. Node e.place (plain_type e.ctype) (plain_kind c.type_kind.new.kind) in
+    rw is (refused_as told left (typed s (plain_expr e)) f there)

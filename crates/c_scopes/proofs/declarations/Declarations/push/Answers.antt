@@ -2,10 +2,10 @@ use Rattle.std.proofs.Common.{rules, arith, length, take, nat_eq, ◌≡◌, ◌
 use Rattle.std.specs.Map.{lookup}
 use Rattle.c_scopes.specs.Newest.{AreHidden, entities_of, entity_of, newest_number}
 use Rattle.c_scopes.specs.Objects.{object_number}
-use Rattle.c_scopes.specs.declared.entities.Declared.{Declared}
+use Rattle.c_scopes.specs.declared.declarations.Declared.{Declared}
 use Rattle.c_scopes.proofs.Newest.{count_is, entities_last, hidden_more, newest_new}
 use Rattle.c_scopes.proofs.Objects.{one_off}
-use Rattle.c_scopes.proofs.entities.Entities.push.Goals as goal
+use Rattle.c_scopes.proofs.declarations.Declarations.push.Goals as goal
 
 pub invariant_of-self-in-Ok-insert : goal.invariant_of-self-in-Ok-insert
 invariant_of-self-in-Ok-insert c =

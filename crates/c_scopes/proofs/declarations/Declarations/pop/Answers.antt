@@ -2,7 +2,7 @@ use Rattle.std.proofs.Common.{◌≡◌, ◌∙◌, sym, ap, arith, length, Some
 use Rattle.c_scopes.specs.Newest.{entities_of, entity_of, newest_number}
 use Rattle.c_scopes.specs.Objects.{object_number}
 use Rattle.c_scopes.proofs.Newest.{count_is, either_way, entities_last, hidden_less, last_known, newest_before}
-use Rattle.c_scopes.proofs.entities.Entities.pop.Goals as goal
+use Rattle.c_scopes.proofs.declarations.Declarations.pop.Goals as goal
 
 pub invariant_of-self : goal.invariant_of-self
 invariant_of-self c =

@@ -1,0 +1,34 @@
+use Rattle.std.proofs.Common.{◌≡◌, ◌+◌, ◌<◌, ◌∙◌, rules, arith, drop, length, map, slice_set, subst, take}
+use Rattle.c_syntax.specs.Ctypes.{plain_type}
+use Rattle.c_syntax.specs.Logic.{plain_annot, plain_body}
+use Rattle.c_model.specs.Checked.{Good}
+use Rattle.c_model.specs.ContractTyping.{sight_of_clause}
+use Rattle.c_model.specs.PredicateTyping.{typed_clause}
+use Rattle.c_scopes.specs.Sights.{plain_sight}
+use Rattle.annot_typing.specs.Sights.{annotation_sight}
+use Rattle.annot_typing.proofs.Contracts.{clauses_more}
+use Rattle.c_scopes.proofs.InPlace.{done, left, unvisited_step, within_step}
+use Rattle.annot_typing.proofs.contract.type_kinds.Goals as goal
+
+pub loop-i-preserved : goal.loop-i-preserved
+loop-i-preserved c =
+    let s = plain_sight c.args.sight.now in
+    let seen = sight_of_clause s c.args.formals.now.list.items (plain_type c.args.ctype.now) in
+    let old = c.args.annots.now.items in
+    let cur = c.loop-i.annots.items in
+    let i = c.loop-i.i in
+    let x = c.index_mut-annot.result.now in
+    let y = record x { body = c.type_clause.new.body } in
+    let lt : i < length cur = search (rules, arith) in
+    let here : typed_clause (annotation_sight s c.sight_of_kind-clause.result) (plain_body x.body) ≡ Good (plain_body c.type_clause.new.body) =
+    subst (λ z. typed_clause (annotation_sight (plain_sight z) c.sight_of_kind-clause.result) (plain_body x.body) ≡ Good (plain_body c.type_clause.new.body)) c.loop-i.invariant.same
+    c.in_ok-type_clause.ensures.typed in
+    let typed : typed_clause (seen x.kind) (plain_body x.body) ≡ Good (plain_body c.type_clause.new.body) =
+    subst (λ u. typed_clause u (plain_body x.body) ≡ Good (plain_body c.type_clause.new.body)) (c.sight_of_kind-clause.ensures s) here in
+    record {
+      unvisited = unvisited_step old cur i y c.loop-i.invariant.unvisited;
+      within = within_step cur i y lt;
+      typed = clauses_more seen (map plain_annot old) (drop i old) (take i cur) (take (i + 1) (slice_set cur i y)) x c.type_clause.new.body (drop (i + 1) old) c.loop-i.invariant.typed
+          (left old cur i x lt c.loop-i.invariant.unvisited c.index_mut-annot.ensures.value) typed (done cur i y lt);
+      same = c.type_clause.ensures.same ∙ c.loop-i.invariant.same;
+    }
