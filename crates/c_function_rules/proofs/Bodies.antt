@@ -12,7 +12,6 @@ use Rattle.c_syntax.proofs.Rows.{block_is}
 use Rattle.c_model.specs.ExpressionTyping.{Sight}
 use Rattle.c_model.specs.StatementTyping.{typed_items}
 use Rattle.c_model.specs.UnitTyping.{typed_body}
-use Rattle.c_model.specs.AnnotationTyping.{noted_body, noted_items}
 use Rattle.c_scopes.specs.declared.fault.TypeFault.{TypeFault}
 use Rattle.c_scopes.specs.Answers.{Answers}
 use Rattle.c_scopes.specs.Sights.{left}
@@ -37,10 +36,3 @@ module _ (s : Sight) (at : Place) (k : StmtKind) (v w : Vec Item Global) (result
         subst (λ b. Answers (λ (u : Unit {0}). Some (plain_stmt_kind at (code.Block w))) (typed_body s t (Some b)) result) (sym there)
         (subst (λ b. Answers (λ (u : Unit {0}). Some b) (typed_body s t (Some (Block at (plain_items v.items)))) result) (sym (block_is at w))
         (made_of (λ is. Some (Block at is)) (λ (u : Unit {0}). plain_items w.items) (typed_items s (around_body t) (plain_items v.items)) result h))
-
-    pub body_noted_in_place : Answers (λ (u : Unit {0}). plain_items w.items) (noted_items s (plain_items v.items)) result
-        → Answers (λ (u : Unit {0}). Some (plain_stmt_kind at (code.Block w))) (noted_body s (Some (plain_stmt_kind at k))) result
-    body_noted_in_place h =
-        subst (λ b. Answers (λ (u : Unit {0}). Some (plain_stmt_kind at (code.Block w))) (noted_body s (Some b)) result) (sym there)
-        (subst (λ b. Answers (λ (u : Unit {0}). Some b) (noted_body s (Some (Block at (plain_items v.items)))) result) (sym (block_is at w))
-        (made_of (λ is. Some (Block at is)) (λ (u : Unit {0}). plain_items w.items) (noted_items s (plain_items v.items)) result h))

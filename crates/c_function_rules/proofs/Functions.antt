@@ -1,5 +1,6 @@
 -- Functions one after another are those that the definition of a file types.
 use Rattle.std.proofs.Common.{◌≡◌, ℕ, refl, sym, ap, ◌∙◌, subst, List, [], ◌∷◌, ◌++◌, map, Option, Result, Ok, Err}
+use Rattle.std.specs.Prelude.{OnOk}
 use Rattle.std.proofs.lemmas.List.{map-append}
 use Rattle.c_syntax.specs.Ctypes.{PlainType}
 use Rattle.c_syntax.specs.Statements.{Declaration}
@@ -8,6 +9,7 @@ use Rattle.c_model.specs.Checked.{Checked, Good, one_part, both_parts, where_so}
 use Rattle.c_model.specs.Meaning.{is_definition}
 use Rattle.c_model.specs.ExpressionTyping.{no_name, inner, Sight, function_called, typed_type}
 use Rattle.c_model.specs.DeclarationTyping.{typed_result}
+use Rattle.c_model.specs.StatementTyping.{typed_labels}
 use Rattle.c_model.specs.UnitTyping as unit
 use Rattle.c_model.specs.UnitTyping.{signature, is_compatible_with_all, function_name, typed_parameters, typed_function}
 use Rattle.c_scopes.specs.declared.fault.TypeFault.{TypeFault}
@@ -30,6 +32,13 @@ both_then k p q w m n (Ok y) (Ok u) x r ha hb j h =
 both_then k p q w m n (Ok y) (Err g) x r ha hb j h = absurd cc
 both_then k p q w m n (Err f) (Ok u) x r ha hb j h = absurd cc
 both_then k p q w m n (Err f) (Err g) x r ha hb j h = absurd cc
+
+-- what the second of two parts leaves where it has no fault, the whole leaves
+pub both_on : (P : Type 0) (a b r : Result (Unit {0}) TypeFault) → both a b ≡ r → OnOk b P → OnOk r P
+both_on P a b (Err h) j k = tt
+both_on P a (Ok u) (Ok v) j k = k
+both_on P (Ok x) (Err g) (Ok v) j k = absurd cc
+both_on P (Err f) (Err g) (Ok v) j k = absurd cc
 
 module _ (s : Sight) (names : ℕ → Option Noted) (f : Function) (t : PlainType) (ds : List Declaration) (a b : Result (Unit {0}) TypeFault)
     (ha : Answers (λ (u : Unit {0}). t) (typed_type s f.place f.result) a) (hb : Answers (λ (u : Unit {0}). ds) (typed_parameters (inner s) (is_definition f) f.params) b)
@@ -70,9 +79,9 @@ module _ (p : TranslationUnit) (s : Sight) (names : ℕ → Option Noted) (befor
     fits_all f = (λ i. fits_earlier (function_called f.name (b.functions i)) (b.names f.name i) f) ∙ fits_is p.funcs f before
 
     pub function_is : (f : Function) → function_in_turn (denoted p.funcs) s names f ≡ typed_function p s before f
-    function_is f = (λ i. one_part (both_parts (function_name s f) (both_parts (typed_result s (is_definition f) f.place f.result)
+    function_is f = (λ i. both_parts (typed_labels f.body) (one_part (both_parts (function_name s f) (both_parts (typed_result s (is_definition f) f.place f.result)
         (both_parts (typed_type s f.place f.result) (typed_parameters (inner s) (is_definition f) f.params) (λ t ds.
-        let g = record f { result = t; params = ds } in where_so (fits_all g i) (no_name f.place) (Good g))) (λ t g. Good (record g { result = t }))) (λ n g. Good g)) (λ f. typed_parts (with_is p s f i) f))
+        let g = record f { result = t; params = ds } in where_so (fits_all g i) (no_name f.place) (Good g))) (λ t g. Good (record g { result = t }))) (λ n g. Good g)) (λ f. typed_parts (with_is p s f i) f)) (λ u g. Good g))
 
     -- one more function
     pub behind_more : (f : Function) → Behind p (with_function_by (denoted p.funcs) s f) (names_behind s names f) (before ++ f ∷ [])

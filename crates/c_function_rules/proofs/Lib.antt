@@ -1,6 +1,7 @@
 pub mod Declarations
 pub mod Blocks
 pub mod Statements
+pub mod Labels
 pub mod Cases
 pub mod Bodies
 pub mod Parameters

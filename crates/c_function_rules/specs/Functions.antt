@@ -6,6 +6,7 @@ use Rattle.c_model.specs.Meaning.{is_definition}
 use Rattle.c_model.specs.Checked.{Checked, Good, one_part, both_parts, where_so}
 use Rattle.c_model.specs.ExpressionTyping.{no_name, Signature, Sight, function_called, same_type, inner, typed_type}
 use Rattle.c_model.specs.DeclarationTyping.{typed_result}
+use Rattle.c_model.specs.StatementTyping.{typed_labels}
 use Rattle.c_model.specs.UnitTyping.{definition_of, types_of, same_signature, same_types, with_parameters, function_name, typed_parameters, typed_body}
 use Rattle.c_function_rules.specs.declared.heading.Callee.{Callee}
 use Rattle.c_function_rules.specs.declared.heading.Noted.{Noted}
@@ -121,5 +122,9 @@ names_behind s names f = with_known (function_called f.name s.functions) names f
 abbrev pub typed_parts : Sight → Function → Checked Function
 typed_parts s f = one_part (typed_body (with_parameters (inner s) f.params) f.result f.body) (λ b. Good (record f { body = b }))
 
+-- a function but for its labels
+abbrev pub parts_in_turn : (ℕ → Option Callee) → Sight → (ℕ → Option Noted) → Function → Checked Function
+parts_in_turn numbers s names f = one_part (heading s names f) (λ f. typed_parts (with_function_by numbers s f) f)
+
 abbrev pub function_in_turn : (ℕ → Option Callee) → Sight → (ℕ → Option Noted) → Function → Checked Function
-function_in_turn numbers s names f = one_part (heading s names f) (λ f. typed_parts (with_function_by numbers s f) f)
+function_in_turn numbers s names f = both_parts (typed_labels f.body) (parts_in_turn numbers s names f) (λ u g. Good g)

@@ -11,12 +11,13 @@ ghost use Rattle.c_model.specs.TypedTrees.{around_body};
 ghost use Rattle.c_scopes.specs.Answers.{Answers};
 ghost use Rattle.c_scopes.specs.Sights.{plain_sight};
 ghost use Rattle.indexmap.specs.IndexMap.{get};
-ghost use Rattle.c_function_rules.specs.Functions.{function_in_turn, names_behind, typed_parts, with_function_by};
+ghost use Rattle.c_function_rules.specs.Functions.{function_in_turn, names_behind, parts_in_turn, typed_parts, with_function_by};
 
 use crate::heading::{Callee, Noted, note_name, see_function, type_heading};
+use crate::label::check_labels;
 use crate::parameter::see_parameters;
 use crate::statement::{Around, type_items};
-use c_scopes::fault::TypeFault;
+use c_scopes::fault::{TypeFault, both};
 use c_scopes::sight::{Sight, enter, leave, mark_here};
 use c_syntax::{CType, Func, Item, Stmt, StmtKind};
 use indexmap::IndexMap;
@@ -66,6 +67,7 @@ fn type_body_kind(
         | StmtKind::Break
         | StmtKind::Continue
         | StmtKind::Return(_)
+        | StmtKind::Labelled(..)
         | StmtKind::Switch(..) => Ok(()),
     }
 }
@@ -98,7 +100,26 @@ fn type_parts(alloc: Global, sight: &mut Sight, f: &mut Func) -> Result<(), Type
     Ok(())
 }
 
-/// Types a function by what each name denotes in the file, and brings it in sight.
+/// Types a function but for its labels by what each name denotes in the file, and brings it in sight.
+fn type_but_labels(
+    alloc: Global,
+    sight: &mut Sight,
+    numbers: &IndexMap<u32, Callee>,
+    names: &mut IndexMap<u32, Noted>,
+    f: &mut Func,
+) -> Result<(), TypeFault>
+    ensures typed { Answers (λ _. plain_func f.new)
+        (parts_in_turn (get nat_eq numbers.now) (plain_sight sight.old) (get nat_eq names.old) (plain_func f.old)) result }
+    ensures behind { OnOk result (plain_sight sight.new ≡ with_function_by (get nat_eq numbers.now) (plain_sight sight.old) (plain_func f.new)) }
+    ensures names { OnOk result ((x : ℕ) → get nat_eq names.new x ≡ names_behind (plain_sight sight.old) (get nat_eq names.old) (plain_func f.new) x) }
+{
+    type_heading(alloc, sight, names, f)?;
+    note_name(&sight.functions, names, f)?;
+    see_function(alloc, sight, numbers, f)?;
+    type_parts(alloc, sight, f)
+}
+
+/// Types a function by what each name denotes in the file, and brings it in sight. Its labels have names of their own.
 pub fn type_function(
     alloc: Global,
     sight: &mut Sight,
@@ -111,8 +132,7 @@ pub fn type_function(
     ensures behind { OnOk result (plain_sight sight.new ≡ with_function_by (get nat_eq numbers.now) (plain_sight sight.old) (plain_func f.new)) }
     ensures names { OnOk result ((x : ℕ) → get nat_eq names.new x ≡ names_behind (plain_sight sight.old) (get nat_eq names.old) (plain_func f.new) x) }
 {
-    type_heading(alloc, sight, names, f)?;
-    note_name(&sight.functions, names, f)?;
-    see_function(alloc, sight, numbers, f)?;
-    type_parts(alloc, sight, f)
+    let labels = check_labels(alloc, &f.body);
+    let typed = type_but_labels(alloc, sight, numbers, names, f);
+    both(labels, typed)
 }

@@ -6,6 +6,7 @@
 
 pub mod function;
 pub mod heading;
+pub mod label;
 pub mod parameter;
 pub mod statement;
 pub mod switch;

@@ -240,6 +240,7 @@ fn type_kind(
         StmtKind::Break => jump(place, around.breaks),
         StmtKind::Continue => jump(place, around.loops),
         StmtKind::Return(e) => type_return(alloc, sight, place, around.result, e),
+        StmtKind::Labelled(_, a) => type_statement(alloc, sight, around, a),
         StmtKind::Switch(e, cases) => {
             let k = type_controlling(alloc, sight, e)?;
             let inside = in_switch(around);

@@ -1,5 +1,5 @@
 -- The asserts of a file's items in turn are those that the definition of a file types.
-use Rattle.std.proofs.Common.{◌≡◌, ℕ, suc, pos, refl, sym, ap, ◌∙◌, subst, List, [], ◌∷◌, ◌++◌, map, Bool, true, false, cond, nat_lt, Option, Result, Ok, Err}
+use Rattle.std.proofs.Common.{◌≡◌, ℕ, suc, pos, refl, sym, ap, ◌∙◌, subst, List, [], ◌∷◌, ◌++◌, map, Bool, true, false, cond, nat_lt, Option, Some, Result, Ok, Err}
 use Rattle.std.specs.Prelude.{OnOk, ℤ, ◌+ℤ◌}
 use Rattle.std.specs.List.{filter}
 use Rattle.c_syntax.specs.Programs.{EnumConstant, StructMember, StructType, Function, TranslationUnit}
@@ -8,7 +8,11 @@ use Rattle.c_model.specs.ExpressionTyping.{Sight, with_object}
 use Rattle.c_model.specs.DeclarationTyping.{with_enumerator}
 use Rattle.c_model.specs.UnitTyping as unit
 use Rattle.c_model.specs.UnitTyping.{FileItem, StructHead, Member, AnEnum, ATypedef, AGlobal, AFunction, offset_of_item, member_items, struct_items, inserted, in_order, items_of_file, sight_with, value_typed, with_enumerators, behind_enum}
-use Rattle.c_model.specs.AnnotationTyping.{noted_function, noted_functions, noted_unit}
+use Rattle.c_model.specs.AnnotationTyping.{noted_function, noted_functions, noted_unit, with_contracts}
+use Rattle.c_model.specs.TextOrder.{functions_among}
+use Rattle.c_model.proofs.TypedParts as Noted
+use Rattle.c_model.proofs.NotedFiles.{HaveOtherBodies}
+use Rattle.c_model.proofs.NotedPrograms.{noted_others}
 use Rattle.c_scopes.specs.declared.fault.TypeFault.{TypeFault}
 use Rattle.c_scopes.specs.Answers.{Answers}
 use Rattle.c_expression_rules.proofs.Gives.{Gives, gives_of}
@@ -16,8 +20,11 @@ use Rattle.c_scopes.proofs.Least.{one_refused}
 use Rattle.c_function_rules.specs.declared.heading.Callee.{Callee}
 use Rattle.c_function_rules.specs.Functions.{denoted, with_function_by}
 use Rattle.c_typing.specs.Files.{among, enum_of, typedef_of, global_of, function_of, kinds, without_sight, without_kinds, Finished}
-use Rattle.c_typing.specs.NotedFiles.{EnumsKnown, IsOrdered, is_ordinary, all_behind, known_in_turn, notes_in_turn}
+use Rattle.c_typing.specs.NotedContracts.{IsDefinedOnce, defined_numbers, function_by}
+use Rattle.c_typing.proofs.DefinedOnce.{once_noted}
+use Rattle.c_typing.specs.NotedFiles.{EnumsKnown, IsOrdered, is_ordinary, all_behind, known_in_turn, notes_in_turn, standing_unit}
 use Rattle.c_function_rules.proofs.Functions.{with_is}
+use Rattle.c_typing.proofs.NotedContracts.{function_is}
 use Rattle.c_typing.proofs.Orders.{ins, by_insertion, tested_insertion}
 use Rattle.c_typing.proofs.Turns.{among_append}
 
@@ -75,6 +82,9 @@ module _ (p : TranslationUnit)
     abbrev numbers : ℕ → Option Callee
     numbers = denoted p.funcs
 
+    abbrev definitions : ℕ → Option (List ℕ)
+    definitions x = defined_numbers x p.funcs
+
     abbrev functions_of : Checked (List FileItem) → Checked (List Function)
     functions_of m = one_part m (λ js. Good (among function_of js))
 
@@ -83,17 +93,18 @@ module _ (p : TranslationUnit)
     others_in_turn i none (Bad f fs) = refl
 
     -- the functions among items in turn, without those of structs
-    pub notes_are : (is : List FileItem) (s : Sight) → noted_functions p s is ≡ functions_of (notes_in_turn numbers s (ordinary is))
+    pub notes_are : (is : List FileItem) (s : Sight) → noted_functions p s is ≡ functions_of (notes_in_turn numbers definitions s (ordinary is))
     notes_are [] s = refl
     notes_are (StructHead k struct ∷ is) s = notes_are is s
     notes_are (Member k m ends ∷ is) s = notes_are is s
-    notes_are (AnEnum e ∷ is) s = notes_are is (behind_enum s e) ∙ sym (others_in_turn (AnEnum e) refl (notes_in_turn numbers (behind_enum s e) (ordinary is)))
-    notes_are (ATypedef d ∷ is) s = notes_are is (unit.with_type s d) ∙ sym (others_in_turn (ATypedef d) refl (notes_in_turn numbers (unit.with_type s d) (ordinary is)))
-    notes_are (AGlobal d ∷ is) s = notes_are is (with_object s d) ∙ sym (others_in_turn (AGlobal d) refl (notes_in_turn numbers (with_object s d) (ordinary is)))
+    notes_are (AnEnum e ∷ is) s = notes_are is (behind_enum s e) ∙ sym (others_in_turn (AnEnum e) refl (notes_in_turn numbers definitions (behind_enum s e) (ordinary is)))
+    notes_are (ATypedef d ∷ is) s = notes_are is (unit.with_type s d) ∙ sym (others_in_turn (ATypedef d) refl (notes_in_turn numbers definitions (unit.with_type s d) (ordinary is)))
+    notes_are (AGlobal d ∷ is) s = notes_are is (with_object s d) ∙ sym (others_in_turn (AGlobal d) refl (notes_in_turn numbers definitions (with_object s d) (ordinary is)))
     notes_are (AFunction f ∷ is) s =
-        sym (λ i. one_part (noted_function (with_is p s f i) f) (λ g. one_part (noted_functions p (with_is p s f i) is) (λ fs. Good (g ∷ fs))))
-        ∙ ap (λ n. one_part (noted_function (with_function_by numbers s f) f) (λ g. one_part n (λ fs. Good (g ∷ fs)))) (notes_are is (with_function_by numbers s f))
-        ∙ by (noted_function (with_function_by numbers s f) f) (notes_in_turn numbers (with_function_by numbers s f) (ordinary is))
+        sym (λ i. one_part (noted_function p.funcs (with_is p s f i) f) (λ g. one_part (noted_functions p (with_is p s f i) is) (λ fs. Good (g ∷ fs))))
+        ∙ ap (λ m. one_part m (λ g. one_part (noted_functions p (with_function_by numbers s f) is) (λ fs. Good (g ∷ fs)))) (sym (function_is p.funcs (with_function_by numbers s f) f))
+        ∙ ap (λ n. one_part (function_by definitions (with_function_by numbers s f) f) (λ g. one_part n (λ fs. Good (g ∷ fs)))) (notes_are is (with_function_by numbers s f))
+        ∙ by (function_by definitions (with_function_by numbers s f) f) (notes_in_turn numbers definitions (with_function_by numbers s f) (ordinary is))
       where
         by : (m : Checked Function) (n : Checked (List FileItem)) → one_part m (λ g. one_part (functions_of n) (λ fs. Good (g ∷ fs)))
             ≡ functions_of (one_part (one_part m (λ g. Good (AFunction g))) (λ j. one_part n (λ js. Good (j ∷ js))))
@@ -128,7 +139,7 @@ pub record SameKinds (is js : List FileItem) : Type 0 where
   pub typedefs : among typedef_of js ≡ among typedef_of is
   pub globals : among global_of js ≡ among global_of is
 
-module _ (ds : ℕ → Option Callee)
+module _ (ds : ℕ → Option Callee) (ns : ℕ → Option (List ℕ))
   where
     kinds_before : (i : FileItem) (is : List FileItem) (m : Checked (List FileItem)) → Gives (SameKinds is) m → Gives (SameKinds (i ∷ is)) (one_part m (λ js. Good (i ∷ js)))
     kinds_before i is (Good js) h = record { enums = ap (λ l. enum_of i ++ l) h.enums; typedefs = ap (λ l. typedef_of i ++ l) h.typedefs; globals = ap (λ l. global_of i ++ l) h.globals }
@@ -140,14 +151,14 @@ module _ (ds : ℕ → Option Callee)
     function_before f is (Good g) (Bad e es) h = tt
     function_before f is (Bad e es) n h = tt
 
-    pub kinds_same : (is : List FileItem) (s : Sight) → Gives (SameKinds is) (notes_in_turn ds s is)
+    pub kinds_same : (is : List FileItem) (s : Sight) → Gives (SameKinds is) (notes_in_turn ds ns s is)
     kinds_same [] s = record { enums = refl; typedefs = refl; globals = refl }
-    kinds_same (StructHead k struct ∷ is) s = kinds_before (StructHead k struct) is (notes_in_turn ds s is) (kinds_same is s)
-    kinds_same (Member k m ends ∷ is) s = kinds_before (Member k m ends) is (notes_in_turn ds s is) (kinds_same is s)
-    kinds_same (AnEnum e ∷ is) s = kinds_before (AnEnum e) is (notes_in_turn ds (behind_enum s e) is) (kinds_same is (behind_enum s e))
-    kinds_same (ATypedef d ∷ is) s = kinds_before (ATypedef d) is (notes_in_turn ds (unit.with_type s d) is) (kinds_same is (unit.with_type s d))
-    kinds_same (AGlobal d ∷ is) s = kinds_before (AGlobal d) is (notes_in_turn ds (with_object s d) is) (kinds_same is (with_object s d))
-    kinds_same (AFunction f ∷ is) s = function_before f is (noted_function (with_function_by ds s f) f) (notes_in_turn ds (with_function_by ds s f) is) (kinds_same is (with_function_by ds s f))
+    kinds_same (StructHead k struct ∷ is) s = kinds_before (StructHead k struct) is (notes_in_turn ds ns s is) (kinds_same is s)
+    kinds_same (Member k m ends ∷ is) s = kinds_before (Member k m ends) is (notes_in_turn ds ns s is) (kinds_same is s)
+    kinds_same (AnEnum e ∷ is) s = kinds_before (AnEnum e) is (notes_in_turn ds ns (behind_enum s e) is) (kinds_same is (behind_enum s e))
+    kinds_same (ATypedef d ∷ is) s = kinds_before (ATypedef d) is (notes_in_turn ds ns (unit.with_type s d) is) (kinds_same is (unit.with_type s d))
+    kinds_same (AGlobal d ∷ is) s = kinds_before (AGlobal d) is (notes_in_turn ds ns (with_object s d) is) (kinds_same is (with_object s d))
+    kinds_same (AFunction f ∷ is) s = function_before f is (function_by ns (with_function_by ds s f) f) (notes_in_turn ds ns (with_function_by ds s f) is) (kinds_same is (with_function_by ds s f))
 
 -- names, strings and structs
 pub record SameText (s t : Sight) : Type 0 where
@@ -182,25 +193,25 @@ module _ (p : TranslationUnit) (ordered : IsOrdered p)
     start = sight_with p p.structs
 
     abbrev whole : Checked (List FileItem)
-    whole = notes_in_turn (denoted p.funcs) start (in_order (kinds p))
+    whole = notes_in_turn (denoted p.funcs) (λ x. defined_numbers x p.funcs) start (in_order (kinds p))
 
-    unit_noted : noted_unit p ≡ one_part (functions_of p whole) (λ fs. Good (record p { funcs = fs }))
+    unit_noted : standing_unit p ≡ one_part (functions_of p whole) (λ fs. Good (record p { funcs = fs }))
     unit_noted =
-        ap (λ m. one_part m (λ fs. Good (record p { funcs = fs }))) (notes_are p (items_of_file p) start ∙ ap (λ is. functions_of p (notes_in_turn (denoted p.funcs) start is)) (ordinary_is p))
+        ap (λ m. one_part m (λ fs. Good (record p { funcs = fs }))) (notes_are p (items_of_file p) start ∙ ap (λ is. functions_of p (notes_in_turn (denoted p.funcs) (λ x. defined_numbers x p.funcs) start is)) (ordinary_is p))
 
     pub start_known : known_in_turn (denoted p.funcs) start (in_order (kinds p))
     start_known = subst (known_in_turn (denoted p.funcs) start) (ordinary_is p) (known_are p (items_of_file p) start ordered.known)
 
     -- a file whose asserts are typed
     noted_from : (q : TranslationUnit) (t : Sight) (js : List FileItem) (r z : Result (Unit {0}) TypeFault) → Answers (λ (u : Unit {0}). js) whole r → OnOk r (t ≡ all_behind (denoted p.funcs) start (in_order (kinds p)))
-        → Finished r (without_sight (without_kinds p)) t js q z → Answers (λ (u : Unit {0}). q) (noted_unit p) z
+        → Finished r (without_sight (without_kinds p)) t js q z → Answers (λ (u : Unit {0}). q) (standing_unit p) z
     noted_from q t js (Err e) z h sight f =
-        subst (Answers (λ (u : Unit {0}). q) (noted_unit p)) (sym f) (subst (λ m. Answers (λ (u : Unit {0}). q) m (Err e)) (sym unit_noted)
+        subst (Answers (λ (u : Unit {0}). q) (standing_unit p)) (sym f) (subst (λ m. Answers (λ (u : Unit {0}). q) m (Err e)) (sym unit_noted)
         (one_refused (λ fs. Good (record p { funcs = fs })) (λ (u : Unit {0}). among function_of js) (λ (u : Unit {0}). q) (functions_of p whole) e
         (one_refused (λ js. Good (among function_of js)) (λ (u : Unit {0}). js) (λ (u : Unit {0}). among function_of js) whole e h)))
-    noted_from q t js (Ok u) (Err e) h sight f = subst (λ e. Answers (λ (u : Unit {0}). q) (noted_unit p) (Err e)) (sym f) tt
+    noted_from q t js (Ok u) (Err e) h sight f = subst (λ e. Answers (λ (u : Unit {0}). q) (standing_unit p) (Err e)) (sym f) tt
     noted_from q t js (Ok u) (Ok v) h sight f =
-        let same = gives_of (SameKinds (in_order (kinds p))) whole js (kinds_same (denoted p.funcs) (in_order (kinds p)) start) h in
+        let same = gives_of (SameKinds (in_order (kinds p))) whole js (kinds_same (denoted p.funcs) (λ x. defined_numbers x p.funcs) (in_order (kinds p)) start) h in
         let text = subst (SameText start) (sym sight) (text_same (denoted p.funcs) (in_order (kinds p)) start) in
         let enums : among enum_of js ≡ p.enums = same.enums ∙ ap (among enum_of) (sym (ordinary_is p)) ∙ among_ordinary enum_of (λ k s. refl) (λ k m e. refl) (items_of_file p) ∙ ordered.enums in
         let typedefs : among typedef_of js ≡ p.typedefs = same.typedefs ∙ ap (among typedef_of) (sym (ordinary_is p)) ∙ among_ordinary typedef_of (λ k s. refl) (λ k m e. refl) (items_of_file p) ∙ ordered.typedefs in
@@ -209,11 +220,30 @@ module _ (p : TranslationUnit) (ordered : IsOrdered p)
         ∙ sym (ap Good (f ∙ (λ i. record p { names = text.names i; texts = text.texts i; structs = text.structs i; enums = enums i; typedefs = typedefs i; globals = globals i; funcs = among function_of js })))
 
     -- in words of what the code keeps
-    pub noted_found : (q o : TranslationUnit) (ds : ℕ → Option Callee) (s t : Sight) (is js : List FileItem) (r z : Result (Unit {0}) TypeFault) → ((x : ℕ) → ds x ≡ denoted p.funcs x) → s ≡ start → is ≡ in_order (kinds p)
-        → o ≡ without_sight (without_kinds p) → Answers (λ (u : Unit {0}). js) (notes_in_turn ds s is) r → OnOk r (t ≡ all_behind ds s is) → Finished r o t js q z → Answers (λ (u : Unit {0}). q) (noted_unit p) z
-    noted_found q o ds s t is js r z told first items emptied h sight f =
-        noted_from q t js r z (subst (λ m. Answers (λ (u : Unit {0}). js) m r) (λ i. notes_in_turn (λ x. told x i) (first i) (items i)) h)
+    pub noted_found : (q o : TranslationUnit) (ds : ℕ → Option Callee) (ns : ℕ → Option (List ℕ)) (s t : Sight) (is js : List FileItem) (r z : Result (Unit {0}) TypeFault) → ((x : ℕ) → ds x ≡ denoted p.funcs x)
+        → ((x : ℕ) → ns x ≡ defined_numbers x p.funcs) → s ≡ start → is ≡ in_order (kinds p)
+        → o ≡ without_sight (without_kinds p) → Answers (λ (u : Unit {0}). js) (notes_in_turn ds ns s is) r → OnOk r (t ≡ all_behind ds s is) → Finished r o t js q z → Answers (λ (u : Unit {0}). q) (standing_unit p) z
+    noted_found q o ds ns s t is js r z told defined first items emptied h sight f =
+        noted_from q t js r z (subst (λ m. Answers (λ (u : Unit {0}). js) m r) (λ i. notes_in_turn (λ x. told x i) (λ x. defined x i) (first i) (items i)) h)
         (subst (λ u. OnOk r (t ≡ u)) (λ i. all_behind (λ x. told x i) (first i) (items i)) sight) (subst (λ o. Finished r o t js q z) emptied f)
 
     pub known_start : (ds : ℕ → Option Callee) (s : Sight) (is : List FileItem) → ((x : ℕ) → ds x ≡ denoted p.funcs x) → s ≡ start → is ≡ in_order (kinds p) → known_in_turn ds s is
     known_start ds s is told first items = subst (λ t. t) (sym (λ i. known_in_turn (λ x. told x i) (first i) (items i))) start_known
+
+-- ---- contracts that move
+
+-- a file whose annotations are typed, each contract where it is written, defines no name twice
+pub standing_once : (p q : TranslationUnit) → IsOrdered p → standing_unit p ≡ Good q → IsDefinedOnce q.funcs
+standing_once p q o is = by (noted_functions p (sight_with p p.structs) (items_of_file p)) (noted_others p (sight_with p p.structs) (items_of_file p)) is
+  where
+    by : (m : Checked (List Function)) → Noted.Gives (HaveOtherBodies (functions_among (items_of_file p))) m → one_part m (λ fs. Good (record p { funcs = fs })) ≡ Good q → IsDefinedOnce q.funcs
+    by (Good fs) h e = let same : record p { funcs = fs } ≡ q = cc in subst (λ (q : TranslationUnit). IsDefinedOnce q.funcs) same (once_noted (functions_among (items_of_file p)) fs h o.once)
+    by (Bad f fs) h e = absurd cc
+
+-- with its contracts moved it is what the definition gives
+pub moved_found : (p q r : TranslationUnit) → standing_unit p ≡ Good q → r ≡ record q { funcs = with_contracts q.funcs } → noted_unit p ≡ Good r
+moved_found p q r is e = by (noted_functions p (sight_with p p.structs) (items_of_file p)) is
+  where
+    by : (m : Checked (List Function)) → one_part m (λ fs. Good (record p { funcs = fs })) ≡ Good q → one_part m (λ fs. Good (record p { funcs = with_contracts fs })) ≡ Good r
+    by (Good fs) k = let same : record p { funcs = fs } ≡ q = cc in ap Good (ap (λ (q : TranslationUnit). record q { funcs = with_contracts q.funcs }) same ∙ sym e)
+    by (Bad f fs) k = absurd cc

@@ -1,5 +1,5 @@
 -- A typed file of a text has what is asked of it where its asserts are typed: its enumerators are known, and its declarations stand in order.
-use Rattle.std.proofs.Common.{◌≡◌, ℤ, pos, ◌+ℤ◌, refl, ap, ◌∙◌, true, ◌&&◌, List, [], ◌∷◌, Option, Some, None}
+use Rattle.std.proofs.Common.{◌≡◌, ℤ, pos, ◌+ℤ◌, refl, sym, ap, ◌∙◌, subst, true, ◌&&◌, List, [], ◌∷◌, Option, Some, None}
 use Rattle.c_syntax.specs.declared.expression.UnOp.TheVariants as unary
 use Rattle.c_syntax.specs.Expressions.{Expression, Node, Number, Letter, Text, Variable, Unary, Binary, Both, Either, Choice, Assign, Bump, Call, Cast, SizeOfType, SizeOfExpr, Index, Dot, Arrow, Comma}
 use Rattle.c_syntax.specs.Programs.{EnumConstant, TranslationUnit}
@@ -15,6 +15,8 @@ use Rattle.c_model.proofs.TypedNumbers.{TypedInOrder, typed_in_order}
 use Rattle.c_expression_rules.specs.Constants.{has_small_sizes}
 use Rattle.c_expression_rules.proofs.Small.{and_both}
 use Rattle.c_typing.specs.Files.{among, enum_of, typedef_of, global_of}
+use Rattle.c_typing.specs.NotedContracts.{IsDefinedOnce}
+use Rattle.c_typing.proofs.DefinedOnce.{defined_once}
 use Rattle.c_typing.specs.NotedFiles.{IsSmallValue, ValuesKnown, EnumsKnown, IsOrdered}
 
 -- ---- sizes
@@ -106,6 +108,7 @@ ordered p q o is = record {
   enums = among_enums (items_of_file q) ∙ order.enums;
   typedefs = among_typedefs (items_of_file q) ∙ order.typedefs;
   globals = among_globals (items_of_file q) ∙ order.globals;
+  once = subst IsDefinedOnce (sym order.functions) (defined_once p q is);
 }
   where
     order : TypedInOrder q

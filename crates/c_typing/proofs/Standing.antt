@@ -12,6 +12,8 @@ use Rattle.c_model.proofs.FileOrder.{further}
 use Rattle.c_model.proofs.TypedNumbers.{TypedInOrder, typed_in_order}
 use Rattle.c_typing.specs.Files.{among, enum_of, typedef_of, global_of, kinds}
 use Rattle.c_typing.specs.NotedFiles.{IsOrdered}
+use Rattle.c_typing.specs.NotedContracts.{IsDefinedOnce}
+use Rattle.c_typing.proofs.DefinedOnce.{defined_once}
 use Rattle.c_typing.specs.Standing.{offset_of_enum, KindsAscend, Stands}
 use Rattle.c_typing.proofs.NotedFiles.{in_order_is}
 use Rattle.c_typing.proofs.Ordered.{ordered}
@@ -178,6 +180,7 @@ module _ (p : TranslationUnit) where
     enums = found_there AnEnum offset_of_enum (λ e. refl) is_enum enum_of p.enums listed enums_there these_enums enums_alone h.1.0;
     typedefs = found_there ATypedef number_of (λ e. refl) is_typedef typedef_of p.typedefs listed typedefs_there these_typedefs typedefs_alone h.1.1;
     globals = found_there AGlobal number_of (λ e. refl) is_global global_of p.globals listed globals_there these_globals globals_alone h.1.2;
+    once = h.2;
   }
 
 -- ---- what typing makes of a file that stands in the order of the text
@@ -209,7 +212,7 @@ typedefs_from low (AFunction f ∷ is) high b least l =
     typedefs_from h.from is high h.between least (omega (arith, l, b.0, h.more))
 
 pub stands : (p q : TranslationUnit) → InTextOrder p → typed_unit p ≡ Good q → Stands q
-stands p q o is = ((ordered p q o is).known, ascend)
+stands p q o is = ((ordered p q o is).known, ascend, subst IsDefinedOnce (sym order.functions) (defined_once p q is))
   where
     order : TypedInOrder q
     order = typed_in_order p q o is

@@ -7,13 +7,15 @@ use Rattle.c_model.specs.Integers.{fits}
 use Rattle.c_model.specs.Checked.{Checked, Good, one_part}
 use Rattle.c_model.specs.ExpressionTyping.{Sight, with_object}
 use Rattle.c_model.specs.DeclarationTyping.{with_enumerator}
+use Rattle.c_model.specs.TextOrder.{functions_among}
 use Rattle.c_model.specs.UnitTyping.{FileItem, StructHead, Member, AnEnum, ATypedef, AGlobal, AFunction, items_of_file, sight_with, with_type, value_typed}
 use Rattle.c_model.specs.UnitTyping.{behind_enum, behind_item}
-use Rattle.c_model.specs.AnnotationTyping.{noted_function}
+use Rattle.c_model.specs.AnnotationTyping.{noted_functions}
 use Rattle.c_expression_rules.specs.Constants.{has_small_sizes}
 use Rattle.c_function_rules.specs.declared.heading.Callee.{Callee}
 use Rattle.c_function_rules.specs.Functions.{with_function_by}
 use Rattle.c_typing.specs.Files.{among, enum_of, typedef_of, global_of}
+use Rattle.c_typing.specs.NotedContracts.{IsDefinedOnce, function_by}
 
 -- ---- what is asked of a typed file
 
@@ -46,6 +48,8 @@ pub record IsOrdered (p : TranslationUnit) : Type 0 where
   pub enums : among enum_of (items_of_file p) ≡ p.enums
   pub typedefs : among typedef_of (items_of_file p) ≡ p.typedefs
   pub globals : among global_of (items_of_file p) ≡ p.globals
+  -- no name is defined twice
+  pub once : IsDefinedOnce (functions_among (items_of_file p))
 
 -- ---- items in turn
 
@@ -75,15 +79,20 @@ abbrev pub known_in_turn : (ℕ → Option Callee) → Sight → List FileItem �
 known_in_turn numbers s [] = Unit {0}
 known_in_turn numbers s (i ∷ is) = ItemKnown s i × known_in_turn numbers (behind_in_turn numbers s i) is
 
-abbrev pub note_in_turn : (ℕ → Option Callee) → Sight → FileItem → Checked FileItem
-note_in_turn numbers s (AFunction f) = one_part (noted_function (with_function_by numbers s f) f) (λ g. Good (AFunction g))
-note_in_turn numbers s (StructHead k struct) = Good (StructHead k struct)
-note_in_turn numbers s (Member k m ends) = Good (Member k m ends)
-note_in_turn numbers s (AnEnum e) = Good (AnEnum e)
-note_in_turn numbers s (ATypedef d) = Good (ATypedef d)
-note_in_turn numbers s (AGlobal d) = Good (AGlobal d)
+-- by what each name of a function denotes, and by the numbers of the parameters of definitions
+abbrev pub note_in_turn : (ℕ → Option Callee) → (ℕ → Option (List ℕ)) → Sight → FileItem → Checked FileItem
+note_in_turn numbers definitions s (AFunction f) = one_part (function_by definitions (with_function_by numbers s f) f) (λ g. Good (AFunction g))
+note_in_turn numbers definitions s (StructHead k struct) = Good (StructHead k struct)
+note_in_turn numbers definitions s (Member k m ends) = Good (Member k m ends)
+note_in_turn numbers definitions s (AnEnum e) = Good (AnEnum e)
+note_in_turn numbers definitions s (ATypedef d) = Good (ATypedef d)
+note_in_turn numbers definitions s (AGlobal d) = Good (AGlobal d)
 
-abbrev pub notes_in_turn : (ℕ → Option Callee) → Sight → List FileItem → Checked (List FileItem)
-notes_in_turn numbers s [] = Good []
-notes_in_turn numbers s (i ∷ is) = one_part (note_in_turn numbers s i) (λ j.
-    one_part (notes_in_turn numbers (behind_in_turn numbers s i) is) (λ js. Good (j ∷ js)))
+abbrev pub notes_in_turn : (ℕ → Option Callee) → (ℕ → Option (List ℕ)) → Sight → List FileItem → Checked (List FileItem)
+notes_in_turn numbers definitions s [] = Good []
+notes_in_turn numbers definitions s (i ∷ is) = one_part (note_in_turn numbers definitions s i) (λ j.
+    one_part (notes_in_turn numbers definitions (behind_in_turn numbers s i) is) (λ js. Good (j ∷ js)))
+
+-- the annotations of a file, where each contract stands as it is written
+abbrev pub standing_unit : TranslationUnit → Checked TranslationUnit
+standing_unit p = one_part (noted_functions p (sight_with p p.structs) (items_of_file p)) (λ fs. Good (record p { funcs = fs }))

@@ -15,6 +15,7 @@ pub mod program;
 pub mod room;
 
 // annotations
+pub mod contract;
 pub mod known;
 pub mod noted;
 pub mod noted_file;

@@ -9,7 +9,7 @@ ghost use Rattle.c_model.specs.Checked.{Good};
 ghost use Rattle.c_model.specs.Integers.{fits};
 ghost use Rattle.c_model.specs.DeclarationTyping.{with_enumerator};
 ghost use Rattle.c_model.specs.UnitTyping.{behind_enum, value_typed, with_enumerators};
-ghost use Rattle.c_model.specs.AnnotationTyping.{noted_function, noted_unit};
+ghost use Rattle.c_model.specs.AnnotationTyping.{noted_unit};
 ghost use Rattle.c_scopes.specs.Answers.{Answers};
 ghost use Rattle.c_scopes.specs.Sights.{plain_sight};
 ghost use Rattle.indexmap.specs.IndexMap.{get};
@@ -17,9 +17,11 @@ ghost use Rattle.c_phases.specs.Answers.{IsFaultRefusal, RefusedBy};
 ghost use Rattle.c_function_rules.specs.Functions.{with_function_by};
 ghost use Rattle.c_typing.specs.Files.{plain_file_item};
 ghost use Rattle.c_typing.specs.NotedFiles.{IsOrdered, IsSmallValue, ItemKnown, ValuesKnown, all_behind, behind_in_turn, known_in_turn};
-ghost use Rattle.c_typing.specs.NotedFiles.{note_in_turn, notes_in_turn};
+ghost use Rattle.c_typing.specs.NotedFiles.{note_in_turn, notes_in_turn, standing_unit};
+ghost use Rattle.c_typing.specs.NotedContracts.{function_by, numbers_in};
 
 use crate::checked::Typed;
+use crate::contract::{move_contracts, parameter_numbers};
 use crate::file::{finish, first_course, tags_of};
 use crate::item::{FileItem, add_tag, see_type};
 use crate::noted::note_function;
@@ -98,31 +100,34 @@ fn see_enum(sight: &mut Sight, e: &EnumDef) -> Result<(), AllocError>
     Ok(())
 }
 
-/// The annotations of a function, which is in sight in itself and behind it.
+/// The contract and the annotations of a function, which is in sight in itself and behind it.
 fn note_defined(
     alloc: Global,
     numbers: &IndexMap<u32, Callee>,
+    definitions: &IndexMap<u32, Vec<u32>>,
     sight: &mut Sight,
     f: &mut Func,
 ) -> Result<(), TypeFault>
     ensures noted { Answers (λ _. plain_func f.new)
-        (noted_function (with_function_by (get nat_eq numbers.now) (plain_sight sight.old) (plain_func f.old)) (plain_func f.old)) result }
+        (function_by (numbers_in definitions.now) (with_function_by (get nat_eq numbers.now) (plain_sight sight.old) (plain_func f.old))
+        (plain_func f.old)) result }
     ensures behind { OnOk result (plain_sight sight.new ≡ with_function_by (get nat_eq numbers.now) (plain_sight sight.old) (plain_func f.old)) }
 {
     see_function(alloc, sight, numbers, f)?;
-    note_function(alloc, sight, f)
+    note_function(alloc, sight, definitions, f)
 }
 
 /// Types the annotations of an item, and brings in sight what it declares.
 fn note_item(
     alloc: Global,
     numbers: &IndexMap<u32, Callee>,
+    definitions: &IndexMap<u32, Vec<u32>>,
     sight: &mut Sight,
     item: &mut FileItem,
 ) -> Result<(), TypeFault>
     requires { ItemKnown (plain_sight sight.old) (plain_file_item item.old) }
     ensures noted { Answers (λ _. plain_file_item item.new)
-        (note_in_turn (get nat_eq numbers.now) (plain_sight sight.old) (plain_file_item item.old)) result }
+        (note_in_turn (get nat_eq numbers.now) (numbers_in definitions.now) (plain_sight sight.old) (plain_file_item item.old)) result }
     ensures behind { OnOk result (plain_sight sight.new ≡ behind_in_turn (get nat_eq numbers.now) (plain_sight sight.old) (plain_file_item item.old)) }
 {
     match item {
@@ -140,7 +145,7 @@ fn note_item(
             with_object(alloc, sight, d)?;
             Ok(())
         }
-        FileItem::Function(f) => note_defined(alloc, numbers, sight, f),
+        FileItem::Function(f) => note_defined(alloc, numbers, definitions, sight, f),
     }
 }
 
@@ -148,31 +153,43 @@ fn note_item(
 fn note_each(
     alloc: Global,
     numbers: &IndexMap<u32, Callee>,
+    definitions: &IndexMap<u32, Vec<u32>>,
     sight: &mut Sight,
     items: &mut Vec<FileItem>,
 ) -> Result<(), TypeFault>
     requires { known_in_turn (get nat_eq numbers.now) (plain_sight sight.old) (map plain_file_item items.old.items) }
     ensures noted { Answers (λ _. map plain_file_item items.new.items)
-        (notes_in_turn (get nat_eq numbers.now) (plain_sight sight.old) (map plain_file_item items.old.items)) result }
+        (notes_in_turn (get nat_eq numbers.now) (numbers_in definitions.now) (plain_sight sight.old) (map plain_file_item items.old.items)) result }
     ensures behind { OnOk result (plain_sight sight.new ≡ all_behind (get nat_eq numbers.now) (plain_sight sight.old) (map plain_file_item items.old.items)) }
 {
     for i in 0..items.len() {
-        note_item(alloc, numbers, sight, &mut items[i])?;
+        note_item(alloc, numbers, definitions, sight, &mut items[i])?;
     }
     Ok(())
 }
 
-/// Types the annotations of a file.
+/// Types the annotations of a file, where each contract stands as it is written.
+fn note_standing(alloc: Global, program: &mut Program) -> Result<(), TypeFault>
+    requires { IsOrdered (plain_program program.old) }
+    ensures { Answers (λ _. plain_program program.new) (standing_unit (plain_program program.old)) result }
+{
+    let numbers = denoted(alloc, &program.funcs)?;
+    let definitions = parameter_numbers(alloc, &program.funcs)?;
+    let tags = tags_of(alloc, &program.enums)?;
+    let mut items = take_declared(alloc, program)?;
+    let mut course = first_course(alloc, program, tags)?;
+    let noted = note_each(alloc, &numbers, &definitions, &mut course.sight, &mut items);
+    finish(program, course, items, noted)
+}
+
+/// Types the annotations of a file, and moves each contract to the definition of its name.
 fn note_unit(alloc: Global, program: &mut Program) -> Result<(), TypeFault>
     requires { IsOrdered (plain_program program.old) }
     ensures { Answers (λ _. plain_program program.new) (noted_unit (plain_program program.old)) result }
 {
-    let numbers = denoted(alloc, &program.funcs)?;
-    let tags = tags_of(alloc, &program.enums)?;
-    let mut items = take_declared(alloc, program)?;
-    let mut course = first_course(alloc, program, tags)?;
-    let noted = note_each(alloc, &numbers, &mut course.sight, &mut items);
-    finish(program, course, items, noted)
+    note_standing(alloc, program)?;
+    move_contracts(alloc, &mut program.funcs)?;
+    Ok(())
 }
 
 /// The program of a text whose C is typed, with its annotations typed; or the refusal, with code 5 for a name, and 6 or 11 for a type.
