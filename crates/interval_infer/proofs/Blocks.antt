@@ -1,9 +1,8 @@
 -- Statements and functions whose annotations have their ranges, one after another.
-use Rattle.std.proofs.Common.{◌≡◌, List, [], ◌∷◌, ◌++◌, sym, ap, ◌∙◌, subst, map, Result}
+use Rattle.std.proofs.Common.{◌≡◌, List, [], ◌∷◌, ◌++◌, sym, ap, ◌∙◌, subst, Result}
 use Rattle.std.specs.Prelude.{Vec}
 use Rattle.std.specs.declared.alloc.Global.{Global}
 use Rattle.c_syntax.specs.declared.place.Place.{Place}
-use Rattle.c_syntax.specs.declared.program.Func.{Func}
 use Rattle.c_syntax.specs.declared.expression.Expr.{Expr}
 use Rattle.c_syntax.specs.declared.statement.Case.{Case}
 use Rattle.c_syntax.specs.declared.statement.Item.{Item}
@@ -11,13 +10,12 @@ use Rattle.c_syntax.specs.declared.statement.StmtKind.{StmtKind}
 use Rattle.c_syntax.specs.declared.statement.StmtKind as code
 use Rattle.c_syntax.specs.Expressions.{plain_expr}
 use Rattle.c_syntax.specs.Statements.{Block, Switch, BlockItems, plain_stmt_kind, plain_cases, plain_item, plain_items}
-use Rattle.c_syntax.specs.Programs.{Function, plain_func}
 use Rattle.c_syntax.proofs.Rows.{block_is, switch_is}
 use Rattle.c_model.specs.Checked.{Checked, Good}
-use Rattle.c_model.specs.AnnotationRanges.{ranged_statement, ranged_cases, ranged_item, ranged_items, ranged_function, ranged_functions}
+use Rattle.c_model.specs.AnnotationRanges.{ranged_statement, ranged_cases, ranged_item, ranged_items}
 use Rattle.c_scopes.specs.declared.fault.TypeFault.{TypeFault}
 use Rattle.c_scopes.specs.Answers.{Answers}
-use Rattle.c_scopes.proofs.Lists.{behind_parts, all_parts, list_more, made_of}
+use Rattle.c_scopes.proofs.Lists.{made_of}
 use Rattle.c_scopes.proofs.BlockItems.{behind_block, all_items, items_more}
 
 -- a block in its place
@@ -44,14 +42,3 @@ block_more done done' x more whole list i rest before is good =
 
 pub block_done : (whole : Checked BlockItems) (done list : List Item) → whole ≡ behind_block (plain_items done) (ranged_items (plain_items list)) → list ≡ [] → whole ≡ Good (plain_items done)
 block_done whole done list before none = before ∙ ap (λ l. behind_block (plain_items done) (ranged_items (plain_items l))) none ∙ all_items (plain_items done)
-
--- one more function has its ranges
-pub functions_more : (done done' : List Func) (x : Func) → done' ≡ done ++ x ∷ [] → (whole : Checked (List Function)) (list : List Func) (f : Func) (rest : List Func)
-    → whole ≡ behind_parts (map plain_func done) (ranged_functions (map plain_func list)) → list ≡ f ∷ rest → ranged_function (plain_func f) ≡ Good (plain_func x)
-    → whole ≡ behind_parts (map plain_func done') (ranged_functions (map plain_func rest))
-functions_more done done' x more whole list f rest before is good =
-    list_more plain_func (λ g. g) whole (ranged_functions (map plain_func list)) done done' x (ranged_function (plain_func f)) (λ g. ranged_functions (map plain_func rest)) (plain_func x) before
-    (ap (λ l. ranged_functions (map plain_func l)) is) good (λ i. plain_func x) more
-
-pub functions_done : (whole : Checked (List Function)) (done list : List Func) → whole ≡ behind_parts (map plain_func done) (ranged_functions (map plain_func list)) → list ≡ [] → whole ≡ Good (map plain_func done)
-functions_done whole done list before none = before ∙ ap (λ l. behind_parts (map plain_func done) (ranged_functions (map plain_func l))) none ∙ all_parts (map plain_func done)

@@ -1,5 +1,5 @@
 -- Wherever a run of a program of an accepted text judges an annotation, each object that is in sight there has a block.
-use Rattle.std.proofs.Common.{◌≡◌, ℕ, zero, suc, Bool, true, false, cond, if◌then◌else◌, ◌&&◌, nat_eq, List, [], ◌∷◌, ◌++◌, Option, Some, None, slice_get, codes, refl, sym, ◌∙◌, subst, append_assoc}
+use Rattle.std.proofs.Common.{◌≡◌, ℕ, zero, suc, Bool, true, false, cond, if◌then◌else◌, ◌&&◌, nat_eq, List, [], ◌∷◌, ◌++◌, map, Option, Some, None, slice_get, codes, refl, sym, ap, ◌∙◌, subst, append_assoc}
 use Rattle.std.specs.List.{AllByRecursion}
 use Rattle.c_syntax.specs.declared.place.Place.{Place}
 use Rattle.c_syntax.specs.declared.expression.Use.{Use}
@@ -7,19 +7,26 @@ use Rattle.c_syntax.specs.declared.expression.UnOp.TheVariants as unary
 use Rattle.c_syntax.specs.declared.types.Segment.{Segment}
 use Rattle.c_syntax.specs.Ctypes.{PlainType}
 use Rattle.c_syntax.specs.Layouts.{Scalar, scalar_of, size_of}
-use Rattle.c_syntax.specs.Logic.{Annotation}
+use Rattle.c_syntax.specs.declared.annotation.Kind.{Kind}
+use Rattle.c_syntax.specs.declared.annotation.Kind.TheVariants as kind
+use Rattle.c_syntax.specs.Logic.{Annotation, ClauseBody, Predicate, Holds}
 use Rattle.c_syntax.specs.Expressions.{Expression, Node, Number, Letter, Text, Variable, Unary, Binary, Both, Either, Choice, Assign, Bump, Call, Cast, SizeOfType}
 use Rattle.c_syntax.specs.Expressions.{SizeOfExpr, Index, Dot, Arrow, Comma, Expressions, NoExpression, Following, type_of}
 use Rattle.c_syntax.specs.Statements.{Initialiser, One, Many, Initialisers, NoInitialiser, Listed, Declaration, Statement, Empty, Eval, Block, If, While, Do}
 use Rattle.c_syntax.specs.Statements.{For, Break, Continue, Return, Labelled, ElsePart, NoElse, Else, ForFirst, NoFirst, First, Declare, Specify, Run}
-use Rattle.c_syntax.specs.Statements.{Asserts, BlockItems, NoItem, Then, Switch, Cases, NoCase, AnotherCase}
-use Rattle.c_syntax.specs.Programs.{StructType, FunctionContract, Function, TranslationUnit}
+use Rattle.c_syntax.specs.Statements.{BlockItem, Asserts, BlockItems, NoItem, Then, Switch, Cases, NoCase, AnotherCase}
+use Rattle.c_syntax.specs.Programs.{StructType, NamedBehavior, FunctionContract, Function, TranslationUnit}
 use Rattle.c_model.specs.AcceptedPrograms.{IsProgram}
-use Rattle.c_model.specs.ContractChecks.{entry}
+use Rattle.c_model.specs.AnnotationSights.{AnnotationSight}
+use Rattle.c_model.specs.AnnotationTyping.{inside_block, inside_for, with_label, behind_labels, labels_behind, behind_noted, behind_case, in_body as in_body_sight, numbers_of_parameters}
+use Rattle.c_model.specs.ContractChecks.{Check, is_requires, is_assumes, is_ensures, is_complete, is_disjoint, of_kind, of_behaviors, entry_checks, leave_checks, all_hold, holds_at, checked, entry}
+use Rattle.c_model.specs.ContractTyping.{sight_of_clause}
 use Rattle.c_model.specs.EffectPlaces.{FirstPlaced, StatementPlaced, ElsePlaced, ItemsPlaced, CasesPlaced, DeclareNothing}
-use Rattle.c_model.specs.ExpressionTyping.{Sight, Entity, AnObject, inner, with_objects}
-use Rattle.c_model.specs.Formed.{AreAsserts, number_of}
-use Rattle.c_model.specs.JudgedStates.{Judgement, Result, Judges, InCalls, none, judged_behind, judged_then, judged_check, judged_checks, judged_entry, judged_ending, judged_assigned}
+use Rattle.c_model.specs.ExpressionTyping as entity
+use Rattle.c_model.specs.ExpressionTyping.{Object, Sight, Entity, AnObject, entity_named, inner, or_else, with_objects}
+use Rattle.c_model.specs.Formed.{IsAssert, AreAsserts, IsShortClause, number_of}
+use Rattle.c_model.specs.FormedContracts.{IsOwnKind, IsBehaviorKind, IsCoverKind, NamesBehaviors, AreClausesOf, BehaviorsFormed, ContractFormed, MaybeFormed, ContractsFormed}
+use Rattle.c_model.specs.JudgedStates.{Judgement, Result, Judges, InCalls, none, names_with, judged_behind, judged_then, judged_check, judged_checks, judged_of, judged_all, judged_entry, judged_ending, judged_assigned}
 use Rattle.c_model.specs.JudgedStates.{judged_eval, judged_place, judged_evals, judged_any, judged_one, judged_fill, judged_parts, judged_initialise, judged_initialise_all}
 use Rattle.c_model.specs.JudgedStates.{judged_on, judged_round, judged_turn, judged_turns, judged_do_turns, judged_exec, judged_cases, judged_else, judged_first, judged_items, judged_body}
 use Rattle.c_model.specs.JudgedStates.{judged_result, judged_call, judged_behind_main, judged_main, judged_calls, judged_whole}
@@ -32,14 +39,15 @@ use Rattle.c_model.specs.ReadTree.{BodyRead, FunctionRead, FunctionsRead}
 use Rattle.c_model.specs.State.{Scope, State, Breaks, Continues, Returns, Leaves, Over, Stuck, Outcome, Normal, Stop, Evaluation, on_outcome, ◌>>◌, done, step, object, as_scalar}
 use Rattle.c_model.specs.State.{write_youngest, birth_of, birth, births, alone, frame, mark}
 use Rattle.c_model.specs.StatementTyping.{behind_first}
-use Rattle.c_model.specs.TypedAnnotations.{StatementNoted, CasesNoted, ElseNoted, ItemsNoted, BodyNoted}
-use Rattle.c_model.specs.TypedPredicates.{AnnotationsTyped}
+use Rattle.c_model.specs.TypedAnnotations.{StatementNoted, CasesNoted, ElseNoted, ItemsNoted, BodyNoted, ClausesTyped, BehaviorsTyped, IsOwn, OfFunction, OfFile, ContractStands, ContractNoted}
+use Rattle.c_model.specs.TypedPredicates.{AnnotationsTyped, ClauseTyped, PredicateTyped}
 use Rattle.c_model.specs.TypedTrees.{WhereAny}
 use Rattle.c_model.specs.UnitTyping.{with_parameters}
-use Rattle.interval_infer.specs.InSight.{AreFound, IsInSight, JudgedInSight}
+use Rattle.interval_infer.specs.InSight.{IsFound, EntityFound, AreFound, NamesFound, TypedBy, FoundBy, IsInSight, JudgedInSight}
+use Rattle.interval_infer.proofs.ContractScopes.{stays_checked, stays_entry, body_stays, returned_stays}
 use Rattle.interval_infer.proofs.Scopes.{scope_after, Stays, stays_then, stays_give, stays_step, stays_mark, stays_frame, stays_as_scalar, stays_write_youngest, stays_check, stays_eval, stays_tested}
 use Rattle.interval_infer.proofs.Scopes.{stays_condition, stays_effect, stays_initialise_all, stays_exec, stays_item, stays_items, stays_first, stays_call}
-use Rattle.interval_infer.proofs.Sights.{DeclarationsFound, FunctionSeen, found_with_all, found_parameters, declarations_found-append, entities_found_more, newest_found, function_seen}
+use Rattle.interval_infer.proofs.Sights.{DeclarationsFound, FunctionSeen, found_with_all, found_parameters, declarations_found-append, entities_found_more, newest_found, function_seen, globals_in_scope}
 
 abbrev AllInSight : List Judgement → Type 0
 AllInSight js = AllByRecursion IsInSight js
@@ -70,18 +78,6 @@ always_cond false j k h g = g
 always_assigned : (o : Option Scalar) (j k : Judges) → Always j → Always k → Always (judged_assigned o j k)
 always_assigned (Some x) j k h g = h
 always_assigned None j k h g = g
-
-no_entry : (c : Option FunctionContract) → c ≡ None → Always (judged_entry c)
-no_entry None e = always_none
-no_entry (Some c) e = absurd cc
-
-no_ending : (c : Option FunctionContract) (hs : List Bool) (r : Result) → c ≡ None → Always (judged_ending c hs r)
-no_ending None hs r e = always_none
-no_ending (Some c) hs r e = absurd cc
-
-stays_entry : (c : Option FunctionContract) → c ≡ None → Stays (entry c)
-stays_entry None e = stays_give []
-stays_entry (Some c) e = absurd cc
 
 -- ---- what judges so wherever the scope is so
 
@@ -118,10 +114,110 @@ in_cond : (S : Scope → Type 0) (b : Bool) (j k : Judges) → In S j → In S k
 in_cond S true j k h g = h
 in_cond S false j k h g = g
 
-in_checks : (s : Sight) (annots : List Annotation) → AnnotationsTyped s annots → In (Sees s) (judged_checks annots)
-in_checks s [] h = in_always (Sees s) none always_none
-in_checks s (a ∷ rest) h =
-    in_then (Sees s) (judged_check None a) (check a) (λ _. judged_checks rest) (record { at = λ t q. (record { sight = s; typed = h.0; found = q }, tt) }) (stays_check [] a) (λ _. in_checks s rest h.1)
+-- what has a name among those that are found is found
+pub found_named : (x : ℕ) (es : List Entity) (e : Entity) (scope : Scope) → AreFound es scope → entity_named x es ≡ Some e → EntityFound scope e
+found_named x [] e scope h i = absurd cc
+found_named x (d ∷ es) e scope h i = by (found_named x es) (entity_named x es) (entity.has_name x d) refl i
+  where
+    by : ((e : Entity) (scope : Scope) → AreFound es scope → entity_named x es ≡ Some e → EntityFound scope e) → (o : Option Entity) (b : Bool) → entity_named x es ≡ o → or_else o (cond b (Some d) None) ≡ Some e → EntityFound scope e
+    by go (Some f) b eo j = let same : f ≡ e = cc in go e scope h.1 (eo ∙ ap Some same)
+    by go None true eo j = let same : d ≡ e = cc in subst (EntityFound scope) same h.0
+    by go None false eo j = absurd cc
+
+pub names_found : (s : Sight) (scope : Scope) → AreFound s.entities scope → NamesFound s scope
+names_found s scope h x b is = found_named x s.entities (AnObject b) scope h is
+
+-- whatever is judged, each object that a name stands for has a block
+names_found_by : (k : Kind) (s : Sight) (scope : Scope) → FoundBy k s scope → NamesFound s scope
+names_found_by kind.Assert s scope h = names_found s scope h
+names_found_by kind.Requires s scope h = h
+names_found_by kind.Assumes s scope h = h
+names_found_by kind.Ensures s scope h = h
+names_found_by kind.Complete s scope h = h
+names_found_by kind.Disjoint s scope h = h
+names_found_by kind.Invariant s scope h = h
+names_found_by kind.Variant s scope h = h
+names_found_by kind.Rte s scope h = h
+
+pub names_in_sight : (j : Judgement) (h : IsInSight j) → NamesFound h.sight.here j.state.scope
+names_in_sight j h = names_found_by j.annotation.kind h.sight.here j.state.scope h.found
+
+-- and a predicate is typed
+typed_by : (k : Kind) (s : AnnotationSight) (p : Predicate) → TypedBy k s (Holds p) → PredicateTyped s p
+typed_by kind.Assert s p h = h
+typed_by kind.Requires s p h = h
+typed_by kind.Assumes s p h = h
+typed_by kind.Ensures s p h = h
+typed_by kind.Complete s p h = absurd h
+typed_by kind.Disjoint s p h = absurd h
+typed_by kind.Invariant s p h = h
+typed_by kind.Variant s p h = h
+typed_by kind.Rte s p h = h
+
+pub predicate_in_sight : (j : Judgement) (p : Predicate) (h : IsInSight j) → j.annotation.body ≡ Holds p → PredicateTyped h.sight p
+predicate_in_sight j p h e = typed_by j.annotation.kind h.sight p (subst (TypedBy j.annotation.kind h.sight) e h.typed)
+
+-- ---- clauses of contracts, by their kinds
+
+abbrev IsClauseKind : Kind → Type 0
+IsClauseKind kind.Assert = ⊥
+IsClauseKind _ = Unit {0}
+
+-- one that says something that is so
+clause_typed : (k : Kind) (s : AnnotationSight) (b : ClauseBody) → IsBehaviorKind k → ClauseTyped s b → TypedBy k s b × IsClauseKind k
+clause_typed kind.Assert s b i h = absurd i
+clause_typed kind.Requires s b i h = (h, tt)
+clause_typed kind.Assumes s b i h = (h, tt)
+clause_typed kind.Ensures s b i h = (h, tt)
+clause_typed kind.Complete s b i h = absurd i
+clause_typed kind.Disjoint s b i h = absurd i
+clause_typed kind.Invariant s b i h = absurd i
+clause_typed kind.Variant s b i h = absurd i
+clause_typed kind.Rte s b i h = absurd i
+
+own_kind : (k : Kind) → IsOwnKind k → IsBehaviorKind k
+own_kind kind.Assert i = absurd i
+own_kind kind.Requires i = tt
+own_kind kind.Assumes i = absurd i
+own_kind kind.Ensures i = tt
+own_kind kind.Complete i = absurd i
+own_kind kind.Disjoint i = absurd i
+own_kind kind.Invariant i = absurd i
+own_kind kind.Variant i = absurd i
+own_kind kind.Rte i = absurd i
+
+-- one that names behaviors
+cover_typed : (k : Kind) (s : AnnotationSight) (b : ClauseBody) → IsCoverKind k → NamesBehaviors b → TypedBy k s b × IsClauseKind k
+cover_typed kind.Assert s b i h = absurd i
+cover_typed kind.Requires s b i h = absurd i
+cover_typed kind.Assumes s b i h = absurd i
+cover_typed kind.Ensures s b i h = absurd i
+cover_typed kind.Complete s b i h = (h, tt)
+cover_typed kind.Disjoint s b i h = (h, tt)
+cover_typed kind.Invariant s b i h = absurd i
+cover_typed kind.Variant s b i h = absurd i
+cover_typed kind.Rte s b i h = absurd i
+
+clause_found : (k : Kind) (s : Sight) (scope : Scope) → IsClauseKind k → NamesFound s scope → FoundBy k s scope
+clause_found kind.Assert s scope i h = absurd i
+clause_found kind.Requires s scope i h = h
+clause_found kind.Assumes s scope i h = h
+clause_found kind.Ensures s scope i h = h
+clause_found kind.Complete s scope i h = h
+clause_found kind.Disjoint s scope i h = h
+clause_found kind.Invariant s scope i h = h
+clause_found kind.Variant s scope i h = h
+clause_found kind.Rte s scope i h = h
+
+assert_in_sight : (s : AnnotationSight) (a : Annotation) (t : State) → IsAssert a → ClauseTyped s a.body → AreFound s.here.entities t.scope → IsInSight (record { annotation = a; result = None; state = t })
+assert_in_sight s a t is h q =
+    record { sight = s; typed = subst (λ k. TypedBy k s a.body) (sym is.kind) h; found = subst (λ k. FoundBy k s.here t.scope) (sym is.kind) q }
+
+in_checks : (s : AnnotationSight) (annots : List Annotation) → AreAsserts annots → AnnotationsTyped s annots → In (Sees s.here) (judged_checks annots)
+in_checks s [] are h = in_always (Sees s.here) none always_none
+in_checks s (a ∷ rest) are h =
+    in_then (Sees s.here) (judged_check None a) (check a) (λ _. judged_checks rest) (record { at = λ t q. (assert_in_sight s a t are.0 h.0 q, tt) })
+    (stays_check [] a) (λ _. in_checks s rest are.1 h.1)
 
 -- ---- loops
 
@@ -320,82 +416,128 @@ module _ (T : Tables) (call : Callee) (stays : (at : Place) (f : Use) (vs : List
   sees_first s (First (Run a)) scope q = q.0
   sees_first s (First (Asserts annots)) scope q = q.0
 
+  -- labels bring no names in sight
+  labels_here : (s : AnnotationSight) (a : Statement) → (behind_labels s a).here ≡ s.here
+  labels_here s (Labelled at l a) = labels_here (with_label s l) a
+  labels_here s (Empty at) = refl
+  labels_here s (Eval at e) = refl
+  labels_here s (Block at items) = refl
+  labels_here s (If at e a b) = refl
+  labels_here s (While at annots e a) = refl
+  labels_here s (Do at a e) = refl
+  labels_here s (For at annots first e behind a) = refl
+  labels_here s (Break at) = refl
+  labels_here s (Continue at) = refl
+  labels_here s (Return at e) = refl
+  labels_here s (Switch at e cases) = refl
+
+  item_here : (s : AnnotationSight) (i : BlockItem) → (labels_behind s i).here ≡ s.here
+  item_here s (Run a) = labels_here s a
+  item_here s (Declare ds) = refl
+  item_here s (Specify at t) = refl
+  item_here s (Asserts annots) = refl
+
+  case_here : (s : AnnotationSight) (items : BlockItems) → (behind_case s items).here ≡ s.here
+  case_here s NoItem = refl
+  case_here s (Then i rest) = case_here (labels_behind s i) rest ∙ item_here s i
+
   mutual
-    in_exec : (s : Sight) (a : Statement) → StatementPlaced AreAsserts a → StatementNoted s a → (n : ℕ) → In (Sees s) (judged_exec T call calls a n)
-    in_exec s (Empty at) h q n = in_always (Sees s) none always_none
-    in_exec s (Eval at e) h q n = in_always (Sees s) _ (always_eval e)
-    in_exec s (Block at items) h q n = in_born s (declared_in items) _ (in_items (inner s) items h q n)
+    in_exec : (s : AnnotationSight) (a : Statement) → StatementPlaced AreAsserts a → StatementNoted s a → (n : ℕ) → In (Sees s.here) (judged_exec T call calls a n)
+    in_exec s (Empty at) h q n = in_always (Sees s.here) none always_none
+    in_exec s (Eval at e) h q n = in_always (Sees s.here) _ (always_eval e)
+    in_exec s (Block at items) h q n = in_born s.here (declared_in items) _ (in_items (inside_block s) items h q n)
     in_exec s (If at e a b) h q n =
-        in_then (Sees s) _ (condition_of T e call) _ (in_always (Sees s) _ (always_eval e)) (stays_test e) (λ v. in_cond (Sees s) (is_zero v) _ _ (in_else s b h.1 q.1 n) (in_exec s a h.0 q.0 n))
+        in_then (Sees s.here) _ (condition_of T e call) _ (in_always (Sees s.here) _ (always_eval e)) (stays_test e) (λ v. in_cond (Sees s.here) (is_zero v) _ _ (in_else s b h.1 q.1 n) (in_exec s a h.0 q.0 n))
     in_exec s (While at annots e a) h q n =
-        subst (λ l. In (Sees s) (judged_exec T call calls (While at l e a) n)) (sym h.0)
-        (in_turns (Sees s) n _ (done >> condition_of T e call) _ (in_then (Sees s) none done _ (in_always (Sees s) none always_none) (stays_give tt) (λ _. in_always (Sees s) _ (always_eval e)))
+        subst (λ l. In (Sees s.here) (judged_exec T call calls (While at l e a) n)) (sym h.0)
+        (in_turns (Sees s.here) n _ (done >> condition_of T e call) _ (in_then (Sees s.here) none done _ (in_always (Sees s.here) none always_none) (stays_give tt) (λ _. in_always (Sees s.here) _ (always_eval e)))
         (stays_then done (condition_of T e call) (stays_give tt) (stays_test e))
-        (λ again k. in_turn (Sees s) _ (exec_with T a call n) none done again (in_exec s a h.1 q.1 n) (stays_exec T call stays a n) (in_always (Sees s) none always_none) (stays_give tt) k))
+        (λ again k. in_turn (Sees s.here) _ (exec_with T a call n) none done again (in_exec s a h.1 q.1 n) (stays_exec T call stays a n) (in_always (Sees s.here) none always_none) (stays_give tt) k))
     in_exec s (Do at a e) h q n =
-        in_do_turns (Sees s) n _ (condition_of T e call) _ (exec_with T a call n) (in_always (Sees s) _ (always_eval e)) (stays_test e) (in_exec s a h q n) (stays_exec T call stays a n)
+        in_do_turns (Sees s.here) n _ (condition_of T e call) _ (exec_with T a call n) (in_always (Sees s.here) _ (always_eval e)) (stays_test e) (in_exec s a h q n) (stays_exec T call stays a n)
     in_exec s (For at annots first e behind a) h q n =
-        let S = Sees (behind_first (inner s) first) in
-        subst (λ l. In (Sees s) (judged_exec T call calls (For at l first e behind a) n)) (sym h.0)
-        (in_born s (declared_first first) _ (in_then (SeesWith s (declared_first first)) _ (first_with T first call n) _ (in_always (SeesWith s (declared_first first)) _ (always_first first n h.1))
-        (stays_first T call stays first n) (λ _. in_wider (SeesWith s (declared_first first)) S _ (sees_first s first)
+        let S = Sees (inside_for s first).here in
+        subst (λ l. In (Sees s.here) (judged_exec T call calls (For at l first e behind a) n)) (sym h.0)
+        (in_born s.here (declared_first first) _ (in_then (SeesWith s.here (declared_first first)) _ (first_with T first call n) _ (in_always (SeesWith s.here (declared_first first)) _ (always_first first n h.1))
+        (stays_first T call stays first n) (λ _. in_wider (SeesWith s.here (declared_first first)) S _ (sees_first s.here first)
         (in_turns S n _ (done >> condition_with T e call) _ (in_then S none done _ (in_always S none always_none) (stays_give tt) (λ _. in_always S _ (always_any e)))
         (stays_then done (condition_with T e call) (stays_give tt) (stays_condition T call stays e))
-        (λ again k. in_turn S _ (exec_with T a call n) _ (effect_with T behind call) again (in_exec (behind_first (inner s) first) a h.2 q.1 n) (stays_exec T call stays a n)
+        (λ again k. in_turn S _ (exec_with T a call n) _ (effect_with T behind call) again (in_exec (inside_for s first) a h.2 q.1 n) (stays_exec T call stays a n)
         (in_always S _ (always_any behind)) (stays_effect T call stays behind) k)))))
-    in_exec s (Break at) h q n = in_always (Sees s) none always_none
-    in_exec s (Continue at) h q n = in_always (Sees s) none always_none
-    in_exec s (Return at e) h q n = in_always (Sees s) _ (always_any e)
-    in_exec s (Labelled at l a) h q n = absurd h
+    in_exec s (Break at) h q n = in_always (Sees s.here) none always_none
+    in_exec s (Continue at) h q n = in_always (Sees s.here) none always_none
+    in_exec s (Return at e) h q n = in_always (Sees s.here) _ (always_any e)
+    in_exec s (Labelled at l a) h q n =
+        in_then (Sees s.here) none (mark (Some l)) _ (in_always (Sees s.here) none always_none) (stays_mark (Some l)) (λ _. in_exec (with_label s l) a h q n)
     in_exec s (Switch at e cases) h q n =
-        in_then (Sees s) _ (eval_with T e call) _ (in_always (Sees s) _ (always_eval e)) (stays_eval T call stays e) (λ v. in_cases s cases h q n (chosen_case v cases))
+        in_then (Sees s.here) _ (eval_with T e call) _ (in_always (Sees s.here) _ (always_eval e)) (stays_eval T call stays e) (λ v. in_cases s cases h q n (chosen_case v cases))
 
     -- nothing is declared directly among the items of a case
-    in_cases : (s : Sight) (cases : Cases) → CasesPlaced AreAsserts cases → CasesNoted s cases → (n k : ℕ) → In (Sees s) (judged_cases T call calls cases n k)
-    in_cases s NoCase h q n k = in_always (Sees s) none always_none
+    in_cases : (s : AnnotationSight) (cases : Cases) → CasesPlaced AreAsserts cases → CasesNoted s cases → (n k : ℕ) → In (Sees s.here) (judged_cases T call calls cases n k)
+    in_cases s NoCase h q n k = in_always (Sees s.here) none always_none
     in_cases s (AnotherCase at v items rest) h q n zero =
-        in_then (Sees s) _ (items_with T items call n) _ (in_wider (Sees s) (SeesWith s (declared_in items)) _ (λ scope r. (r, none_declared items scope h.0)) (in_items s items h.1 q.0 n))
-        (stays_items T call stays items n) (λ _. in_cases s rest h.2 q.1 n zero)
-    in_cases s (AnotherCase at v items rest) h q n (suc k) = in_cases s rest h.2 q.1 n k
+        in_then (Sees s.here) _ (items_with T items call n) _ (in_wider (Sees s.here) (SeesWith s.here (declared_in items)) _ (λ scope r. (r, none_declared items scope h.0)) (in_items s items h.1 q.0 n))
+        (stays_items T call stays items n) (λ _. subst (λ u. In (Sees u) (judged_cases T call calls rest n zero)) (case_here s items) (in_cases (behind_case s items) rest h.2 q.1 n zero))
+    in_cases s (AnotherCase at v items rest) h q n (suc k) = subst (λ u. In (Sees u) (judged_cases T call calls rest n k)) (case_here s items) (in_cases (behind_case s items) rest h.2 q.1 n k)
 
-    in_else : (s : Sight) (b : ElsePart) → ElsePlaced AreAsserts b → ElseNoted s b → (n : ℕ) → In (Sees s) (judged_else T call calls b n)
-    in_else s NoElse h q n = in_always (Sees s) none always_none
+    in_else : (s : AnnotationSight) (b : ElsePart) → ElsePlaced AreAsserts b → ElseNoted s b → (n : ℕ) → In (Sees s.here) (judged_else T call calls b n)
+    in_else s NoElse h q n = in_always (Sees s.here) none always_none
     in_else s (Else a) h q n = in_exec s a h q n
 
     -- all that is declared directly among them has blocks
-    in_items : (s : Sight) (items : BlockItems) → ItemsPlaced AreAsserts items → ItemsNoted s items → (n : ℕ) → In (SeesWith s (declared_in items)) (judged_items T call calls items n)
-    in_items s NoItem h q n = in_always (SeesWith s []) none always_none
+    in_items : (s : AnnotationSight) (items : BlockItems) → ItemsPlaced AreAsserts items → ItemsNoted s items → (n : ℕ) → In (SeesWith s.here (declared_in items)) (judged_items T call calls items n)
+    in_items s NoItem h q n = in_always (SeesWith s.here []) none always_none
     in_items s (Then (Declare ds) rest) h q n =
-        let S = SeesWith s (ds ++ declared_in rest) in
+        let S = SeesWith s.here (ds ++ declared_in rest) in
         in_then S _ (initialise_all T ds call) _ (in_always S _ (always_initialise_all ds)) (stays_initialise_all T call stays ds)
-        (λ _. in_wider S (SeesWith (with_objects s ds) (declared_in rest)) _
-        (λ scope r. let d = declarations_found-append ds (declared_in rest) scope r.1 in (found_with_all s ds scope r.0 d.0, d.1)) (in_items (with_objects s ds) rest h.1 q.1 n))
+        (λ _. in_wider S (SeesWith (with_objects s.here ds) (declared_in rest)) _
+        (λ scope r. let d = declarations_found-append ds (declared_in rest) scope r.1 in (found_with_all s.here ds scope r.0 d.0, d.1)) (in_items (behind_noted s (Declare ds)) rest h.1 q.1 n))
     in_items s (Then (Specify at t) rest) h q n =
-        let S = SeesWith s (declared_in rest) in
-        in_then S none done _ (in_always S none always_none) (stays_give tt) (λ _. in_items s rest h.1 q.1 n)
+        let S = SeesWith s.here (declared_in rest) in
+        in_then S none done _ (in_always S none always_none) (stays_give tt) (λ _. in_items (behind_noted s (Specify at t)) rest h.1 q.1 n)
     in_items s (Then (Run a) rest) h q n =
-        let S = SeesWith s (declared_in rest) in
-        in_then S _ (exec_with T a call n) _ (in_wider S (Sees s) _ (λ scope r. r.0) (in_exec s a h.0 q.0 n)) (stays_exec T call stays a n) (λ _. in_items s rest h.1 q.1 n)
+        let S = SeesWith s.here (declared_in rest) in
+        in_then S _ (exec_with T a call n) _ (in_wider S (Sees s.here) _ (λ scope r. r.0) (in_exec s a h.0 q.0 n)) (stays_exec T call stays a n) (λ _. in_items (behind_noted s (Run a)) rest h.1 q.1 n)
     in_items s (Then (Asserts annots) rest) h q n =
-        let S = SeesWith s (declared_in rest) in
-        in_then S _ _ _ (in_wider S (Sees s) _ (λ scope r. r.0) (in_checks s annots q.0)) (stays_item T call stays (Asserts annots) n) (λ _. in_items s rest h.1 q.1 n)
+        let S = SeesWith s.here (declared_in rest) in
+        in_then S _ _ _ (in_wider S (Sees s.here) _ (λ scope r. r.0) (in_checks s annots h.0 q.0)) (stays_item T call stays (Asserts annots) n) (λ _. in_items (behind_noted s (Asserts annots)) rest h.1 q.1 n)
 
   -- a body is a block, whose scope is that of the parameters
-  in_body : (s : Sight) (body : Option Statement) → BodyRead AreAsserts body → BodyNoted s body → (n : ℕ) → In (Sees s) (judged_body T call calls body n)
-  in_body s None h q n = in_always (Sees s) none always_none
-  in_body s (Some (Block at items)) h q n = in_born s (declared_in items) _ (in_items s items h.0 q n)
+  in_body : (s : AnnotationSight) (body : Option Statement) → BodyRead AreAsserts body → BodyNoted s body → (n : ℕ) → In (Sees s.here) (judged_body T call calls body n)
+  in_body s None h q n = in_always (Sees s.here) none always_none
+  in_body s (Some (Block at items)) h q n = in_born s.here (declared_in items) _ (in_items s items h.0 q n)
   in_body s (Some _) h q n = absurd h
 
 -- ---- calls
 
+-- objects have blocks as a list of declarations and as what is in sight
+objects_found : (ds : List Declaration) (scope : Scope) → DeclarationsFound ds scope → AreFound (map object_of ds) scope
+objects_found [] scope h = tt
+objects_found (d ∷ ds) scope h = (h.0, objects_found ds scope h.1)
+
+declared_found : (ds : List Declaration) (scope : Scope) → AreFound (map object_of ds) scope → DeclarationsFound ds scope
+declared_found [] scope h = tt
+declared_found (d ∷ ds) scope h = (h.0, declared_found ds scope h.1)
+
+found_together : (a b : List Entity) (scope : Scope) → AreFound a scope → AreFound b scope → AreFound (a ++ b) scope
+found_together [] b scope h g = g
+found_together (e ∷ a) b scope h g = (h.0, found_together a b scope h.1 g)
+
+found_apart : (a b : List Entity) (scope : Scope) → AreFound (a ++ b) scope → AreFound a scope × AreFound b scope
+found_apart [] b scope h = (tt, h)
+found_apart (e ∷ a) b scope h = let rest = found_apart a b scope h.1 in ((h.0, rest.0), rest.1)
+
 record Known (p : TranslationUnit) (f : Function) : Type 0 where
   seen : FunctionSeen p f
   read : FunctionRead AreAsserts f
+  contract : ContractNoted p f
+  formed : MaybeFormed IsShortClause f.contract
 
-all_known : (p : TranslationUnit) → IsProgram p → (front fs : List Function) → front ++ fs ≡ p.funcs → FunctionsRead AreAsserts fs → AllByRecursion (Known p) fs
-all_known p q front [] is h = tt
-all_known p q front (f ∷ fs) is h =
-    (record { seen = function_seen p q front fs f is; read = h.0 }, all_known p q (front ++ f ∷ []) fs (append_assoc front (f ∷ []) fs ∙ is) h.1)
+all_known : (p : TranslationUnit) → IsProgram p → (front fs : List Function) → front ++ fs ≡ p.funcs → FunctionsRead AreAsserts fs → AllByRecursion (ContractNoted p) fs → ContractsFormed IsShortClause fs
+    → AllByRecursion (Known p) fs
+all_known p q front [] is h c g = tt
+all_known p q front (f ∷ fs) is h c g =
+    (record { seen = function_seen p q front fs f is; read = h.0; contract = c.0; formed = g.0 }, all_known p q (front ++ f ∷ []) fs (append_assoc front (f ∷ []) fs ∙ is) h.1 c.1 g.1)
 
 either : (P : Function → Type 0) (t : Bool) (f g : Option Function) → WhereAny P f → WhereAny P g → WhereAny P (if t then f else g)
 either P true f g h k = h
@@ -409,6 +551,116 @@ known_named : (p : TranslationUnit) (name : List ℕ) (fs : List Function) → A
 known_named p name [] h = tt
 known_named p name (f ∷ fs) h = either (Known p) (is_definition f && has_name (slice_get p.names f.name) name) (Some f) (function_named p name fs) h.0 (known_named p name fs h.1)
 
+-- ---- contracts, where parameters and globals have blocks
+
+abbrev Owns : TranslationUnit → Function → Scope → Type 0
+Owns p f scope = DeclarationsFound f.params scope × DeclarationsFound p.globals scope
+
+declared_at : (ds : List Declaration) (n : ℕ) (d : Declaration) (scope : Scope) → DeclarationsFound ds scope → slice_get ds n ≡ Some d → IsFound scope (number_of d)
+declared_at [] n d scope h e = absurd cc
+declared_at (c ∷ ds) zero d scope h e = let same : c ≡ d = cc in subst (λ d. IsFound scope (number_of d)) same h.0
+declared_at (c ∷ ds) (suc n) d scope h e = declared_at ds n d scope h.1 e
+
+own_found : (p : TranslationUnit) (f : Function) (b : Object) (scope : Scope) → IsOwn p f b → Owns p f scope → IsFound scope b.decl
+own_found p f b scope (OfFunction n d at decl ctype) h = subst (IsFound scope) (sym decl) (declared_at f.params n d scope h.0 at)
+own_found p f b scope (OfFile n d at decl ctype) h = subst (IsFound scope) (sym decl) (declared_at p.globals n d scope h.1 at)
+
+clause_here : (s : Sight) (formals : List ℕ) (t : PlainType) (k : Kind) → (sight_of_clause s formals t k).here ≡ s
+clause_here s formals t kind.Assert = refl
+clause_here s formals t kind.Requires = refl
+clause_here s formals t kind.Assumes = refl
+clause_here s formals t kind.Ensures = refl
+clause_here s formals t kind.Complete = refl
+clause_here s formals t kind.Disjoint = refl
+clause_here s formals t kind.Invariant = refl
+clause_here s formals t kind.Variant = refl
+clause_here s formals t kind.Rte = refl
+
+module _ (p : TranslationUnit) (f : Function) (c : FunctionContract) (stands : ContractStands p f c) where
+  abbrev own_sight : Kind → AnnotationSight
+  own_sight = sight_of_clause stands.seen (numbers_of_parameters f.params) f.result
+
+  -- a check of a clause of a contract, typed with what that sees
+  abbrev IsSeen : Check → Type 0
+  IsSeen c = TypedBy c.annotation.kind (own_sight c.annotation.kind) c.annotation.body × IsClauseKind c.annotation.kind
+
+  own_names : (k : Kind) (scope : Scope) → Owns p f scope → NamesFound (own_sight k).here scope
+  own_names k scope q =
+      subst (λ u. NamesFound u scope) (sym (clause_here stands.seen (numbers_of_parameters f.params) f.result k)) (λ x b is. own_found p f b scope (stands.owned x b is) q)
+
+  in_own : (r : Option Result) (k : Check) → IsSeen k → In (Owns p f) (judged_check r k.annotation)
+  in_own r k h = record {
+    at = λ s q.
+        let kind = k.annotation.kind in
+        (record { sight = own_sight kind; typed = h.0; found = clause_found kind (own_sight kind).here s.scope h.1 (own_names kind s.scope q) }, tt);
+  }
+
+  in_of : (b : Option ℕ) (hs : List Bool) (j : Judges) → In (Owns p f) j → In (Owns p f) (judged_of b hs j)
+  in_of None hs j h = h
+  in_of (Some k) hs j h = in_cond (Owns p f) (holds_at k hs) j none h (in_always (Owns p f) none always_none)
+
+  in_all : (bs : List NamedBehavior) (r : Option Result) (cs : List Check) (hs : List Bool) → AllByRecursion IsSeen cs → In (Owns p f) (judged_all bs r cs hs)
+  in_all bs r [] hs h = in_always (Owns p f) none always_none
+  in_all bs r (k ∷ cs) hs h =
+      in_then (Owns p f) _ (checked bs (names_with r) k.annotation k.behavior hs) _ (in_of k.behavior hs _ (in_own r k h.0)) (stays_checked bs (names_with r) k.annotation k.behavior hs)
+      (λ hs. in_all bs r cs hs h.1)
+
+  -- the checks of a contract
+  all_append : (a b : List Check) → AllByRecursion IsSeen a → AllByRecursion IsSeen b → AllByRecursion IsSeen (a ++ b)
+  all_append [] b h g = g
+  all_append (k ∷ a) b h g = (h.0, all_append a b h.1 g)
+
+  some_of : (t : Bool) (k : Check) (cs : List Check) → IsSeen k → AllByRecursion IsSeen cs → AllByRecursion IsSeen (cond t (k ∷ cs) cs)
+  some_of true k cs h g = (h, g)
+  some_of false k cs h g = g
+
+  -- clauses of these kinds
+  module _ (IsKind : Kind → Type 0) (among : (k : Kind) → IsKind k → IsBehaviorKind k) where
+    seen_clauses : (is : Kind → Bool) (b : Option ℕ) (annots : List Annotation) → AreClausesOf IsKind IsShortClause annots → ClausesTyped own_sight annots → AllByRecursion IsSeen (of_kind is b annots)
+    seen_clauses is b [] g h = tt
+    seen_clauses is b (a ∷ rest) g h =
+        some_of (is a.kind) (record { annotation = a; behavior = b }) (of_kind is b rest) (clause_typed a.kind (own_sight a.kind) a.body (among a.kind g.0.kind) h.0) (seen_clauses is b rest g.1 h.1)
+
+  seen_own : (is : Kind → Bool) (annots : List Annotation) → AreClausesOf IsOwnKind IsShortClause annots → ClausesTyped own_sight annots → AllByRecursion IsSeen (of_kind is None annots)
+  seen_own is annots g h = seen_clauses IsOwnKind own_kind is None annots g h
+
+  seen_behaviors : (is : Kind → Bool) (k : ℕ) (bs : List NamedBehavior) → BehaviorsFormed IsShortClause bs → BehaviorsTyped own_sight bs → AllByRecursion IsSeen (of_behaviors is k bs)
+  seen_behaviors is k [] g h = tt
+  seen_behaviors is k (b ∷ bs) g h =
+      all_append (of_kind is (Some k) b.clauses) (of_behaviors is (suc k) bs) (seen_clauses IsBehaviorKind (λ k i. i) is (Some k) b.clauses g.0 h.0) (seen_behaviors is (suc k) bs g.1 h.1)
+
+  seen_covers : (is : Kind → Bool) (annots : List Annotation) → AreClausesOf IsCoverKind NamesBehaviors annots → AllByRecursion IsSeen (of_kind is None annots)
+  seen_covers is [] g = tt
+  seen_covers is (a ∷ rest) g =
+      some_of (is a.kind) (record { annotation = a; behavior = None }) (of_kind is None rest) (cover_typed a.kind (own_sight a.kind) a.body g.0.kind g.0.body) (seen_covers is rest g.1)
+
+  in_entry_of : ContractFormed IsShortClause c → In (Owns p f) (judged_entry (Some c))
+  in_entry_of formed =
+      let own = of_kind is_requires None c.clauses in
+      let assumes = of_behaviors is_assumes 0 c.behaviors in
+      let requires = of_behaviors is_requires 0 c.behaviors in
+      let complete = of_kind is_complete None c.covers in
+      let disjoint = of_kind is_disjoint None c.covers in
+      in_all c.behaviors None (entry_checks c) (all_hold c.behaviors)
+      (all_append own (assumes ++ (requires ++ (complete ++ disjoint))) (seen_own is_requires c.clauses formed.clauses stands.typed.clauses)
+      (all_append assumes (requires ++ (complete ++ disjoint)) (seen_behaviors is_assumes 0 c.behaviors formed.behaviors stands.typed.behaviors)
+      (all_append requires (complete ++ disjoint) (seen_behaviors is_requires 0 c.behaviors formed.behaviors stands.typed.behaviors)
+      (all_append complete disjoint (seen_covers is_complete c.covers formed.covers) (seen_covers is_disjoint c.covers formed.covers)))))
+
+  in_ending_of : ContractFormed IsShortClause c → (hs : List Bool) (r : Result) → In (Owns p f) (judged_ending (Some c) hs r)
+  in_ending_of formed hs r =
+      in_all c.behaviors (Some r) (leave_checks c) hs
+      (all_append (of_kind is_ensures None c.clauses) (of_behaviors is_ensures 0 c.behaviors) (seen_own is_ensures c.clauses formed.clauses stands.typed.clauses) (seen_behaviors is_ensures 0 c.behaviors formed.behaviors stands.typed.behaviors))
+
+module _ (p : TranslationUnit) (f : Function) where
+  in_entry : (c : Option FunctionContract) → ((d : FunctionContract) → c ≡ Some d → ContractStands p f d) → MaybeFormed IsShortClause c → In (Owns p f) (judged_entry c)
+  in_entry None stands formed = in_always (Owns p f) none always_none
+  in_entry (Some c) stands formed = in_entry_of p f c (stands c refl) formed
+
+  in_ending : (c : Option FunctionContract) → ((d : FunctionContract) → c ≡ Some d → ContractStands p f d) → MaybeFormed IsShortClause c → (hs : List Bool) (r : Result) → In (Owns p f) (judged_ending c hs r)
+  in_ending None stands formed hs r = in_always (Owns p f) none always_none
+  in_ending (Some c) stands formed hs r = in_ending_of p f c (stands c refl) formed hs r
+
 module _ (p : TranslationUnit) (call : Callee) (stays : (at : Place) (f : Use) (vs : List Value) → Stays (call at f vs)) (calls : InCalls) (c : (at : Place) (f : Use) (vs : List Value) → Always (calls at f vs)) where
   abbrev T : Tables
   T = tables_of p
@@ -417,18 +669,40 @@ module _ (p : TranslationUnit) (call : Callee) (stays : (at : Place) (f : Use) (
   abbrev BodySight : {f : Function} → Known p f → Sight
   BodySight {f = f} k = with_parameters (inner k.seen.sight) f.params
 
-  in_own_body : (f : Function) (k : Known p f) (n : ℕ) → In (Sees (BodySight k)) (judged_body T call calls f.body n)
-  in_own_body f k n = in_body T call stays calls c (BodySight k) f.body k.read.body k.seen.noted n
+  -- where a call has begun
+  abbrev Begun : {f : Function} → Known p f → Scope → Type 0
+  Begun {f = f} k scope = Sees (BodySight k) scope × Owns p f scope
 
-  in_begun : (f : Function) (k : Known p f) (n : ℕ) → In (Sees (BodySight k)) (judged_then (judged_entry f.contract) (entry f.contract) (λ hs. judged_result T call calls f hs n))
+  -- what is in sight before it, and all globals
+  abbrev all_around : {f : Function} → Known p f → List Entity
+  all_around k = k.seen.sight.entities ++ map object_of p.globals
+
+  around_found : {f : Function} (k : Known p f) → AreFound (all_around k) (global_scope p)
+  around_found k = found_together k.seen.sight.entities (map object_of p.globals) (global_scope p) k.seen.found (objects_found p.globals (global_scope p) (globals_in_scope p))
+
+  begun_with : {f : Function} (k : Known p f) (scope : Scope) → AreFound (all_around k) scope × DeclarationsFound f.params scope → Begun k scope
+  begun_with {f = f} k scope h =
+      let apart = found_apart k.seen.sight.entities (map object_of p.globals) scope h.0 in
+      (found_parameters (inner k.seen.sight) f.params scope apart.0 h.1, (h.1, declared_found p.globals scope apart.1))
+
+  in_own_body : (f : Function) (k : Known p f) (n : ℕ) → In (Begun k) (judged_body T call calls f.body n)
+  in_own_body f k n = in_wider (Begun k) (Sees (BodySight k)) _ (λ scope q. q.0) (in_body T call stays calls c (in_body_sight (BodySight k)) f.body k.read.body k.seen.noted n)
+
+  in_own_entry : (f : Function) (k : Known p f) → In (Begun k) (judged_entry f.contract)
+  in_own_entry f k = in_wider (Begun k) (Owns p f) _ (λ scope q. q.1) (in_entry p f f.contract k.contract k.formed)
+
+  in_own_ending : (f : Function) (k : Known p f) (hs : List Bool) (r : Result) → In (Begun k) (judged_ending f.contract hs r)
+  in_own_ending f k hs r = in_wider (Begun k) (Owns p f) _ (λ scope q. q.1) (in_ending p f f.contract k.contract k.formed hs r)
+
+  in_begun : (f : Function) (k : Known p f) (n : ℕ) → In (Begun k) (judged_then (judged_entry f.contract) (entry f.contract) (λ hs. judged_result T call calls f hs n))
   in_begun f k n =
-      in_then (Sees (BodySight k)) (judged_entry f.contract) (entry f.contract) _ (in_always (Sees (BodySight k)) _ (no_entry f.contract k.read.no_contract)) (stays_entry f.contract k.read.no_contract)
-      (λ hs. in_before (Sees (BodySight k)) (judged_body T call calls f.body n) (λ s. returned_by f (body_with T f.body call n s)) _ (in_own_body f k n)
-      (λ v. no_ending f.contract hs (record { ctype = f.result; value = v }) k.read.no_contract))
+      in_then (Begun k) (judged_entry f.contract) (entry f.contract) _ (in_own_entry f k) (stays_entry f.contract)
+      (λ hs. in_then (Begun k) (judged_body T call calls f.body n) (λ s. returned_by f (body_with T f.body call n s)) _ (in_own_body f k n)
+      (record { at = λ s. returned_stays f (body_with T f.body call n s) s (body_stays T call stays f.body n s) }) (λ v. in_own_ending f k hs (record { ctype = f.result; value = v })))
 
   always_call : (f : Option Function) → WhereAny (Known p) f → (n : ℕ) (at : Place) (vs : List Value) → Always (judged_call T call calls (global_scope p) f n at vs)
   always_call None k n at vs = always_none
-  always_call (Some f) k n at vs = record { at = λ s. judged_led (Sees (BodySight k)) (begin s) _ (begun s) (λ _. in_begun f k n) }
+  always_call (Some f) k n at vs = record { at = λ s. judged_led (Begun k) (begin s) _ (begun s) (λ _. in_begun f k n) }
     where
       begin : Evaluation (Unit {0})
       begin = step >> (frame >> alone (global_scope p) >> parameters T at f.params vs >> mark None)
@@ -436,54 +710,54 @@ module _ (p : TranslationUnit) (call : Callee) (stays : (at : Place) (f : Use) (
       inside : Evaluation (Unit {0})
       inside = frame >> alone (global_scope p) >> parameters T at f.params vs
 
-      seen : (t : State) → Leads (Sees (BodySight k)) (inside t)
+      seen : (t : State) → Leads (Begun k) (inside t)
       seen t =
           let S : Scope → Type 0 = λ scope. scope ≡ global_scope p in
-          leads_bind S (Sees (BodySight k)) ((frame >> alone (global_scope p)) t) (λ _. parameters T at f.params vs)
+          leads_bind S (Begun k) ((frame >> alone (global_scope p)) t) (λ _. parameters T at f.params vs)
           (leads_bind (λ scope. Unit {0}) S (frame t) (λ _. alone (global_scope p)) (leads_same (λ scope. Unit {0}) frame stays_frame t tt) (λ u v q. refl))
-          (λ u v q. leads_to _ (Sees (BodySight k)) (parameters T at f.params vs v)
-          (leads_parameters T at f.params vs k.seen.sight.entities v (subst (AreFound k.seen.sight.entities) (sym q) k.seen.found))
-          (λ scope r. found_parameters (inner k.seen.sight) f.params scope r.0 r.1))
+          (λ u v q. leads_to _ (Begun k) (parameters T at f.params vs v)
+          (leads_parameters T at f.params vs (all_around k) v (subst (AreFound (all_around k)) (sym q) (around_found k)))
+          (begun_with k))
 
-      begun : (s : State) → Leads (Sees (BodySight k)) (begin s)
+      begun : (s : State) → Leads (Begun k) (begin s)
       begun s =
-          leads_bind (λ scope. Unit {0}) (Sees (BodySight k)) (step s) (λ _. inside >> mark None) (leads_same (λ scope. Unit {0}) step stays_step s tt)
-          (λ u t q. leads_bind (Sees (BodySight k)) (Sees (BodySight k)) (inside t) (λ _. mark None) (seen t)
-          (λ u v r. leads_same (Sees (BodySight k)) (mark None) (stays_mark None) v r))
+          leads_bind (λ scope. Unit {0}) (Begun k) (step s) (λ _. inside >> mark None) (leads_same (λ scope. Unit {0}) step stays_step s tt)
+          (λ u t q. leads_bind (Begun k) (Begun k) (inside t) (λ _. mark None) (seen t)
+          (λ u v r. leads_same (Begun k) (mark None) (stays_mark None) v r))
 
-  main_over : (f : Function) (hs : List Bool) (o : Outcome (Unit {0})) → f.contract ≡ None → AllInSight (judged_behind_main f hs o)
-  main_over f hs (Normal u t) e = (no_ending f.contract hs _ e).at t
-  main_over f hs (Stop (Leaves Breaks) t) e = tt
-  main_over f hs (Stop (Leaves Continues) t) e = tt
-  main_over f hs (Stop (Leaves (Returns None)) t) e = (no_ending f.contract hs _ e).at t
-  main_over f hs (Stop (Leaves (Returns (Some v))) t) e = (no_ending f.contract hs _ e).at t
-  main_over f hs (Stop (Over x) t) e = tt
-  main_over f hs (Stop Stuck t) e = tt
+  main_over : (f : Function) (k : Known p f) (hs : List Bool) (s : State) (o : Outcome (Unit {0})) → Begun k s.scope → scope_after o ≡ s.scope → AllInSight (judged_behind_main f hs o)
+  main_over f k hs s (Normal u t) q e = (in_own_ending f k hs _).at t (subst (Begun k) (sym e) q)
+  main_over f k hs s (Stop (Leaves Breaks) t) q e = tt
+  main_over f k hs s (Stop (Leaves Continues) t) q e = tt
+  main_over f k hs s (Stop (Leaves (Returns None)) t) q e = (in_own_ending f k hs _).at t (subst (Begun k) (sym e) q)
+  main_over f k hs s (Stop (Leaves (Returns (Some v))) t) q e = (in_own_ending f k hs _).at t (subst (Begun k) (sym e) q)
+  main_over f k hs s (Stop (Over x) t) q e = tt
+  main_over f k hs s (Stop Stuck t) q e = tt
 
   in_main : (f : Option Function) → WhereAny (Known p) f → (n : ℕ) → In (λ scope. scope ≡ global_scope p) (judged_main T call calls f n)
   in_main None k n = in_always _ none always_none
   in_main (Some f) k n = record {
-    at = λ s q. judged_led (Sees (BodySight k)) (begin s) _ (begun s q) (λ _. in_then (Sees (BodySight k)) (judged_entry f.contract) (entry f.contract) _
-        (in_always (Sees (BodySight k)) _ (no_entry f.contract k.read.no_contract)) (stays_entry f.contract k.read.no_contract) (λ hs. whole hs));
+    at = λ s q. judged_led (Begun k) (begin s) _ (begun s q) (λ _. in_then (Begun k) (judged_entry f.contract) (entry f.contract) _
+        (in_own_entry f k) (stays_entry f.contract) (λ hs. whole hs));
   }
     where
       begin : Evaluation (Unit {0})
       begin = frame >> births T.structs f.params >> mark None
 
-      begun : (s : State) → s.scope ≡ global_scope p → Leads (Sees (BodySight k)) (begin s)
+      begun : (s : State) → s.scope ≡ global_scope p → Leads (Begun k) (begin s)
       begun s q =
           let S : Scope → Type 0 = λ scope. scope ≡ global_scope p in
-          leads_bind (Sees (BodySight k)) (Sees (BodySight k)) ((frame >> births T.structs f.params) s) (λ _. mark None)
-          (leads_bind S (Sees (BodySight k)) (frame s) (λ _. births T.structs f.params) (leads_same S frame stays_frame s q)
-          (λ u t r. leads_to _ (Sees (BodySight k)) (births T.structs f.params t)
-          (leads_births T.structs f.params k.seen.sight.entities t (subst (AreFound k.seen.sight.entities) (sym r) k.seen.found))
-          (λ scope v. found_parameters (inner k.seen.sight) f.params scope v.0 v.1)))
-          (λ u t r. leads_same (Sees (BodySight k)) (mark None) (stays_mark None) t r)
+          leads_bind (Begun k) (Begun k) ((frame >> births T.structs f.params) s) (λ _. mark None)
+          (leads_bind S (Begun k) (frame s) (λ _. births T.structs f.params) (leads_same S frame stays_frame s q)
+          (λ u t r. leads_to _ (Begun k) (births T.structs f.params t)
+          (leads_births T.structs f.params (all_around k) t (subst (AreFound (all_around k)) (sym r) (around_found k)))
+          (begun_with k)))
+          (λ u t r. leads_same (Begun k) (mark None) (stays_mark None) t r)
 
-      whole : (hs : List Bool) → In (Sees (BodySight k)) (λ s. judged_body T call calls f.body n s ++ judged_behind_main f hs (body_with T f.body call n s))
+      whole : (hs : List Bool) → In (Begun k) (λ s. judged_body T call calls f.body n s ++ judged_behind_main f hs (body_with T f.body call n s))
       whole hs = record {
         at = λ s q. both_in_sight (judged_body T call calls f.body n s) (judged_behind_main f hs (body_with T f.body call n s)) ((in_own_body f k n).at s q)
-            (main_over f hs (body_with T f.body call n s) k.read.no_contract);
+            (main_over f k hs s (body_with T f.body call n s) q (body_stays T call stays f.body n s));
       }
 
 -- ---- whole runs
@@ -506,4 +780,4 @@ module _ (p : TranslationUnit) (known : AllByRecursion (Known p) p.funcs) where
       (λ u. in_main p (call_of p n) (stays_call p n) (judged_calls p n) (always_calls n) (function_named p (codes "main") p.funcs) (known_named p (codes "main") p.funcs known) n)
 
 pub judged_in_sight : JudgedInSight
-judged_in_sight p q input n = (in_whole p (all_known p q [] p.funcs refl q.effects) (suc n)).at _ refl
+judged_in_sight p q input n = (in_whole p (all_known p q [] p.funcs refl q.effects q.contracts_noted q.contracts) (suc n)).at _ refl

@@ -48,7 +48,7 @@ stays_outcome : {A B : Type 0} (s : State) (o : Outcome A) (f : A → Evaluation
 stays_outcome s (Normal a t) f w h = (h a).at t ∙ w
 stays_outcome s (Stop e t) f w h = w
 
-stays_bind : {A B : Type 0} (m : Evaluation A) (f : A → Evaluation B) → Stays m → ((a : A) → Stays (f a)) → Stays (m >>= f)
+pub stays_bind : {A B : Type 0} (m : Evaluation A) (f : A → Evaluation B) → Stays m → ((a : A) → Stays (f a)) → Stays (m >>= f)
 stays_bind m f g h = record { at = λ s. stays_outcome s (m s) f (g.at s) h }
 
 pub stays_then : {A B : Type 0} (m : Evaluation A) (f : Evaluation B) → Stays m → Stays f → Stays (m >> f)
@@ -60,7 +60,7 @@ stays_stop e = record { at = λ s. refl }
 pub stays_give : {A : Type 0} (a : A) → Stays (give a)
 stays_give a = record { at = λ s. refl }
 
-stays_cond : {A : Type 0} (t : Bool) (a b : Evaluation A) → Stays a → Stays b → Stays (cond t a b)
+pub stays_cond : {A : Type 0} (t : Bool) (a b : Evaluation A) → Stays a → Stays b → Stays (cond t a b)
 stays_cond true a b f g = f
 stays_cond false a b f g = g
 
@@ -145,7 +145,7 @@ stays_write_youngest at k v = record { at = λ s. (stays_write at (Into (length 
 
 -- ---- annotations
 
-judged_stays : (a : Annotation) (answer : Answer) (s : State) → scope_after (judged a answer s) ≡ s.scope
+pub judged_stays : (a : Annotation) (answer : Answer) (s : State) → scope_after (judged a answer s) ≡ s.scope
 judged_stays a (Says true n) s = refl
 judged_stays a (Says false n) s = refl
 judged_stays a (SaysNothing n) s = refl

@@ -92,7 +92,7 @@ globals_from : (ds : List Declaration) → FoundBehind ds
 globals_from [] ls k = tt
 globals_from (d ∷ ds) ls k = found_behind_literals d ds (globals_from ds) ls k
 
-globals_in_scope : (p : TranslationUnit) → DeclarationsFound p.globals (global_scope p)
+pub globals_in_scope : (p : TranslationUnit) → DeclarationsFound p.globals (global_scope p)
 globals_in_scope p = globals_from p.globals p.texts 1
 
 -- ---- items that declare no object but those of a scope

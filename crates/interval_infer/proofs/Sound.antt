@@ -90,7 +90,7 @@ has_type I64 (negsuc n) h = let l = h.above in lt-ltb n 9223372036854775808 (ome
 has_type U64 (pos n) h = let l = h.below in lt-ltb n 18446744073709551616 (omega (arith, ints, l))
 has_type U64 (negsuc n) h = let l = h.above in absurd (omega (arith, ints, l))
 
-type_ordered : (k : CInt) → IsRange (type_range k)
+pub type_ordered : (k : CInt) → IsRange (type_range k)
 type_ordered I8 = record { ordered = omega (arith, ints) }
 type_ordered U8 = record { ordered = omega (arith, ints) }
 type_ordered I16 = record { ordered = omega (arith, ints) }
@@ -325,7 +325,7 @@ binary_ordered operator.Ge a b r h k e = absurd cc
 hull_ordered : (a b : Range) → IsRange a → IsRange (hull a b)
 hull_ordered a b h = let o = h.ordered in record { ordered = omega (arith, ints, clamps, o) }
 
-offsets_ordered : IsRange offset_range
+pub offsets_ordered : IsRange offset_range
 offsets_ordered = record { ordered = omega (arith, ints) }
 
 start_ordered : IsRange start_range

@@ -4,3 +4,4 @@ pub mod Terms
 pub mod Bases
 pub mod Judged
 pub mod InSight
+pub mod Seen

@@ -1,4 +1,5 @@
-//! Ranges over whole trees. Faults of all parts are met before one is chosen: the first of them in the text.
+//! Ranges over whole trees, where `\result` may be in sight, with the range of its type. Faults of all parts are met before one is chosen: the
+//! first of them in the text.
 
 ghost use Rattle.std.specs.Prelude.{◌≡◌, ℕ, IfErr, IfOk, IfSome, OnOk, [], map, option_map};
 ghost use Rattle.c_syntax.specs.declared.place.Place.{Place};
@@ -11,135 +12,150 @@ ghost use Rattle.c_model.specs.Ranges.{IsRange};
 ghost use Rattle.c_model.specs.TermRanges.{address_range, ranged_annotations, ranged_clause, ranged_links, ranged_pred, ranged_term, ranged_zone, ranged_zones};
 ghost use Rattle.c_scopes.specs.Answers.{Answers, IsRefusal};
 ghost use Rattle.interval_infer.specs.Answers.{plain_zone};
+ghost use Rattle.interval_infer.specs.Seen.{plain_seen};
 
 use crate::form::{binary_range, cast_range, hull, no_range, or_no_range, unary_range};
 use crate::pointer::{
     address_range, distance_range, exactly, has_extent, held_range, member_range, moved_range,
     place_range, start_range, told_range,
 };
+use crate::seen::named_range;
 use c_scopes::fault::{TypeFault, both};
 use c_syntax::logic::{Annot, Body, Links, Pred, PredKind, Term, TermKind, Zone, ZoneKind, Zones};
 use c_syntax::{CType, Place, Range};
 
 /// Sets the ranges of a term and of all terms in it.
 #[cycle(ranges)]
-fn range_term(t: &mut Term) -> Result<(), TypeFault>
-    ensures ranged { Answers (λ _. plain_term t.new) (ranged_term [] (plain_term t.old)) result }
+fn range_term(seen: Option<&CType>, t: &mut Term) -> Result<(), TypeFault>
+    ensures ranged { Answers (λ _. plain_term t.new) (ranged_term (plain_seen seen.entry) (plain_term t.old)) result }
     ensures sure { IfErr result IsRefusal }
     ensures ordered { OnOk result (IsRange t.new.range) }
 {
-    t.range = range_kind(t.place, &t.ctype, &mut t.kind)?;
+    t.range = range_kind(seen, t.place, &t.ctype, &mut t.kind)?;
     Ok(())
 }
 
 // The range of a term of this form, after those of the terms in it are set.
 #[cycle(ranges)]
-fn range_kind(at: Place, ctype: &Option<CType>, kind: &mut TermKind) -> Result<Range, TypeFault>
+fn range_kind(
+    seen: Option<&CType>,
+    at: Place,
+    ctype: &Option<CType>,
+    kind: &mut TermKind,
+) -> Result<Range, TypeFault>
     ensures ranged { (r : Range) → let t = option_map plain_type ctype.now in
-        Answers (plain_term_kind at kind.new t) (ranged_term [] (plain_term_kind at kind.old t r)) result }
+        Answers (plain_term_kind at kind.new t) (ranged_term (plain_seen seen.entry) (plain_term_kind at kind.old t r)) result }
     ensures sure { IfErr result IsRefusal }
 {
     match kind {
         TermKind::Number(n) => Ok(exactly(*n)),
         TermKind::Letter(n) => Ok(exactly(i128::from(*n))),
         TermKind::Variable(_) => or_no_range(place_range(ctype), at),
-        TermKind::Unary(op, a) => or_no_range(unary_range(*op, range_one(a)?), at),
+        TermKind::Unary(op, a) => or_no_range(unary_range(*op, range_one(seen, a)?), at),
         TermKind::Binary(op, a, b) => {
-            let (first, second) = range_two(a, b)?;
+            let (first, second) = range_two(seen, a, b)?;
             or_no_range(binary_range(*op, first, second), at)
         }
-        TermKind::Cast(to, a) => or_no_range(cast_range(to, range_one(a)?), at),
+        TermKind::Cast(to, a) => or_no_range(cast_range(to, range_one(seen, a)?), at),
         TermKind::Choice(c, a, b) => {
-            let condition = range_pred(c);
-            let first = range_term(a);
-            let second = range_term(b);
+            let condition = range_pred(seen, c);
+            let first = range_term(seen, a);
+            let second = range_term(seen, b);
             let branches = both(first, second);
             both(condition, branches)?;
             Ok(hull(a.range, b.range))
         }
         TermKind::Null => Ok(start_range()),
-        TermKind::Deref(a) => or_no_range(held_range(ctype, Some(range_one(a)?)), at),
+        TermKind::Deref(a) => or_no_range(held_range(ctype, Some(range_one(seen, a)?)), at),
         TermKind::Member(offset, a) => {
-            let address = member_range(*offset, range_place(a)?);
+            let address = member_range(*offset, range_place(seen, a)?);
             or_no_range(held_range(ctype, address), at)
         }
-        TermKind::Address(a) => or_no_range(range_place(a)?, at),
+        TermKind::Address(a) => or_no_range(range_place(seen, a)?, at),
         TermKind::Moved(op, size, a, b) => {
-            let (pointer, count) = range_two(a, b)?;
+            let (pointer, count) = range_two(seen, a, b)?;
             or_no_range(moved_range(*op, *size, pointer, count), at)
         }
         TermKind::Difference(_, a, b) => {
-            range_two(a, b)?;
+            range_two(seen, a, b)?;
             Ok(distance_range())
         }
         TermKind::Told(fact, a) => {
-            range_term(a)?;
+            range_term(seen, a)?;
             Ok(told_range(*fact))
         }
+        TermKind::Named(name) => or_no_range(named_range(seen, name.decl), at),
+        TermKind::At(_, a) => range_one(seen, a),
     }
 }
 
 /// Sets the ranges of a term and of all terms in it, and gives its own.
 #[cycle(ranges)]
-fn range_one(t: &mut Term) -> Result<Range, TypeFault>
-    ensures ranged { Answers (λ _. plain_term t.new) (ranged_term [] (plain_term t.old)) result }
+fn range_one(seen: Option<&CType>, t: &mut Term) -> Result<Range, TypeFault>
+    ensures ranged { Answers (λ _. plain_term t.new) (ranged_term (plain_seen seen.entry) (plain_term t.old)) result }
     ensures sure { IfErr result IsRefusal }
     ensures value { IfOk result (λ r. r ≡ t.new.range) }
     ensures ordered { IfOk result IsRange }
 {
-    range_term(t)?;
+    range_term(seen, t)?;
     Ok(t.range)
 }
 
 /// Sets the ranges of a place and of all terms in it, and gives that of its address. A term that is no place has none.
 #[cycle(ranges)]
-fn range_place(t: &mut Term) -> Result<Option<Range>, TypeFault>
-    ensures ranged { Answers (λ _. plain_term t.new) (ranged_term [] (plain_term t.old)) result }
+fn range_place(seen: Option<&CType>, t: &mut Term) -> Result<Option<Range>, TypeFault>
+    ensures ranged { Answers (λ _. plain_term t.new) (ranged_term (plain_seen seen.entry) (plain_term t.old)) result }
     ensures sure { IfErr result IsRefusal }
     ensures address { IfOk result (λ o. o ≡ address_range (plain_term t.new)) }
     ensures ordered { IfOk result (λ o. IfSome o IsRange) }
 {
-    range_term(t)?;
-    Ok(address_range(t))
+    range_term(seen, t)?;
+    Ok(address_range(seen, t))
 }
 
 /// Sets the ranges of two terms and of all terms in them, and gives their own.
 #[cycle(ranges)]
-fn range_two(a: &mut Term, b: &mut Term) -> Result<(Range, Range), TypeFault>
+fn range_two(seen: Option<&CType>, a: &mut Term, b: &mut Term) -> Result<(Range, Range), TypeFault>
     ensures ranged { Answers (λ _. (plain_term a.new, plain_term b.new))
-        (pair_of (ranged_term [] (plain_term a.old)) (ranged_term [] (plain_term b.old))) result }
+        (pair_of (ranged_term (plain_seen seen.entry) (plain_term a.old)) (ranged_term (plain_seen seen.entry) (plain_term b.old))) result }
     ensures sure { IfErr result IsRefusal }
     ensures left { IfOk result (λ r. r.0 ≡ a.new.range) }
     ensures right { IfOk result (λ r. r.1 ≡ b.new.range) }
     ensures ordered { IfOk result (λ r. IsRange r.0 × IsRange r.1) }
 {
-    let first = range_term(a);
-    let second = range_term(b);
+    let first = range_term(seen, a);
+    let second = range_term(seen, b);
     both(first, second)?;
     Ok((a.range, b.range))
 }
 
 /// Sets the ranges of the terms in a zone.
 #[cycle(ranges)]
-fn range_zone(z: &mut Zone) -> Result<(), TypeFault>
-    ensures ranged { Answers (λ _. plain_zone z.new) (ranged_zone [] (plain_zone z.old)) result }
+fn range_zone(seen: Option<&CType>, z: &mut Zone) -> Result<(), TypeFault>
+    ensures ranged { Answers (λ _. plain_zone z.new) (ranged_zone (plain_seen seen.entry) (plain_zone z.old)) result }
     ensures sure { IfErr result IsRefusal }
 {
-    range_zone_kind(z.place, z.size, &mut z.kind)
+    range_zone_kind(seen, z.place, z.size, &mut z.kind)
 }
 
 // Those of a zone of this form, whose elements have a size in bytes.
 #[cycle(ranges)]
-fn range_zone_kind(at: Place, size: u32, kind: &mut ZoneKind) -> Result<(), TypeFault>
-    ensures ranged { (align : ℕ) → Answers (λ _. plain_zone_kind at size align kind.new) (ranged_zone [] (plain_zone_kind at size align kind.old)) result }
+fn range_zone_kind(
+    seen: Option<&CType>,
+    at: Place,
+    size: u32,
+    kind: &mut ZoneKind,
+) -> Result<(), TypeFault>
+    ensures ranged { (align : ℕ) → Answers (λ _. plain_zone_kind at size align kind.new)
+        (ranged_zone (plain_seen seen.entry) (plain_zone_kind at size align kind.old)) result }
     ensures sure { IfErr result IsRefusal }
 {
     match kind {
-        ZoneKind::Object(a) => range_term(a),
+        ZoneKind::Object(a) => range_term(seen, a),
         ZoneKind::Elements(a, lo, hi) => {
-            let pointer = range_term(a);
-            let first = range_term(lo);
-            let second = range_term(hi);
+            let pointer = range_term(seen, a);
+            let first = range_term(seen, lo);
+            let second = range_term(seen, hi);
             let bounds = both(first, second);
             both(pointer, bounds)?;
             if has_extent(size, a.range, lo.range, hi.range) {
@@ -153,15 +169,15 @@ fn range_zone_kind(at: Place, size: u32, kind: &mut ZoneKind) -> Result<(), Type
 
 /// Sets the ranges of the terms in zones.
 #[cycle(ranges)]
-fn range_zones(zones: &mut Zones) -> Result<(), TypeFault>
-    ensures ranged { Answers (λ _. plain_zones zones.new) (ranged_zones [] (plain_zones zones.old)) result }
+fn range_zones(seen: Option<&CType>, zones: &mut Zones) -> Result<(), TypeFault>
+    ensures ranged { Answers (λ _. plain_zones zones.new) (ranged_zones (plain_seen seen.entry) (plain_zones zones.old)) result }
     ensures sure { IfErr result IsRefusal }
 {
     match zones {
         Zones::End => Ok(()),
         Zones::More(z, rest) => {
-            let first = range_zone(z);
-            let others = range_zones(rest);
+            let first = range_zone(seen, z);
+            let others = range_zones(seen, rest);
             both(first, others)
         }
     }
@@ -169,15 +185,15 @@ fn range_zones(zones: &mut Zones) -> Result<(), TypeFault>
 
 // Sets the ranges of the relations of a chain.
 #[cycle(ranges)]
-fn range_links(links: &mut Links) -> Result<(), TypeFault>
-    ensures ranged { Answers (λ _. plain_links links.new) (ranged_links [] (plain_links links.old)) result }
+fn range_links(seen: Option<&CType>, links: &mut Links) -> Result<(), TypeFault>
+    ensures ranged { Answers (λ _. plain_links links.new) (ranged_links (plain_seen seen.entry) (plain_links links.old)) result }
     ensures sure { IfErr result IsRefusal }
 {
     match links {
         Links::End => Ok(()),
         Links::Link(_, _, t, rest) => {
-            let first = range_term(t);
-            let others = range_links(rest);
+            let first = range_term(seen, t);
+            let others = range_links(seen, rest);
             both(first, others)
         }
     }
@@ -185,65 +201,74 @@ fn range_links(links: &mut Links) -> Result<(), TypeFault>
 
 /// Sets the ranges of the terms in a predicate.
 #[cycle(ranges)]
-fn range_pred(p: &mut Pred) -> Result<(), TypeFault>
-    ensures ranged { Answers (λ _. plain_pred p.new) (ranged_pred [] (plain_pred p.old)) result }
+fn range_pred(seen: Option<&CType>, p: &mut Pred) -> Result<(), TypeFault>
+    ensures ranged { Answers (λ _. plain_pred p.new) (ranged_pred (plain_seen seen.entry) (plain_pred p.old)) result }
     ensures sure { IfErr result IsRefusal }
 {
-    range_pred_kind(&mut p.kind)
+    range_pred_kind(seen, &mut p.kind)
 }
 
 #[cycle(ranges)]
-fn range_pred_kind(kind: &mut PredKind) -> Result<(), TypeFault>
-    ensures ranged { (at : Place) → Answers (λ _. plain_pred_kind at kind.new) (ranged_pred [] (plain_pred_kind at kind.old)) result }
+fn range_pred_kind(seen: Option<&CType>, kind: &mut PredKind) -> Result<(), TypeFault>
+    ensures ranged { (at : Place) → Answers (λ _. plain_pred_kind at kind.new) (ranged_pred (plain_seen seen.entry) (plain_pred_kind at kind.old)) result }
     ensures sure { IfErr result IsRefusal }
 {
     match kind {
         PredKind::Truth(_) => Ok(()),
-        PredKind::NonZero(t) => range_term(t),
+        PredKind::NonZero(t) => range_term(seen, t),
         PredKind::Chain(t, links) => {
-            let first = range_term(t);
-            let others = range_links(links);
+            let first = range_term(seen, t);
+            let others = range_links(seen, links);
             both(first, others)
         }
-        PredKind::Not(p) => range_pred(p),
+        PredKind::Not(p) => range_pred(seen, p),
         PredKind::Connected(_, p, q) => {
-            let first = range_pred(p);
-            let second = range_pred(q);
+            let first = range_pred(seen, p);
+            let second = range_pred(seen, q);
             both(first, second)
         }
         PredKind::Choice(c, p, q) => {
-            let condition = range_pred(c);
-            let first = range_pred(p);
-            let second = range_pred(q);
+            let condition = range_pred(seen, c);
+            let first = range_pred(seen, p);
+            let second = range_pred(seen, q);
             let branches = both(first, second);
             both(condition, branches)
         }
-        PredKind::Asks(_, z) => range_zone(z),
-        PredKind::Separated(zones) => range_zones(zones),
+        PredKind::Asks(_, z) => range_zone(seen, z),
+        PredKind::Separated(zones) => range_zones(seen, zones),
     }
 }
 
 // Sets the ranges of the terms in a clause, where it is a predicate.
-fn range_body(body: &mut Body) -> Result<(), TypeFault>
-    ensures ranged { Answers (λ _. plain_body body.new) (ranged_clause (plain_body body.old)) result }
+fn range_body(seen: Option<&CType>, body: &mut Body) -> Result<(), TypeFault>
+    ensures ranged { Answers (λ _. plain_body body.new) (ranged_clause (plain_seen seen.entry) (plain_body body.old)) result }
     ensures sure { IfErr result IsRefusal }
 {
     match body {
         Body::Raw(_) => Ok(()),
-        Body::Truth(p) => range_pred(p),
+        Body::Truth(p) => range_pred(seen, p),
+        Body::Names(_) => Ok(()),
     }
 }
 
-/// Sets the ranges of the terms in annotations, or gives the first fault.
-pub fn clause_ranges(annots: &mut Vec<Annot>) -> Result<(), TypeFault>
-    ensures ranged { Answers (λ _. map plain_annot annots.new.items) (ranged_annotations (map plain_annot annots.old.items)) result }
+/// Sets the ranges of the terms in annotations, where the result of a function of this type is in sight, or gives the first fault.
+pub fn annotation_ranges(seen: Option<&CType>, annots: &mut Vec<Annot>) -> Result<(), TypeFault>
+    ensures ranged { Answers (λ _. map plain_annot annots.new.items) (ranged_annotations (plain_seen seen.entry) (map plain_annot annots.old.items)) result }
     ensures sure { IfErr result IsRefusal }
 {
     let mut done = Ok(());
     for i in 0..annots.len() {
         let annot = &mut annots[i];
-        let clause = range_body(&mut annot.body);
+        let clause = range_body(seen, &mut annot.body);
         done = both(done, clause);
     }
     done
+}
+
+/// Sets the ranges of the terms in annotations of statements, or gives the first fault.
+pub fn clause_ranges(annots: &mut Vec<Annot>) -> Result<(), TypeFault>
+    ensures ranged { Answers (λ _. map plain_annot annots.new.items) (ranged_annotations [] (map plain_annot annots.old.items)) result }
+    ensures sure { IfErr result IsRefusal }
+{
+    annotation_ranges(None, annots)
 }

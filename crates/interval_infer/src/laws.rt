@@ -45,8 +45,8 @@ pub fn bases()
 {}
 
 /// Wherever a run of a program of an accepted text judges an annotation, from its start on, each value of a term lies in the range of the term: the judgement
-/// is sound, so that loads fit there, and `\result` does, where it is in sight. And the annotation is typed with what is in sight where it stands, each object
-/// of which has a block in that state.
+/// is sound, so that loads fit there, and `\result` does, where it is in sight. And the annotation is typed with what is in sight where it stands: in that
+/// state an assert finds a block of each object in sight, and a clause of a contract one of each object that it may name.
 pub fn judgements()
     ensures fit { SoundJudgementsFit }
     ensures lie { JudgedTermsLieInRanges }

@@ -5,10 +5,12 @@
 #![tactic(auto)]
 
 mod annotation;
+mod contract;
 mod form;
 pub mod laws;
 mod pointer;
 mod program;
+mod seen;
 mod statement;
 
 pub use annotation::clause_ranges;

@@ -1,11 +1,12 @@
 //! The ranges of pointers, places and zones. The range of a pointer is that of its offset in its block, in bytes.
 
-ghost use Rattle.std.specs.Prelude.{◌≡◌, IfSome, [], option_map};
+ghost use Rattle.std.specs.Prelude.{◌≡◌, IfSome, Some, option_map};
 ghost use Rattle.c_syntax.specs.Ctypes.{plain_type};
 ghost use Rattle.c_syntax.specs.Logic.{plain_term};
 ghost use Rattle.c_model.specs.Ranges.{IsRange, from_to};
 ghost use Rattle.c_model.specs.TermRanges.{TermRanged, address_range, begin_range, distance_range, end_range, has_extent, held_range};
 ghost use Rattle.c_model.specs.TermRanges.{member_range, moved_range, offset_range, place_range, scaled_range, span_range, start_range, told_range};
+ghost use Rattle.interval_infer.specs.Seen.{plain_seen};
 
 use c_syntax::logic::{BlockFact, PointerOp, Term, TermKind};
 use c_syntax::{CType, Range};
@@ -52,16 +53,26 @@ pub fn told_range(fact: BlockFact) -> Range
     }
 }
 
-/// The values that a place of a C type holds, where its address has this range. An array or a struct is its address.
+/// The values that a place of this type holds, where its address has this range. An array or a struct is its address.
+fn typed_range(ctype: &CType, address: Range) -> Option<Range>
+    ensures { result ≡ held_range (Some (plain_type ctype.now)) (Some address) }
+{
+    match ctype {
+        CType::Int(k) => Some(type_range(*k)),
+        CType::Ptr(_) => Some(offset_range()),
+        CType::Array(_, _) | CType::Struct(_) => Some(address),
+        _ => None,
+    }
+}
+
+/// The values that a place of a C type holds, where its address has this range.
 pub fn held_range(ctype: &Option<CType>, address: Option<Range>) -> Option<Range>
     ensures { result ≡ held_range (option_map plain_type ctype.now) address }
 {
     let address = address?;
     match ctype {
-        Some(CType::Int(k)) => Some(type_range(*k)),
-        Some(CType::Ptr(_)) => Some(offset_range()),
-        Some(CType::Array(_, _) | CType::Struct(_)) => Some(address),
-        _ => None,
+        Some(t) => typed_range(t, address),
+        None => None,
     }
 }
 
@@ -72,16 +83,23 @@ pub fn place_range(ctype: &Option<CType>) -> Option<Range>
     held_range(ctype, Some(offset_range()))
 }
 
+/// The values of this type that a function gives.
+pub fn result_range(ctype: &CType) -> Option<Range>
+    ensures { result ≡ place_range (Some (plain_type ctype.now)) }
+{
+    typed_range(ctype, offset_range())
+}
+
 /// The range of the address of a place whose parts have their ranges. A term that is no place has none.
-pub fn address_range(t: &Term) -> Option<Range>
-    requires ranged { TermRanged [] (plain_term t.now) }
+pub fn address_range(seen: Option<&CType>, t: &Term) -> Option<Range>
+    requires ranged { TermRanged (plain_seen seen) (plain_term t.now) }
     ensures is { result ≡ address_range (plain_term t.now) }
     ensures ordered { IfSome result IsRange }
 {
     match &*t.kind {
         TermKind::Variable(_) => Some(offset_range()),
         TermKind::Deref(pointer) => Some(pointer.range),
-        TermKind::Member(offset, place) => member_range(*offset, address_range(place)),
+        TermKind::Member(offset, place) => member_range(*offset, address_range(seen, place)),
         _ => None,
     }
 }

@@ -8,9 +8,10 @@ ghost use Rattle.c_model.specs.AnnotationRanges.{ranged_function, ranged_functio
 ghost use Rattle.c_scopes.specs.Answers.{Answers, IsRefusal};
 ghost use Rattle.c_phases.specs.Answers.{IsFaultRefusal, RefusedBy};
 
+use crate::contract::range_maybe;
 use crate::statement::range_body;
 use c_phases::{Noted, Ranged, refuse};
-use c_scopes::fault::TypeFault;
+use c_scopes::fault::{TypeFault, both};
 use c_syntax::{FrontFault, Func, Program};
 use std::alloc::Global;
 
@@ -18,17 +19,21 @@ fn range_function(f: &mut Func) -> Result<(), TypeFault>
     ensures ranged { Answers (λ _. plain_func f.new) (ranged_function (plain_func f.old)) result }
     ensures sure { IfErr result IsRefusal }
 {
-    range_body(&mut f.body)
+    let contract = range_maybe(&f.result, &mut f.contract);
+    let body = range_body(&mut f.body);
+    both(contract, body)
 }
 
 fn range_functions(funcs: &mut Vec<Func>) -> Result<(), TypeFault>
     ensures ranged { Answers (λ _. map plain_func funcs.new.items) (ranged_functions (map plain_func funcs.old.items)) result }
     ensures sure { IfErr result IsRefusal }
 {
+    let mut done = Ok(());
     for i in 0..funcs.len() {
-        range_function(&mut funcs[i])?;
+        let function = range_function(&mut funcs[i]);
+        done = both(done, function);
     }
-    Ok(())
+    done
 }
 
 /// Sets the ranges of the terms in all annotations of a program, or gives the fault of the first annotation that has one.

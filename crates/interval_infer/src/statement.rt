@@ -27,6 +27,7 @@ fn range_kind(kind: &mut StmtKind) -> Result<(), TypeFault>
 {
     match kind {
         StmtKind::Block(items) => range_items(items),
+        StmtKind::Switch(_controlling, cases) => range_cases(cases),
         StmtKind::If(_, a, b) => {
             range_statement(a)?;
             range_else(b)
@@ -36,11 +37,11 @@ fn range_kind(kind: &mut StmtKind) -> Result<(), TypeFault>
             range_statement(a)
         }
         StmtKind::Do(a, _) => range_statement(a),
+        StmtKind::Labelled(_, a) => range_statement(a),
         StmtKind::For(annots, _, _, _, a) => {
             clause_ranges(annots)?;
             range_statement(a)
         }
-        StmtKind::Switch(_controlling, cases) => range_cases(cases),
         StmtKind::Empty
         | StmtKind::Eval(_)
         | StmtKind::Break

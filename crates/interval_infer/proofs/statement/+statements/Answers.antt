@@ -70,8 +70,11 @@ range_cases-returns-clause-ranged t c =
     cases_done (ranged_cases (plain_cases old)) (plain_cases (take i cur)) (ranged_cases (plain_cases (drop i old))) c.loop-i.invariant.ranged (ap (λ l. ranged_cases (plain_cases l)) (none_left old i past))
     ∙ ap (λ zs. Good (plain_cases zs)) (all_done cur i (omega (arith, past, long)))
 
+-- what is shown once and read by `search`
+then : {A B : Type 0} → A → (A → B) → B
+then x f = f x
+
 pub range_kind-returns-in-Switch-clause-ranged : goal.range_kind-returns-in-Switch-clause-ranged
 range_kind-returns-in-Switch-clause-ranged t c = λ at.
     let h : Answers (λ (u : Unit {0}). plain_cases c.range_cases.new.cases.items) (ranged_cases (plain_cases c.in-Switch.cases.items)) c.range_cases.result = search rules in
-    let whole = switch_in_place at c.args.kind.now c.in-Switch._controlling c.in-Switch.cases c.range_cases.new.cases c.range_cases.result c.in-Switch.is h in
-    search (rules, whole)
+    then h (λ h. let whole = switch_in_place at c.args.kind.now c.in-Switch._controlling c.in-Switch.cases c.range_cases.new.cases c.range_cases.result c.in-Switch.is h in search (rules, whole))
