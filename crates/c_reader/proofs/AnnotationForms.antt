@@ -1,6 +1,6 @@
--- Annotations that are read are asserts of forms that are counted by no more tokens than they have, and no number in them is below the least value of 64
+-- Annotations that are read are asserts or contracts of forms that are counted by no more tokens than they have, and no number in them is below the least value of 64
 -- bits. An operand whose operator binds no closer than the one beside it stands in parentheses, which are two tokens.
-use Rattle.std.proofs.Common.{◌≡◌, ℕ, suc, ◌+◌, ◌≤◌, ℤ, pos, ◌≤ℤ◌, Bool, true, false, cond, eqb, List, [], ◌∷◌, ◌++◌, Option, Some, None, refl, subst, ap, ◌∙◌, arith}
+use Rattle.std.proofs.Common.{◌≡◌, ℕ, suc, ◌+◌, ◌≤◌, ℤ, pos, ◌≤ℤ◌, Bool, true, false, cond, eqb, List, [], ◌∷◌, ◌++◌, Option, Some, None, refl, subst, arith}
 use Rattle.std.proofs.lemmas.Int.{ints}
 use Rattle.std.specs.List.{AllByRecursion}
 use Rattle.grammar.specs.Syntax.{Syntax, one, ◌then◌}
@@ -9,20 +9,28 @@ use Rattle.c_syntax.specs.declared.place.Place.{Place}
 use Rattle.c_syntax.specs.declared.types.CInt.{CInt}
 use Rattle.c_syntax.specs.declared.annotation.Relation.{Relation}
 use Rattle.c_syntax.specs.declared.expression.BinOp.TheVariants.{Add}
-use Rattle.c_syntax.specs.Formulas.{CastType, Integers, OfC, Form, SizeOf, Told, Asks, Separated, Index, Dot, Arrow, FormLinks, NoLink, Linked, FormZone}
-use Rattle.c_syntax.specs.Logic.{Annotation}
+use Rattle.c_syntax.specs.Formulas.{CastType, Integers, OfC, Form, SizeOf, Told, Asks, Separated, Old, At, FormLinks, NoLink, Linked, FormZone}
+use Rattle.c_syntax.specs.declared.annotation.Kind.{Kind}
+use Rattle.c_syntax.specs.declared.annotation.Kind.TheVariants.{Assert, Requires, Assumes, Ensures, Complete, Disjoint}
+use Rattle.c_syntax.specs.Logic.{ClauseBody, Annotation}
+use Rattle.c_syntax.specs.Programs.{NamedBehavior, FunctionContract}
 use Rattle.c_syntax.specs.Tokens as token
 use Rattle.c_syntax.specs.Tokens.{PlainTokenKind, PlainToken}
 use Rattle.c_model.specs.declared.formulas.FormulaMode.{FormulaMode}
 use Rattle.c_model.specs.declared.formulas.FormulaMode.TheVariants.{Alone, Zone}
 use Rattle.c_model.specs.declared.formulas.FormulaOperator.{FormulaOperator}
 use Rattle.c_model.specs.declared.formulas.FormulaOperator.TheVariants.{Term, Predicate}
+use Rattle.c_model.specs.declared.formulas.ClauseGroup.{ClauseGroup}
+use Rattle.c_model.specs.declared.formulas.ClauseGroup.TheVariants as group
+use Rattle.c_model.specs.declared.vocabulary.ClauseWord.{ClauseWord}
+use Rattle.c_model.specs.declared.vocabulary.ClauseWord.TheVariants as clause
 use Rattle.c_model.specs.declared.formulas.ChainDirection.{ChainDirection}
 use Rattle.c_model.specs.declared.formulas.ChainDirection.TheVariants.{Start}
 use Rattle.c_model.specs.declared.vocabulary.Keyword.TheVariants as keyword
 use Rattle.c_model.specs.Vocabulary.{Vocabulary}
 use Rattle.c_model.specs.Punctuators.{plus, question, colon, semicolon, comma, dot, arrow, dots, left_bracket, right_bracket, left_paren, right_paren, implies}
-use Rattle.c_model.specs.ExpressionGrammar.{name_kind, number_kind, letter_kind, null_kind, fact_kind, question_kind, separated_kind, annot_open_kind, annot_close_kind, keyword_kind, mark_kind, letter_of, number_of, kinds_of}
+use Rattle.c_model.specs.ExpressionGrammar.{name_kind, number_kind, letter_kind, null_kind, fact_kind, question_kind, separated_kind, result_kind, old_kind, at_kind, annot_open_kind, annot_close_kind, keyword_kind, mark_kind, letter_of}
+use Rattle.c_model.specs.ExpressionGrammar.{number_of, kinds_of}
 use Rattle.c_model.specs.ExpressionGrammar.{first_type, type_name, expression}
 use Rattle.c_model.specs.ExpressionGrammar.{any_name}
 use Rattle.c_model.specs.Terminals.{placed, entry, mark_entry}
@@ -30,16 +38,20 @@ use Rattle.c_model.specs.AnnotationGrammar.{integer_kind, formula_kind, prefix_o
 use Rattle.c_model.specs.AnnotationGrammar.{conjunction_operators, exclusion_operators}
 use Rattle.c_model.specs.AnnotationGrammar.{disjunction_operators, equivalence_operators, relations_behind, direction_behind, joined_forms, chained, integer_word, named_form, literal_form, null_form, sized_form, atom, cast_behind}
 use Rattle.c_model.specs.AnnotationGrammar.{cast_to_type, cast_to_integer}
-use Rattle.c_model.specs.AnnotationGrammar.{FormRange, range_at, Spanned, zone_of, zones_of, unended_kinds, unended, unended_only, as_it_is, first_behind, told_form, asked_form, next_zone, some_zones, separated_form, worded, indexed}
+use Rattle.c_model.specs.AnnotationGrammar.{FormRange, range_at, Spanned, zone_of, zones_of, unended_kinds, unended, unended_only, as_it_is, first_behind, told_form, asked_form, next_zone, some_zones, separated_form, result_form, old_form}
+use Rattle.c_model.specs.AnnotationGrammar.{labelled_form, worded, indexed}
 use Rattle.c_model.specs.AnnotationGrammar.{dotted, pointed, postfix_once, postfixes}
 use Rattle.c_model.specs.AnnotationGrammar.{worded_postfix, closed_postfix, parenthesised, behind_parenthesis, prefixed, bare_prefix, prefix_of, prefix, joined_once, joined_more, joined, factor, added_rest, ranged, behind_first}
 use Rattle.c_model.specs.AnnotationGrammar.{added_parenthesis, added, sum_once, sum_more, zone_sum}
 use Rattle.c_model.specs.AnnotationGrammar.{linked, links_of, links, chain_behind, chain_of, implied, implication_behind, implication_of, whole, zone}
-use Rattle.c_model.specs.AnnotationGrammar.{first_clause, product, sum, shift, chain, bit_or, chosen_behind, choice_behind, disjunction, implication, form_of, forms, form, assert_clause, full_clause, next_assert, asserts, annotations}
+use Rattle.c_model.specs.AnnotationGrammar.{product, sum, shift, chain, bit_or, chosen_behind, choice_behind, disjunction, implication, form_of, forms, form}
+use Rattle.c_model.specs.ClauseGrammar.{ReadAnnotation, clause_word, kind_in, cover_kind, kind_among, fixed_word, clause_kind, first_in, first_cover, behavior_kind, behaviors_kind, form_clause, full_clause, next_clause, more_clauses, asserts}
+use Rattle.c_model.specs.ClauseGrammar.{behavior, next_behavior, more_behaviors, behavior_names, cover_clause, full_cover, next_cover, more_covers, behaviors_and_covers, own_first, behavior_first, cover_first, contract, clauses, annotations}
 use Rattle.c_model.specs.Formed.{level_of, parentheses_around, operator_of_form, IsLogicNumber, tokens_of_form, tokens_of_form_links, tokens_of_form_zone, tokens_of_form_zones, FormNumbered, FormLinksNumbered, FormZoneNumbered, FormZonesNumbered}
-use Rattle.c_model.specs.Formed.{IsReadAssert, AreReadAsserts}
+use Rattle.c_model.specs.Formed.{IsShortReading, AreReadAsserts}
+use Rattle.c_model.specs.FormedContracts.{IsOwnKind, IsBehaviorKind, IsCoverKind, NamesBehaviors, IsClauseOf, AreClausesOf, BehaviorsFormed, ContractFormed, MaybeFormed}
 use Rattle.c_model.proofs.OperandParentheses.{around_two, around_fewer, around_own}
-use Rattle.c_model.specs.SoundJudgements.{IsCharacter}
+use Rattle.c_model.specs.LetterValues.{IsCharacter}
 use Rattle.c_reader.proofs.TokenForms.{IsLexedKind, Each, each_token, each_letter, each_any, placed_is}
 use Rattle.c_reader.proofs.ExpressionForms.{each_fixed, closed_each}
 
@@ -159,6 +171,60 @@ mark_joins n table token.AnnotOpen o h e = absurd cc
 mark_joins n table token.AnnotClose o h e = absurd cc
 mark_joins n table (token.Head k w) o h e = absurd cc
 
+-- ---- clauses and contracts
+
+-- the kinds of clauses that stand in a group
+abbrev IsKindIn : ClauseGroup → Kind → Type 0
+IsKindIn group.Asserts k = k ≡ Assert
+IsKindIn group.Contract k = IsOwnKind k
+IsKindIn group.Behavior k = IsBehaviorKind k
+
+abbrev IsClauseIn : ClauseGroup → Annotation → Type 0
+IsClauseIn g a = IsClauseOf (IsKindIn g) IsShortReading a
+
+abbrev AreClausesIn : ClauseGroup → List Annotation → Type 0
+AreClausesIn g xs = AreClausesOf (IsKindIn g) IsShortReading xs
+
+abbrev IsCover : Annotation → Type 0
+IsCover a = IsClauseOf IsCoverKind NamesBehaviors a
+
+abbrev IsContract : FunctionContract → Type 0
+IsContract c = ContractFormed IsShortReading c
+
+-- asserts, or a contract
+pub record IsReadAnnotation (x : ReadAnnotation) : Type 0 where
+  pub asserts : AreReadAsserts x.0
+  pub contract : MaybeFormed IsShortReading x.1
+
+of_kind : (P : Kind → Type 0) (j k : Kind) → Some j ≡ Some k → P j → P k
+of_kind P j k e p = let same : j ≡ k = cc in subst P same p
+
+kind_is_in : (g : ClauseGroup) (w : ClauseWord) (k : Kind) → kind_in g w ≡ Some k → IsKindIn g k
+kind_is_in group.Asserts clause.Assert k e = of_kind (λ (j : Kind). j ≡ Assert) Assert k e refl
+kind_is_in group.Contract clause.Requires k e = of_kind IsOwnKind Requires k e tt
+kind_is_in group.Contract clause.Ensures k e = of_kind IsOwnKind Ensures k e tt
+kind_is_in group.Behavior clause.Requires k e = of_kind IsBehaviorKind Requires k e tt
+kind_is_in group.Behavior clause.Assumes k e = of_kind IsBehaviorKind Assumes k e tt
+kind_is_in group.Behavior clause.Ensures k e = of_kind IsBehaviorKind Ensures k e tt
+kind_is_in _ _ k e = absurd cc
+
+kind_is_cover : (w : ClauseWord) (k : Kind) → cover_kind w ≡ Some k → IsCoverKind k
+kind_is_cover clause.Complete k e = of_kind IsCoverKind Complete k e tt
+kind_is_cover clause.Disjoint k e = of_kind IsCoverKind Disjoint k e tt
+kind_is_cover _ k e = absurd cc
+
+one_more : (IsKind : Kind → Type 0) (IsSo : ClauseBody → Type 0) (xs : List Annotation) (a : Annotation) → AreClausesOf IsKind IsSo xs → IsClauseOf IsKind IsSo a → AreClausesOf IsKind IsSo (xs ++ a ∷ [])
+one_more IsKind IsSo [] a h p = (p, tt)
+one_more IsKind IsSo (x ∷ xs) a h p = (h.0, one_more IsKind IsSo xs a h.1 p)
+
+are_asserts : (xs : List Annotation) → AreClausesIn group.Asserts xs → AreReadAsserts xs
+are_asserts [] h = tt
+are_asserts (x ∷ xs) h = (record { kind = h.0.kind; body = h.0.body }, are_asserts xs h.1)
+
+one_behavior_more : (bs : List NamedBehavior) (b : NamedBehavior) → BehaviorsFormed IsShortReading bs → AreClausesOf IsBehaviorKind IsShortReading b.clauses → BehaviorsFormed IsShortReading (bs ++ b ∷ [])
+one_behavior_more [] b h p = (p, tt)
+one_behavior_more (c ∷ bs) b h p = (h.0, one_behavior_more bs b h.1 p)
+
 -- ---- numbers
 
 not_negative : (z : ℤ) → pos 0 ≤ℤ z → IsLogicNumber z
@@ -207,9 +273,14 @@ module _ (size : ℕ) (ws : Vocabulary) where
   unfolding null_form
   null_each = each_then (each_fixed size ws null_kind) (λ k at h. each_gives _ (record { is = tt; few = omega (arith, h) }))
 
+  result_each : Each size (result_form ws) (IsOperand 0)
+  unfolding result_form
+  result_each = each_then (each_fixed size ws result_kind) (λ k at h. each_gives _ (record { is = tt; few = omega (arith, h) }))
+
   atom_each : Each size (atom ws) (IsOperand 0)
   unfolding atom
-  atom_each = each_choice (formula_kind ws) (name_kind ∷ []) named_each (each_choice (formula_kind ws) (null_kind ∷ []) null_each literal_each)
+  atom_each =
+      each_choice (formula_kind ws) (name_kind ∷ []) named_each (each_choice (formula_kind ws) (null_kind ∷ []) null_each (each_choice (formula_kind ws) (result_kind ∷ []) result_each literal_each))
 
   module _ {E : Syntax PlainToken Form} (e : Each size E IsFormPart) where
     indexed_each : (k : ℕ) (x : Form) → IsOperand 0 k x → Each size (indexed ws E x) (λ l y. IsOperand 0 (k + l) y)
@@ -245,6 +316,16 @@ module _ (size : ℕ) (ws : Vocabulary) where
     told_each = each_then (each_token _) (λ i f h. each_then (each_fixed size ws (mark_kind left_paren)) (λ j _ _. each_then e (λ k x q.
         closed_each size ws {P = λ l y. IsOperand 0 (i + (j + (k + l))) y} (Told f.1 f.0 x) (record { is = q.is; few = omega (arith, h, q.few) }))))
 
+    old_each : Each size (old_form ws E) (IsOperand 0)
+    unfolding old_form
+    old_each = each_then (each_fixed size ws old_kind) (λ i at h. each_then (each_fixed size ws (mark_kind left_paren)) (λ j _ _. each_then e (λ k x q.
+        closed_each size ws {P = λ l y. IsOperand 0 (i + (j + (k + l))) y} (Old at x) (record { is = q.is; few = omega (arith, h, q.few) }))))
+
+    labelled_each : Each size (labelled_form ws E) (IsOperand 0)
+    unfolding labelled_form
+    labelled_each = each_then (each_fixed size ws at_kind) (λ i at h. each_then (each_fixed size ws (mark_kind left_paren)) (λ j _ _. each_then e (λ k x q. each_then (each_fixed size ws (mark_kind comma)) (λ m _ _.
+        each_then (each_token _) (λ n l _. closed_each size ws {P = λ o y. IsOperand 0 (i + (j + (k + (m + (n + o))))) y} (At at x l.1 l.0) (record { is = q.is; few = omega (arith, h, q.few) }))))))
+
   module _ {Z : Syntax PlainToken FormZone} (z : Each size Z IsZonePart) where
     asked_each : Each size (asked_form ws Z) (IsOperand 0)
     unfolding asked_form
@@ -272,7 +353,9 @@ module _ (size : ℕ) (ws : Vocabulary) where
     unfolding worded
     worded_each =
         each_choice (formula_kind ws) (fact_kind ∷ []) (told_each e)
-        (each_choice (formula_kind ws) (question_kind ∷ []) (asked_each z) (each_choice (formula_kind ws) (separated_kind ∷ []) (separated_each z) atom_each))
+        (each_choice (formula_kind ws) (question_kind ∷ []) (asked_each z)
+        (each_choice (formula_kind ws) (separated_kind ∷ []) (separated_each z)
+        (each_choice (formula_kind ws) (old_kind ∷ []) (old_each e) (each_choice (formula_kind ws) (at_kind ∷ []) (labelled_each e) atom_each))))
 
     worded_postfix_each : Each size (worded_postfix ws E Z) (IsOperand 0)
     unfolding worded_postfix
@@ -504,30 +587,106 @@ module _ (size : ℕ) (ws : Vocabulary) where
   form_each : Each size (form ws) IsFormPart
   form_each = whole_each forms_each
 
-  -- ---- annotations
+  -- ---- clauses that say a form
 
-  clause_each : (n : ℕ) → Each size (assert_clause ws n) (λ k a. k ≤ 400 → IsReadAssert a)
-  unfolding assert_clause
-  clause_each n =
-      each_then (each_token _) (λ i a _. each_then form_each (λ j f p. each_then (each_fixed size ws (mark_kind semicolon)) (λ k _ _.
-      each_gives _ (λ le. record { kind = refl; body = record { numbered = p.is; short = omega (arith, p.few, le) } }))))
+  -- the first word of a clause is of a kind that stands there
+  kind_is : (kinds : ClauseWord → Option Kind) (P : Kind → Type 0) → ((w : ClauseWord) (k : Kind) → kinds w ≡ Some k → P k) → (t : PlainTokenKind) (k : Kind) → kind_among ws kinds t ≡ Some k → P k
+  kind_is kinds P h t k e = by (clause_word ws t) e
+    where
+      by : (o : Option ClauseWord) → elim o [ Some c ↦ kinds c | None ↦ None ] ≡ Some k → P k
+      by (Some c) e = h c k e
+      by None e = absurd cc
 
-  full_clause_each : (n : ℕ) → Each size (full_clause ws n) (λ k a. IsReadAssert a)
+  kind_each : (kinds : ClauseWord → Option Kind) (P : Kind → Type 0) → ((w : ClauseWord) (k : Kind) → kinds w ≡ Some k → P k) → Each size (one (placed (kind_among ws kinds))) (λ k x. P x.0)
+  kind_each kinds P h = each_one _ (λ t x _ e. kind_is kinds P h t.kind x.0 (placed_is (kind_among ws kinds) t x e))
+
+  clause_each : (g : ClauseGroup) (n : ℕ) → Each size (form_clause ws g n) (λ k a. k ≤ 400 → IsClauseIn g a)
+  unfolding form_clause
+  clause_each g n =
+      each_then (kind_each (kind_in g) (IsKindIn g) (kind_is_in g)) (λ i w p. each_then form_each (λ j f q. each_then (each_fixed size ws (mark_kind semicolon)) (λ k _ _.
+      each_gives _ (λ le. record { kind = p; body = record { numbered = q.is; short = omega (arith, q.few, le) } }))))
+
+  full_clause_each : (g : ClauseGroup) (n : ℕ) → Each size (full_clause ws g n) (λ k a. IsClauseIn g a)
   unfolding full_clause
-  full_clause_each n = each_more (λ k a p. p.0 p.1) (each_at_most (clause_each n))
+  full_clause_each g n = each_more (λ k a p. p.0 p.1) (each_at_most (clause_each g n))
 
-  one_more : (xs : List Annotation) (a : Annotation) → AreReadAsserts xs → IsReadAssert a → AreReadAsserts (xs ++ a ∷ [])
-  one_more [] a h p = (p, tt)
-  one_more (x ∷ xs) a h p = (h.0, one_more xs a h.1 p)
+  next_each : (g : ClauseGroup) (x : List Annotation × ℕ) → AreClausesIn g x.0 → Each size (next_clause ws g x) (λ k y. AreClausesIn g y.0)
+  unfolding next_clause
+  next_each g x h = each_then (full_clause_each g x.1) (λ k a p. each_gives _ (one_more (IsKindIn g) IsShortReading x.0 a h p))
 
-  next_each : (x : List Annotation × ℕ) → AreReadAsserts x.0 → Each size (next_assert ws x) (λ k y. AreReadAsserts y.0)
-  unfolding next_assert
-  next_each x h = each_then (full_clause_each x.1) (λ k a p. each_gives _ (one_more x.0 a h p))
+  more_clauses_each : (g : ClauseGroup) (x : List Annotation × ℕ) → AreClausesIn g x.0 → Each size (more_clauses ws g x) (λ k y. AreClausesIn g y.0)
+  unfolding more_clauses
+  more_clauses_each g x h = each_many (clause_kind ws) (λ _. first_in g) {P = λ k y. AreClausesIn g y.0} (λ i y q. next_each g y q) 0 x h
 
   asserts_each : (n : ℕ) → Each size (asserts ws n) (λ k x. AreReadAsserts x.0)
   unfolding asserts
-  asserts_each n = each_then (next_each ([], n) tt) (λ k x p. each_many (formula_kind ws) (λ _. first_clause) {P = λ k y. AreReadAsserts y.0} (λ i y q. next_each y q) k x p)
+  asserts_each n = each_then (next_each group.Asserts ([], n) tt) (λ k x p. each_more (λ l y q. are_asserts y.0 q) (more_clauses_each group.Asserts x p))
 
-  pub annotations_each : (n : ℕ) → Each size (annotations ws n) (λ k x. AreReadAsserts x.0)
+  -- ---- contracts
+
+  behavior_each : (n : ℕ) → Each size (behavior ws n) (λ k x. AreClausesOf IsBehaviorKind IsShortReading x.1.clauses)
+  unfolding behavior
+  behavior_each n =
+      each_then (each_any (fixed_word ws behavior_kind)) (λ i at _. each_then (each_token _) (λ j x _. each_then (each_fixed size ws (mark_kind colon)) (λ k _ _.
+      each_then (more_clauses_each group.Behavior ([], n) tt) (λ l c p. each_gives _ p))))
+
+  next_behavior_each : (x : FunctionContract × ℕ) → IsContract x.0 → Each size (next_behavior ws x) (λ k y. IsContract y.0)
+  unfolding next_behavior
+  next_behavior_each x h =
+      each_then (behavior_each x.1) (λ k b p. each_gives _ (record { clauses = h.clauses; behaviors = one_behavior_more x.0.behaviors b.1 h.behaviors p; covers = h.covers }))
+
+  more_behaviors_each : (x : FunctionContract × ℕ) → IsContract x.0 → Each size (more_behaviors ws x) (λ k y. IsContract y.0)
+  unfolding more_behaviors
+  more_behaviors_each x h = each_many (clause_kind ws) (λ _. behavior_kind ∷ []) {P = λ k y. IsContract y.0} (λ i y q. next_behavior_each y q) 0 x h
+
+  cover_each : (n : ℕ) → Each size (cover_clause ws n) (λ k a. IsCover a)
+  unfolding cover_clause
+  cover_each n =
+      each_then (kind_each cover_kind IsCoverKind kind_is_cover) (λ i w p. each_then (each_any (fixed_word ws behaviors_kind)) (λ j _ _. each_then (each_any (behavior_names ws)) (λ k names _.
+      each_then (each_fixed size ws (mark_kind semicolon)) (λ l _ _. each_gives _ (record { kind = p; body = tt })))))
+
+  full_cover_each : (n : ℕ) → Each size (full_cover ws n) (λ k a. IsCover a)
+  unfolding full_cover
+  full_cover_each n = each_more (λ k a p. p.0) (each_at_most (cover_each n))
+
+  next_cover_each : (x : FunctionContract × ℕ) → IsContract x.0 → Each size (next_cover ws x) (λ k y. IsContract y.0)
+  unfolding next_cover
+  next_cover_each x h =
+      each_then (full_cover_each x.1) (λ k a p. each_gives _ (record { clauses = h.clauses; behaviors = h.behaviors; covers = one_more IsCoverKind NamesBehaviors x.0.covers a h.covers p }))
+
+  more_covers_each : (x : FunctionContract × ℕ) → IsContract x.0 → Each size (more_covers ws x) (λ k y. IsContract y.0)
+  unfolding more_covers
+  more_covers_each x h = each_many (clause_kind ws) (λ _. first_cover) {P = λ k y. IsContract y.0} (λ i y q. next_cover_each y q) 0 x h
+
+  behind_own_each : (x : FunctionContract × ℕ) → IsContract x.0 → Each size (behaviors_and_covers ws x) (λ k y. IsContract y.0)
+  unfolding behaviors_and_covers
+  behind_own_each x h = each_then (more_behaviors_each x h) (λ k y p. more_covers_each y p)
+
+  own_first_each : (n : ℕ) → Each size (own_first ws n) (λ k x. IsContract x.0)
+  unfolding own_first
+  own_first_each n = each_then (full_clause_each group.Contract n) (λ i a p. each_then (more_clauses_each group.Contract (a ∷ [], n + 1) (p, tt)) (λ j x q.
+      behind_own_each _ (record { clauses = q; behaviors = tt; covers = tt })))
+
+  behavior_first_each : (n : ℕ) → Each size (behavior_first ws n) (λ k x. IsContract x.0)
+  unfolding behavior_first
+  behavior_first_each n = each_then (behavior_each n) (λ i b p. behind_own_each _ (record { clauses = tt; behaviors = (p, tt); covers = tt }))
+
+  cover_first_each : (n : ℕ) → Each size (cover_first ws n) (λ k x. IsContract x.0)
+  unfolding cover_first
+  cover_first_each n = each_then (full_cover_each n) (λ i a p. more_covers_each _ (record { clauses = tt; behaviors = tt; covers = (p, tt) }))
+
+  contract_each : (n : ℕ) → Each size (contract ws n) (λ k x. IsContract x.0)
+  unfolding contract
+  contract_each n = each_choice (clause_kind ws) (first_in group.Contract) (own_first_each n) (each_choice (clause_kind ws) (behavior_kind ∷ []) (behavior_first_each n) (cover_first_each n))
+
+  -- ---- annotations
+
+  clauses_each : (n : ℕ) → Each size (clauses ws n) (λ k x. IsReadAnnotation x.0)
+  unfolding clauses
+  clauses_each n =
+      each_choice (clause_kind ws) (first_in group.Asserts) (each_then (asserts_each n) (λ k x p. each_gives _ (record { asserts = p; contract = tt })))
+      (each_then (contract_each n) (λ k x p. each_gives _ (record { asserts = tt; contract = p })))
+
+  pub annotations_each : (n : ℕ) → Each size (annotations ws n) (λ k x. IsReadAnnotation x.0)
   unfolding annotations
-  annotations_each n = each_then (each_fixed size ws annot_open_kind) (λ i _ _. each_then (asserts_each n) (λ j x p. each_then (each_fixed size ws annot_close_kind) (λ k _ _. each_gives x p)))
+  annotations_each n = each_then (each_fixed size ws annot_open_kind) (λ i _ _. each_then (clauses_each n) (λ j x p. each_then (each_fixed size ws annot_close_kind) (λ k _ _. each_gives x p)))

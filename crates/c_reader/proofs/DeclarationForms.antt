@@ -47,7 +47,7 @@ IsLater old ws = (n : ℕ) → word_kind (word_at ws n) ≡ name_kind → word_k
 
 -- a name of a type is no name
 declared_is_no_name : (w : Word) → word_kind (declared_word w) ≡ name_kind → ⊥
-declared_is_no_name word.Assert e = cc
+declared_is_no_name (word.Clause c) e = cc
 declared_is_no_name _ e = cc
 
 set_name : (ws : Vocabulary) (m n : ℕ) (w : Word) → word_kind (word_at (slice_set ws m (declared_word w)) n) ≡ name_kind → word_kind (word_at ws n) ≡ name_kind

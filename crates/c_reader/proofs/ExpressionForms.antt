@@ -21,10 +21,11 @@ use Rattle.c_model.specs.ExpressionGrammar.{name_kind, number_kind, keyword_kind
 use Rattle.c_model.specs.ExpressionGrammar.{letter_kind, first_postfix, any_name, type_name, indexed, dotted, arrowed, bumped, postfix_once, postfixes, postfix_rest, literal_first, read_name}
 use Rattle.c_model.specs.ExpressionGrammar.{connective_kind, expressions, ReadOperand, size_of_operand, fixed, name, Operand, closed, literal, cast_rest, sized_type, paren_rest, behind_paren, prefixed, sized, bump_first, operand_but_name}
 use Rattle.c_model.specs.ExpressionGrammar.{next_argument, arguments, call_rest, behind_variable, operand_of, operand, joined_once, behind_operand, choice_rest, conditional_rest, assigned, behind_unary, behind_form, at_level}
-use Rattle.c_model.specs.ExpressionGrammar.{next_part, with_commas, expression_of, expression_at, expression, placed_expression, full_expression, full_placed_expression, full_expression_at}
+use Rattle.c_model.specs.ExpressionGrammar.{next_part, with_commas, expression_of, expression_at, expression, placed_rest, placed_expression, nameless_expression, expression_behind, full_expression, full_placed_expression}
+use Rattle.c_model.specs.ExpressionGrammar.{full_nameless_expression, full_expression_behind, full_expression_at}
 use Rattle.c_model.specs.Formed.{nodes_of, nodes_of_all}
 use Rattle.c_model.specs.ReadTree.{IsShort}
-use Rattle.c_model.specs.SoundJudgements.{LettersFit, AllLettersFit}
+use Rattle.c_model.specs.LetterValues.{LettersFit, AllLettersFit}
 use Rattle.c_reader.proofs.TokenForms.{Each, each_token, each_letter, each_any}
 
 -- ---- expressions, by their forms
@@ -293,13 +294,32 @@ module _ (size : ℕ) (ws : Vocabulary) where
   unfolding expression
   expression_each = with_commas_each (level_each Assignment)
 
-  placed_each : Each size (placed_expression ws) (λ k x. IsPart k x.0)
-  unfolding placed_expression
-  placed_each =
-      each_then (operand_each expression_each (level_each Assignment) type_use.Casts) (λ k x p.
+  placed_rest_each : (k : ℕ) (x : ReadOperand) → IsPart k x.expression → Each size (placed_rest ws x) (λ j y. IsPart (k + j) y.0)
+  unfolding placed_rest
+  placed_rest_each k x p =
       each_then (behind_form_each expression_each (level_each Assignment) (level_each Conditional) x.form k x.expression p) (λ i y q.
       each_then (each_many (kind ws) (λ _. mark_kind comma ∷ []) {P = IsPart} (λ m z r. next_part_each (level_each Assignment) m z r) (k + i) y q) (λ j z r.
-      each_gives _ (record { letters = r.letters; small = omega (arith, r.small) }))))
+      each_gives _ (record { letters = r.letters; small = omega (arith, r.small) })))
+
+  abbrev all_operands : Operand ws
+  all_operands = operand ws (expression ws) (expression_at ws Assignment)
+
+  operands_each : (u : TypeUse) → Each size (all_operands u) Operands
+  operands_each u = operand_each expression_each (level_each Assignment) u
+
+  placed_each : Each size (placed_expression ws) (λ k x. IsPart k x.0)
+  unfolding placed_expression
+  placed_each = each_then (operands_each type_use.Casts) (λ k x p. placed_rest_each k x p)
+
+  nameless_each : Each size (nameless_expression ws) (λ k x. IsPart k x.0)
+  unfolding nameless_expression
+  nameless_each = each_then (operand_but_name_each {O = all_operands} expression_each (level_each Assignment) operands_each type_use.Casts) (λ k x p. placed_rest_each k x p)
+
+  -- with the name before it
+  behind_name_each : (x : ℕ × Place) → Each size (expression_behind ws x) (λ k y. IsPart (1 + k) y.0)
+  unfolding expression_behind
+  behind_name_each x = each_then (variable_each {O = all_operands} expression_each (level_each Assignment) operands_each 1 x refl) (λ k y p.
+      each_more (λ l z q. part_more ((1 + k) + l) (1 + (k + l)) z.0 (omega arith) q) (placed_rest_each (1 + k) y p))
 
   -- ---- expressions that stand in no other
 
@@ -310,6 +330,14 @@ module _ (size : ℕ) (ws : Vocabulary) where
   pub full_placed_each : Each size (full_placed_expression ws) (λ k x. IsFormed x.0)
   unfolding full_placed_expression
   full_placed_each = each_more (λ k x p. record { short = omega (arith, p.0.small, p.1); letters = p.0.letters }) (each_at_most placed_each)
+
+  pub full_nameless_each : Each size (full_nameless_expression ws) (λ k x. IsFormed x.0)
+  unfolding full_nameless_expression
+  full_nameless_each = each_more (λ k x p. record { short = omega (arith, p.0.small, p.1); letters = p.0.letters }) (each_at_most nameless_each)
+
+  pub full_behind_each : (x : ℕ × Place) → Each size (full_expression_behind ws x) (λ k y. IsFormed y.0)
+  unfolding full_expression_behind
+  full_behind_each x = each_more (λ k y p. record { short = omega (arith, p.0.small, p.1); letters = p.0.letters }) (each_at_most (behind_name_each x))
 
   pub full_level_each : (l : Level) → Each size (full_expression_at ws l) (λ k e. IsFormed e)
   unfolding full_expression_at

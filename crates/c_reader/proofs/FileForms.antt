@@ -1,30 +1,37 @@
 -- What is read of a file: its functions are formed, what it declares has names of C, and the places of all that it declares are apart and in order.
-use Rattle.std.proofs.Common.{◌≡◌, ℕ, suc, ◌+◌, ◌-◌, ◌<◌, ◌≤◌, slice_set, List, [], ◌∷◌, ◌++◌, map, Some, None, refl, sym, ap, subst, ◌∙◌, arith}
+use Rattle.std.proofs.Common.{◌≡◌, ℕ, suc, ◌+◌, ◌-◌, ◌<◌, ◌≤◌, slice_set, List, [], ◌∷◌, ◌++◌, map, Option, Some, None, Bool, true, false, refl, sym, ap, subst, ◌∙◌, arith}
 use Rattle.std.proofs.lemmas.List.{map-append}
 use Rattle.std.specs.List.{AllByRecursion}
 use Rattle.c_syntax.specs.declared.place.Place.{Place}
 use Rattle.c_syntax.specs.Ctypes.{PlainType}
 use Rattle.c_syntax.specs.Statements.{Declaration, Block, BlockItem}
-use Rattle.c_syntax.specs.Programs.{Function, StringLiteral, TranslationUnit}
+use Rattle.c_syntax.specs.Programs.{FunctionContract, Function, StringLiteral, TranslationUnit}
 use Rattle.c_model.specs.declared.declarations.AnnotationState.{AnnotationState}
 use Rattle.c_model.specs.declared.declarations.Storage.{Storage}
 use Rattle.c_model.specs.declared.declarations.Storage.TheVariants as storage
 use Rattle.c_model.specs.Vocabulary.{Vocabulary, word_at, declared_word}
 use Rattle.c_model.specs.Punctuators.{semicolon, comma, left_paren, left_brace, right_brace}
-use Rattle.c_model.specs.ExpressionGrammar.{mark_kind, kind, mark, pointers, most_nested}
+use Rattle.c_model.specs.ClauseGrammar.{ReadAnnotation}
+use Rattle.c_model.specs.ExpressionGrammar.{annot_open_kind, mark_kind, kind, mark, pointers, most_nested}
 use Rattle.c_model.specs.DeclarationGrammar.{Declarator, Definitions, names_function, ended, declared_by, nameless}
-use Rattle.c_model.specs.ProgramGrammar.{FileParts, no_parts, with_typedef, with_nameless, block_items, function_with, unit_with, function_rest, function, globals, behind_declarator, declared_at_file}
-use Rattle.c_model.specs.ProgramGrammar.{next_typedef, more_typedefs, typedefs, behind_spec, strays, declared_external, external, any_kind, more_external, unit}
-use Rattle.c_model.specs.Formed.{AreReadAsserts, declared_in_body, declared_in_items, number_of, numbers_of}
+use Rattle.c_model.specs.ProgramGrammar.{FileParts, no_parts, with_typedef, with_nameless, block_items, function_with, has_contract, taken, contract_taken, after_contract, awaiting_nothing, after_placed, after_misplaced, without, unit_with}
+use Rattle.c_model.specs.ProgramGrammar.{function_rest, function, globals, behind_declarator, declared_at_file}
+use Rattle.c_model.specs.ProgramGrammar.{next_typedef, more_typedefs, typedefs, behind_spec, next_stray, strays, declared_external, external, any_kind, more_external, unit}
+use Rattle.c_model.specs.FormedContracts.{MaybeFormed}
+use Rattle.c_model.specs.Formed.{AreReadAsserts, IsShortReading, declared_in_body, declared_in_items, number_of, numbers_of}
 use Rattle.c_model.specs.FullExpressions.{EachInBody}
+use Rattle.c_model.specs.PlacedForms.{annotations_at, contract_at, body_at, functions_at}
 use Rattle.c_model.specs.UnitTyping.{AFunction}
 use Rattle.c_model.specs.ReadTree.{Between, FunctionRead}
-use Rattle.c_reader.proofs.PlacedReadings.{From, from_gives, from_then, from_choice, from_cond, from_any, from_many, between_lower, between_higher, between_joined, IsPlaceWithin, fixed_from}
+use Rattle.c_reader.proofs.AnnotationForms.{IsReadAnnotation, annotations_each}
+use Rattle.c_reader.proofs.Places.{Within, within_none, within_two, within_fewer, within_wider}
+use Rattle.c_reader.proofs.FormPlaces.{annotations_from}
+use Rattle.c_reader.proofs.PlacedReadings.{From, from_gives, from_then, from_choice, from_cond, from_any, from_each, from_both, from_many, between_lower, between_higher, between_joined, IsPlaceWithin, fixed_from}
 use Rattle.c_reader.proofs.ExpressionForms.{IsFormed}
 use Rattle.c_reader.proofs.Covers.{held, IsApart, apart_held, apart_higher, apart_more, apart_same}
 use Rattle.c_reader.proofs.ItemOrder.{behind_between, between_on, end_of_item}
 use Rattle.c_reader.proofs.DeclarationForms.{IsLater, later_typedef, IsNewName, IsNameWithin, name_wider, dtor_from, all_joined, declares_none, AreDeclarators, declarators_joined, declarators_higher, AreMore, initialised_from, more_from}
-use Rattle.c_reader.proofs.StatementForms.{items_placed, items_short, items_deep, AreItems, items_from, statement_in_from}
+use Rattle.c_reader.proofs.StatementForms.{items_placed, items_short, items_deep, AreItems, items_from, statement_in_from, inside_in_from}
 use Rattle.c_reader.proofs.StructForms.{definitions_cover, AreDefinitions, definitions_higher, AreAdded, spec_from}
 use Rattle.c_reader.proofs.ParameterForms.{HasNoInitialiser, IsNamed, AreParameters, parameters_from}
 
@@ -75,6 +82,7 @@ module _ (size : ℕ) (old : Vocabulary) where
 
   pub record IsFunction (n : ℕ) (f : Function) : Type 0 where
     pub read : FunctionRead AreReadAsserts f
+    pub contract : MaybeFormed IsShortReading f.contract
     pub short : EachInBody IsFormed f.body
     pub declares : DeclaresNames f
     pub bare : AllByRecursion HasNoInitialiser f.params
@@ -85,13 +93,21 @@ module _ (size : ℕ) (old : Vocabulary) where
     is : IsFunction n f
     from : l ≤ f.place.offset
 
+  -- one with this contract, whose body stands from the offset m on
+  record IsFunctionRead (l m n : ℕ) (o : Option FunctionContract) (f : Function) : Type 0 where
+    function : IsFunctionFrom l n f
+    body : Within m n (λ k. body_at k f.body)
+    contract : f.contract ≡ o
+
   numbers_joined : (l m n : ℕ) (ds es : List Declaration) → Between l (map number_of ds) m → Between m (map number_of es) n → Between l (map number_of (ds ++ es)) n
   numbers_joined l m n ds es p q = subst (λ is. Between l is n) (sym (map-append number_of ds es)) (between_joined l m n (map number_of ds) (map number_of es) p q)
 
-  prototype_is : (l k m n : ℕ) (t : PlainType) (f : ℕ × Place) (ds : List Declaration) (at : Place) → IsNameWithin size old l k f → AreParameters size old k m ds → m ≤ n → IsFunctionFrom l n (function_with t f ds None at)
-  prototype_is l k m n t f ds at p h le = record {
+  prototype_is : (l k m n : ℕ) (t : PlainType) (f : ℕ × Place) (ds : List Declaration) (o : Option FunctionContract) (at : Place) → MaybeFormed IsShortReading o → IsNameWithin size old l k f → AreParameters size old k m ds → m ≤ n
+      → IsFunctionFrom l n (function_with t f ds o None at)
+  prototype_is l k m n t f ds o at c p h le = record {
     is = record {
-      read = record { no_contract = refl; body = tt };
+      read = record { body = tt };
+      contract = c;
       short = tt;
       declares = record { name = p.new; params = h.named; body = tt };
       bare = h.bare;
@@ -100,13 +116,15 @@ module _ (size : ℕ) (old : Vocabulary) where
     from = p.from;
   }
 
-  definition_is : (l k m i n : ℕ) (t : PlainType) (f : ℕ × Place) (ds : List Declaration) (start close : Place) (x : List BlockItem × AnnotationState) → IsNameWithin size old l k f → AreParameters size old k m ds → m ≤ i
-      → AreItems size old most_nested i n x → IsFunctionFrom l n (function_with t f ds (Some (Block start (block_items x.0))) close)
-  definition_is l k m i n t f ds start close x p h le b =
+  definition_is : (l k m i n : ℕ) (t : PlainType) (f : ℕ × Place) (ds : List Declaration) (o : Option FunctionContract) (start close : Place) (x : List BlockItem × AnnotationState) → MaybeFormed IsShortReading o
+      → IsNameWithin size old l k f → AreParameters size old k m ds → m ≤ i
+      → AreItems size old most_nested i n x → IsFunctionFrom l n (function_with t f ds o (Some (Block start (block_items x.0))) close)
+  definition_is l k m i n t f ds o start close x c p h le b =
       let body = declared_in_items (block_items x.0) in
       record {
         is = record {
-          read = record { no_contract = refl; body = (items_placed most_nested x.0 b.are, omega (arith, items_deep most_nested x.0 b.are)) };
+          read = record { body = (items_placed most_nested x.0 b.are, omega (arith, items_deep most_nested x.0 b.are)) };
+          contract = c;
           short = items_short most_nested x.0 b.are;
           declares = record { name = p.new; params = h.named; body = b.declares.names };
           bare = h.bare;
@@ -119,7 +137,7 @@ module _ (size : ℕ) (old : Vocabulary) where
       }
 
   function_higher : (m n : ℕ) (f : Function) → m ≤ n → IsFunction m f → IsFunction n f
-  function_higher m n f le p = record { read = p.read; short = p.short; declares = p.declares; bare = p.bare; numbers = between_higher f.place.offset m n (numbers_of f) le p.numbers }
+  function_higher m n f le p = record { read = p.read; contract = p.contract; short = p.short; declares = p.declares; bare = p.bare; numbers = between_higher f.place.offset m n (numbers_of f) le p.numbers }
 
   functions_higher : (m n : ℕ) (fs : List Function) → m ≤ n → AllByRecursion (IsFunction m) fs → AllByRecursion (IsFunction n) fs
   functions_higher m n [] le h = tt
@@ -135,6 +153,8 @@ module _ (size : ℕ) (old : Vocabulary) where
     pub functions : AllByRecursion (IsFunction n) x.functions
     pub ascend : Between 0 (map offset_of_function x.functions) n
     pub apart : IsApart n (parts_cover x)
+    pub awaiting : MaybeFormed IsShortReading x.awaiting
+    pub annots : Within 0 n (λ o. functions_at o x.functions + contract_at o x.awaiting)
 
   file_higher : (m n : ℕ) (x : FileParts) → m ≤ n → IsFile m x → IsFile n x
   file_higher m n x le h = record {
@@ -145,10 +165,18 @@ module _ (size : ℕ) (old : Vocabulary) where
     functions = functions_higher m n x.functions le h.functions;
     ascend = between_higher 0 m n (map offset_of_function x.functions) le h.ascend;
     apart = apart_higher m n (parts_cover x) le h.apart;
+    awaiting = h.awaiting;
+    annots = within_wider 0 n (omega arith) le h.annots;
   }
 
-  with_function_is : (m l n : ℕ) (x : FileParts) (f : Function) (state : AnnotationState) → m ≤ l → IsFile m x → IsFunctionFrom l n f → IsFile n (record x { functions = x.functions ++ f ∷ []; annotations = state })
-  with_function_is m l n x f state le h p =
+  -- with one more function
+  annotated_behind : (o : ℕ) (fs : List Function) (f : Function) → functions_at o (fs ++ f ∷ []) ≡ functions_at o fs + (contract_at o f.contract + body_at o f.body)
+  annotated_behind o [] f = omega arith
+  annotated_behind o (g ∷ fs) f = let e = annotated_behind o fs f in omega (arith, e)
+
+  with_function_is : (m l n : ℕ) (x : FileParts) (f : Function) (state : AnnotationState) → m ≤ l → IsFile m x → IsFunctionFrom l n f → Within l n (λ o. body_at o f.body) → ((o : ℕ) → contract_at o f.contract ≤ contract_at o x.awaiting)
+      → IsFile n (record x { functions = x.functions ++ f ∷ []; annotations = state; awaiting = None })
+  with_function_is m l n x f state le h p body fewer =
       let end = behind_between f.place.offset n (numbers_of f) p.is.numbers in
       let first = between_on f.place.offset (end_of_item (AFunction f)) (numbers_of f) end.0 in
       let on = between_on f.place.offset n (numbers_of f) p.is.numbers in
@@ -162,9 +190,12 @@ module _ (size : ℕ) (old : Vocabulary) where
         functions = all_joined (IsFunction n) x.functions (f ∷ []) higher.functions (p.is, tt);
         ascend = subst (λ is. Between 0 is n) (sym (map-append offset_of_function x.functions (f ∷ [])))
             (between_joined 0 m n (map offset_of_function x.functions) (f.place.offset ∷ []) h.ascend (omega (arith, le, p.from), next));
-        apart = apart_same n (λ o. held o f.place.offset (end_of_item (AFunction f)) + parts_cover x o) (parts_cover (record x { functions = x.functions ++ f ∷ []; annotations = state }))
+        apart = apart_same n (λ o. held o f.place.offset (end_of_item (AFunction f)) + parts_cover x o) (parts_cover (record x { functions = x.functions ++ f ∷ []; annotations = state; awaiting = None }))
             (λ o. (let e = functions_behind o x.functions f in omega (arith, e)))
             (apart_held m n f.place.offset (end_of_item (AFunction f)) (parts_cover x) (omega (arith, le, p.from)) first end.1 h.apart);
+        awaiting = tt;
+        annots = within_fewer (within_two 0 l n (λ o. functions_at o x.functions + contract_at o x.awaiting) (λ o. body_at o f.body) (within_wider 0 l (omega arith) le h.annots) body)
+            (λ o. (let e = annotated_behind o x.functions f in let k = fewer o in omega (arith, e, k)));
       }
 
   with_globals_is : (m n : ℕ) (x : FileParts) (gs : List Declaration) → IsFile m x → AreMore size old x.globals m n gs → IsFile n (record x { globals = gs })
@@ -181,6 +212,8 @@ module _ (size : ℕ) (old : Vocabulary) where
         apart = apart_same n (λ o. declared_cover o p.new + parts_cover x o) (parts_cover (record x { globals = gs }))
             (λ o. (let e = ap (declared_cover o) p.is ∙ declared_joined o x.globals p.new in omega (arith, e)))
             (declared_apart m n p.new (parts_cover x) p.are.declares.numbers h.apart);
+        awaiting = h.awaiting;
+        annots = higher.annots;
       }
 
   -- one more name of a type, or declaration without declarators
@@ -199,6 +232,8 @@ module _ (size : ℕ) (old : Vocabulary) where
         apart = apart_same n (λ o. declared_cover o (new ∷ []) + parts_cover x o) (parts_cover (record x { words = ws; typedefs = x.typedefs ++ new ∷ [] }))
             (λ o. (let e = declared_joined o x.typedefs (new ∷ []) in omega (arith, e)))
             (declared_apart m n (new ∷ []) (parts_cover x) numbers h.apart);
+        awaiting = h.awaiting;
+        annots = higher.annots;
       }
 
   typedef_is : (t : PlainType) (m n : ℕ) (x : FileParts) (d : Declarator) → IsFile m x → IsNameWithin size old m n (d.name, d.place) → IsFile n (with_typedef t x d)
@@ -219,27 +254,44 @@ module _ (size : ℕ) (old : Vocabulary) where
         functions = higher.functions;
         ascend = higher.ascend;
         apart = apart_more m m n (others_cover x) (definitions_cover x.definitions) (definitions_cover d) (omega arith) p.on h.apart p.adds;
+        awaiting = h.awaiting;
+        annots = higher.annots;
       }
 
   -- ---- productions, where what the words are comes later
 
   module _ (ws : Vocabulary) (later : IsLater old ws) where
-    function_rest_from : (t : PlainType) (f : ℕ × Place) (ds : List Declaration) (c : AnnotationState) (l k m : ℕ) → IsNameWithin size old l k f → AreParameters size old k m ds → From size m (function_rest ws t f ds c) (λ n x. IsFunctionFrom l n x.0)
+    function_rest_from : (t : PlainType) (f : ℕ × Place) (ds : List Declaration) (o : Option FunctionContract) (c : AnnotationState) (l k m : ℕ) → MaybeFormed IsShortReading o → IsNameWithin size old l k f → AreParameters size old k m ds
+        → From size m (function_rest ws t f ds o c) (λ n x. IsFunctionRead l m n o x.0)
     unfolding function_rest
-    function_rest_from t f ds c l k m p h =
+    function_rest_from t f ds o c l k m formed p h =
         from_choice (kind ws) (mark_kind semicolon ∷ [])
-        (from_then (from_any (mark ws semicolon)) (λ n at le. from_gives _ (prototype_is l k m n t f ds at p h le)))
+        (from_then (from_any (mark ws semicolon)) (λ n at le. from_gives _ (record { function = prototype_is l k m n t f ds o at formed p h le; body = within_none m n le; contract = refl })))
         (from_then (from_any (mark ws left_brace)) (λ i start le.
-        from_then (items_from size old ws later most_nested (statement_in_from size old ws later (most_nested - 1)) i i ([], c) (record { are = tt; declares = declares_none size old i i (omega arith) })) (λ j x b.
+        from_then (items_from size old ws later most_nested (statement_in_from size old ws later (most_nested - 1)) (inside_in_from size old ws later (most_nested - 1)) i i ([], c)
+        (record { are = tt; declares = declares_none size old i i (omega arith); annots = within_none i i (omega arith) })) (λ j x b.
         from_then (from_any (mark ws right_brace)) (λ n close lf.
-        from_gives _ (let g = definition_is l k m i j t f ds start close x p h le b in record { is = function_higher j n _ lf g.is; from = g.from })))))
+        from_gives _ (let g = definition_is l k m i j t f ds o start close x formed p h le b in
+        record { function = record { is = function_higher j n _ lf g.is; from = g.from }; body = within_wider m n le lf b.annots; contract = refl })))))
+
+    taken_formed : (o : Option FunctionContract) (again : Bool) → MaybeFormed IsShortReading o → MaybeFormed IsShortReading (taken o again)
+    taken_formed o true h = tt
+    taken_formed o false h = h
+
+    taken_fewer : (o : ℕ) (c : Option FunctionContract) (again : Bool) → contract_at o (taken c again) ≤ contract_at o c
+    taken_fewer o c true = omega arith
+    taken_fewer o c false = omega arith
 
     function_from : (t : PlainType) (x : FileParts) (d : Declarator) (l m : ℕ) → IsFile l x → IsNameWithin size old l m (d.name, d.place) → From size m (function ws t x d) IsFile
     unfolding function
     function_from t x d l m h p =
         from_then (from_any (mark ws left_paren)) (λ k _ lf. from_then (parameters_from size old ws later k) (λ i ds q.
-        from_then (function_rest_from (pointers d.stars.count t) (d.name, d.place) ds x.annotations l k i (name_wider size old l l m k (d.name, d.place) (omega arith) lf p) q) (λ n f g.
-        from_gives _ (with_function_is l l n x f.0 f.1 (omega arith) h g))))
+        from_then (function_rest_from (pointers d.stars.count t) (d.name, d.place) ds (contract_taken x d.name) (after_contract x d.name) l k i (taken_formed x.awaiting (has_contract d.name x.functions) h.awaiting)
+        (name_wider size old l l m k (d.name, d.place) (omega arith) lf p) q) (λ n f g.
+        from_gives _ (
+        let on = between_on k i (map number_of ds) q.numbers in
+        with_function_is l l n x f.0 f.1 (omega arith) h g.function (within_wider l n (omega (arith, p.from, p.to, lf, on)) (omega arith) g.body)
+        (λ o. subst (λ c. contract_at o c ≤ contract_at o x.awaiting) (sym g.contract) (taken_fewer o x.awaiting (has_contract d.name x.functions)))))))
 
     globals_from : (t : PlainType) (x : FileParts) (d : Declarator) (l m : ℕ) → IsFile l x → IsNameWithin size old l m (d.name, d.place) → From size m (globals ws t x d) IsFile
     unfolding globals
@@ -283,8 +335,8 @@ module _ (size : ℕ) (old : Vocabulary) where
   behind_spec_from storage.Static t m x h = at_file_from x.words h.later t x m h
   behind_spec_from storage.Nothing t m x h = at_file_from x.words h.later t x m h
 
-  with_annotations_is : (m n : ℕ) (x : FileParts) (s : AnnotationState) → m ≤ n → IsFile m x → IsFile n (record x { annotations = s })
-  with_annotations_is m n x s le h =
+  with_annotations_is : (m n : ℕ) (x : FileParts) (s : AnnotationState) (o : Option FunctionContract) → m ≤ n → MaybeFormed IsShortReading o → Within m n (λ k. contract_at k o) → IsFile m x → IsFile n (record x { annotations = s; awaiting = o })
+  with_annotations_is m n x s o le c a h =
       let higher = file_higher m n x le h in
       record {
         later = h.later;
@@ -293,7 +345,9 @@ module _ (size : ℕ) (old : Vocabulary) where
         globals = higher.globals;
         functions = higher.functions;
         ascend = higher.ascend;
-        apart = apart_same n (parts_cover x) (parts_cover (record x { annotations = s })) (λ o. refl) higher.apart;
+        apart = apart_same n (parts_cover x) (parts_cover (record x { annotations = s; awaiting = o })) (λ o. refl) higher.apart;
+        awaiting = c;
+        annots = within_two 0 m n (λ k. functions_at k x.functions) (λ k. contract_at k o) (within_fewer h.annots (λ k. omega arith)) a;
       }
 
   declared_from : (m : ℕ) (x : FileParts) → IsFile m x → From size m (declared_external x) IsFile
@@ -301,9 +355,31 @@ module _ (size : ℕ) (old : Vocabulary) where
   declared_from m x h = from_then (spec_from size old x.words h.later m x.definitions h.definitions) (λ n s p.
       behind_spec_from s.storage s.ctype n (record x { definitions = s.definitions }) (with_definitions_is m n x s.definitions h p))
 
+  -- the contract that is the last of the annotations before a declaration
+  record IsStray (l n : ℕ) (s : AnnotationState × Option FunctionContract) : Type 0 where
+    on : l ≤ n
+    formed : MaybeFormed IsShortReading s.1
+    annots : Within l n (λ o. contract_at o s.1)
+
+  behind_stray : (l n : ℕ) (s : AnnotationState × Option FunctionContract) (y : ReadAnnotation × ℕ) → l ≤ n → IsReadAnnotation y.0 → Within l n (λ o. annotations_at o y.0.0 + contract_at o y.0.1)
+      → IsStray l n (elim y.0.1 [ None ↦ (after_misplaced (without s.0 s.1) y, None) | Some c ↦ (after_placed (without s.0 s.1) y.1, Some c) ])
+  behind_stray l n s ((a, None), k) le h g = record { on = le; formed = tt; annots = within_none l n le }
+  behind_stray l n s ((a, Some c), k) le h g = record { on = le; formed = h.contract; annots = within_fewer g (λ o. omega arith) }
+
+  stray_from : (ws : Vocabulary) (l m : ℕ) (s : AnnotationState × Option FunctionContract) → IsStray l m s → From size m (next_stray ws s) (IsStray l)
+  unfolding next_stray
+  stray_from ws l m s h = from_then (from_both (from_each (annotations_each size ws s.0.number)) (annotations_from size ws s.0.number m)) (λ n y p.
+      from_gives _ (behind_stray l n s y (omega (arith, h.on, (p.0).1)) (p.0).2 (within_wider l n h.on (omega arith) p.1)))
+
+  strays_from : (ws : Vocabulary) (l : ℕ) (c : AnnotationState) → From size l (strays ws c) (IsStray l)
+  unfolding strays
+  strays_from ws l c = from_many (kind ws) (λ _. annot_open_kind ∷ []) {P = IsStray l} (λ m s h. stray_from ws l m s h) l (c, None) (record { on = omega arith; formed = tt; annots = within_none l l (omega arith) })
+
   external_from : (m : ℕ) (x : FileParts) → IsFile m x → From size m (external x) IsFile
   unfolding external
-  external_from m x h = from_then (from_any (strays x.words x.annotations)) (λ n s le. declared_from n (record x { annotations = s }) (with_annotations_is m n x s le h))
+  external_from m x h = from_then (strays_from x.words m x.annotations) (λ n s p.
+      from_then (declared_from n (record x { annotations = s.0; awaiting = s.1 }) (with_annotations_is m n x s.0 s.1 p.on p.formed p.annots h)) (λ k y g.
+      from_gives _ (with_annotations_is k k y (awaiting_nothing y).annotations None (omega arith) tt (within_none k k (omega arith)) g)))
 
   nothing_read : (ws : Vocabulary) → IsLater old ws → IsFile 0 (no_parts ws)
   nothing_read ws later = record {
@@ -314,6 +390,8 @@ module _ (size : ℕ) (old : Vocabulary) where
     functions = tt;
     ascend = omega arith;
     apart = record { once = λ o. omega arith; behind = λ o ge. omega arith };
+    awaiting = tt;
+    annots = within_none 0 0 (omega arith);
   }
 
 -- what is known of a text that is read

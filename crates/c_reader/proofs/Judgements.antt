@@ -21,16 +21,15 @@ use Rattle.interval_infer.proofs.InSight.{judged_in_sight}
 use Rattle.c_reader.specs.Programs.{TypedTreesKeepAsserts, LettersAreCharacters, ResultsFit, RunsJudgeSoundly, JudgementsAreSound}
 use Rattle.c_reader.specs.Programs.{JudgementsAreInSight}
 use Rattle.c_reader.proofs.AcceptedTexts.{accepted_program}
-use Rattle.c_reader.proofs.Letters.{accepted_letters}
 
 pub typed_trees_keep_asserts : TypedTreesKeepAsserts
 typed_trees_keep_asserts tree typed t is = subst (FunctionsRead AreReadAsserts) (sym (typed_in_order tree typed t.order is).functions) (forms_kept tree typed t is)
 
 pub letters_are_characters : LettersAreCharacters
-letters_are_characters text p a = accepted_letters text p a
+letters_are_characters text p a = (accepted_program text p a).characters
 
 pub results_fit : ResultsFit
-results_fit text p a i f e = results_are_fit p (accepted_program text p a) (accepted_letters text p a).funcs i f e
+results_fit text p a i f e = results_are_fit p (accepted_program text p a) i f e
 
 pub runs_judge_soundly : RunsJudgeSoundly
 runs_judge_soundly text p a input n = judged_states_are_sound p (accepted_program text p a) input n

@@ -4,6 +4,8 @@ pub mod PlacedReadings
 pub mod ExpressionForms
 pub mod AnnotationForms
 pub mod DeclarationForms
+pub mod Places
+pub mod FormPlaces
 pub mod StatementForms
 pub mod ParameterForms
 pub mod Covers
@@ -19,10 +21,8 @@ pub mod StringBytes
 pub mod TextTokens
 pub mod ReadTrees
 -- what typing keeps of each expression
-pub mod TypedEach
 -- texts
 pub mod AcceptedTexts
-pub mod Letters
 pub mod Judgements
 pub mod Phases
 pub mod Texts

@@ -86,6 +86,10 @@ from_deep K ks g = record { holds = λ a x n o s r. g.holds a x n o s r }
 pub from_any : {size l : ℕ} {A : Type 0} (G : Syntax PlainToken A) → From size l G (λ n x. l ≤ n)
 from_any {size} {l} G = record { holds = λ a x n o s r. reach_on l a n s }
 
+-- two facts of what is read
+pub from_both : {size l : ℕ} {A : Type 0} {G : Syntax PlainToken A} {P Q : ℕ → A → Type 0} → From size l G P → From size l G Q → From size l G (λ n x. P n x × Q n x)
+from_both g h = record { holds = λ a x n o s r. (g.holds a x n o s r, h.holds a x n o s r) }
+
 -- what is read without regard to places
 pub from_each : {size l : ℕ} {A : Type 0} {G : Syntax PlainToken A} {P : ℕ → A → Type 0} → Each size G P → From size l G (λ n x. (k : ℕ) × (l ≤ n) × P k x)
 from_each {size} {l} e = record { holds = λ a x n o s r. (length a, reach_on l a n s, e.holds a x o r) }

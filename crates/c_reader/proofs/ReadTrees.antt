@@ -12,11 +12,11 @@ use Rattle.c_model.specs.CTokens.{tokens_of}
 use Rattle.c_model.specs.Vocabulary.{Vocabulary, word_of}
 use Rattle.c_model.specs.ProgramGrammar.{FileParts, texts_of, unit_with}
 use Rattle.c_model.specs.Phases.{vocabulary, IsRead}
-use Rattle.c_model.specs.AcceptedPrograms.{EachExpression}
 use Rattle.c_model.specs.FullExpressions.{EachInFunctions}
-use Rattle.c_model.specs.Formed.{AreReadAsserts, AreNamed, AreNamedParameters, FunctionsNamed, declared_in_body}
+use Rattle.c_model.specs.FormedContracts.{ContractsFormed}
+use Rattle.c_model.specs.Formed.{AreReadAsserts, IsShortReading, AreNamed, AreNamedParameters, FunctionsNamed, declared_in_body}
 use Rattle.c_model.specs.ReadTree.{Between, IsShort, FunctionsRead, AreBytes, TextsAreBytes, ReadTree}
-use Rattle.c_model.specs.SoundJudgements.{LettersFit}
+use Rattle.c_model.specs.LetterValues.{LettersFit}
 use Rattle.c_reader.proofs.TokenForms.{IsLexed}
 use Rattle.c_reader.proofs.ExpressionForms.{IsFormed}
 use Rattle.c_reader.proofs.EachForms.{declared_follow, functions_follow}
@@ -54,6 +54,10 @@ module _ (size : ℕ) (old : Vocabulary) where
   functions_read : (n : ℕ) (fs : List Function) → AllByRecursion (IsFunction size old n) fs → FunctionsRead AreReadAsserts fs
   functions_read n [] h = tt
   functions_read n (f ∷ fs) h = (h.0.read, functions_read n fs h.1)
+
+  contracts_formed : (n : ℕ) (fs : List Function) → AllByRecursion (IsFunction size old n) fs → ContractsFormed IsShortReading fs
+  contracts_formed n [] h = tt
+  contracts_formed n (f ∷ fs) h = (h.0.contract, contracts_formed n fs h.1)
 
   functions_short : (n : ℕ) (fs : List Function) → AllByRecursion (IsFunction size old n) fs → EachInFunctions IsFormed fs
   functions_short n [] h = tt
@@ -96,8 +100,14 @@ file_is_read ts n x le words list h =
     record {
       order = file_in_order size ws n x h ts.names (texts_of ts.list) le;
       functions = functions_read size ws n x.functions h.functions;
+      contracts = contracts_formed size ws n x.functions h.functions;
+      annotations_apart = λ o. (let once = h.annots.once o in omega (arith, once));
       functions_short = functions_follow IsFormed IsShort (λ e p. p.short) x.functions (functions_short size ws n x.functions h.functions);
       globals_short = declared_follow IsFormed IsShort (λ e p. p.short) x.globals h.globals.short;
+      characters = record {
+        globals = declared_follow IsFormed LettersFit (λ e p. p.letters) x.globals h.globals.short;
+        funcs = functions_follow IsFormed LettersFit (λ e p. p.letters) x.functions (functions_short size ws n x.functions h.functions);
+      };
       functions_named = functions_named ts.names words n x.functions h.functions;
       globals_named = named ts.names words x.globals h.globals.declares.names;
       texts = texts_are_bytes size ts.list list;
@@ -111,18 +121,3 @@ tree_is_read text ts p bytes few has read =
     let u = (unit_from (length ts.names) (vocabulary ts) ts.names (texts_of ts.list)).holds ts.list (p, None) lex.end lex.list lex.reach read.reading in
     let below : lex.end ≤ 4294967295 = omega (arith, few, lex.below) in
     subst ReadTree (sym u.is) (file_is_read ts lex.end u.parts below lex.names lex.list u.file)
-
--- ---- letters
-
-file_has_letters : (ts : PlainTokens) (n : ℕ) (x : FileParts) → IsFile (length ts.names) (vocabulary ts) n x → EachExpression LettersFit (unit_with ts.names (texts_of ts.list) x)
-file_has_letters ts n x h = record {
-  globals = declared_follow IsFormed LettersFit (λ e p. p.letters) x.globals h.globals.short;
-  funcs = functions_follow IsFormed LettersFit (λ e p. p.letters) x.functions (functions_short (length ts.names) (vocabulary ts) n x.functions h.functions);
-}
-
--- those in the tree that is read are values of `char`
-pub tree_has_letters : (text : List ℕ) (ts : PlainTokens) (p : TranslationUnit) → AreBytes text → length text < 4294967295 → tokens_of text ≡ Ok ts → IsRead ts p → EachExpression LettersFit p
-tree_has_letters text ts p bytes few has read =
-    let lex = lexed text ts bytes has in
-    let u = (unit_from (length ts.names) (vocabulary ts) ts.names (texts_of ts.list)).holds ts.list (p, None) lex.end lex.list lex.reach read.reading in
-    subst (EachExpression LettersFit) (sym u.is) (file_has_letters ts lex.end u.parts u.file)

@@ -35,7 +35,7 @@ use Rattle.c_model.proofs.CNameLaws.{names_in_order}
 use Rattle.c_model.proofs.CPieceLaws.{pieces_joined, pieces_spelled}
 use Rattle.c_model.proofs.CListLaws.{AllBelow, tokens_ascend, tokens_below}
 use Rattle.c_model.specs.ReadTree.{AreBytes}
-use Rattle.c_model.specs.SoundJudgements.{IsCharacter}
+use Rattle.c_model.specs.LetterValues.{IsCharacter}
 use Rattle.c_reader.proofs.TokenForms.{IsLexed, IsLexedKind}
 use Rattle.c_reader.proofs.PlacedReadings.{Reach}
 use Rattle.c_reader.proofs.DeclarationForms.{IsNewName}
@@ -291,6 +291,9 @@ no_logic_name logic.Null h = cc
 no_logic_name (logic.Told f) h = cc
 no_logic_name (logic.Asks q) h = cc
 no_logic_name logic.Separated h = cc
+no_logic_name logic.Result h = cc
+no_logic_name logic.Old h = cc
+no_logic_name logic.At h = cc
 no_logic_name logic.Kept h = cc
 
 backslash_word : (w : List ℕ) → word_kind (word_of (92 ∷ w)) ≡ name_kind → ⊥

@@ -6,7 +6,7 @@ use Rattle.c_syntax.specs.declared.place.Place.{Place}
 use Rattle.c_syntax.specs.Tokens as token
 use Rattle.c_syntax.specs.Tokens.{PlainTokenKind, PlainToken}
 use Rattle.c_model.specs.ExpressionGrammar.{letter_of}
-use Rattle.c_model.specs.SoundJudgements.{IsCharacter}
+use Rattle.c_model.specs.LetterValues.{IsCharacter}
 use Rattle.c_model.specs.Terminals.{placed}
 use Rattle.c_model.specs.ReadTree.{AreBytes}
 

@@ -19,22 +19,24 @@ use Rattle.c_model.specs.Library.{library_constant, is_library_name}
 use Rattle.c_model.specs.ExpressionGrammar.{integer_word, integer_words, typedef_name, struct_tag, enum_tag, untagged_base, base, consts, type_words, type_behind, more_consts, star, next_star, star_words, written_length, length_or_none}
 use Rattle.c_model.specs.ExpressionGrammar.{bracket, next_bracket, brackets, type_name, closed, indexed, dotted, arrowed, postfix_once, postfixes, postfix_rest, literal, literal_first, cast_rest, sized_type, paren_rest, behind_paren}
 use Rattle.c_model.specs.ExpressionGrammar.{prefixed, sized, operand_but_name, operand_of, operand, joined_once, behind_operand, choice_rest, conditional_rest, expression_of, expression, next_argument, arguments, call_rest}
-use Rattle.c_model.specs.ExpressionGrammar.{behind_variable, assigned, bumped, behind_unary, behind_form, bump_first, at_level, next_part, with_commas, expression_at, placed_expression}
-use Rattle.c_model.specs.ExpressionGrammar.{full_expression, full_placed_expression, full_expression_at}
+use Rattle.c_model.specs.ExpressionGrammar.{behind_variable, assigned, bumped, behind_unary, behind_form, bump_first, at_level, next_part, with_commas, expression_at, placed_rest, placed_expression, nameless_expression, expression_behind}
+use Rattle.c_model.specs.ExpressionGrammar.{full_expression, full_placed_expression, full_nameless_expression, full_expression_behind, full_expression_at}
 use Rattle.c_model.specs.DeclarationGrammar.{ended, maybe_comma, next_item, item_once, more_items, listed, lengths, dtor, full_dtor, maybe_name, abstract_dtor, full_abstract_dtor, item_of_list, list_of, list_in, initialiser, initialised}
 use Rattle.c_model.specs.DeclarationGrammar.{declared_once, next_declared, more_declared, declared_list, declaration, parameter_rest, void_parameter, parameter_behind, parameter, next_parameter, more_parameters, first_parameter, parameters}
 use Rattle.c_model.specs.DeclarationGrammar.{next_member, members_of, behind_tag, behind_word, tagged_type, braced, member, more_members, struct_braces, constant_value, constant, enum_braces, braces_of, braces_in, storage_word}
 use Rattle.c_model.specs.DeclarationGrammar.{more_storage, file_spec}
-use Rattle.c_model.specs.AnnotationGrammar.{whole, zone, named_form, literal_form, sized_form, null_form, told_form, asked_form, next_zone, some_zones, separated_form, atom, worded, indexed as formula_indexed}
+use Rattle.c_model.specs.AnnotationGrammar.{whole, zone, named_form, literal_form, sized_form, null_form, result_form, old_form, labelled_form, told_form, asked_form, next_zone, some_zones, separated_form, atom, worded, indexed as formula_indexed}
 use Rattle.c_model.specs.AnnotationGrammar.{dotted as formula_dotted, pointed, postfix_once as formula_postfix_once, postfixes as formula_postfixes, worded_postfix, cast_behind, cast_to_type, cast_to_integer}
 use Rattle.c_model.specs.AnnotationGrammar.{closed_postfix, parenthesised, behind_parenthesis, prefixed as formula_prefixed, bare_prefix, prefix_of, prefix, joined_once as formula_joined_once, joined_more, joined}
 use Rattle.c_model.specs.AnnotationGrammar.{factor, added_rest, ranged, behind_first, added_parenthesis, added, sum_once, sum_more, zone_sum, linked, links_of, links, chain_behind, chain_of, implied}
-use Rattle.c_model.specs.AnnotationGrammar.{implication_behind, implication_of, chosen_behind, choice_behind, implication, form_of, forms, assert_clause, full_clause, next_assert, asserts, annotations}
-use Rattle.c_model.specs.ProgramGrammar.{texts_of, misplaced, placed_annotation, condition, else_branch, else_part, selection, while_loop, do_loop, for_first, maybe_ended, for_behind, for_loop, jump, returned}
+use Rattle.c_model.specs.AnnotationGrammar.{implication_behind, implication_of, chosen_behind, choice_behind, implication, form_of, forms}
+use Rattle.c_model.specs.ClauseGrammar.{form_clause, full_clause, next_clause, more_clauses, asserts, behavior, next_behavior, more_behaviors, behavior_name, next_name, some_names, behavior_names, cover_clause, full_cover, next_cover}
+use Rattle.c_model.specs.ClauseGrammar.{more_covers, behaviors_and_covers, own_first, behavior_first, cover_first, contract, clauses, annotations}
+use Rattle.c_model.specs.ProgramGrammar.{texts_of, misplaced, run_item, behind_annotation, annotated_item, condition, else_branch, else_part, selection, while_loop, do_loop, for_first, maybe_ended, for_behind, for_loop, jump, returned}
 use Rattle.c_model.specs.ProgramGrammar.{return_statement, item, items_once, items, block, valued_case, default_case, case_label, case_item, case_items_once, case_items}
-use Rattle.c_model.specs.ProgramGrammar.{next_case, cases, switch_statement, empty_statement, effect_statement, statement_of, branch_of, statement_in, branch_in}
+use Rattle.c_model.specs.ProgramGrammar.{next_case, cases, switch_statement, empty_statement, effect_statement, effect_behind, labelled_statement, named_statement, statement_of, branch_of, statement_in, branch_in}
 use Rattle.c_model.specs.ProgramGrammar.{function_rest, function, globals, behind_declarator, declared_at_file}
-use Rattle.c_model.specs.ProgramGrammar.{next_typedef, more_typedefs, typedefs, strays, declared_external, external, more_external, unit}
+use Rattle.c_model.specs.ProgramGrammar.{next_typedef, more_typedefs, typedefs, next_stray, strays, declared_external, external, more_external, unit}
 use Rattle.c_model.specs.State.{EndOfInput, Final, Exits, Broken, Undefined}
 use Rattle.c_model.specs.Meaning.{run}
 use Rattle.c_model.specs.Phases.{vocabulary}
@@ -95,16 +97,21 @@ unfolding tokens_of build cut piece_at add marks digits_at suffix_of body_of lit
     is_outside word_at number_at letter_at string_at annotation_marks c_mark_at mark_at comment_at open_block open_line other_at directive_at integer_word integer_words typedef_name struct_tag enum_tag untagged_base base
     consts type_words type_behind more_consts star next_star star_words written_length length_or_none bracket next_bracket brackets type_name closed indexed dotted arrowed postfix_once postfixes postfix_rest literal
     literal_first cast_rest sized_type paren_rest behind_paren prefixed sized operand_but_name operand_of operand joined_once behind_operand choice_rest conditional_rest expression_of expression_at expression next_argument
-    arguments call_rest behind_variable assigned bumped behind_unary behind_form at_level next_part with_commas bump_first full_expression placed_expression full_placed_expression full_expression_at ended maybe_comma
+    arguments call_rest behind_variable assigned bumped behind_unary behind_form at_level next_part with_commas bump_first full_expression placed_rest placed_expression nameless_expression expression_behind full_placed_expression
+    full_nameless_expression full_expression_behind
+    full_expression_at ended maybe_comma
     next_item item_once more_items listed lengths dtor full_dtor maybe_name abstract_dtor full_abstract_dtor item_of_list list_of list_in initialiser initialised declared_once next_declared more_declared declared_list
     declaration parameter_rest void_parameter parameter_behind parameter next_parameter more_parameters first_parameter parameters next_member members_of behind_tag behind_word tagged_type braced member more_members
-    struct_braces constant_value constant enum_braces braces_of braces_in storage_word more_storage file_spec whole zone named_form literal_form sized_form null_form told_form asked_form next_zone some_zones separated_form atom
+    struct_braces constant_value constant enum_braces braces_of braces_in storage_word more_storage file_spec whole zone named_form literal_form sized_form null_form result_form old_form labelled_form told_form asked_form
+    next_zone some_zones separated_form atom
     worded formula_indexed formula_dotted pointed formula_postfix_once formula_postfixes worded_postfix cast_behind cast_to_type cast_to_integer closed_postfix parenthesised behind_parenthesis formula_prefixed bare_prefix
     prefix_of prefix formula_joined_once joined_more joined factor added_rest ranged behind_first added_parenthesis added sum_once sum_more zone_sum linked links_of links chain_behind chain_of implied implication_behind
-    implication_of chosen_behind choice_behind implication form_of forms assert_clause full_clause next_assert asserts
-    annotations misplaced placed_annotation condition else_branch else_part selection while_loop do_loop for_first maybe_ended for_behind for_loop jump returned return_statement item items_once items block valued_case
-    default_case case_label case_item case_items_once case_items next_case cases switch_statement empty_statement effect_statement statement_of branch_of statement_in branch_in function_rest function globals behind_declarator
-    declared_at_file next_typedef more_typedefs typedefs strays declared_external external more_external unit word_of library_constant is_library_name
+    implication_of chosen_behind choice_behind implication form_of forms form_clause full_clause next_clause more_clauses asserts behavior next_behavior more_behaviors behavior_name next_name some_names behavior_names cover_clause
+    full_cover next_cover more_covers behaviors_and_covers own_first behavior_first cover_first contract clauses annotations misplaced run_item behind_annotation annotated_item
+    condition else_branch else_part selection while_loop do_loop for_first maybe_ended for_behind for_loop jump returned return_statement item items_once items block valued_case
+    default_case case_label case_item case_items_once case_items next_case cases switch_statement empty_statement effect_statement effect_behind labelled_statement named_statement statement_of branch_of statement_in branch_in
+    function_rest function globals behind_declarator
+    declared_at_file next_typedef more_typedefs typedefs next_stray strays declared_external external more_external unit word_of library_constant is_library_name
 programs = refl
 
 -- texts that are refused
@@ -152,16 +159,21 @@ unfolding tokens_of build cut piece_at add marks digits_at suffix_of body_of lit
     is_outside word_at number_at letter_at string_at annotation_marks c_mark_at mark_at comment_at open_block open_line other_at directive_at integer_word integer_words typedef_name struct_tag enum_tag untagged_base base
     consts type_words type_behind more_consts star next_star star_words written_length length_or_none bracket next_bracket brackets type_name closed indexed dotted arrowed postfix_once postfixes postfix_rest literal
     literal_first cast_rest sized_type paren_rest behind_paren prefixed sized operand_but_name operand_of operand joined_once behind_operand choice_rest conditional_rest expression_of expression_at expression next_argument
-    arguments call_rest behind_variable assigned bumped behind_unary behind_form at_level next_part with_commas bump_first full_expression placed_expression full_placed_expression full_expression_at ended maybe_comma
+    arguments call_rest behind_variable assigned bumped behind_unary behind_form at_level next_part with_commas bump_first full_expression placed_rest placed_expression nameless_expression expression_behind full_placed_expression
+    full_nameless_expression full_expression_behind
+    full_expression_at ended maybe_comma
     next_item item_once more_items listed lengths dtor full_dtor maybe_name abstract_dtor full_abstract_dtor item_of_list list_of list_in initialiser initialised declared_once next_declared more_declared declared_list
     declaration parameter_rest void_parameter parameter_behind parameter next_parameter more_parameters first_parameter parameters next_member members_of behind_tag behind_word tagged_type braced member more_members
-    struct_braces constant_value constant enum_braces braces_of braces_in storage_word more_storage file_spec whole zone named_form literal_form sized_form null_form told_form asked_form next_zone some_zones separated_form atom
+    struct_braces constant_value constant enum_braces braces_of braces_in storage_word more_storage file_spec whole zone named_form literal_form sized_form null_form result_form old_form labelled_form told_form asked_form
+    next_zone some_zones separated_form atom
     worded formula_indexed formula_dotted pointed formula_postfix_once formula_postfixes worded_postfix cast_behind cast_to_type cast_to_integer closed_postfix parenthesised behind_parenthesis formula_prefixed bare_prefix
     prefix_of prefix formula_joined_once joined_more joined factor added_rest ranged behind_first added_parenthesis added sum_once sum_more zone_sum linked links_of links chain_behind chain_of implied implication_behind
-    implication_of chosen_behind choice_behind implication form_of forms assert_clause full_clause next_assert asserts
-    annotations misplaced placed_annotation condition else_branch else_part selection while_loop do_loop for_first maybe_ended for_behind for_loop jump returned return_statement item items_once items block valued_case
-    default_case case_label case_item case_items_once case_items next_case cases switch_statement empty_statement effect_statement statement_of branch_of statement_in branch_in function_rest function globals behind_declarator
-    declared_at_file next_typedef more_typedefs typedefs strays declared_external external more_external unit word_of library_constant is_library_name
+    implication_of chosen_behind choice_behind implication form_of forms form_clause full_clause next_clause more_clauses asserts behavior next_behavior more_behaviors behavior_name next_name some_names behavior_names cover_clause
+    full_cover next_cover more_covers behaviors_and_covers own_first behavior_first cover_first contract clauses annotations misplaced run_item behind_annotation annotated_item
+    condition else_branch else_part selection while_loop do_loop for_first maybe_ended for_behind for_loop jump returned return_statement item items_once items block valued_case
+    default_case case_label case_item case_items_once case_items next_case cases switch_statement empty_statement effect_statement effect_behind labelled_statement named_statement statement_of branch_of statement_in branch_in
+    function_rest function globals behind_declarator
+    declared_at_file next_typedef more_typedefs typedefs next_stray strays declared_external external more_external unit word_of library_constant is_library_name
 refusals = refl
 
 -- assignments, increments, calls and commas in expressions, and `switch`
@@ -191,16 +203,21 @@ unfolding tokens_of build cut piece_at add marks digits_at suffix_of body_of lit
     is_outside word_at number_at letter_at string_at annotation_marks c_mark_at mark_at comment_at open_block open_line other_at directive_at integer_word integer_words typedef_name struct_tag enum_tag untagged_base base
     consts type_words type_behind more_consts star next_star star_words written_length length_or_none bracket next_bracket brackets type_name closed indexed dotted arrowed postfix_once postfixes postfix_rest literal
     literal_first cast_rest sized_type paren_rest behind_paren prefixed sized operand_but_name operand_of operand joined_once behind_operand choice_rest conditional_rest expression_of expression_at expression next_argument
-    arguments call_rest behind_variable assigned bumped behind_unary behind_form at_level next_part with_commas bump_first full_expression placed_expression full_placed_expression full_expression_at ended maybe_comma
+    arguments call_rest behind_variable assigned bumped behind_unary behind_form at_level next_part with_commas bump_first full_expression placed_rest placed_expression nameless_expression expression_behind full_placed_expression
+    full_nameless_expression full_expression_behind
+    full_expression_at ended maybe_comma
     next_item item_once more_items listed lengths dtor full_dtor maybe_name abstract_dtor full_abstract_dtor item_of_list list_of list_in initialiser initialised declared_once next_declared more_declared declared_list
     declaration parameter_rest void_parameter parameter_behind parameter next_parameter more_parameters first_parameter parameters next_member members_of behind_tag behind_word tagged_type braced member more_members
-    struct_braces constant_value constant enum_braces braces_of braces_in storage_word more_storage file_spec whole zone named_form literal_form sized_form null_form told_form asked_form next_zone some_zones separated_form atom
+    struct_braces constant_value constant enum_braces braces_of braces_in storage_word more_storage file_spec whole zone named_form literal_form sized_form null_form result_form old_form labelled_form told_form asked_form
+    next_zone some_zones separated_form atom
     worded formula_indexed formula_dotted pointed formula_postfix_once formula_postfixes worded_postfix cast_behind cast_to_type cast_to_integer closed_postfix parenthesised behind_parenthesis formula_prefixed bare_prefix
     prefix_of prefix formula_joined_once joined_more joined factor added_rest ranged behind_first added_parenthesis added sum_once sum_more zone_sum linked links_of links chain_behind chain_of implied implication_behind
-    implication_of chosen_behind choice_behind implication form_of forms assert_clause full_clause next_assert asserts
-    annotations misplaced placed_annotation condition else_branch else_part selection while_loop do_loop for_first maybe_ended for_behind for_loop jump returned return_statement item items_once items block valued_case
-    default_case case_label case_item case_items_once case_items next_case cases switch_statement empty_statement effect_statement statement_of branch_of statement_in branch_in function_rest function globals behind_declarator
-    declared_at_file next_typedef more_typedefs typedefs strays declared_external external more_external unit word_of library_constant is_library_name
+    implication_of chosen_behind choice_behind implication form_of forms form_clause full_clause next_clause more_clauses asserts behavior next_behavior more_behaviors behavior_name next_name some_names behavior_names cover_clause
+    full_cover next_cover more_covers behaviors_and_covers own_first behavior_first cover_first contract clauses annotations misplaced run_item behind_annotation annotated_item
+    condition else_branch else_part selection while_loop do_loop for_first maybe_ended for_behind for_loop jump returned return_statement item items_once items block valued_case
+    default_case case_label case_item case_items_once case_items next_case cases switch_statement empty_statement effect_statement effect_behind labelled_statement named_statement statement_of branch_of statement_in branch_in
+    function_rest function globals behind_declarator
+    declared_at_file next_typedef more_typedefs typedefs next_stray strays declared_external external more_external unit word_of library_constant is_library_name
 effects = refl
 
 -- functions, their prototypes and calls, and declarations in blocks
@@ -224,16 +241,21 @@ unfolding tokens_of build cut piece_at add marks digits_at suffix_of body_of lit
     is_outside word_at number_at letter_at string_at annotation_marks c_mark_at mark_at comment_at open_block open_line other_at directive_at integer_word integer_words typedef_name struct_tag enum_tag untagged_base base
     consts type_words type_behind more_consts star next_star star_words written_length length_or_none bracket next_bracket brackets type_name closed indexed dotted arrowed postfix_once postfixes postfix_rest literal
     literal_first cast_rest sized_type paren_rest behind_paren prefixed sized operand_but_name operand_of operand joined_once behind_operand choice_rest conditional_rest expression_of expression_at expression next_argument
-    arguments call_rest behind_variable assigned bumped behind_unary behind_form at_level next_part with_commas bump_first full_expression placed_expression full_placed_expression full_expression_at ended maybe_comma
+    arguments call_rest behind_variable assigned bumped behind_unary behind_form at_level next_part with_commas bump_first full_expression placed_rest placed_expression nameless_expression expression_behind full_placed_expression
+    full_nameless_expression full_expression_behind
+    full_expression_at ended maybe_comma
     next_item item_once more_items listed lengths dtor full_dtor maybe_name abstract_dtor full_abstract_dtor item_of_list list_of list_in initialiser initialised declared_once next_declared more_declared declared_list
     declaration parameter_rest void_parameter parameter_behind parameter next_parameter more_parameters first_parameter parameters next_member members_of behind_tag behind_word tagged_type braced member more_members
-    struct_braces constant_value constant enum_braces braces_of braces_in storage_word more_storage file_spec whole zone named_form literal_form sized_form null_form told_form asked_form next_zone some_zones separated_form atom
+    struct_braces constant_value constant enum_braces braces_of braces_in storage_word more_storage file_spec whole zone named_form literal_form sized_form null_form result_form old_form labelled_form told_form asked_form
+    next_zone some_zones separated_form atom
     worded formula_indexed formula_dotted pointed formula_postfix_once formula_postfixes worded_postfix cast_behind cast_to_type cast_to_integer closed_postfix parenthesised behind_parenthesis formula_prefixed bare_prefix
     prefix_of prefix formula_joined_once joined_more joined factor added_rest ranged behind_first added_parenthesis added sum_once sum_more zone_sum linked links_of links chain_behind chain_of implied implication_behind
-    implication_of chosen_behind choice_behind implication form_of forms assert_clause full_clause next_assert asserts
-    annotations misplaced placed_annotation condition else_branch else_part selection while_loop do_loop for_first maybe_ended for_behind for_loop jump returned return_statement item items_once items block valued_case
-    default_case case_label case_item case_items_once case_items next_case cases switch_statement empty_statement effect_statement statement_of branch_of statement_in branch_in function_rest function globals behind_declarator
-    declared_at_file next_typedef more_typedefs typedefs strays declared_external external more_external unit word_of library_constant is_library_name
+    implication_of chosen_behind choice_behind implication form_of forms form_clause full_clause next_clause more_clauses asserts behavior next_behavior more_behaviors behavior_name next_name some_names behavior_names cover_clause
+    full_cover next_cover more_covers behaviors_and_covers own_first behavior_first cover_first contract clauses annotations misplaced run_item behind_annotation annotated_item
+    condition else_branch else_part selection while_loop do_loop for_first maybe_ended for_behind for_loop jump returned return_statement item items_once items block valued_case
+    default_case case_label case_item case_items_once case_items next_case cases switch_statement empty_statement effect_statement effect_behind labelled_statement named_statement statement_of branch_of statement_in branch_in
+    function_rest function globals behind_declarator
+    declared_at_file next_typedef more_typedefs typedefs next_stray strays declared_external external more_external unit word_of library_constant is_library_name
 calls = refl
 
 -- texts that are refused for their functions, calls and declarations
@@ -271,16 +293,21 @@ unfolding tokens_of build cut piece_at add marks digits_at suffix_of body_of lit
     is_outside word_at number_at letter_at string_at annotation_marks c_mark_at mark_at comment_at open_block open_line other_at directive_at integer_word integer_words typedef_name struct_tag enum_tag untagged_base base
     consts type_words type_behind more_consts star next_star star_words written_length length_or_none bracket next_bracket brackets type_name closed indexed dotted arrowed postfix_once postfixes postfix_rest literal
     literal_first cast_rest sized_type paren_rest behind_paren prefixed sized operand_but_name operand_of operand joined_once behind_operand choice_rest conditional_rest expression_of expression_at expression next_argument
-    arguments call_rest behind_variable assigned bumped behind_unary behind_form at_level next_part with_commas bump_first full_expression placed_expression full_placed_expression full_expression_at ended maybe_comma
+    arguments call_rest behind_variable assigned bumped behind_unary behind_form at_level next_part with_commas bump_first full_expression placed_rest placed_expression nameless_expression expression_behind full_placed_expression
+    full_nameless_expression full_expression_behind
+    full_expression_at ended maybe_comma
     next_item item_once more_items listed lengths dtor full_dtor maybe_name abstract_dtor full_abstract_dtor item_of_list list_of list_in initialiser initialised declared_once next_declared more_declared declared_list
     declaration parameter_rest void_parameter parameter_behind parameter next_parameter more_parameters first_parameter parameters next_member members_of behind_tag behind_word tagged_type braced member more_members
-    struct_braces constant_value constant enum_braces braces_of braces_in storage_word more_storage file_spec whole zone named_form literal_form sized_form null_form told_form asked_form next_zone some_zones separated_form atom
+    struct_braces constant_value constant enum_braces braces_of braces_in storage_word more_storage file_spec whole zone named_form literal_form sized_form null_form result_form old_form labelled_form told_form asked_form
+    next_zone some_zones separated_form atom
     worded formula_indexed formula_dotted pointed formula_postfix_once formula_postfixes worded_postfix cast_behind cast_to_type cast_to_integer closed_postfix parenthesised behind_parenthesis formula_prefixed bare_prefix
     prefix_of prefix formula_joined_once joined_more joined factor added_rest ranged behind_first added_parenthesis added sum_once sum_more zone_sum linked links_of links chain_behind chain_of implied implication_behind
-    implication_of chosen_behind choice_behind implication form_of forms assert_clause full_clause next_assert asserts
-    annotations misplaced placed_annotation condition else_branch else_part selection while_loop do_loop for_first maybe_ended for_behind for_loop jump returned return_statement item items_once items block valued_case
-    default_case case_label case_item case_items_once case_items next_case cases switch_statement empty_statement effect_statement statement_of branch_of statement_in branch_in function_rest function globals behind_declarator
-    declared_at_file next_typedef more_typedefs typedefs strays declared_external external more_external unit word_of library_constant is_library_name
+    implication_of chosen_behind choice_behind implication form_of forms form_clause full_clause next_clause more_clauses asserts behavior next_behavior more_behaviors behavior_name next_name some_names behavior_names cover_clause
+    full_cover next_cover more_covers behaviors_and_covers own_first behavior_first cover_first contract clauses annotations misplaced run_item behind_annotation annotated_item
+    condition else_branch else_part selection while_loop do_loop for_first maybe_ended for_behind for_loop jump returned return_statement item items_once items block valued_case
+    default_case case_label case_item case_items_once case_items next_case cases switch_statement empty_statement effect_statement effect_behind labelled_statement named_statement statement_of branch_of statement_in branch_in
+    function_rest function globals behind_declarator
+    declared_at_file next_typedef more_typedefs typedefs next_stray strays declared_external external more_external unit word_of library_constant is_library_name
 refused_calls = refl
 
 -- texts with declarations of all forms
@@ -326,16 +353,21 @@ unfolding tokens_of build cut piece_at add marks digits_at suffix_of body_of lit
     is_outside word_at number_at letter_at string_at annotation_marks c_mark_at mark_at comment_at open_block open_line other_at directive_at integer_word integer_words typedef_name struct_tag enum_tag untagged_base base
     consts type_words type_behind more_consts star next_star star_words written_length length_or_none bracket next_bracket brackets type_name closed indexed dotted arrowed postfix_once postfixes postfix_rest literal
     literal_first cast_rest sized_type paren_rest behind_paren prefixed sized operand_but_name operand_of operand joined_once behind_operand choice_rest conditional_rest expression_of expression_at expression next_argument
-    arguments call_rest behind_variable assigned bumped behind_unary behind_form at_level next_part with_commas bump_first full_expression placed_expression full_placed_expression full_expression_at ended maybe_comma
+    arguments call_rest behind_variable assigned bumped behind_unary behind_form at_level next_part with_commas bump_first full_expression placed_rest placed_expression nameless_expression expression_behind full_placed_expression
+    full_nameless_expression full_expression_behind
+    full_expression_at ended maybe_comma
     next_item item_once more_items listed lengths dtor full_dtor maybe_name abstract_dtor full_abstract_dtor item_of_list list_of list_in initialiser initialised declared_once next_declared more_declared declared_list
     declaration parameter_rest void_parameter parameter_behind parameter next_parameter more_parameters first_parameter parameters next_member members_of behind_tag behind_word tagged_type braced member more_members
-    struct_braces constant_value constant enum_braces braces_of braces_in storage_word more_storage file_spec whole zone named_form literal_form sized_form null_form told_form asked_form next_zone some_zones separated_form atom
+    struct_braces constant_value constant enum_braces braces_of braces_in storage_word more_storage file_spec whole zone named_form literal_form sized_form null_form result_form old_form labelled_form told_form asked_form
+    next_zone some_zones separated_form atom
     worded formula_indexed formula_dotted pointed formula_postfix_once formula_postfixes worded_postfix cast_behind cast_to_type cast_to_integer closed_postfix parenthesised behind_parenthesis formula_prefixed bare_prefix
     prefix_of prefix formula_joined_once joined_more joined factor added_rest ranged behind_first added_parenthesis added sum_once sum_more zone_sum linked links_of links chain_behind chain_of implied implication_behind
-    implication_of chosen_behind choice_behind implication form_of forms assert_clause full_clause next_assert asserts
-    annotations misplaced placed_annotation condition else_branch else_part selection while_loop do_loop for_first maybe_ended for_behind for_loop jump returned return_statement item items_once items block valued_case
-    default_case case_label case_item case_items_once case_items next_case cases switch_statement empty_statement effect_statement statement_of branch_of statement_in branch_in function_rest function globals behind_declarator
-    declared_at_file next_typedef more_typedefs typedefs strays declared_external external more_external unit word_of library_constant is_library_name
+    implication_of chosen_behind choice_behind implication form_of forms form_clause full_clause next_clause more_clauses asserts behavior next_behavior more_behaviors behavior_name next_name some_names behavior_names cover_clause
+    full_cover next_cover more_covers behaviors_and_covers own_first behavior_first cover_first contract clauses annotations misplaced run_item behind_annotation annotated_item
+    condition else_branch else_part selection while_loop do_loop for_first maybe_ended for_behind for_loop jump returned return_statement item items_once items block valued_case
+    default_case case_label case_item case_items_once case_items next_case cases switch_statement empty_statement effect_statement effect_behind labelled_statement named_statement statement_of branch_of statement_in branch_in
+    function_rest function globals behind_declarator
+    declared_at_file next_typedef more_typedefs typedefs next_stray strays declared_external external more_external unit word_of library_constant is_library_name
 declarations = refl
 
 -- an assert that is no item of a block stands where none may (E7), where what follows it makes a text
@@ -363,14 +395,19 @@ unfolding tokens_of build cut piece_at add marks digits_at suffix_of body_of lit
     is_outside word_at number_at letter_at string_at annotation_marks c_mark_at mark_at comment_at open_block open_line other_at directive_at integer_word integer_words typedef_name struct_tag enum_tag untagged_base base
     consts type_words type_behind more_consts star next_star star_words written_length length_or_none bracket next_bracket brackets type_name closed indexed dotted arrowed postfix_once postfixes postfix_rest literal
     literal_first cast_rest sized_type paren_rest behind_paren prefixed sized operand_but_name operand_of operand joined_once behind_operand choice_rest conditional_rest expression_of expression_at expression next_argument
-    arguments call_rest behind_variable assigned bumped behind_unary behind_form at_level next_part with_commas bump_first full_expression placed_expression full_placed_expression full_expression_at ended maybe_comma
+    arguments call_rest behind_variable assigned bumped behind_unary behind_form at_level next_part with_commas bump_first full_expression placed_rest placed_expression nameless_expression expression_behind full_placed_expression
+    full_nameless_expression full_expression_behind
+    full_expression_at ended maybe_comma
     next_item item_once more_items listed lengths dtor full_dtor maybe_name abstract_dtor full_abstract_dtor item_of_list list_of list_in initialiser initialised declared_once next_declared more_declared declared_list
     declaration parameter_rest void_parameter parameter_behind parameter next_parameter more_parameters first_parameter parameters next_member members_of behind_tag behind_word tagged_type braced member more_members
-    struct_braces constant_value constant enum_braces braces_of braces_in storage_word more_storage file_spec whole zone named_form literal_form sized_form null_form told_form asked_form next_zone some_zones separated_form atom
+    struct_braces constant_value constant enum_braces braces_of braces_in storage_word more_storage file_spec whole zone named_form literal_form sized_form null_form result_form old_form labelled_form told_form asked_form
+    next_zone some_zones separated_form atom
     worded formula_indexed formula_dotted pointed formula_postfix_once formula_postfixes worded_postfix cast_behind cast_to_type cast_to_integer closed_postfix parenthesised behind_parenthesis formula_prefixed bare_prefix
     prefix_of prefix formula_joined_once joined_more joined factor added_rest ranged behind_first added_parenthesis added sum_once sum_more zone_sum linked links_of links chain_behind chain_of implied implication_behind
-    implication_of chosen_behind choice_behind implication form_of forms assert_clause full_clause next_assert asserts
-    annotations misplaced placed_annotation condition else_branch else_part selection while_loop do_loop for_first maybe_ended for_behind for_loop jump returned return_statement item items_once items block valued_case
-    default_case case_label case_item case_items_once case_items next_case cases switch_statement empty_statement effect_statement statement_of branch_of statement_in branch_in function_rest function globals behind_declarator
-    declared_at_file next_typedef more_typedefs typedefs strays declared_external external more_external unit word_of library_constant is_library_name
+    implication_of chosen_behind choice_behind implication form_of forms form_clause full_clause next_clause more_clauses asserts behavior next_behavior more_behaviors behavior_name next_name some_names behavior_names cover_clause
+    full_cover next_cover more_covers behaviors_and_covers own_first behavior_first cover_first contract clauses annotations misplaced run_item behind_annotation annotated_item
+    condition else_branch else_part selection while_loop do_loop for_first maybe_ended for_behind for_loop jump returned return_statement item items_once items block valued_case
+    default_case case_label case_item case_items_once case_items next_case cases switch_statement empty_statement effect_statement effect_behind labelled_statement named_statement statement_of branch_of statement_in branch_in
+    function_rest function globals behind_declarator
+    declared_at_file next_typedef more_typedefs typedefs next_stray strays declared_external external more_external unit word_of library_constant is_library_name
 misplaced_asserts = refl

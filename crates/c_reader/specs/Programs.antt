@@ -3,14 +3,15 @@ use Rattle.std.specs.Prelude.{◌≡◌, ℕ, ◌<◌, List, length, Some, Ok, s
 use Rattle.std.specs.List.{AllByRecursion}
 use Rattle.c_syntax.specs.Programs.{Function, TranslationUnit}
 use Rattle.c_syntax.specs.Tokens.{PlainTokens}
-use Rattle.c_model.specs.AcceptedPrograms.{EachExpression}
 use Rattle.c_model.specs.CTokens.{tokens_of}
 use Rattle.c_model.specs.Checked.{Good}
 use Rattle.c_model.specs.Formed.{AreReadAsserts}
+use Rattle.c_model.specs.FullExpressions.{EachExpression}
 use Rattle.c_model.specs.JudgedStates.{judged, judged_whole}
+use Rattle.c_model.specs.LetterValues.{LettersFit}
 use Rattle.c_model.specs.Phases.{AcceptedText, IsRead}
 use Rattle.c_model.specs.ReadTree.{AreBytes, FunctionsRead, ReadTree, functions_among}
-use Rattle.c_model.specs.SoundJudgements.{GivesResult, IsSoundJudgement, LettersFit}
+use Rattle.c_model.specs.SoundJudgements.{GivesResult, IsSoundJudgement}
 use Rattle.c_model.specs.SoundStates.{IsSoundState}
 use Rattle.c_model.specs.State.{Input, State}
 use Rattle.c_model.specs.UnitTyping.{items_of_file, typed_unit}
@@ -48,8 +49,8 @@ abbrev pub JudgementsAreSound : Type 0
 JudgementsAreSound = (text : List ℕ) (p : TranslationUnit) → AcceptedText text p → (n : ℕ) (s : State) → IsSoundState p s
     → AllByRecursion (IsSoundJudgement p) (judged_whole p n s)
 
--- each annotation that a run of it judges is typed with what is in sight where it stands, and each object of that has a block in the state in which it is
--- asked: from the run's start on, on each input
+-- each annotation that a run of it judges is typed with what is in sight where it stands, and what it may name has blocks in the state in which it is asked:
+-- from the run's start on, on each input
 abbrev pub JudgementsAreInSight : Type 0
 JudgementsAreInSight = (text : List ℕ) (p : TranslationUnit) → AcceptedText text p → (input : Input) (n : ℕ)
     → AllByRecursion IsInSight (judged p input n)

@@ -98,7 +98,7 @@ pub fn about_texts()
 
 /// The tree of a text and its asserts are what typing asks for, and the letters in an accepted program are values of `char`. So what its functions give are
 /// values of their types; and wherever a run of it judges an annotation, from its start or from any sound state on, the state is sound and `\result` is a value
-/// of its type. Each object that is in sight where the annotation stands has a block there.
+/// of its type. What the annotation may name has blocks there.
 pub fn about_programs()
     ensures trees { TreesAreRead }
     ensures asserts { TypedTreesKeepAsserts }
