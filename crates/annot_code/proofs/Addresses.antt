@@ -4,7 +4,6 @@ use Rattle.std.proofs.lemmas.Int.{ints}
 use Rattle.c_syntax.specs.declared.annotation.Range.{Range}
 use Rattle.c_syntax.specs.declared.logic.PointerOp.{PointerOp}
 use Rattle.c_syntax.specs.declared.logic.PointerOp.TheVariants.{Plus, Minus}
-use Rattle.c_syntax.specs.declared.types.CInt.TheVariants as c
 use Rattle.c_syntax.specs.declared.types.Width.TheVariants.{W128}
 use Rattle.c_model.specs.Logic.{TermValue, Mathematical, Addressed, as_address, moved, moved_by}
 use Rattle.c_model.specs.Memory.{Pointer, Null, Value, Points}
@@ -28,7 +27,6 @@ use Rattle.annot_code.specs.Pointers.{PointerCode, no_offset, start_pointer, nul
 use Rattle.annot_code.specs.Does.{Setting, runs}
 use Rattle.c_simulation.specs.SameRegisters.{Same}
 use Rattle.mem_preds.specs.Reads.{IsSmall}
-use Rattle.mem_preds.specs.Laws.{holds}
 use Rattle.annot_code.proofs.Steps.{same_all, same_trans, after_runs, HasNumber, constant_has, operation, in_type_has}
 use Rattle.annot_code.proofs.Parts.{after, FlagIs, Codes, flag_both}
 use Rattle.annot_code.proofs.Exact.{wrap_in, fits_right, value_of}

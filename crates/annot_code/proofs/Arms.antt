@@ -34,6 +34,8 @@ range_of_kind at (term.Address' pa p a ta ra) t r = refl
 range_of_kind at (term.Moved' op n pa p a ta ra pb q b tb rb) t r = refl
 range_of_kind at (term.Difference' n pa p a ta ra pb q b tb rb) t r = refl
 range_of_kind at (term.Told' f pa p a ta ra) t r = refl
+range_of_kind at (term.Named x) t r = refl
+range_of_kind at (term.At' l pa p a ta ra) t r = refl
 
 pub range_is : (a : Term) → range_of (plain_term a) ≡ a.range
 range_is a = range_of_kind a.place a.kind.value (option_map plain_type a.ctype) a.range
@@ -53,6 +55,8 @@ type_of_kind at (term.Address' pa p a ta ra) t r = refl
 type_of_kind at (term.Moved' op n pa p a ta ra pb q b tb rb) t r = refl
 type_of_kind at (term.Difference' n pa p a ta ra pb q b tb rb) t r = refl
 type_of_kind at (term.Told' f pa p a ta ra) t r = refl
+type_of_kind at (term.Named x) t r = refl
+type_of_kind at (term.At' l pa p a ta ra) t r = refl
 
 -- whether a type is one of pointers or of arrays
 abbrev is_pointed : Option CType → Bool

@@ -29,7 +29,7 @@ use Rattle.c_effects.specs.Expressions.{one, set, register_type}
 use Rattle.c_simulation.specs.SameRegisters.{Same}
 use Rattle.mem_preds.specs.declared.question.Question.{Question}
 use Rattle.mem_preds.specs.declared.question.Question.TheVariants as question
-use Rattle.mem_preds.specs.Questions.{asked, read_at}
+use Rattle.mem_preds.specs.Questions.{read_at}
 use Rattle.mem_preds.specs.Laws.{holds as holds_there, fact_of}
 use Rattle.mem_preds.specs.Reads.{AreSmall, held, pointer_held}
 use Rattle.mem_preds.proofs.Questions.{questions_are_answered, facts_are_told}

@@ -9,6 +9,8 @@ use Rattle.mon_syntax.specs.Registers.{Bindings}
 use Rattle.mon_syntax.specs.Trees.{MonExpression, Register, Global, Constant, Binary, Minus, Flip, Cast, Load, MonStatements, Assert, If}
 use Rattle.mon_syntax.specs.Valid.{Types, depth_of_all}
 use Rattle.c_effects.specs.Expressions.{before, one, set}
+use Rattle.c_simulation.specs.Keeping.{Kept}
+use Rattle.annot_code.specs.Held.{Held}
 use Rattle.annot_code.specs.Code.{Code, Judgement, pred_code, truth_code, judged_by, judged_anew, judged_with, clause_judgement, asserted, assertion, behind_assertion, assertions, behind_assertions}
 use Rattle.annot_code.specs.Validity.{Begins}
 use Rattle.annot_code.proofs.Depths.{deep_before, deep_if, pred_deep}
@@ -29,7 +31,7 @@ anew_deep : (e : MonExpression) (c : Code) (n : ℕ) → 2 ≤ n → depth_of_al
 anew_deep e c n two d =
     by_deep (before c.stmts (set (length c.used) e)) (length c.used) c.value (c.used ++ I32 ∷ []) n two (deep_before c.stmts (set (length c.used) e) n d (omega (arith, two)))
 
-judged_deep : (f : Option MonExpression) (c : Code) (n : ℕ) → 2 ≤ n → depth_of_all c.stmts ≤ n → depth_of_all (judged_with f c).stmts ≤ n
+pub judged_deep : (f : Option MonExpression) (c : Code) (n : ℕ) → 2 ≤ n → depth_of_all c.stmts ≤ n → depth_of_all (judged_with f c).stmts ≤ n
 judged_deep None c n two d = anew_deep (Constant I32 (pos 1)) c n two d
 judged_deep (Some (Register f)) c n two d = by_deep c.stmts f c.value c.used n two d
 judged_deep (Some (Global x)) c n two d = anew_deep (Global x) c n two d
@@ -58,30 +60,30 @@ judged_grows (Some (Load t x)) c = anew_longer c.used
 
 -- ---- clauses
 
-module _ (p : TranslationUnit) (bound : Bindings) where
-  clause_deep : (b : ClauseBody) (rs : List MonType) → IsShortClause b → depth_of_all (clause_judgement p bound b rs).stmts ≤ 803
+module _ (p : TranslationUnit) (bound : Bindings) (plan : List Kept) (held : List Held) where
+  clause_deep : (b : ClauseBody) (rs : List MonType) → IsShortClause b → depth_of_all (clause_judgement p bound plan held b rs).stmts ≤ 803
   clause_deep (Raw f) rs h = anew_deep (Constant I32 (pos 0)) (truth_code false rs) 803 (omega arith) (omega arith)
   clause_deep (Holds q) rs h =
-      let c = pred_code p bound q [] rs in
-      let d = pred_deep p bound q [] rs in
+      let c = pred_code p bound plan q held [] rs in
+      let d = pred_deep p bound plan q held [] rs in
       let few = h.short in
       judged_deep c.flag c 803 (omega arith) (omega (arith, d, few))
   clause_deep (Value t) rs h = anew_deep (Constant I32 (pos 0)) (truth_code false rs) 803 (omega arith) (omega arith)
   clause_deep (Behaviors names) rs h = absurd h
 
-  clause_grows : (b : ClauseBody) (rs : List MonType) → length rs ≤ length (clause_judgement p bound b rs).used
+  clause_grows : (b : ClauseBody) (rs : List MonType) → length rs ≤ length (clause_judgement p bound plan held b rs).used
   clause_grows (Raw f) rs = anew_longer rs
   clause_grows (Holds q) rs =
-      let c = pred_code p bound q [] rs in
-      let x = pred_grows p bound q [] rs in
+      let c = pred_code p bound plan q held [] rs in
+      let x = pred_grows p bound plan q held [] rs in
       let y = judged_grows c.flag c in
       omega (arith, x, y)
   clause_grows (Value t) rs = anew_longer rs
   clause_grows (Behaviors names) rs = anew_longer rs
 
-  clause_begins : (ts : Types) (b : ClauseBody) (rs : List MonType) → Begins (clause_judgement p bound b rs).used ts → Begins rs ts
+  clause_begins : (ts : Types) (b : ClauseBody) (rs : List MonType) → Begins (clause_judgement p bound plan held b rs).used ts → Begins rs ts
   clause_begins ts (Raw f) rs h = begins_front rs (I32 ∷ []) ts (begins_front (rs ++ I32 ∷ []) (I32 ∷ []) ts h)
-  clause_begins ts (Holds q) rs h = let c = pred_code p bound q [] rs in pred_begins ts p bound q [] rs (judged_begins ts c.flag c h)
+  clause_begins ts (Holds q) rs h = let c = pred_code p bound plan q held [] rs in pred_begins ts p bound plan q held [] rs (judged_begins ts c.flag c h)
   clause_begins ts (Value t) rs h = begins_front rs (I32 ∷ []) ts (begins_front (rs ++ I32 ∷ []) (I32 ∷ []) ts h)
   clause_begins ts (Behaviors names) rs h = begins_front rs (I32 ∷ []) ts (begins_front (rs ++ I32 ∷ []) (I32 ∷ []) ts h)
 
@@ -90,29 +92,29 @@ module _ (p : TranslationUnit) (bound : Bindings) where
 asserted_deep : (a : Annotation) (j : Judgement) → depth_of_all j.stmts ≤ 803 → depth_of_all (asserted a j) ≤ 803
 asserted_deep a j d = deep_before j.stmts (one (Assert (Register j.flag) (Register j.truth) a.number a.place.line a.kind)) 803 d (omega arith)
 
-pub assertion_deep : (p : TranslationUnit) (bound : Bindings) (rs : List MonType) (a : Annotation) → IsShortClause a.body → depth_of_all (assertion p bound rs a) ≤ 803
-assertion_deep p bound rs a h = asserted_deep a (clause_judgement p bound a.body rs) (clause_deep p bound a.body rs h)
+pub assertion_deep : (p : TranslationUnit) (bound : Bindings) (plan : List Kept) (held : List Held) (rs : List MonType) (a : Annotation) → IsShortClause a.body → depth_of_all (assertion p bound plan held rs a) ≤ 803
+assertion_deep p bound plan held rs a h = asserted_deep a (clause_judgement p bound plan held a.body rs) (clause_deep p bound plan held a.body rs h)
 
-pub assertions_deep : (p : TranslationUnit) (bound : Bindings) (rs : List MonType) (l : List Annotation) → AreAsserts l → depth_of_all (assertions p bound rs l) ≤ 803
-assertions_deep p bound rs [] h = omega arith
-assertions_deep p bound rs (a ∷ rest) h =
+pub assertions_deep : (p : TranslationUnit) (bound : Bindings) (plan : List Kept) (held : List Held) (rs : List MonType) (l : List Annotation) → AreAsserts l → depth_of_all (assertions p bound plan held rs l) ≤ 803
+assertions_deep p bound plan held rs [] h = omega arith
+assertions_deep p bound plan held rs (a ∷ rest) h =
     let one = h.0 in
-    deep_before (assertion p bound rs a) (assertions p bound (behind_assertion p bound rs a) rest) 803 (assertion_deep p bound rs a one.body)
-    (assertions_deep p bound (behind_assertion p bound rs a) rest h.1)
+    deep_before (assertion p bound plan held rs a) (assertions p bound plan held (behind_assertion p bound plan held rs a) rest) 803 (assertion_deep p bound plan held rs a one.body)
+    (assertions_deep p bound plan held (behind_assertion p bound plan held rs a) rest h.1)
 
-pub assertion_grows : (p : TranslationUnit) (bound : Bindings) (rs : List MonType) (a : Annotation) → length rs ≤ length (behind_assertion p bound rs a)
-assertion_grows p bound rs a = clause_grows p bound a.body rs
+pub assertion_grows : (p : TranslationUnit) (bound : Bindings) (plan : List Kept) (held : List Held) (rs : List MonType) (a : Annotation) → length rs ≤ length (behind_assertion p bound plan held rs a)
+assertion_grows p bound plan held rs a = clause_grows p bound plan held a.body rs
 
-pub behind_grows : (p : TranslationUnit) (bound : Bindings) (rs : List MonType) (l : List Annotation) → length rs ≤ length (behind_assertions p bound rs l)
-behind_grows p bound rs [] = omega arith
-behind_grows p bound rs (a ∷ rest) =
-    let x = assertion_grows p bound rs a in
-    let y = behind_grows p bound (behind_assertion p bound rs a) rest in
+pub behind_grows : (p : TranslationUnit) (bound : Bindings) (plan : List Kept) (held : List Held) (rs : List MonType) (l : List Annotation) → length rs ≤ length (behind_assertions p bound plan held rs l)
+behind_grows p bound plan held rs [] = omega arith
+behind_grows p bound plan held rs (a ∷ rest) =
+    let x = assertion_grows p bound plan held rs a in
+    let y = behind_grows p bound plan held (behind_assertion p bound plan held rs a) rest in
     omega (arith, x, y)
 
-pub assertion_begins : (ts : Types) (p : TranslationUnit) (bound : Bindings) (rs : List MonType) (a : Annotation) → Begins (behind_assertion p bound rs a) ts → Begins rs ts
-assertion_begins ts p bound rs a h = clause_begins p bound ts a.body rs h
+pub assertion_begins : (ts : Types) (p : TranslationUnit) (bound : Bindings) (plan : List Kept) (held : List Held) (rs : List MonType) (a : Annotation) → Begins (behind_assertion p bound plan held rs a) ts → Begins rs ts
+assertion_begins ts p bound plan held rs a h = clause_begins p bound plan held ts a.body rs h
 
-pub behind_begins : (ts : Types) (p : TranslationUnit) (bound : Bindings) (rs : List MonType) (l : List Annotation) → Begins (behind_assertions p bound rs l) ts → Begins rs ts
-behind_begins ts p bound rs [] h = h
-behind_begins ts p bound rs (a ∷ rest) h = assertion_begins ts p bound rs a (behind_begins ts p bound (behind_assertion p bound rs a) rest h)
+pub behind_begins : (ts : Types) (p : TranslationUnit) (bound : Bindings) (plan : List Kept) (held : List Held) (rs : List MonType) (l : List Annotation) → Begins (behind_assertions p bound plan held rs l) ts → Begins rs ts
+behind_begins ts p bound plan held rs [] h = h
+behind_begins ts p bound plan held rs (a ∷ rest) h = assertion_begins ts p bound plan held rs a (behind_begins ts p bound plan held (behind_assertion p bound plan held rs a) rest h)

@@ -4,6 +4,9 @@ use Rattle.std.proofs.Math.Nat.{max-le, le-max_left, le-max_right}
 use Rattle.c_syntax.specs.declared.annotation.Relation.{Relation}
 use Rattle.c_syntax.specs.declared.expression.BinOp.{BinOp}
 use Rattle.c_syntax.specs.declared.logic.Connective.{Connective}
+use Rattle.c_syntax.specs.declared.logic.Label.TheVariants.{Here, Pre, Marked}
+use Rattle.c_simulation.specs.Keeping.{Kept}
+use Rattle.annot_code.specs.Held.{Held}
 use Rattle.c_syntax.specs.declared.logic.Connective.TheVariants.{And, Xor, Or, Implies, Iff}
 use Rattle.c_syntax.specs.declared.annotation.Relation.TheVariants as relation
 use Rattle.c_syntax.specs.declared.logic.BlockFact.{BlockFact}
@@ -257,148 +260,158 @@ pairs_deep t (z ∷ zs) = deep_before (apart_from_each t z zs) (each_pair t zs) 
 
 -- ---- terms and predicates
 
-module _ (p : TranslationUnit) (bound : Bindings) where
+module _ (p : TranslationUnit) (bound : Bindings) (plan : List Kept) where
   variable_deep : (b : Bool) (w : MonType) (x : Reading) (rs : List MonType) → depth_of_all (variable_code p bound b w x rs).stmts ≤ 2
   variable_deep true w x rs = omega arith
   variable_deep false w x rs = omega arith
 
   mutual
-    pub term_deep : (t : LogicTerm) (known : List Reading) (rs : List MonType) → depth_of_all (term_code p bound t known rs).stmts ≤ tokens_of_term t + tokens_of_term t
-    term_deep (logic.Number at t r n) known rs = omega arith
-    term_deep (logic.Letter at t r n) known rs = omega arith
-    term_deep (logic.Variable at t r x) known rs = variable_deep (is_known known (record { decl = x.decl; kind = term_type t })) (type_of_width (width_of_range r)) (record { decl = x.decl; kind = term_type t }) rs
-    term_deep (logic.Unary at t r op a) known rs = let d = term_deep a known rs in omega (arith, d)
-    term_deep (logic.Binary at t r op a b) known rs =
-        let x = term_code p bound a known rs in
-        let y = term_code p bound b known x.used in
+    pub term_deep : (t : LogicTerm) (held : List Held) (known : List Reading) (rs : List MonType) → depth_of_all (term_code p bound plan t held known rs).stmts ≤ tokens_of_term t + tokens_of_term t
+    term_deep (logic.Number at t r n) held known rs = omega arith
+    term_deep (logic.Letter at t r n) held known rs = omega arith
+    term_deep (logic.Variable at t r x) held known rs = variable_deep (is_known known (record { decl = x.decl; kind = term_type t })) (type_of_width (width_of_range r)) (record { decl = x.decl; kind = term_type t }) rs
+    term_deep (logic.Unary at t r op a) held known rs = let d = term_deep a held known rs in omega (arith, d)
+    term_deep (logic.Binary at t r op a b) held known rs =
+        let x = term_code p bound plan a held known rs in
+        let y = term_code p bound plan b held known x.used in
         let w = type_of_width (width_of_range r) in
         let k = type_of_width (working op (width_of_range r) (width_of a) (width_of b)) in
         let d = operated_deep (is_total op (range_of b)) op w k (type_of b) x y (binary_value op w k (type_of a) (type_of b) (range_of b) x.value y.value) (tokens_of_term a) (tokens_of_term b)
-        (term_deep a known rs) (term_deep b known x.used) (some_term a) (some_term b) in
+        (term_deep a held known rs) (term_deep b held known x.used) (some_term a) (some_term b) in
         omega (arith, d)
-    term_deep (logic.Cast at t r to a) known rs = let d = term_deep a known rs in omega (arith, d)
-    term_deep (logic.Choice at t r c a b) known rs =
+    term_deep (logic.Cast at t r to a) held known rs = let d = term_deep a held known rs in omega (arith, d)
+    term_deep (logic.Choice at t r c a b) held known rs =
         let more = known ++ sure_readings c in
         let w = type_of_width (width_of_range r) in
-        let z = pred_code p bound c known rs in
-        let x = term_code p bound a more z.used in
-        let y = term_code p bound b more x.used in
+        let z = pred_code p bound plan c held known rs in
+        let x = term_code p bound plan a held more z.used in
+        let y = term_code p bound plan b held more x.used in
         branch_deep w z (with_value (in_type (type_of a) w x.value) x) (with_value (in_type (type_of b) w y.value) y) (tokens_of_predicate c) (tokens_of_term a) (tokens_of_term b)
-        (suc (tokens_of_predicate c + tokens_of_term a + tokens_of_term b)) (pred_deep c known rs) (term_deep a more z.used) (term_deep b more x.used) (omega (arith, some_term a)) (omega arith) (omega arith) (some_term a)
-    term_deep (logic.Deref at t r a) known rs = answered_deep _ (pointer_code p bound a known rs) _ (tokens_of_term a) (suc (tokens_of_term a)) (pointer_deep a known rs) (omega arith) (some_term a) (omega arith)
-    term_deep (logic.Member at t r d a) known rs = answered_deep _ (member_code d (place_code p bound a known rs)) _ (tokens_of_term a) (suc (tokens_of_term a)) (place_deep a known rs) (omega arith) (some_term a) (omega arith)
-    term_deep (logic.Difference at t r n a b) known rs =
-        let c = pointer_code p bound a known rs in
-        let d = pointer_code p bound b known c.used in
-        of_both_deep c d (offsets_asked c d (length d.used)) (tokens_of_term a) (tokens_of_term b) (suc (tokens_of_term a + tokens_of_term b)) (pointer_deep a known rs) (pointer_deep b known c.used) (omega arith) (omega arith) (omega arith)
+        (suc (tokens_of_predicate c + tokens_of_term a + tokens_of_term b)) (pred_deep c held known rs) (term_deep a held more z.used) (term_deep b held more x.used) (omega (arith, some_term a)) (omega arith) (omega arith) (some_term a)
+    term_deep (logic.Deref at t r a) held known rs = answered_deep _ (pointer_code p bound plan a held known rs) _ (tokens_of_term a) (suc (tokens_of_term a)) (pointer_deep a held known rs) (omega arith) (some_term a) (omega arith)
+    term_deep (logic.Member at t r d a) held known rs = answered_deep _ (member_code d (place_code p bound plan a held known rs)) _ (tokens_of_term a) (suc (tokens_of_term a)) (place_deep a held known rs) (omega arith) (some_term a) (omega arith)
+    term_deep (logic.Difference at t r n a b) held known rs =
+        let c = pointer_code p bound plan a held known rs in
+        let d = pointer_code p bound plan b held known c.used in
+        of_both_deep c d (offsets_asked c d (length d.used)) (tokens_of_term a) (tokens_of_term b) (suc (tokens_of_term a + tokens_of_term b)) (pointer_deep a held known rs) (pointer_deep b held known c.used) (omega arith) (omega arith) (omega arith)
         (offsets_deep c d (length d.used))
-    term_deep (logic.Told at t r f a) known rs =
-        answered_deep _ (pointer_code p bound a known rs) _ (tokens_of_term a) (suc (tokens_of_term a)) (pointer_deep a known rs) (omega arith) (some_term a) (fact_deep f (pointer_code p bound a known rs))
-    term_deep _ known rs = omega arith
+    term_deep (logic.Told at t r f a) held known rs =
+        answered_deep _ (pointer_code p bound plan a held known rs) _ (tokens_of_term a) (suc (tokens_of_term a)) (pointer_deep a held known rs) (omega arith) (some_term a) (fact_deep f (pointer_code p bound plan a held known rs))
+    term_deep (logic.At at t r Here a) held known rs =
+        let c = term_code p bound plan a held known rs in
+        let d = term_deep a held known rs in
+        let e = deep_take c.flag c.value (length c.used) in
+        deep_before c.stmts (take c.flag c.value (length c.used)) (tokens_of_term a + tokens_of_term a) d (omega (arith, e, some_term a))
+    term_deep (logic.At at t r Pre a) held known rs = omega arith
+    term_deep (logic.At at t r (Marked l) a) held known rs = omega arith
+    term_deep _ held known rs = omega arith
 
-    pub pointer_deep : (t : LogicTerm) (known : List Reading) (rs : List MonType) → depth_of_all (pointer_code p bound t known rs).stmts ≤ tokens_of_term t + tokens_of_term t
-    pointer_deep (logic.Variable at t r x) known rs = variable_there_deep (is_known known (record { decl = x.decl; kind = term_type t })) t (pointer_to p bound x.decl) rs
-    pointer_deep (logic.Deref at t r a) known rs = there_deep false t (pointer_code p bound a known rs) (tokens_of_term a) (suc (tokens_of_term a)) (pointer_deep a known rs) (omega arith) (some_term a)
-    pointer_deep (logic.Member at t r d a) known rs = there_deep false t (member_code d (place_code p bound a known rs)) (tokens_of_term a) (suc (tokens_of_term a)) (place_deep a known rs) (omega arith) (some_term a)
-    pointer_deep (logic.Address at t r a) known rs = let d = place_deep a known rs in omega (arith, d)
-    pointer_deep (logic.Moved at t r op n a b) known rs =
-        let c = pointer_code p bound a known rs in
+    pub pointer_deep : (t : LogicTerm) (held : List Held) (known : List Reading) (rs : List MonType) → depth_of_all (pointer_code p bound plan t held known rs).stmts ≤ tokens_of_term t + tokens_of_term t
+    pointer_deep (logic.Variable at t r x) held known rs = variable_there_deep (is_known known (record { decl = x.decl; kind = term_type t })) t (pointer_to p bound x.decl) rs
+    pointer_deep (logic.Deref at t r a) held known rs = there_deep false t (pointer_code p bound plan a held known rs) (tokens_of_term a) (suc (tokens_of_term a)) (pointer_deep a held known rs) (omega arith) (some_term a)
+    pointer_deep (logic.Member at t r d a) held known rs = there_deep false t (member_code d (place_code p bound plan a held known rs)) (tokens_of_term a) (suc (tokens_of_term a)) (place_deep a held known rs) (omega arith) (some_term a)
+    pointer_deep (logic.Address at t r a) held known rs = let d = place_deep a held known rs in omega (arith, d)
+    pointer_deep (logic.Moved at t r op n a b) held known rs =
+        let c = pointer_code p bound plan a held known rs in
         let k = suc (tokens_of_term a + tokens_of_term b) in
-        let x = pointer_deep a known rs in
-        let y = term_deep b known c.used in
-        deep_before c.stmts (term_code p bound b known c.used).stmts (k + k) (omega (arith, x)) (omega (arith, y))
-    pointer_deep (logic.Cast at t r to a) known rs = let d = pointer_deep a known rs in omega (arith, d)
-    pointer_deep (logic.Choice at t r c a b) known rs =
+        let x = pointer_deep a held known rs in
+        let y = term_deep b held known c.used in
+        deep_before c.stmts (term_code p bound plan b held known c.used).stmts (k + k) (omega (arith, x)) (omega (arith, y))
+    pointer_deep (logic.Cast at t r to a) held known rs = let d = pointer_deep a held known rs in omega (arith, d)
+    pointer_deep (logic.Choice at t r c a b) held known rs =
         let more = known ++ sure_readings c in
-        let z = pred_code p bound c known rs in
-        let x = pointer_code p bound a more z.used in
-        let y = pointer_code p bound b more x.used in
-        branch_pointer_deep z x y (tokens_of_predicate c) (tokens_of_term a) (tokens_of_term b) (suc (tokens_of_predicate c + tokens_of_term a + tokens_of_term b)) (pred_deep c known rs) (pointer_deep a more z.used)
-        (pointer_deep b more x.used) (omega (arith, some_term a)) (omega arith) (omega arith) (some_term a)
-    pointer_deep (logic.Told at t r f a) known rs =
-        answered_deep _ (pointer_code p bound a known rs) _ (tokens_of_term a) (suc (tokens_of_term a)) (pointer_deep a known rs) (omega arith) (some_term a) (fact_deep BaseAddr (pointer_code p bound a known rs))
-    pointer_deep _ known rs = omega arith
+        let z = pred_code p bound plan c held known rs in
+        let x = pointer_code p bound plan a held more z.used in
+        let y = pointer_code p bound plan b held more x.used in
+        branch_pointer_deep z x y (tokens_of_predicate c) (tokens_of_term a) (tokens_of_term b) (suc (tokens_of_predicate c + tokens_of_term a + tokens_of_term b)) (pred_deep c held known rs) (pointer_deep a held more z.used)
+        (pointer_deep b held more x.used) (omega (arith, some_term a)) (omega arith) (omega arith) (some_term a)
+    pointer_deep (logic.Told at t r f a) held known rs =
+        answered_deep _ (pointer_code p bound plan a held known rs) _ (tokens_of_term a) (suc (tokens_of_term a)) (pointer_deep a held known rs) (omega arith) (some_term a) (fact_deep BaseAddr (pointer_code p bound plan a held known rs))
+    pointer_deep (logic.At at t r Here a) held known rs = pointer_deep a held known rs
+    pointer_deep (logic.At at t r Pre a) held known rs = omega arith
+    pointer_deep (logic.At at t r (Marked l) a) held known rs = omega arith
+    pointer_deep _ held known rs = omega arith
 
-    place_deep : (t : LogicTerm) (known : List Reading) (rs : List MonType) → depth_of_all (place_code p bound t known rs).stmts ≤ tokens_of_term t + tokens_of_term t
-    place_deep (logic.Deref at t r a) known rs = let d = pointer_deep a known rs in omega (arith, d)
-    place_deep (logic.Member at t r n a) known rs = let d = place_deep a known rs in omega (arith, d)
-    place_deep _ known rs = omega arith
+    place_deep : (t : LogicTerm) (held : List Held) (known : List Reading) (rs : List MonType) → depth_of_all (place_code p bound plan t held known rs).stmts ≤ tokens_of_term t + tokens_of_term t
+    place_deep (logic.Deref at t r a) held known rs = let d = pointer_deep a held known rs in omega (arith, d)
+    place_deep (logic.Member at t r n a) held known rs = let d = place_deep a held known rs in omega (arith, d)
+    place_deep _ held known rs = omega arith
 
-    zone_deep : (z : Zone) (known : List Reading) (rs : List MonType) → depth_of_all (zone_code p bound z known rs).pointer.stmts ≤ tokens_of_zone z + tokens_of_zone z
-    zone_deep (logic.Object at n m a) known rs = pointer_deep a known rs
-    zone_deep (logic.Elements at n m a lo hi) known rs =
-        let c = pointer_code p bound a known rs in
-        let x = term_code p bound lo known c.used in
+    zone_deep : (z : Zone) (held : List Held) (known : List Reading) (rs : List MonType) → depth_of_all (zone_code p bound plan z held known rs).pointer.stmts ≤ tokens_of_zone z + tokens_of_zone z
+    zone_deep (logic.Object at n m a) held known rs = pointer_deep a held known rs
+    zone_deep (logic.Elements at n m a lo hi) held known rs =
+        let c = pointer_code p bound plan a held known rs in
+        let x = term_code p bound plan lo held known c.used in
         let k = suc (tokens_of_term a + tokens_of_term lo + tokens_of_term hi) in
-        let dc = pointer_deep a known rs in
-        let dx = term_deep lo known c.used in
-        let dy = term_deep hi known x.used in
-        deep_before (before c.stmts x.stmts) (term_code p bound hi known x.used).stmts (k + k) (deep_before c.stmts x.stmts (k + k) (omega (arith, dc)) (omega (arith, dx))) (omega (arith, dy))
+        let dc = pointer_deep a held known rs in
+        let dx = term_deep lo held known c.used in
+        let dy = term_deep hi held known x.used in
+        deep_before (before c.stmts x.stmts) (term_code p bound plan hi held known x.used).stmts (k + k) (deep_before c.stmts x.stmts (k + k) (omega (arith, dc)) (omega (arith, dx))) (omega (arith, dy))
 
-    zones_deep : (zs : Zones) (known : List Reading) (rs : List MonType) → depth_of_all (zones_code p bound zs known rs).stmts ≤ tokens_of_zones zs + tokens_of_zones zs
-    zones_deep NoZone known rs = omega arith
-    zones_deep (Another z rest) known rs =
-        let c = zone_code p bound z known rs in
+    zones_deep : (zs : Zones) (held : List Held) (known : List Reading) (rs : List MonType) → depth_of_all (zones_code p bound plan zs held known rs).stmts ≤ tokens_of_zones zs + tokens_of_zones zs
+    zones_deep NoZone held known rs = omega arith
+    zones_deep (Another z rest) held known rs =
+        let c = zone_code p bound plan z held known rs in
         let k = suc (tokens_of_zone z + tokens_of_zones rest) in
-        let dz = zone_deep z known rs in
-        let dr = zones_deep rest known c.pointer.used in
-        deep_before c.pointer.stmts (zones_code p bound rest known c.pointer.used).stmts (k + k) (omega (arith, dz)) (omega (arith, dr))
+        let dz = zone_deep z held known rs in
+        let dr = zones_deep rest held known c.pointer.used in
+        deep_before c.pointer.stmts (zones_code p bound plan rest held known c.pointer.used).stmts (k + k) (omega (arith, dz)) (omega (arith, dr))
 
-    chain_deep : (t : LogicTerm) (x : Side) (l : Links) (m : ℕ) (known : List Reading) → 1 ≤ m → depth_of_all (stmts_of x) ≤ m + m
-        → depth_of_all (chain_code p bound t x l known).stmts ≤ (m + tokens_of_links l) + (m + tokens_of_links l)
-    chain_deep t x NoLink m known some d = omega (arith, d)
-    chain_deep t x (Linked at r u NoLink) m known some d =
-        let c = pointer_code p bound u known (used_by x) in
-        let e = term_code p bound u known (used_by x) in
+    chain_deep : (t : LogicTerm) (x : Side) (l : Links) (m : ℕ) (held : List Held) (known : List Reading) → 1 ≤ m → depth_of_all (stmts_of x) ≤ m + m
+        → depth_of_all (chain_code p bound plan t x l held known).stmts ≤ (m + tokens_of_links l) + (m + tokens_of_links l)
+    chain_deep t x NoLink m held known some d = omega (arith, d)
+    chain_deep t x (Linked at r u NoLink) m held known some d =
+        let c = pointer_code p bound plan u held known (used_by x) in
+        let e = term_code p bound plan u held known (used_by x) in
         let n = tokens_of_term u in
-        related_deep r t u x (side_by (is_pointer_term u) c e) m n (m + suc (n + 0)) d (side_deep (is_pointer_term u) c e (n + n) (pointer_deep u known (used_by x)) (term_deep u known (used_by x))) (omega arith) (omega arith) (omega arith)
-    chain_deep t x (Linked at r u (Linked at2 r2 v rest)) m known some d =
-        let c = pointer_code p bound u known (used_by x) in
-        let e = term_code p bound u known (used_by x) in
+        related_deep r t u x (side_by (is_pointer_term u) c e) m n (m + suc (n + 0)) d (side_deep (is_pointer_term u) c e (n + n) (pointer_deep u held known (used_by x)) (term_deep u held known (used_by x))) (omega arith) (omega arith) (omega arith)
+    chain_deep t x (Linked at r u (Linked at2 r2 v rest)) m held known some d =
+        let c = pointer_code p bound plan u held known (used_by x) in
+        let e = term_code p bound plan u held known (used_by x) in
         let y = side_by (is_pointer_term u) c e in
         let more = known ++ (sure_readings_of_term t ++ sure_readings_of_term u) in
         let n = tokens_of_term u in
         let z = related_code r t u x y in
         let start = again y z.used in
-        let tail = chain_code p bound u start (Linked at2 r2 v rest) more in
+        let tail = chain_code p bound plan u start (Linked at2 r2 v rest) held more in
         let l = tokens_of_links (Linked at2 r2 v rest) in
         connected_deep And z tail (m + suc n) (n + l) (m + suc (n + l))
-        (related_deep r t u x y m n (m + suc n) d (side_deep (is_pointer_term u) c e (n + n) (pointer_deep u known (used_by x)) (term_deep u known (used_by x))) (omega arith) (omega arith) (omega arith))
-        (chain_deep u start (Linked at2 r2 v rest) n more (some_term u) (again_deep y z.used (n + n))) (omega (arith, some_term v)) (omega (arith, some)) (omega (arith, some_term u))
+        (related_deep r t u x y m n (m + suc n) d (side_deep (is_pointer_term u) c e (n + n) (pointer_deep u held known (used_by x)) (term_deep u held known (used_by x))) (omega arith) (omega arith) (omega arith))
+        (chain_deep u start (Linked at2 r2 v rest) n held more (some_term u) (again_deep y z.used (n + n))) (omega (arith, some_term v)) (omega (arith, some)) (omega (arith, some_term u))
 
-    pub pred_deep : (q : Predicate) (known : List Reading) (rs : List MonType) → depth_of_all (pred_code p bound q known rs).stmts ≤ tokens_of_predicate q + tokens_of_predicate q
-    pred_deep (logic.Truth at b) known rs = truth_deep b rs
-    pred_deep (logic.NonZero at t) known rs = term_deep t known rs
-    pred_deep (logic.Chain at t links) known rs =
-        let c = pointer_code p bound t known rs in
-        let d = term_code p bound t known rs in
+    pub pred_deep : (q : Predicate) (held : List Held) (known : List Reading) (rs : List MonType) → depth_of_all (pred_code p bound plan q held known rs).stmts ≤ tokens_of_predicate q + tokens_of_predicate q
+    pred_deep (logic.Truth at b) held known rs = truth_deep b rs
+    pred_deep (logic.NonZero at t) held known rs = term_deep t held known rs
+    pred_deep (logic.Chain at t links) held known rs =
+        let c = pointer_code p bound plan t held known rs in
+        let d = term_code p bound plan t held known rs in
         let n = tokens_of_term t in
-        chain_deep t (side_by (is_pointer_term t) c d) links n known (some_term t) (side_deep (is_pointer_term t) c d (n + n) (pointer_deep t known rs) (term_deep t known rs))
-    pred_deep (logic.Not at a) known rs = let d = pred_deep a known rs in omega (arith, d)
-    pred_deep (logic.Connected at c a b) known rs =
-        let x = pred_code p bound a known rs in
+        chain_deep t (side_by (is_pointer_term t) c d) links n held known (some_term t) (side_deep (is_pointer_term t) c d (n + n) (pointer_deep t held known rs) (term_deep t held known rs))
+    pred_deep (logic.Not at a) held known rs = let d = pred_deep a held known rs in omega (arith, d)
+    pred_deep (logic.Connected at c a b) held known rs =
+        let x = pred_code p bound plan a held known rs in
         let ks = known_at_right c known a in
-        connected_deep c x (pred_code p bound b ks x.used) (tokens_of_predicate a) (tokens_of_predicate b) (suc (tokens_of_predicate a + tokens_of_predicate b)) (pred_deep a known rs) (pred_deep b ks x.used)
+        connected_deep c x (pred_code p bound plan b held ks x.used) (tokens_of_predicate a) (tokens_of_predicate b) (suc (tokens_of_predicate a + tokens_of_predicate b)) (pred_deep a held known rs) (pred_deep b held ks x.used)
         (omega arith) (omega arith) (some_tokens b)
-    pred_deep (logic.Branch at c a b) known rs =
+    pred_deep (logic.Branch at c a b) held known rs =
         let more = known ++ sure_readings c in
-        let z = pred_code p bound c known rs in
-        let x = pred_code p bound a more z.used in
-        let y = pred_code p bound b more x.used in
-        branch_deep I32 z x y (tokens_of_predicate c) (tokens_of_predicate a) (tokens_of_predicate b) (suc (tokens_of_predicate c + tokens_of_predicate a + tokens_of_predicate b)) (pred_deep c known rs)
-        (pred_deep a more z.used) (pred_deep b more x.used) (omega (arith, some_tokens a)) (omega arith) (omega arith) (some_tokens a)
-    pred_deep (logic.Asks at f z) known rs =
-        let c = zone_code p bound z known rs in
+        let z = pred_code p bound plan c held known rs in
+        let x = pred_code p bound plan a held more z.used in
+        let y = pred_code p bound plan b held more x.used in
+        branch_deep I32 z x y (tokens_of_predicate c) (tokens_of_predicate a) (tokens_of_predicate b) (suc (tokens_of_predicate c + tokens_of_predicate a + tokens_of_predicate b)) (pred_deep c held known rs)
+        (pred_deep a held more z.used) (pred_deep b held more x.used) (omega (arith, some_tokens a)) (omega arith) (omega arith) (some_tokens a)
+    pred_deep (logic.Asks at f z) held known rs =
+        let c = zone_code p bound plan z held known rs in
         let ask = one (asked (question_of f) (size_of (alignment_of z)) c.pointer.base c.pointer.offset c.length (length c.pointer.used)) in
         let n = suc (tokens_of_zone z) in
-        let d = zone_deep z known rs in
+        let d = zone_deep z held known rs in
         let g = deep_guarded c.pointer.flag ask NoStatement 1 (omega arith) (omega arith) in
         deep_before c.pointer.stmts (guarded c.pointer.flag ask NoStatement) (n + n) (omega (arith, d)) (omega (arith, g))
-    pred_deep (logic.Separated at zs) known rs =
-        let c = zones_code p bound zs known rs in
+    pred_deep (logic.Separated at zs) held known rs =
+        let c = zones_code p bound plan zs held known rs in
         let pairs = Then (Set (length c.used) (Constant I32 (pos 1))) (each_pair (length c.used) c.zones) in
         let n = suc (tokens_of_zones zs) in
-        let d = zones_deep zs known rs in
+        let d = zones_deep zs held known rs in
         let g = deep_guarded c.flag pairs NoStatement 1 (max-le (omega arith) (pairs_deep (length c.used) c.zones)) (omega arith) in
         deep_before c.stmts (guarded c.flag pairs NoStatement) (n + n) (omega (arith, d)) (omega (arith, g))
-    pred_deep _ known rs = omega arith
+    pred_deep _ held known rs = omega arith

@@ -3,6 +3,9 @@ use Rattle.std.proofs.Common.{◌≡◌, ℕ, suc, pos, Bool, true, false, not, 
 use Rattle.std.proofs.lemmas.Result.{IfOk-weaker}
 use Rattle.c_syntax.specs.declared.expression.BinOp.{BinOp}
 use Rattle.c_syntax.specs.declared.logic.Connective.{Connective}
+use Rattle.c_syntax.specs.declared.logic.Label.TheVariants.{Here, Pre, Marked}
+use Rattle.c_simulation.specs.Keeping.{Kept}
+use Rattle.annot_code.specs.Held.{Held}
 use Rattle.c_syntax.specs.declared.logic.Connective.TheVariants.{And, Xor, Or, Implies, Iff}
 use Rattle.c_syntax.specs.declared.annotation.Relation.{Relation}
 use Rattle.c_syntax.specs.declared.annotation.Relation.TheVariants as relation
@@ -28,11 +31,10 @@ use Rattle.annot_code.specs.Code.{Reading, Code, term_type, with_value, conjunct
 use Rattle.annot_code.specs.Code.{variable_code, is_known, term_code, chain_code, pred_code, sure_readings, sure_readings_of_term, known_at_right, judged_by, judged_anew, judged_with, Judgement, judgement}
 use Rattle.annot_code.specs.Code.{type_of_width, working, width_of, type_of, binary_value}
 use Rattle.annot_code.specs.Inside.{StayInside, AreInside}
-use Rattle.annot_code.specs.Plain.{judgement_of}
-use Rattle.annot_code.proofs.Judged.{judgement_by}
+use Rattle.annot_code.specs.Plain.{Known, judgement_by, judgement_of}
 
 -- control stays in statements, in which no step stands directly
-abbrev Inside : MonStatements → Type 0
+abbrev pub Inside : MonStatements → Type 0
 Inside a = StayInside [] a × (has_no_step a ≡ true)
 
 no_step_then : (s t : Bool) → s ≡ false → t ≡ true → (not s && t) ≡ true
@@ -47,16 +49,16 @@ no_step_rest : (s t : Bool) → (not s && t) ≡ true → t ≡ true
 no_step_rest true t e = absurd cc
 no_step_rest false t e = e
 
-before_inside : (a b : MonStatements) → Inside a → Inside b → Inside (before a b)
+pub before_inside : (a b : MonStatements) → Inside a → Inside b → Inside (before a b)
 before_inside NoStatement b h k = k
 before_inside (Then x a) b h k =
     let rest = before_inside a b (h.0.1, no_step_rest (is_step x) (has_no_step a) h.1) k in
     ((h.0.0, rest.0), no_step_then (is_step x) (has_no_step (before a b)) (no_step_first (is_step x) (has_no_step a) h.1) rest.1)
 
-if_inside : (e : MonExpression) (a b : MonStatements) → Inside a → Inside b → Inside (one (If e a b))
+pub if_inside : (e : MonExpression) (a b : MonStatements) → Inside a → Inside b → Inside (one (If e a b))
 if_inside e a b h k = (((h.0, k.0), tt), refl)
 
-guarded_inside : (f : Option MonExpression) (a b : MonStatements) → Inside a → Inside b → Inside (guarded f a b)
+pub guarded_inside : (f : Option MonExpression) (a b : MonStatements) → Inside a → Inside b → Inside (guarded f a b)
 guarded_inside None a b h k = h
 guarded_inside (Some e) a b h k = if_inside e a b h k
 
@@ -85,7 +87,7 @@ branch_inside t c a b hc ha hb =
     (if_inside c.value (before a.stmts (take a.flag a.value r)) (before b.stmts (take b.flag b.value r))
     (before_inside a.stmts (take a.flag a.value r) ha (take_inside a.flag a.value r)) (before_inside b.stmts (take b.flag b.value r) hb (take_inside b.flag b.value r))) (take_none_inside r))
 
-nothing_inside : Inside NoStatement
+pub nothing_inside : Inside NoStatement
 nothing_inside = (tt, refl)
 
 connected_inside : (c : Connective) (p q : Code) → Inside p.stmts → Inside q.stmts → Inside (connected c p q).stmts
@@ -182,126 +184,131 @@ pairs_inside t (z ∷ zs) = before_inside (apart_from_each t z zs) (each_pair t 
 
 -- ---- terms and predicates
 
-module _ (p : TranslationUnit) (bound : Bindings) where
+module _ (p : TranslationUnit) (bound : Bindings) (plan : List Kept) where
   variable_inside : (b : Bool) (w : MonType) (x : Reading) (rs : List MonType) → Inside (variable_code p bound b w x rs).stmts
   variable_inside true w x rs = nothing_inside
   variable_inside false w x rs = ((tt, tt), refl)
 
   mutual
-    term_inside : (t : LogicTerm) (known : List Reading) (rs : List MonType) → Inside (term_code p bound t known rs).stmts
-    term_inside (logic.Variable at t r x) known rs = variable_inside (is_known known (record { decl = x.decl; kind = term_type t })) (type_of_width (width_of_range r)) (record { decl = x.decl; kind = term_type t }) rs
-    term_inside (logic.Unary at t r op a) known rs = term_inside a known rs
-    term_inside (logic.Binary at t r op a b) known rs =
-        let x = term_code p bound a known rs in
-        let y = term_code p bound b known x.used in
+    pub term_inside : (t : LogicTerm) (held : List Held) (known : List Reading) (rs : List MonType) → Inside (term_code p bound plan t held known rs).stmts
+    term_inside (logic.Variable at t r x) held known rs = variable_inside (is_known known (record { decl = x.decl; kind = term_type t })) (type_of_width (width_of_range r)) (record { decl = x.decl; kind = term_type t }) rs
+    term_inside (logic.Unary at t r op a) held known rs = term_inside a held known rs
+    term_inside (logic.Binary at t r op a b) held known rs =
+        let x = term_code p bound plan a held known rs in
+        let y = term_code p bound plan b held known x.used in
         let w = type_of_width (width_of_range r) in
         let k = type_of_width (working op (width_of_range r) (width_of a) (width_of b)) in
-        operated_inside (is_total op (range_of b)) op w k (type_of b) x y (binary_value op w k (type_of a) (type_of b) (range_of b) x.value y.value) (term_inside a known rs) (term_inside b known x.used)
-    term_inside (logic.Cast at t r to a) known rs = term_inside a known rs
-    term_inside (logic.Choice at t r c a b) known rs =
+        operated_inside (is_total op (range_of b)) op w k (type_of b) x y (binary_value op w k (type_of a) (type_of b) (range_of b) x.value y.value) (term_inside a held known rs) (term_inside b held known x.used)
+    term_inside (logic.Cast at t r to a) held known rs = term_inside a held known rs
+    term_inside (logic.Choice at t r c a b) held known rs =
         let more = known ++ sure_readings c in
         let w = type_of_width (width_of_range r) in
-        let z = pred_code p bound c known rs in
-        let x = term_code p bound a more z.used in
-        let y = term_code p bound b more x.used in
-        branch_inside w z (with_value (in_type (type_of a) w x.value) x) (with_value (in_type (type_of b) w y.value) y) (pred_inside c known rs) (term_inside a more z.used) (term_inside b more x.used)
-    term_inside (logic.Number at t r n) known rs = nothing_inside
-    term_inside (logic.Letter at t r n) known rs = nothing_inside
-    term_inside (logic.Named at t r x) known rs = nothing_inside
-    term_inside (logic.At at t r l a) known rs = nothing_inside
-    term_inside (logic.Null at t r) known rs = nothing_inside
-    term_inside (logic.Deref at t r a) known rs = answered_inside (length (pointer_code p bound a known rs).used) (pointer_code p bound a known rs) _ (pointer_inside a known rs) ((tt, tt), refl)
-    term_inside (logic.Member at t r d a) known rs =
-        let c = member_code d (place_code p bound a known rs) in answered_inside (length c.used) c _ (place_inside a known rs) ((tt, tt), refl)
-    term_inside (logic.Address at t r a) known rs = nothing_inside
-    term_inside (logic.Moved at t r op n a b) known rs = nothing_inside
-    term_inside (logic.Difference at t r n a b) known rs =
-        let c = pointer_code p bound a known rs in offsets_inside c (pointer_code p bound b known c.used) (pointer_inside a known rs) (pointer_inside b known c.used)
-    term_inside (logic.Told at t r f a) known rs =
-        let c = pointer_code p bound a known rs in answered_inside (length c.used) c _ (pointer_inside a known rs) ((tt, (tt, tt)), refl)
+        let z = pred_code p bound plan c held known rs in
+        let x = term_code p bound plan a held more z.used in
+        let y = term_code p bound plan b held more x.used in
+        branch_inside w z (with_value (in_type (type_of a) w x.value) x) (with_value (in_type (type_of b) w y.value) y) (pred_inside c held known rs) (term_inside a held more z.used) (term_inside b held more x.used)
+    term_inside (logic.Number at t r n) held known rs = nothing_inside
+    term_inside (logic.Letter at t r n) held known rs = nothing_inside
+    term_inside (logic.Named at t r x) held known rs = nothing_inside
+    term_inside (logic.At at t r Here a) held known rs =
+        let c = term_code p bound plan a held known rs in before_inside c.stmts _ (term_inside a held known rs) (take_inside c.flag c.value (length c.used))
+    term_inside (logic.At at t r Pre a) held known rs = nothing_inside
+    term_inside (logic.At at t r (Marked l) a) held known rs = nothing_inside
+    term_inside (logic.Null at t r) held known rs = nothing_inside
+    term_inside (logic.Deref at t r a) held known rs = answered_inside (length (pointer_code p bound plan a held known rs).used) (pointer_code p bound plan a held known rs) _ (pointer_inside a held known rs) ((tt, tt), refl)
+    term_inside (logic.Member at t r d a) held known rs =
+        let c = member_code d (place_code p bound plan a held known rs) in answered_inside (length c.used) c _ (place_inside a held known rs) ((tt, tt), refl)
+    term_inside (logic.Address at t r a) held known rs = nothing_inside
+    term_inside (logic.Moved at t r op n a b) held known rs = nothing_inside
+    term_inside (logic.Difference at t r n a b) held known rs =
+        let c = pointer_code p bound plan a held known rs in offsets_inside c (pointer_code p bound plan b held known c.used) (pointer_inside a held known rs) (pointer_inside b held known c.used)
+    term_inside (logic.Told at t r f a) held known rs =
+        let c = pointer_code p bound plan a held known rs in answered_inside (length c.used) c _ (pointer_inside a held known rs) ((tt, (tt, tt)), refl)
 
-    pointer_inside : (t : LogicTerm) (known : List Reading) (rs : List MonType) → Inside (pointer_code p bound t known rs).stmts
-    pointer_inside (logic.Variable at t r x) known rs = pointer_there_inside (is_known known (record { decl = x.decl; kind = term_type t })) t (start_pointer (pointer_to p bound x.decl) rs) nothing_inside
-    pointer_inside (logic.Deref at t r a) known rs = pointer_there_inside false t (pointer_code p bound a known rs) (pointer_inside a known rs)
-    pointer_inside (logic.Member at t r d a) known rs = pointer_there_inside false t (member_code d (place_code p bound a known rs)) (place_inside a known rs)
-    pointer_inside (logic.Address at t r a) known rs = place_inside a known rs
-    pointer_inside (logic.Moved at t r op n a b) known rs =
-        let c = pointer_code p bound a known rs in before_inside c.stmts (term_code p bound b known c.used).stmts (pointer_inside a known rs) (term_inside b known c.used)
-    pointer_inside (logic.Cast at t r to a) known rs = pointer_inside a known rs
-    pointer_inside (logic.Choice at t r c a b) known rs =
+    pub pointer_inside : (t : LogicTerm) (held : List Held) (known : List Reading) (rs : List MonType) → Inside (pointer_code p bound plan t held known rs).stmts
+    pointer_inside (logic.Variable at t r x) held known rs = pointer_there_inside (is_known known (record { decl = x.decl; kind = term_type t })) t (start_pointer (pointer_to p bound x.decl) rs) nothing_inside
+    pointer_inside (logic.Deref at t r a) held known rs = pointer_there_inside false t (pointer_code p bound plan a held known rs) (pointer_inside a held known rs)
+    pointer_inside (logic.Member at t r d a) held known rs = pointer_there_inside false t (member_code d (place_code p bound plan a held known rs)) (place_inside a held known rs)
+    pointer_inside (logic.Address at t r a) held known rs = place_inside a held known rs
+    pointer_inside (logic.Moved at t r op n a b) held known rs =
+        let c = pointer_code p bound plan a held known rs in before_inside c.stmts (term_code p bound plan b held known c.used).stmts (pointer_inside a held known rs) (term_inside b held known c.used)
+    pointer_inside (logic.Cast at t r to a) held known rs = pointer_inside a held known rs
+    pointer_inside (logic.Choice at t r c a b) held known rs =
         let more = known ++ sure_readings c in
-        let z = pred_code p bound c known rs in
-        let x = pointer_code p bound a more z.used in
-        branch_pointer_inside z x (pointer_code p bound b more x.used) (pred_inside c known rs) (pointer_inside a more z.used) (pointer_inside b more x.used)
-    pointer_inside (logic.Told at t r f a) known rs =
-        let c = pointer_code p bound a known rs in answered_inside (length c.used) c _ (pointer_inside a known rs) ((tt, (tt, tt)), refl)
-    pointer_inside (logic.Number at t r n) known rs = nothing_inside
-    pointer_inside (logic.Letter at t r n) known rs = nothing_inside
-    pointer_inside (logic.Unary at t r op a) known rs = nothing_inside
-    pointer_inside (logic.Binary at t r op a b) known rs = nothing_inside
-    pointer_inside (logic.Named at t r x) known rs = nothing_inside
-    pointer_inside (logic.At at t r l a) known rs = nothing_inside
-    pointer_inside (logic.Null at t r) known rs = nothing_inside
-    pointer_inside (logic.Difference at t r n a b) known rs = nothing_inside
+        let z = pred_code p bound plan c held known rs in
+        let x = pointer_code p bound plan a held more z.used in
+        branch_pointer_inside z x (pointer_code p bound plan b held more x.used) (pred_inside c held known rs) (pointer_inside a held more z.used) (pointer_inside b held more x.used)
+    pointer_inside (logic.Told at t r f a) held known rs =
+        let c = pointer_code p bound plan a held known rs in answered_inside (length c.used) c _ (pointer_inside a held known rs) ((tt, (tt, tt)), refl)
+    pointer_inside (logic.Number at t r n) held known rs = nothing_inside
+    pointer_inside (logic.Letter at t r n) held known rs = nothing_inside
+    pointer_inside (logic.Unary at t r op a) held known rs = nothing_inside
+    pointer_inside (logic.Binary at t r op a b) held known rs = nothing_inside
+    pointer_inside (logic.Named at t r x) held known rs = nothing_inside
+    pointer_inside (logic.At at t r Here a) held known rs = pointer_inside a held known rs
+    pointer_inside (logic.At at t r Pre a) held known rs = nothing_inside
+    pointer_inside (logic.At at t r (Marked l) a) held known rs = nothing_inside
+    pointer_inside (logic.Null at t r) held known rs = nothing_inside
+    pointer_inside (logic.Difference at t r n a b) held known rs = nothing_inside
 
-    place_inside : (t : LogicTerm) (known : List Reading) (rs : List MonType) → Inside (place_code p bound t known rs).stmts
-    place_inside (logic.Deref at t r a) known rs = pointer_inside a known rs
-    place_inside (logic.Member at t r d a) known rs = place_inside a known rs
-    place_inside _ known rs = nothing_inside
+    place_inside : (t : LogicTerm) (held : List Held) (known : List Reading) (rs : List MonType) → Inside (place_code p bound plan t held known rs).stmts
+    place_inside (logic.Deref at t r a) held known rs = pointer_inside a held known rs
+    place_inside (logic.Member at t r d a) held known rs = place_inside a held known rs
+    place_inside _ held known rs = nothing_inside
 
-    zone_inside : (z : Zone) (known : List Reading) (rs : List MonType) → Inside (zone_code p bound z known rs).pointer.stmts
-    zone_inside (logic.Object at n m a) known rs = pointer_inside a known rs
-    zone_inside (logic.Elements at n m a lo hi) known rs =
-        let c = pointer_code p bound a known rs in
-        let x = term_code p bound lo known c.used in
-        let y = term_code p bound hi known x.used in
-        before_inside (before c.stmts x.stmts) y.stmts (before_inside c.stmts x.stmts (pointer_inside a known rs) (term_inside lo known c.used)) (term_inside hi known x.used)
+    zone_inside : (z : Zone) (held : List Held) (known : List Reading) (rs : List MonType) → Inside (zone_code p bound plan z held known rs).pointer.stmts
+    zone_inside (logic.Object at n m a) held known rs = pointer_inside a held known rs
+    zone_inside (logic.Elements at n m a lo hi) held known rs =
+        let c = pointer_code p bound plan a held known rs in
+        let x = term_code p bound plan lo held known c.used in
+        let y = term_code p bound plan hi held known x.used in
+        before_inside (before c.stmts x.stmts) y.stmts (before_inside c.stmts x.stmts (pointer_inside a held known rs) (term_inside lo held known c.used)) (term_inside hi held known x.used)
 
-    zones_inside : (zs : Zones) (known : List Reading) (rs : List MonType) → Inside (zones_code p bound zs known rs).stmts
-    zones_inside NoZone known rs = nothing_inside
-    zones_inside (Another z rest) known rs =
-        let c = zone_code p bound z known rs in
-        before_inside c.pointer.stmts (zones_code p bound rest known c.pointer.used).stmts (zone_inside z known rs) (zones_inside rest known c.pointer.used)
+    zones_inside : (zs : Zones) (held : List Held) (known : List Reading) (rs : List MonType) → Inside (zones_code p bound plan zs held known rs).stmts
+    zones_inside NoZone held known rs = nothing_inside
+    zones_inside (Another z rest) held known rs =
+        let c = zone_code p bound plan z held known rs in
+        before_inside c.pointer.stmts (zones_code p bound plan rest held known c.pointer.used).stmts (zone_inside z held known rs) (zones_inside rest held known c.pointer.used)
 
-    chain_inside : (t : LogicTerm) (x : Side) (l : Links) (known : List Reading) → Inside (stmts_of x) → Inside (chain_code p bound t x l known).stmts
-    chain_inside t x NoLink known h = h
-    chain_inside t x (Linked at r u NoLink) known h =
-        let c = pointer_code p bound u known (used_by x) in
-        let d = term_code p bound u known (used_by x) in
-        related_inside r t u x (side_by (is_pointer_term u) c d) h (side_inside (is_pointer_term u) c d (pointer_inside u known (used_by x)) (term_inside u known (used_by x)))
-    chain_inside t x (Linked at r u (Linked at2 r2 v rest)) known h =
-        let c = pointer_code p bound u known (used_by x) in
-        let d = term_code p bound u known (used_by x) in
+    chain_inside : (t : LogicTerm) (x : Side) (l : Links) (held : List Held) (known : List Reading) → Inside (stmts_of x) → Inside (chain_code p bound plan t x l held known).stmts
+    chain_inside t x NoLink held known h = h
+    chain_inside t x (Linked at r u NoLink) held known h =
+        let c = pointer_code p bound plan u held known (used_by x) in
+        let d = term_code p bound plan u held known (used_by x) in
+        related_inside r t u x (side_by (is_pointer_term u) c d) h (side_inside (is_pointer_term u) c d (pointer_inside u held known (used_by x)) (term_inside u held known (used_by x)))
+    chain_inside t x (Linked at r u (Linked at2 r2 v rest)) held known h =
+        let c = pointer_code p bound plan u held known (used_by x) in
+        let d = term_code p bound plan u held known (used_by x) in
         let y = side_by (is_pointer_term u) c d in
         let z = related_code r t u x y in
         let more = known ++ (sure_readings_of_term t ++ sure_readings_of_term u) in
         let start = again y z.used in
-        connected_inside And z (chain_code p bound u start (Linked at2 r2 v rest) more)
-        (related_inside r t u x y h (side_inside (is_pointer_term u) c d (pointer_inside u known (used_by x)) (term_inside u known (used_by x)))) (chain_inside u start (Linked at2 r2 v rest) more (again_inside y z.used))
+        connected_inside And z (chain_code p bound plan u start (Linked at2 r2 v rest) held more)
+        (related_inside r t u x y h (side_inside (is_pointer_term u) c d (pointer_inside u held known (used_by x)) (term_inside u held known (used_by x)))) (chain_inside u start (Linked at2 r2 v rest) held more (again_inside y z.used))
 
-    pred_inside : (q : Predicate) (known : List Reading) (rs : List MonType) → Inside (pred_code p bound q known rs).stmts
-    pred_inside (logic.Truth at b) known rs = nothing_inside
-    pred_inside (logic.NonZero at t) known rs = term_inside t known rs
-    pred_inside (logic.Chain at t links) known rs =
-        let c = pointer_code p bound t known rs in
-        let d = term_code p bound t known rs in
-        chain_inside t (side_by (is_pointer_term t) c d) links known (side_inside (is_pointer_term t) c d (pointer_inside t known rs) (term_inside t known rs))
-    pred_inside (logic.Not at q) known rs = pred_inside q known rs
-    pred_inside (logic.Connected at c a b) known rs =
-        let x = pred_code p bound a known rs in
-        connected_inside c x (pred_code p bound b (known_at_right c known a) x.used) (pred_inside a known rs) (pred_inside b (known_at_right c known a) x.used)
-    pred_inside (logic.Branch at c a b) known rs =
+    pred_inside : (q : Predicate) (held : List Held) (known : List Reading) (rs : List MonType) → Inside (pred_code p bound plan q held known rs).stmts
+    pred_inside (logic.Truth at b) held known rs = nothing_inside
+    pred_inside (logic.NonZero at t) held known rs = term_inside t held known rs
+    pred_inside (logic.Chain at t links) held known rs =
+        let c = pointer_code p bound plan t held known rs in
+        let d = term_code p bound plan t held known rs in
+        chain_inside t (side_by (is_pointer_term t) c d) links held known (side_inside (is_pointer_term t) c d (pointer_inside t held known rs) (term_inside t held known rs))
+    pred_inside (logic.Not at q) held known rs = pred_inside q held known rs
+    pred_inside (logic.Connected at c a b) held known rs =
+        let x = pred_code p bound plan a held known rs in
+        connected_inside c x (pred_code p bound plan b held (known_at_right c known a) x.used) (pred_inside a held known rs) (pred_inside b held (known_at_right c known a) x.used)
+    pred_inside (logic.Branch at c a b) held known rs =
         let more = known ++ sure_readings c in
-        let z = pred_code p bound c known rs in
-        let x = pred_code p bound a more z.used in
-        branch_inside I32 z x (pred_code p bound b more x.used) (pred_inside c known rs) (pred_inside a more z.used) (pred_inside b more x.used)
-    pred_inside (logic.Quantified at quantifier guards q) known rs = nothing_inside
-    pred_inside (logic.Asks at f z) known rs =
-        let c = (zone_code p bound z known rs).pointer in before_inside c.stmts _ (zone_inside z known rs) (guarded_inside c.flag _ NoStatement ((tt, tt), refl) nothing_inside)
-    pred_inside (logic.Separated at zs) known rs =
-        let c = zones_code p bound zs known rs in
+        let z = pred_code p bound plan c held known rs in
+        let x = pred_code p bound plan a held more z.used in
+        branch_inside I32 z x (pred_code p bound plan b held more x.used) (pred_inside c held known rs) (pred_inside a held more z.used) (pred_inside b held more x.used)
+    pred_inside (logic.Quantified at quantifier guards q) held known rs = nothing_inside
+    pred_inside (logic.Asks at f z) held known rs =
+        let c = (zone_code p bound plan z held known rs).pointer in before_inside c.stmts _ (zone_inside z held known rs) (guarded_inside c.flag _ NoStatement ((tt, tt), refl) nothing_inside)
+    pred_inside (logic.Separated at zs) held known rs =
+        let c = zones_code p bound plan zs held known rs in
         let pairs = pairs_inside (length c.used) c.zones in
-        before_inside c.stmts _ (zones_inside zs known rs) (guarded_inside c.flag _ NoStatement ((tt, pairs.0), pairs.1) nothing_inside)
+        before_inside c.stmts _ (zones_inside zs held known rs) (guarded_inside c.flag _ NoStatement ((tt, pairs.0), pairs.1) nothing_inside)
 
 -- ---- the flag and the truth
 
@@ -322,13 +329,15 @@ with_inside (Some (Flip t x)) c h = anew_inside (Flip t x) c h
 with_inside (Some (Cast t x)) c h = anew_inside (Cast t x) c h
 with_inside (Some (Load t x)) c h = anew_inside (Load t x) c h
 
-pub judgement_inside : (p : TranslationUnit) (bound : Bindings) (q : Predicate) (rs : List MonType) → AreInside (judgement p bound q rs).stmts
-judgement_inside p bound q rs =
-    let c = pred_code p bound q [] rs in
-    let h = with_inside c.flag c (pred_inside p bound q [] rs) in
+pub judgement_inside : (p : TranslationUnit) (bound : Bindings) (plan : List Kept) (held : List Held) (q : Predicate) (rs : List MonType) → AreInside (judgement p bound plan held q rs).stmts
+judgement_inside p bound plan held q rs =
+    let c = pred_code p bound plan q held [] rs in
+    let h = with_inside c.flag c (pred_inside p bound plan q held [] rs) in
     record { stay = h.0; no_step = h.1 }
 
-pub of_inside : {E : Type 0} (r : Result code.Judged E) (ks : List MonType) (n : Names) (q : Predicate) → IfOk r (λ j. judgement_of j ks ≡ judgement_by n q) → IfOk r (λ j. AreInside (judgement_of j ks).stmts)
-of_inside r ks n q made =
-    IfOk-weaker r (λ j. judgement_of j ks ≡ judgement_by n q) (λ j. AreInside (judgement_of j ks).stmts)
-    (λ j h. subst (λ (z : Judgement). AreInside z.stmts) (sym h) (judgement_inside (unit_of n) n.table.bound q n.table.kinds)) made
+pub of_inside :
+    {E : Type 0} (r : Result code.Judged E) (ks : List MonType) (n : Names) (q : Predicate) (k : Known) → IfOk r (λ j. judgement_of j ks ≡ judgement_by n q k)
+    → IfOk r (λ j. AreInside (judgement_of j ks).stmts)
+of_inside r ks n q k made =
+    IfOk-weaker r (λ j. judgement_of j ks ≡ judgement_by n q k) (λ j. AreInside (judgement_of j ks).stmts)
+    (λ j h. subst (λ (z : Judgement). AreInside z.stmts) (sym h) (judgement_inside (unit_of n) n.table.bound k.plan k.held q n.table.kinds)) made

@@ -6,41 +6,37 @@ use Rattle.c_model.specs.Predicates.{pred}
 use Rattle.mon_syntax.specs.declared.tree.MonType.{MonType}
 use Rattle.mon_syntax.specs.Registers.{Names}
 use Rattle.mon_syntax.specs.Trees.{plain_expr}
-use Rattle.annot_code.specs.Code.{Reading}
 use Rattle.c_effects.specs.Named.{unit_of}
 use Rattle.annot_code.specs.declared.judge.Judged as code
 use Rattle.annot_code.specs.declared.piece.Code as declared
-use Rattle.annot_code.specs.Code.{Judgement, judged_with, judgement}
+use Rattle.annot_code.specs.Code.{judged_with, judgement}
 use Rattle.annot_code.specs.Does.{Judges}
 use Rattle.annot_code.specs.Judged.{IsValidIn, JudgesIn}
-use Rattle.annot_code.specs.Plain.{code_of, judgement_of, pred_by}
+use Rattle.annot_code.specs.Plain.{Known, code_of, judgement_by, judgement_of, known_with, pred_by}
 use Rattle.annot_code.proofs.Theorem.{code_judges}
 use Rattle.annot_code.proofs.ValidCode.{code_is_valid}
 
-abbrev pub judgement_by : Names → Predicate → Judgement
-judgement_by n q = judgement (unit_of n) n.table.bound q n.table.kinds
-
-judges_in : (n : Names) (q : Predicate) → JudgesIn n q (judgement_by n q)
-judges_in n q w unit bound stands holds ranged found low few =
-    let same : judgement w.unit w.bound q n.table.kinds ≡ judgement_by n q = λ i. judgement (unit i) (bound i) q n.table.kinds in
+judges_in : (n : Names) (q : Predicate) (k : Known) → JudgesIn n k.plan k.held q (judgement_by n q k)
+judges_in n q k w unit bound plan held stands holds ranged found low few =
+    let same : judgement w.unit w.bound w.plan w.held q n.table.kinds ≡ judgement_by n q k = λ i. judgement (unit i) (bound i) (plan i) (held i) q n.table.kinds in
     subst (λ z. length z.used ≤ length w.regs → Judges w n.table.kinds z (pred q w.now w.names w.target.steps)) same (code_judges w q n.table.kinds stands holds ranged found low) few
 
-valid_in : (n : Names) (q : Predicate) → IsValidIn n q (judgement_by n q)
-valid_in n q globals gs ts result ls ranged writable few begins =
-    code_is_valid (unit_of n) n.table.bound globals gs ts result ls q n.table.kinds ranged writable few begins
+valid_in : (n : Names) (q : Predicate) (k : Known) → IsValidIn n k.plan k.held q (judgement_by n q k)
+valid_in n q k seen globals gs ts result ls ranged writable few begins =
+    code_is_valid (unit_of n) n.table.bound k.plan k.held seen globals gs ts result ls q n.table.kinds ranged writable few begins
 
-module _ {E : Type 0} (r : Result code.Judged E) (ks : List MonType) (n : Names) (q : Predicate) where
+module _ {E : Type 0} (r : Result code.Judged E) (ks : List MonType) (n : Names) (q : Predicate) (k : Known) where
   pub of_judgement :
-      (x : declared.Code) (k1 : List MonType) (known : List Reading) → known ≡ [] → code_of x k1 ≡ pred_by n q known
-      → IfOk r (λ j. judgement_of j ks ≡ judged_with (option_map plain_expr x.flag) (code_of x k1)) → IfOk r (λ j. judgement_of j ks ≡ judgement_by n q)
+      (x : declared.Code) (k1 : List MonType) (known : Known) → known ≡ known_with [] k → code_of x k1 ≡ pred_by n q known
+      → IfOk r (λ j. judgement_of j ks ≡ judged_with (option_map plain_expr x.flag) (code_of x k1)) → IfOk r (λ j. judgement_of j ks ≡ judgement_by n q k)
   of_judgement x k1 known none part made =
-      IfOk-weaker r (λ j. judgement_of j ks ≡ judged_with (option_map plain_expr x.flag) (code_of x k1)) (λ j. judgement_of j ks ≡ judgement_by n q)
+      IfOk-weaker r (λ j. judgement_of j ks ≡ judged_with (option_map plain_expr x.flag) (code_of x k1)) (λ j. judgement_of j ks ≡ judgement_by n q k)
       (λ j h. h ∙ (λ i. judged_with (part i).flag (part i)) ∙ (λ i. judged_with (pred_by n q (none i)).flag (pred_by n q (none i)))) made
 
-  pub of_judges : IfOk r (λ j. judgement_of j ks ≡ judgement_by n q) → IfOk r (λ j. JudgesIn n q (judgement_of j ks))
+  pub of_judges : IfOk r (λ j. judgement_of j ks ≡ judgement_by n q k) → IfOk r (λ j. JudgesIn n k.plan k.held q (judgement_of j ks))
   of_judges made =
-      IfOk-weaker r (λ j. judgement_of j ks ≡ judgement_by n q) (λ j. JudgesIn n q (judgement_of j ks)) (λ j h. subst (JudgesIn n q) (sym h) (judges_in n q)) made
+      IfOk-weaker r (λ j. judgement_of j ks ≡ judgement_by n q k) (λ j. JudgesIn n k.plan k.held q (judgement_of j ks)) (λ j h. subst (JudgesIn n k.plan k.held q) (sym h) (judges_in n q k)) made
 
-  pub of_valid : IfOk r (λ j. judgement_of j ks ≡ judgement_by n q) → IfOk r (λ j. IsValidIn n q (judgement_of j ks))
+  pub of_valid : IfOk r (λ j. judgement_of j ks ≡ judgement_by n q k) → IfOk r (λ j. IsValidIn n k.plan k.held q (judgement_of j ks))
   of_valid made =
-      IfOk-weaker r (λ j. judgement_of j ks ≡ judgement_by n q) (λ j. IsValidIn n q (judgement_of j ks)) (λ j h. subst (IsValidIn n q) (sym h) (valid_in n q)) made
+      IfOk-weaker r (λ j. judgement_of j ks ≡ judgement_by n q k) (λ j. IsValidIn n k.plan k.held q (judgement_of j ks)) (λ j h. subst (IsValidIn n k.plan k.held q) (sym h) (valid_in n q k)) made

@@ -10,7 +10,7 @@ use Rattle.mon_syntax.specs.BlockMemory.{is_some}
 use Rattle.mon_syntax.specs.Meaning.{Done, Next}
 use Rattle.mon_syntax.specs.Trees.{MonExpression, Register, Constant, If, MonStatements, NoStatement}
 use Rattle.c_effects.specs.Expressions.{before, one, set}
-use Rattle.annot_code.specs.Code.{Code, conjunction, guarded, two_code, take, take_none, taken, branch, with_value as code_with_value, sure_code}
+use Rattle.annot_code.specs.Code.{Code, conjunction, guarded, two_code, take, take_none, taken, branch, settled, with_value as code_with_value, sure_code}
 use Rattle.annot_code.specs.Does.{Setting, runs}
 use Rattle.c_simulation.specs.SameRegisters.{Same}
 use Rattle.annot_code.proofs.Steps.{same_all, same_less, same_trans, same_set, get-set_same, after_runs, HasNumber, set_first, set_runs, if_true, if_false, operation}
@@ -283,6 +283,12 @@ module _ (w : Setting) where
       cases None v p q = missing (flag_is false (is_some ob) (ap is_some p) refl)
       cases (Some x) None p q = missing (flag_is true false (ap is_some p) (ap is_some q))
       cases (Some x) (Some y) p q = made x y p q
+
+  -- a part that stands in registers then
+  pub settled_runs : (t : MonType) (c : Code) (o : Option ℤ) (rs : List MonType) (regs : List Value) → length rs ≤ length c.used → suc (length c.used) < length regs → Codes c o rs regs → Codes (settled t c) o rs regs
+  settled_runs t c o rs regs le room h =
+      taken_codes (before c.stmts (take c.flag c.value (length c.used))) t c.used o rs regs h.end (take c.flag c.value (length c.used)) le h.same (after_runs w c.stmts (take c.flag c.value (length c.used)) regs h.end h.is)
+      (take_runs c.flag c.value o (length c.used) h.end (omega (arith, room, h.same.long)) (λ later s. h.holds later s))
 
   -- ---- a choice
 

@@ -2,6 +2,9 @@
 use Rattle.std.proofs.Common.{Bool, true, false, if◌then◌else◌, List, [], ◌∷◌, ◌++◌, Option, Some, None}
 use Rattle.c_syntax.specs.declared.expression.BinOp.{BinOp}
 use Rattle.c_syntax.specs.declared.logic.Connective.{Connective}
+use Rattle.c_syntax.specs.declared.logic.Label.TheVariants.{Here, Pre, Marked}
+use Rattle.c_simulation.specs.Keeping.{Kept}
+use Rattle.annot_code.specs.Held.{Held}
 use Rattle.c_syntax.specs.declared.logic.Connective.TheVariants.{And, Xor, Or, Implies, Iff}
 use Rattle.c_syntax.specs.declared.annotation.Relation.{Relation}
 use Rattle.c_syntax.specs.declared.annotation.Relation.TheVariants as relation
@@ -78,107 +81,113 @@ module _ (ts : Types) where
   side_begins true c d rs h g b = h b
   side_begins false c d rs h g b = g b
 
-  module _ (p : TranslationUnit) (bound : Bindings) where
+  module _ (p : TranslationUnit) (bound : Bindings) (plan : List Kept) where
     variable_begins : (t : Bool) (w : MonType) (x : Reading) (rs : Types) → Begins (variable_code p bound t w x rs).used ts → Begins rs ts
     variable_begins true w x rs b = b
     variable_begins false w x rs b = begins_front rs (I32 ∷ []) ts b
 
     mutual
-      pub term_begins : (t : LogicTerm) (known : List Reading) (rs : Types) → Begins (term_code p bound t known rs).used ts → Begins rs ts
-      term_begins (logic.Number at t r n) known rs b = b
-      term_begins (logic.Letter at t r n) known rs b = b
-      term_begins (logic.Variable at t r x) known rs b = variable_begins (is_known known (record { decl = x.decl; kind = term_type t })) (type_of_width (width_of_range r)) (record { decl = x.decl; kind = term_type t }) rs b
-      term_begins (logic.Unary at t r op a) known rs b = term_begins a known rs b
-      term_begins (logic.Binary at t r op a d) known rs b =
-          let x = term_code p bound a known rs in
-          let y = term_code p bound d known x.used in
+      pub term_begins : (t : LogicTerm) (held : List Held) (known : List Reading) (rs : Types) → Begins (term_code p bound plan t held known rs).used ts → Begins rs ts
+      term_begins (logic.Number at t r n) held known rs b = b
+      term_begins (logic.Letter at t r n) held known rs b = b
+      term_begins (logic.Variable at t r x) held known rs b = variable_begins (is_known known (record { decl = x.decl; kind = term_type t })) (type_of_width (width_of_range r)) (record { decl = x.decl; kind = term_type t }) rs b
+      term_begins (logic.Unary at t r op a) held known rs b = term_begins a held known rs b
+      term_begins (logic.Binary at t r op a d) held known rs b =
+          let x = term_code p bound plan a held known rs in
+          let y = term_code p bound plan d held known x.used in
           let wr = type_of_width (width_of_range r) in
           let k = type_of_width (working op (width_of_range r) (width_of a) (width_of d)) in
-          term_begins a known rs (term_begins d known x.used
+          term_begins a held known rs (term_begins d held known x.used
           (operated_begins (is_total op (range_of d)) op wr k (type_of d) x y (binary_value op wr k (type_of a) (type_of d) (range_of d) x.value y.value) b))
-      term_begins (logic.Cast at t r to a) known rs b = term_begins a known rs b
-      term_begins (logic.Choice at t r c a d) known rs b =
+      term_begins (logic.Cast at t r to a) held known rs b = term_begins a held known rs b
+      term_begins (logic.Choice at t r c a d) held known rs b =
           let more = known ++ sure_readings c in
-          let z = pred_code p bound c known rs in
-          let x = term_code p bound a more z.used in
-          let y = term_code p bound d more x.used in
-          pred_begins c known rs (term_begins a more z.used (term_begins d more x.used (begins_front y.used (I32 ∷ type_of_width (width_of_range r) ∷ []) ts b)))
-      term_begins (logic.Deref at t r a) known rs b = pointer_begins a known rs (begins_front (pointer_code p bound a known rs).used (I32 ∷ []) ts b)
-      term_begins (logic.Member at t r d a) known rs b = place_begins a known rs (begins_front (place_code p bound a known rs).used (I32 ∷ []) ts b)
-      term_begins (logic.Difference at t r n a d) known rs b =
-          let c = pointer_code p bound a known rs in
-          pointer_begins a known rs (pointer_begins d known c.used (begins_front (pointer_code p bound d known c.used).used (I32 ∷ I32 ∷ Ptr ∷ Ptr ∷ I64 ∷ I64 ∷ []) ts b))
-      term_begins (logic.Told at t r f a) known rs b = pointer_begins a known rs (begins_front (pointer_code p bound a known rs).used (I32 ∷ type_of_fact f ∷ []) ts b)
-      term_begins _ known rs b = b
+          let z = pred_code p bound plan c held known rs in
+          let x = term_code p bound plan a held more z.used in
+          let y = term_code p bound plan d held more x.used in
+          pred_begins c held known rs (term_begins a held more z.used (term_begins d held more x.used (begins_front y.used (I32 ∷ type_of_width (width_of_range r) ∷ []) ts b)))
+      term_begins (logic.Deref at t r a) held known rs b = pointer_begins a held known rs (begins_front (pointer_code p bound plan a held known rs).used (I32 ∷ []) ts b)
+      term_begins (logic.Member at t r d a) held known rs b = place_begins a held known rs (begins_front (place_code p bound plan a held known rs).used (I32 ∷ []) ts b)
+      term_begins (logic.Difference at t r n a d) held known rs b =
+          let c = pointer_code p bound plan a held known rs in
+          pointer_begins a held known rs (pointer_begins d held known c.used (begins_front (pointer_code p bound plan d held known c.used).used (I32 ∷ I32 ∷ Ptr ∷ Ptr ∷ I64 ∷ I64 ∷ []) ts b))
+      term_begins (logic.Told at t r f a) held known rs b = pointer_begins a held known rs (begins_front (pointer_code p bound plan a held known rs).used (I32 ∷ type_of_fact f ∷ []) ts b)
+      term_begins (logic.At at t r Here a) held known rs b = term_begins a held known rs (begins_front (term_code p bound plan a held known rs).used (I32 ∷ type_of a ∷ []) ts b)
+      term_begins (logic.At at t r Pre a) held known rs b = b
+      term_begins (logic.At at t r (Marked l) a) held known rs b = b
+      term_begins _ held known rs b = b
 
-      pub pointer_begins : (t : LogicTerm) (known : List Reading) (rs : Types) → Begins (pointer_code p bound t known rs).used ts → Begins rs ts
-      pointer_begins (logic.Variable at t r x) known rs b = there_begins (is_known known (record { decl = x.decl; kind = term_type t })) t (start_pointer (pointer_to p bound x.decl) rs) b
-      pointer_begins (logic.Deref at t r a) known rs b = pointer_begins a known rs (there_begins false t (pointer_code p bound a known rs) b)
-      pointer_begins (logic.Member at t r d a) known rs b = place_begins a known rs (there_begins false t (member_code d (place_code p bound a known rs)) b)
-      pointer_begins (logic.Address at t r a) known rs b = place_begins a known rs b
-      pointer_begins (logic.Moved at t r op n a d) known rs b = pointer_begins a known rs (term_begins d known (pointer_code p bound a known rs).used b)
-      pointer_begins (logic.Cast at t r to a) known rs b = pointer_begins a known rs b
-      pointer_begins (logic.Choice at t r c a d) known rs b =
+      pub pointer_begins : (t : LogicTerm) (held : List Held) (known : List Reading) (rs : Types) → Begins (pointer_code p bound plan t held known rs).used ts → Begins rs ts
+      pointer_begins (logic.Variable at t r x) held known rs b = there_begins (is_known known (record { decl = x.decl; kind = term_type t })) t (start_pointer (pointer_to p bound x.decl) rs) b
+      pointer_begins (logic.Deref at t r a) held known rs b = pointer_begins a held known rs (there_begins false t (pointer_code p bound plan a held known rs) b)
+      pointer_begins (logic.Member at t r d a) held known rs b = place_begins a held known rs (there_begins false t (member_code d (place_code p bound plan a held known rs)) b)
+      pointer_begins (logic.Address at t r a) held known rs b = place_begins a held known rs b
+      pointer_begins (logic.Moved at t r op n a d) held known rs b = pointer_begins a held known rs (term_begins d held known (pointer_code p bound plan a held known rs).used b)
+      pointer_begins (logic.Cast at t r to a) held known rs b = pointer_begins a held known rs b
+      pointer_begins (logic.Choice at t r c a d) held known rs b =
           let more = known ++ sure_readings c in
-          let z = pred_code p bound c known rs in
-          let x = pointer_code p bound a more z.used in
-          let y = pointer_code p bound d more x.used in
-          pred_begins c known rs (pointer_begins a more z.used (pointer_begins d more x.used (begins_front y.used (I32 ∷ Ptr ∷ I128 ∷ []) ts b)))
-      pointer_begins (logic.Told at t r f a) known rs b = pointer_begins a known rs (begins_front (pointer_code p bound a known rs).used (I32 ∷ Ptr ∷ []) ts b)
-      pointer_begins _ known rs b = b
+          let z = pred_code p bound plan c held known rs in
+          let x = pointer_code p bound plan a held more z.used in
+          let y = pointer_code p bound plan d held more x.used in
+          pred_begins c held known rs (pointer_begins a held more z.used (pointer_begins d held more x.used (begins_front y.used (I32 ∷ Ptr ∷ I128 ∷ []) ts b)))
+      pointer_begins (logic.Told at t r f a) held known rs b = pointer_begins a held known rs (begins_front (pointer_code p bound plan a held known rs).used (I32 ∷ Ptr ∷ []) ts b)
+      pointer_begins (logic.At at t r Here a) held known rs b = pointer_begins a held known rs b
+      pointer_begins (logic.At at t r Pre a) held known rs b = b
+      pointer_begins (logic.At at t r (Marked l) a) held known rs b = b
+      pointer_begins _ held known rs b = b
 
-      pub place_begins : (t : LogicTerm) (known : List Reading) (rs : Types) → Begins (place_code p bound t known rs).used ts → Begins rs ts
-      place_begins (logic.Deref at t r a) known rs b = pointer_begins a known rs b
-      place_begins (logic.Member at t r d a) known rs b = place_begins a known rs b
-      place_begins _ known rs b = b
+      pub place_begins : (t : LogicTerm) (held : List Held) (known : List Reading) (rs : Types) → Begins (place_code p bound plan t held known rs).used ts → Begins rs ts
+      place_begins (logic.Deref at t r a) held known rs b = pointer_begins a held known rs b
+      place_begins (logic.Member at t r d a) held known rs b = place_begins a held known rs b
+      place_begins _ held known rs b = b
 
-      pub zone_begins : (z : Zone) (known : List Reading) (rs : Types) → Begins (zone_code p bound z known rs).pointer.used ts → Begins rs ts
-      zone_begins (logic.Object at n m a) known rs b = pointer_begins a known rs b
-      zone_begins (logic.Elements at n m a lo hi) known rs b =
-          let c = pointer_code p bound a known rs in
-          pointer_begins a known rs (term_begins lo known c.used (term_begins hi known (term_code p bound lo known c.used).used b))
+      pub zone_begins : (z : Zone) (held : List Held) (known : List Reading) (rs : Types) → Begins (zone_code p bound plan z held known rs).pointer.used ts → Begins rs ts
+      zone_begins (logic.Object at n m a) held known rs b = pointer_begins a held known rs b
+      zone_begins (logic.Elements at n m a lo hi) held known rs b =
+          let c = pointer_code p bound plan a held known rs in
+          pointer_begins a held known rs (term_begins lo held known c.used (term_begins hi held known (term_code p bound plan lo held known c.used).used b))
 
-      pub zones_begins : (zs : Zones) (known : List Reading) (rs : Types) → Begins (zones_code p bound zs known rs).used ts → Begins rs ts
-      zones_begins NoZone known rs b = b
-      zones_begins (Another z rest) known rs b = zone_begins z known rs (zones_begins rest known (zone_code p bound z known rs).pointer.used b)
+      pub zones_begins : (zs : Zones) (held : List Held) (known : List Reading) (rs : Types) → Begins (zones_code p bound plan zs held known rs).used ts → Begins rs ts
+      zones_begins NoZone held known rs b = b
+      zones_begins (Another z rest) held known rs b = zone_begins z held known rs (zones_begins rest held known (zone_code p bound plan z held known rs).pointer.used b)
 
-      pub chain_begins : (t : LogicTerm) (x : Side) (l : Links) (known : List Reading) → Begins (chain_code p bound t x l known).used ts → Begins (used_by x) ts
-      chain_begins t x NoLink known b = b
-      chain_begins t x (Linked at r u NoLink) known b =
-          let c = pointer_code p bound u known (used_by x) in
-          let d = term_code p bound u known (used_by x) in
-          side_begins (is_pointer_term u) c d (used_by x) (λ b. pointer_begins u known (used_by x) b) (λ b. term_begins u known (used_by x) b) (related_begins r t u x (side_by (is_pointer_term u) c d) b)
-      chain_begins t x (Linked at r u (Linked at2 r2 v rest)) known b =
-          let c = pointer_code p bound u known (used_by x) in
-          let d = term_code p bound u known (used_by x) in
+      pub chain_begins : (t : LogicTerm) (x : Side) (l : Links) (held : List Held) (known : List Reading) → Begins (chain_code p bound plan t x l held known).used ts → Begins (used_by x) ts
+      chain_begins t x NoLink held known b = b
+      chain_begins t x (Linked at r u NoLink) held known b =
+          let c = pointer_code p bound plan u held known (used_by x) in
+          let d = term_code p bound plan u held known (used_by x) in
+          side_begins (is_pointer_term u) c d (used_by x) (λ b. pointer_begins u held known (used_by x) b) (λ b. term_begins u held known (used_by x) b) (related_begins r t u x (side_by (is_pointer_term u) c d) b)
+      chain_begins t x (Linked at r u (Linked at2 r2 v rest)) held known b =
+          let c = pointer_code p bound plan u held known (used_by x) in
+          let d = term_code p bound plan u held known (used_by x) in
           let y = side_by (is_pointer_term u) c d in
           let z = related_code r t u x y in
           let more = known ++ (sure_readings_of_term t ++ sure_readings_of_term u) in
-          let e = chain_code p bound u (again y z.used) (Linked at2 r2 v rest) more in
-          side_begins (is_pointer_term u) c d (used_by x) (λ b. pointer_begins u known (used_by x) b) (λ b. term_begins u known (used_by x) b)
-          (related_begins r t u x y (again_begins y z.used (chain_begins u (again y z.used) (Linked at2 r2 v rest) more (connected_begins And z e b))))
+          let e = chain_code p bound plan u (again y z.used) (Linked at2 r2 v rest) held more in
+          side_begins (is_pointer_term u) c d (used_by x) (λ b. pointer_begins u held known (used_by x) b) (λ b. term_begins u held known (used_by x) b)
+          (related_begins r t u x y (again_begins y z.used (chain_begins u (again y z.used) (Linked at2 r2 v rest) held more (connected_begins And z e b))))
 
-      pub pred_begins : (q : Predicate) (known : List Reading) (rs : Types) → Begins (pred_code p bound q known rs).used ts → Begins rs ts
-      pred_begins (logic.Truth at v) known rs b = b
-      pred_begins (logic.NonZero at t) known rs b = term_begins t known rs b
-      pred_begins (logic.Chain at t links) known rs b =
-          let c = pointer_code p bound t known rs in
-          let d = term_code p bound t known rs in
-          side_begins (is_pointer_term t) c d rs (λ b. pointer_begins t known rs b) (λ b. term_begins t known rs b) (chain_begins t (side_by (is_pointer_term t) c d) links known b)
-      pred_begins (logic.Not at q) known rs b = pred_begins q known rs b
-      pred_begins (logic.Connected at c a d) known rs b =
-          let x = pred_code p bound a known rs in
-          let y = pred_code p bound d (known_at_right c known a) x.used in
-          pred_begins a known rs (pred_begins d (known_at_right c known a) x.used (connected_begins c x y b))
-      pred_begins (logic.Branch at c a d) known rs b =
+      pub pred_begins : (q : Predicate) (held : List Held) (known : List Reading) (rs : Types) → Begins (pred_code p bound plan q held known rs).used ts → Begins rs ts
+      pred_begins (logic.Truth at v) held known rs b = b
+      pred_begins (logic.NonZero at t) held known rs b = term_begins t held known rs b
+      pred_begins (logic.Chain at t links) held known rs b =
+          let c = pointer_code p bound plan t held known rs in
+          let d = term_code p bound plan t held known rs in
+          side_begins (is_pointer_term t) c d rs (λ b. pointer_begins t held known rs b) (λ b. term_begins t held known rs b) (chain_begins t (side_by (is_pointer_term t) c d) links held known b)
+      pred_begins (logic.Not at q) held known rs b = pred_begins q held known rs b
+      pred_begins (logic.Connected at c a d) held known rs b =
+          let x = pred_code p bound plan a held known rs in
+          let y = pred_code p bound plan d held (known_at_right c known a) x.used in
+          pred_begins a held known rs (pred_begins d held (known_at_right c known a) x.used (connected_begins c x y b))
+      pred_begins (logic.Branch at c a d) held known rs b =
           let more = known ++ sure_readings c in
-          let z = pred_code p bound c known rs in
-          let x = pred_code p bound a more z.used in
-          let y = pred_code p bound d more x.used in
-          pred_begins c known rs (pred_begins a more z.used (pred_begins d more x.used (begins_front y.used (I32 ∷ I32 ∷ []) ts b)))
-      pred_begins (logic.Asks at f z) known rs b = zone_begins z known rs (begins_front (zone_code p bound z known rs).pointer.used (I32 ∷ []) ts b)
-      pred_begins (logic.Separated at zs) known rs b = zones_begins zs known rs (begins_front (zones_code p bound zs known rs).used (I32 ∷ I32 ∷ []) ts b)
-      pred_begins _ known rs b = b
+          let z = pred_code p bound plan c held known rs in
+          let x = pred_code p bound plan a held more z.used in
+          let y = pred_code p bound plan d held more x.used in
+          pred_begins c held known rs (pred_begins a held more z.used (pred_begins d held more x.used (begins_front y.used (I32 ∷ I32 ∷ []) ts b)))
+      pred_begins (logic.Asks at f z) held known rs b = zone_begins z held known rs (begins_front (zone_code p bound plan z held known rs).pointer.used (I32 ∷ []) ts b)
+      pred_begins (logic.Separated at zs) held known rs b = zones_begins zs held known rs (begins_front (zones_code p bound plan zs held known rs).used (I32 ∷ I32 ∷ []) ts b)
+      pred_begins _ held known rs b = b
 
 -- ---- judgements
 

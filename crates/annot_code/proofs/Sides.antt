@@ -20,15 +20,18 @@ use Rattle.mon_syntax.specs.Meaning.{Done, Next}
 use Rattle.mon_syntax.specs.Trees.{Register, Constant, Binary}
 use Rattle.c_effects.specs.Expressions.{before}
 use Rattle.c_simulation.specs.SameRegisters.{Same}
+use Rattle.c_simulation.specs.Keeping.{Kept}
+use Rattle.annot_code.specs.Held.{Sorted, sorts_held}
 use Rattle.annot_code.specs.Pieces.{Code, type_of_width, type_of, width_of, wider, relation_value}
 use Rattle.annot_code.specs.Pointers.{PointerCode, null_code, addresses_code}
 use Rattle.annot_code.specs.Code.{Side, OfNumber, OfPointer, used_by, stmts_of, side_by, again, related_code, is_pointer_term, is_null_term}
 use Rattle.annot_code.specs.Does.{Setting, runs, Stands, RangesHold, IsZero, AreSides, found_by, TermFound, PointerFound, SideFound}
+use Rattle.annot_code.proofs.Held.{number_in, pointer_in}
 use Rattle.annot_code.proofs.Steps.{same_all, same_less, same_trans, after_runs, constant_has, operation}
 use Rattle.annot_code.proofs.Parts.{after, truths, FlagIs, Holds, Codes, Both, Two, two_runs}
 use Rattle.annot_code.proofs.Exact.{value_of, relation_has}
 use Rattle.annot_code.proofs.Quiet.{said_by, relation_says, addresses_say, zero_last_says, zero_first_says}
-use Rattle.annot_code.proofs.Variables.{some_same, number_found, pointer_found}
+use Rattle.annot_code.proofs.Variables.{some_same}
 use Rattle.annot_code.proofs.Grows.{addresses_grows}
 use Rattle.annot_code.proofs.Addresses.{null_based, Based, HoldsPointer, PointerCodes, holds_in}
 use Rattle.annot_code.proofs.Compared.{is_not, BothPointers, of_both, AskedOfBoth, equality_codes}
@@ -58,10 +61,10 @@ zero_is : (t : LogicTerm) (s : State) (e : Environment) → IsZero t → term t 
 zero_is (logic.Number at t r n) s e z = ap (λ n. Some (Mathematical n)) z
 zero_is _ s e z = absurd z
 
-null_is : (t : LogicTerm) (s : State) (e : Environment) (scope : Scope) → PointerFound scope t → is_null_term t ≡ true → as_address (term t s e) ≡ Some null_address
-null_is (logic.Null at t r) s e scope f q = refl
-null_is (logic.Number at t r n) s e scope f q = absurd f
-null_is _ s e scope f q = absurd cc
+null_is : (ks : List Kept) (ns : Sorted) (t : LogicTerm) (s : State) (e : Environment) (scope : Scope) → PointerFound ks scope ns t → is_null_term t ≡ true → as_address (term t s e) ≡ Some null_address
+null_is ks ns (logic.Null at t r) s e scope f q = refl
+null_is ks ns (logic.Number at t r n) s e scope f q = absurd f
+null_is ks ns _ s e scope f q = absurd cc
 
 module _ (w : Setting) where
   -- ---- a relation of two pointers
@@ -93,29 +96,29 @@ module _ (w : Setting) where
     pub holds : (later : List Value) → Same (length (used_by x)) end later → SideHolds x t later
 
   abbrev pub IsSide : Side → LogicTerm → Type 0
-  IsSide (OfNumber c) t = (is_pointer_term t ≡ false) × TermFound w.now.scope t
-  IsSide (OfPointer c) t = (is_pointer_term t ≡ true) × PointerFound w.now.scope t
+  IsSide (OfNumber c) t = (is_pointer_term t ≡ false) × TermFound w.plan w.now.scope (sorts_held w.held) t
+  IsSide (OfPointer c) t = (is_pointer_term t ≡ true) × PointerFound w.plan w.now.scope (sorts_held w.held) t
 
   pub record Sided (x : Side) (t : LogicTerm) (rs : List MonType) (regs : List Value) : Type 0 where
     pub codes : SideCodes x t rs regs
     pub sort : IsSide x t
 
   -- by the sort of the side
-  pub side_made : (t : LogicTerm) (c : PointerCode) (d : Code) (js : List MonType) (mid : List Value) → SideFound w.now.scope t
-      → (PointerFound w.now.scope t → length c.used ≤ length mid → PointerCodes w c (as_address (term t w.now w.names)) (range_of t) js mid)
-      → (TermFound w.now.scope t → length d.used ≤ length mid → Codes w d (value_of (term t w.now w.names)) js mid)
+  pub side_made : (t : LogicTerm) (c : PointerCode) (d : Code) (js : List MonType) (mid : List Value) → SideFound w.plan w.now.scope (sorts_held w.held) t
+      → (PointerFound w.plan w.now.scope (sorts_held w.held) t → length c.used ≤ length mid → PointerCodes w c (as_address (term t w.now w.names)) (range_of t) js mid)
+      → (TermFound w.plan w.now.scope (sorts_held w.held) t → length d.used ≤ length mid → Codes w d (value_of (term t w.now w.names)) js mid)
       → length (used_by (side_by (is_pointer_term t) c d)) ≤ length mid → Sided (side_by (is_pointer_term t) c d) t js mid
   side_made t c d js mid f as_pointer as_number room = by (is_pointer_term t) refl f room
     where
-      by : (m : Bool) → is_pointer_term t ≡ m → found_by m (PointerFound w.now.scope t) (TermFound w.now.scope t) → length (used_by (side_by m c d)) ≤ length mid → Sided (side_by m c d) t js mid
+      by : (m : Bool) → is_pointer_term t ≡ m → found_by m (PointerFound w.plan w.now.scope (sorts_held w.held) t) (TermFound w.plan w.now.scope (sorts_held w.held) t) → length (used_by (side_by m c d)) ≤ length mid → Sided (side_by m c d) t js mid
       by true q f room = let h = as_pointer f room in record { codes = record { end = h.end; same = h.same; is = h.is; holds = λ later s. holds_in w c (as_address (term t w.now w.names)) (range_of t) js mid h later s }; sort = (q, f) }
       by false q f room = let h = as_number f room in record { codes = record { end = h.end; same = h.same; is = h.is; holds = h.holds }; sort = (q, f) }
 
   -- a side that was computed already
-  pub again_side : (u : LogicTerm) (y : Side) (js : List MonType) (end : List Value) → ((later : List Value) → Same (length js) end later → SideHolds y u later) → (v : TermValue) → term u w.now w.names ≡ Some v → IsSide y u
+  pub again_side : Stands w → (u : LogicTerm) (y : Side) (js : List MonType) (end : List Value) → ((later : List Value) → Same (length js) end later → SideHolds y u later) → (v : TermValue) → term u w.now w.names ≡ Some v → IsSide y u
       → Sided (again y js) u js end
-  again_side u (OfNumber c) js end holds v e sort =
-      let there : is_some (value_of (term u w.now w.names)) ≡ true = number_there (term u w.now w.names) v (number_found u w.now w.names w.now.scope sort.1) e in record {
+  again_side stands u (OfNumber c) js end holds v e sort =
+      let there : is_some (value_of (term u w.now w.names)) ≡ true = number_there (term u w.now w.names) v (number_in w stands u sort.1) e in record {
         codes = record {
           end = end;
           same = same_all (length js) end;
@@ -129,8 +132,8 @@ module _ (w : Setting) where
       number_there None v n e = absurd cc
       number_there (Some (Mathematical z)) v n e = refl
       number_there (Some (Addressed x)) v n e = absurd (n x refl)
-  again_side u (OfPointer c) js end holds v e sort =
-      let there : is_some (as_address (term u w.now w.names)) ≡ true = pointer_there (term u w.now w.names) v (pointer_found u w.now w.names w.now.scope sort.1) e in record {
+  again_side stands u (OfPointer c) js end holds v e sort =
+      let there : is_some (as_address (term u w.now w.names)) ≡ true = pointer_there (term u w.now w.names) v (pointer_in w stands u sort.1) e in record {
         codes = record {
           end = end;
           same = same_all (length js) end;
@@ -178,11 +181,12 @@ module _ (w : Setting) where
     pub codes : Codes w c o rs regs
     pub second : (later : List Value) → Same (length c.used) codes.end later → SideHolds y u later
 
-  module _ (stands : Stands w) (ranges : RangesHold w.seen w.now w.names) (r : Relation) (t u : LogicTerm) (rs : List MonType) (regs : List Value) where
+  module _ (stands : Stands w) (ranges : RangesHold w.plan (sorts_held w.held) w.seen w.now w.names) (r : Relation) (t u : LogicTerm) (rs : List MonType) (regs : List Value) where
     abbrev says : Option Bool
     says = said_by (related w.now.store r (term t w.now w.names) (term u w.now w.names) 0)
 
-    numbers_related : TermRanged w.seen t → TermRanged w.seen u → TermFound w.now.scope t → TermFound w.now.scope u → (x y : Code) → Both w x y (value w stands ranges t) (value w stands ranges u) rs regs
+    numbers_related : TermRanged w.seen t → TermRanged w.seen u → TermFound w.plan w.now.scope (sorts_held w.held) t → TermFound w.plan w.now.scope (sorts_held w.held) u → (x y : Code)
+        → Both w x y (value w stands ranges t) (value w stands ranges u) rs regs
         → Two w x y (relation_value r (type_of_width (wider (width_of t) (width_of u))) (type_of t) (type_of u) x.value y.value) (value w stands ranges u) (truths says) rs regs
     numbers_related q h f g x y both =
         two_runs w x y (relation_value r (type_of_width (wider (width_of t) (width_of u))) (type_of t) (type_of u) x.value y.value) (value w stands ranges t) (value w stands ranges u) (truths says) rs regs both
@@ -193,7 +197,7 @@ module _ (w : Setting) where
         ∙ ap (λ z. Some (Integer z)) i.4)
       where
         is : says ≡ after (value w stands ranges t) (λ x. after (value w stands ranges u) (λ y. Some (relates r x y)))
-        is = relation_says w.now.store r (term t w.now w.names) (term u w.now w.names) (number_found t w.now w.names w.now.scope f) (number_found u w.now w.names w.now.scope g)
+        is = relation_says w.now.store r (term t w.now w.names) (term u w.now w.names) (number_in w stands t f) (number_in w stands u g)
 
     -- behind what was asked of both
     finished : (c : Code) (x y : Side) (o : Option ℤ) (b : BothSides x y t u rs regs) → length (used_by y) ≤ length c.used → AskedOfBoth w c (used_by y) o rs regs b.end → o ≡ truths says → Related c (truths says) y u rs regs
@@ -215,10 +219,10 @@ module _ (w : Setting) where
         finished (addresses_code r (is_null_term t) (is_null_term u) (null_code x) d) (OfNumber x) (OfPointer d) (after (as_address (term u w.now w.names)) (λ y. truths (related_addresses w.now.store r null_address y))) b
         (addresses_grows r (is_null_term t) (is_null_term u) (null_code x) d)
         (addresses_codes stands.store_is stands r (is_null_term t) (is_null_term u) (null_code x) d (Some null_address) (as_address (term u w.now w.names)) start_range (range_of u) rs regs le room (λ i. refl)
-        (null_is u w.now w.names w.now.scope sy.1) both)
+        (null_is w.plan (sorts_held w.held) u w.now w.names w.now.scope sy.1) both)
         (truths_after (Some null_address) (as_address (term u w.now w.names)) (related_addresses w.now.store r)
         ∙ ap truths (sym (ap (λ o. said_by (related w.now.store r o (term u w.now w.names) 0)) (zero_is t w.now w.names zero)
-        ∙ zero_first_says w.now.store r (term u w.now w.names) (pointer_found u w.now w.names w.now.scope sy.1))))
+        ∙ zero_first_says w.now.store r (term u w.now w.names) (pointer_in w stands u sy.1))))
     related_codes q h (OfPointer c) (OfNumber y) sx sy sides le room b =
         let zero : IsZero u = subst (λ m. AreSides true m t u) sy.0 (subst (λ m. AreSides m (is_pointer_term u) t u) sx.0 sides) in
         let both : BothPointers w c (null_code y) (as_address (term t w.now w.names)) (Some null_address) (range_of t) start_range rs regs =
@@ -226,16 +230,16 @@ module _ (w : Setting) where
         finished (addresses_code r (is_null_term t) (is_null_term u) c (null_code y)) (OfPointer c) (OfNumber y) (after (as_address (term t w.now w.names)) (λ x. truths (related_addresses w.now.store r x null_address))) b
         (addresses_grows r (is_null_term t) (is_null_term u) c (null_code y))
         (addresses_codes stands.store_is stands r (is_null_term t) (is_null_term u) c (null_code y) (as_address (term t w.now w.names)) (Some null_address) (range_of t) start_range rs regs le room
-        (null_is t w.now w.names w.now.scope sx.1) (λ i. refl) both)
+        (null_is w.plan (sorts_held w.held) t w.now w.names w.now.scope sx.1) (λ i. refl) both)
         (truths_after (as_address (term t w.now w.names)) (Some null_address) (related_addresses w.now.store r)
         ∙ ap truths (sym (ap (λ o. said_by (related w.now.store r (term t w.now w.names) o 0)) (zero_is u w.now w.names zero)
-        ∙ zero_last_says w.now.store r (term t w.now w.names) (pointer_found t w.now w.names w.now.scope sx.1))))
+        ∙ zero_last_says w.now.store r (term t w.now w.names) (pointer_in w stands t sx.1))))
     related_codes q h (OfPointer c) (OfPointer d) sx sy sides le room b =
         finished (addresses_code r (is_null_term t) (is_null_term u) c d) (OfPointer c) (OfPointer d)
         (of_both w (as_address (term t w.now w.names)) (as_address (term u w.now w.names)) (λ x y. truths (related_addresses w.now.store r x y))) b
         (addresses_grows r (is_null_term t) (is_null_term u) c d)
         (addresses_codes stands.store_is stands r (is_null_term t) (is_null_term u) c d (as_address (term t w.now w.names)) (as_address (term u w.now w.names)) (range_of t) (range_of u) rs regs le room
-        (null_is t w.now w.names w.now.scope sx.1) (null_is u w.now w.names w.now.scope sy.1)
+        (null_is w.plan (sorts_held w.held) t w.now w.names w.now.scope sx.1) (null_is w.plan (sorts_held w.held) u w.now w.names w.now.scope sy.1)
         (record { end = b.end; same = b.same; is = b.is; first = b.first; second = b.second }))
         (truths_after (as_address (term t w.now w.names)) (as_address (term u w.now w.names)) (related_addresses w.now.store r)
-        ∙ ap truths (sym (addresses_say w.now.store r (term t w.now w.names) (term u w.now w.names) (pointer_found t w.now w.names w.now.scope sx.1) (pointer_found u w.now w.names w.now.scope sy.1))))
+        ∙ ap truths (sym (addresses_say w.now.store r (term t w.now w.names) (term u w.now w.names) (pointer_in w stands t sx.1) (pointer_in w stands u sy.1))))

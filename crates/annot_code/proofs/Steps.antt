@@ -15,7 +15,8 @@ use Rattle.mon_syntax.specs.Meaning as monitored
 use Rattle.mon_syntax.specs.Trees.{MonExpression, Constant, Binary, Cast, Set, If, MonStatements, NoStatement, Then}
 use Rattle.mon_syntax.specs.Checking.{same_type}
 use Rattle.c_effects.specs.Expressions.{before, one, set, in_type}
-use Rattle.annot_code.specs.Does.{Target, Did, Setting, runs}
+use Rattle.c_model.specs.MonitoredRuns.{Final}
+use Rattle.annot_code.specs.Does.{Target, Did, Setting, runs, with_steps}
 use Rattle.c_simulation.specs.SameRegisters.{Same}
 
 -- ---- lists
@@ -68,7 +69,7 @@ rest_first (Stops e n o) whole rest behind h = refl
 module _ (w : Setting) where
   -- ---- statements
 
-  before_is : (a b : MonStatements) (regs : List Value) (t : Target)
+  pub before_is : (a b : MonStatements) (regs : List Value) (t : Target)
       → monitored.exec_all over_blocks w.globals (before a b) w.calls w.turns regs t ≡ then_do (monitored.exec_all over_blocks w.globals a w.calls w.turns regs t) (at_next (monitored.exec_all over_blocks w.globals b w.calls w.turns))
   before_is NoStatement b regs t = sym (writes_none (monitored.exec_all over_blocks w.globals b w.calls w.turns regs t))
   before_is (Then a rest) b regs t =
@@ -80,6 +81,17 @@ module _ (w : Setting) where
       before_is a b regs w.target
       ∙ ap (λ q. then_do q (at_next (monitored.exec_all over_blocks w.globals b w.calls w.turns))) e
       ∙ writes_none (runs w b after)
+
+  -- the same where steps were taken
+  pub after_to : (k : ℕ) (a b : MonStatements) (regs after : List Value) → runs w a regs ≡ Done (Next after) (record w.target { steps = k }) [] → runs w (before a b) regs ≡ runs (with_steps k w) b after
+  after_to k a b regs after e =
+      before_is a b regs w.target
+      ∙ ap (λ q. then_do q (at_next (monitored.exec_all over_blocks w.globals b w.calls w.turns))) e
+      ∙ writes_none (runs (with_steps k w) b after)
+
+  -- where code stops, nothing behind it is done
+  pub stopped : (a b : MonStatements) (regs : List Value) (e : Final) (k : ℕ) → runs w a regs ≡ Stops e k [] → runs w (before a b) regs ≡ Stops e k []
+  stopped a b regs e k h = before_is a b regs w.target ∙ ap (λ q. then_do q (at_next (monitored.exec_all over_blocks w.globals b w.calls w.turns))) h
 
   -- the expression has this number
   abbrev pub HasNumber : MonExpression → List Value → ℤ → Type 0

@@ -32,6 +32,7 @@ use Rattle.mon_syntax.specs.Meaning.{◌>>=◌ as bind}
 use Rattle.mon_syntax.specs.Meaning as monitored
 use Rattle.mon_syntax.specs.Trees.{MonExpression, Constant, Cast, Load, NoStatement}
 use Rattle.c_effects.specs.Expressions.{in_type, one, register_type, pointer_to}
+use Rattle.annot_code.specs.Held.{sorts_held}
 use Rattle.annot_code.specs.Code.{term_type, access_of, question, Reading}
 use Rattle.term_guards.specs.Guards.{guard}
 use Rattle.annot_code.specs.Code.{Code, with_value as code_with_value, two_code, branch, type_of_width, width_of, type_of, working, is_shift, wider, is_total, binary_value, partial_code, operated}
@@ -112,14 +113,14 @@ working_fits op wr wa wb y f = by (is_shift op)
     by true = most wb f
     by false = wrap_in (wider wr (wider wa wb)) y (fits_right wr (wider wa wb) y (fits_right wa wb y f))
 
-module _ (w : Setting) (stands : Stands w) (ranges : RangesHold w.seen w.now w.names) where
+module _ (w : Setting) (stands : Stands w) (ranges : RangesHold w.plan (sorts_held w.held) w.seen w.now w.names) where
   abbrev pub value : LogicTerm → Option ℤ
   value t = value_of (term t w.now w.names)
 
-  pub term_lies : (t : LogicTerm) → TermFound w.now.scope t → TermRanged w.seen t → (z : ℤ) → value t ≡ Some z → LiesIn (range_of t) z
+  pub term_lies : (t : LogicTerm) → TermFound w.plan w.now.scope (sorts_held w.held) t → TermRanged w.seen t → (z : ℤ) → value t ≡ Some z → LiesIn (range_of t) z
   term_lies t f q z e = ranges.lies t f q z (from_value (term t w.now w.names) z e)
 
-  pub term_fits : (t : LogicTerm) → TermFound w.now.scope t → TermRanged w.seen t → (z : ℤ) → value t ≡ Some z → Fits (width_of t) z
+  pub term_fits : (t : LogicTerm) → TermFound w.plan w.now.scope (sorts_held w.held) t → TermRanged w.seen t → (z : ℤ) → value t ≡ Some z → Fits (width_of t) z
   term_fits t f q z e = widths_fit (range_of t) z (ranges.within t q) (term_lies t f q z e)
 
   -- ---- leaves
@@ -128,7 +129,7 @@ module _ (w : Setting) (stands : Stands w) (ranges : RangesHold w.seen w.now w.n
   number_codes r z rs regs =
       sure_codes w (Constant (type_of_width (width_of_range r)) z) (Some z) z rs regs refl (λ later s. constant_has w (type_of_width (width_of_range r)) z later (is_number (width_of_range r)))
 
-  module _ (at : Place) (t : Option PlainType) (r : Range) (x : Use) (q : place_range t ≡ Some r) (found : TermFound w.now.scope (logic.Variable at t r x)) (rs : List MonType) (regs : List Value) (le : w.low ≤ length rs)
+  module _ (at : Place) (t : Option PlainType) (r : Range) (x : Use) (q : place_range t ≡ Some r) (found : TermFound w.plan w.now.scope (sorts_held w.held) (logic.Variable at t r x)) (rs : List MonType) (regs : List Value) (le : w.low ≤ length rs)
       (near : Same w.low w.regs regs) where
     abbrev this : LogicTerm
     this = logic.Variable at t r x
@@ -198,7 +199,8 @@ module _ (w : Setting) (stands : Stands w) (ranges : RangesHold w.seen w.now w.n
 
   -- ---- operators and casts
 
-  pub unary_codes : (at : Place) (t : Option PlainType) (r : Range) (op : UnOp) (a : LogicTerm) → TermRanged w.seen (logic.Unary at t r op a) → TermFound w.now.scope a → (c : Code) (rs : List MonType) (regs : List Value) → Codes w c (value a) rs regs
+  pub unary_codes : (at : Place) (t : Option PlainType) (r : Range) (op : UnOp) (a : LogicTerm) → TermRanged w.seen (logic.Unary at t r op a) → TermFound w.plan w.now.scope (sorts_held w.held) a → (c : Code) (rs : List MonType) (regs : List Value)
+      → Codes w c (value a) rs regs
       → Codes w (code_with_value (unary_value op (type_of_width (width_of_range r)) (type_of_width (wider (width_of_range r) (width_of a))) (type_of a) c.value) c) (value (logic.Unary at t r op a)) rs regs
   unary_codes at t r op a q f c rs regs h =
       changed w c (unary_value op (type_of_width (width_of_range r)) (type_of_width (wider (width_of_range r) (width_of a))) (type_of a) c.value) (value a) (value (logic.Unary at t r op a)) rs regs h
@@ -208,7 +210,7 @@ module _ (w : Setting) (stands : Stands w) (ranges : RangesHold w.seen w.now w.n
       unary_has w later op (range_of a) r c.value x.0 z (width_of a) (width_of_range r) q.0 (term_fits a f q.1 x.0 x.1) (term_fits (logic.Unary at t r op a) f q z e) (has x.0 x.1)
       (sym (ap (λ o. value_of (compute_one op o)) (from_value (term a w.now w.names) x.0 x.1)) ∙ e))
 
-  module _ (at : Place) (t : Option PlainType) (r : Range) (op : BinOp) (a b : LogicTerm) (q : TermRanged w.seen (logic.Binary at t r op a b)) (f : TermFound w.now.scope (logic.Binary at t r op a b)) (x y : Code)
+  module _ (at : Place) (t : Option PlainType) (r : Range) (op : BinOp) (a b : LogicTerm) (q : TermRanged w.seen (logic.Binary at t r op a b)) (f : TermFound w.plan w.now.scope (sorts_held w.held) (logic.Binary at t r op a b)) (x y : Code)
       (rs : List MonType) (regs : List Value) (h : Both w x y (value a) (value b) rs regs) where
     abbrev whole : LogicTerm
     whole = logic.Binary at t r op a b
@@ -260,7 +262,8 @@ module _ (w : Setting) (stands : Stands w) (ranges : RangesHold w.seen w.now w.n
         by true p room = total_codes p
         by false p room = partial_codes p le (omega (arith, room, length-append y.used (I32 ∷ type_of_width (width_of_range r) ∷ [])))
 
-  pub cast_codes : (at : Place) (t : Option PlainType) (r : Range) (to : CastType) (a : LogicTerm) → TermRanged w.seen (logic.Cast at t r to a) → TermFound w.now.scope (logic.Cast at t r to a) → (c : Code) (rs : List MonType) (regs : List Value)
+  pub cast_codes : (at : Place) (t : Option PlainType) (r : Range) (to : CastType) (a : LogicTerm) → TermRanged w.seen (logic.Cast at t r to a) → TermFound w.plan w.now.scope (sorts_held w.held) (logic.Cast at t r to a)
+      → (c : Code) (rs : List MonType) (regs : List Value)
       → Codes w c (value a) rs regs
       → Codes w (code_with_value (cast_value to (range_of a) (type_of_width (width_of_range r)) (type_of a) c.value) c) (value (logic.Cast at t r to a)) rs regs
   cast_codes at t r Integers a q f c rs regs h = changed w c c.value (value a) (value (logic.Cast at t r Integers a)) rs regs h refl (λ later has z e. has z e)
@@ -302,7 +305,7 @@ module _ (w : Setting) (stands : Stands w) (ranges : RangesHold w.seen w.now w.n
       changed w c (in_type (type_of a) (type_of_width (width_of_range r)) c.value) (value a) (value a) rs regs h refl
       (λ later has z e. in_type_has w (type_of a) (type_of_width (width_of_range r)) c.value later z (wrap_in (width_of_range r) z (fit z e)) (has z e))
 
-  pub choice_codes : (at : Place) (t : Option PlainType) (r : Range) (c : Predicate) (a b : LogicTerm) → TermRanged w.seen (logic.Choice at t r c a b) → TermFound w.now.scope (logic.Choice at t r c a b)
+  pub choice_codes : (at : Place) (t : Option PlainType) (r : Range) (c : Predicate) (a b : LogicTerm) → TermRanged w.seen (logic.Choice at t r c a b) → TermFound w.plan w.now.scope (sorts_held w.held) (logic.Choice at t r c a b)
       → (z x y : Code) (rs : List MonType) (regs : List Value)
       → length rs ≤ length z.used → length z.used ≤ length x.used → length x.used ≤ length y.used → suc (length y.used) < length regs → (cz : Codes w z (truths (says c w.now w.names)) rs regs)
       → (says c w.now w.names ≡ Some true → Codes w x (value a) z.used cz.end) → (says c w.now w.names ≡ Some false → Codes w y (value b) x.used cz.end)

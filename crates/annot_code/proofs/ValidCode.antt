@@ -40,6 +40,15 @@ use Rattle.c_model.specs.Predicates.{alignment_of}
 use Rattle.c_model.specs.TermRanges.{ZoneRanged, ZonesRanged}
 use Rattle.mon_syntax.specs.declared.tree.MonType.TheVariants.{I64, I128}
 use Rattle.mem_preds.specs.Questions.{type_of_fact}
+use Rattle.c_syntax.specs.declared.logic.Label.TheVariants.{Here, Pre, Marked}
+use Rattle.c_model.specs.PredicateTyping.{place_of_term}
+use Rattle.c_model.specs.TermRanges.{Seen}
+use Rattle.mon_syntax.specs.declared.tree.MonType.TheVariants as mono
+use Rattle.mon_syntax.specs.Checking.{same_type}
+use Rattle.c_simulation.specs.Keeping.{Kept}
+use Rattle.annot_code.specs.Held.{Held, held_by, held_code, held_pointer, kept_at, kept_code, kept_pointer}
+use Rattle.annot_code.specs.Pieces.{settled}
+use Rattle.annot_code.specs.Validity.{HasRegister, HasRegisters}
 use Rattle.annot_code.specs.Pointers.{PointerCode, start_pointer, null, null_code, member_code, pointer_there, told_pointer}
 use Rattle.annot_code.specs.Code.{Side, OfNumber, OfPointer, used_by, stmts_of, side_by, again, related_code, is_pointer_term, is_null_term, pointer_code, place_code, zone_code, zones_code}
 use Rattle.annot_code.specs.Does.{HasIntegers, found_by}
@@ -64,7 +73,7 @@ use Rattle.annot_code.specs.Inside.{open_in_all}
 use Rattle.annot_code.proofs.Opens.{open_before, open_one, open_if, open_guarded, open_take, open_none}
 use Rattle.annot_code.proofs.Depths.{deep_before, deep_if, deep_guarded, deep_take, some_term, some_tokens}
 use Rattle.annot_code.proofs.Prefixes.{operated_begins, connected_begins, term_begins, chain_begins, pred_begins, judged_begins}
-use Rattle.annot_code.proofs.ValidParts.{flag_open, before_valid, expression, set_valid, number_valid, register_valid, FlagValid, Valid, flag_both, guarded_valid, take_valid, take_none_valid, two_valid}
+use Rattle.annot_code.proofs.ValidParts.{flag_more, flag_open, before_valid, expression, set_valid, number_valid, register_valid, FlagValid, Valid, flag_both, guarded_valid, take_valid, take_none_valid, two_valid}
 use Rattle.annot_code.proofs.ValidParts.{changed_valid, branch_valid, truth_valid, connected_valid}
 use Rattle.c_model.specs.StaticObjects.{static_objects}
 
@@ -97,8 +106,8 @@ pointer_parens p bound x = by (register_of bound x)
     by None = omega arith
     by (Some r) = omega arith
 
-module _ (p : TranslationUnit) (bound : Bindings) (g : ℕ) (gs : List Signature) (ts : Types) (result : Option MonType) (ls : Labels) where
-  abbrev IsCode : Code → MonType → ℕ → ℕ → Type 0
+module _ (p : TranslationUnit) (bound : Bindings) (plan : List Kept) (held : List Held) (seen : Seen) (g : ℕ) (gs : List Signature) (ts : Types) (result : Option MonType) (ls : Labels) where
+  abbrev pub IsCode : Code → MonType → ℕ → ℕ → Type 0
   IsCode c t n s = Valid g gs ts result ls c t n s
 
   -- ---- leaves
@@ -151,9 +160,96 @@ module _ (p : TranslationUnit) (bound : Bindings) (g : ℕ) (gs : List Signature
             parens = omega (arith, parens);
           }
 
+  -- ---- what stands in registers
+
+  whole_kind : (k : MonType) → same_type k Ptr ≡ false → is_whole k ≡ true
+  whole_kind mono.I8 e = refl
+  whole_kind mono.U8 e = refl
+  whole_kind mono.I16 e = refl
+  whole_kind mono.U16 e = refl
+  whole_kind mono.I32 e = refl
+  whole_kind mono.U32 e = refl
+  whole_kind mono.I64 e = refl
+  whole_kind mono.U64 e = refl
+  whole_kind mono.I128 e = refl
+  whole_kind mono.Ptr e = absurd cc
+
+  pointer_kind : (k : MonType) → same_type k Ptr ≡ true → k ≡ Ptr
+  pointer_kind mono.Ptr e = refl
+  pointer_kind mono.I8 e = absurd cc
+  pointer_kind mono.U8 e = absurd cc
+  pointer_kind mono.I16 e = absurd cc
+  pointer_kind mono.U16 e = absurd cc
+  pointer_kind mono.I32 e = absurd cc
+  pointer_kind mono.U32 e = absurd cc
+  pointer_kind mono.I64 e = absurd cc
+  pointer_kind mono.U64 e = absurd cc
+  pointer_kind mono.I128 e = absurd cc
+
+  held_is_code : (r : Range) (x : ℕ) (rs : Types) → HasRegister held ts x false → IsCode (held_code (type_of_width (width_of_range r)) (held_by x held) rs) (type_of_width (width_of_range r)) 1 0
+  held_is_code r x rs h =
+      subst (λ o. IsCode (held_code (type_of_width (width_of_range r)) o rs) (type_of_width (width_of_range r)) 1 0) (sym h.is)
+      (let k = h.entry.kind in
+      let e = Register h.entry.register in
+      let parens = in_type_parens k (type_of_width (width_of_range r)) e 2 (omega arith) (omega arith) in record {
+        statements = tt;
+        deep = omega arith;
+        opened = omega arith;
+        flag = tt;
+        typed = in_type_typed g ts k (type_of_width (width_of_range r)) e (whole_kind k h.sorted) (whole_width (width_of_range r)) h.typed;
+        parens = omega (arith, parens);
+      })
+
+  held_pointer_valid : (x : ℕ) (rs : Types) → HasRegister held ts x true → PointerValid g gs ts result ls (held_pointer (held_by x held) rs) 1
+  held_pointer_valid x rs h =
+      subst (λ o. PointerValid g gs ts result ls (held_pointer o rs) 1) (sym h.is)
+      (start_valid g gs ts result ls (Register h.entry.register) rs (h.typed ∙ ap Some (pointer_kind h.entry.kind h.sorted)) (omega arith))
+
+  kept_is_code : (a : LogicTerm) (rs : Types) → HasRegisters plan ts a (type_of a ∷ []) → IsCode (kept_code (kept_at (place_of_term a).offset plan) rs) (type_of a) (tokens_of_term a) 0
+  kept_is_code a rs h =
+      subst (λ o. IsCode (kept_code o rs) (type_of a) (tokens_of_term a) 0) (sym h.is) (record {
+        statements = tt;
+        deep = omega arith;
+        opened = omega arith;
+        flag = (h.typed.0, omega arith);
+        typed = h.typed.1.0;
+        parens = omega arith;
+      })
+
+  kept_pointer_valid : (a : LogicTerm) (rs : Types) → HasRegisters plan ts a (Ptr ∷ I128 ∷ []) → PointerValid g gs ts result ls (kept_pointer (kept_at (place_of_term a).offset plan) rs) (tokens_of_term a)
+  kept_pointer_valid a rs h =
+      subst (λ o. PointerValid g gs ts result ls (kept_pointer o rs) (tokens_of_term a)) (sym h.is) (record {
+        statements = tt;
+        opened = omega arith;
+        flag = (h.typed.0, omega arith);
+        base = h.typed.1.0;
+        base_parens = omega arith;
+        offset = h.typed.1.1.0;
+        offset_parens = omega (arith, some_term a);
+      })
+
+  settled_is_code : (t : MonType) (c : Code) (n : ℕ) → 1 ≤ n → n ≤ 400 → IsCode c t n 2 → Begins (settled t c).used ts → IsCode (settled t c) t n 0
+  settled_is_code t c n some few v h =
+      let reg = length c.used in
+      let at1 = first_type c.used ts I32 t h in
+      let at2 = second_type_at c.used ts I32 t h in
+      let inner = take c.flag c.value reg in
+      let flag_few = flag_open g gs ts result ls c.flag n v.flag in
+      let dt = deep_take c.flag c.value reg in record {
+        statements =
+            before_valid g gs ts result ls c.stmts inner v.statements
+            (take_valid g gs ts result ls c.flag c.value t reg (3 * n + 2) (omega (arith, few)) (flag_more g gs ts result ls c.flag n (3 * n + 2) (omega arith) v.flag)
+            (expression g gs ts result ls c.value t (3 * n + 2) v.typed (omega (arith, v.parens)) (omega (arith, few))) at1 at2);
+        deep = deep_before c.stmts inner (n + n) v.deep (omega (arith, dt, some));
+        opened = open_before c.stmts inner (3 * n + 2) v.opened (open_take c.flag c.value reg (3 * n + 2) (omega arith) (omega (arith, flag_few)) (omega (arith, v.parens)));
+        flag = (at1, omega arith);
+        typed = at2;
+        parens = omega arith;
+      }
+
   -- ---- operators
 
-  unary_is_code : (at : Place) (t : Option PlainType) (r : Range) (op : UnOp) (a : LogicTerm) → TermRanged [] (logic.Unary at t r op a) → (c : Code) → IsCode c (type_of a) (tokens_of_term a) 2
+  unary_is_code : (at : Place) (t : Option PlainType) (r : Range) (op : UnOp) (a : LogicTerm) → TermRanged seen (logic.Unary at t r op a) → (c : Code) → IsCode c (type_of a) (tokens_of_term a) 2
       → IsCode (with_value (unary_value op (type_of_width (width_of_range r)) (type_of_width (wider (width_of_range r) (width_of a))) (type_of a) c.value) c) (type_of_width (width_of_range r)) (suc (tokens_of_term a)) 0
   unary_is_code at t r op a q c v =
       let e = unary_value op (type_of_width (width_of_range r)) (type_of_width (wider (width_of_range r) (width_of a))) (type_of a) c.value in
@@ -161,7 +257,7 @@ module _ (p : TranslationUnit) (bound : Bindings) (g : ℕ) (gs : List Signature
       changed_valid g gs ts result ls c e (type_of a) (type_of_width (width_of_range r)) (tokens_of_term a) 2 (suc (tokens_of_term a)) 0 v (omega arith)
       (unary_typed g ts op (width_of_range r) (width_of a) (range_of a) r c.value q.0 v.typed) (omega (arith, few))
 
-  cast_is_code : (at : Place) (t : Option PlainType) (r : Range) (to : CastType) (a : LogicTerm) → TermRanged [] (logic.Cast at t r to a) → IsCastType to → (c : Code) → IsCode c (type_of a) (tokens_of_term a) 2
+  cast_is_code : (at : Place) (t : Option PlainType) (r : Range) (to : CastType) (a : LogicTerm) → TermRanged seen (logic.Cast at t r to a) → IsCastType to → (c : Code) → IsCode c (type_of a) (tokens_of_term a) 2
       → IsCode (with_value (cast_value to (range_of a) (type_of_width (width_of_range r)) (type_of a) c.value) c) (type_of_width (width_of_range r)) (suc (tokens_of_term a)) 0
   cast_is_code at t r Integers a q int c v =
       let same : range_of a ≡ r = some_same (range_of a) r q.0 in
@@ -192,7 +288,7 @@ module _ (p : TranslationUnit) (bound : Bindings) (g : ℕ) (gs : List Signature
           omega (arith, l)
 
   -- the right operand of a shift to the right opens four parentheses more, but where it is a shift itself it stands in parentheses
-  module _ (at : Place) (t : Option PlainType) (r : Range) (op : BinOp) (a b : LogicTerm) (q : TermRanged [] (logic.Binary at t r op a b)) (x y : Code) (vx : IsCode x (type_of a) (tokens_of_term a) 2)
+  module _ (at : Place) (t : Option PlainType) (r : Range) (op : BinOp) (a b : LogicTerm) (q : TermRanged seen (logic.Binary at t r op a b)) (x y : Code) (vx : IsCode x (type_of a) (tokens_of_term a) 2)
       (vy : IsCode y (type_of b) (tokens_of_term b) (parentheses_around 2 (operator_of_term b))) where
     abbrev wr : MonType
     wr = type_of_width (width_of_range r)
@@ -380,12 +476,12 @@ module _ (p : TranslationUnit) (bound : Bindings) (g : ℕ) (gs : List Signature
       by (OfPointer x) (OfPointer y) vx vy d b =
           addresses_valid g gs ts result ls x y m n k few vx.0 vy.0 (omega (arith, ln, le)) (omega (arith, lm, le)) r (is_null_term t) (is_null_term u) b d
 
-  side_made : (u : LogicTerm) (c : PointerCode) (d : Code) (n : ℕ) → depth_of_all c.stmts ≤ n + n → found_by (is_pointer_term u) (PointerWritable p bound g ts u) (TermWritable p bound g ts u)
-      → (PointerWritable p bound g ts u → Begins c.used ts → PointerValid g gs ts result ls c n) → (TermWritable p bound g ts u → Begins d.used ts → IsCode d (type_of u) n 2)
+  side_made : (u : LogicTerm) (c : PointerCode) (d : Code) (n : ℕ) → depth_of_all c.stmts ≤ n + n → found_by (is_pointer_term u) (PointerWritable p bound plan g ts held u) (TermWritable p bound plan g ts held u)
+      → (PointerWritable p bound plan g ts held u → Begins c.used ts → PointerValid g gs ts result ls c n) → (TermWritable p bound plan g ts held u → Begins d.used ts → IsCode d (type_of u) n 2)
       → Begins (used_by (side_by (is_pointer_term u) c d)) ts → SideValid (side_by (is_pointer_term u) c d) u n
   side_made u c d n deep f as_pointer as_number b = by (is_pointer_term u) f b
     where
-      by : (s : Bool) → found_by s (PointerWritable p bound g ts u) (TermWritable p bound g ts u) → Begins (used_by (side_by s c d)) ts → SideValid (side_by s c d) u n
+      by : (s : Bool) → found_by s (PointerWritable p bound plan g ts held u) (TermWritable p bound plan g ts held u) → Begins (used_by (side_by s c d)) ts → SideValid (side_by s c d) u n
       by true f b = (as_pointer f b, deep)
       by false f b = as_number f b
 
@@ -397,7 +493,7 @@ module _ (p : TranslationUnit) (bound : Bindings) (g : ℕ) (gs : List Signature
   whole_term t int = ap (λ t. is_whole (term_type t)) int.1 ∙ whole_register int.0
 
   -- wherever a term stands, but right of a shift to the right
-  anywhere : (t : LogicTerm) (c : Code) → IsCode c (type_of t) (tokens_of_term t) (parentheses_around 2 (operator_of_term t)) → IsCode c (type_of t) (tokens_of_term t) 2
+  pub anywhere : (t : LogicTerm) (c : Code) → IsCode c (type_of t) (tokens_of_term t) (parentheses_around 2 (operator_of_term t)) → IsCode c (type_of t) (tokens_of_term t) 2
   anywhere t c v =
       let two = around_two 2 (operator_of_term t) in
       record { statements = v.statements; deep = v.deep; opened = v.opened; flag = v.flag; typed = v.typed; parens = omega (arith, v.parens, two) }
@@ -405,204 +501,217 @@ module _ (p : TranslationUnit) (bound : Bindings) (g : ℕ) (gs : List Signature
   -- ---- everything
 
   mutual
-    term_valid : (t : LogicTerm) → TermRanged [] t → TermWritable p bound g ts t → (known : List Reading) (rs : Types) → tokens_of_term t ≤ 400 → Begins (term_code p bound t known rs).used ts
-        → IsCode (term_code p bound t known rs) (type_of t) (tokens_of_term t) (parentheses_around 2 (operator_of_term t))
+    pub term_valid : (t : LogicTerm) → TermRanged seen t → TermWritable p bound plan g ts held t → (known : List Reading) (rs : Types) → tokens_of_term t ≤ 400 → Begins (term_code p bound plan t held known rs).used ts
+        → IsCode (term_code p bound plan t held known rs) (type_of t) (tokens_of_term t) (parentheses_around 2 (operator_of_term t))
     term_valid (logic.Number at t r n) q f known rs few h = number_code r n rs q f
     term_valid (logic.Letter at t r n) q f known rs few h = number_code r n rs q f
     term_valid (logic.Variable at t r x) q f known rs few h = variable_is_code (is_known known (record { decl = x.decl; kind = term_type t })) r t x rs (integer_of_range t r f.0 q) f.1 h
-    term_valid (logic.Unary at t r op a) q f known rs few h = unary_is_code at t r op a q (term_code p bound a known rs) (anywhere a (term_code p bound a known rs) (term_valid a q.1 f known rs (omega (arith, few)) h))
+    term_valid (logic.Unary at t r op a) q f known rs few h = unary_is_code at t r op a q (term_code p bound plan a held known rs) (anywhere a (term_code p bound plan a held known rs) (term_valid a q.1 f known rs (omega (arith, few)) h))
     term_valid (logic.Binary at t r op a b) q f known rs few h =
-        let x = term_code p bound a known rs in
-        let y = term_code p bound b known x.used in
+        let x = term_code p bound plan a held known rs in
+        let y = term_code p bound plan b held known x.used in
         let k = type_of_width (working op (width_of_range r) (width_of a) (width_of b)) in
         let hy = operated_begins ts (is_total op (range_of b)) op (type_of_width (width_of_range r)) k (type_of b) x y (binary_value op (type_of_width (width_of_range r)) k (type_of a) (type_of b) (range_of b) x.value y.value) h in
-        let hx = term_begins ts p bound b known x.used hy in
-        binary_is_code at t r op a b q x y (anywhere a (term_code p bound a known rs) (term_valid a q.1 f.0 known rs (omega (arith, few)) hx)) (term_valid b q.2 f.1 known x.used (omega (arith, few)) hy) few h
-    term_valid (logic.Cast at t r to a) q f known rs few h = cast_is_code at t r to a q f.0 (term_code p bound a known rs) (anywhere a (term_code p bound a known rs) (term_valid a q.1 f.1 known rs (omega (arith, few)) h))
+        let hx = term_begins ts p bound plan b held known x.used hy in
+        binary_is_code at t r op a b q x y (anywhere a (term_code p bound plan a held known rs) (term_valid a q.1 f.0 known rs (omega (arith, few)) hx)) (term_valid b q.2 f.1 known x.used (omega (arith, few)) hy) few h
+    term_valid (logic.Cast at t r to a) q f known rs few h = cast_is_code at t r to a q f.0 (term_code p bound plan a held known rs) (anywhere a (term_code p bound plan a held known rs) (term_valid a q.1 f.1 known rs (omega (arith, few)) h))
     term_valid (logic.Choice at t r c a b) q f known rs few h =
         let more = known ++ sure_readings c in
         let w = type_of_width (width_of_range r) in
-        let z = pred_code p bound c known rs in
-        let x = term_code p bound a more z.used in
-        let y = term_code p bound b more x.used in
+        let z = pred_code p bound plan c held known rs in
+        let x = term_code p bound plan a held more z.used in
+        let y = term_code p bound plan b held more x.used in
         let hy = begins_front y.used (I32 ∷ w ∷ []) ts h in
-        let hx = term_begins ts p bound b more x.used hy in
-        let hz = term_begins ts p bound a more z.used hx in
+        let hx = term_begins ts p bound plan b held more x.used hy in
+        let hz = term_begins ts p bound plan a held more z.used hx in
         branch_valid g gs ts result ls w z (with_value (in_type (type_of a) w x.value) x) (with_value (in_type (type_of b) w y.value) y)
         (tokens_of_predicate c) (tokens_of_term a) (tokens_of_term b) (suc (tokens_of_predicate c + tokens_of_term a + tokens_of_term b)) 0
-        (pred_valid c q.1 f.0 known rs (omega (arith, few)) hz) (side_is_code a r x (tokens_of_term a) (anywhere a (term_code p bound a more z.used) (term_valid a q.2 f.1 more z.used (omega (arith, few)) hx)))
-        (side_is_code b r y (tokens_of_term b) (anywhere b (term_code p bound b more x.used) (term_valid b q.3 f.2 more x.used (omega (arith, few)) hy))) (omega (arith, some_term a)) (omega arith) (omega arith) (some_term a) few h
+        (pred_valid c q.1 f.0 known rs (omega (arith, few)) hz) (side_is_code a r x (tokens_of_term a) (anywhere a (term_code p bound plan a held more z.used) (term_valid a q.2 f.1 more z.used (omega (arith, few)) hx)))
+        (side_is_code b r y (tokens_of_term b) (anywhere b (term_code p bound plan b held more x.used) (term_valid b q.3 f.2 more x.used (omega (arith, few)) hy))) (omega (arith, some_term a)) (omega arith) (omega arith) (some_term a) few h
     term_valid (logic.Deref at t r a) q f known rs few h =
-        let c = pointer_code p bound a known rs in
+        let c = pointer_code p bound plan a held known rs in
         let v = pointer_valid a q.1 f.1 known rs (omega (arith, few)) (begins_front c.used (I32 ∷ []) ts h) in
         let n = tokens_of_term a in
         number_read_valid g gs ts result ls (type_of_width (width_of_range r)) (term_type t) (whole_width (width_of_range r)) (whole_term t f.0) c (suc n) (3 * n - 2) few (pointer_more g gs ts result ls c n (suc n) (omega arith) v)
-        (omega (arith, some_term a)) (omega (arith, v.offset_parens)) (omega (arith, some_term a)) h (term_deep p bound (logic.Deref at t r a) known rs)
+        (omega (arith, some_term a)) (omega (arith, v.offset_parens)) (omega (arith, some_term a)) h (term_deep p bound plan (logic.Deref at t r a) held known rs)
     term_valid (logic.Member at t r d a) q f known rs few h =
-        let c = place_code p bound a known rs in
+        let c = place_code p bound plan a held known rs in
         let v = place_valid a q.1 f.2 known rs (omega (arith, few)) (begins_front c.used (I32 ∷ []) ts h) in
         let n = tokens_of_term a in
         let small : n ≤ 400 = omega (arith, few) in
         number_read_valid g gs ts result ls (type_of_width (width_of_range r)) (term_type t) (whole_width (width_of_range r)) (whole_term t f.0) (member_code d c) (suc n) (3 * n - 1) few (member_valid g gs ts result ls d c n f.1 small v)
-        (omega (arith, some_term a)) (member_parens g gs ts result ls d c n small v) (omega (arith, some_term a)) h (term_deep p bound (logic.Member at t r d a) known rs)
+        (omega (arith, some_term a)) (member_parens g gs ts result ls d c n small v) (omega (arith, some_term a)) h (term_deep p bound plan (logic.Member at t r d a) held known rs)
     term_valid (logic.Difference at t r n a b) q f known rs few h =
-        let c = pointer_code p bound a known rs in
-        let d = pointer_code p bound b known c.used in
+        let c = pointer_code p bound plan a held known rs in
+        let d = pointer_code p bound plan b held known c.used in
         let hd = begins_front d.used (I32 ∷ I32 ∷ Ptr ∷ Ptr ∷ I64 ∷ I64 ∷ []) ts h in
-        let hc = pointer_begins ts p bound b known c.used hd in
+        let hc = pointer_begins ts p bound plan b held known c.used hd in
         let k = suc (tokens_of_term a + tokens_of_term b) in
         difference_valid g gs ts result ls c d (tokens_of_term a) (tokens_of_term b) k few (pointer_valid a q.1 f.1 known rs (omega (arith, few)) hc) (pointer_valid b q.2 f.2 known c.used (omega (arith, few)) hd) (omega arith) (omega arith)
-        (type_of_width (width_of_range r)) n (whole_width (width_of_range r)) f.0 h (term_deep p bound (logic.Difference at t r n a b) known rs)
+        (type_of_width (width_of_range r)) n (whole_width (width_of_range r)) f.0 h (term_deep p bound plan (logic.Difference at t r n a b) held known rs)
     term_valid (logic.Told at t r e a) q f known rs few h =
-        let c = pointer_code p bound a known rs in
+        let c = pointer_code p bound plan a held known rs in
         let v = pointer_valid a q.1 f.1 known rs (omega (arith, few)) (begins_front c.used (I32 ∷ type_of_fact e ∷ []) ts h) in
-        told_number_valid g gs ts result ls (type_of_width (width_of_range r)) (whole_width (width_of_range r)) e f.0 c (tokens_of_term a) (omega (arith, few)) v h (term_deep p bound (logic.Told at t r e a) known rs)
+        told_number_valid g gs ts result ls (type_of_width (width_of_range r)) (whole_width (width_of_range r)) e f.0 c (tokens_of_term a) (omega (arith, few)) v h (term_deep p bound plan (logic.Told at t r e a) held known rs)
+    term_valid (logic.Named at t r x) q f known rs few h = held_is_code r x.decl rs f
+    term_valid (logic.At at t r Here a) q f known rs few h =
+        let c = term_code p bound plan a held known rs in
+        subst (λ r. IsCode (settled (type_of a) c) (type_of_width (width_of_range r)) (tokens_of_term a) 0) q.0
+        (settled_is_code (type_of a) c (tokens_of_term a) (some_term a) few (anywhere a c (term_valid a q.1 f known rs few (begins_front c.used (I32 ∷ type_of a ∷ []) ts h))) h)
+    term_valid (logic.At at t r Pre a) q f known rs few h =
+        subst (λ r. IsCode (kept_code (kept_at (place_of_term a).offset plan) rs) (type_of_width (width_of_range r)) (tokens_of_term a) 0) q.0 (kept_is_code a rs f)
+    term_valid (logic.At at t r (Marked l) a) q f known rs few h =
+        subst (λ r. IsCode (kept_code (kept_at (place_of_term a).offset plan) rs) (type_of_width (width_of_range r)) (tokens_of_term a) 0) q.0 (kept_is_code a rs f)
     term_valid _ q f known rs few h = absurd f
 
-    pointer_valid : (t : LogicTerm) → TermRanged [] t → PointerWritable p bound g ts t → (known : List Reading) (rs : Types) → tokens_of_term t ≤ 400 → Begins (pointer_code p bound t known rs).used ts
-        → PointerValid g gs ts result ls (pointer_code p bound t known rs) (tokens_of_term t)
+    pub pointer_valid : (t : LogicTerm) → TermRanged seen t → PointerWritable p bound plan g ts held t → (known : List Reading) (rs : Types) → tokens_of_term t ≤ 400 → Begins (pointer_code p bound plan t held known rs).used ts
+        → PointerValid g gs ts result ls (pointer_code p bound plan t held known rs) (tokens_of_term t)
     pointer_valid (logic.Variable at t r x) q f known rs few h =
         there_valid g gs ts result ls (is_known known (record { decl = x.decl; kind = term_type t })) t (start_pointer (pointer_to p bound x.decl) rs) 1 (omega arith)
         (start_valid g gs ts result ls (pointer_to p bound x.decl) rs f (let l = pointer_parens p bound x.decl in omega (arith, l))) h
     pointer_valid (logic.Null at t r) q f known rs few h = start_valid g gs ts result ls null rs (refl, refl) (omega arith)
     pointer_valid (logic.Deref at t r a) q f known rs few h =
-        let c = pointer_code p bound a known rs in
+        let c = pointer_code p bound plan a held known rs in
         let v = pointer_valid a q.1 f known rs (omega (arith, few)) (there_begins ts false t c h) in
         pointer_more g gs ts result ls (pointer_there false t c) (tokens_of_term a) (suc (tokens_of_term a)) (omega arith) (there_valid g gs ts result ls false t c (tokens_of_term a) (omega (arith, few)) v h)
     pointer_valid (logic.Member at t r d a) q f known rs few h =
-        let c = place_code p bound a known rs in
+        let c = place_code p bound plan a held known rs in
         let v = place_valid a q.1 f.1 known rs (omega (arith, few)) (there_begins ts false t (member_code d c) h) in
         there_valid g gs ts result ls false t (member_code d c) (suc (tokens_of_term a)) few (member_valid g gs ts result ls d c (tokens_of_term a) f.0 (omega (arith, few)) v) h
     pointer_valid (logic.Address at t r a) q f known rs few h =
-        pointer_more g gs ts result ls (place_code p bound a known rs) (tokens_of_term a) (suc (tokens_of_term a)) (omega arith) (place_valid a q.1 f known rs (omega (arith, few)) h)
+        pointer_more g gs ts result ls (place_code p bound plan a held known rs) (tokens_of_term a) (suc (tokens_of_term a)) (omega arith) (place_valid a q.1 f known rs (omega (arith, few)) h)
     pointer_valid (logic.Moved at t r op n a b) q f known rs few h =
-        let c = pointer_code p bound a known rs in
-        let d = term_code p bound b known c.used in
-        let hc = term_begins ts p bound b known c.used h in
+        let c = pointer_code p bound plan a held known rs in
+        let d = term_code p bound plan b held known c.used in
+        let hc = term_begins ts p bound plan b held known c.used h in
         moved_valid g gs ts result ls op n c (type_of b) d (tokens_of_term a) (tokens_of_term b) f.0 (whole_of b) (omega (arith, few)) (some_term b) (pointer_valid a q.1 f.1 known rs (omega (arith, few)) hc)
         (anywhere b d (term_valid b q.2 f.2 known c.used (omega (arith, few)) h))
     pointer_valid (logic.Cast at t r to a) q f known rs few h =
-        pointer_more g gs ts result ls (pointer_code p bound a known rs) (tokens_of_term a) (suc (tokens_of_term a)) (omega arith) (pointer_valid a q.1 f known rs (omega (arith, few)) h)
+        pointer_more g gs ts result ls (pointer_code p bound plan a held known rs) (tokens_of_term a) (suc (tokens_of_term a)) (omega arith) (pointer_valid a q.1 f known rs (omega (arith, few)) h)
     pointer_valid (logic.Choice at t r c a b) q f known rs few h =
         let more = known ++ sure_readings c in
-        let z = pred_code p bound c known rs in
-        let x = pointer_code p bound a more z.used in
-        let y = pointer_code p bound b more x.used in
+        let z = pred_code p bound plan c held known rs in
+        let x = pointer_code p bound plan a held more z.used in
+        let y = pointer_code p bound plan b held more x.used in
         let hy = begins_front y.used (I32 ∷ Ptr ∷ I128 ∷ []) ts h in
-        let hx = pointer_begins ts p bound b more x.used hy in
-        let hz = pointer_begins ts p bound a more z.used hx in
+        let hx = pointer_begins ts p bound plan b held more x.used hy in
+        let hz = pointer_begins ts p bound plan a held more z.used hx in
         branch_pointer_valid g gs ts result ls z x y (tokens_of_predicate c) (tokens_of_term a) (tokens_of_term b) (suc (tokens_of_predicate c + tokens_of_term a + tokens_of_term b)) few
         (pred_valid c q.1 f.0 known rs (omega (arith, few)) hz) (pointer_valid a q.2 f.1 more z.used (omega (arith, few)) hx) (pointer_valid b q.3 f.2 more x.used (omega (arith, few)) hy)
         (omega (arith, some_term a)) (omega arith) (omega arith) h
     pointer_valid (logic.Told at t r e a) q f known rs few h =
-        let c = pointer_code p bound a known rs in
+        let c = pointer_code p bound plan a held known rs in
         let v = pointer_valid a q.1 f known rs (omega (arith, few)) (begins_front c.used (I32 ∷ Ptr ∷ []) ts h) in
         pointer_more g gs ts result ls (told_pointer c) (tokens_of_term a) (suc (tokens_of_term a)) (omega arith) (told_pointer_valid g gs ts result ls c (tokens_of_term a) (omega (arith, few)) v h)
+    pointer_valid (logic.Named at t r x) q f known rs few h = held_pointer_valid x.decl rs f
+    pointer_valid (logic.At at t r Here a) q f known rs few h = pointer_valid a q.1 f known rs few h
+    pointer_valid (logic.At at t r Pre a) q f known rs few h = kept_pointer_valid a rs f
+    pointer_valid (logic.At at t r (Marked l) a) q f known rs few h = kept_pointer_valid a rs f
     pointer_valid _ q f known rs few h = absurd f
 
-    place_valid : (t : LogicTerm) → TermRanged [] t → PlaceWritable p bound g ts t → (known : List Reading) (rs : Types) → tokens_of_term t ≤ 400 → Begins (place_code p bound t known rs).used ts
-        → PointerValid g gs ts result ls (place_code p bound t known rs) (tokens_of_term t)
+    place_valid : (t : LogicTerm) → TermRanged seen t → PlaceWritable p bound plan g ts held t → (known : List Reading) (rs : Types) → tokens_of_term t ≤ 400 → Begins (place_code p bound plan t held known rs).used ts
+        → PointerValid g gs ts result ls (place_code p bound plan t held known rs) (tokens_of_term t)
     place_valid (logic.Variable at t r x) q f known rs few h =
         start_valid g gs ts result ls (pointer_to p bound x.decl) rs f (let l = pointer_parens p bound x.decl in omega (arith, l))
     place_valid (logic.Deref at t r a) q f known rs few h =
-        pointer_more g gs ts result ls (pointer_code p bound a known rs) (tokens_of_term a) (suc (tokens_of_term a)) (omega arith) (pointer_valid a q.1 f known rs (omega (arith, few)) h)
+        pointer_more g gs ts result ls (pointer_code p bound plan a held known rs) (tokens_of_term a) (suc (tokens_of_term a)) (omega arith) (pointer_valid a q.1 f known rs (omega (arith, few)) h)
     place_valid (logic.Member at t r d a) q f known rs few h =
-        member_valid g gs ts result ls d (place_code p bound a known rs) (tokens_of_term a) f.0 (omega (arith, few)) (place_valid a q.1 f.1 known rs (omega (arith, few)) h)
+        member_valid g gs ts result ls d (place_code p bound plan a held known rs) (tokens_of_term a) f.0 (omega (arith, few)) (place_valid a q.1 f.1 known rs (omega (arith, few)) h)
     place_valid _ q f known rs few h = absurd f
 
-    zone_valid : (z : Zone) → ZoneRanged [] z → ZoneWritable p bound g ts z → (known : List Reading) (rs : Types) → tokens_of_zone z ≤ 400 → Begins (zone_code p bound z known rs).pointer.used ts
-        → ZoneValid g gs ts result ls (zone_code p bound z known rs) (tokens_of_zone z)
-    zone_valid (logic.Object at n m a) q f known rs few h = object_valid g gs ts result ls n (pointer_code p bound a known rs) (tokens_of_term a) f.0 (pointer_valid a q f.1 known rs few h)
+    zone_valid : (z : Zone) → ZoneRanged seen z → ZoneWritable p bound plan g ts held z → (known : List Reading) (rs : Types) → tokens_of_zone z ≤ 400 → Begins (zone_code p bound plan z held known rs).pointer.used ts
+        → ZoneValid g gs ts result ls (zone_code p bound plan z held known rs) (tokens_of_zone z)
+    zone_valid (logic.Object at n m a) q f known rs few h = object_valid g gs ts result ls n (pointer_code p bound plan a held known rs) (tokens_of_term a) f.0 (pointer_valid a q f.1 known rs few h)
     zone_valid (logic.Elements at n m a lo hi) q f known rs few h =
-        let c = pointer_code p bound a known rs in
-        let x = term_code p bound lo known c.used in
-        let y = term_code p bound hi known x.used in
-        let hx = term_begins ts p bound hi known x.used h in
-        let hc = term_begins ts p bound lo known c.used hx in
+        let c = pointer_code p bound plan a held known rs in
+        let x = term_code p bound plan lo held known c.used in
+        let y = term_code p bound plan hi held known x.used in
+        let hx = term_begins ts p bound plan hi held known x.used h in
+        let hc = term_begins ts p bound plan lo held known c.used hx in
         elements_valid g gs ts result ls n c (type_of lo) (type_of hi) x y (tokens_of_term a) (tokens_of_term lo) (tokens_of_term hi) f.0 (whole_of lo) (whole_of hi) (some_term a) (some_term lo) (some_term hi)
         (pointer_valid a q.1 f.1 known rs (omega (arith, few)) hc) (anywhere lo x (term_valid lo q.2 f.2 known c.used (omega (arith, few)) hx)) (anywhere hi y (term_valid hi q.3 f.3 known x.used (omega (arith, few)) h))
 
-    zones_valid : (zs : Zones) → ZonesRanged [] zs → ZonesWritable p bound g ts zs → (known : List Reading) (rs : Types) → tokens_of_zones zs ≤ 400 → Begins (zones_code p bound zs known rs).used ts
-        → ZonesValid g gs ts result ls (zones_code p bound zs known rs) (tokens_of_zones zs)
+    zones_valid : (zs : Zones) → ZonesRanged seen zs → ZonesWritable p bound plan g ts held zs → (known : List Reading) (rs : Types) → tokens_of_zones zs ≤ 400 → Begins (zones_code p bound plan zs held known rs).used ts
+        → ZonesValid g gs ts result ls (zones_code p bound plan zs held known rs) (tokens_of_zones zs)
     zones_valid NoZone q f known rs few h = none_valid g gs ts result ls rs
     zones_valid (Another z rest) q f known rs few h =
-        let c = zone_code p bound z known rs in
-        let hc = zones_begins ts p bound rest known c.pointer.used h in
-        another_valid g gs ts result ls c (zones_code p bound rest known c.pointer.used) (tokens_of_zone z) (tokens_of_zones rest) (zone_valid z q.0 f.0 known rs (omega (arith, few)) hc)
+        let c = zone_code p bound plan z held known rs in
+        let hc = zones_begins ts p bound plan rest held known c.pointer.used h in
+        another_valid g gs ts result ls c (zones_code p bound plan rest held known c.pointer.used) (tokens_of_zone z) (tokens_of_zones rest) (zone_valid z q.0 f.0 known rs (omega (arith, few)) hc)
         (zones_valid rest q.1 f.1 known c.pointer.used (omega (arith, few)) h)
 
-    chain_valid : (t : LogicTerm) (x : Side) (l : Links) (m : ℕ) → LinksRanged [] l → LinksWritable p bound g ts l → (known : List Reading) → 1 ≤ m → m + tokens_of_links l ≤ 400 → SideValid x t m
-        → Begins (chain_code p bound t x l known).used ts
-        → IsCode (chain_code p bound t x l known) I32 (m + tokens_of_links l) 4
+    chain_valid : (t : LogicTerm) (x : Side) (l : Links) (m : ℕ) → LinksRanged seen l → LinksWritable p bound plan g ts held l → (known : List Reading) → 1 ≤ m → m + tokens_of_links l ≤ 400 → SideValid x t m
+        → Begins (chain_code p bound plan t x l held known).used ts
+        → IsCode (chain_code p bound plan t x l held known) I32 (m + tokens_of_links l) 4
     chain_valid t x NoLink m q f known some few v h = ended_valid x t m (used_by x) v
     chain_valid t x (Linked at r u NoLink) m q f known some few v h =
-        let c = pointer_code p bound u known (used_by x) in
-        let d = term_code p bound u known (used_by x) in
+        let c = pointer_code p bound plan u held known (used_by x) in
+        let d = term_code p bound plan u held known (used_by x) in
         let y = side_by (is_pointer_term u) c d in
         let n = tokens_of_term u in
         let hy = related_begins ts r t u x y h in
-        let vy = side_made u c d n (pointer_deep p bound u known (used_by x)) f.0 (λ w b. pointer_valid u q.0 w known (used_by x) (omega (arith, few)) b)
+        let vy = side_made u c d n (pointer_deep p bound plan u held known (used_by x)) f.0 (λ w b. pointer_valid u q.0 w known (used_by x) (omega (arith, few)) b)
         (λ w b. anywhere u d (term_valid u q.0 w known (used_by x) (omega (arith, few)) b)) hy in
         related_is_code r t u x y m n (m + suc (n + 0)) v vy some (some_term u) (omega arith) few h
     chain_valid t x (Linked at r u (Linked at2 r2 v rest)) m q f known some few vx h =
-        let c = pointer_code p bound u known (used_by x) in
-        let d = term_code p bound u known (used_by x) in
+        let c = pointer_code p bound plan u held known (used_by x) in
+        let d = term_code p bound plan u held known (used_by x) in
         let y = side_by (is_pointer_term u) c d in
         let more = known ++ (sure_readings_of_term t ++ sure_readings_of_term u) in
         let n = tokens_of_term u in
         let z = related_code r t u x y in
         let start = again y z.used in
-        let e = chain_code p bound u start (Linked at2 r2 v rest) more in
+        let e = chain_code p bound plan u start (Linked at2 r2 v rest) held more in
         let he = connected_begins ts And z e h in
-        let hz = again_begins ts y z.used (chain_begins ts p bound u start (Linked at2 r2 v rest) more he) in
+        let hz = again_begins ts y z.used (chain_begins ts p bound plan u start (Linked at2 r2 v rest) held more he) in
         let hy = related_begins ts r t u x y hz in
-        let vy = side_made u c d n (pointer_deep p bound u known (used_by x)) f.0 (λ w b. pointer_valid u q.0 w known (used_by x) (omega (arith, few)) b)
+        let vy = side_made u c d n (pointer_deep p bound plan u held known (used_by x)) f.0 (λ w b. pointer_valid u q.0 w known (used_by x) (omega (arith, few)) b)
         (λ w b. anywhere u d (term_valid u q.0 w known (used_by x) (omega (arith, few)) b)) hy in
         let l = tokens_of_links (Linked at2 r2 v rest) in
         connected_valid g gs ts result ls And z e (m + suc n) (n + l) (m + suc (n + l)) (related_is_code r t u x y m n (m + suc n) vx vy some (some_term u) (omega arith) (omega (arith, few)) hz)
         (chain_valid u start (Linked at2 r2 v rest) n q.1 f.1 more (some_term u) (omega (arith, few)) (again_valid u y z.used n vy) he) (omega (arith, some_term v)) (omega (arith, some)) (omega (arith, some_term u)) few h
 
-    pred_valid : (q : Predicate) → PredicateRanged [] q → PredicateWritable p bound g ts q → (known : List Reading) (rs : Types) → tokens_of_predicate q ≤ 400 → Begins (pred_code p bound q known rs).used ts
-        → IsCode (pred_code p bound q known rs) I32 (tokens_of_predicate q) 4
+    pred_valid : (q : Predicate) → PredicateRanged seen q → PredicateWritable p bound plan g ts held q → (known : List Reading) (rs : Types) → tokens_of_predicate q ≤ 400 → Begins (pred_code p bound plan q held known rs).used ts
+        → IsCode (pred_code p bound plan q held known rs) I32 (tokens_of_predicate q) 4
     pred_valid (logic.Truth at b) q f known rs few h = truth_valid g gs ts result ls b rs 4
-    pred_valid (logic.NonZero at t) q f known rs few h = nonzero_is_code t (term_code p bound t known rs) (anywhere t (term_code p bound t known rs) (term_valid t q f known rs few h))
+    pred_valid (logic.NonZero at t) q f known rs few h = nonzero_is_code t (term_code p bound plan t held known rs) (anywhere t (term_code p bound plan t held known rs) (term_valid t q f known rs few h))
     pred_valid (logic.Chain at t links) q f known rs few h =
-        let c = pointer_code p bound t known rs in
-        let d = term_code p bound t known rs in
+        let c = pointer_code p bound plan t held known rs in
+        let d = term_code p bound plan t held known rs in
         let x = side_by (is_pointer_term t) c d in
         let n = tokens_of_term t in
-        let hx = chain_begins ts p bound t x links known h in
-        let vx = side_made t c d n (pointer_deep p bound t known rs) f.0 (λ w b. pointer_valid t q.0 w known rs (omega (arith, few)) b) (λ w b. anywhere t d (term_valid t q.0 w known rs (omega (arith, few)) b)) hx in
+        let hx = chain_begins ts p bound plan t x links held known h in
+        let vx = side_made t c d n (pointer_deep p bound plan t held known rs) f.0 (λ w b. pointer_valid t q.0 w known rs (omega (arith, few)) b) (λ w b. anywhere t d (term_valid t q.0 w known rs (omega (arith, few)) b)) hx in
         chain_valid t x links n q.1 f.1 known (some_term t) few vx h
-    pred_valid (logic.Not at a) q f known rs few h = not_is_code (pred_code p bound a known rs) (tokens_of_predicate a) (pred_valid a q f known rs (omega (arith, few)) h)
+    pred_valid (logic.Not at a) q f known rs few h = not_is_code (pred_code p bound plan a held known rs) (tokens_of_predicate a) (pred_valid a q f known rs (omega (arith, few)) h)
     pred_valid (logic.Connected at c a b) q f known rs few h =
-        let x = pred_code p bound a known rs in
+        let x = pred_code p bound plan a held known rs in
         let ks = known_at_right c known a in
-        let y = pred_code p bound b ks x.used in
+        let y = pred_code p bound plan b held ks x.used in
         let hy = connected_begins ts c x y h in
-        let hx = pred_begins ts p bound b ks x.used hy in
+        let hx = pred_begins ts p bound plan b held ks x.used hy in
         connected_valid g gs ts result ls c x y (tokens_of_predicate a) (tokens_of_predicate b) (suc (tokens_of_predicate a + tokens_of_predicate b))
         (pred_valid a q.0 f.0 known rs (omega (arith, few)) hx) (pred_valid b q.1 f.1 ks x.used (omega (arith, few)) hy) (omega arith) (omega arith)
         (some_tokens b) few h
     pred_valid (logic.Branch at c a b) q f known rs few h =
         let more = known ++ sure_readings c in
-        let z = pred_code p bound c known rs in
-        let x = pred_code p bound a more z.used in
-        let y = pred_code p bound b more x.used in
+        let z = pred_code p bound plan c held known rs in
+        let x = pred_code p bound plan a held more z.used in
+        let y = pred_code p bound plan b held more x.used in
         let hy = begins_front y.used (I32 ∷ I32 ∷ []) ts h in
-        let hx = pred_begins ts p bound b more x.used hy in
-        let hz = pred_begins ts p bound a more z.used hx in
+        let hx = pred_begins ts p bound plan b held more x.used hy in
+        let hz = pred_begins ts p bound plan a held more z.used hx in
         branch_valid g gs ts result ls I32 z x y (tokens_of_predicate c) (tokens_of_predicate a) (tokens_of_predicate b) (suc (tokens_of_predicate c + tokens_of_predicate a + tokens_of_predicate b)) 4
         (pred_valid c q.0 f.0 known rs (omega (arith, few)) hz) (pred_valid a q.1 f.1 more z.used (omega (arith, few)) hx)
         (pred_valid b q.2 f.2 more x.used (omega (arith, few)) hy) (omega (arith, some_tokens a)) (omega arith) (omega arith) (some_tokens a) few h
     pred_valid (logic.Asks at e z) q f known rs few h =
-        let c = zone_code p bound z known rs in
+        let c = zone_code p bound plan z held known rs in
         let v = zone_valid z q f known rs (omega (arith, few)) (begins_front c.pointer.used (I32 ∷ []) ts h) in
-        zone_asked_valid g gs ts result ls e (alignment_of z) c (tokens_of_zone z) (omega (arith, few)) v h (pred_deep p bound (logic.Asks at e z) known rs)
+        zone_asked_valid g gs ts result ls e (alignment_of z) c (tokens_of_zone z) (omega (arith, few)) v h (pred_deep p bound plan (logic.Asks at e z) held known rs)
     pred_valid (logic.Separated at zs) q f known rs few h =
-        let c = zones_code p bound zs known rs in
+        let c = zones_code p bound plan zs held known rs in
         let v = zones_valid zs q f known rs (omega (arith, few)) (begins_front c.used (I32 ∷ I32 ∷ []) ts h) in
-        separated_valid g gs ts result ls c (tokens_of_zones zs) (omega (arith, few)) v h (pred_deep p bound (logic.Separated at zs) known rs)
+        separated_valid g gs ts result ls c (tokens_of_zones zs) (omega (arith, few)) v h (pred_deep p bound plan (logic.Separated at zs) held known rs)
     pred_valid (logic.Quantified at quantifier guards e) q f known rs few h = absurd f
 
   -- ---- the flag and the truth in registers
@@ -653,7 +762,7 @@ module _ (p : TranslationUnit) (bound : Bindings) (g : ℕ) (gs : List Signature
     flagged (Some (Load t x)) h b = let l = h.1 in anew_valid (Load t x) h.0 (omega (arith, few, l)) b
 
 pub code_is_valid : CodeIsValid
-code_is_valid p bound g gs ts result ls q rs ranged writable few b =
-    let c = pred_code p bound q [] rs in
-    let v = pred_valid p bound g gs ts result ls q ranged writable [] rs few (judged_begins ts c.flag c b) in
-    flagged p bound g gs ts result ls c (tokens_of_predicate q) few v c.flag v.flag b
+code_is_valid p bound plan held seen g gs ts result ls q rs ranged writable few b =
+    let c = pred_code p bound plan q held [] rs in
+    let v = pred_valid p bound plan held seen g gs ts result ls q ranged writable [] rs few (judged_begins ts c.flag c b) in
+    flagged p bound plan held seen g gs ts result ls c (tokens_of_predicate q) few v c.flag v.flag b

@@ -25,7 +25,7 @@ use Rattle.mon_syntax.specs.Valid.{Types, HasType, IsExpression, IsStatement, Ar
 use Rattle.c_effects.specs.Expressions.{before, one, set, in_type}
 use Rattle.mem_preds.specs.declared.question.Question.{Question}
 use Rattle.mem_preds.specs.declared.question.Question.TheVariants as question
-use Rattle.mem_preds.specs.Questions.{told, type_of_fact, read_at}
+use Rattle.mem_preds.specs.Questions.{type_of_fact, read_at}
 use Rattle.mem_preds.proofs.Questions.{questions_are_typed, facts_are_typed, parts_are_typed, reads_are_typed}
 use Rattle.annot_code.specs.Pieces.{Code, access_of, conjunction, guarded, take_none}
 use Rattle.annot_code.specs.Pointers.{PointerCode, no_offset, start_pointer, null, no_pointer_code, null_code, member_code, move_operator, elements_of, moved_code, take_both, take_pointer, branch_pointer}

@@ -10,6 +10,7 @@ use Rattle.c_syntax.specs.declared.expression.UnOp.{UnOp}
 use Rattle.c_syntax.specs.declared.expression.UnOp.TheVariants as prefix
 use Rattle.c_syntax.specs.declared.expression.Use.{Use}
 use Rattle.c_syntax.specs.declared.logic.Connective.{Connective}
+use Rattle.c_syntax.specs.declared.logic.Label.TheVariants.{Here, Pre, Marked}
 use Rattle.c_syntax.specs.declared.logic.Connective.TheVariants.{And, Xor, Or, Implies, Iff}
 use Rattle.c_syntax.specs.declared.place.Place.{Place}
 use Rattle.c_syntax.specs.declared.types.CInt.{CInt}
@@ -24,7 +25,7 @@ use Rattle.c_syntax.specs.Logic.{LogicTerm, NoLink, Linked, Zone, Zones, NoZone,
 use Rattle.c_syntax.specs.Logic as logic
 use Rattle.c_syntax.specs.Layouts.{int_size, IntegerType, PointerType}
 use Rattle.c_model.specs.Integers.{value_of_bits}
-use Rattle.c_model.specs.Logic.{Environment, TermValue, Mathematical, Addressed, held_at, load_from, pointer_at, mathematical, both, Answer, Says, SaysNothing, OutOfSteps, compute}
+use Rattle.c_model.specs.Logic.{Environment, at_mark, valued_at, TermValue, Mathematical, Addressed, held_at, load_from, pointer_at, mathematical, both, Answer, Says, SaysNothing, OutOfSteps, compute}
 use Rattle.c_model.specs.Logic.{of_value, related, as_address, addressed, are_together, difference, fact, told, moved, Extent, object_extent, elements_extent, asks, all_apart}
 use Rattle.c_model.specs.Library.{is_there}
 use Rattle.c_model.specs.MemoryQuestions.{Address, Part, address_of, address_farther, inside, has_pointer}
@@ -34,7 +35,7 @@ use Rattle.c_model.proofs.Together.{pointers_load}
 use Rattle.c_model.specs.Memory.{Pointer, Into, Value, Integer, Points, NoValue, Byte, Store, number_of, pointer_of, value_from, load, load_bytes}
 use Rattle.c_model.specs.Memory.{◌>>=◌ as bind_loaded}
 use Rattle.c_model.specs.Predicates.{compute_one, converted, in_type, chosen as chosen_term, with_extent, alignment_of, place, term, zone, zones, chain, pred}
-use Rattle.c_model.specs.State.{State, Scope, find, start_of}
+use Rattle.c_model.specs.State.{State, Scope, find, mark_of, start_of}
 use Rattle.c_model.specs.TermRanges.{Seen, type_range, place_range, TermRanged, ZoneRanged, ZonesRanged, PredicateRanged}
 use Rattle.c_model.specs.TypedPredicates.{IsCastType}
 use Rattle.mon_syntax.specs.declared.tree.MonType.{MonType}
@@ -44,12 +45,14 @@ use Rattle.mon_syntax.specs.BlockMemory.{Blocks, is_some, holds_number, load_blo
 use Rattle.mon_syntax.specs.Checking.{same_type}
 use Rattle.mon_syntax.specs.Meaning.{◌>>=◌ as bind}
 use Rattle.c_effects.specs.Expressions.{register_type}
+use Rattle.c_simulation.specs.Keeping.{Kept}
+use Rattle.annot_code.specs.Held.{Sorted}
 use Rattle.annot_code.specs.Code.{term_type, access_of, Reading}
 use Rattle.annot_code.specs.Code.{is_same_reading, is_known, is_scalar, readings_of_variable, sure_readings_of_term, sure_readings_of_place, sure_readings_of_zone, sure_readings_of_zones, sure_readings, known_at_right, is_pointer_term}
 use Rattle.annot_code.specs.Does.{HasIntegers, HasPointers, IsNumberFact, IsPointerFact, found_by, TermFound, PointerFound, PlaceFound, ZoneFound, ZonesFound, SideFound, PredicateFound}
 use Rattle.annot_code.proofs.Exact.{value_of}
 use Rattle.annot_code.proofs.Parts.{after, chosen}
-use Rattle.annot_code.proofs.Quiet.{IsNoPointer, IsNoNumber, said_again, says, said_by, turned, connected, not_says, connected_says, branch_says, chain_says, pred_quiet}
+use Rattle.annot_code.proofs.Quiet.{AreSorted, none_sorted, IsNoPointer, IsNoNumber, said_again, says, said_by, turned, connected, not_says, connected_says, branch_says, chain_says, pred_quiet}
 
 -- ---- the type of a variable with a range
 
@@ -107,7 +110,7 @@ pub record Variable (s : State) (at : Place) (t : Option PlainType) (r : Range) 
   pub there : is_some (value_of (term (logic.Variable at t r x) s [])) ≡ holds_number s.store (Into number 0) (pos 0) (access_bytes (access_of (term_type t)))
   pub loads : (z : ℤ) → value_of (term (logic.Variable at t r x) s []) ≡ Some z → load s.store (Into number 0) (IntegerType int) ≡ Some (Integer z)
 
-pub variable_in_sight : (s : State) (at : Place) (t : Option PlainType) (r : Range) (x : Use) → place_range t ≡ Some r → TermFound s.scope (logic.Variable at t r x) → Variable s at t r x
+pub variable_in_sight : (s : State) (at : Place) (t : Option PlainType) (r : Range) (x : Use) → place_range t ≡ Some r → TermFound [] s.scope [] (logic.Variable at t r x) → Variable s at t r x
 variable_in_sight s at t r x e (int, number, found) = record {
   int = k;
   is = i.is;
@@ -228,24 +231,32 @@ no_told f n store (Some x) y e = by f n (inside store x) e
     by Offset n None e = cc
     by Offset n (Some q) e = cc
 
+pub no_past : (o : Option State) (f : State → Option TermValue) → ((u : State) → IsNoPointer (f u)) → IsNoPointer (valued_at o f)
+no_past None f h y e = cc
+no_past (Some u) f h y e = h u y e
+
 -- the value of a found term is a number
-pub number_found : (t : LogicTerm) (s : State) (e : Environment) (scope : Scope) → TermFound scope t → IsNoPointer (term t s e)
-number_found (logic.Number at t r n) s e scope f y q = cc
-number_found (logic.Letter at t r n) s e scope f y q = cc
-number_found (logic.Variable at t r x) s e scope f y q = no_held t f.0 s.store (option_map address_of (start_of (find x.decl s.scope))) y q
-number_found (logic.Unary at t r op a) s e scope f y q = no_unary op (term a s e) y q
-number_found (logic.Binary at t r op a b) s e scope f y q = no_both op (term a s e) (term b s e) y q
-number_found (logic.Cast at t r Integers a) s e scope f y q = number_found a s e scope f.1 y q
-number_found (logic.Cast at t r (OfC to) a) s e scope f y q =
+pub number_found : (ks : List Kept) (ns : Sorted) (t : LogicTerm) (s : State) (e : Environment) (scope : Scope) → AreSorted ns s e → TermFound ks scope ns t → IsNoPointer (term t s e)
+number_found ks ns (logic.Number at t r n) s e scope h f y q = cc
+number_found ks ns (logic.Letter at t r n) s e scope h f y q = cc
+number_found ks ns (logic.Variable at t r x) s e scope h f y q = no_held t f.0 s.store (option_map address_of (start_of (find x.decl s.scope))) y q
+number_found ks ns (logic.Unary at t r op a) s e scope h f y q = no_unary op (term a s e) y q
+number_found ks ns (logic.Binary at t r op a b) s e scope h f y q = no_both op (term a s e) (term b s e) y q
+number_found ks ns (logic.Cast at t r Integers a) s e scope h f y q = number_found ks ns a s e scope h f.1 y q
+number_found ks ns (logic.Cast at t r (OfC to) a) s e scope h f y q =
     let i = f.0 in
     no_typed i.int (term a s e) y (ap (λ k. in_type k (term a s e)) (sym i.is) ∙ q)
-number_found (logic.Choice at t r c a b) s e scope f y q =
-    no_chosen (pred c s e 0) (term a s e) (term b s e) (number_found a s e scope f.1) (number_found b s e scope f.2) y q
-number_found (logic.Deref at t r a) s e scope f y q = no_held t f.0 s.store (as_address (term a s e)) y q
-number_found (logic.Member at t r d a) s e scope f y q = no_held t f.0 s.store (option_map (λ x. address_farther x (pos d)) (place a s e)) y q
-number_found (logic.Difference at t r n a b) s e scope f y q = no_difference s.store n (as_address (term a s e)) (as_address (term b s e)) y q
-number_found (logic.Told at t r g a) s e scope f y q = no_told g f.0 s.store (as_address (term a s e)) y q
-number_found _ s e scope f y q = absurd f
+number_found ks ns (logic.Choice at t r c a b) s e scope h f y q =
+    no_chosen (pred c s e 0) (term a s e) (term b s e) (number_found ks ns a s e scope h f.1) (number_found ks ns b s e scope h f.2) y q
+number_found ks ns (logic.Deref at t r a) s e scope h f y q = no_held t f.0 s.store (as_address (term a s e)) y q
+number_found ks ns (logic.Member at t r d a) s e scope h f y q = no_held t f.0 s.store (option_map (λ x. address_farther x (pos d)) (place a s e)) y q
+number_found ks ns (logic.Difference at t r n a b) s e scope h f y q = no_difference s.store n (as_address (term a s e)) (as_address (term b s e)) y q
+number_found ks ns (logic.Told at t r g a) s e scope h f y q = no_told g f.0 s.store (as_address (term a s e)) y q
+number_found ks ns (logic.Named at t r x) s e scope h f y q = h.numbers x.decl f y q
+number_found ks ns (logic.At at t r Here a) s e scope h f y q = number_found ks ns a s e scope h f y q
+number_found ks ns (logic.At at t r Pre a) s e scope h f y q = no_past (at_mark (mark_of None s.marks)) (λ u. term a u e) (λ u. number_found [] [] a u e f.1 (none_sorted u e) f.2) y q
+number_found ks ns (logic.At at t r (Marked l) a) s e scope h f y q = no_past (at_mark (mark_of (Some l) s.marks)) (λ u. term a u e) (λ u. number_found [] [] a u e f.1 (none_sorted u e) f.2) y q
+number_found ks ns _ s e scope h f y q = absurd f
 
 -- ---- terms that are pointers
 
@@ -305,19 +316,27 @@ told_pointer BaseAddr n store (Some x) z e = by (inside store x) e
 told_pointer BlockLength n store (Some x) z e = absurd n
 told_pointer Offset n store (Some x) z e = absurd n
 
-pub pointer_found : (t : LogicTerm) (s : State) (e : Environment) (scope : Scope) → PointerFound scope t → IsNoNumber (term t s e)
-pointer_found (logic.Variable at t r x) s e scope f z q = held_pointer t f.0 s.store (option_map address_of (start_of (find x.decl s.scope))) z q
-pointer_found (logic.Null at t r) s e scope f z q = cc
-pointer_found (logic.Deref at t r a) s e scope f z q = held_pointer t f.0 s.store (as_address (term a s e)) z q
-pointer_found (logic.Member at t r d a) s e scope f z q = held_pointer t f.0 s.store (option_map (λ x. address_farther x (pos d)) (place a s e)) z q
-pointer_found (logic.Address at t r a) s e scope f z q = addressed_pointer (place a s e) z q
-pointer_found (logic.Moved at t r op n a b) s e scope f z q = moved_pointer op n (term a s e) (term b s e) z q
-pointer_found (logic.Cast at t r Integers a) s e scope f z q = absurd f.0
-pointer_found (logic.Cast at t r (OfC to) a) s e scope f z q = cast_pointer f.0.0 (term a s e) z (ap (λ k. in_type k (term a s e)) (sym f.0.1) ∙ q)
-pointer_found (logic.Choice at t r c a b) s e scope f z q =
-    chosen_pointer (pred c s e 0) (term a s e) (term b s e) (pointer_found a s e scope f.1) (pointer_found b s e scope f.2) z q
-pointer_found (logic.Told at t r g a) s e scope f z q = told_pointer g f.0 s.store (as_address (term a s e)) z q
-pointer_found _ s e scope f z q = absurd f
+pub past_pointer : (o : Option State) (f : State → Option TermValue) → ((u : State) → IsNoNumber (f u)) → IsNoNumber (valued_at o f)
+past_pointer None f h z e = cc
+past_pointer (Some u) f h z e = h u z e
+
+pub pointer_found : (ks : List Kept) (ns : Sorted) (t : LogicTerm) (s : State) (e : Environment) (scope : Scope) → AreSorted ns s e → PointerFound ks scope ns t → IsNoNumber (term t s e)
+pointer_found ks ns (logic.Variable at t r x) s e scope h f z q = held_pointer t f.0 s.store (option_map address_of (start_of (find x.decl s.scope))) z q
+pointer_found ks ns (logic.Null at t r) s e scope h f z q = cc
+pointer_found ks ns (logic.Deref at t r a) s e scope h f z q = held_pointer t f.0 s.store (as_address (term a s e)) z q
+pointer_found ks ns (logic.Member at t r d a) s e scope h f z q = held_pointer t f.0 s.store (option_map (λ x. address_farther x (pos d)) (place a s e)) z q
+pointer_found ks ns (logic.Address at t r a) s e scope h f z q = addressed_pointer (place a s e) z q
+pointer_found ks ns (logic.Moved at t r op n a b) s e scope h f z q = moved_pointer op n (term a s e) (term b s e) z q
+pointer_found ks ns (logic.Cast at t r Integers a) s e scope h f z q = absurd f.0
+pointer_found ks ns (logic.Cast at t r (OfC to) a) s e scope h f z q = cast_pointer f.0.0 (term a s e) z (ap (λ k. in_type k (term a s e)) (sym f.0.1) ∙ q)
+pointer_found ks ns (logic.Choice at t r c a b) s e scope h f z q =
+    chosen_pointer (pred c s e 0) (term a s e) (term b s e) (pointer_found ks ns a s e scope h f.1) (pointer_found ks ns b s e scope h f.2) z q
+pointer_found ks ns (logic.Told at t r g a) s e scope h f z q = told_pointer g f.0 s.store (as_address (term a s e)) z q
+pointer_found ks ns (logic.Named at t r x) s e scope h f z q = h.pointers x.decl f z q
+pointer_found ks ns (logic.At at t r Here a) s e scope h f z q = pointer_found ks ns a s e scope h f z q
+pointer_found ks ns (logic.At at t r Pre a) s e scope h f z q = past_pointer (at_mark (mark_of None s.marks)) (λ u. term a u e) (λ u. pointer_found [] [] a u e f.2 (none_sorted u e) f.3) z q
+pointer_found ks ns (logic.At at t r (Marked l) a) s e scope h f z q = past_pointer (at_mark (mark_of (Some l) s.marks)) (λ u. term a u e) (λ u. pointer_found [] [] a u e f.2 (none_sorted u e) f.3) z q
+pointer_found ks ns _ s e scope h f z q = absurd f
 
 -- ---- what is known
 
@@ -541,9 +560,9 @@ mapped_there : {A : Type 0} (f : A → Bool) (o : Option A) (b : Bool) → optio
 mapped_there f None b e = absurd cc
 mapped_there f (Some x) b e = (x, refl)
 
-module _ (seen : Seen) (s : State) (names : Environment) (all : AllTogether s.store) where
+module _ (ks : List Kept) (ns : Sorted) (seen : Seen) (s : State) (names : Environment) (sorted : AreSorted ns s names) (all : AllTogether s.store) where
   mutual
-    pub term_read : (t : LogicTerm) → TermRanged seen t → TermFound s.scope t → (v : TermValue) → term t s names ≡ Some v → AllRead s (sure_readings_of_term t)
+    pub term_read : (t : LogicTerm) → TermRanged seen t → TermFound ks s.scope ns t → (v : TermValue) → term t s names ≡ Some v → AllRead s (sure_readings_of_term t)
     term_read (logic.Number at t r n) q f v e = tt
     term_read (logic.Letter at t r n) q f v e = tt
     term_read (logic.Variable at t r x) q f v e =
@@ -551,7 +570,7 @@ module _ (seen : Seen) (s : State) (names : Environment) (all : AllTogether s.st
         variable_read s t x.decl (record {
           number = i.number;
           found = i.found;
-          holds = held_number_is s at t r x i.number i ∙ sym i.there ∙ number_some (term (logic.Variable at t r x) s names) v (number_found (logic.Variable at t r x) s names s.scope f) e;
+          holds = held_number_is s at t r x i.number i ∙ sym i.there ∙ number_some (term (logic.Variable at t r x) s names) v (number_found ks ns (logic.Variable at t r x) s names s.scope sorted f) e;
         })
     term_read (logic.Unary at t r op a) q f v e = let x = one_there op (term a s names) v e in term_read a q.1 f x.0 x.1
     term_read (logic.Binary at t r op a b) q f v e =
@@ -570,9 +589,11 @@ module _ (seen : Seen) (s : State) (names : Environment) (all : AllTogether s.st
         (pointer_read b q.2 f.2 (Addressed x.1) (address_there (term b s names) x.1 x.3))
     term_read (logic.Told at t r g a) q f v e =
         let x = told_there s.store g (as_address (term a s names)) v e in pointer_read a q.1 f.1 (Addressed x.0) (address_there (term a s names) x.0 x.1)
+    term_read (logic.Named at t r x) q f v e = tt
+    term_read (logic.At at t r l a) q f v e = tt
     term_read _ q f v e = absurd f
 
-    pub pointer_read : (t : LogicTerm) → TermRanged seen t → PointerFound s.scope t → (v : TermValue) → term t s names ≡ Some v → AllRead s (sure_readings_of_term t)
+    pub pointer_read : (t : LogicTerm) → TermRanged seen t → PointerFound ks s.scope ns t → (v : TermValue) → term t s names ≡ Some v → AllRead s (sure_readings_of_term t)
     pointer_read (logic.Variable at t r x) q f v e = pointer_variable_read s t x.decl f.1 f.0 f.2 all v e
     pointer_read (logic.Null at t r) q f v e = tt
     pointer_read (logic.Deref at t r a) q f v e =
@@ -588,30 +609,32 @@ module _ (seen : Seen) (s : State) (names : Environment) (all : AllTogether s.st
     pointer_read (logic.Choice at t r c a b) q f v e = tt
     pointer_read (logic.Told at t r g a) q f v e =
         let x = told_there s.store g (as_address (term a s names)) v e in pointer_read a q.1 f.1 (Addressed x.0) (address_there (term a s names) x.0 x.1)
+    pointer_read (logic.Named at t r x) q f v e = tt
+    pointer_read (logic.At at t r l a) q f v e = tt
     pointer_read _ q f v e = absurd f
 
-    pub place_read : (t : LogicTerm) → TermRanged seen t → PlaceFound s.scope t → (x : Address) → place t s names ≡ Some x → AllRead s (sure_readings_of_place t)
+    pub place_read : (t : LogicTerm) → TermRanged seen t → PlaceFound ks s.scope ns t → (x : Address) → place t s names ≡ Some x → AllRead s (sure_readings_of_place t)
     place_read (logic.Variable at t r y) q f x e = tt
     place_read (logic.Deref at t r a) q f x e = pointer_read a q.1 f (Addressed x) (address_there (term a s names) x e)
     place_read (logic.Member at t r d a) q f x e = let y = farther_there (pos d) (place a s names) x e in place_read a q.1 f y.0 y.1
     place_read _ q f x e = absurd f
 
   -- both sides of a relation
-  pub side_read : (t : LogicTerm) → TermRanged seen t → SideFound s.scope t → (v : TermValue) → term t s names ≡ Some v → AllRead s (sure_readings_of_term t)
+  pub side_read : (t : LogicTerm) → TermRanged seen t → SideFound ks s.scope ns t → (v : TermValue) → term t s names ≡ Some v → AllRead s (sure_readings_of_term t)
   side_read t q f v e = by (is_pointer_term t) f
     where
-      by : (m : Bool) → found_by m (PointerFound s.scope t) (TermFound s.scope t) → AllRead s (sure_readings_of_term t)
+      by : (m : Bool) → found_by m (PointerFound ks s.scope ns t) (TermFound ks s.scope ns t) → AllRead s (sure_readings_of_term t)
       by true f = pointer_read t q f v e
       by false f = term_read t q f v e
 
-  pub relation_read : (r : Relation) (t u : LogicTerm) → TermRanged seen t → TermRanged seen u → SideFound s.scope t → SideFound s.scope u
+  pub relation_read : (r : Relation) (t u : LogicTerm) → TermRanged seen t → TermRanged seen u → SideFound ks s.scope ns t → SideFound ks s.scope ns u
       → (b : Bool) → said_by (related s.store r (term t s names) (term u s names) 0) ≡ Some b → AllRead s (sure_readings_of_term t ++ sure_readings_of_term u)
   relation_read r t u p q f g b e =
       let x = related_there s.store r (term t s names) (term u s names) b e in
       read-append s (sure_readings_of_term t) (sure_readings_of_term u) (side_read t p f x.0.0 x.0.1) (side_read u q g x.1.0 x.1.1)
 
   -- the pointer and the bounds of a zone
-  zone_read : (z : Zone) → ZoneRanged seen z → ZoneFound s.scope z → (e : Extent) → zone z s names ≡ Some e → AllRead s (sure_readings_of_zone z)
+  zone_read : (z : Zone) → ZoneRanged seen z → ZoneFound ks s.scope ns z → (e : Extent) → zone z s names ≡ Some e → AllRead s (sure_readings_of_zone z)
   zone_read (logic.Object at n m a) q f z e =
       let x = object_there n (as_address (term a s names)) z e in pointer_read a q f.1 (Addressed x.0) (address_there (term a s names) x.0 x.1)
   zone_read (logic.Elements at n m a lo hi) q f z e =
@@ -619,7 +642,7 @@ module _ (seen : Seen) (s : State) (names : Environment) (all : AllTogether s.st
       read-append s (sure_readings_of_term a) (sure_readings_of_term lo ++ sure_readings_of_term hi) (pointer_read a q.1 f.1 x.0.0 x.0.1)
       (read-append s (sure_readings_of_term lo) (sure_readings_of_term hi) (term_read lo q.2 f.2 x.1.0 x.1.1) (term_read hi q.3 f.3 x.2.0 x.2.1))
 
-  zones_read : (zs : Zones) → ZonesRanged seen zs → ZonesFound s.scope zs → (es : List Extent) → zones zs s names ≡ Some es → AllRead s (sure_readings_of_zones zs)
+  zones_read : (zs : Zones) → ZonesRanged seen zs → ZonesFound ks s.scope ns zs → (es : List Extent) → zones zs s names ≡ Some es → AllRead s (sure_readings_of_zones zs)
   zones_read NoZone q f es e = tt
   zones_read (Another z rest) q f es e =
       let x = with_there (zone z s names) (zones rest s names) es e in
@@ -661,30 +684,30 @@ connected_read s names at Xor p q b left right e =
     let y = xor_some (says p s names) (says q s names) b e in
     read-append s (sure_readings p) (sure_readings q) (left x.0 x.1) (right y.0 y.1)
 
-module _ (seen : Seen) (s : State) (names : Environment) (all : AllTogether s.store) where
-  pub pred_read : (p : Predicate) → PredicateRanged seen p → PredicateFound s.scope p → (b : Bool) → says p s names ≡ Some b → AllRead s (sure_readings p)
+module _ (ks : List Kept) (ns : Sorted) (seen : Seen) (s : State) (names : Environment) (sorted : AreSorted ns s names) (all : AllTogether s.store) where
+  pub pred_read : (p : Predicate) → PredicateRanged seen p → PredicateFound ks s.scope ns p → (b : Bool) → says p s names ≡ Some b → AllRead s (sure_readings p)
   pred_read (logic.Truth at v) q f b e = tt
   pred_read (logic.NonZero at t) q f b e =
-      let x = related_there s.store Ne (term t s names) (Some (Mathematical (pos 0))) b e in term_read seen s names all t q f x.0.0 x.0.1
+      let x = related_there s.store Ne (term t s names) (Some (Mathematical (pos 0))) b e in term_read ks ns seen s names sorted all t q f x.0.0 x.0.1
   pred_read (logic.Chain at t NoLink) q f b e = tt
   pred_read (logic.Chain at t (Linked at2 r u rest)) q f b e =
       let x = chosen_some (said_by (related s.store r (term t s names) (term u s names) 0)) (said_by (chain (term u s names) rest s names 0)) (Some false) b (sym (chain_says r (term t s names) u rest s names) ∙ e) in
-      relation_read seen s names all r t u q.0 q.1.0 f.0 f.1.1 x.0 x.1
-  pred_read (logic.Not at p) q f b e = let x = turned_some (says p s names) b (sym (not_says p s names f) ∙ e) in pred_read p q f x.0 x.1
+      relation_read ks ns seen s names sorted all r t u q.0 q.1.0 f.0 f.1.1 x.0 x.1
+  pred_read (logic.Not at p) q f b e = let x = turned_some (says p s names) b (sym (not_says ks ns p s names f) ∙ e) in pred_read p q f x.0 x.1
   pred_read (logic.Connected at c p q) h f b e =
       connected_read s names at c p q b (λ x g. pred_read p h.0 f.0 x g) (λ x g. pred_read q h.1 f.1 x g)
-      (sym (connected_says c (pred p s names) (pred q s names) (pred_quiet p s names f.0) (pred_quiet q s names f.1)) ∙ e)
+      (sym (connected_says c (pred p s names) (pred q s names) (pred_quiet ks ns p s names f.0) (pred_quiet ks ns q s names f.1)) ∙ e)
   pred_read (logic.Branch at c p q) h f b e =
-      let x = chosen_some (says c s names) (says p s names) (says q s names) b (sym (branch_says c p q s names f.0 f.1 f.2) ∙ e) in pred_read c h.0 f.0 x.0 x.1
+      let x = chosen_some (says c s names) (says p s names) (says q s names) b (sym (branch_says ks ns c p q s names f.0 f.1 f.2) ∙ e) in pred_read c h.0 f.0 x.0 x.1
   pred_read (logic.Asks at g z) q f b e =
       let x = mapped_there (asks g s.store (alignment_of z)) (zone z s names) b (sym (said_again (option_map (asks g s.store (alignment_of z)) (zone z s names)) 0) ∙ e) in
-      zone_read seen s names all z q f x.0 x.1
+      zone_read ks ns seen s names sorted all z q f x.0 x.1
   pred_read (logic.Separated at zs) q f b e =
-      let x = mapped_there all_apart (zones zs s names) b (sym (said_again (option_map all_apart (zones zs s names)) 0) ∙ e) in zones_read seen s names all zs q f x.0 x.1
+      let x = mapped_there all_apart (zones zs s names) b (sym (said_again (option_map all_apart (zones zs s names)) 0) ∙ e) in zones_read ks ns seen s names sorted all zs q f x.0 x.1
   pred_read (logic.Quantified at g gs p) q f b e = absurd f
 
   -- what is known at the right side of a connective, wherever that matters
-  pub known_right : (c : Connective) (known : List Reading) (p : Predicate) → PredicateRanged seen p → PredicateFound s.scope p → AllRead s known
+  pub known_right : (c : Connective) (known : List Reading) (p : Predicate) → PredicateRanged seen p → PredicateFound ks s.scope ns p → AllRead s known
       → (b : Bool) → says p s names ≡ Some b → AllRead s (known_at_right c known p)
   known_right And known p q f h b e = read-append s known (sure_readings p) h (pred_read p q f b e)
   known_right Or known p q f h b e = read-append s known (sure_readings p) h (pred_read p q f b e)

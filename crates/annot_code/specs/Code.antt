@@ -6,6 +6,7 @@ use Rattle.std.specs.List.{list_any}
 use Rattle.c_syntax.specs.declared.annotation.Relation.{Relation}
 use Rattle.c_syntax.specs.declared.logic.Connective.{Connective}
 use Rattle.c_syntax.specs.declared.logic.Connective.TheVariants as connective
+use Rattle.c_syntax.specs.declared.logic.Label.TheVariants.{Here, Pre, Marked}
 use Rattle.c_syntax.specs.Ctypes.{PlainType}
 use Rattle.c_syntax.specs.Ctypes as ctype
 use Rattle.c_syntax.specs.Logic.{LogicTerm, Links, NoLink, Linked, Zone, Zones, NoZone, Another, Predicate, ClauseBody, Raw, Holds, Value, Behaviors}
@@ -13,19 +14,22 @@ use Rattle.c_syntax.specs.Logic.{Annotation, range_of}
 use Rattle.c_syntax.specs.Logic as logic
 use Rattle.c_syntax.specs.Programs.{TranslationUnit}
 use Rattle.c_model.specs.Predicates.{alignment_of}
-use Rattle.c_model.specs.PredicateTyping.{ValueSort, AnInteger, APointer, NoValue, sort_of_term}
+use Rattle.c_model.specs.PredicateTyping.{place_of_term}
 use Rattle.c_model.specs.Ranges.{width_of_range}
 use Rattle.mon_syntax.specs.declared.tree.MonOp.TheVariants.{Eq, Ne}
 use Rattle.mon_syntax.specs.declared.tree.MonType.{MonType}
-use Rattle.mon_syntax.specs.declared.tree.MonType.TheVariants.{I32, I128}
+use Rattle.mon_syntax.specs.declared.tree.MonType.TheVariants.{I32}
 use Rattle.mon_syntax.specs.Trees.{MonExpression, Register, Constant, Binary, Load, MonStatement, Assert, If, MonStatements, NoStatement}
 use Rattle.mon_syntax.specs.Checking.{same_type}
 use Rattle.mon_syntax.specs.Registers.{Bindings}
 use Rattle.mem_preds.specs.declared.question.Question.TheVariants as asks
 use Rattle.mem_preds.specs.Questions.{asked}
 use Rattle.c_effects.specs.Expressions.{before, one, set, in_type, pointer_to}
+use Rattle.c_simulation.specs.Keeping.{Kept}
+pub use Rattle.c_simulation.specs.Keeping.{is_pointer_sort, is_pointer_term}
+pub use Rattle.annot_code.specs.Held.{Held, held_by, held_code, held_pointer, kept_at, kept_code, kept_pointer}
 pub use Rattle.annot_code.specs.Pieces.{term_type, access_of, relation_operator, Code, sure_code, no_code, with_value, conjunction, guarded, two_code, take}
-pub use Rattle.annot_code.specs.Pieces.{take_none, taken, branch, type_of_width, wider, width_of, type_of, is_shift, working, is_total, count_in}
+pub use Rattle.annot_code.specs.Pieces.{take_none, taken, branch, settled, type_of_width, wider, width_of, type_of, is_shift, working, is_total, count_in}
 pub use Rattle.annot_code.specs.Pieces.{second_operand, binary_value, partial_code, operated, unary_value, relation_value, converted_to, cast_value}
 pub use Rattle.annot_code.specs.Pieces.{truth_code, has_none, is_sure, connective_operator, both_asked, left_first, connected, relation_code}
 pub use Rattle.annot_code.specs.Pointers.{PointerCode, no_offset, sure_pointer, start_pointer, null, no_pointer_code, null_code, member_code}
@@ -128,15 +132,6 @@ known_at_right connective.Xor known p = known
 
 -- ---- sides of relations
 
--- a pointer, and no number
-abbrev pub is_pointer_sort : ValueSort → Bool
-is_pointer_sort AnInteger = false
-is_pointer_sort (APointer t) = true
-is_pointer_sort NoValue = false
-
-abbrev pub is_pointer_term : LogicTerm → Bool
-is_pointer_term t = is_pointer_sort (sort_of_term t)
-
 -- null, and 0 beside a pointer
 abbrev pub is_null_term : LogicTerm → Bool
 is_null_term (logic.Null at t r) = true
@@ -188,119 +183,128 @@ module _ (p : TranslationUnit) (bound : Bindings) where
     used = rs ++ I32 ∷ [];
   }
 
+-- the same, where these terms are kept
+module _ (p : TranslationUnit) (bound : Bindings) (plan : List Kept) where
   abbrev mutual
-    pub term_code : LogicTerm → List Reading → List MonType → Code
-    term_code (logic.Number at t r n) known rs = sure_code (Constant (type_of_width (width_of_range r)) n) rs
-    term_code (logic.Letter at t r n) known rs = sure_code (Constant (type_of_width (width_of_range r)) n) rs
-    term_code (logic.Variable at t r x) known rs =
+    pub term_code : LogicTerm → List Held → List Reading → List MonType → Code
+    term_code (logic.Number at t r n) held known rs = sure_code (Constant (type_of_width (width_of_range r)) n) rs
+    term_code (logic.Letter at t r n) held known rs = sure_code (Constant (type_of_width (width_of_range r)) n) rs
+    term_code (logic.Variable at t r x) held known rs =
         let y : Reading = record { decl = x.decl; kind = term_type t } in
-        variable_code (is_known known y) (type_of_width (width_of_range r)) y rs
-    term_code (logic.Unary at t r op a) known rs =
-        let x = term_code a known rs in
+        variable_code p bound (is_known known y) (type_of_width (width_of_range r)) y rs
+    term_code (logic.Unary at t r op a) held known rs =
+        let x = term_code a held known rs in
         with_value (unary_value op (type_of_width (width_of_range r)) (type_of_width (wider (width_of_range r) (width_of a))) (type_of a) x.value) x
-    term_code (logic.Binary at t r op a b) known rs =
-        let x = term_code a known rs in
-        let y = term_code b known x.used in
+    term_code (logic.Binary at t r op a b) held known rs =
+        let x = term_code a held known rs in
+        let y = term_code b held known x.used in
         let w = type_of_width (width_of_range r) in
         let k = type_of_width (working op (width_of_range r) (width_of a) (width_of b)) in
         operated (is_total op (range_of b)) op w k (type_of b) x y (binary_value op w k (type_of a) (type_of b) (range_of b) x.value y.value)
-    term_code (logic.Cast at t r to a) known rs =
-        let x = term_code a known rs in
+    term_code (logic.Cast at t r to a) held known rs =
+        let x = term_code a held known rs in
         with_value (cast_value to (range_of a) (type_of_width (width_of_range r)) (type_of a) x.value) x
-    term_code (logic.Choice at t r c a b) known rs =
+    term_code (logic.Choice at t r c a b) held known rs =
         let w = type_of_width (width_of_range r) in
-        let z = pred_code c known rs in
-        let x = term_code a (known ++ sure_readings c) z.used in
-        let y = term_code b (known ++ sure_readings c) x.used in
+        let z = pred_code c held known rs in
+        let x = term_code a held (known ++ sure_readings c) z.used in
+        let y = term_code b held (known ++ sure_readings c) x.used in
         branch w z (with_value (in_type (type_of a) w x.value) x) (with_value (in_type (type_of b) w y.value) y)
-    term_code (logic.Deref at t r a) known rs = number_read (type_of_width (width_of_range r)) (term_type t) (pointer_code a known rs)
-    term_code (logic.Member at t r d a) known rs = number_read (type_of_width (width_of_range r)) (term_type t) (member_code d (place_code a known rs))
-    term_code (logic.Difference at t r n a b) known rs =
-        let c = pointer_code a known rs in
-        difference_code (type_of_width (width_of_range r)) n c (pointer_code b known c.used)
-    term_code (logic.Told at t r f a) known rs = told_number (type_of_width (width_of_range r)) f (pointer_code a known rs)
+    term_code (logic.Deref at t r a) held known rs = number_read (type_of_width (width_of_range r)) (term_type t) (pointer_code a held known rs)
+    term_code (logic.Member at t r d a) held known rs =
+        number_read (type_of_width (width_of_range r)) (term_type t) (member_code d (place_code a held known rs))
+    term_code (logic.Difference at t r n a b) held known rs =
+        let c = pointer_code a held known rs in
+        difference_code (type_of_width (width_of_range r)) n c (pointer_code b held known c.used)
+    term_code (logic.Told at t r f a) held known rs = told_number (type_of_width (width_of_range r)) f (pointer_code a held known rs)
     -- pointers are no numbers
-    term_code (logic.Null at t r) known rs = no_code rs
-    term_code (logic.Address at t r a) known rs = no_code rs
-    term_code (logic.Moved at t r op n a b) known rs = no_code rs
-    -- names and labels have no code yet
-    term_code (logic.Named at t r x) known rs = no_code rs
-    term_code (logic.At at t r l a) known rs = no_code rs
+    term_code (logic.Null at t r) held known rs = no_code rs
+    term_code (logic.Address at t r a) held known rs = no_code rs
+    term_code (logic.Moved at t r op n a b) held known rs = no_code rs
+    -- a term at a label that was passed has its value in registers
+    term_code (logic.Named at t r x) held known rs = held_code (type_of_width (width_of_range r)) (held_by x.decl held) rs
+    term_code (logic.At at t r Here a) held known rs = settled (type_of a) (term_code a held known rs)
+    term_code (logic.At at t r Pre a) held known rs = kept_code (kept_at (place_of_term a).offset plan) rs
+    term_code (logic.At at t r (Marked l) a) held known rs = kept_code (kept_at (place_of_term a).offset plan) rs
 
     -- a term that is a pointer
-    pub pointer_code : LogicTerm → List Reading → List MonType → PointerCode
-    pointer_code (logic.Variable at t r x) known rs =
+    pub pointer_code : LogicTerm → List Held → List Reading → List MonType → PointerCode
+    pointer_code (logic.Variable at t r x) held known rs =
         pointer_there (is_known known (record { decl = x.decl; kind = term_type t })) t (start_pointer (pointer_to p bound x.decl) rs)
-    pointer_code (logic.Null at t r) known rs = start_pointer null rs
-    pointer_code (logic.Deref at t r a) known rs = pointer_there false t (pointer_code a known rs)
-    pointer_code (logic.Member at t r d a) known rs = pointer_there false t (member_code d (place_code a known rs))
-    pointer_code (logic.Address at t r a) known rs = place_code a known rs
-    pointer_code (logic.Moved at t r op n a b) known rs =
-        let c = pointer_code a known rs in
-        moved_code op n c (type_of b) (term_code b known c.used)
-    pointer_code (logic.Cast at t r to a) known rs = pointer_code a known rs
-    pointer_code (logic.Choice at t r c a b) known rs =
-        let z = pred_code c known rs in
-        let x = pointer_code a (known ++ sure_readings c) z.used in
-        branch_pointer z x (pointer_code b (known ++ sure_readings c) x.used)
-    pointer_code (logic.Told at t r f a) known rs = told_pointer (pointer_code a known rs)
-    pointer_code _ known rs = no_pointer_code rs
+    pointer_code (logic.Null at t r) held known rs = start_pointer null rs
+    pointer_code (logic.Deref at t r a) held known rs = pointer_there false t (pointer_code a held known rs)
+    pointer_code (logic.Member at t r d a) held known rs = pointer_there false t (member_code d (place_code a held known rs))
+    pointer_code (logic.Address at t r a) held known rs = place_code a held known rs
+    pointer_code (logic.Moved at t r op n a b) held known rs =
+        let c = pointer_code a held known rs in
+        moved_code op n c (type_of b) (term_code b held known c.used)
+    pointer_code (logic.Cast at t r to a) held known rs = pointer_code a held known rs
+    pointer_code (logic.Choice at t r c a b) held known rs =
+        let z = pred_code c held known rs in
+        let x = pointer_code a held (known ++ sure_readings c) z.used in
+        branch_pointer z x (pointer_code b held (known ++ sure_readings c) x.used)
+    pointer_code (logic.Told at t r f a) held known rs = told_pointer (pointer_code a held known rs)
+    pointer_code (logic.Named at t r x) held known rs = held_pointer (held_by x.decl held) rs
+    pointer_code (logic.At at t r Here a) held known rs = pointer_code a held known rs
+    pointer_code (logic.At at t r Pre a) held known rs = kept_pointer (kept_at (place_of_term a).offset plan) rs
+    pointer_code (logic.At at t r (Marked l) a) held known rs = kept_pointer (kept_at (place_of_term a).offset plan) rs
+    pointer_code _ held known rs = no_pointer_code rs
 
     -- where a place stands
-    pub place_code : LogicTerm → List Reading → List MonType → PointerCode
-    place_code (logic.Variable at t r x) known rs = start_pointer (pointer_to p bound x.decl) rs
-    place_code (logic.Deref at t r a) known rs = pointer_code a known rs
-    place_code (logic.Member at t r d a) known rs = member_code d (place_code a known rs)
-    place_code _ known rs = no_pointer_code rs
+    pub place_code : LogicTerm → List Held → List Reading → List MonType → PointerCode
+    place_code (logic.Variable at t r x) held known rs = start_pointer (pointer_to p bound x.decl) rs
+    place_code (logic.Deref at t r a) held known rs = pointer_code a held known rs
+    place_code (logic.Member at t r d a) held known rs = member_code d (place_code a held known rs)
+    place_code _ held known rs = no_pointer_code rs
 
-    pub zone_code : Zone → List Reading → List MonType → ZoneCode
-    zone_code (logic.Object at n m a) known rs = object_code n (pointer_code a known rs)
-    zone_code (logic.Elements at n m a lo hi) known rs =
-        let c = pointer_code a known rs in
-        let x = term_code lo known c.used in
-        elements_code n c (type_of lo) (type_of hi) x (term_code hi known x.used)
+    pub zone_code : Zone → List Held → List Reading → List MonType → ZoneCode
+    zone_code (logic.Object at n m a) held known rs = object_code n (pointer_code a held known rs)
+    zone_code (logic.Elements at n m a lo hi) held known rs =
+        let c = pointer_code a held known rs in
+        let x = term_code lo held known c.used in
+        elements_code n c (type_of lo) (type_of hi) x (term_code hi held known x.used)
 
-    pub zones_code : Zones → List Reading → List MonType → ZonesCode
-    zones_code NoZone known rs = no_zones rs
-    zones_code (Another z rest) known rs =
-        let c = zone_code z known rs in
-        another_zone c (zones_code rest known c.pointer.used)
+    pub zones_code : Zones → List Held → List Reading → List MonType → ZonesCode
+    zones_code NoZone held known rs = no_zones rs
+    zones_code (Another z rest) held known rs =
+        let c = zone_code z held known rs in
+        another_zone c (zones_code rest held known c.pointer.used)
 
     -- a chain from its first side on, whose code this is
-    pub chain_code : LogicTerm → Side → Links → List Reading → Code
-    chain_code t x NoLink known = record { stmts = stmts_of x; flag = None; value = Constant I32 (pos 1); used = used_by x }
-    chain_code t x (Linked at r u NoLink) known =
-        related_code r t u x (side_by (is_pointer_term u) (pointer_code u known (used_by x)) (term_code u known (used_by x)))
-    chain_code t x (Linked at r u (Linked at2 r2 v rest)) known =
-        let y = side_by (is_pointer_term u) (pointer_code u known (used_by x)) (term_code u known (used_by x)) in
+    pub chain_code : LogicTerm → Side → Links → List Held → List Reading → Code
+    chain_code t x NoLink held known = record { stmts = stmts_of x; flag = None; value = Constant I32 (pos 1); used = used_by x }
+    chain_code t x (Linked at r u NoLink) held known =
+        related_code r t u x (side_by (is_pointer_term u) (pointer_code u held known (used_by x)) (term_code u held known (used_by x)))
+    chain_code t x (Linked at r u (Linked at2 r2 v rest)) held known =
+        let y = side_by (is_pointer_term u) (pointer_code u held known (used_by x)) (term_code u held known (used_by x)) in
         let z = related_code r t u x y in
-        connected connective.And z (chain_code u (again y z.used) (Linked at2 r2 v rest) (known ++ (sure_readings_of_term t ++ sure_readings_of_term u)))
+        connected connective.And z (chain_code u (again y z.used) (Linked at2 r2 v rest) held (known ++ (sure_readings_of_term t ++ sure_readings_of_term u)))
 
-    pub pred_code : Predicate → List Reading → List MonType → Code
-    pred_code (logic.Truth at b) known rs = truth_code b rs
-    pred_code (logic.NonZero at t) known rs =
-        let x = term_code t known rs in
+    pub pred_code : Predicate → List Held → List Reading → List MonType → Code
+    pred_code (logic.Truth at b) held known rs = truth_code b rs
+    pred_code (logic.NonZero at t) held known rs =
+        let x = term_code t held known rs in
         with_value (Binary Ne (type_of t) x.value (Constant (type_of t) (pos 0))) x
-    pred_code (logic.Chain at t links) known rs =
-        chain_code t (side_by (is_pointer_term t) (pointer_code t known rs) (term_code t known rs)) links known
-    pred_code (logic.Not at q) known rs =
-        let x = pred_code q known rs in
+    pred_code (logic.Chain at t links) held known rs =
+        chain_code t (side_by (is_pointer_term t) (pointer_code t held known rs) (term_code t held known rs)) links held known
+    pred_code (logic.Not at q) held known rs =
+        let x = pred_code q held known rs in
         with_value (Binary Eq I32 x.value (Constant I32 (pos 0))) x
-    pred_code (logic.Connected at c a b) known rs =
-        let x = pred_code a known rs in
-        connected c x (pred_code b (known_at_right c known a) x.used)
-    pred_code (logic.Branch at c a b) known rs =
-        let z = pred_code c known rs in
-        let x = pred_code a (known ++ sure_readings c) z.used in
-        branch I32 z x (pred_code b (known ++ sure_readings c) x.used)
-    pred_code (logic.Asks at f z) known rs = zone_asked f (alignment_of z) (zone_code z known rs)
-    pred_code (logic.Separated at zs) known rs = separated_code (zones_code zs known rs)
+    pred_code (logic.Connected at c a b) held known rs =
+        let x = pred_code a held known rs in
+        connected c x (pred_code b held (known_at_right c known a) x.used)
+    pred_code (logic.Branch at c a b) held known rs =
+        let z = pred_code c held known rs in
+        let x = pred_code a held (known ++ sure_readings c) z.used in
+        branch I32 z x (pred_code b held (known ++ sure_readings c) x.used)
+    pred_code (logic.Asks at f z) held known rs = zone_asked f (alignment_of z) (zone_code z held known rs)
+    pred_code (logic.Separated at zs) held known rs = separated_code (zones_code zs held known rs)
     -- quantifiers have no code yet
-    pred_code (logic.Quantified at quantifier guards q) known rs = truth_code false rs
+    pred_code (logic.Quantified at quantifier guards q) held known rs = truth_code false rs
 
   -- a side of a relation
-  abbrev pub side_code : LogicTerm → List Reading → List MonType → Side
-  side_code t known rs = side_by (is_pointer_term t) (pointer_code t known rs) (term_code t known rs)
+  abbrev pub side_code : LogicTerm → List Held → List Reading → List MonType → Side
+  side_code t held known rs = side_by (is_pointer_term t) (pointer_code t held known rs) (term_code t held known rs)
 
 -- ---- the flag and the truth in registers
 
@@ -330,8 +334,8 @@ judged_with None c = judged_anew (Constant I32 (pos 1)) c
 judged_with (Some e) c = judged_anew e c
 
 -- the code of a predicate, after registers of these types
-abbrev pub judgement : TranslationUnit → Bindings → Predicate → List MonType → Judgement
-judgement p bound q rs = let x = pred_code p bound q [] rs in judged_with x.flag x
+abbrev pub judgement : TranslationUnit → Bindings → List Kept → List Held → Predicate → List MonType → Judgement
+judgement p bound plan held q rs = let x = pred_code p bound plan q held [] rs in judged_with x.flag x
 
 -- ---- annotations
 
@@ -339,27 +343,28 @@ judgement p bound q rs = let x = pred_code p bound q [] rs in judged_with x.flag
 abbrev pub nothing_said : List MonType → Judgement
 nothing_said rs = judged_anew (Constant I32 (pos 0)) (truth_code false rs)
 
-abbrev pub clause_judgement : TranslationUnit → Bindings → ClauseBody → List MonType → Judgement
-clause_judgement p bound (Raw f) rs = nothing_said rs
-clause_judgement p bound (Holds q) rs = judgement p bound q rs
-clause_judgement p bound (Value t) rs = nothing_said rs
-clause_judgement p bound (Behaviors names) rs = nothing_said rs
+abbrev pub clause_judgement : TranslationUnit → Bindings → List Kept → List Held → ClauseBody → List MonType → Judgement
+clause_judgement p bound plan held (Raw f) rs = nothing_said rs
+clause_judgement p bound plan held (Holds q) rs = judgement p bound plan held q rs
+clause_judgement p bound plan held (Value t) rs = nothing_said rs
+clause_judgement p bound plan held (Behaviors names) rs = nothing_said rs
 
 -- an annotation is judged, and stops the run where it says nothing or is false
 abbrev pub asserted : Annotation → Judgement → MonStatements
 asserted a j = before j.stmts (one (Assert (Register j.flag) (Register j.truth) a.number a.place.line a.kind))
 
-abbrev pub assertion : TranslationUnit → Bindings → List MonType → Annotation → MonStatements
-assertion p bound rs a = asserted a (clause_judgement p bound a.body rs)
+abbrev pub assertion : TranslationUnit → Bindings → List Kept → List Held → List MonType → Annotation → MonStatements
+assertion p bound plan held rs a = asserted a (clause_judgement p bound plan held a.body rs)
 
 -- the types of all registers that are taken after it
-abbrev pub behind_assertion : TranslationUnit → Bindings → List MonType → Annotation → List MonType
-behind_assertion p bound rs a = (clause_judgement p bound a.body rs).used
+abbrev pub behind_assertion : TranslationUnit → Bindings → List Kept → List Held → List MonType → Annotation → List MonType
+behind_assertion p bound plan held rs a = (clause_judgement p bound plan held a.body rs).used
 
-abbrev pub assertions : TranslationUnit → Bindings → List MonType → List Annotation → MonStatements
-assertions p bound rs [] = NoStatement
-assertions p bound rs (a ∷ rest) = before (assertion p bound rs a) (assertions p bound (behind_assertion p bound rs a) rest)
+abbrev pub assertions : TranslationUnit → Bindings → List Kept → List Held → List MonType → List Annotation → MonStatements
+assertions p bound plan held rs [] = NoStatement
+assertions p bound plan held rs (a ∷ rest) =
+    before (assertion p bound plan held rs a) (assertions p bound plan held (behind_assertion p bound plan held rs a) rest)
 
-abbrev pub behind_assertions : TranslationUnit → Bindings → List MonType → List Annotation → List MonType
-behind_assertions p bound rs [] = rs
-behind_assertions p bound rs (a ∷ rest) = behind_assertions p bound (behind_assertion p bound rs a) rest
+abbrev pub behind_assertions : TranslationUnit → Bindings → List Kept → List Held → List MonType → List Annotation → List MonType
+behind_assertions p bound plan held rs [] = rs
+behind_assertions p bound plan held rs (a ∷ rest) = behind_assertions p bound plan held (behind_assertion p bound plan held rs a) rest

@@ -1,9 +1,11 @@
 -- What the code of a predicate does, over the blocks of the source's store: its flag register says whether the predicate says something, and its truth
 -- register whether that is true.
-use Rattle.std.specs.Prelude.{◌≡◌, ℕ, ◌≤◌, ℤ, pos, Bool, true, false, List, [], length, Option, Some, None, slice_get}
+use Rattle.std.specs.Prelude.{◌≡◌, ℕ, ◌+◌, ◌≤◌, ℤ, pos, Bool, true, false, List, [], length, Option, Some, None, slice_get}
+use Rattle.c_syntax.specs.declared.annotation.Range.{Range}
 use Rattle.c_syntax.specs.declared.types.CInt.{CInt}
 use Rattle.c_syntax.specs.declared.logic.BlockFact.{BlockFact}
 use Rattle.c_syntax.specs.declared.logic.BlockFact.TheVariants.{BaseAddr, BlockLength, Offset}
+use Rattle.c_syntax.specs.declared.logic.Label.TheVariants.{Here, Pre, Marked}
 use Rattle.c_syntax.specs.Ctypes.{PlainType, Int}
 use Rattle.c_syntax.specs.Ctypes as ctype
 use Rattle.c_syntax.specs.Formulas.{CastType, Integers, OfC}
@@ -14,11 +16,11 @@ use Rattle.c_model.specs.Integers.{truth as number_of}
 use Rattle.c_model.specs.Memory.{Pointer, Into, Value, Integer, Points, Store}
 use Rattle.c_model.specs.MemoryQuestions.{Address}
 use Rattle.c_model.specs.Together.{AllTogether}
-use Rattle.c_model.specs.Logic.{Mathematical, Environment, Answer, Says, SaysNothing, OutOfSteps, said}
+use Rattle.c_model.specs.Logic.{Mathematical, Environment, look, meant, of_value, Answer, Says, SaysNothing, OutOfSteps, said}
 use Rattle.c_model.specs.Predicates.{term, pred}
 use Rattle.c_model.specs.Ranges.{LiesIn, IsWithin128}
 use Rattle.c_model.specs.State.{State, Scope, find}
-use Rattle.c_model.specs.TermRanges.{Seen, TermRanged, PredicateRanged}
+use Rattle.c_model.specs.TermRanges.{Seen, range_seen, TermRanged, PredicateRanged}
 use Rattle.c_model.specs.TypedPredicates.{IsCastType}
 use Rattle.mon_syntax.specs.declared.tree.MonType.{MonType}
 use Rattle.mon_syntax.specs.Arithmetic.{access_bytes}
@@ -32,7 +34,12 @@ use Rattle.c_effects.specs.Expressions.{pointer_to}
 use Rattle.c_simulation.specs.SameRegisters.{Same}
 use Rattle.mem_preds.specs.Questions.{size_of}
 use Rattle.mem_preds.specs.Reads.{AreSmall, IsSmall, pointer_held}
+use Rattle.c_model.specs.PredicateTyping.{place_of_term}
+use Rattle.mon_syntax.specs.declared.tree.MonType.TheVariants.{Ptr}
+use Rattle.mon_syntax.specs.Checking.{same_type}
+use Rattle.c_simulation.specs.Keeping.{Kept, GivesTerm, kept_value, registers_of}
 use Rattle.annot_code.specs.Code.{is_pointer_term, Judgement, judgement}
+use Rattle.annot_code.specs.Held.{Held, Sorted, held_by, kept_at, sort_held, sorts_held}
 
 abbrev pub Target : Type 0
 Target = monitored.State Blocks
@@ -41,19 +48,27 @@ abbrev pub Did : Type 0
 Did = Result Target (Flow Value)
 
 -- where code runs: the program, the registers bound to its variables, all of them below `low`, the pointers to globals, what calls do and how many turns
--- loops make, the state of the source, what names of annotations stand for there and the ranges that they keep, the state of the target, and the registers
+-- loops make, the state of the source, the state of the target, and the registers
 pub record Setting : Type 0 where
   pub unit : TranslationUnit
   pub bound : Bindings
+  -- the terms that are kept
+  pub plan : List Kept
   pub low : ℕ
   pub globals : List Value
   pub calls : monitored.Calls over_blocks
   pub turns : ℕ
   pub now : State
+  -- what names of annotations stand for there, in which registers, and the ranges that they keep
   pub names : Environment
+  pub held : List Held
   pub seen : Seen
   pub target : Target
   pub regs : List Value
+
+-- the same place with so many steps left
+abbrev pub with_steps : ℕ → Setting → Setting
+with_steps n w = record w { target = record w.target { steps = n } }
 
 -- what statements do there
 abbrev pub runs : Setting → MonStatements → List Value → Did
@@ -65,11 +80,32 @@ pub record IsSound (store : Store) : Type 0 where
   pub together : AllTogether store
   pub bounded : (x : Address) (p : Pointer) → pointer_held store x ≡ Some (Points p) → IsSmall p
 
--- the target has the source's blocks, and points to those of the variables in sight
+-- a number that is no pointer's, or a small pointer
+abbrev pub IsSorted : Bool → Value → Type 0
+IsSorted false v = (z : ℤ) × (v ≡ Integer z)
+IsSorted true v = (p : Pointer) × (v ≡ Points p) × IsSmall p
+
+-- a name has the value that its register holds
+pub record IsHeld (w : Setting) (x : ℕ) (h : Held) : Type 0 where
+  pub value : Value
+  pub sorted : IsSorted (same_type h.kind Ptr) value
+  -- the start of a pointer lies in its range
+  pub starts : same_type h.kind Ptr ≡ true → (r : Range) → range_seen x w.seen ≡ Some r → LiesIn r (pos 0)
+  pub is : meant w.now (look x w.names) ≡ of_value (Some value)
+  pub holds : (later : List Value) → Same w.low w.regs later → slice_get later h.register ≡ Some value
+
+-- a kept term has registers below `low`, which hold what the marks say
+pub record HasKept (w : Setting) (k : Kept) : Type 0 where
+  pub below : k.register + registers_of k.term ≤ w.low
+  pub gives : GivesTerm k.term (kept_value k w.now.marks) k.register w.regs
+
+-- the target has the source's blocks, and points to those of the variables in sight; registers hold what names stand for, and what the marks say
 pub record Stands (w : Setting) : Type 0 where
   pub store_is : w.target.mem.store ≡ w.now.store
   pub points : (x number : ℕ) → find x w.now.scope ≡ Some number → (later : List Value) → Same w.low w.regs later
       → eval over_blocks w.globals (pointer_to w.unit w.bound x) later w.target.mem ≡ Some (Points (Into number 0))
+  pub held : (x : ℕ) (h : Held) → held_by x w.held ≡ Some h → IsHeld w x h
+  pub keeps : (at : ℕ) (k : Kept) → kept_at at w.plan ≡ Some k → HasKept w k
   pub sound : IsSound w.now.store
 
 -- ---- what code is made of
@@ -115,75 +151,94 @@ abbrev pub found_by : Bool → Type 0 → Type 0 → Type 0
 found_by true p n = p
 found_by false p n = n
 
--- the variables that are read are in sight; terms are of the sorts that their forms want, and there are no quantifiers, labels and names of their own
+-- a term that is kept at a label, under the offset of its place
+pub record Planned (ks : List Kept) (l : Option ℕ) (a : LogicTerm) : Type 0 where
+  pub entry : Kept
+  pub is : kept_at (place_of_term a).offset ks ≡ Some entry
+  pub label_is : entry.label ≡ l
+  pub term_is : entry.term ≡ a
+
+-- the variables and the names that are read are in sight; terms are of the sorts that their forms want, and there are no quantifiers
 abbrev mutual
   -- an integer
-  pub TermFound : Scope → LogicTerm → Type 0
-  TermFound scope (logic.Number at t r n) = Unit {0}
-  TermFound scope (logic.Letter at t r n) = Unit {0}
-  TermFound scope (logic.Variable at t r x) = HasIntegers t × (number : ℕ) × (find x.decl scope ≡ Some number)
-  TermFound scope (logic.Unary at t r op a) = TermFound scope a
-  TermFound scope (logic.Binary at t r op a b) = TermFound scope a × TermFound scope b
-  TermFound scope (logic.Cast at t r to a) = IsCastType to × TermFound scope a
-  TermFound scope (logic.Choice at t r c a b) = PredicateFound scope c × TermFound scope a × TermFound scope b
-  TermFound scope (logic.Deref at t r a) = HasIntegers t × PointerFound scope a
-  TermFound scope (logic.Member at t r d a) = HasIntegers t × PlaceFound scope a
+  pub TermFound : List Kept → Scope → Sorted → LogicTerm → Type 0
+  TermFound ks scope ns (logic.Number at t r n) = Unit {0}
+  TermFound ks scope ns (logic.Letter at t r n) = Unit {0}
+  TermFound ks scope ns (logic.Variable at t r x) = HasIntegers t × (number : ℕ) × (find x.decl scope ≡ Some number)
+  TermFound ks scope ns (logic.Unary at t r op a) = TermFound ks scope ns a
+  TermFound ks scope ns (logic.Binary at t r op a b) = TermFound ks scope ns a × TermFound ks scope ns b
+  TermFound ks scope ns (logic.Cast at t r to a) = IsCastType to × TermFound ks scope ns a
+  TermFound ks scope ns (logic.Choice at t r c a b) = PredicateFound ks scope ns c × TermFound ks scope ns a × TermFound ks scope ns b
+  TermFound ks scope ns (logic.Deref at t r a) = HasIntegers t × PointerFound ks scope ns a
+  TermFound ks scope ns (logic.Member at t r d a) = HasIntegers t × PlaceFound ks scope ns a
   -- no element has no bytes
-  TermFound scope (logic.Difference at t r n a b) = (1 ≤ n) × PointerFound scope a × PointerFound scope b
-  TermFound scope (logic.Told at t r f a) = IsNumberFact f × PointerFound scope a
-  TermFound scope _ = ⊥
+  TermFound ks scope ns (logic.Difference at t r n a b) = (1 ≤ n) × PointerFound ks scope ns a × PointerFound ks scope ns b
+  TermFound ks scope ns (logic.Told at t r f a) = IsNumberFact f × PointerFound ks scope ns a
+  TermFound ks scope ns (logic.Named at t r x) = sort_held x.decl ns ≡ Some false
+  TermFound ks scope ns (logic.At at t r Here a) = TermFound ks scope ns a
+  -- it is kept, and no name and no label stands in it; what it reads was in sight where its label stands
+  TermFound ks scope ns (logic.At at t r Pre a) = Planned ks None a × (there : Scope) × TermFound [] there [] a
+  TermFound ks scope ns (logic.At at t r (Marked l) a) = Planned ks (Some l) a × (there : Scope) × TermFound [] there [] a
+  TermFound ks scope ns _ = ⊥
 
   -- a pointer
-  pub PointerFound : Scope → LogicTerm → Type 0
-  PointerFound scope (logic.Variable at t r x) = HasPointers t × (number : ℕ) × (find x.decl scope ≡ Some number)
-  PointerFound scope (logic.Null at t r) = Unit {0}
-  PointerFound scope (logic.Deref at t r a) = HasPointers t × PointerFound scope a
-  PointerFound scope (logic.Member at t r d a) = HasPointers t × PlaceFound scope a
-  PointerFound scope (logic.Address at t r a) = PlaceFound scope a
-  PointerFound scope (logic.Moved at t r op n a b) = PointerFound scope a × TermFound scope b
-  PointerFound scope (logic.Cast at t r to a) = GivesPointers to × PointerFound scope a
-  PointerFound scope (logic.Choice at t r c a b) = PredicateFound scope c × PointerFound scope a × PointerFound scope b
-  PointerFound scope (logic.Told at t r f a) = IsPointerFact f × PointerFound scope a
-  PointerFound scope _ = ⊥
+  pub PointerFound : List Kept → Scope → Sorted → LogicTerm → Type 0
+  PointerFound ks scope ns (logic.Variable at t r x) = HasPointers t × (number : ℕ) × (find x.decl scope ≡ Some number)
+  PointerFound ks scope ns (logic.Null at t r) = Unit {0}
+  PointerFound ks scope ns (logic.Deref at t r a) = HasPointers t × PointerFound ks scope ns a
+  PointerFound ks scope ns (logic.Member at t r d a) = HasPointers t × PlaceFound ks scope ns a
+  PointerFound ks scope ns (logic.Address at t r a) = PlaceFound ks scope ns a
+  PointerFound ks scope ns (logic.Moved at t r op n a b) = PointerFound ks scope ns a × TermFound ks scope ns b
+  PointerFound ks scope ns (logic.Cast at t r to a) = GivesPointers to × PointerFound ks scope ns a
+  PointerFound ks scope ns (logic.Choice at t r c a b) = PredicateFound ks scope ns c × PointerFound ks scope ns a × PointerFound ks scope ns b
+  PointerFound ks scope ns (logic.Told at t r f a) = IsPointerFact f × PointerFound ks scope ns a
+  PointerFound ks scope ns (logic.Named at t r x) = sort_held x.decl ns ≡ Some true
+  PointerFound ks scope ns (logic.At at t r Here a) = PointerFound ks scope ns a
+  PointerFound ks scope ns (logic.At at t r Pre a) = Planned ks None a × (is_pointer_term a ≡ true) × (there : Scope) × PointerFound [] there [] a
+  PointerFound ks scope ns (logic.At at t r (Marked l) a) = Planned ks (Some l) a × (is_pointer_term a ≡ true) × (there : Scope) × PointerFound [] there [] a
+  PointerFound ks scope ns _ = ⊥
 
-  pub PlaceFound : Scope → LogicTerm → Type 0
-  PlaceFound scope (logic.Variable at t r x) = (number : ℕ) × (find x.decl scope ≡ Some number)
-  PlaceFound scope (logic.Deref at t r a) = PointerFound scope a
-  PlaceFound scope (logic.Member at t r d a) = PlaceFound scope a
-  PlaceFound scope _ = ⊥
+  pub PlaceFound : List Kept → Scope → Sorted → LogicTerm → Type 0
+  PlaceFound ks scope ns (logic.Variable at t r x) = (number : ℕ) × (find x.decl scope ≡ Some number)
+  PlaceFound ks scope ns (logic.Deref at t r a) = PointerFound ks scope ns a
+  PlaceFound ks scope ns (logic.Member at t r d a) = PlaceFound ks scope ns a
+  PlaceFound ks scope ns _ = ⊥
 
   -- the alignment is one that questions have
-  pub ZoneFound : Scope → Zone → Type 0
-  ZoneFound scope (logic.Object at n m a) = (access_bytes (size_of m) ≡ m) × PointerFound scope a
-  ZoneFound scope (logic.Elements at n m a lo hi) = (access_bytes (size_of m) ≡ m) × PointerFound scope a × TermFound scope lo × TermFound scope hi
+  pub ZoneFound : List Kept → Scope → Sorted → Zone → Type 0
+  ZoneFound ks scope ns (logic.Object at n m a) = (access_bytes (size_of m) ≡ m) × PointerFound ks scope ns a
+  ZoneFound ks scope ns (logic.Elements at n m a lo hi) =
+      (access_bytes (size_of m) ≡ m) × PointerFound ks scope ns a × TermFound ks scope ns lo × TermFound ks scope ns hi
 
-  pub ZonesFound : Scope → Zones → Type 0
-  ZonesFound scope NoZone = Unit {0}
-  ZonesFound scope (Another z rest) = ZoneFound scope z × ZonesFound scope rest
+  pub ZonesFound : List Kept → Scope → Sorted → Zones → Type 0
+  ZonesFound ks scope ns NoZone = Unit {0}
+  ZonesFound ks scope ns (Another z rest) = ZoneFound ks scope ns z × ZonesFound ks scope ns rest
 
   -- relations behind a side
-  pub LinksFound : Scope → LogicTerm → Links → Type 0
-  LinksFound scope t NoLink = Unit {0}
-  LinksFound scope t (Linked at r u rest) =
-      AreSides (is_pointer_term t) (is_pointer_term u) t u × found_by (is_pointer_term u) (PointerFound scope u) (TermFound scope u) × LinksFound scope u rest
+  pub LinksFound : List Kept → Scope → Sorted → LogicTerm → Links → Type 0
+  LinksFound ks scope ns t NoLink = Unit {0}
+  LinksFound ks scope ns t (Linked at r u rest) =
+      AreSides (is_pointer_term t) (is_pointer_term u) t u × found_by (is_pointer_term u) (PointerFound ks scope ns u)
+      (TermFound ks scope ns u) × LinksFound ks scope ns u rest
 
-  pub PredicateFound : Scope → Predicate → Type 0
-  PredicateFound scope (logic.Truth at b) = Unit {0}
-  PredicateFound scope (logic.NonZero at t) = TermFound scope t
-  PredicateFound scope (logic.Chain at t links) = found_by (is_pointer_term t) (PointerFound scope t) (TermFound scope t) × LinksFound scope t links
-  PredicateFound scope (logic.Not at p) = PredicateFound scope p
-  PredicateFound scope (logic.Connected at c p q) = PredicateFound scope p × PredicateFound scope q
-  PredicateFound scope (logic.Branch at c p q) = PredicateFound scope c × PredicateFound scope p × PredicateFound scope q
-  PredicateFound scope (logic.Quantified at q gs p) = ⊥
-  PredicateFound scope (logic.Asks at f z) = ZoneFound scope z
-  PredicateFound scope (logic.Separated at zs) = ZonesFound scope zs
+  pub PredicateFound : List Kept → Scope → Sorted → Predicate → Type 0
+  PredicateFound ks scope ns (logic.Truth at b) = Unit {0}
+  PredicateFound ks scope ns (logic.NonZero at t) = TermFound ks scope ns t
+  PredicateFound ks scope ns (logic.Chain at t links) =
+      found_by (is_pointer_term t) (PointerFound ks scope ns t) (TermFound ks scope ns t) × LinksFound ks scope ns t links
+  PredicateFound ks scope ns (logic.Not at p) = PredicateFound ks scope ns p
+  PredicateFound ks scope ns (logic.Connected at c p q) = PredicateFound ks scope ns p × PredicateFound ks scope ns q
+  PredicateFound ks scope ns (logic.Branch at c p q) = PredicateFound ks scope ns c × PredicateFound ks scope ns p × PredicateFound ks scope ns q
+  PredicateFound ks scope ns (logic.Quantified at q gs p) = ⊥
+  PredicateFound ks scope ns (logic.Asks at f z) = ZoneFound ks scope ns z
+  PredicateFound ks scope ns (logic.Separated at zs) = ZonesFound ks scope ns zs
 
-abbrev pub SideFound : Scope → LogicTerm → Type 0
-SideFound scope t = found_by (is_pointer_term t) (PointerFound scope t) (TermFound scope t)
+abbrev pub SideFound : List Kept → Scope → Sorted → LogicTerm → Type 0
+SideFound ks scope ns t = found_by (is_pointer_term t) (PointerFound ks scope ns t) (TermFound ks scope ns t)
 
 -- terms that keep their ranges have their values there, where names keep these
-pub record RangesHold (m : Seen) (s : State) (e : Environment) : Type 0 where
-  pub lies : (t : LogicTerm) → TermFound s.scope t → TermRanged m t → (z : ℤ) → term t s e ≡ Some (Mathematical z) → LiesIn (range_of t) z
+pub record RangesHold (ks : List Kept) (ns : Sorted) (m : Seen) (s : State) (e : Environment) : Type 0 where
+  pub lies : (t : LogicTerm) → TermFound ks s.scope ns t → TermRanged m t → (z : ℤ) → term t s e ≡ Some (Mathematical z) → LiesIn (range_of t) z
   pub within : (t : LogicTerm) → TermRanged m t → IsWithin128 (range_of t)
 
 -- ---- what statements come to
@@ -217,10 +272,13 @@ Judges w rs j OutOfSteps = IsSpent w j.stmts
 -- so it is for each predicate that keeps its ranges, where there are registers enough
 abbrev pub CodeJudges : Type 0
 CodeJudges =
-    (w : Setting) (p : Predicate) (rs : List MonType) → Stands w → RangesHold w.seen w.now w.names → PredicateRanged w.seen p → PredicateFound w.now.scope p
-    → w.low ≤ length rs → length (judgement w.unit w.bound p rs).used ≤ length w.regs
-    → Judges w rs (judgement w.unit w.bound p rs) (pred p w.now w.names w.target.steps)
+    (w : Setting) (p : Predicate) (rs : List MonType) → Stands w → RangesHold w.plan (sorts_held w.held) w.seen w.now w.names → PredicateRanged w.seen p
+    → PredicateFound w.plan w.now.scope (sorts_held w.held) p
+    → w.low ≤ length rs → length (judgement w.unit w.bound w.plan w.held p rs).used ≤ length w.regs
+    → Judges w rs (judgement w.unit w.bound w.plan w.held p rs) (pred p w.now w.names w.target.steps)
 
 -- these predicates take no step: the answer is the same for all
 abbrev pub TakesNoStep : Type 0
-TakesNoStep = (p : Predicate) (s : State) (e : Environment) → PredicateFound s.scope p → (says : Option Bool) × ((n : ℕ) → pred p s e n ≡ said says n)
+TakesNoStep =
+    (ks : List Kept) (ns : Sorted) (p : Predicate) (s : State) (e : Environment) → PredicateFound ks s.scope ns p
+    → (says : Option Bool) × ((n : ℕ) → pred p s e n ≡ said says n)

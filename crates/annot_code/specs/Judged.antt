@@ -1,27 +1,29 @@
 -- What the code that judges a predicate does, and that it is valid, where it is made after these names.
-use Rattle.std.specs.Prelude.{◌≡◌, ℕ, ◌≤◌, length, List, [], Option}
+use Rattle.std.specs.Prelude.{◌≡◌, ℕ, ◌≤◌, length, List, Option}
 use Rattle.c_syntax.specs.Logic.{Predicate}
 use Rattle.c_model.specs.Formed.{tokens_of_predicate}
 use Rattle.c_model.specs.Predicates.{pred}
-use Rattle.c_model.specs.TermRanges.{PredicateRanged}
+use Rattle.c_model.specs.TermRanges.{Seen, PredicateRanged}
 use Rattle.mon_syntax.specs.declared.tree.MonType.{MonType}
 use Rattle.mon_syntax.specs.Registers.{Names}
 use Rattle.mon_syntax.specs.Valid.{Types, Labels, Signature}
 use Rattle.c_effects.specs.Named.{unit_of}
+use Rattle.c_simulation.specs.Keeping.{Kept}
 use Rattle.annot_code.specs.Code.{Judgement}
+use Rattle.annot_code.specs.Held.{Held, sorts_held}
 use Rattle.annot_code.specs.Does.{Setting, Stands, RangesHold, PredicateFound, Judges}
 use Rattle.annot_code.specs.Validity.{PredicateWritable, Begins, IsValidCode}
 
 -- it judges each predicate that keeps its ranges and whose variables are in sight, where there are registers enough
-abbrev pub JudgesIn : Names → Predicate → Judgement → Type 0
-JudgesIn n q j =
-    (w : Setting) → w.unit ≡ unit_of n → w.bound ≡ n.table.bound → Stands w → RangesHold w.seen w.now w.names → PredicateRanged w.seen q
-    → PredicateFound w.now.scope q → w.low ≤ length n.table.kinds → length j.used ≤ length w.regs
-    → Judges w n.table.kinds j (pred q w.now w.names w.target.steps)
+abbrev pub JudgesIn : Names → List Kept → List Held → Predicate → Judgement → Type 0
+JudgesIn n plan held q j =
+    (w : Setting) → w.unit ≡ unit_of n → w.bound ≡ n.table.bound → w.plan ≡ plan → w.held ≡ held → Stands w
+    → RangesHold w.plan (sorts_held w.held) w.seen w.now w.names → PredicateRanged w.seen q → PredicateFound w.plan w.now.scope (sorts_held w.held) q
+    → w.low ≤ length n.table.kinds → length j.used ≤ length w.regs → Judges w n.table.kinds j (pred q w.now w.names w.target.steps)
 
 -- among any functions and in any of them, for each predicate that keeps its ranges and can be written
-abbrev pub IsValidIn : Names → Predicate → Judgement → Type 0
-IsValidIn n q j =
-    (globals : ℕ) (gs : List Signature) (ts : Types) (result : Option MonType) (ls : Labels)
-    → PredicateRanged [] q → PredicateWritable (unit_of n) n.table.bound globals ts q → tokens_of_predicate q ≤ 400 → Begins j.used ts
+abbrev pub IsValidIn : Names → List Kept → List Held → Predicate → Judgement → Type 0
+IsValidIn n plan held q j =
+    (seen : Seen) (globals : ℕ) (gs : List Signature) (ts : Types) (result : Option MonType) (ls : Labels)
+    → PredicateRanged seen q → PredicateWritable (unit_of n) n.table.bound plan globals ts held q → tokens_of_predicate q ≤ 400 → Begins j.used ts
     → IsValidCode globals gs ts result ls j

@@ -113,6 +113,10 @@ branch t c a b =
     taken (before c.stmts (guarded c.flag (one (If c.value (before a.stmts (take a.flag a.value r)) (before b.stmts (take b.flag b.value r)))) (take_none r)))
     t b.used
 
+-- a value in a register, where it opens no parenthesis
+abbrev pub settled : MonType → Code → Code
+settled t c = taken (before c.stmts (take c.flag c.value (length c.used))) t c.used
+
 -- ---- widths
 
 abbrev pub type_of_width : Width → MonType

@@ -16,25 +16,27 @@ use Rattle.c_syntax.specs.declared.logic.Zone as declared_logic_zone
 use Rattle.c_syntax.specs.declared.logic.Zones as declared_logic_zones
 use Rattle.c_syntax.specs.Ctypes.{PlainType}
 use Rattle.c_syntax.specs.Formulas.{CastType}
-use Rattle.c_syntax.specs.Logic.{LogicTerm, Links, Linked, Zone, Zones, Another, Predicate, Annotation}
+use Rattle.c_syntax.specs.Logic.{LogicTerm, Links, Linked, Zone, Zones, Another, Predicate, ClauseBody, Annotation}
 use Rattle.c_syntax.specs.Logic.{plain_links, plain_pred, plain_term, plain_zone_kind, plain_zones}
 use Rattle.c_syntax.specs.Logic as logic
 use Rattle.c_syntax.specs.Programs.{TranslationUnit}
 use Rattle.c_model.specs.Places.{first_place}
 use Rattle.c_model.specs.Ranges.{width_of_range}
-use Rattle.mon_syntax.specs.declared.tree.MonOp.TheVariants.{Add, And, Div, Eq, Sub}
+use Rattle.mon_syntax.specs.declared.tree.MonOp.TheVariants.{Add, And, Div, Eq, Or, Sub}
 use Rattle.mon_syntax.specs.declared.tree.MonType.{MonType}
 use Rattle.mon_syntax.specs.declared.tree.MonType.TheVariants.{I32, I64, I128, Ptr}
 use Rattle.mon_syntax.specs.Registers.{Bindings, Names, with_table}
-use Rattle.mon_syntax.specs.Trees.{MonExpression, Register, Constant, Binary, Set, If, MonStatements, NoStatement, Then, plain_expr, plain_stmts}
+use Rattle.mon_syntax.specs.Trees.{MonExpression, Register, Constant, Binary, Set, If, MonStatement, MonStatements, NoStatement, Then, plain_expr, plain_stmts}
 use Rattle.c_effects.specs.Expressions.{before, one, set, in_type, pointer_to}
 use Rattle.c_effects.specs.Named.{unit_of}
 use Rattle.mem_preds.specs.declared.question.Question.TheVariants as question
 use Rattle.mem_preds.specs.declared.ranges.Bytes.{Bytes}
 use Rattle.mem_preds.specs.Questions.{read_at}
 use Rattle.annot_code.specs.declared.judge.Judged.{Judged}
+use Rattle.annot_code.specs.declared.plan.Stored.{Stored}
 use Rattle.annot_code.specs.declared.piece.Code as declared
 use Rattle.annot_code.specs.declared.pointer.PointerCode as declared_pointer
+use Rattle.annot_code.specs.declared.reading.Known as declared_known
 use Rattle.annot_code.specs.declared.reading.Reading as declared_reading
 use Rattle.annot_code.specs.declared.side.Side as declared_side
 use Rattle.annot_code.specs.declared.side.Side.TheVariants as side
@@ -44,9 +46,13 @@ use Rattle.annot_code.specs.declared.zone.ZonesCode as declared_zones
 use Rattle.annot_code.specs.Code.{Code, Judgement, Reading, Side, OfNumber, OfPointer, again, conjunction, connected, guarded, is_known, judged_anew}
 use Rattle.annot_code.specs.Code.{judged_by, related_code, relation_operator, stmts_of, used_by, sure_readings_of_term, take, take_none, term_type}
 use Rattle.annot_code.specs.Code.{type_of, type_of_width, width_of, working, term_code, pointer_code, place_code, zone_code, zones_code}
-use Rattle.annot_code.specs.Code.{side_code, chain_code, pred_code, assertion, assertions, behind_assertion, behind_assertions}
-use Rattle.annot_code.specs.Pointers.{PointerCode, ZoneCode, ZonesCode, asked_there, told_there, equality_code, no_offset, offsets_asked, offsets_code}
-use Rattle.annot_code.specs.Pointers.{one_byte, pointer_there, start_pointer, sure_pointer, take_pointer}
+use Rattle.annot_code.specs.Code.{side_code, chain_code, pred_code, judgement, clause_judgement, assertion, assertions, behind_assertion, behind_assertions}
+use Rattle.annot_code.specs.Code.{no_code, no_pointer_code}
+use Rattle.annot_code.specs.Held.{Held}
+use Rattle.c_simulation.specs.Keeping.{Kept}
+use Rattle.annot_code.specs.Tables.{plain_helds, plain_plan}
+use Rattle.annot_code.specs.Pointers.{PointerCode, ZoneCode, ZonesCode, asked_there, told_there, each_pair, equality_asked, equality_code, no_offset, null}
+use Rattle.annot_code.specs.Pointers.{offsets_asked, offsets_code, one_byte, places_differ, pointer_there, start_pointer, sure_pointer, take_pointer}
 
 -- code after which registers of these types are taken
 abbrev pub code_of : declared.Code → List MonType → Code
@@ -83,6 +89,43 @@ plain_reading x = record { decl = x.decl; kind = x.kind }
 
 abbrev pub plain_readings : List declared_reading.Reading → List Reading
 plain_readings xs = map plain_reading xs
+
+-- ---- what stands in registers
+
+-- a number that is kept with its flag in this register, where it is kept
+abbrev pub number_in : Option ℕ → List MonType → Code
+number_in None rs = no_code rs
+number_in (Some r) rs = record { stmts = NoStatement; flag = Some (Register r); value = Register (suc r); used = rs }
+
+-- a pointer
+abbrev pub pointer_in : Option ℕ → List MonType → PointerCode
+pointer_in None rs = no_pointer_code rs
+pointer_in (Some r) rs =
+    record { stmts = NoStatement; flag = Some (Register r); base = Register (suc r); offset = Register (suc (suc r)); used = rs }
+
+-- What is known where a part is asked: the terms that are kept and the names, whose values stand in registers, and the variables that were read.
+pub record Known : Type 0 where
+  pub plan : List Kept
+  pub held : List Held
+  pub readings : List Reading
+
+-- what stands in registers, with these variables
+abbrev pub stored_with : Stored → List Reading → Known
+stored_with s xs = record { plan = plain_plan s.plan.now.kept.now; held = plain_helds s.held.now; readings = xs }
+
+abbrev pub plain_stored : Stored → Known
+plain_stored s = stored_with s []
+
+abbrev pub plain_known : declared_known.Known → Known
+plain_known k = stored_with k.stored (plain_readings k.readings.now)
+
+-- with these variables
+abbrev pub known_with : List Reading → Known → Known
+known_with xs k = record k { readings = xs }
+
+-- nothing is known
+abbrev pub nothing_known : Known
+nothing_known = record { plan = []; held = []; readings = [] }
 
 -- ---- pieces by the number of their first register; which registers are taken plays no part
 
@@ -143,6 +186,9 @@ equality_value false r = Register (suc r)
 abbrev pub equality_by : Bool → (m n : Bool) → PointerCode → PointerCode → Code
 equality_by same m n c d = equality_code m n (equality_value same (length d.used)) c d
 
+abbrev pub equality_in : ℕ → (m n : Bool) → PointerCode → PointerCode → MonStatements
+equality_in r m n c d = before (before c.stmts d.stmts) (guarded (conjunction c.flag d.flag) (equality_asked m n c d r) (take_none r))
+
 abbrev pub one_block : ℕ → MonExpression
 one_block r = Binary And I32 (Binary And I32 (Register r) (Register (suc r))) (Binary Eq Ptr (Register (suc (suc r))) (Register (suc (suc (suc r)))))
 
@@ -158,36 +204,52 @@ elements_between w n x y = in_type I64 w (Binary Div I64 (Binary Sub I64 x y) (C
 abbrev pub count_of : MonExpression → MonExpression → MonExpression
 count_of low high = Binary Add I128 (Binary Sub I128 high low) (Constant I128 (pos 1))
 
+-- what is asked where a flag is 1, and the answer
+abbrev pub answered_by : ℕ → MonStatements → Option MonExpression → MonStatements → Code
+answered_by r a f on = record { stmts = before a (guarded f on NoStatement); flag = f; value = Register r; used = [] }
+
+-- whether no two of some zones share a byte
+abbrev pub pairs_asked : ℕ → List ZoneCode → MonStatements
+pairs_asked r zs = Then (Set r (Constant I32 (pos 1))) (each_pair r zs)
+
+-- whether two places differ, where the second one is null
+abbrev pub not_null : (p o : MonExpression) → ℕ → MonStatement
+not_null p o r = places_differ p o null no_offset r
+
+-- whether the first answer is 1, or the second one 0
+abbrev pub comparable_value : ℕ → MonExpression
+comparable_value r = Binary Or I32 (Register r) (Binary Eq I32 (Register (suc r)) (Constant I32 (pos 0)))
+
 -- ---- terms and predicates where a function's names are these
 
-abbrev pub term_by : Names → LogicTerm → List Reading → Code
-term_by n t known = term_code (unit_of n) n.table.bound t known n.table.kinds
+abbrev pub term_by : Names → LogicTerm → Known → Code
+term_by n t k = term_code (unit_of n) n.table.bound k.plan t k.held k.readings n.table.kinds
 
-abbrev pub pointer_by : Names → LogicTerm → List Reading → PointerCode
-pointer_by n t known = pointer_code (unit_of n) n.table.bound t known n.table.kinds
+abbrev pub pointer_by : Names → LogicTerm → Known → PointerCode
+pointer_by n t k = pointer_code (unit_of n) n.table.bound k.plan t k.held k.readings n.table.kinds
 
-abbrev pub place_by : Names → LogicTerm → List Reading → PointerCode
-place_by n t known = place_code (unit_of n) n.table.bound t known n.table.kinds
+abbrev pub place_by : Names → LogicTerm → Known → PointerCode
+place_by n t k = place_code (unit_of n) n.table.bound k.plan t k.held k.readings n.table.kinds
 
-abbrev pub zone_by : Names → Zone → List Reading → ZoneCode
-zone_by n z known = zone_code (unit_of n) n.table.bound z known n.table.kinds
+abbrev pub zone_by : Names → Zone → Known → ZoneCode
+zone_by n z k = zone_code (unit_of n) n.table.bound k.plan z k.held k.readings n.table.kinds
 
-abbrev pub zones_by : Names → Zones → List Reading → ZonesCode
-zones_by n zs known = zones_code (unit_of n) n.table.bound zs known n.table.kinds
+abbrev pub zones_by : Names → Zones → Known → ZonesCode
+zones_by n zs k = zones_code (unit_of n) n.table.bound k.plan zs k.held k.readings n.table.kinds
 
-abbrev pub side_by_names : Names → LogicTerm → List Reading → Side
-side_by_names n t known = side_code (unit_of n) n.table.bound t known n.table.kinds
+abbrev pub side_by_names : Names → LogicTerm → Known → Side
+side_by_names n t k = side_code (unit_of n) n.table.bound k.plan t k.held k.readings n.table.kinds
 
 -- a pointer in a variable
-abbrev pub pointer_variable_by : Names → Option PlainType → ℕ → List Reading → PointerCode
-pointer_variable_by n t x known =
-    pointer_there (is_known known (record { decl = x; kind = term_type t })) t (start_pointer (pointer_to (unit_of n) n.table.bound x) n.table.kinds)
+abbrev pub pointer_variable_by : Names → Option PlainType → ℕ → Known → PointerCode
+pointer_variable_by n t x k =
+    pointer_there (is_known k.readings (record { decl = x; kind = term_type t })) t (start_pointer (pointer_to (unit_of n) n.table.bound x) n.table.kinds)
 
-abbrev pub chain_by : Names → LogicTerm → Side → Links → List Reading → Code
-chain_by n t x links known = chain_code (unit_of n) n.table.bound t x links known
+abbrev pub chain_by : Names → LogicTerm → Side → Links → Known → Code
+chain_by n t x links k = chain_code (unit_of n) n.table.bound k.plan t x links k.held k.readings
 
-abbrev pub pred_by : Names → Predicate → List Reading → Code
-pred_by n q known = pred_code (unit_of n) n.table.bound q known n.table.kinds
+abbrev pub pred_by : Names → Predicate → Known → Code
+pred_by n q k = pred_code (unit_of n) n.table.bound k.plan q k.held k.readings n.table.kinds
 
 -- ---- forms by their parts; their own places play no part
 
@@ -262,10 +324,10 @@ abbrev pub ended : Side → Code
 ended x = record { stmts = stmts_of x; flag = None; value = Constant I32 (pos 1); used = used_by x }
 
 -- a relation of the terms of x and y, and the relations after y
-abbrev pub more_links : TranslationUnit → Bindings → Relation → LogicTerm → LogicTerm → Side → Side → Links → List Reading → Code
-more_links p bound r t u x y rest known =
+abbrev pub more_links : TranslationUnit → Bindings → Relation → LogicTerm → LogicTerm → Side → Side → Links → Known → Code
+more_links p bound r t u x y rest k =
     let z = related_code r t u x y in
-    connected connective.And z (chain_code p bound u (again y z.used) rest (known ++ (sure_readings_of_term t ++ sure_readings_of_term u)))
+    connected connective.And z (chain_code p bound k.plan u (again y z.used) rest k.held (k.readings ++ (sure_readings_of_term t ++ sure_readings_of_term u)))
 
 -- ---- the types of an operator
 
@@ -297,15 +359,25 @@ judged_where None e c = judged_anew e c
 
 -- ---- annotations where a function's names are these
 
-abbrev pub assertion_by : Names → Annotation → MonStatements
-assertion_by n a = assertion (unit_of n) n.table.bound n.table.kinds a
+abbrev pub judgement_by : Names → Predicate → Known → Judgement
+judgement_by n q k = judgement (unit_of n) n.table.bound k.plan k.held q n.table.kinds
 
-abbrev pub assertions_by : Names → List Annotation → MonStatements
-assertions_by n annots = assertions (unit_of n) n.table.bound n.table.kinds annots
+abbrev pub clause_by : Names → ClauseBody → Known → Judgement
+clause_by n b k = clause_judgement (unit_of n) n.table.bound k.plan k.held b n.table.kinds
+
+-- the names after which registers of these types are taken
+abbrev pub names_with : List MonType → Names → Names
+names_with rs n = with_table (record n.table { kinds = rs }) n
+
+abbrev pub assertion_by : Names → Known → Annotation → MonStatements
+assertion_by n k a = assertion (unit_of n) n.table.bound k.plan k.held n.table.kinds a
+
+abbrev pub assertions_by : Names → Known → List Annotation → MonStatements
+assertions_by n k annots = assertions (unit_of n) n.table.bound k.plan k.held n.table.kinds annots
 
 -- the names after annotations: further registers are taken
-abbrev pub names_behind_assertion : Annotation → Names → Names
-names_behind_assertion a n = with_table (record n.table { kinds = behind_assertion (unit_of n) n.table.bound n.table.kinds a }) n
+abbrev pub names_behind_assertion : Annotation → Known → Names → Names
+names_behind_assertion a k n = names_with (behind_assertion (unit_of n) n.table.bound k.plan k.held n.table.kinds a) n
 
-abbrev pub names_behind_assertions : List Annotation → Names → Names
-names_behind_assertions annots n = with_table (record n.table { kinds = behind_assertions (unit_of n) n.table.bound n.table.kinds annots }) n
+abbrev pub names_behind_assertions : List Annotation → Known → Names → Names
+names_behind_assertions annots k n = names_with (behind_assertions (unit_of n) n.table.bound k.plan k.held n.table.kinds annots) n

@@ -1,80 +1,112 @@
 -- The code of a predicate is valid monitored C: its types, and how deep it stands.
-use Rattle.std.specs.Prelude.{◌≡◌, ℕ, ◌≤◌, false, List, [], ◌++◌, Option, Some, slice_get}
+use Rattle.std.specs.Prelude.{◌≡◌, ℕ, suc, ◌≤◌, Bool, true, false, List, [], ◌∷◌, ◌++◌, Option, Some, slice_get}
 use Rattle.std.specs.Ordering.{int_eq}
+use Rattle.c_syntax.specs.declared.logic.Label.TheVariants.{Here, Pre, Marked}
 use Rattle.c_syntax.specs.Logic.{LogicTerm, Links, NoLink, Linked, Zone, Zones, NoZone, Another, Predicate}
 use Rattle.c_syntax.specs.Logic as logic
 use Rattle.c_syntax.specs.Programs.{TranslationUnit}
 use Rattle.c_model.specs.Formed.{tokens_of_predicate}
 use Rattle.c_model.specs.Ranges.{least_i128}
-use Rattle.c_model.specs.TermRanges.{PredicateRanged}
+use Rattle.c_model.specs.PredicateTyping.{place_of_term}
+use Rattle.c_model.specs.TermRanges.{Seen, PredicateRanged}
 use Rattle.c_model.specs.TypedPredicates.{IsCastType, IsExtent}
 use Rattle.mon_syntax.specs.declared.tree.MonType.{MonType}
-use Rattle.mon_syntax.specs.declared.tree.MonType.TheVariants.{I32, Ptr}
+use Rattle.mon_syntax.specs.declared.tree.MonType.TheVariants.{I32, I128, Ptr}
+use Rattle.mon_syntax.specs.Checking.{same_type}
 use Rattle.mon_syntax.specs.Registers.{Bindings}
 use Rattle.mon_syntax.specs.Valid.{Types, HasType, AreStatements, Labels, Signature, depth_of_all}
 use Rattle.c_effects.specs.Expressions.{pointer_to}
-use Rattle.annot_code.specs.Code.{is_pointer_term, Judgement, judgement}
+use Rattle.c_simulation.specs.Keeping.{Kept, is_pointer_term}
+use Rattle.annot_code.specs.Code.{Judgement, judgement}
+use Rattle.annot_code.specs.Held.{Held, held_by, kept_at}
+use Rattle.annot_code.specs.Pieces.{type_of}
 use Rattle.annot_code.specs.Does.{HasIntegers, IsNumberFact, found_by}
 use Rattle.annot_code.specs.Inside.{open_in_all}
 
+-- registers of these types stand from a number on
+abbrev pub StandIn : Types → ℕ → List MonType → Type 0
+StandIn ts r [] = Unit {0}
+StandIn ts r (k ∷ ks) = (slice_get ts r ≡ Some k) × StandIn ts (suc r) ks
+
+-- a name has a register of its type, which is that of a pointer or not
+pub record HasRegister (held : List Held) (ts : Types) (x : ℕ) (pointer : Bool) : Type 0 where
+  pub entry : Held
+  pub is : held_by x held ≡ Some entry
+  pub sorted : same_type entry.kind Ptr ≡ pointer
+  pub typed : slice_get ts entry.register ≡ Some entry.kind
+
+-- a kept term has a register for its flag, and one for its number or two for its pointer
+pub record HasRegisters (plan : List Kept) (ts : Types) (a : LogicTerm) (kinds : List MonType) : Type 0 where
+  pub entry : Kept
+  pub is : kept_at (place_of_term a).offset plan ≡ Some entry
+  pub typed : StandIn ts entry.register (I32 ∷ kinds)
+
 -- numbers can be written, and the pointers to variables are pointers, where there are so many globals and registers of these types
-module _ (p : TranslationUnit) (bound : Bindings) (globals : ℕ) (ts : Types) where
+module _ (p : TranslationUnit) (bound : Bindings) (plan : List Kept) (globals : ℕ) (ts : Types) where
   abbrev mutual
-    pub TermWritable : LogicTerm → Type 0
-    TermWritable (logic.Number at t r n) = int_eq n least_i128 ≡ false
-    TermWritable (logic.Letter at t r n) = int_eq n least_i128 ≡ false
-    TermWritable (logic.Variable at t r x) = HasIntegers t × HasType globals ts (pointer_to p bound x.decl) Ptr
-    TermWritable (logic.Unary at t r op a) = TermWritable a
-    TermWritable (logic.Binary at t r op a b) = TermWritable a × TermWritable b
-    TermWritable (logic.Cast at t r to a) = IsCastType to × TermWritable a
-    TermWritable (logic.Choice at t r c a b) = PredicateWritable c × TermWritable a × TermWritable b
-    TermWritable (logic.Deref at t r a) = HasIntegers t × PointerWritable a
-    TermWritable (logic.Member at t r d a) = HasIntegers t × IsExtent d × PlaceWritable a
-    TermWritable (logic.Difference at t r n a b) = IsExtent n × PointerWritable a × PointerWritable b
-    TermWritable (logic.Told at t r f a) = IsNumberFact f × PointerWritable a
-    TermWritable _ = ⊥
+    pub TermWritable : List Held → LogicTerm → Type 0
+    TermWritable held (logic.Number at t r n) = int_eq n least_i128 ≡ false
+    TermWritable held (logic.Letter at t r n) = int_eq n least_i128 ≡ false
+    TermWritable held (logic.Variable at t r x) = HasIntegers t × HasType globals ts (pointer_to p bound x.decl) Ptr
+    TermWritable held (logic.Unary at t r op a) = TermWritable held a
+    TermWritable held (logic.Binary at t r op a b) = TermWritable held a × TermWritable held b
+    TermWritable held (logic.Cast at t r to a) = IsCastType to × TermWritable held a
+    TermWritable held (logic.Choice at t r c a b) = PredicateWritable held c × TermWritable held a × TermWritable held b
+    TermWritable held (logic.Deref at t r a) = HasIntegers t × PointerWritable held a
+    TermWritable held (logic.Member at t r d a) = HasIntegers t × IsExtent d × PlaceWritable held a
+    TermWritable held (logic.Difference at t r n a b) = IsExtent n × PointerWritable held a × PointerWritable held b
+    TermWritable held (logic.Told at t r f a) = IsNumberFact f × PointerWritable held a
+    TermWritable held (logic.Named at t r x) = HasRegister held ts x.decl false
+    TermWritable held (logic.At at t r Here a) = TermWritable held a
+    TermWritable held (logic.At at t r Pre a) = HasRegisters plan ts a (type_of a ∷ [])
+    TermWritable held (logic.At at t r (Marked l) a) = HasRegisters plan ts a (type_of a ∷ [])
+    TermWritable held _ = ⊥
 
-    pub PointerWritable : LogicTerm → Type 0
-    PointerWritable (logic.Variable at t r x) = HasType globals ts (pointer_to p bound x.decl) Ptr
-    PointerWritable (logic.Null at t r) = Unit {0}
-    PointerWritable (logic.Deref at t r a) = PointerWritable a
-    PointerWritable (logic.Member at t r d a) = IsExtent d × PlaceWritable a
-    PointerWritable (logic.Address at t r a) = PlaceWritable a
-    PointerWritable (logic.Moved at t r op n a b) = IsExtent n × PointerWritable a × TermWritable b
-    PointerWritable (logic.Cast at t r to a) = PointerWritable a
-    PointerWritable (logic.Choice at t r c a b) = PredicateWritable c × PointerWritable a × PointerWritable b
-    PointerWritable (logic.Told at t r f a) = PointerWritable a
-    PointerWritable _ = ⊥
+    pub PointerWritable : List Held → LogicTerm → Type 0
+    PointerWritable held (logic.Variable at t r x) = HasType globals ts (pointer_to p bound x.decl) Ptr
+    PointerWritable held (logic.Null at t r) = Unit {0}
+    PointerWritable held (logic.Deref at t r a) = PointerWritable held a
+    PointerWritable held (logic.Member at t r d a) = IsExtent d × PlaceWritable held a
+    PointerWritable held (logic.Address at t r a) = PlaceWritable held a
+    PointerWritable held (logic.Moved at t r op n a b) = IsExtent n × PointerWritable held a × TermWritable held b
+    PointerWritable held (logic.Cast at t r to a) = PointerWritable held a
+    PointerWritable held (logic.Choice at t r c a b) = PredicateWritable held c × PointerWritable held a × PointerWritable held b
+    PointerWritable held (logic.Told at t r f a) = PointerWritable held a
+    PointerWritable held (logic.Named at t r x) = HasRegister held ts x.decl true
+    PointerWritable held (logic.At at t r Here a) = PointerWritable held a
+    PointerWritable held (logic.At at t r Pre a) = HasRegisters plan ts a (Ptr ∷ I128 ∷ [])
+    PointerWritable held (logic.At at t r (Marked l) a) = HasRegisters plan ts a (Ptr ∷ I128 ∷ [])
+    PointerWritable held _ = ⊥
 
-    pub PlaceWritable : LogicTerm → Type 0
-    PlaceWritable (logic.Variable at t r x) = HasType globals ts (pointer_to p bound x.decl) Ptr
-    PlaceWritable (logic.Deref at t r a) = PointerWritable a
-    PlaceWritable (logic.Member at t r d a) = IsExtent d × PlaceWritable a
-    PlaceWritable _ = ⊥
+    pub PlaceWritable : List Held → LogicTerm → Type 0
+    PlaceWritable held (logic.Variable at t r x) = HasType globals ts (pointer_to p bound x.decl) Ptr
+    PlaceWritable held (logic.Deref at t r a) = PointerWritable held a
+    PlaceWritable held (logic.Member at t r d a) = IsExtent d × PlaceWritable held a
+    PlaceWritable held _ = ⊥
 
-    pub ZoneWritable : Zone → Type 0
-    ZoneWritable (logic.Object at n m a) = IsExtent n × PointerWritable a
-    ZoneWritable (logic.Elements at n m a lo hi) = IsExtent n × PointerWritable a × TermWritable lo × TermWritable hi
+    pub ZoneWritable : List Held → Zone → Type 0
+    ZoneWritable held (logic.Object at n m a) = IsExtent n × PointerWritable held a
+    ZoneWritable held (logic.Elements at n m a lo hi) = IsExtent n × PointerWritable held a × TermWritable held lo × TermWritable held hi
 
-    pub ZonesWritable : Zones → Type 0
-    ZonesWritable NoZone = Unit {0}
-    ZonesWritable (Another z rest) = ZoneWritable z × ZonesWritable rest
+    pub ZonesWritable : List Held → Zones → Type 0
+    ZonesWritable held NoZone = Unit {0}
+    ZonesWritable held (Another z rest) = ZoneWritable held z × ZonesWritable held rest
 
     -- the sides of relations
-    pub LinksWritable : Links → Type 0
-    LinksWritable NoLink = Unit {0}
-    LinksWritable (Linked at r t rest) = found_by (is_pointer_term t) (PointerWritable t) (TermWritable t) × LinksWritable rest
+    pub LinksWritable : List Held → Links → Type 0
+    LinksWritable held NoLink = Unit {0}
+    LinksWritable held (Linked at r t rest) = found_by (is_pointer_term t) (PointerWritable held t) (TermWritable held t) × LinksWritable held rest
 
-    pub PredicateWritable : Predicate → Type 0
-    PredicateWritable (logic.Truth at b) = Unit {0}
-    PredicateWritable (logic.NonZero at t) = TermWritable t
-    PredicateWritable (logic.Chain at t links) = found_by (is_pointer_term t) (PointerWritable t) (TermWritable t) × LinksWritable links
-    PredicateWritable (logic.Not at q) = PredicateWritable q
-    PredicateWritable (logic.Connected at c a b) = PredicateWritable a × PredicateWritable b
-    PredicateWritable (logic.Branch at c a b) = PredicateWritable c × PredicateWritable a × PredicateWritable b
-    PredicateWritable (logic.Quantified at quantifier guards q) = ⊥
-    PredicateWritable (logic.Asks at f z) = ZoneWritable z
-    PredicateWritable (logic.Separated at zs) = ZonesWritable zs
+    pub PredicateWritable : List Held → Predicate → Type 0
+    PredicateWritable held (logic.Truth at b) = Unit {0}
+    PredicateWritable held (logic.NonZero at t) = TermWritable held t
+    PredicateWritable held (logic.Chain at t links) = found_by (is_pointer_term t) (PointerWritable held t) (TermWritable held t) × LinksWritable held links
+    PredicateWritable held (logic.Not at q) = PredicateWritable held q
+    PredicateWritable held (logic.Connected at c a b) = PredicateWritable held a × PredicateWritable held b
+    PredicateWritable held (logic.Branch at c a b) = PredicateWritable held c × PredicateWritable held a × PredicateWritable held b
+    PredicateWritable held (logic.Quantified at quantifier guards q) = ⊥
+    PredicateWritable held (logic.Asks at f z) = ZoneWritable held z
+    PredicateWritable held (logic.Separated at zs) = ZonesWritable held zs
 
 -- types that begin with these
 pub record Begins (rs ts : Types) : Type 0 where
@@ -99,7 +131,7 @@ pub record IsValidCode (globals : ℕ) (gs : List Signature) (ts : Types) (resul
 
 abbrev pub CodeIsValid : Type 0
 CodeIsValid =
-    (p : TranslationUnit) (bound : Bindings) (globals : ℕ) (gs : List Signature) (ts : Types) (result : Option MonType) (ls : Labels) (q : Predicate)
-    (rs : List MonType)
-    → PredicateRanged [] q → PredicateWritable p bound globals ts q → tokens_of_predicate q ≤ 400 → Begins (judgement p bound q rs).used ts
-    → IsValidCode globals gs ts result ls (judgement p bound q rs)
+    (p : TranslationUnit) (bound : Bindings) (plan : List Kept) (held : List Held) (seen : Seen) (globals : ℕ) (gs : List Signature) (ts : Types)
+    (result : Option MonType) (ls : Labels) (q : Predicate) (rs : List MonType)
+    → PredicateRanged seen q → PredicateWritable p bound plan globals ts held q → tokens_of_predicate q ≤ 400
+    → Begins (judgement p bound plan held q rs).used ts → IsValidCode globals gs ts result ls (judgement p bound plan held q rs)

@@ -6,12 +6,12 @@ ghost use Rattle.mon_syntax.specs.Registers.{next_register};
 ghost use Rattle.mon_syntax.specs.Trees.{plain_expr, plain_stmt, plain_stmts};
 ghost use Rattle.annot_code.specs.Pointers.{addresses_code, comparable, difference_code, equality_asked, offsets_asked};
 ghost use Rattle.annot_code.specs.Pointers.{places_differ, sure_pointer};
-ghost use Rattle.annot_code.specs.Plain.{both_asked_in, code_of, elements_between, equality_by, equality_value, offsets_in, one_block, order_by};
-ghost use Rattle.annot_code.specs.Plain.{parts_of, pointer_of, with_parts};
+ghost use Rattle.annot_code.specs.Plain.{both_asked_in, code_of, comparable_value, elements_between, equality_by, equality_in, equality_value};
+ghost use Rattle.annot_code.specs.Plain.{not_null, offsets_in, one_block, order_by, parts_of, pointer_of, with_parts};
 
-use crate::piece::{Code, only, then_one};
+use crate::piece::{Code, in_sequence, only, then_one, two_fresh};
 use crate::pointer::{PointerCode, answered_in, asked_there, no_offset, null, told_there};
-use crate::value::{conjunction, relation_operator};
+use crate::value::relation_operator;
 use c_effects::copy::copy_of;
 use c_effects::operator::{constant, in_type, operation, register};
 use c_effects::part::{alone, then, then_all};
@@ -31,8 +31,7 @@ fn three_fresh(names: &mut Registers<'_>) -> Result<u32, AllocError>
     ensures bound { OnOk result (names.new.table.bound ≡ names.old.table.bound) }
     ensures program { OnOk result (names.new.program ≡ names.old.program) }
 {
-    let first = names.fresh(MonType::I32)?;
-    let _ = names.fresh(MonType::I32)?;
+    let first = two_fresh(MonType::I32, names)?;
     let _ = names.fresh(MonType::I32)?;
     Ok(first)
 }
@@ -85,6 +84,33 @@ fn places_differ(
     part(alloc, first, second, into)
 }
 
+// Whether a place isn't the null pointer.
+fn not_null(
+    alloc: Global,
+    base: &MonExpr,
+    offset: &MonExpr,
+    into: u32,
+) -> Result<MonStmt, AllocError>
+    ensures { IfOk result (λ s. plain_stmt s ≡ not_null (plain_expr base.now) (plain_expr offset.now) into) }
+{
+    let nowhere = null(alloc)?;
+    let start = no_offset(alloc)?;
+    places_differ(alloc, (base, offset), (&nowhere, &start), into)
+}
+
+// Whether the first of two answers is 1, or the second one 0.
+#[tactic(auto, using(crate::proofs::Rust::next_is))]
+fn comparable_value(alloc: Global, number: u32) -> Result<MonExpr, AllocError>
+    requires { number < 4294967295 }
+    ensures { IfOk result (λ e. plain_expr e ≡ comparable_value number) }
+{
+    let inside = register(alloc, number)?;
+    let differs = register(alloc, number + 1)?;
+    let zero = constant(alloc, MonType::I32, 0)?;
+    let is_null = operation(alloc, MonOp::Eq, MonType::I32, differs, zero)?;
+    operation(alloc, MonOp::Or, MonType::I32, inside, is_null)
+}
+
 // Whether a pointer that isn't known to be null may be compared, in a register; the next one is for a question.
 #[tactic(auto, using(crate::proofs::Rust::next_is))]
 fn asked_comparable(
@@ -98,15 +124,9 @@ fn asked_comparable(
 {
     let question = asked_there(alloc, Question::Inside, MonType::Ptr, base, offset, number)?;
     let mut stmts = only(alloc, question)?;
-    let nowhere = null(alloc)?;
-    let start = no_offset(alloc)?;
-    let differ = places_differ(alloc, (base, offset), (&nowhere, &start), number + 1)?;
+    let differ = not_null(alloc, base, offset, number + 1)?;
     then_one(alloc, &mut stmts, differ)?;
-    let inside = register(alloc, number)?;
-    let differs = register(alloc, number + 1)?;
-    let zero = constant(alloc, MonType::I32, 0)?;
-    let is_null = operation(alloc, MonOp::Eq, MonType::I32, differs, zero)?;
-    let value = operation(alloc, MonOp::Or, MonType::I32, inside, is_null)?;
+    let value = comparable_value(alloc, number)?;
     then(alloc, &mut stmts, MonStmtKind::Set(number, value))?;
     Ok(stmts)
 }
@@ -143,10 +163,7 @@ fn asked_of_both(
     ensures { IfOk result (λ v. plain_stmts v.items ≡ both_asked_in number (plain_stmts c.0.items) (option_map plain_expr c.1)
         (plain_stmts d.0.items) (option_map plain_expr d.1) (plain_stmts on.items)) }
 {
-    let (mut stmts, first) = c;
-    let (more, second) = d;
-    then_all(&mut stmts, more)?;
-    let flag = conjunction(alloc, first, second)?;
+    let (stmts, flag) = in_sequence(alloc, c, d)?;
     answered_in(alloc, number, stmts, flag, on)
 }
 
@@ -192,6 +209,23 @@ fn equality_value(alloc: Global, number: u32, same: bool) -> Result<MonExpr, All
     }
 }
 
+// The statements that ask whether two pointers may be compared and whether they differ.
+fn equality_in(
+    alloc: Global,
+    number: u32,
+    nulls: (bool, bool),
+    c: PointerCode,
+    d: PointerCode,
+) -> Result<Vec<MonStmt>, AllocError>
+    requires { number < 4294967294 }
+    ensures { IfOk result (λ v. plain_stmts v.items ≡ equality_in number nulls.0 nulls.1 (pointer_of c []) (pointer_of d [])) }
+{
+    let first = (&c.base, &c.offset);
+    let second = (&d.base, &d.offset);
+    let on = equality_asked(alloc, number, nulls, first, second)?;
+    asked_of_both(alloc, number, (c.stmts, c.flag), (d.stmts, d.flag), on)
+}
+
 // `==` where `same`, and else `!=`.
 fn equality_code(
     alloc: Global,
@@ -207,10 +241,7 @@ fn equality_code(
     ensures program { OnOk result (names.new.program ≡ names.old.program) }
 {
     let number = three_fresh(names)?;
-    let first = (&c.base, &c.offset);
-    let second = (&d.base, &d.offset);
-    let on = equality_asked(alloc, number, nulls, first, second)?;
-    let stmts = asked_of_both(alloc, number, (c.stmts, c.flag), (d.stmts, d.flag), on)?;
+    let stmts = equality_in(alloc, number, nulls, c, d)?;
     let flag = register(alloc, number)?;
     let value = equality_value(alloc, number, same)?;
     Ok(Code {

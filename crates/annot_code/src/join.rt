@@ -4,16 +4,16 @@ ghost use Rattle.std.specs.Prelude.{◌≡◌, ◌<◌, IfOk, OnOk, [], option_m
 ghost use Rattle.mon_syntax.specs.Trees.{plain_expr, plain_stmts};
 ghost use Rattle.c_effects.specs.Expressions.{in_type};
 ghost use Rattle.annot_code.specs.Code.{binary_value, both_asked, branch, connected, connective_operator, is_sure, is_total, left_first};
-ghost use Rattle.annot_code.specs.Code.{operated, partial_code, relation_value, two_code, with_value};
+ghost use Rattle.annot_code.specs.Code.{operated, partial_code, relation_value, settled, two_code, with_value};
 ghost use Rattle.term_guards.specs.Guards.{guard};
 ghost use Rattle.annot_code.specs.Plain.{branch_in, code_of, in_registers, joined, partial_in};
 
-use crate::piece::{Code, guarded, take, take_none, two_fresh};
+use crate::piece::{Code, guarded, in_sequence, take, take_none, two_fresh};
 use crate::term::truth_code;
-use crate::value::{OperationTypes, binary_value, conjunction, is_total, relation_value};
+use crate::value::{OperationTypes, binary_value, is_total, relation_value};
 use c_effects::copy::copy_of;
 use c_effects::operator::{in_type, operation, register};
-use c_effects::part::{alone, then_all};
+use c_effects::part::alone;
 use c_syntax::logic::Connective;
 use c_syntax::{BinOp, Range, Relation};
 use mon_syntax::{MonExpr, MonOp, MonStmt, MonStmtKind, MonType, Registers};
@@ -32,10 +32,7 @@ fn joined(
     ensures { IfOk result (λ c. code_of c [] ≡ joined (plain_stmts a.0.items) (option_map plain_expr a.1) (plain_stmts b.0.items) (option_map plain_expr b.1)
         (plain_expr value)) }
 {
-    let (mut stmts, first) = a;
-    let (more, second) = b;
-    then_all(&mut stmts, more)?;
-    let flag = conjunction(alloc, first, second)?;
+    let (stmts, flag) = in_sequence(alloc, a, b)?;
     Ok(Code { stmts, flag, value })
 }
 
@@ -195,6 +192,23 @@ pub fn operated(
     } else {
         partial(alloc, op, types, range, x, y, names)
     }
+}
+
+/// A value in a register, where it opens no parenthesis.
+pub fn settled(
+    alloc: Global,
+    t: MonType,
+    c: Code,
+    names: &mut Registers<'_>,
+) -> Result<Code, AllocError>
+    ensures code { IfOk result (λ r. code_of r names.new.table.kinds ≡ settled t (code_of c names.old.table.kinds)) }
+    ensures bound { OnOk result (names.new.table.bound ≡ names.old.table.bound) }
+    ensures program { OnOk result (names.new.program ≡ names.old.program) }
+{
+    let number = two_fresh(t, names)?;
+    let mut stmts = c.stmts;
+    take(alloc, c.flag, c.value, number, &mut stmts)?;
+    in_registers(alloc, stmts, number)
 }
 
 // ---- one of two parts

@@ -2,16 +2,16 @@
 
 ghost use Rattle.std.specs.Prelude.{◌≡◌, IfOk, None, OnOk, Some, option_map};
 ghost use Rattle.c_syntax.specs.Logic.{plain_body, plain_pred};
-ghost use Rattle.c_effects.specs.Named.{unit_of};
 ghost use Rattle.mon_syntax.specs.Trees.{plain_expr, plain_stmts};
-ghost use Rattle.annot_code.specs.Code.{clause_judgement, judged_anew, judged_by, judged_with, judgement, nothing_said};
-ghost use Rattle.annot_code.specs.Plain.{code_of, judgement_of, number_of, written};
+ghost use Rattle.annot_code.specs.Code.{judged_anew, judged_by, judged_with, nothing_said};
+ghost use Rattle.annot_code.specs.Plain.{clause_by, code_of, judgement_by, judgement_of, number_of, plain_stored, written};
 ghost use Rattle.annot_code.specs.Inside.{AreInside};
 ghost use Rattle.annot_code.specs.Judged.{IsValidIn, JudgesIn};
 
 use crate::piece::{Code, take_none};
+use crate::plan::Stored;
 use crate::predicate::pred_code;
-use crate::reading::Reading;
+use crate::reading::{Known, Reading};
 use c_effects::operator::{constant, register};
 use c_effects::part::{alone, then};
 use c_syntax::logic::{Body, Pred};
@@ -120,16 +120,26 @@ fn judged_with(alloc: Global, c: Code, names: &mut Registers<'_>) -> Result<Judg
 }
 
 /// The code that judges a predicate, with further registers.
-pub fn judge(alloc: Global, p: &Pred, names: &mut Registers<'_>) -> Result<Judged, AllocError>
-    ensures code { IfOk result (λ j. judgement_of j names.new.table.kinds
-        ≡ judgement (unit_of names.old) names.old.table.bound (plain_pred p.now) names.old.table.kinds) }
+pub fn judge(
+    alloc: Global,
+    p: &Pred,
+    stored: &Stored<'_>,
+    names: &mut Registers<'_>,
+) -> Result<Judged, AllocError>
+    ensures code { IfOk result (λ j. judgement_of j names.new.table.kinds ≡ judgement_by names.old (plain_pred p.now) (plain_stored stored.now)) }
     ensures bound { OnOk result (names.new.table.bound ≡ names.old.table.bound) }
     ensures program { OnOk result (names.new.program ≡ names.old.program) }
-    ensures judges { IfOk result (λ j. JudgesIn names.old (plain_pred p.now) (judgement_of j names.new.table.kinds)) }
-    ensures valid { IfOk result (λ j. IsValidIn names.old (plain_pred p.now) (judgement_of j names.new.table.kinds)) }
+    ensures judges { IfOk result (λ j. JudgesIn names.old (plain_stored stored.now).plan (plain_stored stored.now).held (plain_pred p.now)
+        (judgement_of j names.new.table.kinds)) }
+    ensures valid { IfOk result (λ j. IsValidIn names.old (plain_stored stored.now).plan (plain_stored stored.now).held (plain_pred p.now)
+        (judgement_of j names.new.table.kinds)) }
     ensures inside { IfOk result (λ j. AreInside (judgement_of j names.new.table.kinds).stmts) }
 {
-    let known: Vec<Reading> = Vec::new(alloc);
+    let readings: Vec<Reading> = Vec::new(alloc);
+    let known = Known {
+        stored: *stored,
+        readings: &readings,
+    };
     let c = pred_code(alloc, p, &known, names)?;
     judged_with(alloc, c, names)
 }
@@ -149,15 +159,15 @@ fn judge_nothing(alloc: Global, names: &mut Registers<'_>) -> Result<Judged, All
 pub fn judge_clause(
     alloc: Global,
     body: &Body,
+    stored: &Stored<'_>,
     names: &mut Registers<'_>,
 ) -> Result<Judged, AllocError>
-    ensures code { IfOk result (λ j. judgement_of j names.new.table.kinds
-        ≡ clause_judgement (unit_of names.old) names.old.table.bound (plain_body body.now) names.old.table.kinds) }
+    ensures code { IfOk result (λ j. judgement_of j names.new.table.kinds ≡ clause_by names.old (plain_body body.now) (plain_stored stored.now)) }
     ensures bound { OnOk result (names.new.table.bound ≡ names.old.table.bound) }
     ensures program { OnOk result (names.new.program ≡ names.old.program) }
 {
     match body {
-        Body::Raw(_) => judge_nothing(alloc, names),
-        Body::Truth(p) => judge(alloc, p, names),
+        Body::Raw(_) | Body::Names(_) => judge_nothing(alloc, names),
+        Body::Truth(p) => judge(alloc, p, stored, names),
     }
 }

@@ -5,7 +5,7 @@ ghost use Rattle.mon_syntax.specs.declared.tree.MonType.TheVariants.{I32};
 ghost use Rattle.mon_syntax.specs.Registers.{next_register};
 ghost use Rattle.mon_syntax.specs.Trees.{plain_expr, plain_stmt, plain_stmts};
 ghost use Rattle.c_effects.specs.Expressions.{before, one};
-ghost use Rattle.annot_code.specs.Code.{branch, guarded, take, take_none, taken, two_code};
+ghost use Rattle.annot_code.specs.Code.{branch, conjunction, guarded, take, take_none, taken, two_code};
 ghost use Rattle.annot_code.specs.Plain.{code_of};
 
 use crate::value::conjunction;
@@ -41,6 +41,22 @@ pub fn then_one(alloc: Global, to: &mut Vec<MonStmt>, s: MonStmt) -> Result<(), 
 {
     let next = only(alloc, s)?;
     then_all(to, next)
+}
+
+/// The statements of two parts, one after the other, and both flags.
+pub fn in_sequence(
+    alloc: Global,
+    a: (Vec<MonStmt>, Option<MonExpr>),
+    b: (Vec<MonStmt>, Option<MonExpr>),
+) -> Result<(Vec<MonStmt>, Option<MonExpr>), AllocError>
+    ensures stmts { IfOk result (λ r. plain_stmts r.0.items ≡ before (plain_stmts a.0.items) (plain_stmts b.0.items)) }
+    ensures flag { IfOk result (λ r. option_map plain_expr r.1 ≡ conjunction (option_map plain_expr a.1) (option_map plain_expr b.1)) }
+{
+    let (mut stmts, first) = a;
+    let (more, second) = b;
+    then_all(&mut stmts, more)?;
+    let flag = conjunction(alloc, first, second)?;
+    Ok((stmts, flag))
 }
 
 /// Puts the first statements where a flag is 1 and the second ones elsewhere.
@@ -121,4 +137,11 @@ pub fn two_fresh(t: MonType, names: &mut Registers<'_>) -> Result<u32, AllocErro
     let flag = names.fresh(MonType::I32)?;
     let _ = names.fresh(t)?;
     Ok(flag)
+}
+
+/// The register behind another. No memory holds more registers than 32 bits count.
+pub fn next(register: u32) -> Result<u32, AllocError>
+    ensures { IfOk result (λ r. r ≡ register + 1) }
+{
+    register.checked_add(1).ok_or(AllocError)
 }

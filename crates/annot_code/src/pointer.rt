@@ -13,9 +13,8 @@ ghost use Rattle.mem_preds.specs.Questions.{type_of_fact};
 ghost use Rattle.annot_code.specs.Pieces.{guarded, take_none};
 ghost use Rattle.annot_code.specs.Plain.{branch_pointer_in, code_of, fact_asked, in_three_registers, in_two_registers, pointer_asked, pointer_of, taken_where};
 
-use crate::piece::{Code, guarded, only, take_none, then_one, two_fresh};
+use crate::piece::{Code, guarded, in_sequence, only, take_none, then_one, two_fresh};
 use crate::term::access_of;
-use crate::value::conjunction;
 use c_effects::copy::copy_of;
 use c_effects::operator::{constant, in_type, operation, register};
 use c_effects::part::{alone, then, then_all};
@@ -148,11 +147,9 @@ pub fn moved_code(
 ) -> Result<PointerCode, AllocError>
     ensures { IfOk result (λ p. pointer_of p [] ≡ moved_code op n (pointer_of c []) k (code_of x [])) }
 {
-    let mut stmts = c.stmts;
-    then_all(&mut stmts, x.stmts)?;
-    let flag = conjunction(alloc, c.flag, x.flag)?;
     let number = in_type(alloc, k, MonType::I128, x.value)?;
     let bytes = elements_of(alloc, n, number)?;
+    let (stmts, flag) = in_sequence(alloc, (c.stmts, c.flag), (x.stmts, x.flag))?;
     let offset = operation(alloc, move_operator(op), MonType::I128, c.offset, bytes)?;
     Ok(PointerCode {
         stmts,
@@ -516,7 +513,7 @@ fn fact_asked(
         number,
     )?;
     let mut on = only(alloc, question)?;
-    let told = told_there(alloc, fact, &base, &offset, number + 1)?;
+    let told = tell(alloc, fact, base, offset, number + 1)?;
     then_one(alloc, &mut on, told)?;
     Ok(on)
 }

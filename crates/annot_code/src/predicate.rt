@@ -3,75 +3,45 @@
 ghost use Rattle.std.specs.Prelude.{◌≡◌, [], false, IfOk, OnOk, option_map};
 ghost use Rattle.c_syntax.specs.Ctypes.{plain_type};
 ghost use Rattle.c_syntax.specs.Formulas.{plain_cast_type};
-ghost use Rattle.c_syntax.specs.Logic.{plain_links, plain_pred, plain_term, plain_zones, range_of};
-ghost use Rattle.c_model.specs.Ranges.{width_of_range};
+ghost use Rattle.c_syntax.specs.Logic.{plain_links, plain_pred, plain_term, plain_zones};
 ghost use Rattle.c_effects.specs.Named.{unit_of};
-ghost use Rattle.annot_code.specs.Code.{type_of, type_of_width, width_of};
+ghost use Rattle.annot_code.specs.Code.{settled, type_of};
 ghost use Rattle.annot_code.specs.Pointers.{member_code, pointer_there, told_pointer};
 ghost use Rattle.annot_code.specs.Plain.{asks_of, binary_of, branch_of, cast_of, chain_by, chain_of, choice_of, code_of, connected_of, denied_of};
 ghost use Rattle.annot_code.specs.Plain.{deref_of, difference_of, elements_form, link_of, member_of, more_links, more_zones_of, moved_of, nonzero_of};
-ghost use Rattle.annot_code.specs.Plain.{place_by, plain_readings, plain_zone, pointer_by, pointer_choice_of, pointer_of, pointer_variable_by, pred_by};
-ghost use Rattle.annot_code.specs.Plain.{separated_of, side_by_names, side_of, term_by, told_of, types_of, unary_of, zone_by, zone_of, zones_by, zones_of};
+ghost use Rattle.annot_code.specs.Plain.{place_by, plain_known, plain_zone, pointer_by, pointer_choice_of, pointer_of, pred_by};
+ghost use Rattle.annot_code.specs.Plain.{separated_of, side_by_names, side_of, term_by, told_of, unary_of, zone_by, zone_of, zones_by, zones_of};
 
 use crate::compare::difference_code;
-use crate::join::{branched, chosen, connected, operated};
+use crate::join::{branched, chosen, connected, operated, settled};
+use crate::leaf::{kept_number, kept_pointer, named, pointer_named, pointer_variable};
 use crate::piece::Code;
 use crate::pointer::{
     PointerCode, branch_pointer, member_code, moved_code, no_pointer, null_pointer, number_read,
     pointer_there, start_pointer, told_number, told_pointer,
 };
 use crate::reading::{
-    Reading, is_known, known_after, known_after_relation, known_at_right, term_type,
+    Known, Reading, known_after, known_after_relation, known_at_right, term_type,
 };
-use crate::side::{Side, again, ended, is_pointer_term, related_code};
+use crate::side::{Side, ended, is_pointer_term, related_again, related_code};
 use crate::term::{
     cast_code, denied_code, no_code, nonzero_code, number_code, truth_code, unary_code,
     variable_code,
 };
-use crate::value::{OperationTypes, type_of_width, working};
+use crate::width::{range_of, type_of, type_of_range, types_of, width_of};
 use crate::zone::{
     ZoneCode, ZonesCode, another_zone, elements_code, no_zones, object_code, separated_code,
     zone_asked,
 };
 use c_effects::object::pointer_to;
 use c_syntax::logic::{
-    BlockFact, Connective, Links, LogicType, MemoryQuestion, PointerOp, Pred, PredKind, Term,
-    TermKind, Zone, ZoneKind, Zones,
+    BlockFact, Connective, Label, Links, LogicType, MemoryQuestion, PointerOp, Pred, PredKind,
+    Term, TermKind, Zone, ZoneKind, Zones,
 };
-use c_syntax::{BinOp, CType, Range, Relation, UnOp, Width};
+use c_syntax::{BinOp, CType, Range, Relation, UnOp};
 use ea_num::width_of as width_of_range;
 use mon_syntax::{MonType, Registers};
 use std::alloc::{AllocError, Global};
-
-// ---- ranges of terms
-
-#[tactic(auto, using(crate::proofs::Arms::range_is))]
-fn range_of(t: &Term) -> Range
-    ensures { result ≡ range_of (plain_term t.now) }
-{
-    t.range
-}
-
-/// The width in which the value of a term stands.
-pub fn width_of(t: &Term) -> Width
-    ensures { result ≡ width_of (plain_term t.now) }
-{
-    width_of_range(range_of(t))
-}
-
-/// The type in which it stands.
-pub fn type_of(t: &Term) -> MonType
-    ensures { result ≡ type_of (plain_term t.now) }
-{
-    type_of_width(width_of(t))
-}
-
-// The type that holds a range.
-fn type_of_range(range: Range) -> MonType
-    ensures { result ≡ type_of_width (width_of_range range) }
-{
-    type_of_width(width_of_range(range))
-}
 
 // ---- terms
 
@@ -79,10 +49,10 @@ fn type_of_range(range: Range) -> MonType
 fn term_code(
     alloc: Global,
     t: &Term,
-    known: &[Reading],
+    known: &Known<'_>,
     names: &mut Registers<'_>,
 ) -> Result<Code, AllocError>
-    ensures code { IfOk result (λ c. code_of c names.new.table.kinds ≡ term_by names.old (plain_term t.now) (plain_readings known.now)) }
+    ensures code { IfOk result (λ c. code_of c names.new.table.kinds ≡ term_by names.old (plain_term t.now) (plain_known known.now)) }
     ensures bound { OnOk result (names.new.table.bound ≡ names.old.table.bound) }
     ensures program { OnOk result (names.new.program ≡ names.old.program) }
 {
@@ -94,7 +64,7 @@ fn term_code(
                 decl: x.decl,
                 kind: term_type(&t.ctype),
             };
-            variable_code(alloc, known, type_of_range(t.range), x, names)
+            variable_code(alloc, known.readings, type_of_range(t.range), x, names)
         }
         TermKind::Unary(op, a) => prefixed(alloc, *op, t.range, a, known, names),
         TermKind::Binary(op, a, b) => binary(alloc, *op, t.range, (a, b), known, names),
@@ -105,7 +75,28 @@ fn term_code(
         TermKind::Difference(n, a, b) => { difference(alloc, t.range, *n, (a, b), known, names) }
         TermKind::Told(fact, a) => told(alloc, t.range, *fact, a, known, names),
         TermKind::Null | TermKind::Address(_) | TermKind::Moved(_, _, _, _) => no_code(alloc),
+        TermKind::Named(x) => named(alloc, t.range, x.decl, known),
+        TermKind::At(Label::Here, a) => here(alloc, a, known, names),
+        TermKind::At(Label::Pre, a) => kept_number(alloc, a, known),
+        TermKind::At(Label::Marked(_), a) => kept_number(alloc, a, known),
     }
+}
+
+// A number here, in a register.
+#[cycle(code)]
+fn here(
+    alloc: Global,
+    a: &Term,
+    known: &Known<'_>,
+    names: &mut Registers<'_>,
+) -> Result<Code, AllocError>
+    ensures code { IfOk result (λ c. code_of c names.new.table.kinds
+        ≡ settled (type_of (plain_term a.now)) (term_by names.old (plain_term a.now) (plain_known known.now))) }
+    ensures bound { OnOk result (names.new.table.bound ≡ names.old.table.bound) }
+    ensures program { OnOk result (names.new.program ≡ names.old.program) }
+{
+    let x = term_code(alloc, a, known, names)?;
+    settled(alloc, type_of(a), x, names)
 }
 
 // `+`, `-` or `~` of a term, with a result in the range.
@@ -115,10 +106,10 @@ fn prefixed(
     op: UnOp,
     range: Range,
     a: &Term,
-    known: &[Reading],
+    known: &Known<'_>,
     names: &mut Registers<'_>,
 ) -> Result<Code, AllocError>
-    ensures code { IfOk result (λ c. code_of c names.new.table.kinds ≡ term_by names.old (unary_of op range a.now) (plain_readings known.now)) }
+    ensures code { IfOk result (λ c. code_of c names.new.table.kinds ≡ term_by names.old (unary_of op range a.now) (plain_known known.now)) }
     ensures bound { OnOk result (names.new.table.bound ≡ names.old.table.bound) }
     ensures program { OnOk result (names.new.program ≡ names.old.program) }
 {
@@ -133,11 +124,11 @@ fn cast(
     to: &LogicType,
     range: Range,
     a: &Term,
-    known: &[Reading],
+    known: &Known<'_>,
     names: &mut Registers<'_>,
 ) -> Result<Code, AllocError>
     ensures code { IfOk result (λ c. code_of c names.new.table.kinds
-        ≡ term_by names.old (cast_of (plain_cast_type to.now) range a.now) (plain_readings known.now)) }
+        ≡ term_by names.old (cast_of (plain_cast_type to.now) range a.now) (plain_known known.now)) }
     ensures bound { OnOk result (names.new.table.bound ≡ names.old.table.bound) }
     ensures program { OnOk result (names.new.program ≡ names.old.program) }
 {
@@ -152,19 +143,6 @@ fn cast(
     )
 }
 
-// The types of an operator on two terms, with a result in the range.
-fn types_of(op: BinOp, range: Range, a: &Term, b: &Term) -> OperationTypes
-    ensures { result ≡ types_of op range (plain_term a.now) (plain_term b.now) }
-{
-    let whole = width_of_range(range);
-    OperationTypes {
-        result: type_of_width(whole),
-        working: type_of_width(working(op, whole, width_of(a), width_of(b))),
-        left: type_of(a),
-        right: type_of(b),
-    }
-}
-
 // An operator on two terms, with a result in the range.
 #[cycle(code)]
 fn binary(
@@ -172,11 +150,11 @@ fn binary(
     op: BinOp,
     range: Range,
     operands: (&Term, &Term),
-    known: &[Reading],
+    known: &Known<'_>,
     names: &mut Registers<'_>,
 ) -> Result<Code, AllocError>
     ensures code { IfOk result (λ c. code_of c names.new.table.kinds
-        ≡ term_by names.old (binary_of op range operands.entry.0.now operands.entry.1.now) (plain_readings known.now)) }
+        ≡ term_by names.old (binary_of op range operands.entry.0.now operands.entry.1.now) (plain_known known.now)) }
     ensures bound { OnOk result (names.new.table.bound ≡ names.old.table.bound) }
     ensures program { OnOk result (names.new.program ≡ names.old.program) }
 {
@@ -201,17 +179,21 @@ fn choice(
     range: Range,
     c: &Pred,
     values: (&Term, &Term),
-    known: &[Reading],
+    known: &Known<'_>,
     names: &mut Registers<'_>,
 ) -> Result<Code, AllocError>
     ensures code { IfOk result (λ r. code_of r names.new.table.kinds
-        ≡ term_by names.old (choice_of range c.now values.entry.0.now values.entry.1.now) (plain_readings known.now)) }
+        ≡ term_by names.old (choice_of range c.now values.entry.0.now values.entry.1.now) (plain_known known.now)) }
     ensures bound { OnOk result (names.new.table.bound ≡ names.old.table.bound) }
     ensures program { OnOk result (names.new.program ≡ names.old.program) }
 {
     let (a, b) = values;
     let z = pred_code(alloc, c, known, names)?;
-    let more = known_after(alloc, known, c)?;
+    let readings = known_after(alloc, known, c)?;
+    let more = Known {
+        stored: known.stored,
+        readings: &readings,
+    };
     let x = term_code(alloc, a, &more, names)?;
     let y = term_code(alloc, b, &more, names)?;
     let types = (type_of(a), type_of(b));
@@ -225,11 +207,11 @@ fn deref(
     t: &Option<CType>,
     range: Range,
     a: &Term,
-    known: &[Reading],
+    known: &Known<'_>,
     names: &mut Registers<'_>,
 ) -> Result<Code, AllocError>
     ensures code { IfOk result (λ c. code_of c names.new.table.kinds
-        ≡ term_by names.old (deref_of (option_map plain_type t.now) range a.now) (plain_readings known.now)) }
+        ≡ term_by names.old (deref_of (option_map plain_type t.now) range a.now) (plain_known known.now)) }
     ensures bound { OnOk result (names.new.table.bound ≡ names.old.table.bound) }
     ensures program { OnOk result (names.new.program ≡ names.old.program) }
 {
@@ -244,11 +226,11 @@ fn member(
     value: (&Option<CType>, Range),
     d: u32,
     a: &Term,
-    known: &[Reading],
+    known: &Known<'_>,
     names: &mut Registers<'_>,
 ) -> Result<Code, AllocError>
     ensures code { IfOk result (λ c. code_of c names.new.table.kinds
-        ≡ term_by names.old (member_of (option_map plain_type value.entry.0.now) value.entry.1 d a.now) (plain_readings known.now)) }
+        ≡ term_by names.old (member_of (option_map plain_type value.entry.0.now) value.entry.1 d a.now) (plain_known known.now)) }
     ensures bound { OnOk result (names.new.table.bound ≡ names.old.table.bound) }
     ensures program { OnOk result (names.new.program ≡ names.old.program) }
 {
@@ -265,11 +247,11 @@ fn difference(
     range: Range,
     n: u32,
     operands: (&Term, &Term),
-    known: &[Reading],
+    known: &Known<'_>,
     names: &mut Registers<'_>,
 ) -> Result<Code, AllocError>
     ensures code { IfOk result (λ c. code_of c names.new.table.kinds
-        ≡ term_by names.old (difference_of range n operands.entry.0.now operands.entry.1.now) (plain_readings known.now)) }
+        ≡ term_by names.old (difference_of range n operands.entry.0.now operands.entry.1.now) (plain_known known.now)) }
     ensures bound { OnOk result (names.new.table.bound ≡ names.old.table.bound) }
     ensures program { OnOk result (names.new.program ≡ names.old.program) }
 {
@@ -286,10 +268,10 @@ fn told(
     range: Range,
     fact: BlockFact,
     a: &Term,
-    known: &[Reading],
+    known: &Known<'_>,
     names: &mut Registers<'_>,
 ) -> Result<Code, AllocError>
-    ensures code { IfOk result (λ c. code_of c names.new.table.kinds ≡ term_by names.old (told_of range fact a.now) (plain_readings known.now)) }
+    ensures code { IfOk result (λ c. code_of c names.new.table.kinds ≡ term_by names.old (told_of range fact a.now) (plain_known known.now)) }
     ensures bound { OnOk result (names.new.table.bound ≡ names.old.table.bound) }
     ensures program { OnOk result (names.new.program ≡ names.old.program) }
 {
@@ -303,10 +285,10 @@ fn told(
 fn pointer_code(
     alloc: Global,
     t: &Term,
-    known: &[Reading],
+    known: &Known<'_>,
     names: &mut Registers<'_>,
 ) -> Result<PointerCode, AllocError>
-    ensures code { IfOk result (λ c. pointer_of c names.new.table.kinds ≡ pointer_by names.old (plain_term t.now) (plain_readings known.now)) }
+    ensures code { IfOk result (λ c. pointer_of c names.new.table.kinds ≡ pointer_by names.old (plain_term t.now) (plain_known known.now)) }
     ensures bound { OnOk result (names.new.table.bound ≡ names.old.table.bound) }
     ensures program { OnOk result (names.new.program ≡ names.old.program) }
 {
@@ -322,27 +304,11 @@ fn pointer_code(
         TermKind::Told(_, a) => start_told(alloc, a, known, names),
         TermKind::Number(_) | TermKind::Letter(_) | TermKind::Unary(_, _) => no_pointer(alloc),
         TermKind::Binary(_, _, _) | TermKind::Difference(_, _, _) => no_pointer(alloc),
+        TermKind::Named(x) => pointer_named(alloc, x.decl, known),
+        TermKind::At(Label::Here, a) => pointer_code(alloc, a, known, names),
+        TermKind::At(Label::Pre, a) => kept_pointer(alloc, a, known),
+        TermKind::At(Label::Marked(_), a) => kept_pointer(alloc, a, known),
     }
-}
-
-// A pointer in a variable.
-fn pointer_variable(
-    alloc: Global,
-    t: &Option<CType>,
-    decl: u32,
-    known: &[Reading],
-    names: &mut Registers<'_>,
-) -> Result<PointerCode, AllocError>
-    ensures code { IfOk result (λ c. pointer_of c names.new.table.kinds
-        ≡ pointer_variable_by names.old (option_map plain_type t.now) decl (plain_readings known.now)) }
-    ensures bound { OnOk result (names.new.table.bound ≡ names.old.table.bound) }
-    ensures program { OnOk result (names.new.program ≡ names.old.program) }
-{
-    let kind = term_type(t);
-    let is_there = is_known(known, Reading { decl, kind });
-    let base = pointer_to(alloc, names, decl)?;
-    let c = start_pointer(alloc, base)?;
-    pointer_there(alloc, is_there, t, c, names)
 }
 
 // A pointer to which a pointer points.
@@ -351,11 +317,11 @@ fn pointer_deref(
     alloc: Global,
     t: &Option<CType>,
     a: &Term,
-    known: &[Reading],
+    known: &Known<'_>,
     names: &mut Registers<'_>,
 ) -> Result<PointerCode, AllocError>
     ensures code { IfOk result (λ c. pointer_of c names.new.table.kinds
-        ≡ pointer_there false (option_map plain_type t.now) (pointer_by names.old (plain_term a.now) (plain_readings known.now))) }
+        ≡ pointer_there false (option_map plain_type t.now) (pointer_by names.old (plain_term a.now) (plain_known known.now))) }
     ensures bound { OnOk result (names.new.table.bound ≡ names.old.table.bound) }
     ensures program { OnOk result (names.new.program ≡ names.old.program) }
 {
@@ -370,11 +336,11 @@ fn pointer_member(
     t: &Option<CType>,
     d: u32,
     a: &Term,
-    known: &[Reading],
+    known: &Known<'_>,
     names: &mut Registers<'_>,
 ) -> Result<PointerCode, AllocError>
     ensures code { IfOk result (λ c. pointer_of c names.new.table.kinds
-        ≡ pointer_there false (option_map plain_type t.now) (member_code d (place_by names.old (plain_term a.now) (plain_readings known.now)))) }
+        ≡ pointer_there false (option_map plain_type t.now) (member_code d (place_by names.old (plain_term a.now) (plain_known known.now)))) }
     ensures bound { OnOk result (names.new.table.bound ≡ names.old.table.bound) }
     ensures program { OnOk result (names.new.program ≡ names.old.program) }
 {
@@ -390,11 +356,11 @@ fn moved(
     op: PointerOp,
     n: u32,
     operands: (&Term, &Term),
-    known: &[Reading],
+    known: &Known<'_>,
     names: &mut Registers<'_>,
 ) -> Result<PointerCode, AllocError>
     ensures code { IfOk result (λ c. pointer_of c names.new.table.kinds
-        ≡ pointer_by names.old (moved_of op n operands.entry.0.now operands.entry.1.now) (plain_readings known.now)) }
+        ≡ pointer_by names.old (moved_of op n operands.entry.0.now operands.entry.1.now) (plain_known known.now)) }
     ensures bound { OnOk result (names.new.table.bound ≡ names.old.table.bound) }
     ensures program { OnOk result (names.new.program ≡ names.old.program) }
 {
@@ -410,17 +376,21 @@ fn pointer_choice(
     alloc: Global,
     c: &Pred,
     values: (&Term, &Term),
-    known: &[Reading],
+    known: &Known<'_>,
     names: &mut Registers<'_>,
 ) -> Result<PointerCode, AllocError>
     ensures code { IfOk result (λ r. pointer_of r names.new.table.kinds
-        ≡ pointer_by names.old (pointer_choice_of c.now values.entry.0.now values.entry.1.now) (plain_readings known.now)) }
+        ≡ pointer_by names.old (pointer_choice_of c.now values.entry.0.now values.entry.1.now) (plain_known known.now)) }
     ensures bound { OnOk result (names.new.table.bound ≡ names.old.table.bound) }
     ensures program { OnOk result (names.new.program ≡ names.old.program) }
 {
     let (a, b) = values;
     let z = pred_code(alloc, c, known, names)?;
-    let more = known_after(alloc, known, c)?;
+    let readings = known_after(alloc, known, c)?;
+    let more = Known {
+        stored: known.stored,
+        readings: &readings,
+    };
     let x = pointer_code(alloc, a, &more, names)?;
     let y = pointer_code(alloc, b, &more, names)?;
     branch_pointer(alloc, z, x, y, names)
@@ -431,10 +401,10 @@ fn pointer_choice(
 fn start_told(
     alloc: Global,
     a: &Term,
-    known: &[Reading],
+    known: &Known<'_>,
     names: &mut Registers<'_>,
 ) -> Result<PointerCode, AllocError>
-    ensures code { IfOk result (λ c. pointer_of c names.new.table.kinds ≡ told_pointer (pointer_by names.old (plain_term a.now) (plain_readings known.now))) }
+    ensures code { IfOk result (λ c. pointer_of c names.new.table.kinds ≡ told_pointer (pointer_by names.old (plain_term a.now) (plain_known known.now))) }
     ensures bound { OnOk result (names.new.table.bound ≡ names.old.table.bound) }
     ensures program { OnOk result (names.new.program ≡ names.old.program) }
 {
@@ -447,10 +417,10 @@ fn start_told(
 fn place_code(
     alloc: Global,
     t: &Term,
-    known: &[Reading],
+    known: &Known<'_>,
     names: &mut Registers<'_>,
 ) -> Result<PointerCode, AllocError>
-    ensures code { IfOk result (λ c. pointer_of c names.new.table.kinds ≡ place_by names.old (plain_term t.now) (plain_readings known.now)) }
+    ensures code { IfOk result (λ c. pointer_of c names.new.table.kinds ≡ place_by names.old (plain_term t.now) (plain_known known.now)) }
     ensures bound { OnOk result (names.new.table.bound ≡ names.old.table.bound) }
     ensures program { OnOk result (names.new.program ≡ names.old.program) }
 {
@@ -468,7 +438,7 @@ fn place_code(
         TermKind::Binary(_, _, _) | TermKind::Cast(_, _) => no_pointer(alloc),
         TermKind::Choice(_, _, _) | TermKind::Null | TermKind::Address(_) => no_pointer(alloc),
         TermKind::Moved(_, _, _, _) | TermKind::Difference(_, _, _) => no_pointer(alloc),
-        TermKind::Told(_, _) => no_pointer(alloc),
+        TermKind::Told(_, _) | TermKind::Named(_) | TermKind::At(_, _) => no_pointer(alloc),
     }
 }
 
@@ -478,10 +448,10 @@ fn place_code(
 fn zone_code(
     alloc: Global,
     z: &Zone,
-    known: &[Reading],
+    known: &Known<'_>,
     names: &mut Registers<'_>,
 ) -> Result<ZoneCode, AllocError>
-    ensures code { IfOk result (λ c. zone_of c names.new.table.kinds ≡ zone_by names.old (plain_zone z.now) (plain_readings known.now)) }
+    ensures code { IfOk result (λ c. zone_of c names.new.table.kinds ≡ zone_by names.old (plain_zone z.now) (plain_known known.now)) }
     ensures bound { OnOk result (names.new.table.bound ≡ names.old.table.bound) }
     ensures program { OnOk result (names.new.program ≡ names.old.program) }
 {
@@ -503,11 +473,11 @@ fn elements(
     n: u32,
     a: &Term,
     bounds: (&Term, &Term),
-    known: &[Reading],
+    known: &Known<'_>,
     names: &mut Registers<'_>,
 ) -> Result<ZoneCode, AllocError>
     ensures code { IfOk result (λ c. zone_of c names.new.table.kinds
-        ≡ zone_by names.old (elements_form n a.now bounds.entry.0.now bounds.entry.1.now) (plain_readings known.now)) }
+        ≡ zone_by names.old (elements_form n a.now bounds.entry.0.now bounds.entry.1.now) (plain_known known.now)) }
     ensures bound { OnOk result (names.new.table.bound ≡ names.old.table.bound) }
     ensures program { OnOk result (names.new.program ≡ names.old.program) }
 {
@@ -522,10 +492,10 @@ fn elements(
 fn zones_code(
     alloc: Global,
     zones: &Zones,
-    known: &[Reading],
+    known: &Known<'_>,
     names: &mut Registers<'_>,
 ) -> Result<ZonesCode, AllocError>
-    ensures code { IfOk result (λ c. zones_of c names.new.table.kinds ≡ zones_by names.old (plain_zones zones.now) (plain_readings known.now)) }
+    ensures code { IfOk result (λ c. zones_of c names.new.table.kinds ≡ zones_by names.old (plain_zones zones.now) (plain_known known.now)) }
     ensures bound { OnOk result (names.new.table.bound ≡ names.old.table.bound) }
     ensures program { OnOk result (names.new.program ≡ names.old.program) }
 {
@@ -541,10 +511,10 @@ fn more_zones(
     alloc: Global,
     z: &Zone,
     rest: &Zones,
-    known: &[Reading],
+    known: &Known<'_>,
     names: &mut Registers<'_>,
 ) -> Result<ZonesCode, AllocError>
-    ensures code { IfOk result (λ c. zones_of c names.new.table.kinds ≡ zones_by names.old (more_zones_of z.now rest.now) (plain_readings known.now)) }
+    ensures code { IfOk result (λ c. zones_of c names.new.table.kinds ≡ zones_by names.old (more_zones_of z.now rest.now) (plain_known known.now)) }
     ensures bound { OnOk result (names.new.table.bound ≡ names.old.table.bound) }
     ensures program { OnOk result (names.new.program ≡ names.old.program) }
 {
@@ -555,15 +525,15 @@ fn more_zones(
 
 // ---- chains
 
-// A side of a relation.
+/// A side of a relation.
 #[cycle(code)]
-fn side_code(
+pub fn side_code(
     alloc: Global,
     t: &Term,
-    known: &[Reading],
+    known: &Known<'_>,
     names: &mut Registers<'_>,
 ) -> Result<Side, AllocError>
-    ensures code { IfOk result (λ c. side_of c names.new.table.kinds ≡ side_by_names names.old (plain_term t.now) (plain_readings known.now)) }
+    ensures code { IfOk result (λ c. side_of c names.new.table.kinds ≡ side_by_names names.old (plain_term t.now) (plain_known known.now)) }
     ensures bound { OnOk result (names.new.table.bound ≡ names.old.table.bound) }
     ensures program { OnOk result (names.new.program ≡ names.old.program) }
 {
@@ -583,11 +553,11 @@ fn chain_code(
     t: &Term,
     x: Side,
     links: &Links,
-    known: &[Reading],
+    known: &Known<'_>,
     names: &mut Registers<'_>,
 ) -> Result<Code, AllocError>
     ensures code { IfOk result (λ c. code_of c names.new.table.kinds
-        ≡ chain_by names.old (plain_term t.now) (side_of x names.old.table.kinds) (plain_links links.now) (plain_readings known.now)) }
+        ≡ chain_by names.old (plain_term t.now) (side_of x names.old.table.kinds) (plain_links links.now) (plain_known known.now)) }
     ensures bound { OnOk result (names.new.table.bound ≡ names.old.table.bound) }
     ensures program { OnOk result (names.new.program ≡ names.old.program) }
 {
@@ -607,11 +577,11 @@ fn link(
     sides: (&Term, &Term),
     x: Side,
     rest: &Links,
-    known: &[Reading],
+    known: &Known<'_>,
     names: &mut Registers<'_>,
 ) -> Result<Code, AllocError>
     ensures code { IfOk result (λ c. code_of c names.new.table.kinds ≡ chain_by names.old (plain_term sides.entry.0.now) (side_of x names.old.table.kinds)
-        (link_of relation sides.entry.1.now rest.now) (plain_readings known.now)) }
+        (link_of relation sides.entry.1.now rest.now) (plain_known known.now)) }
     ensures bound { OnOk result (names.new.table.bound ≡ names.old.table.bound) }
     ensures program { OnOk result (names.new.program ≡ names.old.program) }
 {
@@ -631,20 +601,24 @@ fn more_links(
     sides: (&Term, &Term),
     codes: (Side, Side),
     rest: &Links,
-    known: &[Reading],
+    known: &Known<'_>,
     names: &mut Registers<'_>,
 ) -> Result<Code, AllocError>
     ensures code { IfOk result (λ c. code_of c names.new.table.kinds ≡ more_links (unit_of names.old) names.old.table.bound relation
         (plain_term sides.entry.0.now) (plain_term sides.entry.1.now) (side_of codes.0 []) (side_of codes.1 names.old.table.kinds)
-        (plain_links rest.now) (plain_readings known.now)) }
+        (plain_links rest.now) (plain_known known.now)) }
     ensures bound { OnOk result (names.new.table.bound ≡ names.old.table.bound) }
     ensures program { OnOk result (names.new.program ≡ names.old.program) }
 {
     let (t, u) = sides;
     let (x, y) = codes;
-    let next = again(alloc, &y)?;
-    let first = related_code(alloc, relation, (t, u), x, y, names)?;
-    let more = known_after_relation(alloc, known, t, u)?;
+    let related = related_again(alloc, relation, (t, u), x, y, names)?;
+    let (first, next) = related;
+    let readings = known_after_relation(alloc, known, t, u)?;
+    let more = Known {
+        stored: known.stored,
+        readings: &readings,
+    };
     let others = chain_code(alloc, u, next, rest, &more, names)?;
     connected(alloc, Connective::And, first, others, names)
 }
@@ -655,10 +629,10 @@ fn more_links(
 pub fn pred_code(
     alloc: Global,
     p: &Pred,
-    known: &[Reading],
+    known: &Known<'_>,
     names: &mut Registers<'_>,
 ) -> Result<Code, AllocError>
-    ensures code { IfOk result (λ c. code_of c names.new.table.kinds ≡ pred_by names.old (plain_pred p.now) (plain_readings known.now)) }
+    ensures code { IfOk result (λ c. code_of c names.new.table.kinds ≡ pred_by names.old (plain_pred p.now) (plain_known known.now)) }
     ensures bound { OnOk result (names.new.table.bound ≡ names.old.table.bound) }
     ensures program { OnOk result (names.new.program ≡ names.old.program) }
 {
@@ -679,10 +653,10 @@ pub fn pred_code(
 fn nonzero(
     alloc: Global,
     t: &Term,
-    known: &[Reading],
+    known: &Known<'_>,
     names: &mut Registers<'_>,
 ) -> Result<Code, AllocError>
-    ensures code { IfOk result (λ c. code_of c names.new.table.kinds ≡ pred_by names.old (nonzero_of t.now) (plain_readings known.now)) }
+    ensures code { IfOk result (λ c. code_of c names.new.table.kinds ≡ pred_by names.old (nonzero_of t.now) (plain_known known.now)) }
     ensures bound { OnOk result (names.new.table.bound ≡ names.old.table.bound) }
     ensures program { OnOk result (names.new.program ≡ names.old.program) }
 {
@@ -696,10 +670,10 @@ fn chain(
     alloc: Global,
     t: &Term,
     links: &Links,
-    known: &[Reading],
+    known: &Known<'_>,
     names: &mut Registers<'_>,
 ) -> Result<Code, AllocError>
-    ensures code { IfOk result (λ c. code_of c names.new.table.kinds ≡ pred_by names.old (chain_of t.now links.now) (plain_readings known.now)) }
+    ensures code { IfOk result (λ c. code_of c names.new.table.kinds ≡ pred_by names.old (chain_of t.now links.now) (plain_known known.now)) }
     ensures bound { OnOk result (names.new.table.bound ≡ names.old.table.bound) }
     ensures program { OnOk result (names.new.program ≡ names.old.program) }
 {
@@ -712,10 +686,10 @@ fn chain(
 fn denied(
     alloc: Global,
     q: &Pred,
-    known: &[Reading],
+    known: &Known<'_>,
     names: &mut Registers<'_>,
 ) -> Result<Code, AllocError>
-    ensures code { IfOk result (λ c. code_of c names.new.table.kinds ≡ pred_by names.old (denied_of q.now) (plain_readings known.now)) }
+    ensures code { IfOk result (λ c. code_of c names.new.table.kinds ≡ pred_by names.old (denied_of q.now) (plain_known known.now)) }
     ensures bound { OnOk result (names.new.table.bound ≡ names.old.table.bound) }
     ensures program { OnOk result (names.new.program ≡ names.old.program) }
 {
@@ -729,17 +703,21 @@ fn sides(
     alloc: Global,
     connective: Connective,
     parts: (&Pred, &Pred),
-    known: &[Reading],
+    known: &Known<'_>,
     names: &mut Registers<'_>,
 ) -> Result<Code, AllocError>
     ensures code { IfOk result (λ c. code_of c names.new.table.kinds
-        ≡ pred_by names.old (connected_of connective parts.entry.0.now parts.entry.1.now) (plain_readings known.now)) }
+        ≡ pred_by names.old (connected_of connective parts.entry.0.now parts.entry.1.now) (plain_known known.now)) }
     ensures bound { OnOk result (names.new.table.bound ≡ names.old.table.bound) }
     ensures program { OnOk result (names.new.program ≡ names.old.program) }
 {
     let (a, b) = parts;
     let x = pred_code(alloc, a, known, names)?;
-    let more = known_at_right(alloc, connective, known, a)?;
+    let readings = known_at_right(alloc, connective, known, a)?;
+    let more = Known {
+        stored: known.stored,
+        readings: &readings,
+    };
     let y = pred_code(alloc, b, &more, names)?;
     connected(alloc, connective, x, y, names)
 }
@@ -750,17 +728,21 @@ fn one_of(
     alloc: Global,
     c: &Pred,
     parts: (&Pred, &Pred),
-    known: &[Reading],
+    known: &Known<'_>,
     names: &mut Registers<'_>,
 ) -> Result<Code, AllocError>
     ensures code { IfOk result (λ r. code_of r names.new.table.kinds
-        ≡ pred_by names.old (branch_of c.now parts.entry.0.now parts.entry.1.now) (plain_readings known.now)) }
+        ≡ pred_by names.old (branch_of c.now parts.entry.0.now parts.entry.1.now) (plain_known known.now)) }
     ensures bound { OnOk result (names.new.table.bound ≡ names.old.table.bound) }
     ensures program { OnOk result (names.new.program ≡ names.old.program) }
 {
     let (a, b) = parts;
     let z = pred_code(alloc, c, known, names)?;
-    let more = known_after(alloc, known, c)?;
+    let readings = known_after(alloc, known, c)?;
+    let more = Known {
+        stored: known.stored,
+        readings: &readings,
+    };
     let x = pred_code(alloc, a, &more, names)?;
     let y = pred_code(alloc, b, &more, names)?;
     branched(alloc, MonType::I32, z, x, y, names)
@@ -772,10 +754,10 @@ fn asks(
     alloc: Global,
     question: MemoryQuestion,
     z: &Zone,
-    known: &[Reading],
+    known: &Known<'_>,
     names: &mut Registers<'_>,
 ) -> Result<Code, AllocError>
-    ensures code { IfOk result (λ c. code_of c names.new.table.kinds ≡ pred_by names.old (asks_of question z.now) (plain_readings known.now)) }
+    ensures code { IfOk result (λ c. code_of c names.new.table.kinds ≡ pred_by names.old (asks_of question z.now) (plain_known known.now)) }
     ensures bound { OnOk result (names.new.table.bound ≡ names.old.table.bound) }
     ensures program { OnOk result (names.new.program ≡ names.old.program) }
 {
@@ -788,10 +770,10 @@ fn asks(
 fn separated(
     alloc: Global,
     zones: &Zones,
-    known: &[Reading],
+    known: &Known<'_>,
     names: &mut Registers<'_>,
 ) -> Result<Code, AllocError>
-    ensures code { IfOk result (λ c. code_of c names.new.table.kinds ≡ pred_by names.old (separated_of zones.now) (plain_readings known.now)) }
+    ensures code { IfOk result (λ c. code_of c names.new.table.kinds ≡ pred_by names.old (separated_of zones.now) (plain_known known.now)) }
     ensures bound { OnOk result (names.new.table.bound ≡ names.old.table.bound) }
     ensures program { OnOk result (names.new.program ≡ names.old.program) }
 {

@@ -5,8 +5,9 @@ ghost use Rattle.c_syntax.specs.Ctypes.{plain_type};
 ghost use Rattle.c_syntax.specs.Logic.{plain_pred, plain_term, plain_zones};
 ghost use Rattle.annot_code.specs.Code.{is_known, is_same_reading, known_at_right, readings_of_variable, sure_readings};
 ghost use Rattle.annot_code.specs.Code.{sure_readings_of_place, sure_readings_of_term, sure_readings_of_zone, sure_readings_of_zones, term_type};
-ghost use Rattle.annot_code.specs.Plain.{plain_reading, plain_readings, plain_zone};
+ghost use Rattle.annot_code.specs.Plain.{plain_known, plain_reading, plain_readings, plain_zone};
 
+use crate::plan::Stored;
 use c_effects::conversion::value_type;
 use c_syntax::CType;
 use c_syntax::logic::{Connective, Links, Pred, PredKind, Term, TermKind, Zone, ZoneKind, Zones};
@@ -18,6 +19,14 @@ use std::alloc::{AllocError, Global};
 pub struct Reading {
     pub decl: u32,
     pub kind: MonType,
+}
+
+/// What is known where a part is asked.
+#[derive(Clone, Copy)]
+pub struct Known<'a> {
+    pub stored: Stored<'a>,
+    /// The variables that were read.
+    pub readings: &'a [Reading],
 }
 
 /// The type of a term that is the value of an object.
@@ -70,7 +79,7 @@ fn read_in_term(t: &Term, to: &mut Vec<Reading>) -> Result<(), AllocError>
 {
     match &*t.kind {
         TermKind::Number(_) | TermKind::Letter(_) | TermKind::Choice(_, _, _) => Ok(()),
-        TermKind::Null => Ok(()),
+        TermKind::Null | TermKind::Named(_) | TermKind::At(_, _) => Ok(()),
         TermKind::Variable(x) => read_variable(&t.ctype, x.decl, to),
         TermKind::Unary(_, a) | TermKind::Cast(_, a) => read_in_term(a, to),
         TermKind::Deref(a) | TermKind::Told(_, a) => read_in_term(a, to),
@@ -102,7 +111,7 @@ fn read_in_place(t: &Term, to: &mut Vec<Reading>) -> Result<(), AllocError>
         TermKind::Unary(_, _) | TermKind::Binary(_, _, _) | TermKind::Cast(_, _) => Ok(()),
         TermKind::Choice(_, _, _) | TermKind::Null | TermKind::Address(_) => Ok(()),
         TermKind::Moved(_, _, _, _) | TermKind::Difference(_, _, _) => Ok(()),
-        TermKind::Told(_, _) => Ok(()),
+        TermKind::Told(_, _) | TermKind::Named(_) | TermKind::At(_, _) => Ok(()),
     }
 }
 
@@ -171,41 +180,41 @@ fn copied(alloc: Global, known: &[Reading]) -> Result<Vec<Reading>, AllocError>
     known.to_vec(alloc)
 }
 
-/// What is known after a predicate that says something.
-pub fn known_after(alloc: Global, known: &[Reading], p: &Pred) -> Result<Vec<Reading>, AllocError>
-    ensures { IfOk result (λ v. plain_readings v.items ≡ plain_readings known.now ++ sure_readings (plain_pred p.now)) }
+/// What is known to be read after a predicate that says something.
+pub fn known_after(alloc: Global, known: &Known<'_>, p: &Pred) -> Result<Vec<Reading>, AllocError>
+    ensures { IfOk result (λ v. plain_readings v.items ≡ (plain_known known.now).readings ++ sure_readings (plain_pred p.now)) }
 {
-    let mut more = copied(alloc, known)?;
+    let mut more = copied(alloc, known.readings)?;
     read_in(p, &mut more)?;
     Ok(more)
 }
 
-/// What is known after a relation that says something.
+/// What is known to be read after a relation that says something.
 pub fn known_after_relation(
     alloc: Global,
-    known: &[Reading],
+    known: &Known<'_>,
     t: &Term,
     u: &Term,
 ) -> Result<Vec<Reading>, AllocError>
-    ensures { IfOk result (λ v. plain_readings v.items ≡ plain_readings known.now
+    ensures { IfOk result (λ v. plain_readings v.items ≡ (plain_known known.now).readings
         ++ (sure_readings_of_term (plain_term t.now) ++ sure_readings_of_term (plain_term u.now))) }
 {
-    let mut more = copied(alloc, known)?;
+    let mut more = copied(alloc, known.readings)?;
     read_in_relation(t, u, &mut more)?;
     Ok(more)
 }
 
-/// What is known where the right side of a connective is asked.
+/// What is known to be read where the right side of a connective is asked.
 pub fn known_at_right(
     alloc: Global,
     connective: Connective,
-    known: &[Reading],
+    known: &Known<'_>,
     left: &Pred,
 ) -> Result<Vec<Reading>, AllocError>
-    ensures { IfOk result (λ v. plain_readings v.items ≡ known_at_right connective (plain_readings known.now) (plain_pred left.now)) }
+    ensures { IfOk result (λ v. plain_readings v.items ≡ known_at_right connective (plain_known known.now).readings (plain_pred left.now)) }
 {
     match connective {
         Connective::And | Connective::Or | Connective::Implies => known_after(alloc, known, left),
-        Connective::Iff | Connective::Xor => copied(alloc, known),
+        Connective::Iff | Connective::Xor => copied(alloc, known.readings),
     }
 }

@@ -11,8 +11,8 @@ use crate::compare::addresses_code;
 use crate::join::related;
 use crate::piece::Code;
 use crate::pointer::{PointerCode, null_code};
-use crate::predicate::{type_of, width_of};
 use crate::value::{type_of_width, wider};
+use crate::width::{type_of, width_of};
 use c_effects::copy::copy_of;
 use c_effects::operator::constant;
 use c_syntax::logic::{Term, TermKind};
@@ -45,7 +45,7 @@ pub fn is_null_term(t: &Term) -> bool
         TermKind::Binary(_, _, _) | TermKind::Cast(_, _) | TermKind::Choice(_, _, _) => false,
         TermKind::Deref(_) | TermKind::Member(_, _) | TermKind::Address(_) => false,
         TermKind::Moved(_, _, _, _) | TermKind::Difference(_, _, _) => false,
-        TermKind::Told(_, _) => false,
+        TermKind::Told(_, _) | TermKind::Named(_) | TermKind::At(_, _) => false,
     }
 }
 
@@ -75,8 +75,8 @@ fn again_pointer(alloc: Global, base: &MonExpr, offset: &MonExpr) -> Result<Poin
     })
 }
 
-/// A side that was computed already.
-pub fn again(alloc: Global, x: &Side) -> Result<Side, AllocError>
+// A side that was computed already.
+fn again(alloc: Global, x: &Side) -> Result<Side, AllocError>
     ensures { IfOk result (λ s. side_of s [] ≡ again (side_of x.now []) []) }
 {
     match x {
@@ -158,4 +158,24 @@ pub fn related_code(
             addresses_code(alloc, relation, nulls, x, y, names)
         }
     }
+}
+
+/// The same, and the second side again, for the next relation.
+pub fn related_again(
+    alloc: Global,
+    relation: Relation,
+    terms: (&Term, &Term),
+    x: Side,
+    y: Side,
+    names: &mut Registers<'_>,
+) -> Result<(Code, Side), AllocError>
+    ensures code { IfOk result (λ c. code_of c.0 names.new.table.kinds
+        ≡ related_code relation (plain_term terms.entry.0.now) (plain_term terms.entry.1.now) (side_of x []) (side_of y names.old.table.kinds)) }
+    ensures again { IfOk result (λ c. side_of c.1 [] ≡ again (side_of y []) []) }
+    ensures bound { OnOk result (names.new.table.bound ≡ names.old.table.bound) }
+    ensures program { OnOk result (names.new.program ≡ names.old.program) }
+{
+    let next = again(alloc, &y)?;
+    let first = related_code(alloc, relation, terms, x, y, names)?;
+    Ok((first, next))
 }

@@ -2,12 +2,13 @@
 
 ghost use Rattle.std.specs.Prelude.{◌≡◌, ◌<◌, [], ◌∷◌, IfOk, OnOk, option_map};
 ghost use Rattle.mon_syntax.specs.Trees.{plain_expr, plain_stmt, plain_stmts};
-ghost use Rattle.c_effects.specs.Expressions.{before};
-ghost use Rattle.annot_code.specs.Pointers.{another_zone, apart_from_each, each_pair, elements_code, no_zones, object_code, question_of};
+ghost use Rattle.c_effects.specs.Expressions.{before, in_type};
+ghost use Rattle.mon_syntax.specs.declared.tree.MonType.TheVariants.{I128};
+ghost use Rattle.annot_code.specs.Pointers.{another_zone, apart_from_each, each_pair, elements_code, elements_of, no_zones, object_code, question_of};
 ghost use Rattle.annot_code.specs.Pointers.{separated_code, zone_asked, zones_parted};
-ghost use Rattle.annot_code.specs.Plain.{all_bytes, bytes_of, code_of, count_of, pointer_of, zone_of, zones_of};
+ghost use Rattle.annot_code.specs.Plain.{all_bytes, answered_by, bytes_of, code_of, count_of, pairs_asked, pointer_of, zone_of, zones_of};
 
-use crate::piece::{Code, guarded, only, then_one, two_fresh};
+use crate::piece::{Code, guarded, in_sequence, only, then_one, two_fresh};
 use crate::pointer::{PointerCode, elements_of};
 use crate::value::conjunction;
 use c_effects::copy::copy_of;
@@ -54,6 +55,34 @@ fn count_of(alloc: Global, low: MonExpr, high: MonExpr) -> Result<MonExpr, Alloc
     operation(alloc, MonOp::Add, MonType::I128, distance, one)
 }
 
+// How many bytes elements of a size from one to another have.
+fn length_of(alloc: Global, n: u32, low: &MonExpr, high: MonExpr) -> Result<MonExpr, AllocError>
+    ensures { IfOk result (λ e. plain_expr e ≡ elements_of n (count_of (plain_expr low.now) (plain_expr high))) }
+{
+    let again = copy_of(alloc, low)?;
+    let count = count_of(alloc, again, high)?;
+    elements_of(alloc, n, count)
+}
+
+// How many bytes stand before the first one, and how many all of them have.
+fn extent(
+    alloc: Global,
+    n: u32,
+    types: (MonType, MonType),
+    low: MonExpr,
+    high: MonExpr,
+) -> Result<(MonExpr, MonExpr), AllocError>
+    ensures begin { IfOk result (λ e. plain_expr e.0 ≡ elements_of n (in_type types.0 I128 (plain_expr low))) }
+    ensures length { IfOk result (λ e. plain_expr e.1
+        ≡ elements_of n (count_of (in_type types.0 I128 (plain_expr low)) (in_type types.1 I128 (plain_expr high)))) }
+{
+    let low = in_type(alloc, types.0, MonType::I128, low)?;
+    let high = in_type(alloc, types.1, MonType::I128, high)?;
+    let length = length_of(alloc, n, &low, high)?;
+    let begin = elements_of(alloc, n, low)?;
+    Ok((begin, length))
+}
+
 /// Elements of a size from one to another, whose numbers are of these types.
 pub fn elements_code(
     alloc: Global,
@@ -65,18 +94,9 @@ pub fn elements_code(
 ) -> Result<ZoneCode, AllocError>
     ensures { IfOk result (λ z. zone_of z [] ≡ elements_code n (pointer_of c []) types.0 types.1 (code_of x []) (code_of y [])) }
 {
-    let (k, l) = types;
-    let mut stmts = c.stmts;
-    then_all(&mut stmts, x.stmts)?;
-    then_all(&mut stmts, y.stmts)?;
-    let flag = conjunction(alloc, c.flag, x.flag)?;
-    let flag = conjunction(alloc, flag, y.flag)?;
-    let low = in_type(alloc, k, MonType::I128, x.value)?;
-    let high = in_type(alloc, l, MonType::I128, y.value)?;
-    let again = copy_of(alloc, &low)?;
-    let count = count_of(alloc, again, high)?;
-    let length = elements_of(alloc, n, count)?;
-    let begin = elements_of(alloc, n, low)?;
+    let (begin, length) = extent(alloc, n, types, x.value, y.value)?;
+    let (stmts, flag) = in_sequence(alloc, (c.stmts, c.flag), (x.stmts, x.flag))?;
+    let (stmts, flag) = in_sequence(alloc, (stmts, flag), (y.stmts, y.flag))?;
     let offset = operation(alloc, MonOp::Add, MonType::I128, c.offset, begin)?;
     let pointer = PointerCode {
         stmts,
@@ -110,6 +130,27 @@ fn copied_flag(alloc: Global, flag: &Option<MonExpr>) -> Result<Option<MonExpr>,
     }
 }
 
+// Statements after others where a flag is 1, and the register in which they leave an answer.
+fn answered_by(
+    alloc: Global,
+    number: u32,
+    stmts: Vec<MonStmt>,
+    flag: Option<MonExpr>,
+    on: Vec<MonStmt>,
+) -> Result<Code, AllocError>
+    ensures { IfOk result (λ c. code_of c [] ≡ answered_by number (plain_stmts stmts.items) (option_map plain_expr flag) (plain_stmts on.items)) }
+{
+    let again = copied_flag(alloc, &flag)?;
+    let mut stmts = stmts;
+    guarded(alloc, flag, on, Vec::new(alloc), &mut stmts)?;
+    let value = register(alloc, number)?;
+    Ok(Code {
+        stmts,
+        flag: again,
+        value,
+    })
+}
+
 /// A question about the bytes of a zone at an alignment.
 pub fn zone_asked(
     alloc: Global,
@@ -123,15 +164,11 @@ pub fn zone_asked(
     ensures program { OnOk result (names.new.program ≡ names.old.program) }
 {
     let answer = names.fresh(MonType::I32)?;
-    let c = z.pointer;
-    let flag = copied_flag(alloc, &c.flag)?;
     let question = question_of(question);
+    let c = z.pointer;
     let asked = ask(alloc, question, c.base, c.offset, z.length, align, answer)?;
     let on = only(alloc, asked)?;
-    let mut stmts = c.stmts;
-    guarded(alloc, c.flag, on, Vec::new(alloc), &mut stmts)?;
-    let value = register(alloc, answer)?;
-    Ok(Code { stmts, flag, value })
+    answered_by(alloc, answer, c.stmts, c.flag, on)
 }
 
 // ---- some zones
@@ -243,6 +280,17 @@ fn each_pair(
     }
 }
 
+// Whether no two of some zones share a byte, in a register; the next one is for the answers.
+fn pairs_asked(alloc: Global, number: u32, zones: &[Bytes]) -> Result<Vec<MonStmt>, AllocError>
+    requires { number < 4294967295 }
+    ensures { IfOk result (λ v. plain_stmts v.items ≡ pairs_asked number (all_bytes zones.now)) }
+{
+    let one = constant(alloc, MonType::I32, 1)?;
+    let mut on = alone(alloc, MonStmtKind::Set(number, one))?;
+    each_pair(alloc, number, zones, &mut on)?;
+    Ok(on)
+}
+
 /// Whether no two of some zones share a byte.
 pub fn separated_code(
     alloc: Global,
@@ -254,17 +302,6 @@ pub fn separated_code(
     ensures program { OnOk result (names.new.program ≡ names.old.program) }
 {
     let number = two_fresh(MonType::I32, names)?;
-    let ZonesCode { stmts, flag, zones } = zs;
-    let again = copied_flag(alloc, &flag)?;
-    let one = constant(alloc, MonType::I32, 1)?;
-    let mut on = alone(alloc, MonStmtKind::Set(number, one))?;
-    each_pair(alloc, number, &zones, &mut on)?;
-    let mut stmts = stmts;
-    guarded(alloc, flag, on, Vec::new(alloc), &mut stmts)?;
-    let value = register(alloc, number)?;
-    Ok(Code {
-        stmts,
-        flag: again,
-        value,
-    })
+    let on = pairs_asked(alloc, number, &zs.zones)?;
+    answered_by(alloc, number, zs.stmts, zs.flag, on)
 }

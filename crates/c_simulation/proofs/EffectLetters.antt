@@ -2,7 +2,7 @@
 use Rattle.std.proofs.Common.{Bool, true, false, ◌&&◌}
 use Rattle.c_syntax.specs.Expressions as source
 use Rattle.c_syntax.specs.Expressions.{Expression, Node, Expressions, NoExpression, Following}
-use Rattle.c_model.specs.SoundJudgements.{LettersFit, AllLettersFit}
+use Rattle.c_model.specs.LetterValues.{LettersFit, AllLettersFit}
 use Rattle.c_effects.specs.Full.{is_pure}
 use Rattle.c_simulation.specs.EffectLaws.{LettersOfActs, LettersOfValues}
 use Rattle.c_effects.specs.Letters.{Where, ValueHasLetters, ValuesHaveLetters, ActHasLetters}

@@ -1,5 +1,5 @@
 -- How the target follows the source through statements, and how it goes on from part to part.
-use Rattle.std.proofs.Common.{◌≡◌, inr, ℕ, ◌≤◌, ℤ, pos, Bool, true, false, cond, List, [], ◌++◌, length, refl, sym, ap, ◌∙◌, subst, arith, append_assoc}
+use Rattle.std.proofs.Common.{◌≡◌, inr, ℕ, ◌≤◌, ℤ, pos, Bool, true, false, cond, List, [], ◌++◌, length, Option, Some, None, refl, sym, ap, ◌∙◌, subst, arith, append_assoc}
 use Rattle.std.proofs.lemmas.List.{append-nil}
 use Rattle.std.specs.Ordering.{int_eq}
 use Rattle.c_model.specs.Memory.{Value}
@@ -8,14 +8,13 @@ use Rattle.c_model.specs.Meaning.{is_zero}
 use Rattle.c_model.specs.Meaning as source_meaning
 use Rattle.c_model.proofs.Agreement.{extends_trans}
 use Rattle.mon_syntax.specs.Registers.{Bindings}
-use Rattle.mon_syntax.specs.Meaning.{Done, Flow, Next, Goes, Returns, writes, then_do, at_next, choose}
+use Rattle.mon_syntax.specs.Meaning.{Done, Flow, Next, Goes, Returns, writes, then_do, at_next, at_label, choose}
 use Rattle.mon_syntax.specs.LiveBlocks.{live_in}
 use Rattle.c_simulation.specs.Following.{Later, Passes, IsResult, Follows, GoesOn, Breaks, Continues, IsLeft, IsOver, IsUndefined}
-use Rattle.c_simulation.specs.Labels.{end_label, next_label}
+use Rattle.c_simulation.specs.Labels.{end_label, next_label, leave_label}
 use Rattle.c_simulation.proofs.Results.{written_writes, written_then}
-use Rattle.c_simulation.specs.Following.{written}
-use Rattle.c_simulation.specs.Standing.{Target, Did, Setting, Bounded, Here, Beside, IsAnchored, InRegister, AtGlobal, Anchored, IsKept, Standing}
-use Rattle.c_simulation.specs.Keeping.{Keeps}
+use Rattle.c_simulation.specs.Following.{written, left_by}
+use Rattle.c_simulation.specs.Standing.{Keeps, Target, Did, Setting, Bounded, Here, Beside, IsAnchored, InRegister, AtGlobal, Anchored, IsKept, Standing}
 use Rattle.c_simulation.specs.SameRegisters.{Same, Stays}
 use Rattle.c_simulation.proofs.Registers.{same_all, keeps_same, stays_same, stays_trans}
 
@@ -57,6 +56,7 @@ pub kept_same : (w : Setting) (low : ℕ) (marks : List Mark) (regs after : List
 kept_same w low marks regs after same k = record {
   below = k.below;
   planned = k.planned;
+  given = k.given;
   keeps = keeps_same low w.plan_to w.plan marks regs after k.below k.planned same k.keeps;
 }
 
@@ -106,7 +106,22 @@ pub standing_after : (w : Setting) (h : Here) (low : ℕ) (bound : Bindings) (re
     → Standing w h low bound regs s → Standing w h low bound after to
 standing_after w h low bound regs after s to o same keeps l st =
     standing_as w h low low bound bound regs after s to h.breaks h.looped st (subst (Anchored w low bound after) (sym l.scope) (anchored_stays w low bound regs after s.scope same st.anchored)) l.calls l.live l.longer l.bounded same.long
-    (record { below = st.kept.below; planned = st.kept.planned; keeps = keeps })
+    (record { below = st.kept.below; planned = st.kept.planned; given = st.kept.given; keeps = keeps })
+
+-- ---- the way out
+
+-- where a call is left, nothing is done that stands behind, and no label of a loop or of its body catches the jump
+pub left_next : (result : Option ℕ) (v : Option Value) (after : List Value) (t : Target) (o : List ℕ) (g : List Value → Target → Did) → then_do (Done (left_by result v after) t o) (at_next g) ≡ Done (left_by result v after) t o
+left_next None v after t o g = ap (Done (Returns v) t) (append-nil o)
+left_next (Some r) v after t o g = ap (Done (Goes leave_label after) t) (append-nil o)
+
+pub left_end : (loops : ℕ) (result : Option ℕ) (v : Option Value) (after : List Value) (t : Target) (o : List ℕ) → then_do (Done (left_by result v after) t o) (at_label (end_label loops)) ≡ Done (left_by result v after) t o
+left_end loops None v after t o = ap (Done (Returns v) t) (append-nil o)
+left_end loops (Some r) v after t o = ap (Done (Goes leave_label after) t) (append-nil o)
+
+pub left_turn : (loops : ℕ) (result : Option ℕ) (v : Option Value) (after : List Value) (t : Target) (o : List ℕ) → then_do (Done (left_by result v after) t o) (at_label (next_label loops)) ≡ Done (left_by result v after) t o
+left_turn loops None v after t o = ap (Done (Returns v) t) (append-nil o)
+left_turn loops (Some r) v after t o = ap (Done (Goes leave_label after) t) (append-nil o)
 
 module _ (w : Setting) (h : Here) (low : ℕ) where
   abbrev pub Follow : List Value → (List Value → Flow Value) → State → Outcome (Unit {0}) → Did → Type 0
@@ -125,7 +140,8 @@ module _ (w : Setting) (h : Here) (low : ℕ) where
       Breaks u after t (o ++ p) i (stays_trans w.plan_from w.plan_to low low regs mid after (omega arith) same m) g (passes_trans from s u o p l k) b e (ap (writes o) f)
   onward regs mid on from s o r q same l (Continues u after t p i m g k b e f) =
       Continues u after t (o ++ p) i (stays_trans w.plan_from w.plan_to low low regs mid after (omega arith) same m) g (passes_trans from s u o p l k) b e (ap (writes o) f)
-  onward regs mid on from s o r q same l (IsLeft v u t p i k b e f) = IsLeft v u t (o ++ p) i (passes_trans from s u o p l k) b e (ap (writes o) f)
+  onward regs mid on from s o r q same l (IsLeft v u after t p i m g x k b e f) =
+      IsLeft v u after t (o ++ p) i (stays_trans w.plan_from w.plan_to low low regs mid after (omega arith) same m) g x (passes_trans from s u o p l k) b e (ap (writes o) f)
   onward regs mid on from s o r q same l (IsOver x z u p d e k f) = IsOver x z u (o ++ p) d e (k ∙ ap (λ y. y ++ p) l.output ∙ append_assoc from.output o p) (ap (writes o) f)
   onward regs mid on from s o r q same l (IsUndefined at u p e k x) =
       IsUndefined at u (o ++ p) e (k ∙ ap (λ y. y ++ p) l.output ∙ append_assoc from.output o p)
@@ -157,8 +173,8 @@ module _ (w : Setting) (h : Here) (low : ℕ) where
       Breaks s after t o i m g2 l b (ap (λ r. on_outcome r (λ _. f)) e) (ap (λ q. then_do q (at_next g)) e' ∙ ap (Done (Goes (end_label h.levels) after) t) (append-nil o))
   follows_then regs on from r q f g (Continues s after t o i m g2 l b e e') k =
       Continues s after t o i m g2 l b (ap (λ r. on_outcome r (λ _. f)) e) (ap (λ q. then_do q (at_next g)) e' ∙ ap (Done (Goes (next_label h.innermost) after) t) (append-nil o))
-  follows_then regs on from r q f g (IsLeft v s t o i l b e e') k =
-      IsLeft v s t o i l b (ap (λ r. on_outcome r (λ _. f)) e) (ap (λ q. then_do q (at_next g)) e' ∙ ap (Done (Returns v) t) (append-nil o))
+  follows_then regs on from r q f g (IsLeft v s after t o i m g2 x l b e e') k =
+      IsLeft v s after t o i m g2 x l b (ap (λ r. on_outcome r (λ _. f)) e) (ap (λ q. then_do q (at_next g)) e' ∙ left_next w.result v after t o g)
   follows_then regs on from r q f g (IsOver x z s o d e l e') k =
       IsOver x z s o d (ap (λ r. on_outcome r (λ _. f)) e) l (ap (λ q. then_do q (at_next g)) e')
   follows_then regs on from r q f g (IsUndefined at s o e l ext) k =
@@ -171,6 +187,6 @@ pub anywhere : (w : Setting) (h there : Here) (low : ℕ) (regs : List Value) (o
 anywhere w h there low regs on from r q closed outside same (GoesOn s after t o m g l b e f) = GoesOn s after t o m g l b e f
 anywhere w h there low regs on from r q closed outside same (Breaks s after t o i m g l b e f) = absurd cc
 anywhere w h there low regs on from r q closed outside same (Continues s after t o i m g l b e f) = absurd cc
-anywhere w h there low regs on from r q closed outside same (IsLeft v s t o i l b e f) = IsLeft v s t o (subst (λ k. IsResult k v) same i) l b e f
+anywhere w h there low regs on from r q closed outside same (IsLeft v s after t o i m g x l b e f) = IsLeft v s after t o (subst (λ k. IsResult k v) same i) m g x l b e f
 anywhere w h there low regs on from r q closed outside same (IsOver x z s o d e l f) = IsOver x z s o d e l f
 anywhere w h there low regs on from r q closed outside same (IsUndefined at s o e l ext) = IsUndefined at s o e l ext

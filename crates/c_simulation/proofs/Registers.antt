@@ -1,13 +1,16 @@
 -- Registers that stay the same, and those that are set.
-use Rattle.std.proofs.Common.{◌≡◌, ℕ, zero, suc, ◌<◌, ◌≤◌, List, [], ◌∷◌, ◌++◌, length, length-set, length-append, Some, slice_get, slice_set, refl, sym, ◌∙◌, arith, Bool, true, false, cond, nat_eq, None, ap}
+use Rattle.std.proofs.Common.{◌≡◌, ◌⊎◌, inl, inr, ℕ, zero, suc, ◌+◌, ◌<◌, ◌≤◌, List, [], ◌∷◌, ◌++◌, length, length-set, length-append, Option, Some, slice_get, slice_set, refl, sym, ◌∙◌, arith, Bool, true, false, cond, nat_eq, None, ap}
 use Rattle.c_model.specs.Memory.{Value}
 use Rattle.c_model.proofs.Blocks.{slice_get-slice_set_same, slice_get-slice_set_other}
 use Rattle.mon_syntax.specs.declared.tree.MonType.{MonType}
 use Rattle.mon_syntax.specs.Registers.{Bindings, register_of, bound_with}
 use Rattle.std.proofs.lemmas.Bool.{eq-eqb}
 use Rattle.std.proofs.lemmas.Bool.Decides.{nat_tests}
+use Rattle.c_syntax.specs.Logic.{LogicTerm}
+use Rattle.c_model.specs.Logic.{TermValue}
 use Rattle.c_model.specs.State.{Mark}
-use Rattle.c_simulation.specs.Keeping.{Kept, Keeps, StandBelow}
+use Rattle.c_simulation.specs.Keeping.{Kept, GivesTerm, GiveTerms, StandBelow, is_pointer_term, kept_value, registers_by}
+use Rattle.c_simulation.specs.Standing.{Keeps}
 use Rattle.c_simulation.specs.SameRegisters.{Same, Stays}
 
 -- ---- lists
@@ -48,22 +51,56 @@ stays_same n m low regs after h = record { long = h.long; kept = λ j lt apart. 
 pub stays_trans : (n m low high : ℕ) (a b c : List Value) → low ≤ high → Stays n m low a b → Stays n m high b c → Stays n m low a c
 stays_trans n m low high a b c le h g = record { long = g.long ∙ h.long; kept = λ j lt apart. g.kept j (omega (arith, lt, le)) apart ∙ h.kept j lt apart }
 
--- what registers keep stays as long as they do
-pub keeps_same : (n m : ℕ) (ks : List Kept) (marks : List Mark) (regs after : List Value) → m ≤ n → StandBelow m ks → Same n regs after → Keeps ks marks regs → Keeps ks marks after
-keeps_same n m [] marks regs after le s same h = tt
-keeps_same n m (k ∷ ks) marks regs after le s same h = (
-  record {
-    flag_is = same.below k.register (omega (arith, le, s.0)) ∙ h.0.flag_is;
-    value_is = λ z e. same.below (suc k.register) (omega (arith, le, s.0)) ∙ h.0.value_is z e;
-  },
-  keeps_same n m ks marks regs after le s.1 same h.1,
+-- a register between the two may be set
+pub stays_set : (n m low r : ℕ) (regs : List Value) (v : Value) → n ≤ r → r < m → Stays n m low regs (slice_set regs r v)
+stays_set n m low r regs v le lt = record { long = length-set regs r v; kept = λ j below apart. slice_get-slice_set_other regs r j v (differs j apart) }
+  where
+    differs : (j : ℕ) → (j < n) ⊎ (m ≤ j) → j ≡ r → ⊥
+    differs j (inl before) e = omega (arith, e, before, le)
+    differs j (inr behind) e = omega (arith, e, behind, lt)
+
+-- a term that is kept stays as long as its registers do
+pub gives_same : (n : ℕ) (t : LogicTerm) (o : Option TermValue) (r : ℕ) (regs after : List Value) → (b : Bool) → is_pointer_term t ≡ b → r + registers_by b ≤ n → Same n regs after → GivesTerm t o r regs → GivesTerm t o r after
+gives_same n t o r regs after false e le same h = record {
+  flag_is = same.below r (omega (arith, le)) ∙ h.flag_is;
+  value_is = λ z q. same.below (suc r) (omega (arith, le)) ∙ h.value_is z q;
+  pointer_is = λ p x q. let no : false ≡ true = sym e ∙ p in absurd cc;
+}
+gives_same n t o r regs after true e le same h = record {
+  flag_is = same.below r (omega (arith, le)) ∙ h.flag_is;
+  value_is = λ z q. same.below (suc r) (omega (arith, le)) ∙ h.value_is z q;
+  pointer_is = λ p x q.
+      let g = h.pointer_is p x q in record {
+        pointer = g.pointer;
+        distance = g.distance;
+        base_is = same.below (suc r) (omega (arith, le)) ∙ g.base_is;
+        offset_is = same.below (suc (suc r)) (omega (arith, le)) ∙ g.offset_is;
+        is = g.is;
+        small = g.small;
+        lies = g.lies;
+      };
+}
+
+-- so does what they have of a plan
+pub terms_same : (n m : ℕ) (ks : List Kept) (marks : List Mark) (regs after : List Value) → m ≤ n → StandBelow m ks → Same n regs after → GiveTerms ks marks regs → GiveTerms ks marks after
+terms_same n m [] marks regs after le s same h = tt
+terms_same n m (k ∷ ks) marks regs after le s same h = (
+  gives_same n k.term (kept_value k marks) k.register regs after (is_pointer_term k.term) refl (omega (arith, le, s.0)) same h.0,
+  terms_same n m ks marks regs after le s.1 same h.1,
 )
+
+pub keeps_same : (n m : ℕ) (ks : List Kept) (marks : List Mark) (regs after : List Value) → m ≤ n → StandBelow m ks → Same n regs after → Keeps ks marks regs → Keeps ks marks after
+keeps_same n m ks marks regs after le s same h = record { terms = terms_same n m ks marks regs after le s same h.terms; past = h.past }
 
 -- ---- registers that are set
 
 -- a register from n on gets a value
 pub same_set : (n r : ℕ) (regs : List Value) (v : Value) → n ≤ r → Same n regs (slice_set regs r v)
 same_set n r regs v le = record { long = length-set regs r v; below = λ j lt. slice_get-slice_set_other regs r j v (λ e. omega (arith, e, lt, le)) }
+
+-- one behind those of a plan
+pub keeps_set : (r : ℕ) (ks : List Kept) (marks : List Mark) (regs : List Value) (v : Value) → StandBelow r ks → Keeps ks marks regs → Keeps ks marks (slice_set regs r v)
+keeps_set r ks marks regs v below h = keeps_same r r ks marks regs (slice_set regs r v) (omega arith) below (same_set r r regs v (omega arith)) h
 
 -- further registers
 pub longer : (rs ts : List MonType) → length rs ≤ length (rs ++ ts)

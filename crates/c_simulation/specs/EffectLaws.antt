@@ -6,7 +6,7 @@ use Rattle.c_syntax.specs.Layouts.{Scalar, scalar_of}
 use Rattle.c_model.specs.ExpressionTyping.{Sight, has_object}
 use Rattle.c_model.specs.Meaning.{condition_of, eval_with, place_with, tables_of}
 use Rattle.c_model.specs.Memory.{Pointer, Points, Value, shifted}
-use Rattle.c_model.specs.SoundJudgements.{LettersFit}
+use Rattle.c_model.specs.LetterValues.{LettersFit}
 use Rattle.c_model.specs.State.{State}
 use Rattle.c_model.specs.TypedTrees.{WellTyped}
 use Rattle.c_syntax.specs.Programs.{StructType}

@@ -1,5 +1,5 @@
 -- How the target follows the source: through an expression to its value, its place or its test, and through statements.
-use Rattle.std.specs.Prelude.{◌≡◌, ℕ, ◌≤◌, ℤ, pos, Bool, true, false, List, [], ◌++◌, length, Option, Some, None}
+use Rattle.std.specs.Prelude.{◌≡◌, ℕ, ◌≤◌, ℤ, pos, Bool, true, false, List, [], ◌++◌, length, Option, Some, None, slice_get}
 use Rattle.std.specs.Ordering.{int_eq}
 use Rattle.c_syntax.specs.declared.place.Place.{Place}
 use Rattle.c_syntax.specs.Ctypes.{PlainType}
@@ -15,10 +15,9 @@ use Rattle.mon_syntax.specs.BlockMemory.{Blocks}
 use Rattle.mon_syntax.specs.LiveBlocks.{live_in}
 use Rattle.mon_syntax.specs.Meaning.{Result, Done, Stops, Flow, Next, Goes, Returns}
 use Rattle.mon_syntax.specs.Trees.{MonExpression}
-use Rattle.c_simulation.specs.Labels.{end_label, next_label}
-use Rattle.c_simulation.specs.Keeping.{Keeps}
+use Rattle.c_simulation.specs.Labels.{end_label, next_label, leave_label}
 use Rattle.c_simulation.specs.SameRegisters.{Same, Stays}
-use Rattle.c_simulation.specs.Standing.{Target, Did, Setting, Has, IsSmall, IsOf, IsInside, Bounded, Here, Beside}
+use Rattle.c_simulation.specs.Standing.{Target, Did, Setting, Has, IsSmall, IsOf, IsInside, Bounded, Keeps, Here, Beside}
 
 -- the bytes that a part wrote
 abbrev pub written : {S A : Type 0} → Result S A → List ℕ
@@ -79,6 +78,17 @@ IsResultOf (Some k) (Some v) = IsOf k v
 abbrev pub IsResult : PlainType → Option Value → Type 0
 IsResult t v = IsResultOf (scalar_of t) v
 
+-- how a call is left: by a `return`, or at the end of its body, where its contract is checked behind that
+abbrev pub left_by : Option ℕ → Option Value → List Value → Flow Value
+left_by None v after = Returns v
+left_by (Some r) v after = Goes leave_label after
+
+-- where it is checked, the register of the result has what is given
+abbrev pub HoldsResult : Option ℕ → Option Value → List Value → Type 0
+HoldsResult None v after = Unit {0}
+HoldsResult (Some r) None after = Unit {0}
+HoldsResult (Some r) (Some v) after = slice_get after r ≡ Some v
+
 -- From a state, and over these registers, of which those below `low` are kept but for the plan's, the target's statements did what the source's did, where
 -- the source goes on, leaves a loop, a switch or a loop's body, returns, or is over; the plan's registers have what the marks then say. The target has the
 -- source's blocks; where it leaves these or the call, what was born inside is dead there already. After an undefined operation the target may do anything.
@@ -92,8 +102,9 @@ pub data Follows (w : Setting) (h : Here) (low : ℕ) (regs : List Value) (on : 
   Continues : (s : State) (after : List Value) (t : Target) (o : List ℕ) → h.looped ≡ true → Stays w.plan_from w.plan_to low regs after
       → Keeps w.plan s.marks after → Passes from s o → Beside w (kill_from h.loop s.store) s t → r ≡ Stop (Leaves source.Continues) s
       → q ≡ Done (Goes (next_label h.innermost) after) t o → Follows w h low regs on from r q
-  IsLeft : (v : Option Value) (s : State) (t : Target) (o : List ℕ) → IsResult h.result v → Passes from s o → Beside w (kill_from w.base s.store) s t
-      → r ≡ Stop (Leaves (source.Returns v)) s → q ≡ Done (Returns v) t o → Follows w h low regs on from r q
+  IsLeft : (v : Option Value) (s : State) (after : List Value) (t : Target) (o : List ℕ) → IsResult h.result v → Stays w.plan_from w.plan_to low regs after
+      → Keeps w.plan s.marks after → HoldsResult w.result v after → Passes from s o → Beside w (kill_from w.base s.store) s t
+      → r ≡ Stop (Leaves (source.Returns v)) s → q ≡ Done (left_by w.result v after) t o → Follows w h low regs on from r q
   IsOver : (e : Final) (z : machine.Final) (s : State) (o : List ℕ) → machine_end e ≡ Some z → r ≡ Stop (Over e) s → s.output ≡ from.output ++ o
       → q ≡ Stops z s.steps o → Follows w h low regs on from r q
   IsUndefined : (at : Place) (s : State) (o : List ℕ) → r ≡ Stop (Over (Undefined at)) s → s.output ≡ from.output ++ o → Extends o (written q)

@@ -1,5 +1,5 @@
 -- How a call in monitored C stands beside one of the source: it has the source's blocks, and registers point to those of the names in sight.
-use Rattle.std.specs.Prelude.{◌≡◌, ℕ, ◌^◌, ◌<◌, ◌≤◌, ℤ, pos, Bool, true, false, nat_eq, List, [], ◌∷◌, ◌++◌, length, Some, None, slice_get}
+use Rattle.std.specs.Prelude.{◌≡◌, ℕ, ◌^◌, ◌<◌, ◌≤◌, ℤ, pos, Bool, true, false, nat_eq, List, [], ◌∷◌, ◌++◌, length, Option, Some, None, slice_get}
 use Rattle.c_syntax.specs.Ctypes.{PlainType}
 use Rattle.c_syntax.specs.Programs.{StringLiteral, TranslationUnit}
 use Rattle.c_syntax.specs.declared.types.CInt.TheVariants.{U64}
@@ -20,7 +20,7 @@ use Rattle.c_model.specs.TypedTrees.{HasKnownSize}
 use Rattle.c_effects.specs.Expressions.{global_index, object_of_global, object_of_literal}
 use Rattle.track_scopes.specs.Lives.{AreFrom, AreBefore}
 use Rattle.c_model.specs.StaticObjects.{static_objects}
-use Rattle.c_simulation.specs.Keeping.{Kept, Keeps, StandBelow}
+use Rattle.c_simulation.specs.Keeping.{Kept, GiveTerms, StandBelow, StandsBehind}
 
 -- a state of the target, and what statements of it did
 abbrev pub Target : Type 0
@@ -43,10 +43,12 @@ pub record Setting : Type 0 where
   pub base : ℕ
   pub around : List LiveBlock
   pub active : ℕ
-  -- the terms that are kept where labels are passed, and from which register to which these stand
+  -- the terms that are kept where labels are passed, and from which register to which these stand, and behind them what the call gives, where its contract
+  -- is checked behind its body
   pub plan : List Kept
   pub plan_from : ℕ
   pub plan_to : ℕ
+  pub result : Option ℕ
 
 -- what statements of the target do, with loops of at most n turns
 abbrev pub runs : Setting → ℕ → Target → MonStatements → List Value → Did
@@ -131,6 +133,16 @@ abbrev pub Bounded : Store → Type 0
 Bounded [] = Unit {0}
 Bounded (b ∷ bs) = IsBounded b × Bounded bs
 
+-- the stores at the passages of labels are
+abbrev pub AreBounded : List Mark → Type 0
+AreBounded [] = Unit {0}
+AreBounded (m ∷ ms) = Bounded m.store × AreBounded ms
+
+-- registers hold what the marks say of each term of a plan, and the stores of the marks are within what a machine has
+pub record Keeps (ks : List Kept) (marks : List Mark) (regs : List Value) : Type 0 where
+  pub terms : GiveTerms ks marks regs
+  pub past : AreBounded marks
+
 -- ---- where a statement stands in a call
 
 -- The blocks of the call's variables that live, the youngest first: those born since what a `break` leaves began, from there to the body of the
@@ -152,6 +164,7 @@ pub record Here : Type 0 where
 pub record IsKept (w : Setting) (low : ℕ) (marks : List Mark) (regs : List Value) : Type 0 where
   pub below : w.plan_to ≤ low
   pub planned : StandBelow w.plan_to w.plan
+  pub given : StandsBehind w.plan_from w.plan_to w.plan w.result
   pub keeps : Keeps w.plan marks regs
 
 -- a state of the source in which these live, and what the registers below `low` have of it

@@ -10,6 +10,9 @@ use Rattle.annot_code.proofs.predicate.+code.Given as goal
 abbrev pub decreases-term_code : goal.decreases-term_code
 decreases-term_code l = 8 * size-Term l.t.now
 
+abbrev pub decreases-here : goal.decreases-here
+decreases-here l = 8 * size-Term l.a.now + 1
+
 abbrev pub decreases-prefixed : goal.decreases-prefixed
 decreases-prefixed l = 8 * size-Term l.a.now + 1
 
