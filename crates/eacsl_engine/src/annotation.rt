@@ -51,6 +51,7 @@ fn after_kind(count: u32, kind: &StmtKind) -> Result<u32, AllocError>
         | StmtKind::Break
         | StmtKind::Continue
         | StmtKind::Return(_) => Ok(count),
+        StmtKind::Labelled(_, a) => after_statement(count, a),
         StmtKind::Switch(_, cases) => after_cases(count, cases),
     }
 }

@@ -4,12 +4,14 @@ use crate::monitored::constant;
 use crate::reading::tokens_of;
 use crate::same::{made, same_bytes, same_number, same_numbers};
 use acsl_parser::{annotations, read_annot};
-use annot_typing::type_clauses;
+use annot_typing::{ClauseSight, type_clauses};
+use behavior_split::split;
 use c_expr_parser::vocabulary::vocabulary;
 use c_scopes::TypeFault;
 use c_scopes::entities::Entities;
+use c_scopes::label::Labels;
 use c_scopes::literal::Literals;
-use c_scopes::sight::Sight;
+use c_scopes::sight::{Sight, mark_here};
 use c_scopes::signature::Functions;
 use c_scopes::tag::Tags;
 use c_scopes::type_name::TypeNames;
@@ -26,10 +28,10 @@ fn reads(rt: &(impl Abort + AllocGlobal), text: &str, wanted: (i128, i128), left
     let tokens = tokens_of(rt, text);
     let words = made(rt, vocabulary(rt.alloc(), &tokens.names));
     match annotations(rt.alloc(), &words, 1, &tokens.list) {
-        Ok((all, next, rest)) => {
-            let found = (all.len() as i128, i128::from(next));
+        Ok((read, next, rest)) => {
+            let found = (read.0.len() as i128, i128::from(next));
             let behind = rest.len() as u128;
-            drop(all);
+            drop(read);
             same_numbers(rt, found, wanted);
             same_number(rt, behind, left);
         }
@@ -89,12 +91,39 @@ fn an_annotation_is_read_by_the_names_of_types(rt: HostRuntime) {
     refuses_first(&rt, text, 15, b"1");
 }
 
+/// Compares how many checks a contract has where a call begins and where it ends.
+fn splits(rt: &(impl Abort + AllocGlobal), text: &str, wanted: (i128, i128)) {
+    let tokens = tokens_of(rt, text);
+    let words = made(rt, vocabulary(rt.alloc(), &tokens.names));
+    match annotations(rt.alloc(), &words, 1, &tokens.list) {
+        Ok((read, _, _)) => match &read.1 {
+            Some(contract) => {
+                let checks = made(rt, split(rt.alloc(), contract));
+                same_numbers(
+                    rt,
+                    (checks.entry.len() as i128, checks.leave.len() as i128),
+                    wanted,
+                );
+            }
+            None => panic!(rt; "it is no contract"),
+        },
+        Err(_) => panic!(rt; "it isn't read"),
+    }
+}
+
+#[test]
+fn the_clauses_of_a_contract_are_checked_where_a_call_begins_and_ends(rt: HostRuntime) {
+    let text =
+        "/*@ requires 0 < 1; ensures \\true; behavior b: assumes 1 < 2; requires 2 < 3; complete behaviors; */";
+    splits(&rt, text, (4, 1));
+}
+
 /// The asserts of a text, whose names have no declarations, and what is in sight of them.
 fn read(rt: &(impl Abort + AllocGlobal), text: &str) -> (Vec<Annot>, Sight) {
     let Tokens { list, names, .. } = tokens_of(rt, text);
     let words = made(rt, vocabulary(rt.alloc(), &names));
     match annotations(rt.alloc(), &words, 1, &list) {
-        Ok((all, _, _)) => (all, sight_of(rt, names)),
+        Ok((read, _, _)) => (read.0, sight_of(rt, names)),
         Err(_) => panic!(rt; "it isn't read"),
     }
 }
@@ -131,10 +160,21 @@ fn refuses(rt: &impl Abort, found: Result<(), TypeFault>, code: u8, offset: i128
     }
 }
 
+/// Types asserts at the beginning of a body without labels.
+fn type_asserts(
+    rt: &impl AllocGlobal,
+    sight: &mut Sight,
+    all: &mut Vec<Annot>,
+) -> Result<(), TypeFault> {
+    let labels = Labels::new(rt.alloc());
+    let begin = mark_here(sight);
+    type_clauses(rt.alloc(), sight, ClauseSight::InBody(begin, &labels), all)
+}
+
 /// Compares the refusal by typing.
 fn has_no_type(rt: &(impl Abort + AllocGlobal), text: &str, code: u8, offset: i128) {
-    let (mut all, sight) = read(rt, text);
-    let found = type_clauses(rt.alloc(), &sight, &mut all);
+    let (mut all, mut sight) = read(rt, text);
+    let found = type_asserts(rt, &mut sight, &mut all);
     refuses(rt, found, code, offset);
 }
 
@@ -146,8 +186,8 @@ fn names_and_sorts_are_refused(rt: HostRuntime) {
 
 /// The typed asserts of a text.
 fn typed(rt: &(impl Abort + AllocGlobal), text: &str) -> Vec<Annot> {
-    let (mut all, sight) = read(rt, text);
-    made(rt, type_clauses(rt.alloc(), &sight, &mut all));
+    let (mut all, mut sight) = read(rt, text);
+    made(rt, type_asserts(rt, &mut sight, &mut all));
     all
 }
 

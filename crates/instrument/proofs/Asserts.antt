@@ -13,8 +13,6 @@ use Rattle.c_model.specs.Logic.{Answer, Says, SaysNothing, OutOfSteps}
 use Rattle.c_model.specs.Logic as source
 use Rattle.c_model.specs.Predicates.{pred, clause, check, checks}
 use Rattle.c_model.proofs.Along.{steps_of, steps_pred}
-use Rattle.c_model.specs.ExpressionTyping.{Sight}
-use Rattle.c_model.specs.TypedPredicates.{ClauseTyped, AnnotationsTyped}
 use Rattle.c_model.specs.Unranged.{ClauseRanged}
 use Rattle.mon_syntax.specs.declared.tree.MonType.{MonType}
 use Rattle.mon_syntax.specs.Registers.{Bindings}
@@ -27,12 +25,12 @@ use Rattle.c_effects.specs.Expressions.{one}
 use Rattle.annot_code.specs.Code.{Judgement, judgement, clause_judgement, asserted, assertion, behind_assertion, assertions, behind_assertions}
 use Rattle.annot_code.specs.Does as code
 use Rattle.annot_code.specs.Does.{Finishes, IsJudged, Judges, is_true}
-use Rattle.interval_infer.specs.InSight.{AreFound}
-use Rattle.annot_code.specs.Beside.{judging}
+use Rattle.annot_code.specs.Beside.{AreHeld, judging}
 use Rattle.c_simulation.specs.SameRegisters.{Same}
 use Rattle.annot_code.proofs.Asserted.{assertion_grows, behind_grows}
-use Rattle.annot_code.proofs.Beside.{stands_anchored, ranges_hold, typed_predicates_are_found}
+use Rattle.annot_code.proofs.Beside.{stands_anchored, ranges_hold}
 use Rattle.annot_code.proofs.Theorem.{code_judges}
+use Rattle.instrument.proofs.Passages.{ClauseFound, AnnotationsFound}
 use Rattle.instrument.proofs.RangedTrees.{AreRangedAsserts}
 use Rattle.c_simulation.proofs.Results.{one_is, before_is, writes_none}
 use Rattle.c_simulation.specs.Standing.{Setting, Target, Did, runs, Bounded, Anchored, Here, IsKept, Standing, Beside}
@@ -44,7 +42,7 @@ use Rattle.c_simulation.proofs.Values.{HasNumber}
 module _ (w : Setting) (n : ℕ) (low : ℕ) (bound : Bindings) (s : State) (t : Target) where
   -- where the code of a predicate runs
   abbrev asked : List Value → code.Setting
-  asked regs = judging w n low bound [] [] s t regs
+  asked regs = judging w n low bound [] [] [] s t regs
 
   -- with so many steps left
   abbrev stepped : Target → ℕ → Target
@@ -99,36 +97,41 @@ module _ (w : Setting) (n : ℕ) (low : ℕ) (bound : Bindings) (s : State) (t :
         let ask = one (Assert (Register j.flag) (Register j.truth) a.number a.place.line a.kind) in
         IsOver Spent machine.Spent (record s { steps = 0 }) [] refl refl (sym (append-nil s.output)) (before_is w.globals j.stmts ask w.calls n regs t ∙ ap (λ q. then_do q (at_next (λ r u. runs w n u ask r))) f)
 
-    clause_follows : (sight : Sight) → AreFound sight.entities s.scope → (a : Annotation) (c : ClauseBody) → IsShortClause c → ClauseTyped sight c → ClauseRanged c → (rs : List MonType) → low ≤ length rs → (regs : List Value)
-        → length (clause_judgement w.unit bound c rs).used ≤ length regs → IsKept w low s.marks regs → Anchored w low bound regs s.scope
-        → Follows w h low regs Next s (source.judged a (clause c s [] s.steps) s) (runs w n t (asserted a (clause_judgement w.unit bound c rs)) regs)
-    clause_follows sight found a (Raw f) p q r rs behind regs room kept anchored = absurd p
-    clause_follows sight found a (logic.Value c) p q r rs behind regs room kept anchored = absurd q
-    clause_follows sight found a (Behaviors names) p q r rs behind regs room kept anchored = absurd q
-    clause_follows sight found a (Holds c) p q r rs behind regs room kept anchored =
-        let j = judgement w.unit bound c rs in
+    -- no name of annotations is known
+    none_held : (regs : List Value) → AreHeld (asked regs)
+    none_held regs x o e = absurd cc
+
+    clause_follows : (a : Annotation) (c : ClauseBody) → ClauseFound w.plan s.scope c → IsShortClause c → ClauseRanged [] c → (rs : List MonType) → low ≤ length rs → (regs : List Value)
+        → length (clause_judgement w.unit bound w.plan [] c rs).used ≤ length regs → IsKept w low s.marks regs → Anchored w low bound regs s.scope
+        → Follows w h low regs Next s (source.judged a (clause c s [] s.steps) s) (runs w n t (asserted a (clause_judgement w.unit bound w.plan [] c rs)) regs)
+    clause_follows a (Raw f) found p r rs behind regs room kept anchored = absurd p
+    clause_follows a (logic.Value c) found p r rs behind regs room kept anchored = absurd found
+    clause_follows a (Behaviors names) found p r rs behind regs room kept anchored = absurd p
+    clause_follows a (Holds c) found p r rs behind regs room kept anchored =
+        let j = judgement w.unit bound w.plan [] c rs in
         subst (λ i. Follows w h low regs Next s (source.judged a (pred c s [] i) s) (runs w n t (asserted a j) regs)) b.steps
         (answer_follows a j rs regs (pred c s [] t.steps) behind kept (subst (λ i. steps_of (pred c s [] t.steps) ≤ i) b.steps (steps_pred c s [] t.steps))
-        (code_judges (asked regs) c rs (stands_anchored w n low bound s t regs b.store_is bounded anchored) (ranges_hold s bounded) r (typed_predicates_are_found sight s.scope found c q) behind room))
+        (code_judges (asked regs) c rs (stands_anchored w n low bound [] [] [] s t regs b.store_is bounded anchored kept (none_held regs)) (ranges_hold w.plan [] s bounded kept.keeps.past) r found behind room))
 
-    assertion_follows : (sight : Sight) → AreFound sight.entities s.scope → (a : Annotation) → IsAssert a → ClauseTyped sight a.body → ClauseRanged a.body → (rs : List MonType) → low ≤ length rs
-        → (regs : List Value) → length (behind_assertion w.unit bound rs a) ≤ length regs → IsKept w low s.marks regs → Anchored w low bound regs s.scope → Follows w h low regs Next s (check a s) (runs w n t (assertion w.unit bound rs a) regs)
-    assertion_follows sight found a p q r rs behind regs room kept anchored = clause_follows sight found a a.body p.body q r rs behind regs room kept anchored
+    assertion_follows : (a : Annotation) → ClauseFound w.plan s.scope a.body → IsAssert a → ClauseRanged [] a.body → (rs : List MonType) → low ≤ length rs
+        → (regs : List Value) → length (behind_assertion w.unit bound w.plan [] rs a) ≤ length regs → IsKept w low s.marks regs → Anchored w low bound regs s.scope
+        → Follows w h low regs Next s (check a s) (runs w n t (assertion w.unit bound w.plan [] rs a) regs)
+    assertion_follows a found p r rs behind regs room kept anchored = clause_follows a a.body found p.body r rs behind regs room kept anchored
 
-module _ (w : Setting) (n : ℕ) (h : Here) (sight : Sight) (low : ℕ) (bound : Bindings) where
-  pub assertions_follow : (annots : List Annotation) → AreRangedAsserts annots → AnnotationsTyped sight annots → (rs : List MonType) → low ≤ length rs → length (behind_assertions w.unit bound rs annots) ≤ w.registers
-      → (regs : List Value) (s : State) (t : Target) → AreFound sight.entities s.scope → Standing w h low bound regs s → Beside w s.store s t
-      → Follows w h low regs Next s (checks annots s) (runs w n t (assertions w.unit bound rs annots) regs)
-  assertions_follow [] p q rs behind room regs s t found m b = stays w h low regs s t m.bounded m.kept.keeps b
-  assertions_follow (a ∷ annots) p q rs behind room regs s t found m b =
-      let here = behind_assertion w.unit bound rs a in
-      let more = behind_grows w.unit bound here annots in
-      let this = assertion_grows w.unit bound rs a in
-      let first = assertion w.unit bound rs a in
-      let others = assertions w.unit bound here annots in
+module _ (w : Setting) (n : ℕ) (h : Here) (low : ℕ) (bound : Bindings) where
+  pub assertions_follow : (annots : List Annotation) → AreRangedAsserts annots → (rs : List MonType) → low ≤ length rs → length (behind_assertions w.unit bound w.plan [] rs annots) ≤ w.registers
+      → (regs : List Value) (s : State) (t : Target) → AnnotationsFound w.plan s.scope annots → Standing w h low bound regs s → Beside w s.store s t
+      → Follows w h low regs Next s (checks annots s) (runs w n t (assertions w.unit bound w.plan [] rs annots) regs)
+  assertions_follow [] p rs behind room regs s t found m b = stays w h low regs s t m.bounded m.kept.keeps b
+  assertions_follow (a ∷ annots) p rs behind room regs s t found m b =
+      let here = behind_assertion w.unit bound w.plan [] rs a in
+      let more = behind_grows w.unit bound w.plan [] here annots in
+      let this = assertion_grows w.unit bound w.plan [] rs a in
+      let first = assertion w.unit bound w.plan [] rs a in
+      let others = assertions w.unit bound w.plan [] here annots in
       subst (λ q. Follows w h low regs Next s (checks (a ∷ annots) s) q) (sym (before_is w.globals first others w.calls n regs t))
       (follows_then w h low regs Next s (check a s) (runs w n t first regs) (checks annots) (λ r u. runs w n u others r)
-      (assertion_follows w n low bound s t h b m.bounded sight found a p.are.0 q.0 p.ranged.0 rs behind regs (omega (arith, more, room, m.registers)) m.kept m.anchored)
+      (assertion_follows w n low bound s t h b m.bounded a found.0 p.are.0 p.ranged.0 rs behind regs (omega (arith, more, room, m.registers)) m.kept m.anchored)
       (λ to after u o same keeps la be.
-      assertions_follow annots (record { are = p.are.1; ranged = p.ranged.1 }) q.1 here (omega (arith, behind, this)) room after to u (subst (AreFound sight.entities) (sym la.scope) found)
+      assertions_follow annots (record { are = p.are.1; ranged = p.ranged.1 }) here (omega (arith, behind, this)) room after to u (subst (λ scope. AnnotationsFound w.plan scope annots) (sym la.scope) found.1)
       (standing_after w h low bound regs after s to o same keeps la m) be))

@@ -18,8 +18,7 @@ use Rattle.mon_syntax.specs.LiveBlocks.{LiveBlock, live_in}
 use Rattle.mon_syntax.proofs.FlatBlocks.{live-born}
 use Rattle.track_scopes.specs.Blocks.{with_pointer, entered, with_born}
 use Rattle.track_scopes.specs.Lives.{AreFrom, Point, PointInOrder, PointToBorn, with_variables}
-use Rattle.c_simulation.specs.Standing.{Setting, Bounded, Here, Standing, IsAnchored, InRegister, AtGlobal, IsInSight, Anchored}
-use Rattle.c_simulation.specs.Keeping.{Keeps}
+use Rattle.c_simulation.specs.Standing.{Keeps, Setting, Bounded, Here, Standing, IsAnchored, InRegister, AtGlobal, IsInSight, Anchored}
 use Rattle.c_simulation.proofs.Following.{anchored_same, kept_same}
 use Rattle.c_simulation.proofs.Bounds.{bounded_append, bounded_filled}
 use Rattle.instrument.proofs.Own.{AreOwn, AllCanBeBorn}
@@ -261,5 +260,5 @@ module _ (w : Setting) (h : Here) (low : ℕ) (r : RegisterTable) (ds : List Dec
         registers = born.long ∙ st.registers;
         kept =
             let here = kept_same w low s.marks regs after new_same st.kept in
-            record { below = omega (arith, here.below, le); planned = here.planned; keeps = subst (λ ms. Keeps w.plan ms after) (sym b.marks) here.keeps };
+            record { below = omega (arith, here.below, le); planned = here.planned; given = here.given; keeps = subst (λ ms. Keeps w.plan ms after) (sym b.marks) here.keeps };
       }

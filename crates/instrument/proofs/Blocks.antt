@@ -7,7 +7,7 @@ use Rattle.c_model.specs.State.{State, Full, Outcome, Normal, Evaluation, on_out
 use Rattle.c_model.proofs.Agreement.{extends_trans}
 use Rattle.mon_syntax.specs.Registers.{Bindings, RegisterTable}
 use Rattle.c_model.specs.MonitoredRuns as machine
-use Rattle.mon_syntax.specs.Meaning.{Done, Stops, Next, Goes, Returns, then_do, at_next, writes, exec_all}
+use Rattle.mon_syntax.specs.Meaning.{Done, Stops, Next, Goes, then_do, at_next, writes, exec_all}
 use Rattle.mon_syntax.specs.BlockMemory.{over_blocks}
 use Rattle.mon_syntax.specs.LiveBlocks.{LiveBlock, live_in}
 use Rattle.mon_syntax.specs.Trees.{MonStatements}
@@ -19,15 +19,14 @@ use Rattle.track_scopes.specs.Lives.{AreFrom, with_store, PointToBorn, Births, A
 use Rattle.instrument.specs.Translation.{Spot, alive}
 use Rattle.c_simulation.specs.Labels.{end_label, next_label}
 use Rattle.instrument.specs.Translation as translation
-use Rattle.c_simulation.specs.Keeping.{Keeps}
 use Rattle.c_simulation.specs.SameRegisters.{Same, Stays}
-use Rattle.c_simulation.specs.Standing.{Target, Did, Setting, runs, Here, Standing, Beside}
+use Rattle.c_simulation.specs.Standing.{Keeps, Target, Did, Setting, runs, Here, Standing, Beside}
 use Rattle.c_simulation.proofs.Results.{writes_none, written_then, before_is}
 use Rattle.c_simulation.specs.Following.{written}
 use Rattle.c_simulation.proofs.Registers.{stays_same, stays_trans}
 use Rattle.instrument.proofs.Lives.{length-killed}
 use Rattle.instrument.proofs.Deaths.{kill_more, bounded_killed, all_before, live_killed}
-use Rattle.c_simulation.proofs.Following.{standing_after, standing_later}
+use Rattle.c_simulation.proofs.Following.{left_next, standing_after, standing_later}
 use Rattle.c_simulation.specs.Following.{Later, Passes, Follows, GoesOn, Breaks, Continues, IsLeft, IsOver, IsUndefined}
 use Rattle.instrument.proofs.Births.{can_be_born, names_of, names_of-born, with_numbers, with_blocks, Pointed, pointed_point, pointed_same, pointed_born, besides, long_with, behind_births, new_same, new_live, are_new, standing_born}
 use Rattle.instrument.proofs.Own.{AreOwn, AllCanBeBorn}
@@ -42,6 +41,7 @@ pub record Meets (w : Setting) (h : Here) (spot : Spot) (low : ℕ) (bound : Bin
   pub between : Pointed w.plan_to low regs spot.between h.between
   pub outside : Pointed w.plan_to low regs spot.outside h.outer
   pub names : names_of s.scope ≡ living
+  pub result : spot.result ≡ w.result
 
 pub meets_later : (w : Setting) (h : Here) (spot : Spot) (low : ℕ) (bound : Bindings) (living : List ℕ) (regs after : List Value) (s to : State) (t u : Target) (o : List ℕ) → Same low regs after → Later s to o → Beside w to.store to u
     → Meets w h spot low bound living regs s t → Meets w h spot low bound living after to u
@@ -52,6 +52,7 @@ meets_later w h spot low bound living regs after s to t u o same l b m = record 
   between = pointed_same w.plan_to low low regs after spot.between h.between (omega arith) (λ j lt more. same.below j lt) m.between;
   outside = pointed_same w.plan_to low low regs after spot.outside h.outer (omega arith) (λ j lt more. same.below j lt) m.outside;
   names = ap names_of l.scope ∙ m.names;
+  result = m.result;
 }
 
 -- after a statement
@@ -64,6 +65,7 @@ meets_after w h spot low bound living regs after s to t u o same keeps l b m = r
   between = pointed_same w.plan_to low low regs after spot.between h.between (omega arith) (λ j lt more. same.kept j lt (inr more)) m.between;
   outside = pointed_same w.plan_to low low regs after spot.outside h.outer (omega arith) (λ j lt more. same.kept j lt (inr more)) m.outside;
   names = ap names_of l.scope ∙ m.names;
+  result = m.result;
 }
 
 -- ---- the end of a block
@@ -120,9 +122,10 @@ module _ (w : Setting) (h : Here) (n : ℕ) (old : State) (new : List LiveBlock)
       Continues (back_to old s) after t o i (stays_trans w.plan_from w.plan_to low high regs mid after le (stays_same w.plan_from w.plan_to low regs mid same) m) g
       (later_back s o l) (beside_back s o l h.loop t (omega (arith, deeper, deep)) b) (ap (restored old) e)
       (ap ends f ∙ ap (Done (Goes (next_label h.innermost) after) t) (append-nil o))
-  block_ends inner r q (IsLeft v s t o i l b e f) =
-      IsLeft v (back_to old s) t o i (later_back s o l) (beside_back s o l w.base t (omega (arith, nested, deeper, deep)) b) (ap (restored old) e)
-      (ap ends f ∙ ap (Done (Returns v) t) (append-nil o))
+  block_ends inner r q (IsLeft v s after t o i m g x l b e f) =
+      IsLeft v (back_to old s) after t o i (stays_trans w.plan_from w.plan_to low high regs mid after le (stays_same w.plan_from w.plan_to low regs mid same) m) g x
+      (later_back s o l) (beside_back s o l w.base t (omega (arith, nested, deeper, deep)) b) (ap (restored old) e)
+      (ap ends f ∙ left_next w.result v after t o (exec_all over_blocks w.globals code w.calls n))
   block_ends inner r q (IsOver x z s o d e l f) = IsOver x z (back_to old s) o d (ap (restored old) e) (l ∙ ap (λ x. x ++ o) output) (ap ends f)
   block_ends inner r q (IsUndefined at s o e l ext) =
       IsUndefined at (back_to old s) o (ap (restored old) e) (l ∙ ap (λ x. x ++ o) output)
@@ -162,6 +165,7 @@ module _ (w : Setting) (h : Here) (spot : Spot) (low : ℕ) (r : RegisterTable) 
           between = pointed_same w.plan_to low (p + length ds) regs after spot.between h.between (omega (arith, le)) (λ j lt more. born.before j (omega (arith, lt, le))) m.between;
           outside = pointed_same w.plan_to low (p + length ds) regs after spot.outside h.outer (omega (arith, le)) (λ j lt more. born.before j (omega (arith, lt, le))) m.outside;
           names = names_of-born w.unit.structs ds s ∙ ap (with_numbers ds) m.names;
+          result = m.result;
         }
 
   -- what is done inside, and the deaths after it

@@ -7,7 +7,7 @@ use Rattle.c_syntax.specs.declared.expression.Use.{Use}
 use Rattle.c_syntax.specs.Ctypes.{PlainType}
 use Rattle.c_syntax.specs.Expressions.{Expressions}
 use Rattle.c_syntax.specs.Statements.{Declaration, Statement, Empty, Eval, Block, If, While, Do, For, Break, Continue, Return, BlockItems}
-use Rattle.c_syntax.specs.Programs.{Function, StringLiteral, TranslationUnit}
+use Rattle.c_syntax.specs.Programs.{FunctionContract, Function, StringLiteral, TranslationUnit}
 use Rattle.c_syntax.specs.declared.types.CInt.TheVariants.{U64}
 use Rattle.c_syntax.specs.Layouts.{size_of}
 use Rattle.c_model.specs.Integers.{fits}
@@ -29,10 +29,19 @@ use Rattle.mon_syntax.specs.Registers.{RegisterTable, no_registers, with_kinds, 
 use Rattle.mon_syntax.specs.Meaning.{Next}
 use Rattle.mon_syntax.specs.Meaning as monitored
 use Rattle.mon_syntax.specs.BlockMemory.{over_blocks}
-use Rattle.mon_syntax.specs.LiveBlocks.{LiveBlock}
+use Rattle.mon_syntax.specs.LiveBlocks.{LiveBlock, live_in}
 use Rattle.instrument.specs.Limits.{HaveNumbers, BodyHasNumbers}
 use Rattle.track_scopes.specs.Blocks.{entered, with_born}
-use Rattle.instrument.specs.Translation.{with_variables, value_types, registers_of_body, after_body, after_items, arguments_from, registers_from, items, body_part}
+use Rattle.instrument.specs.Translation.{all_kinds, at_leave, at_start, behind_own, behind_pre, body_part, contract_types, first_flag, first_own, first_pointer, held_of, outermost}
+use Rattle.instrument.specs.Translation.{own_types, plan_of, pointers, result_register, with_variables, value_types, after_body, after_items, arguments_from, registers_from, items}
+use Rattle.instrument.specs.Translation as target
+use Rattle.c_simulation.specs.Keeping.{Kept, registers_of}
+use Rattle.annot_code.specs.Plan.{kept_types, planned}
+use Rattle.annot_code.specs.Snapshots.{Ascend}
+use Rattle.annot_code.proofs.Plans.{plans_ascend}
+use Rattle.c_model.specs.AnnotationTyping.{in_body}
+use Rattle.instrument.proofs.Blocks.{Meets}
+use Rattle.instrument.proofs.Passages.{ItemsKept, snapshot_grows, entry_grows, leave_grows}
 use Rattle.c_simulation.specs.Standing.{Target, Setting, AreOctets, Knows, runs}
 use Rattle.c_simulation.specs.Following.{Follows}
 use Rattle.instrument.proofs.Births.{with_numbers, behind_births}
@@ -43,7 +52,7 @@ use Rattle.interval_infer.proofs.Sights.{found_parameters}
 use Rattle.instrument.proofs.Scenes.{Scene, scene_parameters}
 use Rattle.instrument.proofs.Sight.{scope_for, sees_born, declared_born}
 use Rattle.instrument.proofs.Statements.{block_does, items_follow}
-use Rattle.instrument.proofs.Functions.{BodyFollows, MeetsBody, setting, own, how_many, at_body, spot_of_body}
+use Rattle.instrument.proofs.Functions.{BodyFollows, of_function, own, how_many, at_body}
 use Rattle.c_model.specs.TypedAnnotations.{BodyNoted}
 use Rattle.instrument.proofs.Programs.{Part}
 use Rattle.instrument.proofs.Own.{AreOwn, are_there}
@@ -61,29 +70,52 @@ registers_from_long : (k : ℕ) (ts : List MonType) → length (registers_from k
 registers_from_long k [] = refl
 registers_from_long k (t ∷ ts) = ap suc (registers_from_long (suc k) ts)
 
--- how many registers stand before those that point to parameters' blocks
-abbrev pub first_of : List MonType → Function → ℕ
-first_of own f = length (value_types f.params ++ own)
+-- before the body: an argument for each parameter, the registers in front and the function's own, and one that points to each parameter's block
+pub start_registers : (p : TranslationUnit) (own : List MonType) (f : Function) → next_register (at_start p own f) ≡ first_pointer p own f + length f.params
+start_registers p own f = next-entered f.params (with_kinds (own_types f ++ own) (with_kinds (value_types f.params) no_registers))
 
--- before the body: an argument for each parameter, the registers of a part in front, and one that points to each parameter's block
-pub body_registers : (own : List MonType) (f : Function) → next_register (registers_of_body own f) ≡ first_of own f + length f.params
-body_registers own f = next-entered f.params (with_kinds own (with_kinds (value_types f.params) no_registers))
+pub body_grows : (p : TranslationUnit) (plan : List Kept) (body : Option Statement) (r : RegisterTable) → next_register r ≤ next_register (after_body p plan body r)
+body_grows p plan None r = omega arith
+body_grows p plan (Some a) r = statement_grows p plan a r
 
-body_grows : (p : TranslationUnit) (body : Option Statement) (r : RegisterTable) → next_register r ≤ next_register (after_body p body r)
-body_grows p None r = omega arith
-body_grows p (Some a) r = statement_grows p a r
+pub pre_grows : (p : TranslationUnit) (own : List MonType) (f : Function) → next_register (at_start p own f) ≤ next_register (behind_pre p own f)
+pre_grows p own f = snapshot_grows p (at_start p own f).bound None (plan_of f) (at_start p own f).kinds
+
+pub entered_grows : (p : TranslationUnit) (own : List MonType) (f : Function) (c : FunctionContract) → next_register (at_start p own f) ≤ next_register (target.at_body p own f c)
+entered_grows p own f c = omega (arith, pre_grows p own f, entry_grows p (behind_pre p own f).bound (first_flag f) (behind_pre p own f).kinds c)
+
+pub left_grows : (p : TranslationUnit) (own : List MonType) (f : Function) (c : FunctionContract) → next_register (after_body p (plan_of f) f.body (target.at_body p own f c)) ≤ length (all_kinds p own f (Some c))
+left_grows p own f c = leave_grows p (behind_pre p own f).bound (plan_of f) (held_of f) (first_flag f) (at_leave p own f c) c
+
+pub pre_fits : (p : TranslationUnit) (own : List MonType) (f : Function) (o : Option FunctionContract) → next_register (behind_pre p own f) ≤ length (all_kinds p own f o)
+pre_fits p own f None = body_grows p (plan_of f) f.body (behind_pre p own f)
+pre_fits p own f (Some c) =
+    omega (arith, entry_grows p (behind_pre p own f).bound (first_flag f) (behind_pre p own f).kinds c, body_grows p (plan_of f) f.body (target.at_body p own f c), left_grows p own f c)
+
+start_grows : (p : TranslationUnit) (own : List MonType) (f : Function) (o : Option FunctionContract) → next_register (at_start p own f) ≤ length (all_kinds p own f o)
+start_grows p own f None = omega (arith, pre_grows p own f, body_grows p (plan_of f) f.body (behind_pre p own f))
+start_grows p own f (Some c) = omega (arith, entered_grows p own f c, body_grows p (plan_of f) f.body (target.at_body p own f c), left_grows p own f c)
 
 pub registers_long : (p : TranslationUnit) (globals : List Value) (main index : ℕ) (f : Function) (call : Callee) (calls : monitored.Calls over_blocks) (n : ℕ)
-    → how_many p globals main index f call calls n ≡ next_register (after_body p f.body (registers_of_body (own p globals main index f call calls n) f))
+    → how_many p globals main index f call calls n ≡ length (all_kinds p (own p globals main index f call calls n) f f.contract)
 registers_long p globals main index f call calls n =
     let mine = own p globals main index f call calls n in
-    let kinds = (after_body p f.body (registers_of_body mine f)).kinds in
+    let kinds = all_kinds p mine f f.contract in
     let a = arguments_long p.names 0 f.params in
     let b = registers_from_long (length f.params) (drop (length f.params) kinds) in
     let c = length-drop (length f.params) kinds in
-    let d : length (value_types f.params) ≡ length f.params = length-map f.params _ in
-    let e = length-append (value_types f.params) mine in
-    omega (arith, a, b, c, d, e, body_registers mine f, body_grows p f.body (registers_of_body mine f))
+    omega (arith, a, b, c, start_registers p mine f, start_grows p mine f f.contract)
+
+-- the registers of the plan are the function's own
+pub plan_fits : (f : Function) → first_own f + length (kept_types (planned f)) ≤ behind_own f
+plan_fits f =
+    let a = length-append (value_types f.params) (own_types f) in
+    let c = length-append (kept_types (planned f)) (contract_types f.result f.contract) in
+    omega (arith, a, c)
+
+pub ascend_more : (ks : List Kept) (n m k : ℕ) → m ≤ k → Ascend n ks m → Ascend n ks k
+ascend_more [] n m k le h = omega (arith, le, h)
+ascend_more (x ∷ ks) n m k le h = (h.0, ascend_more ks (x.register + registers_of x.term) m k le h.1)
 
 -- ---- parameters
 
@@ -130,7 +162,7 @@ pub record HasBody (p : TranslationUnit) (f : Function) (part : Part p f) : Type
   pub is : f.body ≡ Some (Block at items)
   pub formed : ItemsPlaced AreRangedAsserts items
   pub typed : ItemsTyped (with_parameters (inner part.sight) f.params) (around_body f.result) items
-  pub noted : ItemsNoted (with_parameters (inner part.sight) f.params) items
+  pub noted : ItemsNoted (in_body (with_parameters (inner part.sight) f.params)) items
   pub letters : HaveNumbers items
 
 pub has_body : (p : TranslationUnit) (f : Function) (part : Part p f) → is_definition f ≡ true → HasBody p f part
@@ -141,7 +173,7 @@ has_body p f part e = by f.body refl
     by (Some (Block at items)) g =
         let formed : BodyRead AreRangedAsserts (Some (Block at items)) = subst (BodyRead AreRangedAsserts) g part.read.body in
         let typed : BodyTyped (with_parameters (inner part.sight) f.params) f.result (Some (Block at items)) = subst (BodyTyped (with_parameters (inner part.sight) f.params) f.result) g part.typed.body in
-        let noted : BodyNoted (with_parameters (inner part.sight) f.params) (Some (Block at items)) = subst (BodyNoted (with_parameters (inner part.sight) f.params)) g part.noted in
+        let noted : BodyNoted (in_body (with_parameters (inner part.sight) f.params)) (Some (Block at items)) = subst (BodyNoted (in_body (with_parameters (inner part.sight) f.params))) g part.noted in
         let numbers : BodyHasNumbers (Some (Block at items)) = subst BodyHasNumbers g (part.letters e) in
         record { at = at; items = items; is = g; formed = formed.0; typed = typed; noted = noted; letters = numbers }
     by (Some (Empty at)) g = absurd (subst (BodyRead AreRangedAsserts) g part.read.body)
@@ -166,8 +198,9 @@ sizes_fit p s same t h = lt-ltb (size_of p.structs t) 18446744073709551616 (know
 
 module _ (p : TranslationUnit) (globals : List Value) (main index : ℕ) (f : Function) (part : Part p f) (body : HasBody p f part) (call : Callee) (calls : monitored.Calls over_blocks) (n : ℕ)
     (literals : LiteralsStand p globals)
-    (all_calls : (store : Store) (active : ℕ) (s : Sight) → s.names ≡ part.sight.names → s.texts ≡ part.sight.texts → s.functions ≡ part.sight.functions → (u : Use) (t : PlainType) (es : Expressions) → Calls s u t es
-    → IsCalled (setting p globals main index f call calls n store active) n u t es) where
+    (all_calls : (base : ℕ) (around : List LiveBlock) (active to : ℕ) (result : Option ℕ) (s : Sight) → s.names ≡ part.sight.names → s.texts ≡ part.sight.texts → s.functions ≡ part.sight.functions → (u : Use) (t : PlainType) (es : Expressions)
+    → Calls s u t es → IsCalled (of_function p globals main index f call calls n base around active to result) n u t es)
+    (kept : ItemsKept (plan_of f) (with_parameters (inner part.sight) f.params) body.items) where
   abbrev T : Tables
   T = tables_of p
 
@@ -177,21 +210,31 @@ module _ (p : TranslationUnit) (globals : List Value) (main index : ℕ) (f : Fu
   abbrev mine : List MonType
   mine = own p globals main index f call calls n
 
-  abbrev at_first : ℕ
-  at_first = first_of mine f
+  abbrev plan : List Kept
+  plan = plan_of f
+
+  abbrev low : ℕ
+  low = first_pointer p mine f + length f.params
+
+  abbrev outer : Sight
+  outer = inner part.sight
+
+  abbrev sight : Sight
+  sight = with_parameters outer f.params
+
+  abbrev living : List ℕ
+  living = with_numbers f.params names
+
+  abbrev ds : List Declaration
+  ds = declared_in body.items
 
   declared : CanBeDeclared p f names body.items
   declared = can_be_declared p f part body.items (ap declared_in_body body.is) body.typed
 
-  module _ (store : Store) (active : ℕ) where
+  -- in a setting of the function
+  module _ (base : ℕ) (around : List LiveBlock) (active to : ℕ) (result : Option ℕ) where
     abbrev w : Setting
-    w = setting p globals main index f call calls n store active
-
-    abbrev outer : Sight
-    outer = inner part.sight
-
-    abbrev sight : Sight
-    sight = with_parameters outer f.params
+    w = of_function p globals main index f call calls n base around active to result
 
     knows : Knows w outer
     knows = record {
@@ -202,50 +245,46 @@ module _ (p : TranslationUnit) (globals : List Value) (main index : ℕ) (f : Fu
     }
 
     scene : Scene w n sight
-    scene = scene_parameters w n outer f.params (record { knows = knows; calls = λ u t es c. all_calls store active outer refl refl refl u t es c })
+    scene = scene_parameters w n outer f.params (record { knows = knows; calls = λ u t es c. all_calls base around active to result outer refl refl refl u t es c })
 
-    abbrev living : List ℕ
-    living = with_numbers f.params names
-
-    abbrev r : RegisterTable
-    r = registers_of_body mine f
-
-    abbrev ds : List Declaration
-    ds = declared_in body.items
-
-    enough : next_register (after_items p body.items (entered ds r)) ≤ how_many p globals main index f call calls n
-    enough =
-        let a = registers_long p globals main index f call calls n in
-        let b : next_register (after_body p f.body r) ≡ next_register (after_items p body.items (entered ds r)) = ap (λ o. next_register (after_body p o r)) body.is in
-        omega (arith, a, b)
-
-    abbrev inside : List ℕ
-    inside = with_born at_first f.params []
-
-    items_does : (blocks : List LiveBlock) (regs : List Value) (s : State) (t : Target) → MeetsBody p globals main index f call calls n store active blocks regs s t → s.steps ≤ n
-        → Follows w (at_body (length store) blocks f.result) (at_first + length f.params) regs Next s (body_with T (Some (Block body.at body.items)) call (suc n) s) (runs w n t (body_part p inside r (Some (Block body.at body.items))) regs)
-    items_does blocks regs s t m le =
-        let here = at_body (length store) blocks f.result in
-        let spot = spot_of_body p globals main index f call calls n in
-        let low = at_first + length f.params in
+    -- the body from these registers on, which know the parameters' blocks as those do where the parameters live
+    body_does : first_own f + length (kept_types (planned f)) ≤ to → (live : List ℕ) (r : RegisterTable) → r.bound ≡ (at_start p mine f).bound
+        → next_register (at_start p mine f) ≤ next_register r → next_register (after_body p plan f.body r) ≤ how_many p globals main index f call calls n
+        → BodyFollows p globals main index f call calls n base around active to result live r
+    body_does fits live r bound le room blocks regs s t m ln =
+        let ordered = ascend_more plan (first_own f) (first_own f + length (kept_types (planned f))) to fits (plans_ascend (first_own f) (planned f)) in
+        let here = at_body base blocks f.result in
+        let spot = outermost result live in
+        let a = start_registers p mine f in
         let f0 = next-entered ds r in
-        let f1 = items_grow p body.items (entered ds r) in
-        block_does w n here spot low r living ds (items_with T body.items call (suc n)) (items p (with_variables (next_register r) ds spot) (entered ds r) body.items) (omega (arith, body_registers mine f))
-        (omega (arith, enough, f0, f1)) declared.born (λ old room.
-        items_follow w n body.items sight (around_body f.result) (behind_births p.structs here old ds) (with_variables (next_register r) ds spot) (next_register r + length ds) (entered ds r) (with_numbers ds living) (refl, refl) scene
+        let f1 = items_grow p plan body.items (entered ds r) in
+        let enough : next_register (after_items p plan body.items (entered ds r)) ≤ how_many p globals main index f call calls n =
+        subst (λ o. next_register (after_body p plan o r) ≤ how_many p globals main index f call calls n) body.is room in
+        subst (λ o. Follows w here low regs Next s (body_with T o call (suc n) s) (runs w n t (body_part p plan result live r o) regs)) (sym body.is)
+        (block_does w n ordered here spot low r living ds (items_with T body.items call (suc n)) (items p plan (with_variables (next_register r) ds spot) (entered ds r) body.items) (omega (arith, a, le))
+        (omega (arith, enough, f0, f1)) declared.born (λ old space.
+        items_follow w n ordered body.items sight (around_body f.result) (behind_births p.structs here old ds) (with_variables (next_register r) ds spot) (next_register r + length ds) (entered ds r) (with_numbers ds living) (refl, refl) scene
         (sees_born sight.entities ds living (found_parameters outer f.params (scope_for living) (sees_born part.sight.entities f.params names part.found) (declared_born f.params names))) (declared_born ds living)
-        (are_there p ds declared.born.local room) refl (refl, refl) declared.items_declare body.formed body.typed body.noted body.letters (omega (arith, f0)) enough)
-        regs s t m le
+        (are_there p ds declared.born.local space) refl (refl, refl) declared.items_declare body.formed body.typed kept body.letters (omega (arith, f0)) enough)
+        regs s t (subst (λ b. Meets w here spot low b living regs s t) (sym bound) m) ln)
 
-  pub body_follows : BodyFollows p globals main index f call calls n
-  body_follows store active blocks regs s t m le =
-      subst (λ o. Follows (setting p globals main index f call calls n store active) (at_body (length store) blocks f.result) (at_first + length f.params) regs Next s (body_with T o call (suc n) s)
-      (runs (setting p globals main index f call calls n store active) n t (body_part p (with_born at_first f.params []) (registers_of_body mine f) o) regs)) (sym body.is)
-      (items_does store active blocks regs s t m le)
+  -- of a function without a contract
+  pub body_follows : f.contract ≡ None → (store : Store) (active : ℕ)
+      → BodyFollows p globals main index f call calls n (length store) (live_in store) active (behind_own f) None (pointers p mine f) (behind_pre p mine f)
+  body_follows none store active =
+      body_does (length store) (live_in store) active (behind_own f) None (plan_fits f) (pointers p mine f) (behind_pre p mine f) refl (pre_grows p mine f)
+      (omega (arith, registers_long p globals main index f call calls n, ap (λ o. length (all_kinds p mine f o)) none))
+
+  -- and of one that has this
+  pub inside_follows : (c : FunctionContract) → f.contract ≡ Some c → (base : ℕ) (around : List LiveBlock) (active : ℕ)
+      → BodyFollows p globals main index f call calls n base around active (first_flag f) (Some (result_register f)) [] (target.at_body p mine f c)
+  inside_follows c is base around active =
+      body_does base around active (first_flag f) (Some (result_register f)) (omega arith) [] (target.at_body p mine f c) refl (entered_grows p mine f c)
+      (omega (arith, registers_long p globals main index f call calls n, ap (λ o. length (all_kinds p mine f o)) is, left_grows p mine f c))
 
   -- what a call of the function needs
-  pub has_room : at_first + length f.params ≤ how_many p globals main index f call calls n
-  has_room = omega (arith, registers_long p globals main index f call calls n, body_registers mine f, body_grows p f.body (registers_of_body mine f))
+  pub has_room : low ≤ how_many p globals main index f call calls n
+  has_room = omega (arith, registers_long p globals main index f call calls n, start_registers p mine f, start_grows p mine f f.contract)
 
   pub parameters_are : AreScalars f.params
   parameters_are = parameters_scalars (inner part.sight) f.params part.typed.params

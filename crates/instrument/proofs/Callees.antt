@@ -13,7 +13,7 @@ use Rattle.c_syntax.specs.Programs.{Function, TranslationUnit}
 use Rattle.c_syntax.specs.Layouts.{IntegerType, PointerType}
 use Rattle.c_model.specs.Memory.{Value, Store}
 use Rattle.c_model.specs.State.{State, Spent, Over, Stop, Evaluation, ◌>>=◌, ◌>>◌, on_outcome, step_from, frame, alone, mark, called as in_call}
-use Rattle.c_model.specs.Meaning.{Tables, tables_of, is_definition, global_scope, is_of_library, definition_at, call_with, call_of, library_call, parameters, result_with}
+use Rattle.c_model.specs.Meaning.{Callee, Tables, tables_of, is_definition, global_scope, is_of_library, definition_at, call_with, call_of, library_call, parameters, result_with}
 use Rattle.c_model.specs.ContractChecks.{entry}
 use Rattle.c_model.specs.MonitoredRuns as machine
 use Rattle.c_model.specs.ExpressionTyping.{Sight, Signature, name_at, library_function, of_library, inner}
@@ -26,14 +26,18 @@ use Rattle.mon_syntax.specs.LiveBlocks.{LiveBlock}
 use Rattle.mon_syntax.specs.Trees.{MonExpression, MonFunction}
 use Rattle.mon_syntax.specs.Trees as tree
 use Rattle.c_effects.specs.Expressions.{one}
-use Rattle.instrument.specs.Translation.{function_of, functions_from, front_temporaries, index_of_main}
+use Rattle.instrument.specs.Translation.{first_pointer, plan_of, function_of, functions_from, front_temporaries, index_of_main}
 use Rattle.c_effects.specs.Effects.{index_of, call}
 use Rattle.c_effects.specs.Effects as effects
 use Rattle.c_simulation.specs.Standing.{Target, Setting, runs, Anchored}
 use Rattle.c_simulation.proofs.Results.{one_is}
 use Rattle.c_model.specs.AcceptedPrograms.{AreScalar}
 use Rattle.c_simulation.proofs.Calls.{Called, EndsRun, HaveAll, takes, DoesCall, AllDo, IsCalled}
-use Rattle.instrument.proofs.Functions.{setting, call_follows}
+use Rattle.instrument.proofs.Functions.{of_function, setting, call_follows}
+use Rattle.instrument.proofs.CheckedCalls.{CallLaws, call_gives}
+use Rattle.instrument.proofs.Passages.{ItemsKept}
+use Rattle.mon_syntax.specs.declared.tree.MonType.{MonType}
+use Rattle.c_model.specs.UnitTyping.{with_parameters}
 use Rattle.c_model.specs.Library.{is_library_name}
 use Rattle.c_model.specs.Formats.{types_of as directives}
 use Rattle.instrument.proofs.Formats.{Asks, format_scalar, not_printf}
@@ -41,7 +45,7 @@ use Rattle.instrument.proofs.LibraryNames.{IsLibrary, IsPutChar, IsGetChar, IsEx
 use Rattle.instrument.proofs.Library.{putchar_does, getchar_does, exit_does, malloc_does, calloc_does, free_does, printf_does}
 use Rattle.instrument.proofs.Resolved.{IsResolved, IsFunction, IsOfLibrary}
 use Rattle.instrument.proofs.Programs.{Part, Parts, picked, index_by, IsPicked, is_picked, has_number, definition_is, index_is}
-use Rattle.instrument.proofs.Bodies.{LiteralsStand, first_of, has_body, body_follows, has_room, parameters_are, parameters_own, parameters_scalars}
+use Rattle.instrument.proofs.Bodies.{LiteralsStand, HasBody, has_body, body_follows, inside_follows, has_room, parameters_are, parameters_own, parameters_scalars}
 use Rattle.instrument.proofs.Parameters.{AreScalars}
 
 -- by the signature that is called
@@ -86,10 +90,16 @@ differs p x (f ∷ fs) g e other = by (λ h. differs p x fs g h other) (is_defin
 nothing_before : (n : ℕ) → 0 + n ≡ n
 nothing_before n = omega arith
 
+-- what is known of the annotations of a program's functions: those kept at labels keep their ranges and are in sight there, and the code of contracts does
+-- what they ask
+pub record AnnotationsStand (p : TranslationUnit) (gs : List Value) : Type 0 where
+  pub kept : (f : Function) (part : Part p f) (body : HasBody p f part) → ItemsKept (plan_of f) (with_parameters (inner part.sight) f.params) body.items
+  pub laws : (index : ℕ) (f : Function) (part : Part p f) → HasBody p f part → (call : Callee) (calls : monitored.Calls over_blocks) (n : ℕ) → CallLaws p gs (index_of_main p.names p.funcs) index f call calls n
+
 -- what a program's text tells of its functions, and what stands where at the beginning of each call: the pointers to globals and literals
 module _ (p : TranslationUnit) (parts : Parts p p.funcs) (gs : List Value)
     (anchored : (w : Setting) → w.unit ≡ p → w.globals ≡ gs → (low : ℕ) (regs : List Value) → Anchored w low [] regs (global_scope p))
-    (literals : LiteralsStand p gs) where
+    (literals : LiteralsStand p gs) (stands : AnnotationsStand p gs) where
   abbrev pub main : ℕ
   main = index_of_main p.names p.funcs
 
@@ -102,29 +112,17 @@ module _ (p : TranslationUnit) (parts : Parts p p.funcs) (gs : List Value)
   -- ---- calls, so deep
 
   -- a call in which calls go so deep
-  abbrev pub at_depth : ℕ → ℕ → ℕ → List LiveBlock → ℕ → Setting
-  at_depth k registers base around active = record {
-    unit = p;
-    call = call_of p (suc k);
-    calls = level over_blocks gs functions k;
-    globals = gs;
-    registers = registers;
-    base = base;
-    around = around;
-    active = active;
-    plan = [];
-    plan_from = 0;
-    plan_to = 0;
-  }
+  abbrev pub at_depth : ℕ → Setting → Setting
+  at_depth k v = record v { unit = p; call = call_of p (suc k); calls = level over_blocks gs functions k; globals = gs }
 
   -- the calls of all functions do the same
   abbrev pub CallsAt : ℕ → Type 0
-  CallsAt k = (registers base : ℕ) (around : List LiveBlock) (active : ℕ) (current : Function) (part : Part p current) (s : Sight) → s.names ≡ part.sight.names → s.texts ≡ part.sight.texts → s.functions ≡ part.sight.functions
-      → (f : Use) (t : PlainType) (es : Expressions) → Calls s f t es → IsCalled (at_depth k registers base around active) k f t es
+  CallsAt k = (v : Setting) (current : Function) (part : Part p current) (s : Sight) → s.names ≡ part.sight.names → s.texts ≡ part.sight.texts → s.functions ≡ part.sight.functions
+      → (f : Use) (t : PlainType) (es : Expressions) → Calls s f t es → IsCalled (at_depth k v) k f t es
 
-  module _ (registers base : ℕ) (around : List LiveBlock) (active : ℕ) where
+  module _ (v : Setting) where
     abbrev w : ℕ → Setting
-    w k = at_depth k registers base around active
+    w k = at_depth k v
 
     -- calls of the library
     library_called : (k : ℕ) (f : Use) (t : PlainType) (es : Expressions) (callee : Signature) (params : List PlainType) → is_of_library f ≡ true → library_function f.name (name_at p.names f.name) ≡ Some callee → t ≡ callee.result
@@ -204,22 +202,26 @@ module _ (p : TranslationUnit) (parts : Parts p p.funcs) (gs : List Value)
           let body = has_body p g part picked.definition in
           let deeper = level over_blocks gs functions k in
           let there = λ (store : Store) (active : ℕ). setting p gs main index g (call_of p (suc k)) deeper k store active in
-          let calls_below = λ (store : Store) (active : ℕ) (s : Sight) (names : s.names ≡ part.sight.names) (texts : s.texts ≡ part.sight.texts) (signatures : s.functions ≡ part.sight.functions)
+          let mine = front_temporaries p (nat_eq index main) in
+          let calls_below = λ (base : ℕ) (around : List LiveBlock) (active to : ℕ) (result : Option ℕ) (s : Sight) (names : s.names ≡ part.sight.names) (texts : s.texts ≡ part.sight.texts) (signatures : s.functions ≡ part.sight.functions)
           (u : Use) (t : PlainType) (es : Expressions) (c : Calls s u t es).
-          let inner = there store active in
-          below inner.registers inner.base inner.around active g part s names texts signatures u t es c in
+          below (of_function p gs main index g (call_of p (suc k)) deeper k base around active to result) g part s names texts signatures u t es c in
+          let kept = stands.kept g part body in
           DoesCall (level over_blocks gs functions (suc k) (index_of f.decl p.funcs) vs t) (calls_run (suc k) into args vs regs t has)
           (subst (λ r. Called s g.result r (level over_blocks gs functions (suc k) (index_of f.decl p.funcs) vs t)) (sym (source_is (suc k) at vs s))
           (subst (λ o. Called s g.result (call_with T (global_scope p) (Some g) (call_of p (suc k)) (suc k) at vs s)
           (monitored.step_from t.steps (λ j. body_runs over_blocks gs o deeper k vs (record t { steps = j }))))
           (sym function_is)
           (call_follows p gs main index g (call_of p (suc k)) deeper k not_main
-          (λ store active regs. anchored (there store active) refl refl (first_of (front_temporaries p (nat_eq index main)) g) regs)
-          (has_room p gs main index g part body (call_of p (suc k)) deeper k literals calls_below)
-          (parameters_are p gs main index g part body (call_of p (suc k)) deeper k literals calls_below)
-          (parameters_own p gs main index g part body (call_of p (suc k)) deeper k literals calls_below)
-          (body_follows p gs main index g part body (call_of p (suc k)) deeper k literals calls_below)
-          vs types at part.read.no_contract s t even bounded le)))
+          (λ store active regs. anchored (there store active) refl refl (first_pointer p mine g) regs)
+          (has_room p gs main index g part body (call_of p (suc k)) deeper k literals calls_below kept)
+          (parameters_are p gs main index g part body (call_of p (suc k)) deeper k literals calls_below kept)
+          (parameters_own p gs main index g part body (call_of p (suc k)) deeper k literals calls_below kept)
+          (stands.laws index g part body (call_of p (suc k)) deeper k).types_are (stands.laws index g part body (call_of p (suc k)) deeper k).pre
+          (call_gives p gs main index g (call_of p (suc k)) deeper k (stands.laws index g part body (call_of p (suc k)) deeper k)
+          (body_follows p gs main index g part body (call_of p (suc k)) deeper k literals calls_below kept)
+          (inside_follows p gs main index g part body (call_of p (suc k)) deeper k literals calls_below kept))
+          vs types at s t even bounded le)))
 
     -- what is called, so deep
     called_at : (k : ℕ) (f : Use) (t : PlainType) (es : Expressions) (callee : Signature) (params : List PlainType) → Asks p (name_at p.names f.name) es callee.params params → HaveTypes params es
@@ -244,11 +246,11 @@ module _ (p : TranslationUnit) (parts : Parts p p.funcs) (gs : List Value)
   no_main current part s f t es names c = ap (λ l. bytes_eq (name_at l f.name) (codes "main")) (sym (names ∙ part.names)) ∙ c.not_main
 
   pub calls_at : (k : ℕ) → CallsAt k
-  calls_at zero registers base around active current part s names texts signatures f t es c =
-      called_at registers base around active 0 f t es c.callee c.params (part.asks s names texts f t es c) c.arguments (no_main current part s f t es names c)
-      (λ g l found picked not_main. function_zero registers base around active f es g l found picked not_main)
+  calls_at zero v current part s names texts signatures f t es c =
+      called_at v 0 f t es c.callee c.params (part.asks s names texts f t es c) c.arguments (no_main current part s f t es names c)
+      (λ g l found picked not_main. function_zero v f es g l found picked not_main)
       (part.resolves s names signatures f t es c)
-  calls_at (suc k) registers base around active current part s names texts signatures f t es c =
-      called_at registers base around active (suc k) f t es c.callee c.params (part.asks s names texts f t es c) c.arguments (no_main current part s f t es names c)
-      (λ g l found picked not_main. function_more registers base around active f es g l found picked not_main k (calls_at k))
+  calls_at (suc k) v current part s names texts signatures f t es c =
+      called_at v (suc k) f t es c.callee c.params (part.asks s names texts f t es c) c.arguments (no_main current part s f t es names c)
+      (λ g l found picked not_main. function_more v f es g l found picked not_main k (calls_at k))
       (part.resolves s names signatures f t es c)

@@ -11,11 +11,13 @@ use Rattle.c_model.specs.Formed.{number_of, declared_within, declared_in_cases, 
 use Rattle.mon_syntax.specs.declared.tree.MonType.{MonType}
 use Rattle.mon_syntax.specs.Registers.{Bindings, RegisterTable, register_of, with_kinds, next_register}
 use Rattle.annot_code.proofs.Asserted.{behind_grows}
+use Rattle.c_simulation.specs.Keeping.{Kept}
+use Rattle.instrument.proofs.Passages.{snapshot_grows}
 use Rattle.c_initialisers.specs.Translation.{declaration_temporaries}
 use Rattle.c_effects.specs.Effects.{any_temporaries}
 use Rattle.c_effects.specs.Full.{act_takes, takes}
 use Rattle.track_scopes.specs.Blocks.{AreSmall, with_pointer, entered}
-use Rattle.instrument.specs.Translation.{Spot, after_statement, after_cases, after_else, after_first, after_item, after_items, returned_temporaries, switch_temporaries}
+use Rattle.instrument.specs.Translation.{Spot, after_statement, after_cases, after_else, after_first, after_item, after_items, passed_label, returned_temporaries, switch_temporaries}
 use Rattle.instrument.proofs.DeclarationCode.{next-entered}
 use Rattle.c_simulation.specs.Standing.{Target, Setting, Here, IsAnchored, InRegister, AtGlobal, Anchored}
 use Rattle.c_simulation.proofs.Following.{standing_as}
@@ -49,6 +51,7 @@ abbrev mutual
   CanDeclare p living (Do at a e) = AreAbsent living (declared_within a) × CanDeclare p living a
   CanDeclare p living (For at annots first e step a) =
       AreBorn p (declared_first first) × AreAbsent (with_numbers (declared_first first) living) (declared_within a) × CanDeclare p (with_numbers (declared_first first) living) a
+  CanDeclare p living (Labelled at l a) = CanDeclare p living a
   CanDeclare p living (Switch at e cases) = CasesCanDeclare p living cases
   CanDeclare p living _ = Unit {0}
 
@@ -107,48 +110,48 @@ entered_other x [] r h = refl
 entered_other x (d ∷ ds) r h = entered_other x ds (with_pointer d r) h.1 ∙ register_of-bound_other (number_of d) (length r.kinds) x r.bound h.0
 
 mutual
-  statement_other : (p : TranslationUnit) (x : ℕ) (a : Statement) (r : RegisterTable) → NotIn x (declared_within a) → register_of (after_statement p a r).bound x ≡ register_of r.bound x
-  statement_other p x (Empty at) r h = refl
-  statement_other p x (Eval at e) r h = refl
-  statement_other p x (Block at body) r h = items_other p x body (entered (declared_in body) r) h ∙ entered_other x (declared_in body) r (not_own x body h)
-  statement_other p x (If at e a b) r h =
-      else_other p x b (after_statement p a (with_kinds (takes p e) r)) (not_back x (declared_within a) (declared_in_else b) h)
-      ∙ statement_other p x a (with_kinds (takes p e) r) (not_front x (declared_within a) (declared_in_else b) h)
-  statement_other p x (While at annots e a) r h = statement_other p x a (with_kinds (takes p e) r) h
-  statement_other p x (Do at a e) r h = statement_other p x a r h
-  statement_other p x (For at annots first e behind a) r h =
+  statement_other : (p : TranslationUnit) (plan : List Kept) (x : ℕ) (a : Statement) (r : RegisterTable) → NotIn x (declared_within a) → register_of (after_statement p plan a r).bound x ≡ register_of r.bound x
+  statement_other p plan x (Empty at) r h = refl
+  statement_other p plan x (Eval at e) r h = refl
+  statement_other p plan x (Block at body) r h = items_other p plan x body (entered (declared_in body) r) h ∙ entered_other x (declared_in body) r (not_own x body h)
+  statement_other p plan x (If at e a b) r h =
+      else_other p plan x b (after_statement p plan a (with_kinds (takes p e) r)) (not_back x (declared_within a) (declared_in_else b) h)
+      ∙ statement_other p plan x a (with_kinds (takes p e) r) (not_front x (declared_within a) (declared_in_else b) h)
+  statement_other p plan x (While at annots e a) r h = statement_other p plan x a (with_kinds (takes p e) r) h
+  statement_other p plan x (Do at a e) r h = statement_other p plan x a r h
+  statement_other p plan x (For at annots first e behind a) r h =
       let own = not_front x (declared_in_first first) (declared_within a) h in
-      statement_other p x a (with_kinds (any_temporaries (takes p) e) (after_first p first (entered (declared_first first) r))) (not_back x (declared_in_first first) (declared_within a) h)
-      ∙ first_other p x first (entered (declared_first first) r) own
+      statement_other p plan x a (with_kinds (any_temporaries (takes p) e) (after_first p plan first (entered (declared_first first) r))) (not_back x (declared_in_first first) (declared_within a) h)
+      ∙ first_other p plan x first (entered (declared_first first) r) own
       ∙ entered_other x (declared_first first) r (not_first x first own)
-  statement_other p x (Break at) r h = refl
-  statement_other p x (Continue at) r h = refl
-  statement_other p x (Return at e) r h = refl
-  statement_other p x (Labelled at l a) r h = refl
-  statement_other p x (Switch at e cases) r h = cases_other p x cases (with_kinds (switch_temporaries p e) r) h
+  statement_other p plan x (Break at) r h = refl
+  statement_other p plan x (Continue at) r h = refl
+  statement_other p plan x (Return at e) r h = refl
+  statement_other p plan x (Labelled at l a) r h = statement_other p plan x a (passed_label p plan (Some l) r) h
+  statement_other p plan x (Switch at e cases) r h = cases_other p plan x cases (with_kinds (switch_temporaries p e) r) h
 
-  cases_other : (p : TranslationUnit) (x : ℕ) (cs : Cases) (r : RegisterTable) → NotIn x (declared_in_cases cs) → register_of (after_cases p cs r).bound x ≡ register_of r.bound x
-  cases_other p x NoCase r h = refl
-  cases_other p x (AnotherCase at v body rest) r h =
-      cases_other p x rest (after_items p body r) (not_back x (declared_in_items body) (declared_in_cases rest) h) ∙ items_other p x body r (not_front x (declared_in_items body) (declared_in_cases rest) h)
+  cases_other : (p : TranslationUnit) (plan : List Kept) (x : ℕ) (cs : Cases) (r : RegisterTable) → NotIn x (declared_in_cases cs) → register_of (after_cases p plan cs r).bound x ≡ register_of r.bound x
+  cases_other p plan x NoCase r h = refl
+  cases_other p plan x (AnotherCase at v body rest) r h =
+      cases_other p plan x rest (after_items p plan body r) (not_back x (declared_in_items body) (declared_in_cases rest) h) ∙ items_other p plan x body r (not_front x (declared_in_items body) (declared_in_cases rest) h)
 
-  else_other : (p : TranslationUnit) (x : ℕ) (b : ElsePart) (r : RegisterTable) → NotIn x (declared_in_else b) → register_of (after_else p b r).bound x ≡ register_of r.bound x
-  else_other p x NoElse r h = refl
-  else_other p x (Else a) r h = statement_other p x a r h
+  else_other : (p : TranslationUnit) (plan : List Kept) (x : ℕ) (b : ElsePart) (r : RegisterTable) → NotIn x (declared_in_else b) → register_of (after_else p plan b r).bound x ≡ register_of r.bound x
+  else_other p plan x NoElse r h = refl
+  else_other p plan x (Else a) r h = statement_other p plan x a r h
 
-  first_other : (p : TranslationUnit) (x : ℕ) (first : ForFirst) (r : RegisterTable) → NotIn x (declared_in_first first) → register_of (after_first p first r).bound x ≡ register_of r.bound x
-  first_other p x NoFirst r h = refl
-  first_other p x (First i) r h = item_other p x i r h
+  first_other : (p : TranslationUnit) (plan : List Kept) (x : ℕ) (first : ForFirst) (r : RegisterTable) → NotIn x (declared_in_first first) → register_of (after_first p plan first r).bound x ≡ register_of r.bound x
+  first_other p plan x NoFirst r h = refl
+  first_other p plan x (First i) r h = item_other p plan x i r h
 
-  item_other : (p : TranslationUnit) (x : ℕ) (i : BlockItem) (r : RegisterTable) → NotIn x (declared_in_item i) → register_of (after_item p i r).bound x ≡ register_of r.bound x
-  item_other p x (Declare ds) r h = refl
-  item_other p x (Specify at t) r h = refl
-  item_other p x (Run a) r h = statement_other p x a r h
-  item_other p x (Asserts annots) r h = refl
+  item_other : (p : TranslationUnit) (plan : List Kept) (x : ℕ) (i : BlockItem) (r : RegisterTable) → NotIn x (declared_in_item i) → register_of (after_item p plan i r).bound x ≡ register_of r.bound x
+  item_other p plan x (Declare ds) r h = refl
+  item_other p plan x (Specify at t) r h = refl
+  item_other p plan x (Run a) r h = statement_other p plan x a r h
+  item_other p plan x (Asserts annots) r h = refl
 
-  items_other : (p : TranslationUnit) (x : ℕ) (is : BlockItems) (r : RegisterTable) → NotIn x (declared_in_items is) → register_of (after_items p is r).bound x ≡ register_of r.bound x
-  items_other p x NoItem r h = refl
-  items_other p x (Then i rest) r h = items_other p x rest (after_item p i r) (not_back x (declared_in_item i) (declared_in_items rest) h) ∙ item_other p x i r (not_front x (declared_in_item i) (declared_in_items rest) h)
+  items_other : (p : TranslationUnit) (plan : List Kept) (x : ℕ) (is : BlockItems) (r : RegisterTable) → NotIn x (declared_in_items is) → register_of (after_items p plan is r).bound x ≡ register_of r.bound x
+  items_other p plan x NoItem r h = refl
+  items_other p plan x (Then i rest) r h = items_other p plan x rest (after_item p plan i r) (not_back x (declared_in_item i) (declared_in_items rest) h) ∙ item_other p plan x i r (not_front x (declared_in_item i) (declared_in_items rest) h)
 
 -- ---- names in sight keep their registers
 
@@ -187,17 +190,18 @@ meets_other w h spot low bound later living regs s t ds others absent m = record
   between = m.between;
   outside = m.outside;
   names = m.names;
+  result = m.result;
 }
 
 pub meets_behind : (w : Setting) (h : Here) (spot : Spot) (low : ℕ) (a : Statement) (r : RegisterTable) (living : List ℕ) (regs : List Value) (s : State) (t : Target) → AreAbsent living (declared_within a)
-    → Meets w h spot low r.bound living regs s t → Meets w h spot low (after_statement w.unit a r).bound living regs s t
+    → Meets w h spot low r.bound living regs s t → Meets w h spot low (after_statement w.unit w.plan a r).bound living regs s t
 meets_behind w h spot low a r living regs s t absent m =
-    meets_other w h spot low r.bound (after_statement w.unit a r).bound living regs s t (declared_within a) (λ x apart. statement_other w.unit x a r apart) absent m
+    meets_other w h spot low r.bound (after_statement w.unit w.plan a r).bound living regs s t (declared_within a) (λ x apart. statement_other w.unit w.plan x a r apart) absent m
 
 pub meets_behind_items : (w : Setting) (h : Here) (spot : Spot) (low : ℕ) (is : BlockItems) (r : RegisterTable) (living : List ℕ) (regs : List Value) (s : State) (t : Target) → AreAbsent living (declared_in_items is)
-    → Meets w h spot low r.bound living regs s t → Meets w h spot low (after_items w.unit is r).bound living regs s t
+    → Meets w h spot low r.bound living regs s t → Meets w h spot low (after_items w.unit w.plan is r).bound living regs s t
 meets_behind_items w h spot low is r living regs s t absent m =
-    meets_other w h spot low r.bound (after_items w.unit is r).bound living regs s t (declared_in_items is) (λ x apart. items_other w.unit x is r apart) absent m
+    meets_other w h spot low r.bound (after_items w.unit w.plan is r).bound living regs s t (declared_in_items is) (λ x apart. items_other w.unit w.plan x is r apart) absent m
 
 -- ---- how many registers there are
 
@@ -205,51 +209,51 @@ pub more_kinds : (ts : List MonType) (r : RegisterTable) → next_register r ≤
 more_kinds ts r = omega (arith, length-append r.kinds ts)
 
 mutual
-  pub statement_grows : (p : TranslationUnit) (a : Statement) (r : RegisterTable) → next_register r ≤ next_register (after_statement p a r)
-  statement_grows p (Empty at) r = omega arith
-  statement_grows p (Eval at e) r = more_kinds (act_takes p e) r
-  statement_grows p (Block at body) r = omega (arith, next-entered (declared_in body) r, items_grow p body (entered (declared_in body) r))
-  statement_grows p (If at e a b) r =
+  pub statement_grows : (p : TranslationUnit) (plan : List Kept) (a : Statement) (r : RegisterTable) → next_register r ≤ next_register (after_statement p plan a r)
+  statement_grows p plan (Empty at) r = omega arith
+  statement_grows p plan (Eval at e) r = more_kinds (act_takes p e) r
+  statement_grows p plan (Block at body) r = omega (arith, next-entered (declared_in body) r, items_grow p plan body (entered (declared_in body) r))
+  statement_grows p plan (If at e a b) r =
       let one = with_kinds (takes p e) r in
-      omega (arith, more_kinds (takes p e) r, statement_grows p a one, else_grows p b (after_statement p a one))
-  statement_grows p (While at annots e a) r = omega (arith, more_kinds (takes p e) r, statement_grows p a (with_kinds (takes p e) r))
-  statement_grows p (Do at a e) r = omega (arith, statement_grows p a r, more_kinds (takes p e) (after_statement p a r))
-  statement_grows p (For at annots first e behind a) r =
+      omega (arith, more_kinds (takes p e) r, statement_grows p plan a one, else_grows p plan b (after_statement p plan a one))
+  statement_grows p plan (While at annots e a) r = omega (arith, more_kinds (takes p e) r, statement_grows p plan a (with_kinds (takes p e) r))
+  statement_grows p plan (Do at a e) r = omega (arith, statement_grows p plan a r, more_kinds (takes p e) (after_statement p plan a r))
+  statement_grows p plan (For at annots first e behind a) r =
       let one = entered (declared_first first) r in
-      let two = after_first p first one in
+      let two = after_first p plan first one in
       let three = with_kinds (any_temporaries (takes p) e) two in
       omega (
         arith,
         next-entered (declared_first first) r,
-        first_grows p first one,
+        first_grows p plan first one,
         more_kinds (any_temporaries (takes p) e) two,
-        statement_grows p a three,
-        more_kinds (any_temporaries (act_takes p) behind) (after_statement p a three),
+        statement_grows p plan a three,
+        more_kinds (any_temporaries (act_takes p) behind) (after_statement p plan a three),
       )
-  statement_grows p (Break at) r = omega arith
-  statement_grows p (Continue at) r = omega arith
-  statement_grows p (Return at e) r = more_kinds (any_temporaries (returned_temporaries p) e) r
-  statement_grows p (Labelled at l a) r = omega arith
-  statement_grows p (Switch at e cases) r = omega (arith, more_kinds (switch_temporaries p e) r, cases_grow p cases (with_kinds (switch_temporaries p e) r))
+  statement_grows p plan (Break at) r = omega arith
+  statement_grows p plan (Continue at) r = omega arith
+  statement_grows p plan (Return at e) r = more_kinds (any_temporaries (returned_temporaries p) e) r
+  statement_grows p plan (Labelled at l a) r = omega (arith, snapshot_grows p r.bound (Some l) plan r.kinds, statement_grows p plan a (passed_label p plan (Some l) r))
+  statement_grows p plan (Switch at e cases) r = omega (arith, more_kinds (switch_temporaries p e) r, cases_grow p plan cases (with_kinds (switch_temporaries p e) r))
 
-  pub cases_grow : (p : TranslationUnit) (cs : Cases) (r : RegisterTable) → next_register r ≤ next_register (after_cases p cs r)
-  cases_grow p NoCase r = omega arith
-  cases_grow p (AnotherCase at v body rest) r = omega (arith, items_grow p body r, cases_grow p rest (after_items p body r))
+  pub cases_grow : (p : TranslationUnit) (plan : List Kept) (cs : Cases) (r : RegisterTable) → next_register r ≤ next_register (after_cases p plan cs r)
+  cases_grow p plan NoCase r = omega arith
+  cases_grow p plan (AnotherCase at v body rest) r = omega (arith, items_grow p plan body r, cases_grow p plan rest (after_items p plan body r))
 
-  pub else_grows : (p : TranslationUnit) (b : ElsePart) (r : RegisterTable) → next_register r ≤ next_register (after_else p b r)
-  else_grows p NoElse r = omega arith
-  else_grows p (Else a) r = statement_grows p a r
+  pub else_grows : (p : TranslationUnit) (plan : List Kept) (b : ElsePart) (r : RegisterTable) → next_register r ≤ next_register (after_else p plan b r)
+  else_grows p plan NoElse r = omega arith
+  else_grows p plan (Else a) r = statement_grows p plan a r
 
-  pub first_grows : (p : TranslationUnit) (first : ForFirst) (r : RegisterTable) → next_register r ≤ next_register (after_first p first r)
-  first_grows p NoFirst r = omega arith
-  first_grows p (First i) r = item_grows p i r
+  pub first_grows : (p : TranslationUnit) (plan : List Kept) (first : ForFirst) (r : RegisterTable) → next_register r ≤ next_register (after_first p plan first r)
+  first_grows p plan NoFirst r = omega arith
+  first_grows p plan (First i) r = item_grows p plan i r
 
-  pub item_grows : (p : TranslationUnit) (i : BlockItem) (r : RegisterTable) → next_register r ≤ next_register (after_item p i r)
-  item_grows p (Declare ds) r = more_kinds (declaration_temporaries p ds) r
-  item_grows p (Specify at t) r = omega arith
-  item_grows p (Run a) r = statement_grows p a r
-  item_grows p (Asserts annots) r = behind_grows p r.bound r.kinds annots
+  pub item_grows : (p : TranslationUnit) (plan : List Kept) (i : BlockItem) (r : RegisterTable) → next_register r ≤ next_register (after_item p plan i r)
+  item_grows p plan (Declare ds) r = more_kinds (declaration_temporaries p ds) r
+  item_grows p plan (Specify at t) r = omega arith
+  item_grows p plan (Run a) r = statement_grows p plan a r
+  item_grows p plan (Asserts annots) r = behind_grows p r.bound plan [] r.kinds annots
 
-  pub items_grow : (p : TranslationUnit) (is : BlockItems) (r : RegisterTable) → next_register r ≤ next_register (after_items p is r)
-  items_grow p NoItem r = omega arith
-  items_grow p (Then i rest) r = omega (arith, item_grows p i r, items_grow p rest (after_item p i r))
+  pub items_grow : (p : TranslationUnit) (plan : List Kept) (is : BlockItems) (r : RegisterTable) → next_register r ≤ next_register (after_items p plan is r)
+  items_grow p plan NoItem r = omega arith
+  items_grow p plan (Then i rest) r = omega (arith, item_grows p plan i r, items_grow p plan rest (after_item p plan i r))

@@ -1,67 +1,135 @@
 -- The functions of a program one after another, and the body of one.
-use Rattle.std.proofs.Common.{◌≡◌, ℕ, suc, ◌+◌, ◌<◌, Bool, true, false, if◌then◌else◌, List, [], ◌∷◌, ◌++◌, length, drop, map, get_or, Option, Some, None, option_map, refl, sym, ap, ◌∙◌, arith, append_assoc}
+use Rattle.std.proofs.Common.{◌≡◌, ℕ, suc, ◌+◌, ◌<◌, Bool, true, false, if◌then◌else◌, List, [], ◌∷◌, ◌++◌, length, drop, map, get_or, Option, Some, None, option_map, refl, sym, ap, ◌∙◌, arith, append_assoc, subst}
 use Rattle.std.proofs.lemmas.List.{length-append, length-map}
 use Rattle.c_syntax.specs.declared.program.Func.{Func}
 use Rattle.c_syntax.specs.declared.statement.Stmt.{Stmt}
-use Rattle.c_syntax.specs.Programs.{Function, TranslationUnit, plain_func}
-use Rattle.c_syntax.specs.Statements.{Statement, plain_stmt}
+use Rattle.c_syntax.specs.Programs.{FunctionContract, Function, TranslationUnit, plain_func}
+use Rattle.c_syntax.specs.Statements.{Declaration, Statement, plain_stmt}
 use Rattle.c_model.specs.Meaning.{is_definition}
 use Rattle.c_model.specs.Library.{is_there}
 use Rattle.mon_syntax.specs.declared.tree.MonFunc.{MonFunc}
-use Rattle.mon_syntax.specs.Registers.{Names, next_register, no_registers, with_kinds, with_table}
-use Rattle.mon_syntax.specs.Trees.{MonFunction, MonStatements, NoStatement, plain_func as plain_monitored_func}
-use Rattle.track_scopes.specs.Blocks.{deaths, with_born}
+use Rattle.mon_syntax.specs.declared.tree.MonType.{MonType}
+use Rattle.mon_syntax.specs.declared.tree.MonType.TheVariants.{Ptr}
+use Rattle.mon_syntax.specs.Registers.{Bindings, Names, RegisterTable, next_register, no_registers, with_kinds, with_table}
+use Rattle.mon_syntax.specs.Trees.{MonFunction, MonStatements, NoStatement, Then, Labelled, plain_func as plain_monitored_func}
+use Rattle.track_scopes.specs.Blocks.{deaths, entered, with_born, with_pointer}
 use Rattle.c_effects.specs.Expressions.{before}
 use Rattle.c_effects.specs.Named.{unit_of, with_registers}
 use Rattle.c_effects.proofs.Sequences.{before_assoc, left_at}
-use Rattle.instrument.specs.Options.{behind_body, body_by, entering, globals_initialised, whole_code}
-use Rattle.instrument.specs.Translation.{outermost, after_body, body_part, front, front_temporaries, function_of, functions_from, parameters, registers_of_body, value_types}
+use Rattle.c_simulation.specs.Keeping.{Kept}
+use Rattle.c_simulation.specs.Labels.{leave_label}
+use Rattle.annot_code.specs.Checks.{names_behind_entry}
+use Rattle.annot_code.specs.ContractCode.{entry_code, behind_leave, leave_code}
+use Rattle.annot_code.specs.Plan.{kept_from, kept_types, planned}
+use Rattle.annot_code.specs.Snapshots.{snapshot}
+use Rattle.instrument.specs.Limits.{ContractHasNumbers}
+use Rattle.instrument.specs.Options.{behind_contracted, behind_whole, body_by, bound_from, contracted_by, entering, globals_initialised, own_code, passed, whole_code}
+use Rattle.instrument.specs.Translation.{outermost, all_kinds, at_brace, at_leave, at_start, behind_pre, body_code, body_part, code_of, first_flag, first_pointer, front, front_temporaries, function_of, functions_from, held_of, last_return}
+use Rattle.instrument.specs.Translation.{own_types, parameters, plan_of, pointers, result_of, result_register, value_types}
 use Rattle.instrument.proofs.GlobalCode.{globals_are}
 
-pub body_is : (n : Names) (inside : List ℕ) (a : Option Statement) → body_by n (outermost inside) a ≡ body_part (unit_of n) inside n.table a
-body_is n inside None = refl
-body_is n inside (Some a) = refl
+pub body_is : (ks : List Kept) (n : Names) (result : Option ℕ) (live : List ℕ) (a : Option Statement) → body_by ks n (outermost result live) a ≡ body_part (unit_of n) ks result live n.table a
+body_is ks n result live None = refl
+body_is ks n result live (Some a) = refl
 
--- the names where the body of a function begins, of which these registers stand before those of its parameters
-abbrev argued : Names → Function → Names
-argued n f = with_table (with_kinds (value_types f.params) no_registers) n
+-- ---- the scope of parameters
 
--- the code of a function from its parts
+pub entered_bound : (ds : List Declaration) (r : RegisterTable) → (entered ds r).bound ≡ bound_from (next_register r) ds r.bound
+entered_bound [] r = refl
+entered_bound (d ∷ ds) r =
+    let next : next_register (with_pointer d r) ≡ suc (next_register r) = (let e = length-append r.kinds (Ptr ∷ []) in omega (arith, e)) in
+    entered_bound ds (with_pointer d r) ∙ ap (λ k. bound_from k ds (with_pointer d r).bound) next
+
+-- ---- the code of a function from its parts
+
 module _ (n : Names) (is_main : Bool) (f : Function) where
   abbrev p : TranslationUnit
   p = unit_of n
 
-  abbrev fronted : Names
-  fronted = with_registers (front_temporaries p is_main) (argued n f)
+  -- those that stand between what the function keeps and pointers to parameters
+  abbrev between : List MonType
+  between = front_temporaries p is_main
 
-  front_is : (if is_main then globals_initialised (argued n f) p.globals else NoStatement) ≡ front p is_main f.params
-  front_is = ap (λ a. if is_main then a else NoStatement) (globals_are (argued n f) p.globals refl)
+  -- where the function's arguments have registers, and what it keeps
+  abbrev argued : Names
+  argued = with_table (with_kinds (value_types f.params) no_registers) n
 
-  pub code_is : (n0 n1 n2 : Names) (inside dying : List ℕ) (t0 t1 t2 t3 t4 : MonStatements) → n0 ≡ argued n f → n1 ≡ with_registers (front_temporaries (unit_of n0) is_main) n0 → n2 ≡ entering f.params n1
-      → t0 ≡ NoStatement → t1 ≡ before t0 (if is_main then globals_initialised n0 (unit_of n0).globals else NoStatement) → t2 ≡ before t1 (parameters (unit_of n1) (next_register n1.table) 0 f.params)
-      → inside ≡ with_born (next_register n1.table) f.params [] → dying ≡ inside → t3 ≡ before t2 (body_by n2 (outermost inside) f.body) → t4 ≡ before t3 (deaths dying)
-      → t4 ≡ whole_code p is_main f
-  code_is n0 n1 n2 inside dying t0 t1 t2 t3 t4 names0 names1 names2 none first born inside_is dying_is body last =
-      let second : n1 ≡ fronted = names1 ∙ ap (λ m. with_registers (front_temporaries (unit_of m) is_main) m) names0 in
-      let third : n2 ≡ entering f.params fronted = names2 ∙ ap (entering f.params) second in
-      let inside_at : inside ≡ with_born (next_register fronted.table) f.params [] = inside_is ∙ ap (λ (m : Names). with_born (next_register m.table) f.params []) second in
-      let start : t1 ≡ front p is_main f.params =
-      first ∙ (λ i. before (none i) (if is_main then globals_initialised (names0 i) (unit_of (names0 i)).globals else NoStatement)) ∙ front_is in
-      let entry = parameters p (next_register fronted.table) 0 f.params in
-      let made = body_part p (with_born (next_register fronted.table) f.params []) (entering f.params fronted).table f.body in
-      let end = deaths (with_born (next_register fronted.table) f.params []) in
-      let second_code : t2 ≡ before (front p is_main f.params) entry = born ∙ (λ i. before (start i) (parameters (unit_of (second i)) (next_register (second i).table) 0 f.params)) in
-      let third_code : t3 ≡ before (before (front p is_main f.params) entry) made =
-      body ∙ (λ i. before (second_code i) (body_by (third i) (outermost (inside_at i)) f.body))
-      ∙ ap (before (before (front p is_main f.params) entry)) (body_is (entering f.params fronted) (with_born (next_register fronted.table) f.params []) f.body) in
-      last ∙ (λ i. before (third_code i) (deaths ((dying_is ∙ inside_at) i)))
-      ∙ before_assoc (before (front p is_main f.params) entry) made end
-      ∙ before_assoc (front p is_main f.params) entry (before made end)
+  abbrev kept : Names
+  kept = with_registers (own_types f) argued
 
-  pub code_names : (n0 n1 n2 n3 : Names) → n0 ≡ argued n f → n1 ≡ with_registers (front_temporaries (unit_of n0) is_main) n0 → n2 ≡ entering f.params n1 → n3 ≡ behind_body f.body n2
-      → n3 ≡ with_table (after_body p f.body (registers_of_body (front_temporaries p is_main) f)) n
-  code_names n0 n1 n2 n3 names0 names1 names2 last =
-      last ∙ ap (behind_body f.body) (names2 ∙ ap (entering f.params) (names1 ∙ ap (λ m. with_registers (front_temporaries (unit_of m) is_main) m) names0))
+  -- where its parameters are born
+  abbrev begun : Names
+  begun = with_table (record { kinds = value_types f.params ++ (own_types f ++ between); bound = [] }) n
+
+  begun_is : with_registers between kept ≡ begun
+  begun_is = ap (λ ts. with_table (record { kinds = ts; bound = [] }) n) (append_assoc (value_types f.params) (own_types f) between)
+
+  front_is : (if is_main then globals_initialised kept (unit_of kept).globals else NoStatement) ≡ front p is_main f
+  front_is = ap (λ a. if is_main then a else NoStatement) (globals_are kept p.globals refl)
+
+  -- where the label `Pre` was passed
+  abbrev passed_pre : Names
+  passed_pre = passed (plan_of f) None (entering f.params begun)
+
+  abbrev bound : Bindings
+  bound = (behind_pre p between f).bound
+
+  bound_is : bound_from (first_pointer p between f) f.params [] ≡ bound
+  bound_is = sym (entered_bound f.params (with_kinds (own_types f ++ between) (with_kinds (value_types f.params) no_registers)))
+
+  contracted_is : (o : Option FunctionContract) → contracted_by (plan_of f) (result_register f) (first_pointer p between f) (pointers p between f) f is_main passed_pre o ≡ body_code p between f is_main o
+  contracted_is None = ap (λ a. before a (deaths (pointers p between f))) (body_is (plan_of f) passed_pre None (pointers p between f) f.body)
+  contracted_is (Some c) = λ i.
+      before (entry_code p bound (first_flag f) (behind_pre p between f).kinds c)
+      (Then (Labelled (before (body_is (plan_of f) (names_behind_entry (first_flag f) c passed_pre) (Some (result_register f)) [] f.body i) (at_brace p between f is_main)) leave_label)
+      (before (leave_code p (bound_is i) (plan_of f) (held_of f) (first_flag f) (at_leave p between f c) c)
+      (before (deaths (pointers p between f)) (last_return (result_register f) (result_of f.result)))))
+
+  own_is : own_code (plan_of f) (result_register f) f is_main begun ≡ code_of p between f is_main
+  own_is = ap (λ a. before (parameters p (first_pointer p between f) 0 f.params) (before (snapshot p (at_start p between f).bound None (at_start p between f).kinds (plan_of f)) a)) (contracted_is f.contract)
+
+  kinds_are : (o : Option FunctionContract)
+      → (behind_contracted (plan_of f) (result_register f) (first_pointer p between f) (pointers p between f) f o passed_pre).table.kinds ≡ all_kinds p between f o
+  kinds_are None = refl
+  kinds_are (Some c) = ap (λ b. behind_leave p b (plan_of f) (held_of f) (first_flag f) (at_leave p between f c) c) bound_is
+
+  program_is : (o : Option FunctionContract) → (behind_contracted (plan_of f) (result_register f) (first_pointer p between f) (pointers p between f) f o passed_pre).program ≡ n.program
+  program_is None = refl
+  program_is (Some c) = refl
+
+  -- from the names and the code of its parts
+  module _ (n0 n1 n2 n3 : Names) (ks : List Kept) (given : ℕ) (names0 : n0 ≡ argued) (kept_are : ks ≡ kept_from (next_register n0.table) (planned f))
+      (given_is : given ≡ next_register n0.table + length (kept_types (planned f))) (names1 : n1 ≡ with_registers (own_types f) n0)
+      (names2 : n2 ≡ with_registers (front_temporaries (unit_of n1) is_main) n1) where
+    plan_is : ks ≡ plan_of f
+    plan_is = kept_are ∙ ap (λ (m : Names). kept_from (next_register m.table) (planned f)) names0
+
+    register_is : given ≡ result_register f
+    register_is = given_is ∙ ap (λ (m : Names). next_register m.table + length (kept_types (planned f))) names0
+
+    second : n1 ≡ kept
+    second = names1 ∙ ap (with_registers (own_types f)) names0
+
+    third : n2 ≡ begun
+    third = names2 ∙ ap (λ m. with_registers (front_temporaries (unit_of m) is_main) m) second ∙ begun_is
+
+    pub code_is : (t0 t1 t2 : MonStatements) → t0 ≡ NoStatement → t1 ≡ before t0 (if is_main then globals_initialised n1 (unit_of n1).globals else NoStatement) → t2 ≡ before t1 (own_code ks given f is_main n2)
+        → t2 ≡ whole_code p is_main f
+    code_is t0 t1 t2 none first last =
+        let start : t1 ≡ front p is_main f = first ∙ (λ i. before (none i) (if is_main then globals_initialised (second i) (unit_of (second i)).globals else NoStatement)) ∙ front_is in
+        last ∙ (λ i. before (start i) (own_code (plan_is i) (register_is i) f is_main (third i))) ∙ ap (before (front p is_main f)) own_is
+
+    names_are : n3 ≡ behind_whole ks given f n2 → n3 ≡ behind_whole (plan_of f) (result_register f) f begun
+    names_are last = last ∙ (λ i. behind_whole (plan_is i) (register_is i) f (third i))
+
+    pub code_kinds : n3 ≡ behind_whole ks given f n2 → n3.table.kinds ≡ all_kinds p between f f.contract
+    code_kinds last = ap (λ (m : Names). m.table.kinds) (names_are last) ∙ kinds_are f.contract
+
+    pub code_program : n3 ≡ behind_whole ks given f n2 → n3.program ≡ n.program
+    code_program last = ap (λ (m : Names). m.program) (names_are last) ∙ program_is f.contract
+
+    pub code_numbers : ContractHasNumbers (suc given) f.contract → ContractHasNumbers (first_flag f) f.contract
+    code_numbers = subst (λ r. ContractHasNumbers (suc r) f.contract) register_is
 
 -- ---- functions
 

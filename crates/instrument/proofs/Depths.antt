@@ -15,7 +15,7 @@ use Rattle.c_model.specs.Meaning.{declared_in, declared_first, default_of}
 use Rattle.mon_syntax.specs.declared.tree.MonType.{MonType}
 use Rattle.mon_syntax.specs.declared.tree.MonType.TheVariants.{U64}
 use Rattle.mon_syntax.specs.Registers.{Bindings, RegisterTable, with_kinds, next_register}
-use Rattle.mon_syntax.specs.Trees.{MonStatements, NoStatement}
+use Rattle.mon_syntax.specs.Trees.{MonExpression, MonStatements, NoStatement}
 use Rattle.mon_syntax.specs.Trees as tree
 use Rattle.mon_syntax.specs.Valid.{Types, has_no_step, depth_of_all}
 use Rattle.track_scopes.specs.Blocks.{entered, deaths}
@@ -24,12 +24,15 @@ use Rattle.c_initialisers.specs.Translation.{initialise, initialise_all, initial
 use Rattle.c_effects.specs.Effects.{block_of, any_temporaries}
 use Rattle.c_effects.specs.Full.{condition_result, prepare, result, takes}
 use Rattle.instrument.specs.Translation.{all_live, Spot, in_loop, in_switch, with_variables, leave_where_zero, test, test_if_any, act_if_any, loop, for_turns, returned, returned_temporaries, switch_temporaries, after_statement, after_first}
-use Rattle.instrument.specs.Translation.{after_item, after_items}
+use Rattle.instrument.specs.Translation.{after_item, after_items, given_register, leaving, passed_label, way_out}
 use Rattle.instrument.specs.Translation.{case_label, test_case, tests_of_cases, search, where_reached, others_in_block, statement, next_cases, blocks_of_cases, else_part, first_part, item, items}
-use Rattle.c_simulation.specs.Labels.{end_label, next_label}
+use Rattle.c_simulation.specs.Keeping.{Kept}
+use Rattle.c_simulation.specs.Labels.{end_label, next_label, leave_label}
 use Rattle.instrument.proofs.FullDepths.{no_step_before, no_step_act, no_step_prepare, deep_act, deep_behind, deep_one, deep_prepare, deep_set}
+use Rattle.annot_code.specs.Snapshots.{snapshot}
 use Rattle.annot_code.proofs.Asserted.{assertions_deep}
 use Rattle.annot_code.proofs.Depths.{deep_before}
+use Rattle.annot_code.proofs.SnapshotDepths.{AreShort, snapshot_deep}
 use Rattle.instrument.proofs.ValidInitialisers.{deep_initialise}
 use Rattle.instrument.proofs.ValidBlocks.{deep_deaths, deep_alive}
 
@@ -56,6 +59,14 @@ most_deep = 1000
 -- a jump after deaths
 deep_jump : (live : List ℕ) (l : List ℕ) (n : ℕ) → 1 ≤ n → depth_of_all (before (deaths live) (one (tree.Goto l))) ≤ n
 deep_jump live l n le = let d = deep_deaths live in deep_before (deaths live) (one (tree.Goto l)) n (omega (arith, d, le)) (deep_one (tree.Goto l) n le)
+
+-- the way out of a function after deaths
+deep_leaving : (out : Option ℕ) (live : List ℕ) (e : Option MonExpression) (n : ℕ) → 1 ≤ n → depth_of_all (leaving out live e) ≤ n
+deep_leaving out live e n le = let d = deep_deaths live in deep_before (deaths live) (one (way_out out e)) n (omega (arith, d, le)) (by out)
+  where
+    by : (o : Option ℕ) → depth_of_all (one (way_out o e)) ≤ n
+    by None = deep_one (tree.Return e) n le
+    by (Some r) = deep_one (tree.Goto leave_label) n le
 
 -- a loop whose body is n deep
 deep_loop : (loops : ℕ) (front body behind : MonStatements) (n : ℕ) → depth_of_all front ≤ suc n → depth_of_all body ≤ n → depth_of_all behind ≤ suc n → depth_of_all (one (loop loops front body behind)) ≤ n + 3
@@ -110,86 +121,86 @@ module _ (p : TranslationUnit) where
       by true = let x = deep_initialise p bound rs (block_of bound (number_of d)) d.ctype d.init f.0 in omega (arith, x)
       by false = omega arith
 
-  deep_returned : (spot : Spot) (r : RegisterTable) (e : Option Expression) → WhereAny (IsFull p.structs) e → depth_of_all (returned p spot r e) ≤ most_deep
-  deep_returned spot r None f =
-      let live = all_live spot in
-      let d = deep_deaths live in
-      deep_before (deaths live) (one (tree.Return None)) most_deep (omega (arith, d)) (omega arith)
+module _ (p : TranslationUnit) (plan : List Kept) (short : AreShort plan) where
+  deep_returned : (spot : Spot) (r : RegisterTable) (e : Option Expression) → WhereAny (IsFull p.structs) e → depth_of_all (returned p plan spot r e) ≤ most_deep
+  deep_returned spot r None f = deep_leaving spot.result (all_live spot) None most_deep (omega arith)
   deep_returned spot r (Some e) f =
       let live = all_live spot in
-      let last = length (r.kinds ++ takes p e) in
+      let last = given_register spot.result (length (r.kinds ++ takes p e)) in
       let value = result p r.bound r.kinds e in
-      let leaves = one (tree.Return (Some (tree.Register last))) in
+      let leaves = leaving spot.result live (Some (tree.Register last)) in
       let x = deep_prepare p r.bound r.kinds e in
-      let y = deep_deaths live in
       let s = f.small.few in
-      deep_before (prepare p r.bound r.kinds e) (before (set last value) (before (deaths live) leaves)) most_deep (omega (arith, x, s))
-      (deep_before (set last value) (before (deaths live) leaves) most_deep (deep_set last value most_deep (omega arith))
-      (deep_before (deaths live) leaves most_deep (omega (arith, y)) (omega arith)))
+      deep_before (prepare p r.bound r.kinds e) (before (set last value) leaves) most_deep (omega (arith, x, s))
+      (deep_before (set last value) leaves most_deep (deep_set last value most_deep (omega arith)) (deep_leaving spot.result live (Some (tree.Register last)) most_deep (omega arith)))
 
-  deep_first : (spot : Spot) (r : RegisterTable) (first : ForFirst) → FirstFormed p.structs first → depth_of_all (first_part p spot r first) ≤ most_deep
+  deep_first : (spot : Spot) (r : RegisterTable) (first : ForFirst) → FirstFormed p.structs first → depth_of_all (first_part p plan spot r first) ≤ most_deep
   deep_first spot r NoFirst f = omega arith
   deep_first spot r (First (Run (Eval at e))) f = let d = deep_act p r.bound r.kinds e in let s = f.small.few in omega (arith, d, s)
-  deep_first spot r (First (Declare ds)) f = deep_initials r.bound r.kinds ds f
+  deep_first spot r (First (Declare ds)) f = deep_initials p r.bound r.kinds ds f
   deep_first spot r (First (Specify at t)) f = omega arith
   deep_first spot r _ f = absurd f
 
   mutual
-    pub deep : (spot : Spot) (r : RegisterTable) (a : Statement) → StatementFormed p.structs a → depth_of_all (statement p spot r a) ≤ 4 * form.depth a + most_deep
+    pub deep : (spot : Spot) (r : RegisterTable) (a : Statement) → StatementFormed p.structs a → depth_of_all (statement p plan spot r a) ≤ 4 * form.depth a + most_deep
     deep spot r (Empty at) f = omega arith
     deep spot r (Eval at e) f = let d = deep_act p r.bound r.kinds e in let s = f.small.few in omega (arith, d, s)
     deep spot r (Block at body) f =
         let own = declared_in body in
         let inside = with_variables (next_register r) own spot in
         let d = deep_items inside (entered own r) body f in
-        deep_alive p (next_register r) own (items p inside (entered own r) body) (4 * (1 + form.depth_of_items body) + most_deep) (omega (arith, d)) (omega arith)
+        deep_alive p (next_register r) own (items p plan inside (entered own r) body) (4 * (1 + form.depth_of_items body) + most_deep) (omega (arith, d)) (omega arith)
     deep spot r (If at e a b) f =
         let first = with_kinds (takes p e) r in
-        let second = after_statement p a first in
+        let second = after_statement p plan a first in
         let x = deep spot first a f.1 in
         let y = deep_else spot second b f.2 in
         let left = le-max_left (form.depth a) (form.depth_of_else b) in
         let right = le-max_right (form.depth a) (form.depth_of_else b) in
         let n = 4 * max (form.depth a) (form.depth_of_else b) + most_deep in
-        let m : max (depth_of_all (statement p spot first a)) (depth_of_all (else_part p spot second b)) ≤ n = max-le (omega (arith, x, left)) (omega (arith, y, right)) in
+        let m : max (depth_of_all (statement p plan spot first a)) (depth_of_all (else_part p plan spot second b)) ≤ n = max-le (omega (arith, x, left)) (omega (arith, y, right)) in
         let s = f.0.small.few in
-        deep_behind p r.bound r.kinds e (tree.If (condition_result p r.bound r.kinds e) (statement p spot first a) (else_part p spot second b))
+        deep_behind p r.bound r.kinds e (tree.If (condition_result p r.bound r.kinds e) (statement p plan spot first a) (else_part p plan spot second b))
         (4 * (1 + max (form.depth a) (form.depth_of_else b)) + most_deep) (omega (arith, s)) (omega (arith, m))
     deep spot r (While at annots e a) f =
         let loops = spot.levels + 1 in
         let inside = with_kinds (takes p e) r in
         let x = deep (in_loop spot) inside a f.2 in
-        let y = deep_test r.bound r.kinds loops e f.1.small.few in
-        let d = deep_loop loops (test p r.bound r.kinds loops e) (statement p (in_loop spot) inside a) NoStatement (4 * form.depth a + most_deep) (omega (arith, y)) x (omega arith) in
+        let y = deep_test p r.bound r.kinds loops e f.1.small.few in
+        let d = deep_loop loops (test p r.bound r.kinds loops e) (statement p plan (in_loop spot) inside a) NoStatement (4 * form.depth a + most_deep) (omega (arith, y)) x (omega arith) in
         omega (arith, d)
     deep spot r (Do at a e) f =
         let loops = spot.levels + 1 in
-        let after = after_statement p a r in
+        let after = after_statement p plan a r in
         let x = deep (in_loop spot) r a f.0 in
-        let y = deep_test after.bound after.kinds loops e f.1.small.few in
-        let d = deep_loop loops NoStatement (statement p (in_loop spot) r a) (test p after.bound after.kinds loops e) (4 * form.depth a + most_deep) (omega arith) x (omega (arith, y)) in
+        let y = deep_test p after.bound after.kinds loops e f.1.small.few in
+        let d = deep_loop loops NoStatement (statement p plan (in_loop spot) r a) (test p after.bound after.kinds loops e) (4 * form.depth a + most_deep) (omega arith) x (omega (arith, y)) in
         omega (arith, d)
     deep spot r (For at annots first e step a) f =
         let own = declared_first first in
         let inside = with_variables (next_register r) own spot in
         let loops = spot.levels + 1 in
         let born = entered own r in
-        let begun = after_first p first born in
+        let begun = after_first p plan first born in
         let tested = with_kinds (any_temporaries (takes p) e) begun in
-        let after = after_statement p a tested in
+        let after = after_statement p plan a tested in
         let x = deep (in_loop inside) tested a f.4 in
-        let y = deep_test_if_any begun.bound begun.kinds loops e f.2 in
-        let z = deep_act_if_any after.bound after.kinds step f.3 in
+        let y = deep_test_if_any p begun.bound begun.kinds loops e f.2 in
+        let z = deep_act_if_any p after.bound after.kinds step f.3 in
         let g = deep_first inside born first f.1 in
-        let body = statement p (in_loop inside) tested a in
+        let body = statement p plan (in_loop inside) tested a in
         let whole = for_turns p loops begun after e step body in
         let d = deep_loop loops (test_if_any p begun.bound begun.kinds loops e) body (act_if_any p after.bound after.kinds step) (4 * form.depth a + most_deep) (omega (arith, y)) x (omega (arith, z)) in
         let n = 4 * (1 + form.depth a) + most_deep in
-        deep_alive p (next_register r) own (before (first_part p inside born first) whole) n (deep_before (first_part p inside born first) whole n (omega (arith, g)) (omega (arith, d))) (omega arith)
+        deep_alive p (next_register r) own (before (first_part p plan inside born first) whole) n (deep_before (first_part p plan inside born first) whole n (omega (arith, g)) (omega (arith, d))) (omega arith)
     deep spot r (Break at) f = deep_jump spot.inside (end_label spot.levels) (4 * 1 + most_deep) (omega arith)
     deep spot r (Continue at) f = deep_jump (spot.inside ++ spot.between) (next_label spot.innermost) (4 * 1 + most_deep) (omega arith)
     deep spot r (Return at e) f = let d = deep_returned spot r e f in omega (arith, d)
-    deep spot r (Labelled at l a) f = absurd f
+    deep spot r (Labelled at l a) f =
+        let later = passed_label p plan (Some l) r in
+        let x = snapshot_deep p r.bound (Some l) plan short r.kinds in
+        let y = deep spot later a f in
+        deep_before (snapshot p r.bound (Some l) r.kinds plan) (statement p plan spot later a) (4 * (1 + form.depth a) + most_deep) (omega (arith, x)) (omega (arith, y))
     deep spot r (Switch at e cases) f =
         let v = length (r.kinds ++ takes p e) in
         let j = length (r.kinds ++ returned_temporaries p e) in
@@ -198,57 +209,57 @@ module _ (p : TranslationUnit) where
         let s = f.0.small.few in
         let n = 4 * (1 + form.depth_of_cases cases) + most_deep in
         let inside = deep_blocks (in_switch spot) (with_kinds (switch_temporaries p e) r) j 0 0 cases f.1 in
-        let whole = tree.Labelled (blocks_of_cases p (in_switch spot) (with_kinds (switch_temporaries p e) r) j 0 0 cases) (end_label levels) in
+        let whole = tree.Labelled (blocks_of_cases p plan (in_switch spot) (with_kinds (switch_temporaries p e) r) j 0 0 cases) (end_label levels) in
         deep_before (prepare p r.bound r.kinds e) (before (set v (result p r.bound r.kinds e)) (before (search levels (value_type (type_of e)) v j cases) (one whole))) n (omega (arith, x, s))
         (deep_before (set v (result p r.bound r.kinds e)) (before (search levels (value_type (type_of e)) v j cases) (one whole)) n (deep_set v (result p r.bound r.kinds e) n (omega arith))
         (deep_before (search levels (value_type (type_of e)) v j cases) (one whole) n (deep_search levels (value_type (type_of e)) v j cases n (omega arith)) (deep_one whole n (omega (arith, inside)))))
 
     -- the items of cases stand in one test, and in blocks in two
-    deep_next : (spot : Spot) (r : RegisterTable) (j i k : ℕ) (cs : Cases) → CasesFormed p.structs cs → depth_of_all (next_cases p spot r j i k cs) ≤ 4 * form.depth_of_cases cs + most_deep + 1
+    deep_next : (spot : Spot) (r : RegisterTable) (j i k : ℕ) (cs : Cases) → CasesFormed p.structs cs → depth_of_all (next_cases p plan spot r j i k cs) ≤ 4 * form.depth_of_cases cs + most_deep + 1
     deep_next spot r j i k NoCase f = omega arith
     deep_next spot r j i zero (AnotherCase at v body rest) f = omega arith
     deep_next spot r j i (suc k) (AnotherCase at v body rest) f =
         let x = deep_items spot r body f.1 in
-        let y = deep_next spot (after_items p body r) j (suc i) k rest f.2 in
+        let y = deep_next spot (after_items p plan body r) j (suc i) k rest f.2 in
         let left = le-max_left (form.depth_of_items body) (form.depth_of_cases rest) in
         let right = le-max_right (form.depth_of_items body) (form.depth_of_cases rest) in
-        deep_reached j i (items p spot r body) (next_cases p spot (after_items p body r) j (suc i) k rest) (4 * max (form.depth_of_items body) (form.depth_of_cases rest) + most_deep) (omega (arith, x, left)) (omega (arith, y, right))
+        deep_reached j i (items p plan spot r body) (next_cases p plan spot (after_items p plan body r) j (suc i) k rest) (4 * max (form.depth_of_items body) (form.depth_of_cases rest) + most_deep) (omega (arith, x, left)) (omega (arith, y, right))
 
-    deep_blocks : (spot : Spot) (r : RegisterTable) (j i k : ℕ) (cs : Cases) → CasesFormed p.structs cs → depth_of_all (blocks_of_cases p spot r j i k cs) ≤ 4 * form.depth_of_cases cs + most_deep + 2
+    deep_blocks : (spot : Spot) (r : RegisterTable) (j i k : ℕ) (cs : Cases) → CasesFormed p.structs cs → depth_of_all (blocks_of_cases p plan spot r j i k cs) ≤ 4 * form.depth_of_cases cs + most_deep + 2
     deep_blocks spot r j i k NoCase f = omega arith
     deep_blocks spot r j i zero (AnotherCase at v body rest) f =
-        let later = after_items p body r in
+        let later = after_items p plan body r in
         let x = deep_items spot r body f.1 in
         let y = deep_next spot later j (suc i) others_in_block rest f.2 in
         let z = deep_blocks spot later j (suc i) others_in_block rest f.2 in
         let left = le-max_left (form.depth_of_items body) (form.depth_of_cases rest) in
         let right = le-max_right (form.depth_of_items body) (form.depth_of_cases rest) in
         let n = 4 * max (form.depth_of_items body) (form.depth_of_cases rest) + most_deep in
-        let block = tree.Then (where_reached j i (items p spot r body)) (next_cases p spot later j (suc i) others_in_block rest) in
+        let block = tree.Then (where_reached j i (items p plan spot r body)) (next_cases p plan spot later j (suc i) others_in_block rest) in
         let whole =
-        deep_reached j (i + others_in_block) block (blocks_of_cases p spot later j (suc i) others_in_block rest) (n + 1)
-        (deep_reached j i (items p spot r body) (next_cases p spot later j (suc i) others_in_block rest) n (omega (arith, x, left)) (omega (arith, y, right))) (omega (arith, z, right)) in
+        deep_reached j (i + others_in_block) block (blocks_of_cases p plan spot later j (suc i) others_in_block rest) (n + 1)
+        (deep_reached j i (items p plan spot r body) (next_cases p plan spot later j (suc i) others_in_block rest) n (omega (arith, x, left)) (omega (arith, y, right))) (omega (arith, z, right)) in
         omega (arith, whole)
     deep_blocks spot r j i (suc k) (AnotherCase at v body rest) f =
-        let z = deep_blocks spot (after_items p body r) j (suc i) k rest f.2 in
+        let z = deep_blocks spot (after_items p plan body r) j (suc i) k rest f.2 in
         let right = le-max_right (form.depth_of_items body) (form.depth_of_cases rest) in
         omega (arith, z, right)
 
-    deep_else : (spot : Spot) (r : RegisterTable) (b : ElsePart) → ElseFormed p.structs b → depth_of_all (else_part p spot r b) ≤ 4 * form.depth_of_else b + most_deep
+    deep_else : (spot : Spot) (r : RegisterTable) (b : ElsePart) → ElseFormed p.structs b → depth_of_all (else_part p plan spot r b) ≤ 4 * form.depth_of_else b + most_deep
     deep_else spot r NoElse f = omega arith
     deep_else spot r (Else a) f = deep spot r a f
 
-    deep_item : (spot : Spot) (r : RegisterTable) (i : BlockItem) → ItemFormed p.structs i → depth_of_all (item p spot r i) ≤ 4 * form.depth_of_item i + most_deep
-    deep_item spot r (Declare ds) f = let d = deep_initials r.bound r.kinds ds f in omega (arith, d)
+    deep_item : (spot : Spot) (r : RegisterTable) (i : BlockItem) → ItemFormed p.structs i → depth_of_all (item p plan spot r i) ≤ 4 * form.depth_of_item i + most_deep
+    deep_item spot r (Declare ds) f = let d = deep_initials p r.bound r.kinds ds f in omega (arith, d)
     deep_item spot r (Specify at t) f = omega arith
     deep_item spot r (Run a) f = deep spot r a f
-    deep_item spot r (Asserts annots) f = let d = assertions_deep p r.bound r.kinds annots f.are in omega (arith, d)
+    deep_item spot r (Asserts annots) f = let d = assertions_deep p r.bound plan [] r.kinds annots f.are in omega (arith, d)
 
-    deep_items : (spot : Spot) (r : RegisterTable) (is : BlockItems) → ItemsFormed p.structs is → depth_of_all (items p spot r is) ≤ 4 * form.depth_of_items is + most_deep
+    deep_items : (spot : Spot) (r : RegisterTable) (is : BlockItems) → ItemsFormed p.structs is → depth_of_all (items p plan spot r is) ≤ 4 * form.depth_of_items is + most_deep
     deep_items spot r NoItem f = omega arith
     deep_items spot r (Then i rest) f =
         let x = deep_item spot r i f.0 in
-        let y = deep_items spot (after_item p i r) rest f.1 in
+        let y = deep_items spot (after_item p plan i r) rest f.1 in
         let left = le-max_left (form.depth_of_item i) (form.depth_of_items rest) in
         let right = le-max_right (form.depth_of_item i) (form.depth_of_items rest) in
-        deep_before (item p spot r i) (items p spot (after_item p i r) rest) (4 * max (form.depth_of_item i) (form.depth_of_items rest) + most_deep) (omega (arith, x, left)) (omega (arith, y, right))
+        deep_before (item p plan spot r i) (items p plan spot (after_item p plan i r) rest) (4 * max (form.depth_of_item i) (form.depth_of_items rest) + most_deep) (omega (arith, x, left)) (omega (arith, y, right))

@@ -48,7 +48,7 @@ module _ (structs : List StructType) where
     statement_formed (Break at) p h t = tt
     statement_formed (Continue at) p h t = tt
     statement_formed (Return at e) p h t = any_full e h t
-    statement_formed (Labelled at l a) p h t = absurd p
+    statement_formed (Labelled at l a) p h t = statement_formed a p h t
     statement_formed (Switch at e cases) p h t = (record { small = h.0; types = t.0 }, cases_formed cases p h.1 t.1)
 
     cases_formed : (cs : Cases) → CasesPlaced AreRangedAsserts cs → EachInCases IsSmall cs → EachInCases Few cs → CasesFormed structs cs

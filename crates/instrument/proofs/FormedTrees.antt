@@ -48,7 +48,7 @@ module _ (structs : List StructType) where
     StatementFormed (Break at) = Unit {0}
     StatementFormed (Continue at) = Unit {0}
     StatementFormed (Return at e) = WhereAny IsFull e
-    StatementFormed (Labelled at l a) = ⊥
+    StatementFormed (Labelled at l a) = StatementFormed a
     StatementFormed (Switch at e cases) = IsFull e × CasesFormed cases
 
     pub CasesFormed : Cases → Type 0

@@ -5,8 +5,12 @@ pub mod DeclarationCode
 pub mod GlobalCode
 pub mod Entries
 pub mod Definitions
+pub mod Grown
+pub mod OwnRegisters
+pub mod ContractBodies
 -- expressions; the relation between a call and its translation, and values, are of `c_simulation`
 pub mod Own
+pub mod Annotated
 pub mod RangedTrees
 pub mod Scenes
 pub mod Evaluations
@@ -38,13 +42,31 @@ pub mod Loops
 pub mod Switches
 pub mod Declared
 pub mod Sight
+pub mod Throughout
+pub mod Passages
 pub mod Statements
 pub mod Parameters
+pub mod CallEnds
+pub mod KeptPlans
 pub mod Functions
+pub mod ContractCalls
+pub mod CheckedCalls
+pub mod ContractAsserts
+pub mod MainCalls
 pub mod Numbers
 pub mod Programs
 pub mod Bodies
 pub mod Callees
+-- what typing and ranges tell of labels and contracts
+pub mod CheckedFunctions
+pub mod KeptTerms
+pub mod LabelSites
+pub mod KeptFunctions
+pub mod ContractTerms
+pub mod ContractGood
+pub mod FunctionsStand
+pub mod KnownContracts
+-- whole runs
 pub mod Correct
 pub mod ProgramRuns
 -- validity
@@ -63,11 +85,17 @@ pub mod FullValid
 pub mod ValidInitialisers
 pub mod Tables
 pub mod ValidBlocks
+pub mod Writable
 pub mod ValidAsserts
+pub mod Keepable
+pub mod KeepablePlans
+pub mod KeptRegisters
+pub mod ValidContracts
 pub mod Names
 pub mod Depths
 pub mod ValidStatements
 pub mod ValidRegisters
+pub mod ValidResults
 pub mod ValidPrints
 pub mod ValidCalls
 pub mod ValidPrograms
@@ -75,3 +103,4 @@ pub mod ProgramValidity
 -- examples, by computation
 mod WorkedMembers
 mod WorkedTranslations
+mod WorkedContracts

@@ -11,7 +11,7 @@ use Rattle.c_model.specs.Meaning as source
 use Rattle.c_model.proofs.Agreement.{extends_trans}
 use Rattle.mon_syntax.specs.Registers.{Bindings}
 use Rattle.c_model.specs.MonitoredRuns as machine
-use Rattle.mon_syntax.specs.Meaning.{Result, Done, Stops, Flow, Next, Goes, Returns, writes, then_do, at_next, at_label, choose}
+use Rattle.mon_syntax.specs.Meaning.{Result, Done, Stops, Flow, Next, Goes, writes, then_do, at_next, at_label, choose}
 use Rattle.mon_syntax.specs.Meaning as monitored
 use Rattle.mon_syntax.specs.BlockMemory.{over_blocks}
 use Rattle.mon_syntax.specs.LiveBlocks.{LiveBlock, live_in}
@@ -20,15 +20,14 @@ use Rattle.c_effects.specs.Expressions.{before, one}
 use Rattle.track_scopes.specs.Lives.{AreBefore}
 use Rattle.instrument.specs.Translation.{Spot, in_loop, leave_where_zero, loop}
 use Rattle.c_simulation.specs.Labels.{end_label, next_label}
-use Rattle.c_simulation.specs.Keeping.{Keeps}
 use Rattle.c_simulation.specs.SameRegisters.{Same, Stays}
-use Rattle.c_simulation.specs.Standing.{Target, Did, Setting, runs, Here, Standing, Beside}
+use Rattle.c_simulation.specs.Standing.{Keeps, Target, Did, Setting, runs, Here, Standing, Beside}
 use Rattle.c_simulation.proofs.Results.{writes_none, written_then, one_is, before_is, rest_first}
 use Rattle.c_simulation.specs.Following.{written}
 use Rattle.c_simulation.proofs.Registers.{same_all, stays_same}
 use Rattle.instrument.proofs.Deaths.{kill_none, all_before}
 use Rattle.c_simulation.specs.Reaching.{Reaches, Anything, Tested}
-use Rattle.c_simulation.proofs.Following.{later_same, onward, passes_later, follows_choice, anywhere, standing_as}
+use Rattle.c_simulation.proofs.Following.{left_next, left_end, left_turn, later_same, onward, passes_later, follows_choice, anywhere, standing_as}
 use Rattle.c_simulation.proofs.Reaching.{follows_reached, test_runs}
 use Rattle.c_simulation.specs.Following.{Later, Passes, Follows, GoesOn, Breaks, Continues, IsLeft, IsOver, IsUndefined}
 use Rattle.instrument.proofs.Births.{pointed_append, all_apart}
@@ -64,6 +63,7 @@ meets_stepped w h spot low bound living regs s t k m = record {
   between = m.between;
   outside = m.outside;
   names = m.names;
+  result = m.result;
 }
 
 later_stepped : (s to : State) (k : ℕ) (o : List ℕ) → s.steps ≡ suc k → Passes (stepped s k) to o → Passes s to o
@@ -74,7 +74,7 @@ from_stepped : (w : Setting) (h : Here) (low : ℕ) (regs : List Value) (on : Li
 from_stepped w h low regs on s k r q x (GoesOn to after t o m g l b e f) = GoesOn to after t o m g (later_stepped s to k o x l) b e f
 from_stepped w h low regs on s k r q x (Breaks to after t o i m g l b e f) = Breaks to after t o i m g (later_stepped s to k o x l) b e f
 from_stepped w h low regs on s k r q x (Continues to after t o i m g l b e f) = Continues to after t o i m g (later_stepped s to k o x l) b e f
-from_stepped w h low regs on s k r q x (IsLeft v to t o i l b e f) = IsLeft v to t o i (later_stepped s to k o x l) b e f
+from_stepped w h low regs on s k r q x (IsLeft v to after t o i m g y l b e f) = IsLeft v to after t o i m g y (later_stepped s to k o x l) b e f
 from_stepped w h low regs on s k r q x (IsOver y z to o d e l f) = IsOver y z to o d e l f
 from_stepped w h low regs on s k r q x (IsUndefined at to o e l ext) = IsUndefined at to o e l ext
 
@@ -125,6 +125,7 @@ module _ (w : Setting) (h : Here) (base : ℕ) (spot : Spot) (low : ℕ) (bound 
     between = m.between;
     outside = m.outside;
     names = m.names;
+    result = m.result;
   }
 
   -- where the loop begins
@@ -154,6 +155,7 @@ module _ (w : Setting) (h : Here) (base : ℕ) (spot : Spot) (low : ℕ) (bound 
         pointed_append w.plan_to low regs spot.inside (spot.between ++ spot.outside) h.inner (h.between ++ h.outer) m.inside
         (pointed_append w.plan_to low regs spot.between spot.outside h.between h.outer m.between m.outside);
     names = m.names;
+    result = m.result;
   }
     where
       r : Standing w h low bound regs s
@@ -202,8 +204,9 @@ module _ (w : Setting) (h : Here) (base : ℕ) (spot : Spot) (low : ℕ) (bound 
       (onward w in_turn low regs after (Goes (end_label loops)) from s o _ _ m l (k s after t o m g2 l (all_dead from s o t none l b))))
   follows_body regs from r q again g none (Breaks s after t o i m g2 l b e e') k =
       GoesOn s after t o m g2 l (all_dead from s o t none l b) (ap (λ r. after_body r again) e) (ap (λ q. then_do (then_do q (at_label (next_label loops))) (at_next g)) e' ∙ body_breaks after t o g)
-  follows_body regs from r q again g none (IsLeft v s t o i l b e e') k =
-      IsLeft v s t o i l b (ap (λ r. after_body r again) e) (ap (λ q. then_do (then_do q (at_label (next_label loops))) (at_next g)) e' ∙ ap (Done (Returns v) t) (append-nil (o ++ []) ∙ append-nil o))
+  follows_body regs from r q again g none (IsLeft v s after t o i m g2 x l b e e') k =
+      IsLeft v s after t o i m g2 x l b (ap (λ r. after_body r again) e)
+      (ap (λ q. then_do (then_do q (at_label (next_label loops))) (at_next g)) e' ∙ ap (λ q. then_do q (at_next g)) (left_turn loops w.result v after t o) ∙ left_next w.result v after t o g)
   follows_body regs from r q again g none (IsOver y z s o d e l e') k =
       IsOver y z s o d (ap (λ r. after_body r again) e) l (ap (λ q. then_do (then_do q (at_label (next_label loops))) (at_next g)) e')
   follows_body regs from r q again g none (IsUndefined at s o e l ext) k =
@@ -221,7 +224,7 @@ module _ (w : Setting) (h : Here) (base : ℕ) (spot : Spot) (low : ℕ) (bound 
   follows_label regs from r q (GoesOn s after t o m g l b e e') = GoesOn s after t o m g l b e (ap (λ q. then_do q (at_label (end_label loops))) e' ∙ caught after t o)
   follows_label regs from r q (Breaks s after t o i m g l b e e') = absurd cc
   follows_label regs from r q (Continues s after t o i m g l b e e') = absurd cc
-  follows_label regs from r q (IsLeft v s t o i l b e e') = IsLeft v s t o i l b e (ap (λ q. then_do q (at_label (end_label loops))) e' ∙ ap (Done (Returns v) t) (append-nil o))
+  follows_label regs from r q (IsLeft v s after t o i m g x l b e e') = IsLeft v s after t o i m g x l b e (ap (λ q. then_do q (at_label (end_label loops))) e' ∙ left_end loops w.result v after t o)
   follows_label regs from r q (IsOver y z s o d e l e') = IsOver y z s o d e l (ap (λ q. then_do q (at_label (end_label loops))) e')
   follows_label regs from r q (IsUndefined at s o e l ext) = IsUndefined at s o e l (extends_trans o (written q) _ ext (written_then q (at_label (end_label loops))))
 

@@ -15,7 +15,7 @@ use Rattle.mon_syntax.specs.declared.tree.MonType.TheVariants.{I8, U8, I16, U16,
 use Rattle.mon_syntax.specs.Names.{IsFreeName, is_reserved}
 use Rattle.mon_syntax.specs.Names as words
 use Rattle.instrument.specs.Translation.{case_label, register_name, pointer_name, temporary_name, function_name, name_of_register, global_name, text_name}
-use Rattle.c_simulation.specs.Labels.{end_label, next_label}
+use Rattle.c_simulation.specs.Labels.{end_label, next_label, leave_label}
 
 -- ---- decimal numbers
 
@@ -106,6 +106,10 @@ case_is_free n le =
       short = omega (arith, short);
       free = refl;
     }
+
+pub leave_is_free : IsFreeName leave_label
+unfolding words.reserved_words
+leave_is_free = record { begins = refl; parts = (refl, (refl, (refl, (refl, (refl, tt))))); short = omega arith; free = refl }
 
 pub ends_differ : (m n : ℕ) → IsNumber m → IsNumber n → (m ≡ n → ⊥) → bytes_eq (end_label m) (end_label n) ≡ false
 ends_differ m n lm ln differ = unequal (end_label m) (end_label n) (λ e. differ (decimal_injective m n lm ln (ap (drop 4) e)))

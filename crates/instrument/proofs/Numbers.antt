@@ -307,7 +307,7 @@ module _ (p : TranslationUnit) where
     can_declare (Break at) s r low high living same free q b o = tt
     can_declare (Continue at) s r low high living same free q b o = tt
     can_declare (Return at e) s r low high living same free q b o = tt
-    can_declare (Labelled at l x) s r low high living same free q b o = tt
+    can_declare (Labelled at l x) s r low high living same free q b o = can_declare x s r low high living same free q b o
     can_declare (Switch at e cases) s r low high living same free q b o = cases_can_declare cases s (in_switch r) (promoted q.0) low high living same free q.3 b o
 
     cases_can_declare : (cs : Cases) (s : Sight) (r : Around) (k : CInt) (low high : ℕ) (living : List ℕ) → s.structs ≡ p.structs → AllFree p low high → CasesTyped s r k cs → Between low (numbers_in (declared_in_cases cs)) high

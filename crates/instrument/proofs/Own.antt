@@ -71,7 +71,7 @@ abbrev mutual
   StatementOwn (Break at) = Unit {0}
   StatementOwn (Continue at) = Unit {0}
   StatementOwn (Return at e) = Unit {0}
-  StatementOwn (Labelled at l a) = Unit {0}
+  StatementOwn (Labelled at l a) = StatementOwn a
   StatementOwn (Switch at e cases) = CasesOwn cases
 
   pub CasesOwn : Cases → Type 0
@@ -111,7 +111,7 @@ mutual
   statement_own (Break at) h = tt
   statement_own (Continue at) h = tt
   statement_own (Return at e) h = tt
-  statement_own (Labelled at l a) h = tt
+  statement_own (Labelled at l a) h = statement_own a h
   statement_own (Switch at e cases) h = cases_own cases h
 
   cases_own : (cs : Cases) → AreOwn (declared_in_cases cs) → CasesOwn cs

@@ -10,8 +10,11 @@ use Rattle.c_model.specs.AcceptedPrograms.{AreDefined, IsProgram}
 use Rattle.c_model.specs.UnrangedPrograms.{FunctionsRanged}
 use Rattle.mon_syntax.specs.BlockMemory.{block_run}
 use Rattle.c_initialisers.specs.Letters.{InitialsHaveLetters}
-use Rattle.instrument.specs.Limits.{BodyHasNumbers, FunctionsHaveNumbers}
-use Rattle.instrument.specs.Translation.{index_of_main, translated}
+use Rattle.instrument.specs.Limits.{BodyHasNumbers, ContractHasNumbers, FunctionsHaveNumbers}
+use Rattle.instrument.specs.Translation.{first_flag, index_of_main, translated}
+use Rattle.instrument.proofs.Annotated.{AreAnnotated, IsAnnotated, are_annotated}
+use Rattle.instrument.proofs.KnownContracts.{functions_stand}
+use Rattle.instrument.proofs.Starts.{pointers}
 use Rattle.instrument.proofs.RangedTrees.{AreRangedAsserts, functions_ranged}
 use Rattle.c_simulation.specs.Standing.{AreOctets}
 use Rattle.instrument.proofs.FileScope.{AreTexts}
@@ -30,8 +33,9 @@ texts_are [] h = tt
 texts_are (x ∷ xs) h = (octets x.bytes h.0, texts_are xs h.1)
 
 module _ (p : TranslationUnit) (q : IsProgram p) where
-  part_of : (f : Function) → FunctionInPlace p f → IsNumbered (items_of_file p) 0 4294967295 f → FunctionRead AreRangedAsserts f → (is_definition f ≡ true → BodyHasNumbers f.body) → Part p f
-  part_of f here n read letters = record {
+  part_of : (f : Function) → FunctionInPlace p f → IsNumbered (items_of_file p) 0 4294967295 f → FunctionRead AreRangedAsserts f → (is_definition f ≡ true → BodyHasNumbers f.body) → IsAnnotated p f
+      → (is_definition f ≡ true → ContractHasNumbers (first_flag f) f.contract) → Part p f
+  part_of f here n read letters annotated clauses = record {
     sight = here.sight;
     names = here.place.names;
     texts = here.place.texts;
@@ -41,6 +45,8 @@ module _ (p : TranslationUnit) (q : IsProgram p) where
     noted = here.noted;
     read = read;
     letters = letters;
+    annotated = annotated;
+    clauses = clauses;
     high = n.high;
     between = n.between;
     below = n.below;
@@ -49,11 +55,11 @@ module _ (p : TranslationUnit) (q : IsProgram p) where
     asks = λ s names texts u t es c. resolved_asks p s (names ∙ here.place.names) (texts ∙ here.place.texts) u t es c;
   }
 
-  parts_of : (main k : ℕ) (front fs : List Function) → front ++ fs ≡ p.funcs → FunctionsRead AreRangedAsserts fs → FunctionsHaveNumbers p main k fs → Parts p fs
-  parts_of main k front [] is read numbers = tt
-  parts_of main k front (f ∷ fs) is read numbers = (
-    part_of f (function_in_place p q front fs f is) (function_is_numbered p q.numbered front fs f is) read.0 (λ e. (numbers.0 e).body),
-    parts_of main (if is_definition f then suc k else k) (front ++ f ∷ []) fs (append_assoc front (f ∷ []) fs ∙ is) read.1 numbers.1,
+  parts_of : (main k : ℕ) (front fs : List Function) → front ++ fs ≡ p.funcs → FunctionsRead AreRangedAsserts fs → AreAnnotated p fs → FunctionsHaveNumbers p main k fs → Parts p fs
+  parts_of main k front [] is read annotated numbers = tt
+  parts_of main k front (f ∷ fs) is read annotated numbers = (
+    part_of f (function_in_place p q front fs f is) (function_is_numbered p q.numbered front fs f is) read.0 (λ e. (numbers.0 e).body) annotated.0 (λ e. (numbers.0 e).contract),
+    parts_of main (if is_definition f then suc k else k) (front ++ f ∷ []) fs (append_assoc front (f ∷ []) fs ∙ is) read.1 annotated.1 numbers.1,
   )
 
   globals_known : InitialsHaveLetters p.globals → GlobalsKnown p
@@ -74,4 +80,5 @@ GlobalsHaveLetters p = index_of_main p.names p.funcs < length (translated p).fun
 pub program_agrees : (p : TranslationUnit) → IsProgram p → FunctionsRanged p.funcs → GlobalsHaveLetters p → FunctionsHaveNumbers p (index_of_main p.names p.funcs) 0 p.funcs
     → (input : Input) (n : ℕ) → Agrees (run p input n) (block_run (translated p) input n)
 program_agrees p q ranged letters numbers input n =
-    translated_agrees p (parts_of p q (index_of_main p.names p.funcs) 0 [] p.funcs refl (functions_ranged p.funcs q.effects ranged) numbers) q.main (globals_known p q (letters (main_below p q.main))) input n
+    translated_agrees p (parts_of p q (index_of_main p.names p.funcs) 0 [] p.funcs refl (functions_ranged p.funcs q.effects ranged) (are_annotated p q ranged) numbers) q.main
+    (globals_known p q (letters (main_below p q.main))) (functions_stand p (pointers p)) input n

@@ -17,7 +17,10 @@ use Rattle.c_model.specs.SmallTypes.{TypesSmall}
 use Rattle.c_model.specs.FullExpressions.{EachDeclared, EachInBody, EachInFunctions}
 use Rattle.c_model.specs.ReadTree.{BodyRead, FunctionsRead}
 use Rattle.c_model.specs.UnrangedPrograms.{FunctionsRanged}
+use Rattle.c_model.specs.AnnotationTyping.{in_body}
 use Rattle.instrument.proofs.RangedTrees.{AreRangedAsserts, functions_ranged}
+use Rattle.instrument.proofs.Annotated.{AreAnnotated, IsAnnotated, are_annotated}
+use Rattle.instrument.proofs.KeepablePlans.{is_planned}
 use Rattle.c_model.specs.AcceptedPrograms.{AreDefined, IsProgram}
 use Rattle.mon_syntax.specs.Valid.{Types, IsValid}
 use Rattle.c_initialisers.specs.Letters.{InitialHasLetters, InitialsHaveLetters}
@@ -98,9 +101,9 @@ module _ (p : TranslationUnit) (q : IsProgram p) where
   -- ---- functions
 
   definition_typed : (front : Types) (f : Function) → FunctionInPlace p f → IsNumbered (items_of_file p) 0 4294967295 f → FunctionNamed p.names f → BodyRead AreRangedAsserts f.body → EachInBody IsSmall f.body
-      → EachInBody (TypesSmall p.structs) f.body
+      → EachInBody (TypesSmall p.structs) f.body → IsAnnotated p f
       → is_definition f ≡ true → FunctionHasNumbers p front f → DefinitionTyped p front f
-  definition_typed front f here n named formed small types definition numbers = by f.body refl
+  definition_typed front f here n named formed small types annotated definition numbers = by f.body refl
     where
       sight : Sight
       sight = with_parameters (inner here.sight) f.params
@@ -114,7 +117,7 @@ module _ (p : TranslationUnit) (q : IsProgram p) where
           let light : EachInBody IsSmall (Some (Block at items)) = subst (EachInBody IsSmall) e small in
           let few : EachInBody (TypesSmall p.structs) (Some (Block at items)) = subst (EachInBody (TypesSmall p.structs)) e types in
           let typed : BodyTyped sight f.result (Some (Block at items)) = subst (BodyTyped sight f.result) e here.typed.body in
-          let noted : BodyNoted sight (Some (Block at items)) = subst (BodyNoted sight) e here.noted in
+          let noted : BodyNoted (in_body sight) (Some (Block at items)) = subst (BodyNoted (in_body sight)) e here.noted in
           let letters : BodyHasNumbers (Some (Block at items)) = subst BodyHasNumbers e numbers.body in
           let declared : AreOwn (declared_in_items items) = subst (λ b. AreOwn (declared_in_body b)) e parts.1 in
           let shallow = placed.1 in
@@ -131,9 +134,12 @@ module _ (p : TranslationUnit) (q : IsProgram p) where
             formed = items_formed p.structs items placed.0 light few;
             shallow = omega (arith, shallow);
             typed = typed;
-            noted = noted;
+            planned = is_planned p f here.sight at items e noted placed.0 here.typed.labels annotated;
             numbers = items_own items declared;
             letters = letters;
+            gives = here.typed.result;
+            annotated = annotated;
+            clauses = numbers.contract;
             few = numbers.few;
           }
 
@@ -152,11 +158,11 @@ module _ (p : TranslationUnit) (q : IsProgram p) where
       by (Some _) e = absurd (subst (BodyRead AreRangedAsserts) e formed)
 
   definitions_typed : (main k : ℕ) (front fs : List Function) → front ++ fs ≡ p.funcs → FunctionsNamed p.names fs → FunctionsRead AreRangedAsserts fs → EachInFunctions IsSmall fs → EachInFunctions (TypesSmall p.structs) fs
-      → FunctionsHaveNumbers p main k fs → DefinitionsTyped p main k fs
-  definitions_typed main k front [] is named formed small types numbers = tt
-  definitions_typed main k front (f ∷ fs) is named formed small types numbers = (
-    λ e. definition_typed (front_temporaries p (nat_eq k main)) f (function_in_place p q front fs f is) (function_is_numbered p q.numbered front fs f is) named.0 formed.0.body small.0 types.0 e (numbers.0 e),
-    definitions_typed main (if is_definition f then suc k else k) (front ++ f ∷ []) fs (append_assoc front (f ∷ []) fs ∙ is) named.1 formed.1 small.1 types.1 numbers.1,
+      → AreAnnotated p fs → FunctionsHaveNumbers p main k fs → DefinitionsTyped p main k fs
+  definitions_typed main k front [] is named formed small types annotated numbers = tt
+  definitions_typed main k front (f ∷ fs) is named formed small types annotated numbers = (
+    λ e. definition_typed (front_temporaries p (nat_eq k main)) f (function_in_place p q front fs f is) (function_is_numbered p q.numbered front fs f is) named.0 formed.0.body small.0 types.0 annotated.0 e (numbers.0 e),
+    definitions_typed main (if is_definition f then suc k else k) (front ++ f ∷ []) fs (append_assoc front (f ∷ []) fs ∙ is) named.1 formed.1 small.1 types.1 annotated.1 numbers.1,
   )
 
 pub program_valid : (p : TranslationUnit) → IsProgram p → FunctionsRanged p.funcs → GlobalsHaveLetters p → FunctionsHaveNumbers p (index_of_main p.names p.funcs) 0 p.funcs → IsValid (translated p)
@@ -167,6 +173,6 @@ program_valid p q ranged letters numbers = translated_valid p (record {
   globals_named = q.globals_named;
   globals = globals_typed p q [] p.globals refl q.small.globals q.small_types.globals (letters (main_below p q.main));
   room = q.room;
-  definitions = definitions_typed p q (index_of_main p.names p.funcs) 0 [] p.funcs refl q.named (functions_ranged p.funcs q.effects ranged) q.small.funcs q.small_types.funcs numbers;
+  definitions = definitions_typed p q (index_of_main p.names p.funcs) 0 [] p.funcs refl q.named (functions_ranged p.funcs q.effects ranged) q.small.funcs q.small_types.funcs (are_annotated p q ranged) numbers;
   main = q.main;
 })

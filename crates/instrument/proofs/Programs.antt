@@ -13,11 +13,13 @@ use Rattle.c_model.specs.Formed.{declared_in_body}
 use Rattle.c_model.proofs.TypedParts.{and_true}
 use Rattle.c_model.specs.ReadTree.{FunctionRead}
 use Rattle.instrument.proofs.RangedTrees.{AreRangedAsserts}
-use Rattle.instrument.specs.Limits.{BodyHasNumbers}
-use Rattle.instrument.specs.Translation.{function_of, functions_from, index_of_main}
+use Rattle.instrument.specs.Limits.{BodyHasNumbers, ContractHasNumbers}
+use Rattle.instrument.specs.Translation.{first_flag, function_of, functions_from, index_of_main}
+use Rattle.instrument.proofs.Annotated.{IsAnnotated}
 use Rattle.c_effects.specs.Effects.{index_of}
 use Rattle.interval_infer.specs.InSight.{AreFound}
 use Rattle.instrument.proofs.Sight.{scope_for}
+use Rattle.c_model.specs.AnnotationTyping.{in_body}
 use Rattle.c_model.specs.TypedAnnotations.{BodyNoted}
 use Rattle.instrument.proofs.Numbers.{numbers_in, AllOutside}
 use Rattle.c_model.specs.TextOrder.{Between}
@@ -36,9 +38,11 @@ pub record Part (p : TranslationUnit) (f : Function) : Type 0 where
   -- the objects in sight are globals
   pub found : AreFound sight.entities (scope_for (numbers_in p.globals))
   pub typed : FunctionTyped sight f
-  pub noted : BodyNoted (with_parameters (inner sight) f.params) f.body
+  pub noted : BodyNoted (in_body (with_parameters (inner sight) f.params)) f.body
   pub read : FunctionRead AreRangedAsserts f
   pub letters : is_definition f ≡ true → BodyHasNumbers f.body
+  pub annotated : IsAnnotated p f
+  pub clauses : is_definition f ≡ true → ContractHasNumbers (first_flag f) f.contract
   -- the numbers of what it declares are its own
   pub high : ℕ
   pub between : Between (suc f.place.offset) (numbers_in (f.params ++ declared_in_body f.body)) high

@@ -20,7 +20,7 @@ nothing_declared (Then (Asserts annots) rest) h = nothing_declared rest h.1
 
 pub record AreRangedAsserts (annots : List Annotation) : Type 0 where
   pub are : AreAsserts annots
-  pub ranged : AnnotationsRanged annots
+  pub ranged : AnnotationsRanged [] annots
 
 mutual
   statement_ranged : (a : Statement) → StatementPlaced AreAsserts a → StatementRanged a → StatementPlaced AreRangedAsserts a
@@ -34,7 +34,7 @@ mutual
   statement_ranged (Break at) p r = tt
   statement_ranged (Continue at) p r = tt
   statement_ranged (Return at e) p r = p
-  statement_ranged (Labelled at l a) p r = absurd p
+  statement_ranged (Labelled at l a) p r = statement_ranged a p r
   statement_ranged (Switch at e cases) p r = cases_ranged cases p r
 
   cases_ranged : (cs : Cases) → CasesPlaced AreAsserts cs → CasesRanged cs → CasesPlaced AreRangedAsserts cs
@@ -62,4 +62,4 @@ body_ranged (Some _) p r = absurd p
 
 pub functions_ranged : (fs : List Function) → FunctionsRead AreAsserts fs → FunctionsRanged fs → FunctionsRead AreRangedAsserts fs
 functions_ranged [] p r = tt
-functions_ranged (f ∷ fs) p r = (record { no_contract = p.0.no_contract; body = body_ranged f.body p.0.body r.0 }, functions_ranged fs p.1 r.1)
+functions_ranged (f ∷ fs) p r = (record { body = body_ranged f.body p.0.body r.0.1 }, functions_ranged fs p.1 r.1)

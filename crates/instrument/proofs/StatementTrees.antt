@@ -28,6 +28,7 @@ use Rattle.c_evaluation.specs.Evaluated.{act_if_any_by, condition_result_by, pre
 use Rattle.c_effects.proofs.Sequences.{before_assoc}
 use Rattle.instrument.specs.Options.{after, behind_first, births_by, else_part_by, entering, first_part_by, items_of_first, plain_first_part, statement_by, test_by, test_if_any_by, turns_by, with_blocks}
 use Rattle.instrument.specs.Translation.{act_if_any, all_live, Spot, alive, in_loop, with_variables}
+use Rattle.c_simulation.specs.Keeping.{Kept}
 use Rattle.c_simulation.specs.Labels.{end_label, next_label}
 use Rattle.instrument.proofs.DeclarationCode.{born_front}
 
@@ -81,21 +82,21 @@ declared_of_first (First (Asserts annots)) = refl
 pub branches_code : (t t1 : MonStatements) (s : MonStatement) (c : MonExpression) (f g h : MonStatements) → s ≡ tree.If c f g → g ≡ h → t1 ≡ before t (one s) → t1 ≡ before t (one (tree.If c f h))
 branches_code t t1 s c f g h is g_is last = last ∙ ap (λ x. before t (one x)) is ∙ ap (λ z. before t (one (tree.If c f z))) g_is
 
-pub if_code : (n n1 : Names) (spot : Spot) (t t1 t2 : MonStatements) (at : Place) (e : Expression) (a : Statement) (b : ElsePart) (c : MonExpression) (f : MonStatements)
-    → c ≡ condition_result_by n e → f ≡ statement_by (with_registers (takes (unit_of n) e) n) spot a → t1 ≡ before t (prepare_by n e) → n1 ≡ after a (with_registers (takes (unit_of n) e) n)
-    → t2 ≡ before t1 (one (tree.If c f (else_part_by n1 spot b))) → t2 ≡ before t (statement_by n spot (If at e a b))
-if_code n n1 spot t t1 t2 at e a b c f c_is f_is first names last =
+pub if_code : (ks : List Kept) (n n1 : Names) (spot : Spot) (t t1 t2 : MonStatements) (at : Place) (e : Expression) (a : Statement) (b : ElsePart) (c : MonExpression) (f : MonStatements)
+    → c ≡ condition_result_by n e → f ≡ statement_by ks (with_registers (takes (unit_of n) e) n) spot a → t1 ≡ before t (prepare_by n e) → n1 ≡ after ks a (with_registers (takes (unit_of n) e) n)
+    → t2 ≡ before t1 (one (tree.If c f (else_part_by ks n1 spot b))) → t2 ≡ before t (statement_by ks n spot (If at e a b))
+if_code ks n n1 spot t t1 t2 at e a b c f c_is f_is first names last =
     last
-    ∙ (λ i. before (first i) (one (tree.If (c_is i) (f_is i) (else_part_by (names i) spot b))))
-    ∙ before_assoc t (prepare_by n e) (one (tree.If (condition_result_by n e) (statement_by (with_registers (takes (unit_of n) e) n) spot a) (else_part_by (after a (with_registers (takes (unit_of n) e) n)) spot b)))
+    ∙ (λ i. before (first i) (one (tree.If (c_is i) (f_is i) (else_part_by ks (names i) spot b))))
+    ∙ before_assoc t (prepare_by n e) (one (tree.If (condition_result_by n e) (statement_by ks (with_registers (takes (unit_of n) e) n) spot a) (else_part_by ks (after ks a (with_registers (takes (unit_of n) e) n)) spot b)))
 
 -- the body of a loop, which stands inside it
 pub round_code : {E : Type 0} (r : Result (Vec MonStmt Global) E) (f : Spot → MonStatements) (spot : Spot) (inner : ℕ) (outside : List ℕ) (body : MonStatements) → inner ≡ spot.levels + 1 → outside ≡ all_live spot
-    → body ≡ f (record { levels = inner; innermost = inner; inside = []; between = []; outside = outside }) → IfOk r (λ code. plain_stmts code.items ≡ one (Labelled body (next_label inner)))
+    → body ≡ f (record { levels = inner; innermost = inner; inside = []; between = []; outside = outside; result = spot.result }) → IfOk r (λ code. plain_stmts code.items ≡ one (Labelled body (next_label inner)))
     → IfOk r (λ code. plain_stmts code.items ≡ one (Labelled (f (in_loop spot)) (next_label (spot.levels + 1))))
 round_code (Ok code) f spot inner outside body inner_is outside_is done last =
     last ∙ ap (λ b. one (Labelled b (next_label inner))) done
-    ∙ (λ i. one (Labelled (f (record { levels = inner_is i; innermost = inner_is i; inside = []; between = []; outside = outside_is i })) (next_label (inner_is i))))
+    ∙ (λ i. one (Labelled (f (record { levels = inner_is i; innermost = inner_is i; inside = []; between = []; outside = outside_is i; result = spot.result })) (next_label (inner_is i))))
 round_code (Err e) f spot inner outside body inner_is outside_is done last = tt
 
 -- a step that may be left out
@@ -103,73 +104,73 @@ acted_any : (n : Names) (step : Option Expression) → act_if_any_by n step ≡ 
 acted_any n None = refl
 acted_any n (Some e) = refl
 
-module _ (n n1 n2 : Names) (spot : Spot) (t t2 : MonStatements) where
-  pub do_code : (at : Place) (e : Expression) (a : Statement) (inner : ℕ) (front round behind : MonStatements) → inner ≡ spot.levels + 1 → n1 ≡ after a n → front ≡ NoStatement
-      → round ≡ one (Labelled (statement_by n (in_loop spot) a) (next_label (spot.levels + 1))) → behind ≡ before round (test_by n1 inner e) → t2 ≡ before t (one (Labelled (one (Loop front behind)) (end_label inner)))
-      → t2 ≡ before t (statement_by n spot (Do at a e))
+module _ (ks : List Kept) (n n1 n2 : Names) (spot : Spot) (t t2 : MonStatements) where
+  pub do_code : (at : Place) (e : Expression) (a : Statement) (inner : ℕ) (front round behind : MonStatements) → inner ≡ spot.levels + 1 → n1 ≡ after ks a n → front ≡ NoStatement
+      → round ≡ one (Labelled (statement_by ks n (in_loop spot) a) (next_label (spot.levels + 1))) → behind ≡ before round (test_by n1 inner e) → t2 ≡ before t (one (Labelled (one (Loop front behind)) (end_label inner)))
+      → t2 ≡ before t (statement_by ks n spot (Do at a e))
   do_code at e a inner front round behind inner_is names front_is round_is behind_is last =
       let behind_at = behind_is ∙ (λ i. before (round_is i) (test_by (names i) (inner_is i) e)) in
       last ∙ (λ i. before t (one (Labelled (one (Loop (front_is i) (behind_at i))) (end_label (inner_is i)))))
 
   pub turns_code : (e step : Option Expression) (a : Statement) (inner : ℕ) (front round behind : MonStatements) → inner ≡ spot.levels + 1 → front ≡ test_if_any_by n inner e → n1 ≡ with_registers (any_temporaries (takes (unit_of n)) e) n
-      → round ≡ one (Labelled (statement_by n1 (in_loop spot) a) (next_label (spot.levels + 1))) → n2 ≡ after a n1 → behind ≡ before round (act_if_any_by n2 step)
-      → t2 ≡ before t (one (Labelled (one (Loop front behind)) (end_label inner))) → t2 ≡ before t (turns_by n spot e step a)
+      → round ≡ one (Labelled (statement_by ks n1 (in_loop spot) a) (next_label (spot.levels + 1))) → n2 ≡ after ks a n1 → behind ≡ before round (act_if_any_by n2 step)
+      → t2 ≡ before t (one (Labelled (one (Loop front behind)) (end_label inner))) → t2 ≡ before t (turns_by ks n spot e step a)
   turns_code e step a inner front round behind inner_is front_is names round_is names2 behind_is last =
-      let second : n2 ≡ after a (with_registers (any_temporaries (takes (unit_of n)) e) n) = names2 ∙ ap (after a) names in
+      let second : n2 ≡ after ks a (with_registers (any_temporaries (takes (unit_of n)) e) n) = names2 ∙ ap (after ks a) names in
       let front_at = front_is ∙ ap (λ k. test_if_any_by n k e) inner_is in
-      let round_at = round_is ∙ ap (λ m. one (Labelled (statement_by m (in_loop spot) a) (next_label (spot.levels + 1)))) names in
+      let round_at = round_is ∙ ap (λ m. one (Labelled (statement_by ks m (in_loop spot) a) (next_label (spot.levels + 1)))) names in
       let tested = with_registers (any_temporaries (takes (unit_of n)) e) n in
-      let start = one (Labelled (statement_by tested (in_loop spot) a) (next_label (spot.levels + 1))) in
-      let behind_at = behind_is ∙ (λ i. before (round_at i) (act_if_any_by (second i) step)) ∙ ap (before start) (acted_any (after a tested) step) in
+      let start = one (Labelled (statement_by ks tested (in_loop spot) a) (next_label (spot.levels + 1))) in
+      let behind_at = behind_is ∙ (λ i. before (round_at i) (act_if_any_by (second i) step)) ∙ ap (before start) (acted_any (after ks a tested) step) in
       last ∙ (λ i. before t (one (Labelled (one (Loop (front_at i) (behind_at i))) (end_label (inner_is i)))))
 
 -- the rest of a `for`
-pub rest_code : (n : Names) (spot : Spot) (t t1 t2 : MonStatements) (e step : Option Expression) (a : Statement) (own inside dying : List ℕ) → inside ≡ own ++ spot.inside → dying ≡ own
-    → t1 ≡ before t (turns_by n (record spot { inside = inside }) e step a) → t2 ≡ before t1 (deaths dying) → t2 ≡ before t (before (turns_by n (with_blocks own spot) e step a) (deaths own))
-rest_code n spot t t1 t2 e step a own inside dying inside_is dying_is done last =
+pub rest_code : (ks : List Kept) (n : Names) (spot : Spot) (t t1 t2 : MonStatements) (e step : Option Expression) (a : Statement) (own inside dying : List ℕ) → inside ≡ own ++ spot.inside → dying ≡ own
+    → t1 ≡ before t (turns_by ks n (record spot { inside = inside }) e step a) → t2 ≡ before t1 (deaths dying) → t2 ≡ before t (before (turns_by ks n (with_blocks own spot) e step a) (deaths own))
+rest_code ks n spot t t1 t2 e step a own inside dying inside_is dying_is done last =
     last
     ∙ (λ i. before (done i) (deaths (dying_is i)))
-    ∙ before_assoc t (turns_by n (record spot { inside = inside }) e step a) (deaths own)
-    ∙ ap (λ (l : List ℕ). before t (before (turns_by n (record spot { inside = l }) e step a) (deaths own))) inside_is
+    ∙ before_assoc t (turns_by ks n (record spot { inside = inside }) e step a) (deaths own)
+    ∙ ap (λ (l : List ℕ). before t (before (turns_by ks n (record spot { inside = l }) e step a) (deaths own))) inside_is
 
 -- a `for`, from its parts
-module _ (n : Names) (spot : Spot) (t t1 t2 : MonStatements) (first : ForFirst) where
+module _ (ks : List Kept) (n : Names) (spot : Spot) (t t1 t2 : MonStatements) (first : ForFirst) where
   abbrev within : List ℕ → Spot
   within l = record spot { inside = l }
 
   abbrev front : List Declaration → MonStatements
-  front ds = before (births_by n ds) (first_part_by (entering ds n) (with_variables (next_register n.table) ds spot) first)
+  front ds = before (births_by n ds) (first_part_by ks (entering ds n) (with_variables (next_register n.table) ds spot) first)
 
   -- what stands first in it
   pub entered_code : (n1 : Names) (ds : List Declaration) (own inside : List ℕ) → ds ≡ declared_first first → n1 ≡ entering ds n → t1 ≡ before t (births_by n ds) → own ≡ with_born (next_register n.table) ds []
-      → inside ≡ own ++ spot.inside → t2 ≡ before t1 (first_part_by n1 (within inside) first) → t2 ≡ before t (front (declared_first first))
+      → inside ≡ own ++ spot.inside → t2 ≡ before t1 (first_part_by ks n1 (within inside) first) → t2 ≡ before t (front (declared_first first))
   entered_code n1 ds own inside ds_is names born own_is inside_is done =
       let live : inside ≡ with_born (next_register n.table) ds spot.inside = inside_is ∙ ap (λ l. l ++ spot.inside) own_is ∙ born_front (next_register n.table) ds spot.inside in
       done
-      ∙ (λ i. before (born i) (first_part_by (names i) (within (live i)) first))
-      ∙ before_assoc t (births_by n ds) (first_part_by (entering ds n) (within (with_born (next_register n.table) ds spot.inside)) first)
+      ∙ (λ i. before (born i) (first_part_by ks (names i) (within (live i)) first))
+      ∙ before_assoc t (births_by n ds) (first_part_by ks (entering ds n) (within (with_born (next_register n.table) ds spot.inside)) first)
       ∙ ap (λ l. before t (front l)) ds_is
 
   pub for_code : (n1 : Names) (at : Place) (annots : List Annotation) (e step : Option Expression) (a : Statement) (own : List ℕ) → own ≡ with_born (next_register n.table) (declared_first first) [] → t1 ≡ before t (front (declared_first first))
-      → n1 ≡ behind_first first (entering (declared_first first) n) → t2 ≡ before t1 (before (turns_by n1 (with_blocks own spot) e step a) (deaths own)) → t2 ≡ before t (statement_by n spot (For at annots first e step a))
+      → n1 ≡ behind_first ks first (entering (declared_first first) n) → t2 ≡ before t1 (before (turns_by ks n1 (with_blocks own spot) e step a) (deaths own)) → t2 ≡ before t (statement_by ks n spot (For at annots first e step a))
   for_code n1 at annots e step a own own_is entered names last =
       let ds = declared_first first in
       let born = births_by n ds in
-      let start = first_part_by (entering ds n) (with_variables (next_register n.table) ds spot) first in
-      let again = turns_by (behind_first first (entering ds n)) (with_variables (next_register n.table) ds spot) e step a in
+      let start = first_part_by ks (entering ds n) (with_variables (next_register n.table) ds spot) first in
+      let again = turns_by ks (behind_first ks first (entering ds n)) (with_variables (next_register n.table) ds spot) e step a in
       let end = deaths (with_born (next_register n.table) ds []) in
       let live : own ++ spot.inside ≡ with_born (next_register n.table) ds spot.inside = ap (λ l. l ++ spot.inside) own_is ∙ born_front (next_register n.table) ds spot.inside in
       last
-      ∙ (λ i. before (entered i) (before (turns_by (names i) (within (live i)) e step a) (deaths (own_is i))))
+      ∙ (λ i. before (entered i) (before (turns_by ks (names i) (within (live i)) e step a) (deaths (own_is i))))
       ∙ before_assoc t (before born start) (before again end)
       ∙ ap (before t) (before_assoc born start (before again end) ∙ ap (before born) (sym (before_assoc start again end)))
 
 -- ---- the names after a loop
 
-pub do_names : (n n1 n2 : Names) (at : Place) (e : Expression) (a : Statement) → n1 ≡ after a n → n2 ≡ with_registers (takes (unit_of n1) e) n1 → n2 ≡ after (Do at a e) n
-do_names n n1 n2 at e a first last = last ∙ ap (λ (m : Names). with_registers (takes (unit_of m) e) m) first
+pub do_names : (ks : List Kept) (n n1 n2 : Names) (at : Place) (e : Expression) (a : Statement) → n1 ≡ after ks a n → n2 ≡ with_registers (takes (unit_of n1) e) n1 → n2 ≡ after ks (Do at a e) n
+do_names ks n n1 n2 at e a first last = last ∙ ap (λ (m : Names). with_registers (takes (unit_of m) e) m) first
 
-pub for_names : (n n1 n2 : Names) (at : Place) (annots : List Annotation) (first : ForFirst) (e step : Option Expression) (a : Statement) → n1 ≡ behind_first first (entering (declared_first first) n)
-    → n2 ≡ with_registers (any_temporaries (act_takes (unit_of n1)) step) (after a (with_registers (any_temporaries (takes (unit_of n1)) e) n1)) → n2 ≡ after (For at annots first e step a) n
-for_names n n1 n2 at annots first e step a entered last =
-    last ∙ ap (λ (m : Names). with_registers (any_temporaries (act_takes (unit_of m)) step) (after a (with_registers (any_temporaries (takes (unit_of m)) e) m))) entered
+pub for_names : (ks : List Kept) (n n1 n2 : Names) (at : Place) (annots : List Annotation) (first : ForFirst) (e step : Option Expression) (a : Statement) → n1 ≡ behind_first ks first (entering (declared_first first) n)
+    → n2 ≡ with_registers (any_temporaries (act_takes (unit_of n1)) step) (after ks a (with_registers (any_temporaries (takes (unit_of n1)) e) n1)) → n2 ≡ after ks (For at annots first e step a) n
+for_names ks n n1 n2 at annots first e step a entered last =
+    last ∙ ap (λ (m : Names). with_registers (any_temporaries (act_takes (unit_of m)) step) (after ks a (with_registers (any_temporaries (takes (unit_of m)) e) m))) entered

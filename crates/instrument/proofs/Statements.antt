@@ -5,13 +5,13 @@ use Rattle.c_syntax.specs.declared.place.Place.{Place}
 use Rattle.c_syntax.specs.declared.types.CInt.{CInt}
 use Rattle.c_syntax.specs.Ctypes.{Int}
 use Rattle.c_syntax.specs.Expressions.{Expression, type_of}
-use Rattle.c_syntax.specs.Statements.{Declaration, Statement, Empty, Eval, Block, If, While, Do, For, Break, Continue, Return, ElsePart, NoElse, Else, ForFirst, NoFirst, First, Declare, Specify, Run, Asserts, BlockItems, NoItem, Then}
+use Rattle.c_syntax.specs.Statements.{Declaration, Statement, Empty, Eval, Block, If, While, Do, For, Break, Continue, Return, ElsePart, NoElse, Else, ForFirst, NoFirst, First, BlockItem, Declare, Specify, Run, Asserts, BlockItems, NoItem, Then}
 use Rattle.c_syntax.specs.Statements.{Labelled, Switch, Cases, NoCase, AnotherCase}
 use Rattle.c_syntax.specs.Programs.{TranslationUnit}
 use Rattle.c_syntax.specs.Layouts.{Scalar, IntegerType, scalar_of}
 use Rattle.c_model.specs.Conversions.{promoted}
 use Rattle.c_model.specs.Memory.{Value, kill_from}
-use Rattle.c_model.specs.State.{State, Leaves, Returns, Stop, Evaluation, on_outcome, ◌>>◌, stop, births, within, restored}
+use Rattle.c_model.specs.State.{State, Leaves, Returns, Stop, Evaluation, on_outcome, ◌>>◌, stop, births, mark, within, restored}
 use Rattle.c_model.specs.State as state
 use Rattle.c_model.specs.Meaning.{Tables, tables_of, eval_with, exec_with, cases_with, else_with, first_with, items_with, condition_with, effect_with, initialise_all, declared_in, declared_first, turns, turn_with}
 use Rattle.c_model.specs.Meaning as source
@@ -27,7 +27,7 @@ use Rattle.mon_syntax.specs.Meaning.{Next, Goes, Done, then_do, at_next, with_va
 use Rattle.mon_syntax.specs.Meaning as monitored
 use Rattle.mon_syntax.specs.BlockMemory.{over_blocks}
 use Rattle.mon_syntax.specs.LiveBlocks.{live_in}
-use Rattle.mon_syntax.specs.Trees.{MonExpression, MonStatements, NoStatement}
+use Rattle.mon_syntax.specs.Trees.{MonExpression, MonStatement, MonStatements, NoStatement}
 use Rattle.mon_syntax.specs.Trees as tree
 use Rattle.c_effects.specs.Letters.{Any, ValueHasLetters, ActHasLetters}
 use Rattle.c_model.specs.EffectPlaces.{FirstPlaced, StatementPlaced, CasesPlaced, ElsePlaced, ItemsPlaced}
@@ -42,28 +42,30 @@ use Rattle.c_effects.specs.Effects.{any_temporaries}
 use Rattle.c_effects.specs.Full.{act, act_takes, condition_result, prepare, result, takes}
 use Rattle.track_scopes.specs.Blocks.{entered, deaths, with_born}
 use Rattle.track_scopes.specs.Lives.{with_store}
-use Rattle.instrument.specs.Translation.{Spot, returned_temporaries, switch_temporaries, after_statement, after_cases, after_else, after_first, after_item, after_items, with_variables, search, others_in_block, statement}
+use Rattle.instrument.specs.Translation.{Spot, passed_label, returned_temporaries, switch_temporaries, after_statement, after_cases, after_else, after_first, after_item, after_items, with_variables, search, others_in_block, statement}
 use Rattle.instrument.specs.Translation.{test, test_if_any, act_if_any, next_cases, blocks_of_cases, else_part, first_part, items, loop}
-use Rattle.c_simulation.specs.Labels.{end_label, next_label}
+use Rattle.c_simulation.specs.Labels.{end_label, next_label, leave_label}
 use Rattle.instrument.specs.Translation as target
+use Rattle.annot_code.specs.Snapshots.{Ascend, snapshot}
+use Rattle.instrument.proofs.Passages.{KeptIn, CasesKept, ElseKept, ItemsKept, snapshot_grows, passage_follows}
+use Rattle.c_simulation.specs.Keeping.{StandsBehind}
 use Rattle.instrument.proofs.DeclarationCode.{next-entered}
-use Rattle.c_simulation.specs.Standing.{Target, Setting, runs, Here, Beside}
+use Rattle.c_simulation.specs.Standing.{Target, Setting, runs, Has, Keeps, Here, Beside}
 use Rattle.track_scopes.proofs.Births.{births_enter}
 use Rattle.track_scopes.proofs.Deaths.{deaths_end}
 use Rattle.c_simulation.proofs.Results.{writes_none, one_is, before_is}
-use Rattle.c_simulation.proofs.Registers.{get-set_same, same_all, same_trans, same_set, longer, stays_same}
+use Rattle.c_simulation.proofs.Registers.{get-set_same, same_all, same_set, longer, keeps_set, stays_same, stays_set}
 use Rattle.c_simulation.specs.Reaching.{Reaches, Anything, Tested, Valued}
-use Rattle.c_simulation.proofs.Following.{later_same, passes_later, stays, follows_choice, follows_then}
-use Rattle.c_simulation.proofs.Evaluating.{set_runs}
+use Rattle.c_simulation.proofs.Following.{later_same, onward, passes_later, stays, follows_choice, follows_then}
+use Rattle.c_simulation.proofs.Evaluating.{behind_setup, set_runs}
 use Rattle.c_simulation.proofs.Reaching.{follows_before, follows_behind, reached_done, reached_follows, reached_here, test_runs}
-use Rattle.c_simulation.specs.Following.{IsResult, IsResultOf, Follows, Breaks, Continues, IsLeft}
+use Rattle.c_simulation.specs.Following.{Passes, IsResult, IsResultOf, HoldsResult, left_by, Follows, Breaks, Continues, IsLeft}
 use Rattle.instrument.proofs.Births.{with_numbers, pointed_point, pointed_append, all_apart, behind_births}
 use Rattle.instrument.proofs.Blocks.{Meets, meets_after, meets_later, block_follows}
 use Rattle.instrument.proofs.Loops as loops
 use Rattle.instrument.proofs.Switches as switches
 use Rattle.instrument.proofs.Declared.{AreBorn, CanDeclare, CasesCanDeclare, ElseCanDeclare, ItemsCanDeclare, AreAbsent, meets_behind, meets_behind_items, more_kinds, statement_grows, cases_grow, else_grows, first_grows, items_grow}
 use Rattle.c_simulation.proofs.Expressions.{handed_on}
-use Rattle.c_model.specs.TypedAnnotations.{StatementNoted, CasesNoted, ElseNoted, ItemsNoted}
 use Rattle.c_simulation.specs.SameRegisters.{Same, Stays}
 use Rattle.instrument.proofs.InitialisedVariables.{initials_reach}
 use Rattle.instrument.proofs.Scenes.{Scene, scene_inner, scene_with_all, scene_behind_first}
@@ -139,14 +141,15 @@ module _ (w : Setting) (n : ℕ) (h : Here) (spot : Spot) (low : ℕ) (bound : B
       Continues s regs (dead h.loop) [] looped still m.standing.kept.keeps (passes_later s s [] (later_same s m.standing.bounded)) (beside_dead h.loop) refl
       (goto_is h.loop (deaths (spot.inside ++ spot.between)) (next_label h.innermost) (next_label spot.innermost) loop_dead (ap next_label at))
 
-  pub leave_follows : (v : Option Value) (e : Option MonExpression) → IsResult h.result v → ((u : Target) → runs w n u (one (tree.Return e)) regs ≡ Done (monitored.Returns v) u [])
-      → Follows w h low regs Next s (Stop (Leaves (Returns v)) s) (runs w n t (before (deaths (target.all_live spot)) (one (tree.Return e))) regs)
-  leave_follows v e i run =
-      IsLeft v s (dead w.base) [] i (passes_later s s [] (later_same s m.standing.bounded)) (beside_dead w.base) refl (behind_deaths w.base (deaths (target.all_live spot)) (one (tree.Return e)) call_dead ∙ run (dead w.base))
+  pub leave_follows : (v : Option Value) (way : MonStatement) → IsResult h.result v → HoldsResult w.result v regs → ((u : Target) → runs w n u (one way) regs ≡ Done (left_by w.result v regs) u [])
+      → Follows w h low regs Next s (Stop (Leaves (Returns v)) s) (runs w n t (before (deaths (target.all_live spot)) (one way)) regs)
+  leave_follows v way i holds run =
+      IsLeft v s regs (dead w.base) [] i still m.standing.kept.keeps holds (passes_later s s [] (later_same s m.standing.bounded)) (beside_dead w.base) refl
+      (behind_deaths w.base (deaths (target.all_live spot)) (one way) call_dead ∙ run (dead w.base))
 
 -- ---- statements
 
-module _ (w : Setting) (n : ℕ) where
+module _ (w : Setting) (n : ℕ) (ordered : Ascend w.plan_from w.plan w.plan_to) where
   abbrev T : Tables
   T = tables_of w.unit
 
@@ -221,21 +224,60 @@ module _ (w : Setting) (n : ℕ) where
 
   -- ---- `return`
 
+  -- nothing is given
+  nothing_given : (h : Here) (spot : Spot) (low : ℕ) (bound : Bindings) (living : List ℕ) → IsResult h.result None
+      → DoSame h spot low bound living (stop (Leaves (Returns None))) (target.leaving spot.result (target.all_live spot) None)
+  nothing_given h spot low bound living is = λ regs from t m le.
+      leave_follows w n h spot low bound living from regs t m None (target.way_out spot.result None) is (held w.result regs)
+      (λ u. one_is w.globals (target.way_out spot.result None) w.calls n regs u ∙ ap (λ o. monitored.exec over_blocks w.globals (target.way_out o None) w.calls n regs u) m.result ∙ way w.result regs u)
+    where
+      held : (o : Option ℕ) (regs : List Value) → HoldsResult o None regs
+      held None regs = tt
+      held (Some k) regs = tt
+
+      way : (o : Option ℕ) (regs : List Value) (u : Target) → monitored.exec over_blocks w.globals (target.way_out o None) w.calls n regs u ≡ Done (left_by o None regs) u []
+      way None regs u = refl
+      way (Some k) regs u = refl
+
+  -- a value, which the code has: it goes into a register of its own, or into that of the result
+  value_given : (h : Here) (spot : Spot) (low : ℕ) (bound : Bindings) (living : List ℕ) (own : ℕ) (code : MonExpression) (v : Value) (regs : List Value) (from : State) (t : Target) → low ≤ own → own < w.registers
+      → Meets w h spot low bound living regs from t → IsResult h.result (Some v) → Has w code regs t.mem v → (o : Option ℕ) → w.result ≡ o
+      → Follows w h low regs Next from (Stop (Leaves (Returns (Some v))) from) (runs w n t (target.giving o (target.all_live spot) own code) regs)
+  value_given h spot low bound living own code v regs from t behind room m is has None none =
+      let taken = slice_set regs own v in
+      let changed : Same low regs taken = same_set low own regs v behind in
+      let there : slice_get taken own ≡ Some v = get-set_same regs own v (omega (arith, m.standing.registers, room)) in
+      follows_behind w n h low regs taken Next from t (Stop (Leaves (Returns (Some v))) from) (set own code) (target.leaving None (target.all_live spot) (Some (tree.Register own))) m.standing.bounded changed
+      (set_runs w n t own code regs v has)
+      (leave_follows w n h spot low bound living from taken t (meets_later w h spot low bound living regs taken from from t t [] changed (later_same from m.standing.bounded) m.beside m) (Some v)
+      (tree.Return (Some (tree.Register own))) is (subst (λ o. HoldsResult o (Some v) taken) (sym none) tt)
+      (λ x. one_is w.globals (tree.Return (Some (tree.Register own))) w.calls n taken x ∙ ap (λ y. with_value y x.steps (λ z. Done (monitored.Returns (Some z)) x [])) there
+      ∙ ap (λ o. Done (left_by o (Some v) taken) x []) (sym none)))
+  value_given h spot low bound living own code v regs from t behind room m is has (Some k) some =
+      let taken = slice_set regs k v in
+      let stands : StandsBehind w.plan_from w.plan_to w.plan (Some k) = subst (StandsBehind w.plan_from w.plan_to w.plan) some m.standing.kept.given in
+      let there : slice_get taken k ≡ Some v = get-set_same regs k v (omega (arith, m.standing.registers, stands.2, m.standing.kept.below, behind, room)) in
+      let stay : Stays w.plan_from w.plan_to low regs taken = stays_set w.plan_from w.plan_to low k regs v stands.1 stands.2 in
+      let keeps : Keeps w.plan from.marks taken = keeps_set k w.plan from.marks regs v stands.0 m.standing.kept.keeps in
+      let here : Passes from from [] = passes_later from from [] (later_same from m.standing.bounded) in
+      subst (λ q. Follows w h low regs Next from (Stop (Leaves (Returns (Some v))) from) q)
+      (writes_none (runs w n t (target.leaving (Some k) (target.all_live spot) (Some (tree.Register k))) taken)
+      ∙ sym (behind_setup w n t (set k code) (target.leaving (Some k) (target.all_live spot) (Some (tree.Register k))) regs taken (set_runs w n t k code regs v has)))
+      (onward w h low regs taken Next from from [] (Stop (Leaves (Returns (Some v))) from) (runs w n t (target.leaving (Some k) (target.all_live spot) (Some (tree.Register k))) taken) stay here
+      (leave_follows w n h spot low bound living from taken t (meets_after w h spot low bound living regs taken from from t t [] stay keeps here m.beside m) (Some v) (tree.Goto leave_label) is
+      (subst (λ o. HoldsResult o (Some v) taken) (sym some) there)
+      (λ x. one_is w.globals (tree.Goto leave_label) w.calls n taken x ∙ ap (λ o. Done (left_by o (Some v) taken) x []) (sym some))))
+
   returned_does : (h : Here) (spot : Spot) (low : ℕ) (living : List ℕ) (s : Sight) (g : Scene w n s) (r : RegisterTable) (e : Option Expression) → Returned s h.result e → Any ValueHasLetters e → low ≤ next_register r
-      → next_register (with_kinds (any_temporaries (returned_temporaries w.unit) e) r) ≤ w.registers → (at_place : Place) → DoSame h spot low r.bound living (exec_with T (Return at_place e) w.call (suc n)) (target.returned w.unit spot r e)
-  returned_does h spot low living s g r None q l behind enough place = λ regs from t m le.
-      leave_follows w n h spot low r.bound living from regs t m None None (subst (λ k. IsResult k None) (sym q) tt) (λ u. one_is w.globals (tree.Return None) w.calls n regs u)
+      → next_register (with_kinds (any_temporaries (returned_temporaries w.unit) e) r) ≤ w.registers → (at_place : Place) → DoSame h spot low r.bound living (exec_with T (Return at_place e) w.call (suc n)) (target.returned w.unit w.plan spot r e)
+  returned_does h spot low living s g r None q l behind enough place = nothing_given h spot low r.bound living (subst (λ k. IsResult k None) (sym q) tt)
   returned_does h spot low living s g r (Some e) q l behind enough place = λ regs from t m le.
-      follows_before w n h (Valued w k last v_code) low regs Next from t (eval_with T e w.call from) (prepare w.unit r.bound r.kinds e) rest (λ v. stop (Leaves (Returns (Some v))))
+      follows_before w n h (Valued w k last v_code) low regs Next from t (eval_with T e w.call from) (prepare w.unit r.bound r.kinds e) (target.giving spot.result (target.all_live spot) last v_code)
+      (λ v. stop (Leaves (Returns (Some v))))
       (value_reached w n h s g low r.bound from t le r.kinds behind regs m.standing m.beside e k (ap scalar_of q.ctype ∙ q.scalar.is) q.typed l (omega (arith, enough, long)))
       (λ v to after u o same later be has.
-      let taken = slice_set after last v in
-      let changed : Same low after taken = same_set low last after v (omega (arith, behind, longer r.kinds (takes w.unit e))) in
-      let there : slice_get taken last ≡ Some v = get-set_same after last v (omega (arith, same.long, m.standing.registers, enough, long)) in
-      follows_behind w n h low after taken Next to u (Stop (Leaves (Returns (Some v))) to) (set last v_code) leaves later.bounded changed (set_runs w n u last v_code after v (has.1 after (same_all last after)))
-      (leave_follows w n h spot low r.bound living to taken u (meets_later w h spot low r.bound living regs taken from to t u o (same_trans low low regs after taken (omega arith) same changed) later be m) (Some v)
-      (Some (tree.Register last)) (subst (λ o. IsResultOf o (Some v)) (sym q.scalar.is) has.0)
-      (λ x. one_is w.globals (tree.Return (Some (tree.Register last))) w.calls n taken x ∙ ap (λ y. with_value y x.steps (λ z. Done (monitored.Returns (Some z)) x [])) there)))
+      value_given h spot low r.bound living last v_code v after to u (omega (arith, behind, longer r.kinds (takes w.unit e))) (omega (arith, enough, long))
+      (meets_later w h spot low r.bound living regs after from to t u o same later be m) (subst (λ o. IsResultOf o (Some v)) (sym q.scalar.is) has.0) (has.1 after (same_all last after)) spot.result (sym m.result))
     where
       k : Scalar
       k = q.scalar.scalar
@@ -248,12 +290,6 @@ module _ (w : Setting) (n : ℕ) where
 
       v_code : MonExpression
       v_code = result w.unit r.bound r.kinds e
-
-      leaves : MonStatements
-      leaves = before (deaths (target.all_live spot)) (one (tree.Return (Some (tree.Register last))))
-
-      rest : MonStatements
-      rest = before (set last v_code) leaves
 
   -- ---- `switch`
 
@@ -307,24 +343,24 @@ module _ (w : Setting) (n : ℕ) where
 
   abbrev BodyDoes : Here → Spot → ℕ → RegisterTable → List ℕ → Statement → Type 0
   BodyDoes h spot low r living a =
-      (base : ℕ) → DoSame (loops.in_body w h base spot low r.bound living n) (target.in_loop spot) low r.bound living (exec_with T a w.call (suc n)) (statement w.unit (target.in_loop spot) r a)
+      (base : ℕ) → DoSame (loops.in_body w h base spot low r.bound living n) (target.in_loop spot) low r.bound living (exec_with T a w.call (suc n)) (statement w.unit w.plan (target.in_loop spot) r a)
 
   for_does : (h : Here) (spot : Spot) (low : ℕ) (living : List ℕ) (s : Sight) (g : Scene w n s) (r : RegisterTable) (e step : Option Expression) (a : Statement) → WhereAny (IsCondition s) e → Any ValueHasLetters e
       → WhereAny (WellTyped s) step → Any ActHasLetters step → AreAbsent living (declared_within a) → low ≤ next_register r
-      → next_register (with_kinds (any_temporaries (act_takes w.unit) step) (after_statement w.unit a (with_kinds (any_temporaries (takes w.unit) e) r))) ≤ w.registers
+      → next_register (with_kinds (any_temporaries (act_takes w.unit) step) (after_statement w.unit w.plan a (with_kinds (any_temporaries (takes w.unit) e) r))) ≤ w.registers
       → BodyDoes h spot low (with_kinds (any_temporaries (takes w.unit) e) r) living a
-      → DoSame h spot low r.bound living (for_turns e step a) (target.for_turns w.unit (spot.levels + 1) r (after_statement w.unit a (with_kinds (any_temporaries (takes w.unit) e) r)) e step
-      (statement w.unit (target.in_loop spot) (with_kinds (any_temporaries (takes w.unit) e) r) a))
+      → DoSame h spot low r.bound living (for_turns e step a) (target.for_turns w.unit (spot.levels + 1) r (after_statement w.unit w.plan a (with_kinds (any_temporaries (takes w.unit) e) r)) e step
+      (statement w.unit w.plan (target.in_loop spot) (with_kinds (any_temporaries (takes w.unit) e) r) a))
   for_does h spot low living s g r e step a e_typed e_letters step_typed step_letters absent behind enough body = λ regs from t m le.
       let r2 = with_kinds (any_temporaries (takes w.unit) e) r in
-      let r3 = after_statement w.unit a r2 in
+      let r3 = after_statement w.unit w.plan a r2 in
       let base = length from.store in
       let f1 = more_kinds (any_temporaries (takes w.unit) e) r in
-      let f2 = statement_grows w.unit a r2 in
+      let f2 = statement_grows w.unit w.plan a r2 in
       let f3 = more_kinds (any_temporaries (act_takes w.unit) step) r3 in
       let here = loops.in_turn w h base spot low r.bound living n in
-      loops.loop_follows w h base spot low r.bound living n from _ regs t (test_if_any w.unit r.bound r.kinds (spot.levels + 1) e) (statement w.unit (target.in_loop spot) r2 a) (act_if_any w.unit r3.bound r3.kinds step)
-      (loops.turns_follow w h base spot low r.bound living n (condition_with T e w.call) (exec_with T a w.call (suc n)) (statement w.unit (target.in_loop spot) r2 a) (body base)
+      loops.loop_follows w h base spot low r.bound living n from _ regs t (test_if_any w.unit r.bound r.kinds (spot.levels + 1) e) (statement w.unit w.plan (target.in_loop spot) r2 a) (act_if_any w.unit r3.bound r3.kinds step)
+      (loops.turns_follow w h base spot low r.bound living n (condition_with T e w.call) (exec_with T a w.call (suc n)) (statement w.unit w.plan (target.in_loop spot) r2 a) (body base)
       (test_if_any w.unit r.bound r.kinds (spot.levels + 1) e) (test_if_any_does h base spot low living s g r e e_typed e_letters behind (omega (arith, enough, f2, f3)))
       (effect_with T step w.call) (act_if_any w.unit r3.bound r3.kinds step)
       (λ regs from t m le. effect_if_any_reached here (target.in_loop spot) low r3.bound living s g r3.kinds step step_typed step_letters (omega (arith, behind, f1, f2)) enough regs from t
@@ -334,8 +370,8 @@ module _ (w : Setting) (n : ℕ) where
   -- what stands first, and then the loop
   first_then : (first : ForFirst) → AreThere w.unit (declared_first first)
       → (h : Here) (spot : Spot) (low : ℕ) (living : List ℕ) (s : Sight) (g : Scene w n s) (around : Around) (r : RegisterTable) (x : Evaluation (Unit {0})) (code : MonStatements) → FirstPlaced first
-      → FirstTyped s around first → FirstHasNumbers first → low ≤ next_register r → next_register (after_first w.unit first r) ≤ w.registers → DoSame h spot low (after_first w.unit first r).bound living x code
-      → DoSame h spot low r.bound living (first_with T first w.call (suc n) >> x) (before (first_part w.unit spot r first) code)
+      → FirstTyped s around first → FirstHasNumbers first → low ≤ next_register r → next_register (after_first w.unit w.plan first r) ≤ w.registers → DoSame h spot low (after_first w.unit w.plan first r).bound living x code
+      → DoSame h spot low r.bound living (first_with T first w.call (suc n) >> x) (before (first_part w.unit w.plan spot r first) code)
   first_then NoFirst local h spot low living s g around r x code f q l behind enough go = go
   first_then (First (Run (Eval at e))) local h spot low living s g around r x code f q l behind enough go =
       in_order_same h spot low r.bound living (effect_with T (Some e) w.call) x (act w.unit r.bound r.kinds e) code (effect_does h spot low r.bound living s g r.kinds e q l behind enough) go
@@ -349,28 +385,28 @@ module _ (w : Setting) (n : ℕ) where
   for_follows : (at : Place) (first : ForFirst) (s : Sight) (g : Scene w n s) (around : Around) (h : Here) (spot : Spot) (low : ℕ) (r : RegisterTable) (living : List ℕ) (e step : Option Expression) (a : Statement)
       → AreBorn w.unit (declared_first first) → AreAbsent (with_numbers (declared_first first) living) (declared_within a) → FirstPlaced first → FirstTyped (inner s) around first → FirstHasNumbers first
       → WhereAny (IsCondition (behind_first (inner s) first)) e → Any ValueHasLetters e → WhereAny (WellTyped (behind_first (inner s) first)) step → Any ActHasLetters step
-      → low ≤ next_register r → next_register (after_statement w.unit (For at [] first e step a) r) ≤ w.registers
+      → low ≤ next_register r → next_register (after_statement w.unit w.plan (For at [] first e step a) r) ≤ w.registers
       → ((old : State) → BodyDoes (behind_births w.unit.structs h old (declared_first first)) (with_variables (next_register r) (declared_first first) spot) (next_register r + length (declared_first first))
-      (with_kinds (any_temporaries (takes w.unit) e) (after_first w.unit first (entered (declared_first first) r))) (with_numbers (declared_first first) living) a)
-      → DoSame h spot low r.bound living (exec_with T (For at [] first e step a) w.call (suc n)) (statement w.unit spot r (For at [] first e step a))
+      (with_kinds (any_temporaries (takes w.unit) e) (after_first w.unit w.plan first (entered (declared_first first) r))) (with_numbers (declared_first first) living) a)
+      → DoSame h spot low r.bound living (exec_with T (For at [] first e step a) w.call (suc n)) (statement w.unit w.plan spot r (For at [] first e step a))
   for_follows at first s g around h spot low r living e step a born absent f_formed f_typed f_letters e_typed e_letters step_typed step_letters behind enough body = λ regs from t m le.
       let ds = declared_first first in
       let r1 = entered ds r in
-      let r2 = after_first w.unit first r1 in
+      let r2 = after_first w.unit w.plan first r1 in
       let r3 = with_kinds (any_temporaries (takes w.unit) e) r2 in
-      let r4 = after_statement w.unit a r3 in
+      let r4 = after_statement w.unit w.plan a r3 in
       let spot2 = with_variables (next_register r) ds spot in
       let low2 = next_register r + length ds in
       let f0 = next-entered ds r in
-      let f1 = first_grows w.unit first r1 in
+      let f1 = first_grows w.unit w.plan first r1 in
       let f2 = more_kinds (any_temporaries (takes w.unit) e) r2 in
-      let f3 = statement_grows w.unit a r3 in
+      let f3 = statement_grows w.unit w.plan a r3 in
       let f4 = more_kinds (any_temporaries (act_takes w.unit) step) r4 in
       let turns_of = for_turns e step a in
-      let code = target.for_turns w.unit (spot.levels + 1) r2 r4 e step (statement w.unit (target.in_loop spot2) r3 a) in
-      subst (λ x. Follows w h low regs Next from (restored from x) (runs w n t (target.alive w.unit (next_register r) ds (before (first_part w.unit spot2 r1 first) code)) regs))
+      let code = target.for_turns w.unit (spot.levels + 1) r2 r4 e step (statement w.unit w.plan (target.in_loop spot2) r3 a) in
+      subst (λ x. Follows w h low regs Next from (restored from x) (runs w n t (target.alive w.unit (next_register r) ds (before (first_part w.unit w.plan spot2 r1 first) code)) regs))
       (handed_on (births w.unit.structs ds from) (λ _. first_with T first w.call (suc n)) (λ _. turns_of))
-      (block_does h spot low r living ds (first_with T first w.call (suc n) >> turns_of) (before (first_part w.unit spot2 r1 first) code) behind (omega (arith, enough, f0, f1, f2, f3, f4)) born
+      (block_does h spot low r living ds (first_with T first w.call (suc n) >> turns_of) (before (first_part w.unit w.plan spot2 r1 first) code) behind (omega (arith, enough, f0, f1, f2, f3, f4)) born
       (λ old room. first_then first (are_there w.unit ds born.local room) (behind_births w.unit.structs h old ds) spot2 low2 (with_numbers ds living) (inner s) (scene_inner w n s g) around r1 turns_of code f_formed f_typed f_letters
       (omega (arith, f0)) (omega (arith, enough, f2, f3, f4))
       (for_does (behind_births w.unit.structs h old ds) spot2 low2 (with_numbers ds living) (behind_first (inner s) first) (scene_behind_first w n (inner s) first (scene_inner w n s g)) r2 e step a
@@ -379,7 +415,7 @@ module _ (w : Setting) (n : ℕ) where
 
   -- a part that stands after a statement in the code, though not in a run
   behind_first_part : (a : Statement) (h : Here) (spot : Spot) (low : ℕ) (r : RegisterTable) (living : List ℕ) (x : Evaluation (Unit {0})) (code : MonStatements) → AreAbsent living (declared_within a)
-      → DoSame h spot low (after_statement w.unit a r).bound living x code → DoSame h spot low r.bound living x code
+      → DoSame h spot low (after_statement w.unit w.plan a r).bound living x code → DoSame h spot low r.bound living x code
   behind_first_part a h spot low r living x code absent f = λ regs from t m le. f regs from t (meets_behind w h spot low a r living regs from t absent m) le
 
   -- after what stands first in a `for`
@@ -396,165 +432,171 @@ module _ (w : Setting) (n : ℕ) where
     pub statement_follows : (a : Statement) (s : Sight) (around : Around) (h : Here) (spot : Spot) (low : ℕ) (r : RegisterTable) (living : List ℕ)
         → (spot.levels ≡ h.levels) × (spot.innermost ≡ h.innermost) → Scene w n s → AreFound s.entities (scope_for living)
         → around.result ≡ h.result → (around.loops ≡ h.looped) × (around.breaks ≡ h.breaks)
-        → CanDeclare w.unit living a → StatementPlaced AreRangedAsserts a → StatementTyped s around a → StatementNoted s a → HasNumbers a → low ≤ next_register r → next_register (after_statement w.unit a r) ≤ w.registers
-        → DoSame h spot low r.bound living (exec_with T a w.call (suc n)) (statement w.unit spot r a)
-    statement_follows (Empty at) s around h spot low r living stands g sees result looped c f q m l behind enough = nothing_does h spot low r.bound living
-    statement_follows (Eval at e) s around h spot low r living stands g sees result looped c f q m l behind enough = effect_does h spot low r.bound living s g r.kinds e q l behind enough
-    statement_follows (Block at body) s around h spot low r living stands g sees result looped c f q m l behind enough =
+        → CanDeclare w.unit living a → StatementPlaced AreRangedAsserts a → StatementTyped s around a → KeptIn w.plan s a → HasNumbers a → low ≤ next_register r → next_register (after_statement w.unit w.plan a r) ≤ w.registers
+        → DoSame h spot low r.bound living (exec_with T a w.call (suc n)) (statement w.unit w.plan spot r a)
+    statement_follows (Empty at) s around h spot low r living stands g sees result looped c f q kp l behind enough = nothing_does h spot low r.bound living
+    statement_follows (Eval at e) s around h spot low r living stands g sees result looped c f q kp l behind enough = effect_does h spot low r.bound living s g r.kinds e q l behind enough
+    statement_follows (Block at body) s around h spot low r living stands g sees result looped c f q kp l behind enough =
         let ds = declared_in body in
         let f0 = next-entered ds r in
-        let f1 = items_grow w.unit body (entered ds r) in
-        block_does h spot low r living ds (items_with T body w.call (suc n)) (items w.unit (with_variables (next_register r) ds spot) (entered ds r) body) behind (omega (arith, enough, f0, f1)) c.0
+        let f1 = items_grow w.unit w.plan body (entered ds r) in
+        block_does h spot low r living ds (items_with T body w.call (suc n)) (items w.unit w.plan (with_variables (next_register r) ds spot) (entered ds r) body) behind (omega (arith, enough, f0, f1)) c.0
         (λ old room. items_follow body (inner s) around (behind_births w.unit.structs h old ds) (with_variables (next_register r) ds spot) (next_register r + length ds) (entered ds r) (with_numbers ds living)
         stands (scene_inner w n s g) (sees_born s.entities ds living sees) (declared_born ds living) (are_there w.unit ds c.0.local room) result looped
-        c.1 f q m l (omega (arith, f0)) enough)
-    statement_follows (If at e a b) s around h spot low r living stands g sees result looped c f q m l behind enough =
+        c.1 f q kp l (omega (arith, f0)) enough)
+    statement_follows (If at e a b) s around h spot low r living stands g sees result looped c f q kp l behind enough =
         let r1 = with_kinds (takes w.unit e) r in
-        let r2 = after_statement w.unit a r1 in
+        let r2 = after_statement w.unit w.plan a r1 in
         let f1 = more_kinds (takes w.unit e) r in
-        let f2 = statement_grows w.unit a r1 in
-        let f3 = else_grows w.unit b r2 in
-        choice_does h spot low r.bound living s g r.kinds e (exec_with T a w.call (suc n)) (else_with T b w.call (suc n)) (statement w.unit spot r1 a) (else_part w.unit spot r2 b) q.0 l.0 behind (omega (arith, enough, f2, f3))
-        (statement_follows a s around h spot low r1 living stands g sees result looped c.1 f.0 q.1 m.0 l.1 (omega (arith, behind, f1)) (omega (arith, enough, f3)))
-        (behind_first_part a h spot low r1 living (else_with T b w.call (suc n)) (else_part w.unit spot r2 b) c.0
-        (else_follows b s around h spot low r2 living stands g sees result looped c.2 f.1 q.2 m.1 l.2 (omega (arith, behind, f1, f2)) enough))
-    statement_follows (While at annots e a) s around h spot low r living stands g sees result looped c f q m l behind enough = λ regs from t x le.
+        let f2 = statement_grows w.unit w.plan a r1 in
+        let f3 = else_grows w.unit w.plan b r2 in
+        choice_does h spot low r.bound living s g r.kinds e (exec_with T a w.call (suc n)) (else_with T b w.call (suc n)) (statement w.unit w.plan spot r1 a) (else_part w.unit w.plan spot r2 b) q.0 l.0 behind (omega (arith, enough, f2, f3))
+        (statement_follows a s around h spot low r1 living stands g sees result looped c.1 f.0 q.1 kp.0 l.1 (omega (arith, behind, f1)) (omega (arith, enough, f3)))
+        (behind_first_part a h spot low r1 living (else_with T b w.call (suc n)) (else_part w.unit w.plan spot r2 b) c.0
+        (else_follows b s around h spot low r2 living stands g sees result looped c.2 f.1 q.2 kp.1 l.2 (omega (arith, behind, f1, f2)) enough))
+    statement_follows (While at annots e a) s around h spot low r living stands g sees result looped c f q kp l behind enough = λ regs from t x le.
         let r1 = with_kinds (takes w.unit e) r in
         let k = spot.levels + 1 in
         let base = length from.store in
         let here = loops.in_body w h base spot low r.bound living n in
-        subst (λ xs. Follows w h low regs Next from (exec_with T (While at xs e a) w.call (suc n) from) (runs w n t (statement w.unit spot r (While at [] e a)) regs)) (sym f.0)
-        (loops.loop_follows w h base spot low r.bound living n from _ regs t (test w.unit r.bound r.kinds k e) (statement w.unit (target.in_loop spot) r1 a) NoStatement
-        (loops.turns_follow w h base spot low r.bound living n (source.condition_of T e w.call) (exec_with T a w.call (suc n)) (statement w.unit (target.in_loop spot) r1 a)
-        (statement_follows a s (in_loop around) here (target.in_loop spot) low r1 living (refl, refl) g sees result (refl, refl) c f.1 q.1 m.1 l.1 (omega (arith, behind, more_kinds (takes w.unit e) r)) enough)
-        (test w.unit r.bound r.kinds k e) (test_if_any_does h base spot low living s g r (Some e) q.0 l.0 behind (omega (arith, enough, statement_grows w.unit a r1)))
+        subst (λ xs. Follows w h low regs Next from (exec_with T (While at xs e a) w.call (suc n) from) (runs w n t (statement w.unit w.plan spot r (While at [] e a)) regs)) (sym f.0)
+        (loops.loop_follows w h base spot low r.bound living n from _ regs t (test w.unit r.bound r.kinds k e) (statement w.unit w.plan (target.in_loop spot) r1 a) NoStatement
+        (loops.turns_follow w h base spot low r.bound living n (source.condition_of T e w.call) (exec_with T a w.call (suc n)) (statement w.unit w.plan (target.in_loop spot) r1 a)
+        (statement_follows a s (in_loop around) here (target.in_loop spot) low r1 living (refl, refl) g sees result (refl, refl) c f.1 q.1 kp l.1 (omega (arith, behind, more_kinds (takes w.unit e) r)) enough)
+        (test w.unit r.bound r.kinds k e) (test_if_any_does h base spot low living s g r (Some e) q.0 l.0 behind (omega (arith, enough, statement_grows w.unit w.plan a r1)))
         state.done NoStatement (nothing_reached (loops.in_turn w h base spot low r.bound living n) (target.in_loop spot) low r.bound living)
         n regs from t (loops.meets_turn w h base spot low r.bound living n regs from t refl x) le le))
-    statement_follows (Do at a e) s around h spot low r living stands g sees result looped c f q m l behind enough = λ regs from t x le.
-        let r1 = after_statement w.unit a r in
+    statement_follows (Do at a e) s around h spot low r living stands g sees result looped c f q kp l behind enough = λ regs from t x le.
+        let r1 = after_statement w.unit w.plan a r in
         let k = spot.levels + 1 in
         let base = length from.store in
         let here = loops.in_body w h base spot low r.bound living n in
         let there = loops.in_turn w h base spot low r.bound living n in
-        loops.loop_follows w h base spot low r.bound living n from _ regs t NoStatement (statement w.unit (target.in_loop spot) r a) (test w.unit r1.bound r1.kinds k e)
-        (loops.do_turns_follow w h base spot low r.bound living n (source.condition_of T e w.call) (exec_with T a w.call (suc n)) (statement w.unit (target.in_loop spot) r a)
-        (statement_follows a s (in_loop around) here (target.in_loop spot) low r living (refl, refl) g sees result (refl, refl) c.1 f q.0 m l.0 behind (omega (arith, enough, more_kinds (takes w.unit e) r1)))
+        loops.loop_follows w h base spot low r.bound living n from _ regs t NoStatement (statement w.unit w.plan (target.in_loop spot) r a) (test w.unit r1.bound r1.kinds k e)
+        (loops.do_turns_follow w h base spot low r.bound living n (source.condition_of T e w.call) (exec_with T a w.call (suc n)) (statement w.unit w.plan (target.in_loop spot) r a)
+        (statement_follows a s (in_loop around) here (target.in_loop spot) low r living (refl, refl) g sees result (refl, refl) c.1 f q.0 kp l.0 behind (omega (arith, enough, more_kinds (takes w.unit e) r1)))
         (test w.unit r1.bound r1.kinds k e)
         (loops.tests w h base spot low r.bound living n (source.condition_of T e w.call) (prepare w.unit r1.bound r1.kinds e) (condition_result w.unit r1.bound r1.kinds e) (length (r1.kinds ++ takes w.unit e))
-        (λ regs from t m le. condition_tested there (target.in_loop spot) low r1.bound living s g r1.kinds e q.1 l.1 (omega (arith, behind, statement_grows w.unit a r)) enough regs from t
+        (λ regs from t m le. condition_tested there (target.in_loop spot) low r1.bound living s g r1.kinds e q.1 l.1 (omega (arith, behind, statement_grows w.unit w.plan a r)) enough regs from t
         (meets_behind w there (target.in_loop spot) low a r living regs from t c.0 m) le))
         n regs from t (loops.meets_turn w h base spot low r.bound living n regs from t refl x) le le)
-    statement_follows (For at annots first e step a) s around h spot low r living stands g sees result looped c f q m l behind enough =
+    statement_follows (For at annots first e step a) s around h spot low r living stands g sees result looped c f q kp l behind enough =
         let ds = declared_first first in
         let r1 = entered ds r in
-        let r2 = after_first w.unit first r1 in
+        let r2 = after_first w.unit w.plan first r1 in
         let r3 = with_kinds (any_temporaries (takes w.unit) e) r2 in
         let f0 = next-entered ds r in
-        let f1 = first_grows w.unit first r1 in
+        let f1 = first_grows w.unit w.plan first r1 in
         let f2 = more_kinds (any_temporaries (takes w.unit) e) r2 in
-        let f4 = more_kinds (any_temporaries (act_takes w.unit) step) (after_statement w.unit a r3) in
+        let f4 = more_kinds (any_temporaries (act_takes w.unit) step) (after_statement w.unit w.plan a r3) in
         let spot2 = with_variables (next_register r) ds spot in
         let low2 = next_register r + length ds in
-        subst (λ xs. DoSame h spot low r.bound living (exec_with T (For at xs first e step a) w.call (suc n)) (statement w.unit spot r (For at [] first e step a))) (sym f.0)
+        subst (λ xs. DoSame h spot low r.bound living (exec_with T (For at xs first e step a) w.call (suc n)) (statement w.unit w.plan spot r (For at [] first e step a))) (sym f.0)
         (for_follows at first s g around h spot low r living e step a c.0 c.1 f.1 q.0 l.0 q.1 l.1 q.2 l.3 behind enough (λ old base.
         statement_follows a (behind_first (inner s) first) (in_loop around) (loops.in_body w (behind_births w.unit.structs h old ds) base spot2 low2 r3.bound (with_numbers ds living) n) (target.in_loop spot2) low2 r3 (with_numbers ds living)
-        (refl, refl) (scene_behind_first w n (inner s) first (scene_inner w n s g)) (sees_first first s living sees) result (refl, refl) c.2 f.2 q.3 m.1 l.2 (omega (arith, f0, f1, f2)) (omega (arith, enough, f4))))
-    statement_follows (Break at) s around h spot low r living stands g sees result looped c f q m l behind enough = λ regs from t x le. break_follows w n h spot low r.bound living from regs t x stands.0 (sym looped.1 ∙ q)
-    statement_follows (Continue at) s around h spot low r living stands g sees result looped c f q m l behind enough = λ regs from t x le. continue_follows w n h spot low r.bound living from regs t x stands.1 (sym looped.0 ∙ q)
-    statement_follows (Return at e) s around h spot low r living stands g sees result looped c f q m l behind enough = returned_does h spot low living s g r e (subst (λ k. Returned s k e) result q) l behind enough at
-    statement_follows (Labelled at x a) s around h spot low r living stands g sees result looped c f q m l behind enough = absurd f
-    statement_follows (Switch at e cases) s around h spot low r living stands g sees result looped c f q m l behind enough =
+        (refl, refl) (scene_behind_first w n (inner s) first (scene_inner w n s g)) (sees_first first s living sees) result (refl, refl) c.2 f.2 q.3 kp l.2 (omega (arith, f0, f1, f2)) (omega (arith, enough, f4))))
+    statement_follows (Break at) s around h spot low r living stands g sees result looped c f q kp l behind enough = λ regs from t x le. break_follows w n h spot low r.bound living from regs t x stands.0 (sym looped.1 ∙ q)
+    statement_follows (Continue at) s around h spot low r living stands g sees result looped c f q kp l behind enough = λ regs from t x le. continue_follows w n h spot low r.bound living from regs t x stands.1 (sym looped.0 ∙ q)
+    statement_follows (Return at e) s around h spot low r living stands g sees result looped c f q kp l behind enough = returned_does h spot low living s g r e (subst (λ k. Returned s k e) result q) l behind enough at
+    statement_follows (Labelled at x a) s around h spot low r living stands g sees result looped c f q kp l behind enough =
+        let r1 = passed_label w.unit w.plan (Some x) r in
+        let f1 = snapshot_grows w.unit r.bound (Some x) w.plan r.kinds in
+        let f2 = statement_grows w.unit w.plan a r1 in
+        in_order_same h spot low r.bound living (mark (Some x)) (exec_with T a w.call (suc n)) (snapshot w.unit r.bound (Some x) r.kinds w.plan) (statement w.unit w.plan spot r1 a)
+        (λ regs from t y le. passage_follows w n ordered h (AreFound s.entities) low r.bound (Some x) kp.0 r.kinds behind (omega (arith, enough, f2)) regs from t (sees_found s.entities living from.scope y.names sees) y.standing y.beside)
+        (statement_follows a s around h spot low r1 living stands g sees result looped c f q kp.1 l (omega (arith, behind, f1)) enough)
+    statement_follows (Switch at e cases) s around h spot low r living stands g sees result looped c f q kp l behind enough =
         let taken = with_kinds (switch_temporaries w.unit e) r in
         let v = length (r.kinds ++ takes w.unit e) in
-        let f1 = cases_grow w.unit cases taken in
+        let f1 = cases_grow w.unit w.plan cases taken in
         let long1 = length-append (r.kinds ++ takes w.unit e) (value_type (type_of e) ∷ []) in
         let long2 = length-append (r.kinds ++ returned_temporaries w.unit e) (U64 ∷ []) in
         let long3 : length (r.kinds ++ returned_temporaries w.unit e) ≡ suc v = ap length (sym (append_assoc r.kinds (takes w.unit e) (value_type (type_of e) ∷ []))) ∙ long1 ∙ omega arith in
         let long4 : next_register taken ≡ suc (suc v) = ap length (sym (append_assoc r.kinds (returned_temporaries w.unit e) (U64 ∷ []))) ∙ long2 ∙ omega (arith, long3) in
         let f2 = longer r.kinds (takes w.unit e) in
         switch_does h spot low living s g r e cases (promoted q.0) q.1 q.2 l.0 behind long3 (omega (arith, enough, long4, f1))
-        (blocks_of_cases w.unit (target.in_switch spot) taken (length (r.kinds ++ returned_temporaries w.unit e)) 0 0 cases)
+        (blocks_of_cases w.unit w.plan (target.in_switch spot) taken (length (r.kinds ++ returned_temporaries w.unit e)) 0 0 cases)
         (λ base chosen.
         let inside = switches.in_items w h base (spot.levels + 1) in
         let j = length (r.kinds ++ returned_temporaries w.unit e) in
-        subst (λ b. switches.CasesDo w n inside (target.in_switch spot) (suc (suc v)) living j chosen r.bound (cases_with T cases w.call (suc n) chosen) (before b (blocks_of_cases w.unit (target.in_switch spot) taken j 0 0 cases)))
-        (switches.none_begun w.unit (target.in_switch spot) taken j 0 cases)
+        subst (λ b. switches.CasesDo w n inside (target.in_switch spot) (suc (suc v)) living j chosen r.bound (cases_with T cases w.call (suc n) chosen) (before b (blocks_of_cases w.unit w.plan (target.in_switch spot) taken j 0 0 cases)))
+        (switches.none_begun w.unit w.plan (target.in_switch spot) taken j 0 cases)
         (cases_follow cases s (in_switch around) inside (target.in_switch spot) (suc (suc v)) taken living j chosen (omega (arith, long3)) (promoted q.0) 0 0 chosen
-        (switches.all_left chosen) (refl, stands.1) g sees result (looped.0, refl) c f q.3 m l.1 (omega (arith, long4)) enough))
+        (switches.all_left chosen) (refl, stands.1) g sees result (looped.0, refl) c f q.3 kp l.1 (omega (arith, long4)) enough))
         at
 
     -- the cases of a switch from the index i on, of which the first k2 stand in a block that was begun; the first m2 are in front of the chosen one
     cases_follow : (cs : Cases) (s : Sight) (around : Around) (h : Here) (spot : Spot) (low : ℕ) (r : RegisterTable) (living : List ℕ) (j chosen : ℕ) → j < low → (k : CInt) (i k2 m2 : ℕ) → switches.Left chosen i m2
         → (spot.levels ≡ h.levels) × (spot.innermost ≡ h.innermost) → Scene w n s → AreFound s.entities (scope_for living)
         → around.result ≡ h.result → (around.loops ≡ h.looped) × (around.breaks ≡ h.breaks)
-        → CasesCanDeclare w.unit living cs → CasesPlaced AreRangedAsserts cs → CasesTyped s around k cs → CasesNoted s cs → CasesHaveNumbers i cs → low ≤ next_register r → next_register (after_cases w.unit cs r) ≤ w.registers
-        → switches.CasesDo w n h spot low living j chosen r.bound (cases_with T cs w.call (suc n) m2) (before (next_cases w.unit spot r j i k2 cs) (blocks_of_cases w.unit spot r j i k2 cs))
-    cases_follow NoCase s around h spot low r living j chosen lt k i k2 m2 left stands g sees result looped c f q m l behind enough = λ regs from t x le has plan. nothing_does h spot low r.bound living regs from t x le
-    cases_follow (AnotherCase at v body rest) s around h spot low r living j chosen lt k i zero m2 left stands g sees result looped c f q m l behind enough = λ regs from t x le has plan.
-        let later = after_items w.unit body r in
-        let f1 = items_grow w.unit body r in
-        let f2 = cases_grow w.unit rest later in
-        let code = items w.unit spot r body in
-        let others = blocks_of_cases w.unit spot later j (suc i) others_in_block rest in
-        let in_block = before (next_cases w.unit spot later j (suc i) others_in_block rest) others in
-        subst (λ a. Follows w h low regs Next from (cases_with T (AnotherCase at v body rest) w.call (suc n) m2 from) a) (sym (switches.block_is w n t j chosen regs has spot r later i code others rest))
-        (switches.case_follows w n h spot low living j chosen lt r.bound later.bound i (cases_with T (AnotherCase at v body rest) w.call (suc n))
+        → CasesCanDeclare w.unit living cs → CasesPlaced AreRangedAsserts cs → CasesTyped s around k cs → CasesKept w.plan s cs → CasesHaveNumbers i cs → low ≤ next_register r → next_register (after_cases w.unit w.plan cs r) ≤ w.registers
+        → switches.CasesDo w n h spot low living j chosen r.bound (cases_with T cs w.call (suc n) m2) (before (next_cases w.unit w.plan spot r j i k2 cs) (blocks_of_cases w.unit w.plan spot r j i k2 cs))
+    cases_follow NoCase s around h spot low r living j chosen lt k i k2 m2 left stands g sees result looped c f q kp l behind enough = λ regs from t x le has plan. nothing_does h spot low r.bound living regs from t x le
+    cases_follow (AnotherCase at value body rest) s around h spot low r living j chosen lt k i zero m2 left stands g sees result looped c f q kp l behind enough = λ regs from t x le has plan.
+        let later = after_items w.unit w.plan body r in
+        let f1 = items_grow w.unit w.plan body r in
+        let f2 = cases_grow w.unit w.plan rest later in
+        let code = items w.unit w.plan spot r body in
+        let others = blocks_of_cases w.unit w.plan spot later j (suc i) others_in_block rest in
+        let in_block = before (next_cases w.unit w.plan spot later j (suc i) others_in_block rest) others in
+        subst (λ a. Follows w h low regs Next from (cases_with T (AnotherCase at value body rest) w.call (suc n) m2 from) a) (sym (switches.block_is w n t j chosen regs has spot r later i code others rest))
+        (switches.case_follows w n h spot low living j chosen lt r.bound later.bound i (cases_with T (AnotherCase at value body rest) w.call (suc n))
         (items_with T body w.call (suc n)) (cases_with T rest w.call (suc n)) code in_block refl (λ m3. refl)
         (items_follow body s around h spot low r living stands g sees
-        (subst (λ ds. DeclarationsFound ds (scope_for living)) (sym (nothing_declared body f.0)) tt) (subst (AreThere w.unit) (sym (nothing_declared body f.0)) tt) result looped c.1 f.1 q.1 m.0 l.0 behind (omega (arith, enough, f2)))
+        (subst (λ ds. DeclarationsFound ds (scope_for living)) (sym (nothing_declared body f.0)) tt) (subst (AreThere w.unit) (sym (nothing_declared body f.0)) tt) result looped c.1 f.1 q.1 kp.0 l.0 behind (omega (arith, enough, f2)))
         (λ regs2 s2 t2 x2. meets_behind_items w h spot low body r living regs2 s2 t2 c.0 x2)
-        (λ m3 left3. cases_follow rest s around h spot low later living j chosen lt k (suc i) others_in_block m3 left3 stands g sees result looped c.2 f.2 q.2 m.1 l.1 (omega (arith, behind, f1)) enough)
+        (λ m3 left3. cases_follow rest s around h spot low later living j chosen lt k (suc i) others_in_block m3 left3 stands g sees result looped c.2 f.2 q.2 kp.1 l.1 (omega (arith, behind, f1)) enough)
         m2 left regs from t x le has plan)
-    cases_follow (AnotherCase at v body rest) s around h spot low r living j chosen lt k i (suc k2) m2 left stands g sees result looped c f q m l behind enough =
-        let later = after_items w.unit body r in
-        let f1 = items_grow w.unit body r in
-        let f2 = cases_grow w.unit rest later in
-        let others = before (next_cases w.unit spot later j (suc i) k2 rest) (blocks_of_cases w.unit spot later j (suc i) k2 rest) in
-        switches.case_follows w n h spot low living j chosen lt r.bound later.bound i (cases_with T (AnotherCase at v body rest) w.call (suc n))
-        (items_with T body w.call (suc n)) (cases_with T rest w.call (suc n)) (items w.unit spot r body) others refl (λ m3. refl)
+    cases_follow (AnotherCase at value body rest) s around h spot low r living j chosen lt k i (suc k2) m2 left stands g sees result looped c f q kp l behind enough =
+        let later = after_items w.unit w.plan body r in
+        let f1 = items_grow w.unit w.plan body r in
+        let f2 = cases_grow w.unit w.plan rest later in
+        let others = before (next_cases w.unit w.plan spot later j (suc i) k2 rest) (blocks_of_cases w.unit w.plan spot later j (suc i) k2 rest) in
+        switches.case_follows w n h spot low living j chosen lt r.bound later.bound i (cases_with T (AnotherCase at value body rest) w.call (suc n))
+        (items_with T body w.call (suc n)) (cases_with T rest w.call (suc n)) (items w.unit w.plan spot r body) others refl (λ m3. refl)
         (items_follow body s around h spot low r living stands g sees
-        (subst (λ ds. DeclarationsFound ds (scope_for living)) (sym (nothing_declared body f.0)) tt) (subst (AreThere w.unit) (sym (nothing_declared body f.0)) tt) result looped c.1 f.1 q.1 m.0 l.0 behind (omega (arith, enough, f2)))
+        (subst (λ ds. DeclarationsFound ds (scope_for living)) (sym (nothing_declared body f.0)) tt) (subst (AreThere w.unit) (sym (nothing_declared body f.0)) tt) result looped c.1 f.1 q.1 kp.0 l.0 behind (omega (arith, enough, f2)))
         (λ regs2 s2 t2 x2. meets_behind_items w h spot low body r living regs2 s2 t2 c.0 x2)
-        (λ m3 left3. cases_follow rest s around h spot low later living j chosen lt k (suc i) k2 m3 left3 stands g sees result looped c.2 f.2 q.2 m.1 l.1 (omega (arith, behind, f1)) enough)
+        (λ m3 left3. cases_follow rest s around h spot low later living j chosen lt k (suc i) k2 m3 left3 stands g sees result looped c.2 f.2 q.2 kp.1 l.1 (omega (arith, behind, f1)) enough)
         m2 left
 
     pub else_follows : (b : ElsePart) (s : Sight) (around : Around) (h : Here) (spot : Spot) (low : ℕ) (r : RegisterTable) (living : List ℕ)
         → (spot.levels ≡ h.levels) × (spot.innermost ≡ h.innermost) → Scene w n s → AreFound s.entities (scope_for living)
         → around.result ≡ h.result → (around.loops ≡ h.looped) × (around.breaks ≡ h.breaks)
-        → ElseCanDeclare w.unit living b → ElsePlaced AreRangedAsserts b → ElseTyped s around b → ElseNoted s b → ElseHasNumbers b → low ≤ next_register r → next_register (after_else w.unit b r) ≤ w.registers
-        → DoSame h spot low r.bound living (else_with T b w.call (suc n)) (else_part w.unit spot r b)
-    else_follows NoElse s around h spot low r living stands g sees result looped c f q m l behind enough = nothing_does h spot low r.bound living
-    else_follows (Else a) s around h spot low r living stands g sees result looped c f q m l behind enough = statement_follows a s around h spot low r living stands g sees result looped c f q m l behind enough
+        → ElseCanDeclare w.unit living b → ElsePlaced AreRangedAsserts b → ElseTyped s around b → ElseKept w.plan s b → ElseHasNumbers b → low ≤ next_register r → next_register (after_else w.unit w.plan b r) ≤ w.registers
+        → DoSame h spot low r.bound living (else_with T b w.call (suc n)) (else_part w.unit w.plan spot r b)
+    else_follows NoElse s around h spot low r living stands g sees result looped c f q kp l behind enough = nothing_does h spot low r.bound living
+    else_follows (Else a) s around h spot low r living stands g sees result looped c f q kp l behind enough = statement_follows a s around h spot low r living stands g sees result looped c f q kp l behind enough
 
     pub items_follow : (is : BlockItems) (s : Sight) (around : Around) (h : Here) (spot : Spot) (low : ℕ) (r : RegisterTable) (living : List ℕ)
         → (spot.levels ≡ h.levels) × (spot.innermost ≡ h.innermost) → Scene w n s → AreFound s.entities (scope_for living)
         → DeclarationsFound (declared_in is) (scope_for living) → AreThere w.unit (declared_in is) → around.result ≡ h.result → (around.loops ≡ h.looped) × (around.breaks ≡ h.breaks)
-        → ItemsCanDeclare w.unit living is → ItemsPlaced AreRangedAsserts is → ItemsTyped s around is → ItemsNoted s is → HaveNumbers is → low ≤ next_register r → next_register (after_items w.unit is r) ≤ w.registers
-        → DoSame h spot low r.bound living (items_with T is w.call (suc n)) (items w.unit spot r is)
-    items_follow NoItem s around h spot low r living stands g sees have local result looped c f q m l behind enough = nothing_does h spot low r.bound living
-    items_follow (Then (Declare ds) rest) s around h spot low r living stands g sees have local result looped c f q m l behind enough =
+        → ItemsCanDeclare w.unit living is → ItemsPlaced AreRangedAsserts is → ItemsTyped s around is → ItemsKept w.plan s is → HaveNumbers is → low ≤ next_register r → next_register (after_items w.unit w.plan is r) ≤ w.registers
+        → DoSame h spot low r.bound living (items_with T is w.call (suc n)) (items w.unit w.plan spot r is)
+    items_follow NoItem s around h spot low r living stands g sees have local result looped c f q kp l behind enough = nothing_does h spot low r.bound living
+    items_follow (Then (Declare ds) rest) s around h spot low r living stands g sees have local result looped c f q kp l behind enough =
         let r1 = with_kinds (declaration_temporaries w.unit ds) r in
         let f1 = more_kinds (declaration_temporaries w.unit ds) r in
-        let f2 = items_grow w.unit rest r1 in
-        in_order_same h spot low r.bound living (initialise_all T ds w.call) (items_with T rest w.call (suc n)) (initialisers.initialise_all w.unit r.bound r.kinds ds) (items w.unit spot r1 rest)
+        let f2 = items_grow w.unit w.plan rest r1 in
+        in_order_same h spot low r.bound living (initialise_all T ds w.call) (items_with T rest w.call (suc n)) (initialisers.initialise_all w.unit r.bound r.kinds ds) (items w.unit w.plan spot r1 rest)
         (λ regs from t x le. reached_follows w h Anything low regs from (initialise_all T ds w.call from) (runs w n t (initialisers.initialise_all w.unit r.bound r.kinds ds) regs) x.standing.kept
         (initials_reach w n h low r.bound ds s g (there_front w.unit ds (declared_in rest) local) q.0 l.0 r.kinds behind (omega (arith, enough, f2)) regs from t le x.standing x.beside))
         (items_follow rest (with_objects s ds) around h spot low r1 living stands (scene_with_all w n s ds g) (found_with_all s ds (scope_for living) sees (declarations_found-append ds (declared_in rest) (scope_for living) have).0)
-        (declarations_found-append ds (declared_in rest) (scope_for living) have).1 (there_back w.unit ds (declared_in rest) local) result looped c.1 f.1 q.1 m.1 l.1 (omega (arith, behind, f1)) enough)
-    items_follow (Then (Specify at t) rest) s around h spot low r living stands g sees have local result looped c f q m l behind enough =
-        items_follow rest s around h spot low r living stands g sees have local result looped c.1 f.1 q.1 m.1 l.1 behind enough
-    items_follow (Then (Run a) rest) s around h spot low r living stands g sees have local result looped c f q m l behind enough =
-        let r1 = after_statement w.unit a r in
-        let f1 = statement_grows w.unit a r in
-        let f2 = items_grow w.unit rest r1 in
-        in_order h spot low r.bound r1.bound living (exec_with T a w.call (suc n)) (items_with T rest w.call (suc n)) (statement w.unit spot r a) (items w.unit spot r1 rest)
-        (statement_follows a s around h spot low r living stands g sees result looped c.0.1 f.0 q.0 m.0 l.0 behind (omega (arith, enough, f2)))
+        (declarations_found-append ds (declared_in rest) (scope_for living) have).1 (there_back w.unit ds (declared_in rest) local) result looped c.1 f.1 q.1 kp.1 l.1 (omega (arith, behind, f1)) enough)
+    items_follow (Then (Specify at t) rest) s around h spot low r living stands g sees have local result looped c f q kp l behind enough =
+        items_follow rest s around h spot low r living stands g sees have local result looped c.1 f.1 q.1 kp.1 l.1 behind enough
+    items_follow (Then (Run a) rest) s around h spot low r living stands g sees have local result looped c f q kp l behind enough =
+        let r1 = after_statement w.unit w.plan a r in
+        let f1 = statement_grows w.unit w.plan a r in
+        let f2 = items_grow w.unit w.plan rest r1 in
+        in_order h spot low r.bound r1.bound living (exec_with T a w.call (suc n)) (items_with T rest w.call (suc n)) (statement w.unit w.plan spot r a) (items w.unit w.plan spot r1 rest)
+        (statement_follows a s around h spot low r living stands g sees result looped c.0.1 f.0 q.0 kp.0 l.0 behind (omega (arith, enough, f2)))
         (λ regs from t x. meets_behind w h spot low a r living regs from t c.0.0 x)
-        (items_follow rest s around h spot low r1 living stands g sees have local result looped c.1 f.1 q.1 m.1 l.1 (omega (arith, behind, f1)) enough)
-    items_follow (Then (Asserts annots) rest) s around h spot low r living stands g sees have local result looped c f q m l behind enough =
-        let r1 = after_item w.unit (Asserts annots) r in
-        let f1 = behind_grows w.unit r.bound r.kinds annots in
-        let f2 = items_grow w.unit rest r1 in
-        in_order_same h spot low r.bound living (checks annots) (items_with T rest w.call (suc n)) (assertions w.unit r.bound r.kinds annots) (items w.unit spot r1 rest)
-        (λ regs from t x le. assertions_follow w n h s low r.bound annots f.0 m.0 r.kinds behind (omega (arith, enough, f2)) regs from t (sees_found s.entities living from.scope x.names sees) x.standing x.beside)
-        (items_follow rest s around h spot low r1 living stands g sees have local result looped c.1 f.1 q.1 m.1 l.1 (omega (arith, behind, f1)) enough)
+        (items_follow rest s around h spot low r1 living stands g sees have local result looped c.1 f.1 q.1 kp.1 l.1 (omega (arith, behind, f1)) enough)
+    items_follow (Then (Asserts annots) rest) s around h spot low r living stands g sees have local result looped c f q kp l behind enough =
+        let r1 = after_item w.unit w.plan (Asserts annots) r in
+        let f1 = behind_grows w.unit r.bound w.plan [] r.kinds annots in
+        let f2 = items_grow w.unit w.plan rest r1 in
+        in_order_same h spot low r.bound living (checks annots) (items_with T rest w.call (suc n)) (assertions w.unit r.bound w.plan [] r.kinds annots) (items w.unit w.plan spot r1 rest)
+        (λ regs from t x le. assertions_follow w n h low r.bound annots f.0 r.kinds behind (omega (arith, enough, f2)) regs from t (kp.0 from.scope (sees_found s.entities living from.scope x.names sees)) x.standing x.beside)
+        (items_follow rest s around h spot low r1 living stands g sees have local result looped c.1 f.1 q.1 kp.1 l.1 (omega (arith, behind, f1)) enough)

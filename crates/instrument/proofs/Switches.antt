@@ -17,7 +17,7 @@ use Rattle.c_model.proofs.Agreement.{extends_trans}
 use Rattle.mon_syntax.specs.declared.tree.MonOp.TheVariants.{Eq, Le}
 use Rattle.mon_syntax.specs.declared.tree.MonType.TheVariants.{U64}
 use Rattle.mon_syntax.specs.Registers.{Bindings, RegisterTable}
-use Rattle.mon_syntax.specs.Meaning.{Done, Next, Goes, Returns, writes, then_do, at_next, at_label, choose, exec_all}
+use Rattle.mon_syntax.specs.Meaning.{Done, Next, Goes, writes, then_do, at_next, at_label, choose, exec_all}
 use Rattle.mon_syntax.specs.BlockMemory.{over_blocks}
 use Rattle.mon_syntax.specs.LiveBlocks.{live_in}
 use Rattle.mon_syntax.specs.Trees.{MonExpression, MonStatements, NoStatement, Then, Register, Constant, Binary, Labelled, Goto}
@@ -25,13 +25,14 @@ use Rattle.c_effects.specs.Expressions.{register_type, before, one, set}
 use Rattle.track_scopes.specs.Lives.{AreFrom, AreBefore}
 use Rattle.instrument.specs.Translation.{Spot, in_switch, case_label, test_case, tests_of_cases, search, where_reached, others_in_block, after_items, items, next_cases}
 use Rattle.c_simulation.specs.Labels.{end_label, next_label}
+use Rattle.c_simulation.specs.Keeping.{Kept}
 use Rattle.c_simulation.specs.SameRegisters.{Same, Stays}
 use Rattle.c_simulation.specs.Standing.{Target, Did, Setting, runs, Has, IsOf, Here, IsKept, Standing, Beside}
 use Rattle.c_simulation.specs.Reaching.{Reaches, Valued}
 use Rattle.c_simulation.specs.Following.{Passes, Follows, GoesOn, Breaks, Continues, IsLeft, IsOver, IsUndefined, written}
 use Rattle.c_simulation.proofs.Results.{writes_none, written_then, one_is, before_is}
 use Rattle.c_simulation.proofs.Registers.{get-set_same, same_all, same_less, same_set, same_trans, stays_same, stays_trans}
-use Rattle.c_simulation.proofs.Following.{anchored_same, kept_same, follows_then}
+use Rattle.c_simulation.proofs.Following.{left_end, anchored_same, kept_same, follows_then}
 use Rattle.c_simulation.proofs.Evaluating.{behind_setup, set_runs, if_runs}
 use Rattle.c_simulation.proofs.Reaching.{follows_before}
 use Rattle.c_simulation.proofs.Integers.{is_number}
@@ -173,12 +174,12 @@ module _ (w : Setting) (n : ℕ) (t : Target) (j c : ℕ) (regs : List Value) (h
       where_runs i a ∙ ap (λ b. cond b (runs w n t a regs) (Done (Next regs) t [])) is
 
   -- the items of cases in front of the chosen one are passed over
-  passed_over : (cases : Cases) (spot : Spot) (r : RegisterTable) (i k : ℕ) → i + k ≤ c → runs w n t (next_cases w.unit spot r j i k cases) regs ≡ Done (Next regs) t []
+  passed_over : (cases : Cases) (spot : Spot) (r : RegisterTable) (i k : ℕ) → i + k ≤ c → runs w n t (next_cases w.unit w.plan spot r j i k cases) regs ≡ Done (Next regs) t []
   passed_over NoCase spot r i k le = refl
   passed_over (AnotherCase at v body rest) spot r i zero le = refl
   passed_over (AnotherCase at v body rest) spot r i (suc k) le =
-      behind_setup w n t (one (where_reached j i (items w.unit spot r body))) (next_cases w.unit spot (after_items w.unit body r) j (suc i) k rest) regs regs (passed i (items w.unit spot r body) (omega (arith, le)))
-      ∙ passed_over rest spot (after_items w.unit body r) (suc i) k (omega (arith, le))
+      behind_setup w n t (one (where_reached j i (items w.unit w.plan spot r body))) (next_cases w.unit w.plan spot (after_items w.unit w.plan body r) j (suc i) k rest) regs regs (passed i (items w.unit w.plan spot r body) (omega (arith, le)))
+      ∙ passed_over rest spot (after_items w.unit w.plan body r) (suc i) k (omega (arith, le))
 
   -- where nothing is done behind the test of a block, nothing would be done without it
   pub block_runs : (i : ℕ) (a b : MonStatements) → (i < c → runs w n t a regs ≡ Done (Next regs) t []) → runs w n t (Then (where_reached j i a) b) regs ≡ runs w n t (before a b) regs
@@ -193,11 +194,11 @@ module _ (w : Setting) (n : ℕ) (t : Target) (j c : ℕ) (regs : List Value) (h
 
   -- so it is with the block of a case and of those that stand behind it in the block
   pub block_is : (spot : Spot) (r later : RegisterTable) (i : ℕ) (a b : MonStatements) (rest : Cases)
-      → runs w n t (Then (where_reached j (i + others_in_block) (Then (where_reached j i a) (next_cases w.unit spot later j (suc i) others_in_block rest))) b) regs
-      ≡ runs w n t (Then (where_reached j i a) (before (next_cases w.unit spot later j (suc i) others_in_block rest) b)) regs
+      → runs w n t (Then (where_reached j (i + others_in_block) (Then (where_reached j i a) (next_cases w.unit w.plan spot later j (suc i) others_in_block rest))) b) regs
+      ≡ runs w n t (Then (where_reached j i a) (before (next_cases w.unit w.plan spot later j (suc i) others_in_block rest) b)) regs
   block_is spot r later i a b rest =
-      block_runs (i + others_in_block) (Then (where_reached j i a) (next_cases w.unit spot later j (suc i) others_in_block rest)) b (λ lt.
-      behind_setup w n t (one (where_reached j i a)) (next_cases w.unit spot later j (suc i) others_in_block rest) regs regs (passed i a (omega (arith, lt)))
+      block_runs (i + others_in_block) (Then (where_reached j i a) (next_cases w.unit w.plan spot later j (suc i) others_in_block rest)) b (λ lt.
+      behind_setup w n t (one (where_reached j i a)) (next_cases w.unit w.plan spot later j (suc i) others_in_block rest) regs regs (passed i a (omega (arith, lt)))
       ∙ passed_over rest spot later (suc i) others_in_block (omega (arith, lt)))
 
 -- ---- items, case by case
@@ -208,9 +209,9 @@ Left c i zero = c ≤ i
 Left c i (suc m) = c ≡ i + suc m
 
 -- no next case stands in a block that was begun
-pub none_begun : (p : TranslationUnit) (spot : Spot) (r : RegisterTable) (j i : ℕ) (cases : Cases) → next_cases p spot r j i 0 cases ≡ NoStatement
-none_begun p spot r j i NoCase = refl
-none_begun p spot r j i (AnotherCase at v body rest) = refl
+pub none_begun : (p : TranslationUnit) (plan : List Kept) (spot : Spot) (r : RegisterTable) (j i : ℕ) (cases : Cases) → next_cases p plan spot r j i 0 cases ≡ NoStatement
+none_begun p plan spot r j i NoCase = refl
+none_begun p plan spot r j i (AnotherCase at v body rest) = refl
 
 -- all of them
 pub all_left : (c : ℕ) → Left c 0 c
@@ -281,7 +282,7 @@ module _ (w : Setting) (h : Here) (base levels : ℕ) where
       longer = omega (arith, e);
       bounded = r.bounded;
       registers = same.long ∙ r.registers;
-      kept = record { below = omega (arith, le, kept.below); planned = kept.planned; keeps = kept.keeps };
+      kept = record { below = omega (arith, le, kept.below); planned = kept.planned; given = kept.given; keeps = kept.keeps };
     };
     beside = m.beside;
     inside = tt;
@@ -291,6 +292,7 @@ module _ (w : Setting) (h : Here) (base levels : ℕ) where
         (pointed_same w.plan_to low high regs after spot.between h.between le (λ j lt more. same.below j lt) m.between);
     outside = pointed_same w.plan_to low high regs after spot.outside h.outer le (λ j lt more. same.below j lt) m.outside;
     names = m.names;
+    result = m.result;
   }
     where
       r : Standing w h low bound regs s
@@ -326,8 +328,8 @@ module _ (w : Setting) (h : Here) (base levels : ℕ) where
         GoesOn s after t o (stay after m) g l (all_dead from s o t none l b) (ap after_switch e) (ap labelled f ∙ caught after t o)
     items_end from r q none (Continues s after t o i m g l b e f) =
         Continues s after t o i (stay after m) g l b (ap after_switch e) (ap labelled f ∙ ap (Done (Goes (next_label h.innermost) after) t) (append-nil o))
-    items_end from r q none (IsLeft v s t o i l b e f) =
-        IsLeft v s t o i l b (ap after_switch e) (ap labelled f ∙ ap (Done (Returns v) t) (append-nil o))
+    items_end from r q none (IsLeft v s after t o i m g x l b e f) =
+        IsLeft v s after t o i (stay after m) g x l b (ap after_switch e) (ap labelled f ∙ left_end levels w.result v after t o)
     items_end from r q none (IsOver x z s o d e l f) = IsOver x z s o d (ap after_switch e) l (ap labelled f)
     items_end from r q none (IsUndefined at s o e l ext) =
         IsUndefined at s o (ap after_switch e) l (extends_trans o (written q) _ ext (written_then q (at_label (end_label levels))))

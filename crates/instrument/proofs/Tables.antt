@@ -1,5 +1,5 @@
 -- The table of registers while a function is translated: registers are only added, and each declaration that is bound has a register that points.
-use Rattle.std.proofs.Common.{◌≡◌, ℕ, suc, Bool, true, false, nat_eq, List, [], ◌∷◌, ◌++◌, length, Some, slice_get, refl, sym, ap, ◌∙◌, subst, arith, append_assoc}
+use Rattle.std.proofs.Common.{◌≡◌, ℕ, suc, Bool, true, false, nat_eq, List, [], ◌∷◌, ◌++◌, length, Option, Some, None, slice_get, refl, sym, ap, ◌∙◌, subst, arith, append_assoc}
 use Rattle.std.proofs.lemmas.List.{append-nil, length-append}
 use Rattle.std.proofs.lemmas.Bool.Decides.{nat_tests}
 use Rattle.c_syntax.specs.Statements.{Declaration, Statement, Empty, Eval, Block, If, While, Do, For, Break, Continue, Return, ElsePart, NoElse, Else, ForFirst, NoFirst, First, BlockItem, Declare, Specify, Run, Asserts, BlockItems, NoItem, Then}
@@ -16,8 +16,11 @@ use Rattle.c_initialisers.specs.Translation.{declaration_temporaries}
 use Rattle.c_effects.specs.Effects.{any_temporaries}
 use Rattle.c_effects.specs.Full.{act_takes, takes}
 use Rattle.annot_code.specs.Code.{behind_assertions}
+use Rattle.annot_code.specs.Snapshots.{behind_snapshot}
 use Rattle.annot_code.proofs.Asserted.{behind_begins}
-use Rattle.instrument.specs.Translation.{returned_temporaries, switch_temporaries, after_statement, after_cases, after_else, after_first, after_item, after_items}
+use Rattle.annot_code.proofs.CheckPrefixes.{snapshot_begins}
+use Rattle.c_simulation.specs.Keeping.{Kept}
+use Rattle.instrument.specs.Translation.{returned_temporaries, switch_temporaries, after_statement, after_cases, after_else, after_first, after_item, after_items, passed_label}
 use Rattle.mon_syntax.specs.Registers.{register_of}
 use Rattle.annot_code.specs.Validity.{Begins}
 use Rattle.instrument.proofs.Typed.{begins_front, register_at, HasPointer, Aim, has_aim, aim_has}
@@ -34,74 +37,79 @@ begins_then a b c h k = record { rest = h.rest ++ k.rest; is = k.is ∙ ap (λ l
 begins_added : (a b : Types) → Begins a (a ++ b)
 begins_added a b = record { rest = b; is = refl }
 
-behind_asserts : (p : TranslationUnit) (bound : Bindings) (rs : Types) (l : List Annotation) → Begins rs (behind_assertions p bound rs l)
-behind_asserts p bound rs l =
-    let all = behind_assertions p bound rs l in
-    behind_begins all p bound rs l (record { rest = []; is = sym (append-nil all) })
+behind_asserts : (p : TranslationUnit) (bound : Bindings) (plan : List Kept) (rs : Types) (l : List Annotation) → Begins rs (behind_assertions p bound plan [] rs l)
+behind_asserts p bound plan rs l =
+    let all = behind_assertions p bound plan [] rs l in
+    behind_begins all p bound plan [] rs l (record { rest = []; is = sym (append-nil all) })
+
+pub label_begins : (p : TranslationUnit) (plan : List Kept) (l : Option ℕ) (r : RegisterTable) → Begins r.kinds (passed_label p plan l r).kinds
+label_begins p plan l r = let all = behind_snapshot p r.bound l r.kinds plan in snapshot_begins all p r.bound l plan r.kinds (begins_itself all)
 
 pub entered_begins : (ds : List Declaration) (r : RegisterTable) → Begins r.kinds (entered ds r).kinds
 entered_begins [] r = begins_itself r.kinds
 entered_begins (d ∷ ds) r = begins_then r.kinds (r.kinds ++ Ptr ∷ []) (entered ds (with_pointer d r)).kinds (begins_added r.kinds (Ptr ∷ [])) (entered_begins ds (with_pointer d r))
 
 mutual
-  pub statement_begins : (p : TranslationUnit) (a : Statement) (r : RegisterTable) → Begins r.kinds (after_statement p a r).kinds
-  statement_begins p (Empty at) r = begins_itself r.kinds
-  statement_begins p (Eval at e) r = begins_added r.kinds (act_takes p e)
-  statement_begins p (Block at body) r =
+  pub statement_begins : (p : TranslationUnit) (plan : List Kept) (a : Statement) (r : RegisterTable) → Begins r.kinds (after_statement p plan a r).kinds
+  statement_begins p plan (Empty at) r = begins_itself r.kinds
+  statement_begins p plan (Eval at e) r = begins_added r.kinds (act_takes p e)
+  statement_begins p plan (Block at body) r =
       let inside = entered (declared_in body) r in
-      begins_then r.kinds inside.kinds (after_items p body inside).kinds (entered_begins (declared_in body) r) (items_begin p body inside)
-  statement_begins p (If at e a b) r =
+      begins_then r.kinds inside.kinds (after_items p plan body inside).kinds (entered_begins (declared_in body) r) (items_begin p plan body inside)
+  statement_begins p plan (If at e a b) r =
       let x = with_kinds (takes p e) r in
-      let y = after_statement p a x in
-      begins_then r.kinds x.kinds (after_else p b y).kinds (begins_added r.kinds (takes p e)) (begins_then x.kinds y.kinds (after_else p b y).kinds (statement_begins p a x) (else_begins p b y))
-  statement_begins p (While at annots e a) r =
+      let y = after_statement p plan a x in
+      begins_then r.kinds x.kinds (after_else p plan b y).kinds (begins_added r.kinds (takes p e)) (begins_then x.kinds y.kinds (after_else p plan b y).kinds (statement_begins p plan a x) (else_begins p plan b y))
+  statement_begins p plan (While at annots e a) r =
       let x = with_kinds (takes p e) r in
-      begins_then r.kinds x.kinds (after_statement p a x).kinds (begins_added r.kinds (takes p e)) (statement_begins p a x)
-  statement_begins p (Do at a e) r =
-      let x = after_statement p a r in
-      begins_then r.kinds x.kinds (x.kinds ++ takes p e) (statement_begins p a r) (begins_added x.kinds (takes p e))
-  statement_begins p (For at annots first e behind a) r =
+      begins_then r.kinds x.kinds (after_statement p plan a x).kinds (begins_added r.kinds (takes p e)) (statement_begins p plan a x)
+  statement_begins p plan (Do at a e) r =
+      let x = after_statement p plan a r in
+      begins_then r.kinds x.kinds (x.kinds ++ takes p e) (statement_begins p plan a r) (begins_added x.kinds (takes p e))
+  statement_begins p plan (For at annots first e behind a) r =
       let x = entered (declared_first first) r in
-      let y = after_first p first x in
+      let y = after_first p plan first x in
       let z = with_kinds (any_temporaries (takes p) e) y in
-      let w = after_statement p a z in
+      let w = after_statement p plan a z in
       begins_then r.kinds x.kinds (w.kinds ++ any_temporaries (act_takes p) behind) (entered_begins (declared_first first) r)
-      (begins_then x.kinds y.kinds (w.kinds ++ any_temporaries (act_takes p) behind) (first_begins p first x)
+      (begins_then x.kinds y.kinds (w.kinds ++ any_temporaries (act_takes p) behind) (first_begins p plan first x)
       (begins_then y.kinds z.kinds (w.kinds ++ any_temporaries (act_takes p) behind) (begins_added y.kinds (any_temporaries (takes p) e))
-      (begins_then z.kinds w.kinds (w.kinds ++ any_temporaries (act_takes p) behind) (statement_begins p a z) (begins_added w.kinds (any_temporaries (act_takes p) behind)))))
-  statement_begins p (Break at) r = begins_itself r.kinds
-  statement_begins p (Continue at) r = begins_itself r.kinds
-  statement_begins p (Return at e) r = begins_added r.kinds (any_temporaries (returned_temporaries p) e)
-  statement_begins p (Labelled at l a) r = begins_itself r.kinds
-  statement_begins p (Switch at e cases) r =
+      (begins_then z.kinds w.kinds (w.kinds ++ any_temporaries (act_takes p) behind) (statement_begins p plan a z) (begins_added w.kinds (any_temporaries (act_takes p) behind)))))
+  statement_begins p plan (Break at) r = begins_itself r.kinds
+  statement_begins p plan (Continue at) r = begins_itself r.kinds
+  statement_begins p plan (Return at e) r = begins_added r.kinds (any_temporaries (returned_temporaries p) e)
+  statement_begins p plan (Labelled at l a) r =
+      let x = passed_label p plan (Some l) r in
+      begins_then r.kinds x.kinds (after_statement p plan a x).kinds (label_begins p plan (Some l) r) (statement_begins p plan a x)
+  statement_begins p plan (Switch at e cases) r =
       let x = with_kinds (switch_temporaries p e) r in
-      begins_then r.kinds x.kinds (after_cases p cases x).kinds (begins_added r.kinds (switch_temporaries p e)) (cases_begin p cases x)
+      begins_then r.kinds x.kinds (after_cases p plan cases x).kinds (begins_added r.kinds (switch_temporaries p e)) (cases_begin p plan cases x)
 
-  pub cases_begin : (p : TranslationUnit) (cs : Cases) (r : RegisterTable) → Begins r.kinds (after_cases p cs r).kinds
-  cases_begin p NoCase r = begins_itself r.kinds
-  cases_begin p (AnotherCase at v body rest) r =
-      let x = after_items p body r in
-      begins_then r.kinds x.kinds (after_cases p rest x).kinds (items_begin p body r) (cases_begin p rest x)
+  pub cases_begin : (p : TranslationUnit) (plan : List Kept) (cs : Cases) (r : RegisterTable) → Begins r.kinds (after_cases p plan cs r).kinds
+  cases_begin p plan NoCase r = begins_itself r.kinds
+  cases_begin p plan (AnotherCase at v body rest) r =
+      let x = after_items p plan body r in
+      begins_then r.kinds x.kinds (after_cases p plan rest x).kinds (items_begin p plan body r) (cases_begin p plan rest x)
 
-  pub else_begins : (p : TranslationUnit) (b : ElsePart) (r : RegisterTable) → Begins r.kinds (after_else p b r).kinds
-  else_begins p NoElse r = begins_itself r.kinds
-  else_begins p (Else a) r = statement_begins p a r
+  pub else_begins : (p : TranslationUnit) (plan : List Kept) (b : ElsePart) (r : RegisterTable) → Begins r.kinds (after_else p plan b r).kinds
+  else_begins p plan NoElse r = begins_itself r.kinds
+  else_begins p plan (Else a) r = statement_begins p plan a r
 
-  pub first_begins : (p : TranslationUnit) (first : ForFirst) (r : RegisterTable) → Begins r.kinds (after_first p first r).kinds
-  first_begins p NoFirst r = begins_itself r.kinds
-  first_begins p (First i) r = item_begins p i r
+  pub first_begins : (p : TranslationUnit) (plan : List Kept) (first : ForFirst) (r : RegisterTable) → Begins r.kinds (after_first p plan first r).kinds
+  first_begins p plan NoFirst r = begins_itself r.kinds
+  first_begins p plan (First i) r = item_begins p plan i r
 
-  pub item_begins : (p : TranslationUnit) (i : BlockItem) (r : RegisterTable) → Begins r.kinds (after_item p i r).kinds
-  item_begins p (Declare ds) r = begins_added r.kinds (declaration_temporaries p ds)
-  item_begins p (Specify at t) r = begins_itself r.kinds
-  item_begins p (Run a) r = statement_begins p a r
-  item_begins p (Asserts annots) r = behind_asserts p r.bound r.kinds annots
+  pub item_begins : (p : TranslationUnit) (plan : List Kept) (i : BlockItem) (r : RegisterTable) → Begins r.kinds (after_item p plan i r).kinds
+  item_begins p plan (Declare ds) r = begins_added r.kinds (declaration_temporaries p ds)
+  item_begins p plan (Specify at t) r = begins_itself r.kinds
+  item_begins p plan (Run a) r = statement_begins p plan a r
+  item_begins p plan (Asserts annots) r = behind_asserts p r.bound plan r.kinds annots
 
-  pub items_begin : (p : TranslationUnit) (is : BlockItems) (r : RegisterTable) → Begins r.kinds (after_items p is r).kinds
-  items_begin p NoItem r = begins_itself r.kinds
-  items_begin p (Then i rest) r =
-      let x = after_item p i r in
-      begins_then r.kinds x.kinds (after_items p rest x).kinds (item_begins p i r) (items_begin p rest x)
+  pub items_begin : (p : TranslationUnit) (plan : List Kept) (is : BlockItems) (r : RegisterTable) → Begins r.kinds (after_items p plan is r).kinds
+  items_begin p plan NoItem r = begins_itself r.kinds
+  items_begin p plan (Then i rest) r =
+      let x = after_item p plan i r in
+      begins_then r.kinds x.kinds (after_items p plan rest x).kinds (item_begins p plan i r) (items_begin p plan rest x)
 
 -- ---- pointers
 
@@ -154,60 +162,60 @@ module _ (ts : Types) where
   pointers_kept r after (d ∷ ds) k h = (aim_has ts after.bound (number_of d) (k (number_of d) false (has_aim ts false r.bound (number_of d) h.0)), pointers_kept r after ds k h.1)
 
   mutual
-    pub statement_keeps : (p : TranslationUnit) (a : Statement) (r : RegisterTable) → Begins (after_statement p a r).kinds ts → Keeps r (after_statement p a r)
-    statement_keeps p (Empty at) r b x g h = h
-    statement_keeps p (Eval at e) r b x g h = h
-    statement_keeps p (Block at body) r b x g h =
+    pub statement_keeps : (p : TranslationUnit) (plan : List Kept) (a : Statement) (r : RegisterTable) → Begins (after_statement p plan a r).kinds ts → Keeps r (after_statement p plan a r)
+    statement_keeps p plan (Empty at) r b x g h = h
+    statement_keeps p plan (Eval at e) r b x g h = h
+    statement_keeps p plan (Block at body) r b x g h =
         let inside = entered (declared_in body) r in
-        items_keep p body inside b x g (entered_keep x g (declared_in body) r (begins_then inside.kinds (after_items p body inside).kinds ts (items_begin p body inside) b) h)
-    statement_keeps p (If at e a c) r b x g h =
+        items_keep p plan body inside b x g (entered_keep x g (declared_in body) r (begins_then inside.kinds (after_items p plan body inside).kinds ts (items_begin p plan body inside) b) h)
+    statement_keeps p plan (If at e a c) r b x g h =
         let y = with_kinds (takes p e) r in
-        let z = after_statement p a y in
-        else_keeps p c z b x g (statement_keeps p a y (begins_then z.kinds (after_else p c z).kinds ts (else_begins p c z) b) x g h)
-    statement_keeps p (While at annots e a) r b x g h = statement_keeps p a (with_kinds (takes p e) r) b x g h
-    statement_keeps p (Do at a e) r b x g h = statement_keeps p a r (begins_front (after_statement p a r).kinds (takes p e) ts b) x g h
-    statement_keeps p (For at annots first e behind a) r b x g h =
+        let z = after_statement p plan a y in
+        else_keeps p plan c z b x g (statement_keeps p plan a y (begins_then z.kinds (after_else p plan c z).kinds ts (else_begins p plan c z) b) x g h)
+    statement_keeps p plan (While at annots e a) r b x g h = statement_keeps p plan a (with_kinds (takes p e) r) b x g h
+    statement_keeps p plan (Do at a e) r b x g h = statement_keeps p plan a r (begins_front (after_statement p plan a r).kinds (takes p e) ts b) x g h
+    statement_keeps p plan (For at annots first e behind a) r b x g h =
         let own = declared_first first in
         let y = entered own r in
-        let z = after_first p first y in
+        let z = after_first p plan first y in
         let v = with_kinds (any_temporaries (takes p) e) z in
-        let w = after_statement p a v in
+        let w = after_statement p plan a v in
         let last = begins_front w.kinds (any_temporaries (act_takes p) behind) ts b in
-        let third = begins_then v.kinds w.kinds ts (statement_begins p a v) last in
+        let third = begins_then v.kinds w.kinds ts (statement_begins p plan a v) last in
         let second = begins_front z.kinds (any_temporaries (takes p) e) ts third in
-        let one = begins_then y.kinds z.kinds ts (first_begins p first y) second in
-        statement_keeps p a v last x g (first_keeps p first y second x g (entered_keep x g own r one h))
-    statement_keeps p (Break at) r b x g h = h
-    statement_keeps p (Continue at) r b x g h = h
-    statement_keeps p (Return at e) r b x g h = h
-    statement_keeps p (Labelled at l a) r b x g h = h
-    statement_keeps p (Switch at e cases) r b x g h = cases_keep p cases (with_kinds (switch_temporaries p e) r) b x g h
+        let one = begins_then y.kinds z.kinds ts (first_begins p plan first y) second in
+        statement_keeps p plan a v last x g (first_keeps p plan first y second x g (entered_keep x g own r one h))
+    statement_keeps p plan (Break at) r b x g h = h
+    statement_keeps p plan (Continue at) r b x g h = h
+    statement_keeps p plan (Return at e) r b x g h = h
+    statement_keeps p plan (Labelled at l a) r b x g h = statement_keeps p plan a (passed_label p plan (Some l) r) b x g h
+    statement_keeps p plan (Switch at e cases) r b x g h = cases_keep p plan cases (with_kinds (switch_temporaries p e) r) b x g h
 
-    pub cases_keep : (p : TranslationUnit) (cs : Cases) (r : RegisterTable) → Begins (after_cases p cs r).kinds ts → Keeps r (after_cases p cs r)
-    cases_keep p NoCase r b x g h = h
-    cases_keep p (AnotherCase at v body rest) r b x g h =
-        let y = after_items p body r in
-        cases_keep p rest y b x g (items_keep p body r (begins_then y.kinds (after_cases p rest y).kinds ts (cases_begin p rest y) b) x g h)
+    pub cases_keep : (p : TranslationUnit) (plan : List Kept) (cs : Cases) (r : RegisterTable) → Begins (after_cases p plan cs r).kinds ts → Keeps r (after_cases p plan cs r)
+    cases_keep p plan NoCase r b x g h = h
+    cases_keep p plan (AnotherCase at v body rest) r b x g h =
+        let y = after_items p plan body r in
+        cases_keep p plan rest y b x g (items_keep p plan body r (begins_then y.kinds (after_cases p plan rest y).kinds ts (cases_begin p plan rest y) b) x g h)
 
-    pub else_keeps : (p : TranslationUnit) (c : ElsePart) (r : RegisterTable) → Begins (after_else p c r).kinds ts → Keeps r (after_else p c r)
-    else_keeps p NoElse r b x g h = h
-    else_keeps p (Else a) r b x g h = statement_keeps p a r b x g h
+    pub else_keeps : (p : TranslationUnit) (plan : List Kept) (c : ElsePart) (r : RegisterTable) → Begins (after_else p plan c r).kinds ts → Keeps r (after_else p plan c r)
+    else_keeps p plan NoElse r b x g h = h
+    else_keeps p plan (Else a) r b x g h = statement_keeps p plan a r b x g h
 
-    pub first_keeps : (p : TranslationUnit) (first : ForFirst) (r : RegisterTable) → Begins (after_first p first r).kinds ts → Keeps r (after_first p first r)
-    first_keeps p NoFirst r b x g h = h
-    first_keeps p (First i) r b x g h = item_keeps p i r b x g h
+    pub first_keeps : (p : TranslationUnit) (plan : List Kept) (first : ForFirst) (r : RegisterTable) → Begins (after_first p plan first r).kinds ts → Keeps r (after_first p plan first r)
+    first_keeps p plan NoFirst r b x g h = h
+    first_keeps p plan (First i) r b x g h = item_keeps p plan i r b x g h
 
-    pub item_keeps : (p : TranslationUnit) (i : BlockItem) (r : RegisterTable) → Begins (after_item p i r).kinds ts → Keeps r (after_item p i r)
-    item_keeps p (Declare ds) r b x g h = h
-    item_keeps p (Specify at t) r b x g h = h
-    item_keeps p (Run a) r b x g h = statement_keeps p a r b x g h
-    item_keeps p (Asserts annots) r b x g h = h
+    pub item_keeps : (p : TranslationUnit) (plan : List Kept) (i : BlockItem) (r : RegisterTable) → Begins (after_item p plan i r).kinds ts → Keeps r (after_item p plan i r)
+    item_keeps p plan (Declare ds) r b x g h = h
+    item_keeps p plan (Specify at t) r b x g h = h
+    item_keeps p plan (Run a) r b x g h = statement_keeps p plan a r b x g h
+    item_keeps p plan (Asserts annots) r b x g h = h
 
-    pub items_keep : (p : TranslationUnit) (is : BlockItems) (r : RegisterTable) → Begins (after_items p is r).kinds ts → Keeps r (after_items p is r)
-    items_keep p NoItem r b x g h = h
-    items_keep p (Then i rest) r b x g h =
-        let y = after_item p i r in
-        items_keep p rest y b x g (item_keeps p i r (begins_then y.kinds (after_items p rest y).kinds ts (items_begin p rest y) b) x g h)
+    pub items_keep : (p : TranslationUnit) (plan : List Kept) (is : BlockItems) (r : RegisterTable) → Begins (after_items p plan is r).kinds ts → Keeps r (after_items p plan is r)
+    items_keep p plan NoItem r b x g h = h
+    items_keep p plan (Then i rest) r b x g h =
+        let y = after_item p plan i r in
+        items_keep p plan rest y b x g (item_keeps p plan i r (begins_then y.kinds (after_items p plan rest y).kinds ts (items_begin p plan rest y) b) x g h)
 
 -- ---- these registers point to blocks
 

@@ -15,14 +15,15 @@ use Rattle.c_model.specs.UnitTyping.{main_fault, room_fault, with_parameters}
 use Rattle.c_model.specs.TypedPrograms.{AreLaidOut}
 use Rattle.mon_syntax.specs.Valid.{Types}
 use Rattle.instrument.proofs.FormedTrees.{InitialFormed, ItemsFormed}
-use Rattle.c_model.specs.TypedTrees.{WhereAny, Initialises, AreParameters, ItemsTyped, around_body}
+use Rattle.c_model.specs.TypedTrees.{WhereAny, Initialises, AreParameters, IsResult, ItemsTyped, around_body}
 use Rattle.c_model.specs.ReadTree.{TextsAreBytes}
 use Rattle.c_model.specs.AcceptedPrograms.{AreDefined}
-use Rattle.c_model.specs.TypedAnnotations.{ItemsNoted}
 use Rattle.c_initialisers.specs.Letters.{InitialiserHasLetters}
-use Rattle.instrument.specs.Limits.{HaveNumbers}
+use Rattle.instrument.specs.Limits.{ContractHasNumbers, HaveNumbers}
 use Rattle.c_effects.specs.Expressions.{global_index}
-use Rattle.instrument.specs.Translation.{registers_of_body, after_body, index_of_main, front_temporaries}
+use Rattle.instrument.specs.Translation.{all_kinds, first_flag, index_of_main, front_temporaries}
+use Rattle.instrument.proofs.Annotated.{IsAnnotated}
+use Rattle.instrument.proofs.Keepable.{IsPlanned}
 use Rattle.instrument.proofs.Own.{AreOwn, ItemsOwn}
 
 -- whether a number is that of a global
@@ -31,7 +32,7 @@ is_global p x = nat_lt (global_index x p.globals) (length p.globals)
 
 -- the types of all registers of a function
 abbrev pub kinds : TranslationUnit → Types → Function → Types
-kinds p front f = (after_body p f.body (registers_of_body front f)).kinds
+kinds p front f = all_kinds p front f f.contract
 
 -- ---- programs
 
@@ -70,9 +71,13 @@ pub record DefinitionTyped (p : TranslationUnit) (front : Types) (f : Function) 
   pub formed : ItemsFormed p.structs items
   pub shallow : form.depth (Block place items) ≤ 201
   pub typed : ItemsTyped (with_parameters (inner sight) f.params) (around_body f.result) items
-  pub noted : ItemsNoted (with_parameters (inner sight) f.params) items
+  pub planned : IsPlanned p f (with_parameters (inner sight) f.params) items
   pub numbers : ItemsOwn items
   pub letters : HaveNumbers items
+  -- what it gives, and its contract
+  pub gives : IsResult f.result
+  pub annotated : IsAnnotated p f
+  pub clauses : ContractHasNumbers (first_flag f) f.contract
   pub few : length (kinds p front f) < 2 ^ 32
 
 abbrev pub DefinitionsTyped : TranslationUnit → ℕ → ℕ → List Function → Type 0

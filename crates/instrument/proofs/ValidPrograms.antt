@@ -1,19 +1,25 @@
 -- The translation of a typed program is valid: its globals, and its functions, each with a name of its own, one of which is `main`.
 pub use Rattle.instrument.proofs.TypedDefinitions.{IsFileSight, GlobalTyped, GlobalsTyped, DefinitionTyped, DefinitionsTyped, IsTypedProgram}
-use Rattle.std.proofs.Common.{◌≡◌, ℕ, suc, ◌+◌, ◌<◌, ◌≤◌, Bool, true, false, cond, if◌then◌else◌, ◌&&◌, ◌*◌, nat_eq, List, [], ◌∷◌, ◌++◌, length, Option, Some, None, slice_get, append_assoc, refl, sym, ap, ◌∙◌, subst, arith}
+use Rattle.std.proofs.Common.{◌≡◌, ℕ, suc, ◌+◌, ◌<◌, ◌≤◌, Bool, true, false, cond, if◌then◌else◌, ◌&&◌, ◌*◌, nat_eq, List, [], ◌∷◌, ◌++◌, length, Option, Some, None, slice_get, append_assoc, refl, sym, ap, ◌∙◌, subst, arith, inl, inr, pos}
 use Rattle.std.proofs.lemmas.List.{length-append}
 use Rattle.std.proofs.lemmas.Bool.Decides.{nat_tests}
 use Rattle.std.proofs.lemmas.Bool.{eq-eqb}
 use Rattle.std.proofs.Math.Nat.{max-le}
 use Rattle.std.specs.Prelude.{bytes_eq, codes}
 use Rattle.c_syntax.specs.declared.place.Place.{Place}
+use Rattle.c_syntax.specs.declared.expression.Use.{Use}
 use Rattle.c_syntax.specs.declared.types.CInt.{CInt}
 use Rattle.c_syntax.specs.declared.types.CInt.TheVariants as c
 use Rattle.c_syntax.specs.Ctypes.{PlainType, Int, int_type}
 use Rattle.c_syntax.specs.Statements.{Initialiser, Declaration, Block}
-use Rattle.c_syntax.specs.Programs.{Function, TranslationUnit}
+use Rattle.c_syntax.specs.Programs.{FunctionContract, Function, TranslationUnit}
 use Rattle.c_syntax.specs.Layouts.{size_of}
-use Rattle.c_model.specs.Formed.{FunctionNamed, number_of}
+use Rattle.c_model.specs.AnnotationRanges.{seen_result}
+use Rattle.c_model.specs.ContractChecks.{entry_checks, leave_checks}
+use Rattle.c_model.specs.Formed.{FunctionNamed, IsShortClause, number_of}
+use Rattle.c_model.specs.FormedContracts.{ContractFormed, MaybeFormed}
+use Rattle.c_model.specs.TypedAnnotations.{ContractStands}
+use Rattle.c_model.specs.UnrangedPrograms.{ContractRanged}
 use Rattle.c_model.specs.Library.{is_library_name}
 use Rattle.c_model.specs.Meaning.{is_definition, declared_in, definition_at}
 use Rattle.c_model.specs.ExpressionTyping.{name_at}
@@ -26,33 +32,50 @@ use Rattle.mon_syntax.specs.Registers.{RegisterTable, with_kinds, no_registers, 
 use Rattle.mon_syntax.specs.Trees.{MonStatements, MonitoredGlobal}
 use Rattle.mon_syntax.specs.Globals.{globals_taken}
 use Rattle.mon_syntax.specs.Trees as tree
-use Rattle.mon_syntax.specs.Valid.{Types, Labels, Signature, IsExpression, AreStatements, IsFunction, AreFunctions, IsValid, has_label, depth_of_all, types_of}
+use Rattle.mon_syntax.specs.Valid.{Types, HasType, Labels, Signature, IsExpression, AreStatements, IsFunction, AreFunctions, IsValid, has_label, depth_of_all, types_of}
 use Rattle.mon_syntax.specs.Names.{IsFreeName}
 use Rattle.c_model.specs.Sizes.{most_forms}
 use Rattle.instrument.proofs.FormedTrees.{InitialFormed}
 use Rattle.c_model.specs.AcceptedPrograms.{AreDefined}
-use Rattle.c_model.specs.TypedTrees.{WhereAny, IsScalar, Initialises, AreParameters, around_body}
+use Rattle.c_model.specs.TypedTrees.{WhereAny, Denotes, IsScalar, Initialises, AreParameters, around_body}
 use Rattle.c_initialisers.specs.Letters.{InitialiserHasLetters}
-use Rattle.track_scopes.specs.Blocks.{entered, deaths, with_born}
-use Rattle.c_effects.specs.Expressions.{value_type, before, set, object_of_global, global_index}
+use Rattle.track_scopes.specs.Blocks.{entered, deaths}
+use Rattle.c_effects.specs.Expressions.{value_type, before, pointer_to, set, object_of_global, global_index}
+use Rattle.c_simulation.specs.Keeping.{Kept, is_pointer_term}
+use Rattle.c_simulation.specs.Labels.{leave_label}
+use Rattle.annot_code.specs.ContractCode.{all_flagged, behind_leave, checks_code, entry_code, flags_from, leave_code}
+use Rattle.annot_code.specs.ContractValidity.{AreFlags, AreValid}
+use Rattle.annot_code.specs.Plan.{Entry, IsIn, in_contract}
+use Rattle.annot_code.specs.Plan.{value_types as entry_types}
+use Rattle.annot_code.specs.Snapshots.{snapshot}
 use Rattle.c_initialisers.specs.Translation.{initial_temporaries, initialise}
-use Rattle.instrument.specs.Translation.{outermost, Spot, value_types, registers_of_body, registers_of, after_body, after_items, with_variables, body_part, parameters, items, code_of, function_name, arguments_from, result_of}
+use Rattle.instrument.specs.Translation.{outermost, Spot, value_types, registers_of, after_body, after_items, with_variables, body_code, body_part, parameters, items, code_of, function_name, arguments_from, result_of}
+use Rattle.instrument.specs.Translation.{all_kinds, at_body, at_brace, at_leave, at_start, behind_pre, first_flag, first_pointer, held_of, last_return, own_types, plan_of, pointers, result_register}
 use Rattle.instrument.specs.Translation.{function_of, functions_from, translated}
 use Rattle.instrument.specs.Translation.{monitored_globals, index_of_main, front, front_temporaries, global_temporaries, all_global_temporaries, initialise_global, initialise_globals}
+use Rattle.annot_code.proofs.ContractValid.{checks_are_valid, snapshots_are_valid}
 use Rattle.annot_code.proofs.Depths.{deep_before}
+use Rattle.annot_code.proofs.SnapshotDepths.{snapshot_deep}
 use Rattle.annot_code.proofs.ValidParts.{before_valid, set_valid}
-use Rattle.annot_code.specs.Validity.{Begins}
-use Rattle.instrument.proofs.Names.{IsNumber, main_is_free, function_is_free, functions_differ}
+use Rattle.annot_code.specs.Validity.{Begins, HasRegisters}
+use Rattle.instrument.proofs.Names.{IsNumber, leave_is_free, main_is_free, function_is_free, functions_differ}
 use Rattle.instrument.proofs.Typed.{begins_left, begins_right, register_at, is_global, Knows, count_of_globals, scalar_is}
 use Rattle.instrument.proofs.LaidOut.{structs_fit}
-use Rattle.instrument.proofs.Tables.{begins_itself, begins_then, entered_begins, items_begin, HavePointers, entered_keep, entered_have, AllPoint, PointFrom, entered_from, point_born}
+use Rattle.instrument.proofs.Tables.{begins_itself, begins_then, items_begin, HavePointers, entered_keep, entered_have, AllPoint, PointFrom, entered_from, point_born}
 use Rattle.instrument.proofs.FullDepths.{deep_set}
 use Rattle.instrument.proofs.ValidCalls.{HaveOwnNames, signatures, calls_valid}
 use Rattle.instrument.proofs.ValidInitialisers.{initialise_valid, deep_initialise}
 use Rattle.instrument.proofs.ValidBlocks.{Sees, AreSmall, sees_one, sees_later, deep_deaths, birth_valid, deaths_valid, alive_valid}
 use Rattle.instrument.proofs.Depths.{deep}
-use Rattle.instrument.proofs.ValidStatements.{items_small, items_valid, outside_all}
-use Rattle.instrument.proofs.ValidRegisters.{AllOf, all_of, not_among, kinds, front_begins, values_begin, function_types, registers_valid, all_globals_valid, room_is}
+use Rattle.instrument.proofs.ValidStatements.{AreAround, inside_contract, items_small, items_valid, outside_all}
+use Rattle.instrument.proofs.ValidAsserts.{pointer_has}
+use Rattle.instrument.proofs.ValidContracts.{are_keepable, entry_checkable, leave_checkable}
+use Rattle.instrument.proofs.ValidResults.{MainGives, deep_flagged, deep_last, flagged_valid, held_has, last_valid, main_gives, own_objects}
+use Rattle.instrument.proofs.Keepable.{AtStart, OwnSight}
+use Rattle.instrument.proofs.KeptRegisters.{PlanTyped, flags_are_typed, kept_registers, plan_is_typed, result_typed}
+use Rattle.instrument.specs.Limits.{ContractHasNumbers}
+use Rattle.instrument.proofs.FullValid.{CallsValid}
+use Rattle.instrument.proofs.ValidRegisters.{AllOf, all_begin, all_of, body_begins, entry_begins, leave_begins, not_among, kinds, front_begins, own_begin, values_begin, function_types, registers_valid, all_globals_valid, room_is}
 use Rattle.instrument.proofs.Starts.{monitored_long}
 use Rattle.instrument.proofs.Own.{AreOwn}
 use Rattle.instrument.proofs.Programs.{no_parameters}
@@ -184,36 +207,31 @@ module _ (p : TranslationUnit) (q : IsTypedProgram p) where
   abbrev m : ℕ
   m = index_of_main p.names p.funcs
 
-  module _ (f : Function) (is_main : Bool) (part : DefinitionTyped p (front_temporaries p is_main) f) where
+  module _ (f : Function) (is_main : Bool) (part : DefinitionTyped p (front_temporaries p is_main) f) (main_gives : is_main ≡ true → f.result ≡ int_type) where
     abbrev fr : Types
     fr = front_temporaries p is_main
 
     abbrev ts : Types
     ts = kinds p fr f
 
+    abbrev plan : List Kept
+    plan = plan_of f
+
     abbrev opens : RegisterTable
-    opens = with_kinds fr (with_kinds (value_types f.params) no_registers)
+    opens = with_kinds (own_types f ++ fr) (with_kinds (value_types f.params) no_registers)
 
-    abbrev r : RegisterTable
-    r = registers_of_body fr f
+    -- where the parameters live, and where the label `Pre` was passed
+    abbrev start : RegisterTable
+    start = at_start p fr f
 
-    abbrev inside : RegisterTable
-    inside = entered (declared_in part.items) r
+    abbrev pre : RegisterTable
+    pre = behind_pre p fr f
 
-    items_are : ts ≡ (after_items p part.items inside).kinds
-    items_are = ap (λ b. (after_body p b r).kinds) part.is
-
-    within_items : Begins (after_items p part.items inside).kinds ts
-    within_items = subst (Begins (after_items p part.items inside).kinds) (sym items_are) (begins_itself (after_items p part.items inside).kinds)
-
-    born : Begins inside.kinds ts
-    born = begins_then inside.kinds (after_items p part.items inside).kinds ts (items_begin p part.items inside) within_items
-
-    begun : Begins r.kinds ts
-    begun = begins_then r.kinds inside.kinds ts (entered_begins (declared_in part.items) r) born
+    begun : Begins start.kinds ts
+    begun = all_begin p fr f f.contract
 
     abbrev first : ℕ
-    first = length (value_types f.params ++ fr)
+    first = first_pointer p fr f
 
     points : PointFrom ts first f.params
     points = entered_from ts f.params opens begun
@@ -221,19 +239,22 @@ module _ (p : TranslationUnit) (q : IsTypedProgram p) where
     small : AreSmall p.structs f.params
     small = parameters_small p (inner part.sight) f.params part.params
 
+    planned : PlanTyped ts plan
+    planned = plan_is_typed ts f (own_begin p fr f)
+
     -- each parameter that has a name is in sight
-    sees_parameters : (ds : List Declaration) (s : Sight) → AreOwn ds → HavePointers ts r.bound ds → Sees p ts r.bound part.sight.functions s → Sees p ts r.bound part.sight.functions (with_parameters s ds)
+    sees_parameters : (ds : List Declaration) (s : Sight) → AreOwn ds → HavePointers ts start.bound ds → Sees p ts start.bound part.sight.functions s → Sees p ts start.bound part.sight.functions (with_parameters s ds)
     sees_parameters [] s o h v = v
     sees_parameters (d ∷ ds) s o h v = sees_parameters ds (with_parameter s d) o.1 h.1 (by d.named)
       where
-        by : (b : Bool) → Sees p ts r.bound part.sight.functions (cond b (with_object s d) s)
-        by true = sees_one p ts part.sight.functions r.bound s d o.0 h.0 v
+        by : (b : Bool) → Sees p ts start.bound part.sight.functions (cond b (with_object s d) s)
+        by true = sees_one p ts part.sight.functions start.bound s d o.0 h.0 v
         by false = v
 
     abbrev sight : Sight
     sight = with_parameters (inner part.sight) f.params
 
-    sees_file : Sees p ts r.bound part.sight.functions (inner part.sight)
+    sees_file : Sees p ts start.bound part.sight.functions (inner part.sight)
     sees_file = record {
       knows = record {
         sees = λ x b e. let o = part.file.objects x b e in record { own = o.0; has = entered_keep ts b.decl (is_global p b.decl) f.params opens begun o.1 };
@@ -245,83 +266,253 @@ module _ (p : TranslationUnit) (q : IsTypedProgram p) where
       functions_are = refl;
     }
 
-    sees : Sees p ts r.bound part.sight.functions sight
+    sees : Sees p ts start.bound part.sight.functions sight
     sees = sees_parameters f.params (inner part.sight) part.own (entered_have ts f.params opens begun) sees_file
 
     abbrev live : List ℕ
-    live = with_born first f.params []
+    live = pointers p fr f
 
     live_point : AllPoint ts live
     live_point = point_born ts first f.params [] points tt
 
-    abbrev spot : Spot
-    spot = outermost live
+    abbrev AreIn : Labels → MonStatements → Type 0
+    AreIn ls a = AreStatements (count_of_globals p) gs ts (result_of f.result) ls a
 
     abbrev Are : MonStatements → Type 0
-    Are a = AreStatements (count_of_globals p) gs ts (result_of f.result) [] a
+    Are a = AreIn [] a
 
-    block_valid : Are (body_part p live r (Some (Block part.place part.items)))
-    block_valid =
-        let own = declared_in part.items in
-        let deeper = with_variables (next_register r) own spot in
-        let shallow = part.shallow in
-        alive_valid (count_of_globals p) gs ts (result_of f.result) [] p (next_register r) own (items p deeper inside part.items)
-        (items_small p gs ts f.result part.sight.functions (λ s names literals seen. calls_valid p own_names q.texts ts s names literals (subst (AreDefined p) (sym seen) part.file.functions)) (structs_fit p.structs q.structs) q.texts part.items sight
-        (around_body f.result) sees.knows.structs_are part.typed) (entered_from ts own r born)
-        (items_valid p gs ts f.result part.sight.functions (λ s names literals seen. calls_valid p own_names q.texts ts s names literals (subst (AreDefined p) (sym seen) part.file.functions)) (structs_fit p.structs q.structs) q.texts
-        part.items sight (around_body f.result) [] deeper
-        (record { inside = point_born ts (next_register r) own live (entered_from ts own r born) live_point; between = tt; outside = tt })
-        inside (sees_later p ts part.sight.functions r inside sight (λ x g h. entered_keep ts x g own r born h) sees) refl (outside_all 0) (entered_have ts own r born) part.formed part.typed part.noted part.numbers part.letters
-        (omega (arith, shallow)) within_items)
+    and_then : (ls : Labels) (a b : MonStatements) → AreIn ls a → AreIn ls b → AreIn ls (before a b)
+    and_then ls a b h k = before_valid (count_of_globals p) gs ts (result_of f.result) ls a b h k
 
-    code_valid : Are (code_of p fr f)
-    code_valid =
-        let whole = body_part p live r f.body in
-        before_valid (count_of_globals p) gs ts (result_of f.result) [] (parameters p first 0 f.params) (before whole (deaths live))
-        (parameters_valid p gs ts (result_of f.result) [] first 0 f.params small points (hold_from ts [] f.params (values_begin p fr f)))
-        (before_valid (count_of_globals p) gs ts (result_of f.result) [] whole (deaths live) (subst (λ b. Are (body_part p live r b)) (sym part.is) block_valid) (deaths_valid (count_of_globals p) gs ts (result_of f.result) [] live live_point))
+    -- ---- the body, in front of which these registers are taken
 
-    front_valid : (b : Bool) → Begins (value_types f.params ++ front_temporaries p b) ts → Are (front p b f.params)
-    front_valid false h = tt
-    front_valid true h = globals_valid ts (result_of f.result) (value_types f.params) [] p.globals refl q.globals h
+    module _ (out : Option ℕ) (ls : Labels) (inside : List ℕ) (r : RegisterTable) (around : AreAround out ls 0 0 false false) (register : (x : ℕ) → out ≡ Some x → slice_get ts x ≡ Some (value_type f.result)) (point : AllPoint ts inside)
+        (v : Sees p ts r.bound part.sight.functions sight) where
+      abbrev spot : Spot
+      spot = outermost out inside
 
-    whole_valid : Are (before (front p is_main f.params) (code_of p fr f))
-    whole_valid = before_valid (count_of_globals p) gs ts (result_of f.result) [] (front p is_main f.params) (code_of p fr f) (front_valid is_main (front_begins p fr f)) code_valid
+      called : (s : Sight) → s.names ≡ p.names → s.texts ≡ p.texts → s.functions ≡ part.sight.functions → CallsValid p gs ts s
+      called s names literals seen = calls_valid p own_names q.texts ts s names literals (subst (AreDefined p) (sym seen) part.file.functions)
 
-    deep_body : depth_of_all (body_part p live r f.body) ≤ 1805
-    deep_body =
-        subst (λ b. depth_of_all (body_part p live r b) ≤ 1805) (sym part.is)
-        (let d = deep p spot r (Block part.place part.items) part.formed in let shallow = part.shallow in omega (arith, d, shallow))
+      block_valid : Begins (after_body p plan (Some (Block part.place part.items)) r).kinds ts → AreIn ls (body_part p plan out inside r (Some (Block part.place part.items)))
+      block_valid within =
+          let own = declared_in part.items in
+          let deeper = with_variables (next_register r) own spot in
+          let begins = entered own r in
+          let shallow = part.shallow in
+          let born = begins_then begins.kinds (after_items p plan part.items begins).kinds ts (items_begin p plan part.items begins) within in
+          alive_valid (count_of_globals p) gs ts (result_of f.result) ls p (next_register r) own (items p plan deeper begins part.items)
+          (items_small p plan gs ts f.result out part.sight.functions called (structs_fit p.structs q.structs) q.texts planned register part.items sight (around_body f.result) v.knows.structs_are part.typed) (entered_from ts own r born)
+          (items_valid p plan gs ts f.result out part.sight.functions called (structs_fit p.structs q.structs) q.texts planned register part.items sight (around_body f.result) ls deeper
+          (record { inside = point_born ts (next_register r) own inside (entered_from ts own r born) point; between = tt; outside = tt; result_is = refl })
+          begins (sees_later p ts part.sight.functions r begins sight (λ x g h. entered_keep ts x g own r born h) v) refl around (entered_have ts own r born) part.formed part.typed part.planned.body part.numbers part.letters
+          (omega (arith, shallow)) within)
 
-    deep_code : depth_of_all (code_of p fr f) ≤ 1805
-    deep_code =
-        let whole = body_part p live r f.body in
-        let x = deep_parameters p first 0 f.params in
+      body_valid : Begins (after_body p plan f.body r).kinds ts → AreIn ls (body_part p plan out inside r f.body)
+      body_valid within =
+          subst (λ b. AreIn ls (body_part p plan out inside r b)) (sym part.is) (block_valid (subst (λ b. Begins (after_body p plan b r).kinds ts) part.is within))
+
+      deep_body : depth_of_all (body_part p plan out inside r f.body) ≤ 1804
+      deep_body =
+          subst (λ b. depth_of_all (body_part p plan out inside r b) ≤ 1804) (sym part.is)
+          (let d = deep p plan part.planned.short spot r (Block part.place part.items) part.formed in let shallow = part.shallow in omega (arith, d, shallow))
+
+    -- ---- the label `Pre`
+
+    own_sight : (v : Sight) → OwnSight p f v → (x : Use) (t : PlainType) → Denotes v x t → HasType (count_of_globals p) ts (pointer_to p start.bound x.decl) Ptr
+    own_sight v own x t d = own_objects p f ts opens (λ x. refl) begun sight sees.knows v own x t d
+
+    start_objects : (v : Sight) → AtStart p f sight v → (x : Use) (t : PlainType) → Denotes v x t → HasType (count_of_globals p) ts (pointer_to p start.bound x.decl) Ptr
+    start_objects v (inl e) x t d = pointer_has p ts start.bound sight sees.knows x t (subst (λ u. Denotes u x t) e d)
+    start_objects v (inr own) x t d = own_sight v own x t d
+
+    pre_valid : Begins pre.kinds ts → Are (snapshot p start.bound None start.kinds plan)
+    pre_valid b =
+        (snapshots_are_valid p start.bound (count_of_globals p) gs ts (result_of f.result) [] None plan start.kinds
+        (are_keepable p start.bound (count_of_globals p) ts (AtStart p f sight) start_objects None plan part.planned.begins planned) b).statements
+
+    -- ---- a contract
+
+    module _ (c : FunctionContract) (is : f.contract ≡ Some c) where
+      abbrev r : ℕ
+      r = result_register f
+
+      abbrev h : ℕ
+      h = first_flag f
+
+      abbrev inside : RegisterTable
+      inside = at_body p fr f c
+
+      own : Begins (value_types f.params ++ own_types f) ts
+      own = own_begin p fr f
+
+      result_there : slice_get ts r ≡ Some (value_type f.result)
+      result_there = result_typed ts f own c is
+
+      flags : AreFlags ts (flags_from h c.behaviors)
+      flags = flags_are_typed ts f own c is
+
+      whole : all_kinds p fr f (Some c) ≡ ts
+      whole = ap (all_kinds p fr f) (sym is)
+
+      within_leave : Begins (at_leave p fr f c) ts
+      within_leave = subst (Begins (at_leave p fr f c)) whole (leave_begins p pre.bound plan (held_of f) h (at_leave p fr f c) c)
+
+      within_entry : Begins inside.kinds ts
+      within_entry = begins_then inside.kinds (at_leave p fr f c) ts (body_begins p plan f.body inside) within_leave
+
+      abbrev stands : ContractStands p f c
+      stands = part.annotated.contract c is
+
+      formed : ContractFormed IsShortClause c
+      formed = subst (MaybeFormed IsShortClause) is part.annotated.formed
+
+      ranged : ContractRanged (seen_result f.result) (Some c)
+      ranged = subst (ContractRanged (seen_result f.result)) is part.annotated.ranged
+
+      numbers : ContractHasNumbers h (Some c)
+      numbers = subst (ContractHasNumbers h) is part.clauses
+
+      objects : (x : Use) (t : PlainType) → Denotes stands.seen x t → HasType (count_of_globals p) ts (pointer_to p start.bound x.decl) Ptr
+      objects = own_sight stands.seen stands.owned
+
+      entry_valid : AreValid (count_of_globals p) gs ts (result_of f.result) [] (checks_code p pre.bound [] [] c.behaviors h None pre.kinds (entry_checks c))
+      entry_valid =
+          checks_are_valid p pre.bound [] [] (seen_result f.result) (count_of_globals p) gs ts (result_of f.result) [] c.behaviors h (entry_checks c) pre.kinds
+          (entry_checkable p f c stands formed (seen_result f.result) ranged.0 ranged.1 h numbers (count_of_globals p) ts pre.bound objects) flags within_entry
+
+      contract_planned : (x : Entry) → IsIn x (in_contract (Some c)) → HasRegisters plan ts x.1 (entry_types (is_pointer_term x.1) x.1)
+      contract_planned x i = kept_registers ts plan planned x (part.planned.contract x (subst (λ o. IsIn x (in_contract o)) (sym is) i))
+
+      leave_valid : AreValid (count_of_globals p) gs ts (result_of f.result) [] (leave_code p pre.bound plan (held_of f) h (at_leave p fr f c) c)
+      leave_valid =
+          checks_are_valid p pre.bound plan (held_of f) (seen_result f.result) (count_of_globals p) gs ts (result_of f.result) [] c.behaviors h (leave_checks c) (at_leave p fr f c)
+          (leave_checkable p f c stands formed (seen_result f.result) ranged.0 ranged.1 h numbers (count_of_globals p) ts pre.bound objects plan (held_of f) (held_has ts r f.result part.gives result_there) contract_planned) flags
+          (subst (λ k. Begins (behind_leave p pre.bound plan (held_of f) h (at_leave p fr f c) c) k) whole (begins_itself (behind_leave p pre.bound plan (held_of f) h (at_leave p fr f c) c)))
+
+      register : (x : ℕ) → Some r ≡ Some x → slice_get ts x ≡ Some (value_type f.result)
+      register x e = let same : r ≡ x = cc in subst (λ x. slice_get ts x ≡ Some (value_type f.result)) same result_there
+
+      brace_valid : (b : Bool) → (b ≡ true → f.result ≡ int_type) → AreIn (leave_label ∷ []) (at_brace p fr f b)
+      brace_valid false gives = tt
+      brace_valid true gives =
+          let there : slice_get ts r ≡ Some I32 = result_there ∙ ap (λ t. Some (value_type t)) (gives refl) in
+          let zero : IsExpression (count_of_globals p) ts (tree.Constant I32 (pos 0)) I32 = record { typed = (refl, refl); within = omega arith } in
+          ((I32, there, zero), tt)
+
+      deep_brace : (b : Bool) → depth_of_all (at_brace p fr f b) ≤ 1
+      deep_brace false = omega arith
+      deep_brace true = omega arith
+
+      abbrev body : MonStatements
+      body = before (body_part p plan (Some r) [] inside f.body) (at_brace p fr f is_main)
+
+      abbrev ending : MonStatements
+      ending = before (deaths live) (last_return r (result_of f.result))
+
+      checked_valid : Are (body_code p fr f is_main (Some c))
+      checked_valid =
+          let leave = leave_code p pre.bound plan (held_of f) h (at_leave p fr f c) c in
+          let entry = entry_code p pre.bound h pre.kinds c in
+          and_then [] entry (tree.Then (tree.Labelled body leave_label) (before leave ending))
+          (and_then [] (all_flagged h c.behaviors) (checks_code p pre.bound [] [] c.behaviors h None pre.kinds (entry_checks c))
+          (flagged_valid (count_of_globals p) gs ts (result_of f.result) [] h c.behaviors flags) entry_valid.statements) (
+            (
+              leave_is_free,
+              refl,
+              and_then (leave_label ∷ []) (body_part p plan (Some r) [] inside f.body) (at_brace p fr f is_main)
+                  (body_valid (Some r) (leave_label ∷ []) [] inside (inside_contract r 0) register tt sees within_leave) (brace_valid is_main main_gives),
+            ),
+            and_then [] leave ending leave_valid.statements
+                (and_then [] (deaths live) (last_return r (result_of f.result)) (deaths_valid (count_of_globals p) gs ts (result_of f.result) [] live live_point)
+                (last_valid (count_of_globals p) gs ts [] r f.result part.gives result_there)),
+          )
+
+      deep_checked : depth_of_all (body_code p fr f is_main (Some c)) ≤ 1805
+      deep_checked =
+          let leave = leave_code p pre.bound plan (held_of f) h (at_leave p fr f c) c in
+          let entry = entry_code p pre.bound h pre.kinds c in
+          let x = deep_body (Some r) (leave_label ∷ []) [] inside (inside_contract r 0) register tt sees in
+          let w = deep_brace is_main in
+          let y = deep_before (body_part p plan (Some r) [] inside f.body) (at_brace p fr f is_main) 1804 x (omega (arith, w)) in
+          let dead = deep_deaths live in
+          let last = deep_last r (result_of f.result) in
+          let z = deep_before (deaths live) (last_return r (result_of f.result)) 1805 (omega (arith, dead)) (omega (arith, last)) in
+          let checks = leave_valid.deep in
+          let asked = entry_valid.deep in
+          let on = deep_flagged h c.behaviors in
+          deep_before entry (tree.Then (tree.Labelled body leave_label) (before leave ending)) 1805
+          (deep_before (all_flagged h c.behaviors) (checks_code p pre.bound [] [] c.behaviors h None pre.kinds (entry_checks c)) 1805 (omega (arith, on)) (omega (arith, asked)))
+          (max-le (omega (arith, y)) (deep_before leave ending 1805 (omega (arith, checks)) z))
+
+    no_register : (x : ℕ) → None ≡ Some x → slice_get ts x ≡ Some (value_type f.result)
+    no_register x e = absurd cc
+
+    -- with a contract, or without one
+    body_code_valid : (o : Option FunctionContract) → f.contract ≡ o → Are (body_code p fr f is_main o)
+    body_code_valid (Some c) is = checked_valid c is
+    body_code_valid None is =
+        let whole = body_part p plan None live pre f.body in
+        and_then [] whole (deaths live)
+        (body_valid None [] live pre (outside_all 0) no_register live_point sees
+        (subst (λ k. Begins (all_kinds p fr f None) k) (ap (all_kinds p fr f) (sym is)) (begins_itself (all_kinds p fr f None))))
+        (deaths_valid (count_of_globals p) gs ts (result_of f.result) [] live live_point)
+
+    deep_body_code : (o : Option FunctionContract) → f.contract ≡ o → depth_of_all (body_code p fr f is_main o) ≤ 1805
+    deep_body_code (Some c) is = deep_checked c is
+    deep_body_code None is =
+        let x = deep_body None [] live pre (outside_all 0) no_register live_point sees in
         let y = deep_deaths live in
-        deep_before (parameters p first 0 f.params) (before whole (deaths live)) 1805 (omega (arith, x)) (deep_before whole (deaths live) 1805 deep_body (omega (arith, y)))
+        deep_before (body_part p plan None live pre f.body) (deaths live) 1805 (omega (arith, x)) (omega (arith, y))
 
-    deep_front : (b : Bool) → depth_of_all (front p b f.params) ≤ 1805
+    pre_begins : (o : Option FunctionContract) → f.contract ≡ o → Begins pre.kinds ts
+    pre_begins None is = subst (λ k. Begins pre.kinds k) (ap (all_kinds p fr f) (sym is)) (body_begins p plan f.body pre)
+    pre_begins (Some c) is = begins_then pre.kinds (inside c is).kinds ts (entry_begins p pre.bound (first_flag f) pre.kinds c) (within_entry c is)
+
+    code_valid : Are (code_of p fr f is_main)
+    code_valid =
+        let kept = snapshot p start.bound None start.kinds plan in
+        let rest = body_code p fr f is_main f.contract in
+        and_then [] (parameters p first 0 f.params) (before kept rest) (parameters_valid p gs ts (result_of f.result) [] first 0 f.params small points (hold_from ts [] f.params (values_begin p fr f)))
+        (and_then [] kept rest (pre_valid (pre_begins f.contract refl)) (body_code_valid f.contract refl))
+
+    front_valid : (b : Bool) → Begins (value_types f.params ++ (own_types f ++ front_temporaries p b)) ts → Are (front p b f)
+    front_valid false h = tt
+    front_valid true h = globals_valid ts (result_of f.result) (value_types f.params ++ own_types f) [] p.globals refl q.globals (begins_right (value_types f.params) (own_types f) (all_global_temporaries p p.globals) ts h)
+
+    whole_valid : Are (before (front p is_main f) (code_of p fr f is_main))
+    whole_valid = and_then [] (front p is_main f) (code_of p fr f is_main) (front_valid is_main (front_begins p fr f)) code_valid
+
+    deep_code : depth_of_all (code_of p fr f is_main) ≤ 1805
+    deep_code =
+        let kept = snapshot p start.bound None start.kinds plan in
+        let rest = body_code p fr f is_main f.contract in
+        let x = deep_parameters p first 0 f.params in
+        let y = snapshot_deep p start.bound None plan part.planned.short start.kinds in
+        deep_before (parameters p first 0 f.params) (before kept rest) 1805 (omega (arith, x)) (deep_before kept rest 1805 (omega (arith, y)) (deep_body_code f.contract refl))
+
+    deep_front : (b : Bool) → depth_of_all (front p b f) ≤ 1805
     deep_front false = omega arith
-    deep_front true = let d = deep_globals p (value_types f.params) p.globals q.globals in omega (arith, d)
+    deep_front true = let d = deep_globals p (value_types f.params ++ own_types f) p.globals q.globals in omega (arith, d)
 
-    deep_whole : depth_of_all (before (front p is_main f.params) (code_of p fr f)) ≤ 1805
-    deep_whole = deep_before (front p is_main f.params) (code_of p fr f) 1805 (deep_front is_main) deep_code
+    deep_whole : depth_of_all (before (front p is_main f) (code_of p fr f is_main)) ≤ 1805
+    deep_whole = deep_before (front p is_main f) (code_of p fr f is_main) 1805 (deep_front is_main) deep_code
 
   name_free : (f : Function) → FunctionNamed p.names f → (k : ℕ) → IsNumber k → (b : Bool) → IsFreeName (if b then codes "main" else function_name k (name_at p.names f.name))
   name_free f named k few true = main_is_free
   name_free f named k few false = function_is_free k (name_at p.names f.name) few named.name.parts
 
-  function_valid : (f : Function) (k : ℕ) → IsNumber k → DefinitionTyped p (front_temporaries p (nat_eq k m)) f → IsFunction (monitored_globals p) gs (function_of p m k f)
-  function_valid f k few part =
+  function_valid : (f : Function) (k : ℕ) → IsNumber k → DefinitionTyped p (front_temporaries p (nat_eq k m)) f → (nat_eq k m ≡ true → f.result ≡ int_type) → IsFunction (monitored_globals p) gs (function_of p m k f)
+  function_valid f k few part gives =
       let b = nat_eq k m in
       let fr = front_temporaries p b in
       let small = part.few in
-      let deep = deep_whole f b part in
+      let deep = deep_whole f b part gives in
       record {
         name = name_free f part.named k few b;
         registers = registers_valid p fr f part.named (omega (arith, small));
-        body = subst (λ n. AreStatements n gs (types_of (arguments_from p.names 0 f.params ++ registers_of p fr f)) (result_of f.result) [] (before (front p b f.params) (code_of p fr f))) (sym (monitored_long p))
-            (subst (λ ts. AreStatements (count_of_globals p) gs ts (result_of f.result) [] (before (front p b f.params) (code_of p fr f))) (sym (function_types p fr f)) (whole_valid f b part));
+        body = subst (λ n. AreStatements n gs (types_of (arguments_from p.names 0 f.params ++ registers_of p fr f)) (result_of f.result) [] (before (front p b f) (code_of p fr f b))) (sym (monitored_long p))
+            (subst (λ ts. AreStatements (count_of_globals p) gs ts (result_of f.result) [] (before (front p b f) (code_of p fr f b))) (sym (function_types p fr f)) (whole_valid f b part gives));
         within = omega (arith, deep);
       }
 
@@ -349,19 +540,19 @@ module _ (p : TranslationUnit) (q : IsTypedProgram p) where
       by true e = let same : k ≡ m = grind (arith, nat_tests) in not_among (codes "main") ws (all_of (Above k) (λ w. bytes_eq (codes "main") w ≡ false) ws (λ w a. a.first (omega (arith, same))) h)
       by false e = not_among (function_name k name) ws (all_of (Above k) (λ w. bytes_eq (function_name k name) w ≡ false) ws (λ w a. a.other k name (omega arith) few) h)
 
-  functions_valid : (fs : List Function) (k : ℕ) (ws : List (List ℕ)) → DefinitionsTyped p m k fs → IsNumber (k + length fs) → AllOf (Above k) ws → AreFunctions (monitored_globals p) gs ws (functions_from p m k fs)
-  functions_valid [] k ws parts few h = tt
-  functions_valid (f ∷ fs) k ws parts few h = by (is_definition f) refl parts.1 (λ j us rest le g. functions_valid fs j us rest le g)
+  functions_valid : (fs : List Function) (k : ℕ) (ws : List (List ℕ)) → DefinitionsTyped p m k fs → MainGives p m k fs → IsNumber (k + length fs) → AllOf (Above k) ws → AreFunctions (monitored_globals p) gs ws (functions_from p m k fs)
+  functions_valid [] k ws parts gives few h = tt
+  functions_valid (f ∷ fs) k ws parts gives few h = by (is_definition f) refl parts.1 gives.1 (λ j us rest given le g. functions_valid fs j us rest given le g)
     where
-      by : (b : Bool) → is_definition f ≡ b → DefinitionsTyped p m (if b then suc k else k) fs
-          → ((j : ℕ) (us : List (List ℕ)) → DefinitionsTyped p m j fs → IsNumber (j + length fs) → AllOf (Above j) us → AreFunctions (monitored_globals p) gs us (functions_from p m j fs))
+      by : (b : Bool) → is_definition f ≡ b → DefinitionsTyped p m (if b then suc k else k) fs → MainGives p m (if b then suc k else k) fs
+          → ((j : ℕ) (us : List (List ℕ)) → DefinitionsTyped p m j fs → MainGives p m j fs → IsNumber (j + length fs) → AllOf (Above j) us → AreFunctions (monitored_globals p) gs us (functions_from p m j fs))
           → AreFunctions (monitored_globals p) gs ws (if b then function_of p m k f ∷ functions_from p m (suc k) fs else functions_from p m k fs)
-      by true e parts2 rest = (
-        function_valid f k (omega (arith, few)) (parts.0 e),
+      by true e parts2 gives2 rest = (
+        function_valid f k (omega (arith, few)) (parts.0 e) (gives.0 e),
         new_name k (name_at p.names f.name) ws (omega (arith, few)) h,
-        rest (suc k) ((function_of p m k f).name ∷ ws) parts2 (omega (arith, few)) (above_this k (name_at p.names f.name) (omega (arith, few)), above_next k ws h),
+        rest (suc k) ((function_of p m k f).name ∷ ws) parts2 gives2 (omega (arith, few)) (above_this k (name_at p.names f.name) (omega (arith, few)), above_next k ws h),
       )
-      by false e parts2 rest = rest k ws parts2 (omega (arith, few)) h
+      by false e parts2 gives2 rest = rest k ws parts2 gives2 (omega (arith, few)) h
 
 -- ---- `main`
 
@@ -434,7 +625,7 @@ translated_valid p q =
     record {
       globals = all_globals_valid p (omega (arith, count)) q.globals_named q.texts;
       room = room_is p q.room;
-      functions = functions_valid p q p.funcs 0 [] q.definitions (omega (arith, few)) tt;
+      functions = functions_valid p q p.funcs 0 [] q.definitions (main_gives p m 0 p.funcs (omega arith) q.main) (omega (arith, few)) tt;
       number = m;
       main = function_of p m (0 + m) f;
       has = first.has;

@@ -1,10 +1,11 @@
 -- The registers of translated functions: their names are free, and each has its own; and their types.
 pub use Rattle.instrument.proofs.TypedDefinitions.{kinds}
-use Rattle.std.proofs.Common.{◌≡◌, ℕ, suc, ◌+◌, ◌<◌, ◌≤◌, ◌^◌, Bool, true, false, ◌||◌, if◌then◌else◌, List, [], ◌∷◌, ◌++◌, length, drop, nat_lt, Option, Some, None, refl, sym, ap, ◌∙◌, subst, arith}
+use Rattle.std.proofs.Common.{◌≡◌, ℕ, suc, ◌+◌, ◌<◌, ◌≤◌, ◌^◌, Bool, true, false, ◌||◌, if◌then◌else◌, List, [], ◌∷◌, ◌++◌, length, drop, nat_lt, Option, Some, None, refl, sym, ap, ◌∙◌, subst, append_assoc, arith}
 use Rattle.std.proofs.lemmas.List.{length-append, length-map, map-append}
 use Rattle.std.specs.Prelude.{bytes_eq}
 use Rattle.c_syntax.specs.Statements.{Declaration, Statement}
-use Rattle.c_syntax.specs.Programs.{Function, TranslationUnit}
+use Rattle.c_syntax.specs.Programs.{FunctionContract, Function, TranslationUnit}
+use Rattle.c_model.specs.ContractChecks.{entry_checks, leave_checks}
 use Rattle.c_model.specs.ExpressionTyping.{name_at}
 use Rattle.std.proofs.lemmas.Bool.Decides.{nat_tests}
 use Rattle.c_model.specs.Limits.{globals_bytes}
@@ -15,19 +16,25 @@ use Rattle.c_model.specs.UnitTyping.{room_fault, room_fault_from, room_with}
 use Rattle.c_model.proofs.StaticObjects.{globals_of, literals_of, globals_are, literals_are}
 use Rattle.c_model.specs.Formed.{AreNamed, IsName, AreNamedParameters, FunctionNamed}
 use Rattle.mon_syntax.specs.declared.tree.MonType.{MonType}
-use Rattle.mon_syntax.specs.Registers.{RegisterTable, no_registers, with_kinds}
+use Rattle.mon_syntax.specs.Registers.{Bindings, RegisterTable, no_registers, with_kinds}
 use Rattle.mon_syntax.specs.Trees.{MonRegister, MonitoredGlobal}
 use Rattle.mon_syntax.specs.Globals.{globals_taken, size_of_global}
 use Rattle.mon_syntax.specs.Valid.{Types, AreRegisters, AreGlobals, names_before, has_label, types_of}
 use Rattle.c_effects.specs.Expressions.{value_type}
-use Rattle.instrument.specs.Translation.{register_name, name_of_register, own_name, value_types, arguments_from, registers_from, registers_of, registers_of_body, after_body, global_name, text_name, monitored_global, globals_with, literals_with}
+use Rattle.instrument.specs.Translation.{register_name, name_of_register, own_name, value_types, arguments_from, registers_from, registers_of, all_kinds, after_body}
+use Rattle.instrument.specs.Translation.{at_leave, at_start, behind_pre, first_flag, held_of, own_types, plan_of, global_name, text_name, monitored_global, globals_with, literals_with}
 use Rattle.instrument.specs.Translation.{monitored_from, monitored_globals}
+use Rattle.instrument.specs.Translation as target
+use Rattle.annot_code.specs.ContractCode.{behind_entry, behind_leave}
+use Rattle.annot_code.specs.Held.{Held}
+use Rattle.annot_code.proofs.CheckPrefixes.{checks_begin}
+use Rattle.c_simulation.specs.Keeping.{Kept}
 use Rattle.instrument.proofs.Names.{IsNumber, AllParts, register_is_free, registers_differ, named_free, named_differ, named_no_value, global_is_free}
 use Rattle.instrument.proofs.Names.{globals_differ, text_is_free, texts_differ, text_no_global, global_no_text, register_no_global, register_no_text, named_no_global, named_no_text}
 use Rattle.instrument.proofs.Typed.{begins_front}
 use Rattle.c_model.specs.ReadTree.{TextsAreBytes}
 use Rattle.annot_code.specs.Validity.{Begins}
-use Rattle.instrument.proofs.Tables.{begins_itself, begins_then, entered_begins, statement_begins}
+use Rattle.instrument.proofs.Tables.{begins_itself, begins_then, entered_begins, label_begins, statement_begins}
 
 -- ---- types of arguments
 
@@ -194,21 +201,44 @@ types_of_registers : (k : ℕ) (ts : Types) → types_of (registers_from k ts) �
 types_of_registers k [] = refl
 types_of_registers k (t ∷ ts) = ap (λ l. t ∷ l) (types_of_registers (suc k) ts)
 
-body_begins : (p : TranslationUnit) (body : Option Statement) (r : RegisterTable) → Begins r.kinds (after_body p body r).kinds
-body_begins p None r = begins_itself r.kinds
-body_begins p (Some a) r = statement_begins p a r
+pub body_begins : (p : TranslationUnit) (plan : List Kept) (body : Option Statement) (r : RegisterTable) → Begins r.kinds (after_body p plan body r).kinds
+body_begins p plan None r = begins_itself r.kinds
+body_begins p plan (Some a) r = statement_begins p plan a r
+
+pub entry_begins : (p : TranslationUnit) (bound : Bindings) (h : ℕ) (rs : Types) (c : FunctionContract) → Begins rs (behind_entry p bound h rs c)
+entry_begins p bound h rs c = let all = behind_entry p bound h rs c in checks_begin all p bound [] [] c.behaviors h (entry_checks c) None rs (begins_itself all)
+
+pub leave_begins : (p : TranslationUnit) (bound : Bindings) (plan : List Kept) (held : List Held) (h : ℕ) (rs : Types) (c : FunctionContract) → Begins rs (behind_leave p bound plan held h rs c)
+leave_begins p bound plan held h rs c = let all = behind_leave p bound plan held h rs c in checks_begin all p bound plan held c.behaviors h (leave_checks c) None rs (begins_itself all)
+
+pub all_begin : (p : TranslationUnit) (front : Types) (f : Function) (o : Option FunctionContract) → Begins (at_start p front f).kinds (all_kinds p front f o)
+all_begin p front f None =
+    begins_then (at_start p front f).kinds (behind_pre p front f).kinds (all_kinds p front f None) (label_begins p (plan_of f) None (at_start p front f)) (body_begins p (plan_of f) f.body (behind_pre p front f))
+all_begin p front f (Some c) =
+    let start = (at_start p front f).kinds in
+    let pre = behind_pre p front f in
+    let inside = target.at_body p front f c in
+    let all = all_kinds p front f (Some c) in
+    begins_then start pre.kinds all (label_begins p (plan_of f) None (at_start p front f))
+    (begins_then pre.kinds inside.kinds all (entry_begins p pre.bound (first_flag f) pre.kinds c)
+    (begins_then inside.kinds (at_leave p front f c) all (body_begins p (plan_of f) f.body inside) (leave_begins p pre.bound (plan_of f) (held_of f) (first_flag f) (at_leave p front f c) c)))
 
 drop_values : (ds : List Declaration) (rest : Types) → drop (length ds) (value_types ds ++ rest) ≡ rest
 drop_values [] rest = refl
 drop_values (d ∷ ds) rest = drop_values ds rest
 
--- those of arguments are the first, and those before the parameters' blocks come next
-pub front_begins : (p : TranslationUnit) (front : Types) (f : Function) → Begins (value_types f.params ++ front) (kinds p front f)
+-- those of arguments are the first, then those of the function's own, and those before the parameters' blocks come next
+pub front_begins : (p : TranslationUnit) (front : Types) (f : Function) → Begins (value_types f.params ++ (own_types f ++ front)) (kinds p front f)
 front_begins p front f =
-    begins_then (value_types f.params ++ front) (registers_of_body front f).kinds (kinds p front f) (entered_begins f.params (with_kinds front (with_kinds (value_types f.params) no_registers))) (body_begins p f.body (registers_of_body front f))
+    begins_then (value_types f.params ++ (own_types f ++ front)) (at_start p front f).kinds (kinds p front f)
+    (entered_begins f.params (with_kinds (own_types f ++ front) (with_kinds (value_types f.params) no_registers))) (all_begin p front f f.contract)
+
+pub own_begin : (p : TranslationUnit) (front : Types) (f : Function) → Begins (value_types f.params ++ own_types f) (kinds p front f)
+own_begin p front f =
+    begins_front (value_types f.params ++ own_types f) front (kinds p front f) (subst (λ ts. Begins ts (kinds p front f)) (sym (append_assoc (value_types f.params) (own_types f) front)) (front_begins p front f))
 
 pub values_begin : (p : TranslationUnit) (front : Types) (f : Function) → Begins (value_types f.params) (kinds p front f)
-values_begin p front f = begins_front (value_types f.params) front (kinds p front f) (front_begins p front f)
+values_begin p front f = begins_front (value_types f.params) (own_types f ++ front) (kinds p front f) (front_begins p front f)
 
 module _ (p : TranslationUnit) (front : Types) (f : Function) where
   others_are : drop (length f.params) (kinds p front f) ≡ (values_begin p front f).rest
@@ -220,6 +250,9 @@ module _ (p : TranslationUnit) (front : Types) (f : Function) where
       ∙ ap (λ l. l ++ types_of (registers_of p front f)) (types_of_arguments p.names 0 f.params)
       ∙ ap (λ l. value_types f.params ++ l) (types_of_registers (length f.params) (drop (length f.params) (kinds p front f)) ∙ others_are)
       ∙ sym (values_begin p front f).is
+
+  pub own_types_are : Begins (value_types f.params ++ own_types f) (types_of (arguments_from p.names 0 f.params ++ registers_of p front f))
+  own_types_are = subst (Begins (value_types f.params ++ own_types f)) (sym function_types) (own_begin p front f)
 
   pub registers_valid : FunctionNamed p.names f → length (kinds p front f) < 2 ^ 64 → AreRegisters (names_before [] (monitored_globals p)) (arguments_from p.names 0 f.params ++ registers_of p front f)
   registers_valid named few =

@@ -24,32 +24,39 @@ use Rattle.mon_syntax.specs.declared.tree.MonOp.TheVariants.{Eq}
 use Rattle.mon_syntax.specs.declared.tree.MonType.TheVariants.{U64}
 use Rattle.mon_syntax.specs.Valid.{Types, Labels, Signature, IsExpression, IsStatement, AreStatements, ReturnsResult, has_constant, has_operator, second_type, has_label, has_no_step}
 use Rattle.instrument.proofs.FormedTrees.{IsFull, AreInitialised, FirstFormed, StatementFormed, CasesFormed, ElseFormed, ItemsFormed}
-use Rattle.c_model.specs.TypedTrees.{WhereAny, IsScalar, WellTyped, IsCondition, AreDeclared, Returned, StatementTyped, CasesTyped, ElseTyped, ItemsTyped, FirstTyped, IsCaseValue}
-use Rattle.c_model.specs.TypedAnnotations.{StatementNoted, CasesNoted, ElseNoted, ItemsNoted}
+use Rattle.c_model.specs.TypedTrees.{WhereAny, IsScalar, WellTyped, IsCondition, AreDeclared, Returned, StatementTyped, CasesTyped, ElseTyped, ItemsTyped, FirstTyped, IsCaseValue, Denotes}
 use Rattle.track_scopes.specs.Blocks.{entered, deaths}
 use Rattle.c_initialisers.specs.Letters.{InitialsHaveLetters}
 use Rattle.c_effects.specs.Letters.{Any, ActHasLetters, ValueHasLetters}
 use Rattle.instrument.specs.Limits.{HasNumbers, CasesHaveNumbers, ElseHasNumbers, FirstHasNumbers, HaveNumbers}
 use Rattle.c_effects.specs.Expressions.{register_type, value_type, before, one, set}
 use Rattle.annot_code.specs.Code.{assertions}
+use Rattle.annot_code.specs.Snapshots.{snapshot}
 use Rattle.c_initialisers.specs.Translation.{initial_temporaries, declaration_temporaries, initialise, initialise_all, initialise_local, may_be_born}
 use Rattle.c_effects.specs.Effects.{block_of, any_temporaries}
 use Rattle.c_effects.specs.Full.{act, act_takes, condition_result, prepare, takes}
 use Rattle.c_effects.specs.Full as full
+use Rattle.instrument.specs.Translation.{given_register, leaving, passed_label, way_out}
 use Rattle.instrument.specs.Translation.{Spot, leave_where_zero, returned_temporaries, switch_temporaries, returned, loop, with_variables, after_statement, after_cases, after_else, after_first, after_item, after_items, statement}
 use Rattle.instrument.specs.Translation.{act_if_any, test, test_if_any, case_label, test_case, tests_of_cases, search, where_reached, others_in_block, next_cases, blocks_of_cases}
-use Rattle.c_simulation.specs.Labels.{end_label, next_label}
+use Rattle.c_simulation.specs.Keeping.{Kept}
+use Rattle.c_simulation.specs.Labels.{end_label, next_label, leave_label}
 use Rattle.instrument.specs.Translation.{else_part, first_part, items, result_of}
 use Rattle.instrument.specs.Translation as target
 use Rattle.instrument.proofs.Names.{IsNumber, end_is_free, next_is_free, case_is_free, ends_differ, nexts_differ, same_bytes}
-use Rattle.instrument.proofs.Typed.{small_constant, index_constant, begins_left, begins_right, begins_front, register_at, count_of_globals, block_points, known_small}
+use Rattle.instrument.proofs.Typed.{Knows, small_constant, index_constant, begins_left, begins_right, begins_front, register_at, count_of_globals, block_points, known_small}
 use Rattle.instrument.proofs.Tables.{begins_then, statement_begins, cases_begin, else_begins, first_begins, items_begin, HavePointers, pointers_front, pointers_back, pointers_kept, entered_keep, entered_have, statement_keeps, items_keep}
 use Rattle.instrument.proofs.Tables.{first_keeps, AllPoint, point_both}
 use Rattle.instrument.proofs.Tables.{entered_from, point_born}
-use Rattle.instrument.proofs.ValidAsserts.{assertions_valid}
+use Rattle.instrument.proofs.ValidAsserts.{assertions_valid, pointer_has}
+use Rattle.instrument.proofs.ValidContracts.{are_keepable}
+use Rattle.instrument.proofs.Keepable.{AssertsWritable, LabelKeepable}
+use Rattle.instrument.proofs.KeptRegisters.{PlanTyped, kept_registers}
+use Rattle.instrument.proofs.Throughout.{Throughout, ThroughoutCases, ThroughoutElse, ThroughoutItems}
 use Rattle.instrument.proofs.FullValid.{CallsValid, HasValue, act_valid, condition_valid, full_valid, prepare_valid, result_scalar}
 use Rattle.instrument.proofs.Parts.{StructsFit}
 use Rattle.c_model.specs.ReadTree.{TextsAreBytes}
+use Rattle.annot_code.proofs.ContractValid.{snapshots_are_valid}
 use Rattle.annot_code.proofs.ValidParts.{before_valid}
 use Rattle.annot_code.specs.Validity.{Begins}
 use Rattle.instrument.proofs.ValidInitialisers.{initialise_valid, initial_letters}
@@ -64,23 +71,36 @@ neither a b h k = ap (λ x. x || b) h ∙ k
 
 -- The labels of the bodies around a statement, as many loops and switches stand around it, of which the innermost loop has this number: those farther
 -- inside have others, and a `break` and a `continue` find theirs, where they may stand.
-pub record AreAround (ls : Labels) (levels innermost : ℕ) (breaks loops : Bool) : Type 0 where
+pub record AreAround (out : Option ℕ) (ls : Labels) (levels innermost : ℕ) (breaks loops : Bool) : Type 0 where
   pub new_end : (m : ℕ) → levels < m → IsNumber m → has_label ls (end_label m) ≡ false
   pub new_next : (m : ℕ) → levels < m → IsNumber m → has_label ls (next_label m) ≡ false
   pub no_case : (m : ℕ) → has_label ls (case_label m) ≡ false
   pub end_among : breaks ≡ true → has_label ls (end_label levels) ≡ true
   pub next_among : loops ≡ true → has_label ls (next_label innermost) ≡ true
+  pub out_among : (r : ℕ) → out ≡ Some r → has_label ls leave_label ≡ true
 
-pub outside_all : (innermost : ℕ) → AreAround [] 0 innermost false false
+pub outside_all : (innermost : ℕ) → AreAround None [] 0 innermost false false
 outside_all innermost = record {
   new_end = λ m lt le. refl;
   new_next = λ m lt le. refl;
   no_case = λ m. refl;
   end_among = λ e. absurd cc;
   next_among = λ e. absurd cc;
+  out_among = λ r e. absurd cc;
 }
 
-module _ (ls : Labels) (levels innermost : ℕ) (breaks loops : Bool) (h : AreAround ls levels innermost breaks loops) where
+-- in front of the end of a body behind which a contract is checked
+pub inside_contract : (r innermost : ℕ) → AreAround (Some r) (leave_label ∷ []) 0 innermost false false
+inside_contract r innermost = record {
+  new_end = λ m lt le. refl;
+  new_next = λ m lt le. refl;
+  no_case = λ m. refl;
+  end_among = λ e. absurd cc;
+  next_among = λ e. absurd cc;
+  out_among = λ r e. refl;
+}
+
+module _ (out : Option ℕ) (ls : Labels) (levels innermost : ℕ) (breaks loops : Bool) (h : AreAround out ls levels innermost breaks loops) where
   abbrev inner_level : ℕ
   inner_level = levels + 1
 
@@ -98,7 +118,7 @@ module _ (ls : Labels) (levels innermost : ℕ) (breaks loops : Bool) (h : AreAr
   later_end : (m : ℕ) → inner_level < m → IsNumber m → has_label ended (end_label m) ≡ false
   later_end m lt le = neither (bytes_eq (end_label m) (end_label inner_level)) (has_label ls (end_label m)) (ends_differ m inner_level le (omega (arith, lt, le)) (λ e. omega (arith, e, lt))) (h.new_end m (omega (arith, lt)) le)
 
-  around_body : AreAround in_body inner_level inner_level true true
+  around_body : AreAround out in_body inner_level inner_level true true
   around_body = record {
     new_end = later_end;
     new_next = λ m lt le.
@@ -106,21 +126,24 @@ module _ (ls : Labels) (levels innermost : ℕ) (breaks loops : Bool) (h : AreAr
     no_case = h.no_case;
     end_among = λ t. own_end;
     next_among = λ t. ap (λ b. b || has_label ended (next_label inner_level)) (same_bytes (next_label inner_level));
+    out_among = h.out_among;
   }
 
-  around_items : AreAround ended inner_level innermost true loops
-  around_items = record { new_end = later_end; new_next = λ m lt le. h.new_next m (omega (arith, lt)) le; no_case = h.no_case; end_among = λ t. own_end; next_among = h.next_among }
+  around_items : AreAround out ended inner_level innermost true loops
+  around_items = record { new_end = later_end; new_next = λ m lt le. h.new_next m (omega (arith, lt)) le; no_case = h.no_case; end_among = λ t. own_end; next_among = h.next_among; out_among = h.out_among }
 
 -- ---- statements
 
--- the blocks of the variables that live
-pub record Points (ts : Types) (spot : Spot) : Type 0 where
+-- the blocks of the variables that live, and where a `return` goes
+pub record Points (ts : Types) (out : Option ℕ) (spot : Spot) : Type 0 where
   pub inside : AllPoint ts spot.inside
   pub between : AllPoint ts spot.between
   pub outside : AllPoint ts spot.outside
+  pub result_is : spot.result ≡ out
 
-module _ (p : TranslationUnit) (gs : List Signature) (ts : Types) (result : PlainType) (functions : List Known) (calls : (s : Sight) → s.names ≡ p.names → s.texts ≡ p.texts → s.functions ≡ functions → CallsValid p gs ts s)
-    (fits : StructsFit p.structs) (texts : TextsAreBytes p.texts) where
+module _ (p : TranslationUnit) (plan : List Kept) (gs : List Signature) (ts : Types) (result : PlainType) (out : Option ℕ) (functions : List Known)
+    (calls : (s : Sight) → s.names ≡ p.names → s.texts ≡ p.texts → s.functions ≡ functions → CallsValid p gs ts s)
+    (fits : StructsFit p.structs) (texts : TextsAreBytes p.texts) (planned : PlanTyped ts plan) (given_there : (r : ℕ) → out ≡ Some r → slice_get ts r ≡ Some (value_type result)) where
   abbrev Are : Labels → MonStatements → Type 0
   Are ls a = AreStatements (count_of_globals p) gs ts (result_of result) ls a
 
@@ -186,9 +209,9 @@ module _ (p : TranslationUnit) (gs : List Signature) (ts : Types) (result : Plai
 
   -- ---- loops
 
-  module _ (ls : Labels) (levels innermost : ℕ) (breaks loops : Bool) (h : AreAround ls levels innermost breaks loops) where
-    loop_valid : (front body behind : MonStatements) → IsNumber (levels + 1) → has_no_step front ≡ true → has_no_step behind ≡ true → Are (ended ls levels innermost breaks loops h) front
-        → Are (in_body ls levels innermost breaks loops h) body → Are (ended ls levels innermost breaks loops h) behind → Are ls (one (loop (levels + 1) front body behind))
+  module _ (ls : Labels) (levels innermost : ℕ) (breaks loops : Bool) (h : AreAround out ls levels innermost breaks loops) where
+    loop_valid : (front body behind : MonStatements) → IsNumber (levels + 1) → has_no_step front ≡ true → has_no_step behind ≡ true → Are (ended out ls levels innermost breaks loops h) front
+        → Are (in_body out ls levels innermost breaks loops h) body → Are (ended out ls levels innermost breaks loops h) behind → Are ls (one (loop (levels + 1) front body behind))
     loop_valid front body behind le f g front_valid body_valid behind_valid = (
       (
         end_is_free (levels + 1) le,
@@ -200,14 +223,14 @@ module _ (p : TranslationUnit) (gs : List Signature) (ts : Types) (result : Plai
 
   -- ---- what stands in which variables' lives
 
-  points_with : (spot : Spot) (r : RegisterTable) (ds : List Declaration) → Within (entered ds r) → Points ts spot → Points ts (with_variables (next_register r) ds spot)
-  points_with spot r ds b k = record { inside = point_born ts (next_register r) ds spot.inside (entered_from ts ds r b) k.inside; between = k.between; outside = k.outside }
+  points_with : (spot : Spot) (r : RegisterTable) (ds : List Declaration) → Within (entered ds r) → Points ts out spot → Points ts out (with_variables (next_register r) ds spot)
+  points_with spot r ds b k = record { inside = point_born ts (next_register r) ds spot.inside (entered_from ts ds r b) k.inside; between = k.between; outside = k.outside; result_is = k.result_is }
 
-  points_living : (spot : Spot) → Points ts spot → AllPoint ts (target.all_live spot)
+  points_living : (spot : Spot) → Points ts out spot → AllPoint ts (target.all_live spot)
   points_living spot k = point_both ts spot.inside (spot.between ++ spot.outside) k.inside (point_both ts spot.between spot.outside k.between k.outside)
 
-  points_loop : (spot : Spot) → Points ts spot → Points ts (target.in_loop spot)
-  points_loop spot k = record { inside = tt; between = tt; outside = points_living spot k }
+  points_loop : (spot : Spot) → Points ts out spot → Points ts out (target.in_loop spot)
+  points_loop spot k = record { inside = tt; between = tt; outside = points_living spot k; result_is = k.result_is }
 
   jump_valid : (live : List ℕ) (ls : Labels) (l : List ℕ) → AllPoint ts live → has_label ls l ≡ true → Are ls (before (deaths live) (one (tree.Goto l)))
   jump_valid live ls l point among = and_then ls (deaths live) (one (tree.Goto l)) (deaths_valid (count_of_globals p) gs ts (result_of result) ls live point) (among, tt)
@@ -218,28 +241,46 @@ module _ (p : TranslationUnit) (gs : List Signature) (ts : Types) (result : Plai
       let e : IsExpression (count_of_globals p) ts (tree.Register r) (value_type t) = record { typed = points; within = omega arith } in
       subst (λ t. ReturnsResult (count_of_globals p) ts t (Some (tree.Register r))) (sym (result_scalar t h)) e
 
-  returned_valid : (spot : Spot) (s : Sight) (r : RegisterTable) (v : See r s) (ls : Labels) (e : Option Expression) → Points ts spot → WhereAny (IsFull p.structs) e → Returned s result e → Any ValueHasLetters e
-      → Begins (r.kinds ++ any_temporaries (returned_temporaries p) e) ts → Are ls (returned p spot r e)
-  returned_valid spot s r v ls None k f q l b =
+  -- the way out, where this is given
+  way_out_valid : (spot : Spot) (ls : Labels) (e : Option tree.MonExpression) → Points ts out spot → ((r : ℕ) → out ≡ Some r → has_label ls leave_label ≡ true) → ReturnsResult (count_of_globals p) ts (result_of result) e
+      → Are ls (leaving spot.result (target.all_live spot) e)
+  way_out_valid spot ls e k among h =
       let live = target.all_live spot in
-      and_then ls (deaths live) (one (tree.Return None)) (deaths_valid (count_of_globals p) gs ts (result_of result) ls live (points_living spot k))
-      (subst (λ t. ReturnsResult (count_of_globals p) ts (result_of t) None) (sym q) tt, tt)
-  returned_valid spot s r v ls (Some e) k f q l b =
+      and_then ls (deaths live) (one (way_out spot.result e)) (deaths_valid (count_of_globals p) gs ts (result_of result) ls live (points_living spot k)) (by spot.result k.result_is, tt)
+    where
+      by : (o : Option ℕ) → o ≡ out → IsStatement (count_of_globals p) gs ts (result_of result) ls (way_out o e)
+      by None same = h
+      by (Some r) same = among r (sym same)
+
+  -- the register into which a value goes
+  given_valid : (spot : Spot) (own : ℕ) → Points ts out spot → slice_get ts own ≡ Some (value_type result) → slice_get ts (given_register spot.result own) ≡ Some (value_type result)
+  given_valid spot own k h = by spot.result k.result_is
+    where
+      by : (o : Option ℕ) → o ≡ out → slice_get ts (given_register o own) ≡ Some (value_type result)
+      by None same = h
+      by (Some r) same = given_there r (sym same)
+
+  returned_valid : (spot : Spot) (s : Sight) (r : RegisterTable) (v : See r s) (ls : Labels) (e : Option Expression) → Points ts out spot → ((r : ℕ) → out ≡ Some r → has_label ls leave_label ≡ true) → WhereAny (IsFull p.structs) e
+      → Returned s result e → Any ValueHasLetters e → Begins (r.kinds ++ any_temporaries (returned_temporaries p) e) ts → Are ls (returned p plan spot r e)
+  returned_valid spot s r v ls None k among f q l b = way_out_valid spot ls None k among (subst (λ t. ReturnsResult (count_of_globals p) ts (result_of t) None) (sym q) tt)
+  returned_valid spot s r v ls (Some e) k among f q l b =
       let live = target.all_live spot in
       let te = takes p e in
-      let last = length (r.kinds ++ te) in
+      let own = length (r.kinds ++ te) in
+      let last = given_register spot.result own in
       let x = full_valid p gs ts (result_of result) r.bound s v.knows (calls s v.names_are v.knows.texts_are v.functions_are) ls e r.kinds (subst IsScalar (sym q.ctype) q.scalar) q.typed f.types l f.small.light
       (begins_left r.kinds te (value_type (type_of e) ∷ []) ts b) in
-      let register : slice_get ts last ≡ Some (value_type (type_of e)) = register_at (r.kinds ++ te) ts (value_type (type_of e)) (begins_right r.kinds te (value_type (type_of e) ∷ []) ts b) in
-      let leaves = one (tree.Return (Some (tree.Register last))) in
-      and_then ls (prepare p r.bound r.kinds e) (before (set last (full.result p r.bound r.kinds e)) (before (deaths live) leaves)) x.setup
-      (and_then ls (set last (full.result p r.bound r.kinds e)) (before (deaths live) leaves) ((value_type (type_of e), register, x.value), tt)
-      (and_then ls (deaths live) leaves (deaths_valid (count_of_globals p) gs ts (result_of result) ls live (points_living spot k))
-      (returns_register last result q.scalar (register ∙ ap (λ t. Some (value_type t)) q.ctype), tt)))
+      let mine : slice_get ts own ≡ Some (value_type (type_of e)) = register_at (r.kinds ++ te) ts (value_type (type_of e)) (begins_right r.kinds te (value_type (type_of e) ∷ []) ts b) in
+      let there : slice_get ts last ≡ Some (value_type result) = given_valid spot own k (mine ∙ ap (λ t. Some (value_type t)) q.ctype) in
+      let given : slice_get ts last ≡ Some (value_type (type_of e)) = there ∙ ap (λ t. Some (value_type t)) (sym q.ctype) in
+      let leaves = leaving spot.result live (Some (tree.Register last)) in
+      and_then ls (prepare p r.bound r.kinds e) (before (set last (full.result p r.bound r.kinds e)) leaves) x.setup
+      (and_then ls (set last (full.result p r.bound r.kinds e)) leaves ((value_type (type_of e), given, x.value), tt)
+      (way_out_valid spot ls (Some (tree.Register last)) k among (returns_register last result q.scalar there)))
 
   first_valid : (first : ForFirst) (s : Sight) (r : RegisterTable) (v : See r s) (around : Around) (spot : Spot) (ls : Labels) → Have r (declared_first first) → AreOwn (declared_first first) → FirstFormed p.structs first
       → FirstTyped s around first → FirstHasNumbers first
-      → Within (after_first p first r) → Are ls (first_part p spot r first)
+      → Within (after_first p plan first r) → Are ls (first_part p plan spot r first)
   first_valid NoFirst s r v around spot ls h own f q l b = tt
   first_valid (First (Run (Eval at e))) s r v around spot ls h own f q l b = effect_at s r v ls e f q l b
   first_valid (First (Declare ds)) s r v around spot ls h own f q l b = initials_valid ds s r.bound v ls r.kinds h own f q l b
@@ -256,8 +297,8 @@ module _ (p : TranslationUnit) (gs : List Signature) (ts : Types) (result : Plai
 
   -- ---- `switch`
 
-  points_switch : (spot : Spot) → Points ts spot → Points ts (target.in_switch spot)
-  points_switch spot k = record { inside = tt; between = point_both ts spot.inside spot.between k.inside k.between; outside = k.outside }
+  points_switch : (spot : Spot) → Points ts out spot → Points ts out (target.in_switch spot)
+  points_switch spot k = record { inside = tt; between = point_both ts spot.inside spot.between k.inside k.between; outside = k.outside; result_is = k.result_is }
 
   -- what is behind the word, in a register
   pub record IsSwitchValue (ls : Labels) (r : RegisterTable) (e : Expression) : Type 0 where
@@ -362,97 +403,103 @@ module _ (p : TranslationUnit) (gs : List Signature) (ts : Types) (result : Plai
   first_small (First (Asserts annots)) s around e q = tt
 
   mutual
-    statement_valid : (a : Statement) (s : Sight) (around : Around) (ls : Labels) (spot : Spot) (k : Points ts spot) (r : RegisterTable) (v : See r s) → around.result ≡ result
-        → AreAround ls spot.levels spot.innermost around.breaks around.loops → StatementFormed p.structs a
-        → StatementTyped s around a → StatementNoted s a → StatementOwn a → HasNumbers a → spot.levels + form.depth a ≤ 1000 → Within (after_statement p a r) → Are ls (statement p spot r a)
+    statement_valid : (a : Statement) (s : Sight) (around : Around) (ls : Labels) (spot : Spot) (k : Points ts out spot) (r : RegisterTable) (v : See r s) → around.result ≡ result
+        → AreAround out ls spot.levels spot.innermost around.breaks around.loops → StatementFormed p.structs a
+        → StatementTyped s around a → Throughout (LabelKeepable plan) (AssertsWritable plan) s a → StatementOwn a → HasNumbers a → spot.levels + form.depth a ≤ 1000 → Within (after_statement p plan a r) → Are ls (statement p plan spot r a)
     statement_valid (Empty at) s around ls spot k r v same o f q m w l d b = tt
     statement_valid (Eval at e) s around ls spot k r v same o f q m w l d b = effect_at s r v ls e f q l b
     statement_valid (Block at body) s around ls spot k r v same o f q m w l d b =
         let own = declared_in body in
         let inside = entered own r in
-        let born = begins_then inside.kinds (after_items p body inside).kinds ts (items_begin p body inside) b in
+        let born = begins_then inside.kinds (after_items p plan body inside).kinds ts (items_begin p plan body inside) b in
         let z2 = sees_later p ts functions r inside s (λ x g h. entered_keep ts x g own r born h) v in
-        alive_valid (count_of_globals p) gs ts (result_of result) ls p (next_register r) own (items p (with_variables (next_register r) own spot) inside body) (items_small body (inner s) around v.knows.structs_are q)
+        alive_valid (count_of_globals p) gs ts (result_of result) ls p (next_register r) own (items p plan (with_variables (next_register r) own spot) inside body) (items_small body (inner s) around v.knows.structs_are q)
         (entered_from ts own r born)
         (items_valid body (inner s) around ls (with_variables (next_register r) own spot) (points_with spot r own born k) inside (sees_inner p ts functions inside.bound s z2) same o (entered_have ts own r born) f q m w l (omega (arith, d)) b)
     statement_valid (If at e x y) s around ls spot k r v same o f q m w l d b =
         let z = with_kinds (takes p e) r in
-        let z2 = after_statement p x z in
-        let second = begins_then z2.kinds (after_else p y z2).kinds ts (else_begins p y z2) b in
-        let first = begins_then z.kinds z2.kinds ts (statement_begins p x z) second in
+        let z2 = after_statement p plan x z in
+        let second = begins_then z2.kinds (after_else p plan y z2).kinds ts (else_begins p plan y z2) b in
+        let first = begins_then z.kinds z2.kinds ts (statement_begins p plan x z) second in
         let left = le-max_left (form.depth x) (form.depth_of_else y) in
         let right = le-max_right (form.depth x) (form.depth_of_else y) in
         let known = calls s v.names_are v.knows.texts_are v.functions_are in
-        and_then ls (prepare p r.bound r.kinds e) (one (tree.If (condition_result p r.bound r.kinds e) (statement p spot z x) (else_part p spot z2 y)))
+        and_then ls (prepare p r.bound r.kinds e) (one (tree.If (condition_result p r.bound r.kinds e) (statement p plan spot z x) (else_part p plan spot z2 y)))
         (prepare_valid p gs ts (result_of result) r.bound s v.knows known ls e q.0.typed f.0.types l.0 f.0.small.light r.kinds (HasValue q.0.scalar) first) (
           (
             condition_valid p gs ts (result_of result) r.bound s v.knows known ls e r.kinds q.0.scalar q.0.typed f.0.types l.0 f.0.small.light first,
             statement_valid x s around ls spot k z v same o f.1 q.1 m.0 w.0 l.1 (omega (arith, d, left)) second,
-            else_valid y s around ls spot k z2 (sees_later p ts functions z z2 s (statement_keeps ts p x z second) v) same o f.2 q.2 m.1 w.1 l.2 (omega (arith, d, right)) b,
+            else_valid y s around ls spot k z2 (sees_later p ts functions z z2 s (statement_keeps ts p plan x z second) v) same o f.2 q.2 m.1 w.1 l.2 (omega (arith, d, right)) b,
           ),
           tt,
         )
     statement_valid (While at annots e a) s around ls spot k r v same o f q m w l d b =
         let loops = spot.levels + 1 in
         let z = with_kinds (takes p e) r in
-        let first = begins_then z.kinds (after_statement p a z).kinds ts (statement_begins p a z) b in
-        loop_valid ls spot.levels spot.innermost around.breaks around.loops o (test p r.bound r.kinds loops e) (statement p (target.in_loop spot) z a) NoStatement (omega (arith, d)) (no_step_test p r.bound r.kinds loops e) refl
-        (test_at s r v (ended ls spot.levels spot.innermost around.breaks around.loops o) loops e (own_end ls spot.levels spot.innermost around.breaks around.loops o) f.1 q.0 l.0 first)
-        (statement_valid a s (in_loop around) (in_body ls spot.levels spot.innermost around.breaks around.loops o)
-        (target.in_loop spot) (points_loop spot k) z v same (around_body ls spot.levels spot.innermost around.breaks around.loops o) f.2 q.1 m.1 w l.1 (omega (arith, d)) b) tt
+        let first = begins_then z.kinds (after_statement p plan a z).kinds ts (statement_begins p plan a z) b in
+        loop_valid ls spot.levels spot.innermost around.breaks around.loops o (test p r.bound r.kinds loops e) (statement p plan (target.in_loop spot) z a) NoStatement (omega (arith, d)) (no_step_test p r.bound r.kinds loops e) refl
+        (test_at s r v (ended out ls spot.levels spot.innermost around.breaks around.loops o) loops e (own_end out ls spot.levels spot.innermost around.breaks around.loops o) f.1 q.0 l.0 first)
+        (statement_valid a s (in_loop around) (in_body out ls spot.levels spot.innermost around.breaks around.loops o)
+        (target.in_loop spot) (points_loop spot k) z v same (around_body out ls spot.levels spot.innermost around.breaks around.loops o) f.2 q.1 m w l.1 (omega (arith, d)) b) tt
     statement_valid (Do at a e) s around ls spot k r v same o f q m w l d b =
         let loops = spot.levels + 1 in
-        let z = after_statement p a r in
+        let z = after_statement p plan a r in
         let first = begins_front z.kinds (takes p e) ts b in
-        loop_valid ls spot.levels spot.innermost around.breaks around.loops o NoStatement (statement p (target.in_loop spot) r a) (test p z.bound z.kinds loops e) (omega (arith, d)) refl (no_step_test p z.bound z.kinds loops e) tt
-        (statement_valid a s (in_loop around) (in_body ls spot.levels spot.innermost around.breaks around.loops o)
-        (target.in_loop spot) (points_loop spot k) r v same (around_body ls spot.levels spot.innermost around.breaks around.loops o) f.0 q.0 m w l.0 (omega (arith, d)) first)
-        (test_at s z (sees_later p ts functions r z s (statement_keeps ts p a r first) v) (ended ls spot.levels spot.innermost around.breaks around.loops o) loops e (own_end ls spot.levels spot.innermost around.breaks around.loops o) f.1 q.1 l.1 b)
+        loop_valid ls spot.levels spot.innermost around.breaks around.loops o NoStatement (statement p plan (target.in_loop spot) r a) (test p z.bound z.kinds loops e) (omega (arith, d)) refl (no_step_test p z.bound z.kinds loops e) tt
+        (statement_valid a s (in_loop around) (in_body out ls spot.levels spot.innermost around.breaks around.loops o)
+        (target.in_loop spot) (points_loop spot k) r v same (around_body out ls spot.levels spot.innermost around.breaks around.loops o) f.0 q.0 m w l.0 (omega (arith, d)) first)
+        (test_at s z (sees_later p ts functions r z s (statement_keeps ts p plan a r first) v) (ended out ls spot.levels spot.innermost around.breaks around.loops o) loops e
+        (own_end out ls spot.levels spot.innermost around.breaks around.loops o) f.1 q.1 l.1 b)
     statement_valid (For at annots first e step a) s around ls spot k r v same o f q m w l d b =
         let own = declared_first first in
         let loops = spot.levels + 1 in
         let inside = with_variables (next_register r) own spot in
         let y = entered own r in
-        let z = after_first p first y in
+        let z = after_first p plan first y in
         let u = with_kinds (any_temporaries (takes p) e) z in
-        let z2 = after_statement p a u in
+        let z2 = after_statement p plan a u in
         let fourth = begins_front z2.kinds (any_temporaries (act_takes p) step) ts b in
-        let third = begins_then u.kinds z2.kinds ts (statement_begins p a u) fourth in
+        let third = begins_then u.kinds z2.kinds ts (statement_begins p plan a u) fourth in
         let second = begins_front z.kinds (any_temporaries (takes p) e) ts third in
-        let born = begins_then y.kinds z.kinds ts (first_begins p first y) second in
+        let born = begins_then y.kinds z.kinds ts (first_begins p plan first y) second in
         let t = inner s in
         let have = entered_have ts own r born in
         let in_born = sees_inner p ts functions y.bound s (sees_later p ts functions r y s (λ x g h. entered_keep ts x g own r born h) v) in
         let after = behind_first t first in
-        let in_turns = sees_later p ts functions y z after (first_keeps ts p first y second) (sees_first first t y in_born around have w.0 f.1 q.0) in
-        let behind = sees_later p ts functions u z2 after (statement_keeps ts p a u fourth) in_turns in
+        let in_turns = sees_later p ts functions y z after (first_keeps ts p plan first y second) (sees_first first t y in_born around have w.0 f.1 q.0) in
+        let behind = sees_later p ts functions u z2 after (statement_keeps ts p plan a u fourth) in_turns in
         let points = points_with spot r own born k in
-        let front = first_part p inside y first in
+        let front = first_part p plan inside y first in
         let tested = test_if_any p z.bound z.kinds loops e in
-        let body = statement p (target.in_loop inside) u a in
+        let body = statement p plan (target.in_loop inside) u a in
         let last = act_if_any p z2.bound z2.kinds step in
         alive_valid (count_of_globals p) gs ts (result_of result) ls p (next_register r) own (before front (one (loop loops tested body last))) (first_small first t around v.knows.structs_are q.0) (entered_from ts own r born)
         (and_then ls front (one (loop loops tested body last))
         (first_valid first t y in_born around inside ls have w.0 f.1 q.0 l.0 second)
         (loop_valid ls spot.levels spot.innermost around.breaks around.loops o tested body last (omega (arith, d)) (no_step_test_if_any p z.bound z.kinds loops e) (no_step_act_if_any p z2.bound z2.kinds step)
-        (test_if_any_at after z in_turns (ended ls spot.levels spot.innermost around.breaks around.loops o) loops e (own_end ls spot.levels spot.innermost around.breaks around.loops o) f.2 q.1 l.1 third)
-        (statement_valid a after (in_loop around) (in_body ls spot.levels spot.innermost around.breaks around.loops o)
-        (target.in_loop inside) (points_loop inside points) u in_turns same (around_body ls spot.levels spot.innermost around.breaks around.loops o) f.4 q.3 m.1 w.1 l.2 (omega (arith, d)) fourth)
-        (effect_if_any_at after z2 behind (ended ls spot.levels spot.innermost around.breaks around.loops o) step f.3 q.2 l.3 b)))
+        (test_if_any_at after z in_turns (ended out ls spot.levels spot.innermost around.breaks around.loops o) loops e (own_end out ls spot.levels spot.innermost around.breaks around.loops o) f.2 q.1 l.1 third)
+        (statement_valid a after (in_loop around) (in_body out ls spot.levels spot.innermost around.breaks around.loops o)
+        (target.in_loop inside) (points_loop inside points) u in_turns same (around_body out ls spot.levels spot.innermost around.breaks around.loops o) f.4 q.3 m w.1 l.2 (omega (arith, d)) fourth)
+        (effect_if_any_at after z2 behind (ended out ls spot.levels spot.innermost around.breaks around.loops o) step f.3 q.2 l.3 b)))
     statement_valid (Break at) s around ls spot k r v same o f q m w l d b = jump_valid spot.inside ls (end_label spot.levels) k.inside (o.end_among q)
     statement_valid (Continue at) s around ls spot k r v same o f q m w l d b =
         jump_valid (spot.inside ++ spot.between) ls (next_label spot.innermost) (point_both ts spot.inside spot.between k.inside k.between) (o.next_among q)
-    statement_valid (Return at e) s around ls spot k r v same o f q m w l d b = returned_valid spot s r v ls e k f (subst (λ t. Returned s t e) same q) l b
-    statement_valid (Labelled at x a) s around ls spot k r v same o f q m w l d b = absurd f
+    statement_valid (Return at e) s around ls spot k r v same o f q m w l d b = returned_valid spot s r v ls e k o.out_among f (subst (λ t. Returned s t e) same q) l b
+    statement_valid (Labelled at x a) s around ls spot k r v same o f q m w l d b =
+        let later = passed_label p plan (Some x) r in
+        let first = begins_then later.kinds (after_statement p plan a later).kinds ts (statement_begins p plan a later) b in
+        let fine = are_keepable p r.bound (count_of_globals p) ts (λ u. u ≡ s) (λ u e y t h. pointer_has p ts r.bound s v.knows y t (subst (λ u. Denotes u y t) e h)) (Some x) plan m.0 planned in
+        and_then ls (snapshot p r.bound (Some x) r.kinds plan) (statement p plan spot later a) (snapshots_are_valid p r.bound (count_of_globals p) gs ts (result_of result) ls (Some x) plan r.kinds fine first).statements
+        (statement_valid a s around ls spot k later v same o f q m.1 w l (omega (arith, d)) b)
     statement_valid (Switch at e cases) s around ls spot k r v same o f q m w l d b =
         let levels = spot.levels + 1 in
         let taken = returned_temporaries p e in
         let z = with_kinds (switch_temporaries p e) r in
-        let first = begins_then z.kinds (after_cases p cases z).kinds ts (cases_begin p cases z) b in
+        let first = begins_then z.kinds (after_cases p plan cases z).kinds ts (cases_begin p plan cases z) b in
         let chosen : slice_get ts (length (r.kinds ++ taken)) ≡ Some U64 = register_at (r.kinds ++ taken) ts U64 (begins_right r.kinds taken (U64 ∷ []) ts first) in
         let is = (switch_value_valid s r v ls e (promoted q.0) f.0 q.1 q.2 l.0 (begins_left r.kinds taken (U64 ∷ []) ts first)) in
         let search_code = search levels (value_type (type_of e)) (length (r.kinds ++ takes p e)) (length (r.kinds ++ taken)) cases in
-        let items_code = blocks_of_cases p (target.in_switch spot) z (length (r.kinds ++ taken)) 0 0 cases in
+        let items_code = blocks_of_cases p plan (target.in_switch spot) z (length (r.kinds ++ taken)) 0 0 cases in
         and_then ls (prepare p r.bound r.kinds e) (before (set (length (r.kinds ++ takes p e)) (full.result p r.bound r.kinds e)) (before search_code (one (tree.Labelled items_code (end_label levels))))) is.setup
         (and_then ls (set (length (r.kinds ++ takes p e)) (full.result p r.bound r.kinds e)) (before search_code (one (tree.Labelled items_code (end_label levels)))) is.set
         (and_then ls search_code (one (tree.Labelled items_code (end_label levels)))
@@ -462,84 +509,87 @@ module _ (p : TranslationUnit) (gs : List Signature) (ts : Types) (result : Plai
           (
             end_is_free levels (omega (arith, d)),
             o.new_end levels (omega arith) (omega (arith, d)),
-            blocks_valid cases s (in_switch around) (promoted q.0) (ended ls spot.levels spot.innermost around.breaks around.loops o) (target.in_switch spot) (points_switch spot k) (length (r.kinds ++ taken)) chosen 0 0 z v same
-                (around_items ls spot.levels spot.innermost around.breaks around.loops o) f.1 q.3 m w l.1 (omega (arith, d)) b,
+            blocks_valid cases s (in_switch around) (promoted q.0) (ended out ls spot.levels spot.innermost around.breaks around.loops o) (target.in_switch spot) (points_switch spot k) (length (r.kinds ++ taken)) chosen 0 0 z v same
+                (around_items out ls spot.levels spot.innermost around.breaks around.loops o) f.1 q.3 m w l.1 (omega (arith, d)) b,
           ),
           tt,
         )))
 
     -- the items of the next cases, and those of all others
-    next_valid : (cs : Cases) (s : Sight) (around : Around) (c : CInt) (ls : Labels) (spot : Spot) (k : Points ts spot) (j : ℕ) (has : slice_get ts j ≡ Some U64) (i n : ℕ) (r : RegisterTable) (v : See r s) → around.result ≡ result
-        → AreAround ls spot.levels spot.innermost around.breaks around.loops → CasesFormed p.structs cs → CasesTyped s around c cs
-        → CasesNoted s cs → CasesOwn cs → CasesHaveNumbers i cs → spot.levels + form.depth_of_cases cs ≤ 1000 → Within (after_cases p cs r) → Are ls (next_cases p spot r j i n cs)
+    next_valid : (cs : Cases) (s : Sight) (around : Around) (c : CInt) (ls : Labels) (spot : Spot) (k : Points ts out spot) (j : ℕ) (has : slice_get ts j ≡ Some U64) (i n : ℕ) (r : RegisterTable) (v : See r s) → around.result ≡ result
+        → AreAround out ls spot.levels spot.innermost around.breaks around.loops → CasesFormed p.structs cs → CasesTyped s around c cs
+        → ThroughoutCases (LabelKeepable plan) (AssertsWritable plan) s cs → CasesOwn cs → CasesHaveNumbers i cs → spot.levels + form.depth_of_cases cs ≤ 1000 → Within (after_cases p plan cs r) → Are ls (next_cases p plan spot r j i n cs)
     next_valid NoCase s around c ls spot k j has i n r v same o f q m w l d b = tt
     next_valid (AnotherCase at x body rest) s around c ls spot k j has i zero r v same o f q m w l d b = tt
     next_valid (AnotherCase at x body rest) s around c ls spot k j has i (suc n) r v same o f q m w l d b =
-        let z = after_items p body r in
-        let first = begins_then z.kinds (after_cases p rest z).kinds ts (cases_begin p rest z) b in
+        let z = after_items p plan body r in
+        let first = begins_then z.kinds (after_cases p plan rest z).kinds ts (cases_begin p plan rest z) b in
         let left = le-max_left (form.depth_of_items body) (form.depth_of_cases rest) in
         let right = le-max_right (form.depth_of_items body) (form.depth_of_cases rest) in
         let small = index_small (suc i) rest l.1 in (
-          where_valid ls j has i (omega (arith, small)) (items p spot r body) (items_valid body s around ls spot k r v same o (subst (HavePointers ts r.bound) (sym f.0) tt) f.1 q.1 m.0 w.0 l.0 (omega (arith, d, left)) first),
-          next_valid rest s around c ls spot k j has (suc i) n z (sees_later p ts functions r z s (items_keep ts p body r first) v) same o f.2 q.2 m.1 w.1 l.1 (omega (arith, d, right)) b,
+          where_valid ls j has i (omega (arith, small)) (items p plan spot r body) (items_valid body s around ls spot k r v same o (subst (HavePointers ts r.bound) (sym f.0) tt) f.1 q.1 m.0 w.0 l.0 (omega (arith, d, left)) first),
+          next_valid rest s around c ls spot k j has (suc i) n z (sees_later p ts functions r z s (items_keep ts p plan body r first) v) same o f.2 q.2 m.1 w.1 l.1 (omega (arith, d, right)) b,
         )
 
-    blocks_valid : (cs : Cases) (s : Sight) (around : Around) (c : CInt) (ls : Labels) (spot : Spot) (k : Points ts spot) (j : ℕ) (has : slice_get ts j ≡ Some U64) (i n : ℕ) (r : RegisterTable) (v : See r s) → around.result ≡ result
-        → AreAround ls spot.levels spot.innermost around.breaks around.loops → CasesFormed p.structs cs → CasesTyped s around c cs
-        → CasesNoted s cs → CasesOwn cs → CasesHaveNumbers i cs → spot.levels + form.depth_of_cases cs ≤ 1000 → Within (after_cases p cs r) → Are ls (blocks_of_cases p spot r j i n cs)
+    blocks_valid : (cs : Cases) (s : Sight) (around : Around) (c : CInt) (ls : Labels) (spot : Spot) (k : Points ts out spot) (j : ℕ) (has : slice_get ts j ≡ Some U64) (i n : ℕ) (r : RegisterTable) (v : See r s) → around.result ≡ result
+        → AreAround out ls spot.levels spot.innermost around.breaks around.loops → CasesFormed p.structs cs → CasesTyped s around c cs
+        → ThroughoutCases (LabelKeepable plan) (AssertsWritable plan) s cs → CasesOwn cs → CasesHaveNumbers i cs → spot.levels + form.depth_of_cases cs ≤ 1000 → Within (after_cases p plan cs r) → Are ls (blocks_of_cases p plan spot r j i n cs)
     blocks_valid NoCase s around c ls spot k j has i n r v same o f q m w l d b = tt
     blocks_valid (AnotherCase at x body rest) s around c ls spot k j has i zero r v same o f q m w l d b =
-        let z = after_items p body r in
-        let first = begins_then z.kinds (after_cases p rest z).kinds ts (cases_begin p rest z) b in
-        let later = sees_later p ts functions r z s (items_keep ts p body r first) v in
+        let z = after_items p plan body r in
+        let first = begins_then z.kinds (after_cases p plan rest z).kinds ts (cases_begin p plan rest z) b in
+        let later = sees_later p ts functions r z s (items_keep ts p plan body r first) v in
         let left = le-max_left (form.depth_of_items body) (form.depth_of_cases rest) in
         let right = le-max_right (form.depth_of_items body) (form.depth_of_cases rest) in
         let small = index_small (suc i) rest l.1 in (
-          where_valid ls j has (i + others_in_block) (omega (arith, small)) (tree.Then (where_reached j i (items p spot r body)) (next_cases p spot z j (suc i) others_in_block rest)) (
-            where_valid ls j has i (omega (arith, small)) (items p spot r body) (items_valid body s around ls spot k r v same o (subst (HavePointers ts r.bound) (sym f.0) tt) f.1 q.1 m.0 w.0 l.0 (omega (arith, d, left)) first),
+          where_valid ls j has (i + others_in_block) (omega (arith, small)) (tree.Then (where_reached j i (items p plan spot r body)) (next_cases p plan spot z j (suc i) others_in_block rest)) (
+            where_valid ls j has i (omega (arith, small)) (items p plan spot r body) (items_valid body s around ls spot k r v same o (subst (HavePointers ts r.bound) (sym f.0) tt) f.1 q.1 m.0 w.0 l.0 (omega (arith, d, left)) first),
             next_valid rest s around c ls spot k j has (suc i) others_in_block z later same o f.2 q.2 m.1 w.1 l.1 (omega (arith, d, right)) b,
           ),
           blocks_valid rest s around c ls spot k j has (suc i) others_in_block z later same o f.2 q.2 m.1 w.1 l.1 (omega (arith, d, right)) b,
         )
     blocks_valid (AnotherCase at x body rest) s around c ls spot k j has i (suc n) r v same o f q m w l d b =
-        let z = after_items p body r in
-        let first = begins_then z.kinds (after_cases p rest z).kinds ts (cases_begin p rest z) b in
+        let z = after_items p plan body r in
+        let first = begins_then z.kinds (after_cases p plan rest z).kinds ts (cases_begin p plan rest z) b in
         let right = le-max_right (form.depth_of_items body) (form.depth_of_cases rest) in
-        blocks_valid rest s around c ls spot k j has (suc i) n z (sees_later p ts functions r z s (items_keep ts p body r first) v) same o f.2 q.2 m.1 w.1 l.1 (omega (arith, d, right)) b
+        blocks_valid rest s around c ls spot k j has (suc i) n z (sees_later p ts functions r z s (items_keep ts p plan body r first) v) same o f.2 q.2 m.1 w.1 l.1 (omega (arith, d, right)) b
 
-    else_valid : (y : ElsePart) (s : Sight) (around : Around) (ls : Labels) (spot : Spot) (k : Points ts spot) (r : RegisterTable) (v : See r s) → around.result ≡ result
-        → AreAround ls spot.levels spot.innermost around.breaks around.loops → ElseFormed p.structs y → ElseTyped s around y
-        → ElseNoted s y → ElseOwn y → ElseHasNumbers y → spot.levels + form.depth_of_else y ≤ 1000 → Within (after_else p y r) → Are ls (else_part p spot r y)
+    else_valid : (y : ElsePart) (s : Sight) (around : Around) (ls : Labels) (spot : Spot) (k : Points ts out spot) (r : RegisterTable) (v : See r s) → around.result ≡ result
+        → AreAround out ls spot.levels spot.innermost around.breaks around.loops → ElseFormed p.structs y → ElseTyped s around y
+        → ThroughoutElse (LabelKeepable plan) (AssertsWritable plan) s y → ElseOwn y → ElseHasNumbers y → spot.levels + form.depth_of_else y ≤ 1000 → Within (after_else p plan y r) → Are ls (else_part p plan spot r y)
     else_valid NoElse s around ls spot k r v same o f q m w l d b = tt
     else_valid (Else a) s around ls spot k r v same o f q m w l d b = statement_valid a s around ls spot k r v same o f q m w l d b
 
-    pub items_valid : (is : BlockItems) (s : Sight) (around : Around) (ls : Labels) (spot : Spot) (k : Points ts spot) (r : RegisterTable) (v : See r s) → around.result ≡ result
-        → AreAround ls spot.levels spot.innermost around.breaks around.loops → Have r (declared_in is)
-        → ItemsFormed p.structs is → ItemsTyped s around is → ItemsNoted s is → ItemsOwn is → HaveNumbers is → spot.levels + form.depth_of_items is ≤ 1000 → Within (after_items p is r) → Are ls (items p spot r is)
+    pub items_valid : (is : BlockItems) (s : Sight) (around : Around) (ls : Labels) (spot : Spot) (k : Points ts out spot) (r : RegisterTable) (v : See r s) → around.result ≡ result
+        → AreAround out ls spot.levels spot.innermost around.breaks around.loops → Have r (declared_in is)
+        → ItemsFormed p.structs is → ItemsTyped s around is → ThroughoutItems (LabelKeepable plan) (AssertsWritable plan) s is → ItemsOwn is → HaveNumbers is
+        → spot.levels + form.depth_of_items is ≤ 1000 → Within (after_items p plan is r) → Are ls (items p plan spot r is)
     items_valid NoItem s around ls spot k r v same o h f q m w l d b = tt
     items_valid (Then (Declare ds) rest) s around ls spot k r v same o h f q m w l d b =
         let z = with_kinds (declaration_temporaries p ds) r in
-        let first = begins_then z.kinds (after_items p rest z).kinds ts (items_begin p rest z) b in
+        let first = begins_then z.kinds (after_items p plan rest z).kinds ts (items_begin p plan rest z) b in
         let own = pointers_front ts r.bound ds (declared_in rest) h in
         let right = le-max_right 0 (form.depth_of_items rest) in
-        and_then ls (initialise_all p r.bound r.kinds ds) (items p spot z rest)
+        and_then ls (initialise_all p r.bound r.kinds ds) (items p plan spot z rest)
         (initials_valid ds s r.bound v ls r.kinds own w.0 f.0 q.0 l.0 first)
         (items_valid rest (with_objects s ds) around ls spot k z (sees_behind p ts functions r.bound s ds w.0 own v) same o (pointers_back ts r.bound ds (declared_in rest) h) f.1 q.1 m.1 w.1 l.1 (omega (arith, d, right)) b)
     items_valid (Then (Specify at t) rest) s around ls spot k r v same o h f q m w l d b =
         let right = le-max_right 0 (form.depth_of_items rest) in items_valid rest s around ls spot k r v same o h f.1 q.1 m.1 w.1 l.1 (omega (arith, d, right)) b
     items_valid (Then (Run a) rest) s around ls spot k r v same o h f q m w l d b =
-        let z = after_statement p a r in
-        let first = begins_then z.kinds (after_items p rest z).kinds ts (items_begin p rest z) b in
-        let keeps = statement_keeps ts p a r first in
+        let z = after_statement p plan a r in
+        let first = begins_then z.kinds (after_items p plan rest z).kinds ts (items_begin p plan rest z) b in
+        let keeps = statement_keeps ts p plan a r first in
         let left = le-max_left (form.depth a) (form.depth_of_items rest) in
         let right = le-max_right (form.depth a) (form.depth_of_items rest) in
-        and_then ls (statement p spot r a) (items p spot z rest)
+        and_then ls (statement p plan spot r a) (items p plan spot z rest)
         (statement_valid a s around ls spot k r v same o f.0 q.0 m.0 w.0 l.0 (omega (arith, d, left)) first)
         (items_valid rest s around ls spot k z (sees_later p ts functions r z s keeps v) same o (pointers_kept ts r z (declared_in rest) keeps h) f.1 q.1 m.1 w.1 l.1 (omega (arith, d, right)) b)
     items_valid (Then (Asserts annots) rest) s around ls spot k r v same o h f q m w l d b =
-        let z = after_item p (Asserts annots) r in
-        let first = begins_then z.kinds (after_items p rest z).kinds ts (items_begin p rest z) b in
+        let z = after_item p plan (Asserts annots) r in
+        let first = begins_then z.kinds (after_items p plan rest z).kinds ts (items_begin p plan rest z) b in
         let right = le-max_right 0 (form.depth_of_items rest) in
-        and_then ls (assertions p r.bound r.kinds annots) (items p spot z rest)
-        (assertions_valid p ts r.bound s v.knows gs (result_of result) ls r.kinds annots f.0 m.0 l.0 first)
+        let said = m.0 in
+        let knows = subst (Knows p ts r.bound) (sym said.here) v.knows in
+        and_then ls (assertions p r.bound plan [] r.kinds annots) (items p plan spot z rest)
+        (assertions_valid p ts r.bound plan said.view knows said.alone gs (result_of result) ls r.kinds annots f.0 said.typed (λ x i. kept_registers ts plan planned x (said.planned x i)) l.0 first)
         (items_valid rest s around ls spot k z v same o h f.1 q.1 m.1 w.1 l.1 (omega (arith, d, right)) b)

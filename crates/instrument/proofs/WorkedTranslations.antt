@@ -168,10 +168,10 @@ found n i = If (Binary mon.Eq kind.I32 (Register 2) (Constant kind.I32 (pos n)))
 abbrev reached : ℕ → MonStatements → MonStatement
 reached i a = If (Binary mon.Le kind.U64 (Register 3) (Constant kind.U64 (pos i))) a NoStatement
 
-switch_is : target.statement program (outermost []) two (statement.Switch here (int 2) three_cases)
+switch_is : target.statement program [] (outermost None []) two (statement.Switch here (int 2) three_cases)
     ≡ Then (Set 2 (Load kind.I32 (Register 1))) (Then (Set 3 (Constant kind.U64 (pos 1))) (Then (Labelled (Then (found 3 0) (one (found 7 2))) (case_label 1))
     (one (Labelled (one (reached 15 (Then (reached 0 (one (Goto (end_label 1)))) (Then (reached 1 NoStatement) (one (reached 2 (one (Return None)))))))) (end_label 1)))))
 switch_is = refl
 
-switch_registers : (target.after_statement program (statement.Switch here (int 2) three_cases) two).kinds ≡ kind.Ptr ∷ kind.Ptr ∷ kind.I32 ∷ kind.U64 ∷ []
+switch_registers : (target.after_statement program [] (statement.Switch here (int 2) three_cases) two).kinds ≡ kind.Ptr ∷ kind.Ptr ∷ kind.I32 ∷ kind.U64 ∷ []
 switch_registers = refl

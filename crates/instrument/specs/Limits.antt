@@ -5,13 +5,18 @@ use Rattle.std.specs.Prelude.{◌≡◌, true, ℕ, suc, ◌<◌, ◌^◌, if◌
 use Rattle.c_syntax.specs.Statements.{Statement, Empty, Eval, Block, If, While, Do, For, Break, Continue, Return, Labelled, Switch}
 use Rattle.c_syntax.specs.Statements.{ElsePart, NoElse, Else, ForFirst, NoFirst, First, BlockItem, Declare, Specify, Run, Asserts, BlockItems, NoItem, Then}
 use Rattle.c_syntax.specs.Statements.{Cases, NoCase, AnotherCase}
-use Rattle.c_syntax.specs.Programs.{Function, TranslationUnit}
+use Rattle.c_syntax.specs.Programs.{NamedBehavior, FunctionContract, Function, TranslationUnit}
+use Rattle.c_syntax.specs.Logic.{Annotation}
+use Rattle.c_model.specs.ContractChecks.{entry_checks, leave_checks}
+use Rattle.c_model.specs.ContractTyping.{named_behaviors}
 use Rattle.c_model.specs.Meaning.{is_definition}
 use Rattle.c_initialisers.specs.Letters.{InitialsHaveLetters}
 use Rattle.c_effects.specs.Letters.{Any, ValueHasLetters, ActHasLetters}
+use Rattle.annot_code.specs.Checks.{annotations_of}
+use Rattle.annot_code.specs.ContractCode.{named_flags}
 use Rattle.annot_code.specs.Numbered.{AreNumbered}
 use Rattle.mon_syntax.specs.declared.tree.MonType.{MonType}
-use Rattle.instrument.specs.Translation.{registers_of_body, after_body, front_temporaries}
+use Rattle.instrument.specs.Translation.{all_kinds, first_flag, front_temporaries}
 
 -- ---- statements
 
@@ -27,7 +32,7 @@ abbrev mutual
   HasNumbers (Break at) = Unit {0}
   HasNumbers (Continue at) = Unit {0}
   HasNumbers (Return at e) = Any ValueHasLetters e
-  HasNumbers (Labelled at l a) = ⊥
+  HasNumbers (Labelled at l a) = HasNumbers a
   HasNumbers (Switch at e cases) = ValueHasLetters e × CasesHaveNumbers 0 cases
 
   -- cases, of which the first one has this index
@@ -59,10 +64,22 @@ abbrev pub BodyHasNumbers : Option Statement → Type 0
 BodyHasNumbers None = Unit {0}
 BodyHasNumbers (Some a) = HasNumbers a
 
--- a definition, whose registers can be numbered, of which these stand before those of its body
+-- the flags that are counted for a clause are fewer than a register of 32 bits counts
+abbrev pub CoversFew : ℕ → List NamedBehavior → List Annotation → Type 0
+CoversFew h bs [] = Unit {0}
+CoversFew h bs (a ∷ rest) = (length (named_flags (named_behaviors a.body) h bs) < 2147483647) × CoversFew h bs rest
+
+-- the checks of a contract, where the flags of behaviors stand in the registers from h on
+abbrev pub ContractHasNumbers : ℕ → Option FunctionContract → Type 0
+ContractHasNumbers h None = Unit {0}
+ContractHasNumbers h (Some c) =
+    AreNumbered (annotations_of (entry_checks c)) × AreNumbered (annotations_of (leave_checks c)) × CoversFew h c.behaviors c.covers
+
+-- a definition, whose registers can be numbered, of which these stand before its own
 pub record FunctionHasNumbers (p : TranslationUnit) (front : List MonType) (f : Function) : Type 0 where
+  pub contract : ContractHasNumbers (first_flag f) f.contract
   pub body : BodyHasNumbers f.body
-  pub few : length (after_body p f.body (registers_of_body front f)).kinds < 2 ^ 32
+  pub few : length (all_kinds p front f f.contract) < 2 ^ 32
 
 -- the definitions, from the index k on, where `main` has this index
 abbrev pub FunctionsHaveNumbers : TranslationUnit → ℕ → ℕ → List Function → Type 0

@@ -12,15 +12,16 @@ use Rattle.c_syntax.specs.Statements as source_statement
 use Rattle.c_syntax.specs.Statements.{Declaration, Statement, ElsePart, NoElse, Else, ForFirst, NoFirst, First, BlockItem, Declare, Specify, Run, Asserts}
 use Rattle.c_syntax.specs.Statements.{BlockItems}
 use Rattle.c_syntax.specs.Statements.{NoItem, Initialiser, Cases, NoCase, AnotherCase}
-use Rattle.c_syntax.specs.Programs.{Function, TranslationUnit}
+use Rattle.c_syntax.specs.Programs.{NamedBehavior, FunctionContract, Function, TranslationUnit}
 use Rattle.c_syntax.specs.Layouts.{size_of}
 use Rattle.c_model.specs.Meaning.{declared_in, declared_first, default_of, is_definition}
+use Rattle.c_model.specs.ContractChecks.{result_number}
 use Rattle.c_model.specs.ExpressionTyping.{name_at}
 use Rattle.c_model.specs.Formed.{number_of}
 use Rattle.c_model.specs.StaticObjects.{StaticObject, OfGlobal, OfLiteral, static_objects}
 use Rattle.mon_syntax.specs.declared.tree.MonType.{MonType}
 use Rattle.mon_syntax.specs.declared.tree.MonOp.TheVariants.{Eq, Le}
-use Rattle.mon_syntax.specs.declared.tree.MonType.TheVariants.{U64, Ptr}
+use Rattle.mon_syntax.specs.declared.tree.MonType.TheVariants.{I32, U64, Ptr}
 use Rattle.mon_syntax.specs.Trees.{MonExpression, MonStatement, Register, Global, Constant, Binary, Store, If, Loop, Labelled, Goto, Return}
 use Rattle.mon_syntax.specs.Trees.{MonStatements, NoStatement, Then, MonRegister}
 use Rattle.mon_syntax.specs.Trees.{Zeros, Literal, MonitoredGlobal, MonFunction, MonitoredProgram}
@@ -29,8 +30,13 @@ use Rattle.c_initialisers.specs.Translation.{declaration_temporaries, initial_te
 use Rattle.c_effects.specs.Effects.{any_temporaries}
 use Rattle.c_effects.specs.Full.{act, act_takes, condition_result, prepare, result, takes}
 use Rattle.c_effects.specs.Expressions.{object_of_global, register_type, value_type, before, one, set}
-use Rattle.c_simulation.specs.Labels.{end_label, next_label}
+use Rattle.c_simulation.specs.Keeping.{Kept}
+use Rattle.c_simulation.specs.Labels.{end_label, next_label, leave_label}
 use Rattle.annot_code.specs.Code.{assertions, behind_assertions}
+use Rattle.annot_code.specs.ContractCode.{entry_code, behind_entry, leave_code, behind_leave}
+use Rattle.annot_code.specs.Held.{Held}
+use Rattle.annot_code.specs.Plan.{planned, kept_from, kept_types}
+use Rattle.annot_code.specs.Snapshots.{snapshot, behind_snapshot}
 use Rattle.track_scopes.specs.Blocks.{entered, birth, births, deaths, with_born}
 
 -- ---- names
@@ -69,44 +75,48 @@ returned_temporaries p e = takes p e ++ value_type (type_of e) ∷ []
 abbrev pub switch_temporaries : TranslationUnit → Expression → List MonType
 switch_temporaries p e = returned_temporaries p e ++ U64 ∷ []
 
+-- after a passage of a label
+abbrev pub passed_label : TranslationUnit → List Kept → Option ℕ → RegisterTable → RegisterTable
+passed_label p plan l r = record r { kinds = behind_snapshot p r.bound l r.kinds plan }
+
 abbrev mutual
-  pub after_statement : TranslationUnit → Statement → RegisterTable → RegisterTable
-  after_statement p (source_statement.Empty at) r = r
-  after_statement p (source_statement.Eval at e) r = with_kinds (act_takes p e) r
-  after_statement p (source_statement.Block at body) r = after_items p body (entered (declared_in body) r)
-  after_statement p (source_statement.If at e a b) r = after_else p b (after_statement p a (with_kinds (takes p e) r))
-  after_statement p (source_statement.While at annots e a) r = after_statement p a (with_kinds (takes p e) r)
-  after_statement p (source_statement.Do at a e) r = with_kinds (takes p e) (after_statement p a r)
-  after_statement p (source_statement.For at annots first e behind a) r =
+  pub after_statement : TranslationUnit → List Kept → Statement → RegisterTable → RegisterTable
+  after_statement p plan (source_statement.Empty at) r = r
+  after_statement p plan (source_statement.Eval at e) r = with_kinds (act_takes p e) r
+  after_statement p plan (source_statement.Block at body) r = after_items p plan body (entered (declared_in body) r)
+  after_statement p plan (source_statement.If at e a b) r = after_else p plan b (after_statement p plan a (with_kinds (takes p e) r))
+  after_statement p plan (source_statement.While at annots e a) r = after_statement p plan a (with_kinds (takes p e) r)
+  after_statement p plan (source_statement.Do at a e) r = with_kinds (takes p e) (after_statement p plan a r)
+  after_statement p plan (source_statement.For at annots first e behind a) r =
       with_kinds (any_temporaries (act_takes p) behind)
-      (after_statement p a (with_kinds (any_temporaries (takes p) e) (after_first p first (entered (declared_first first) r))))
-  after_statement p (source_statement.Break at) r = r
-  after_statement p (source_statement.Continue at) r = r
-  after_statement p (source_statement.Return at e) r = with_kinds (any_temporaries (returned_temporaries p) e) r
-  after_statement p (source_statement.Labelled at l a) r = r
-  after_statement p (source_statement.Switch at e cases) r = after_cases p cases (with_kinds (switch_temporaries p e) r)
+      (after_statement p plan a (with_kinds (any_temporaries (takes p) e) (after_first p plan first (entered (declared_first first) r))))
+  after_statement p plan (source_statement.Break at) r = r
+  after_statement p plan (source_statement.Continue at) r = r
+  after_statement p plan (source_statement.Return at e) r = with_kinds (any_temporaries (returned_temporaries p) e) r
+  after_statement p plan (source_statement.Labelled at l a) r = after_statement p plan a (passed_label p plan (Some l) r)
+  after_statement p plan (source_statement.Switch at e cases) r = after_cases p plan cases (with_kinds (switch_temporaries p e) r)
 
-  pub after_cases : TranslationUnit → Cases → RegisterTable → RegisterTable
-  after_cases p NoCase r = r
-  after_cases p (AnotherCase at v body rest) r = after_cases p rest (after_items p body r)
+  pub after_cases : TranslationUnit → List Kept → Cases → RegisterTable → RegisterTable
+  after_cases p plan NoCase r = r
+  after_cases p plan (AnotherCase at v body rest) r = after_cases p plan rest (after_items p plan body r)
 
-  pub after_else : TranslationUnit → ElsePart → RegisterTable → RegisterTable
-  after_else p NoElse r = r
-  after_else p (Else a) r = after_statement p a r
+  pub after_else : TranslationUnit → List Kept → ElsePart → RegisterTable → RegisterTable
+  after_else p plan NoElse r = r
+  after_else p plan (Else a) r = after_statement p plan a r
 
-  pub after_first : TranslationUnit → ForFirst → RegisterTable → RegisterTable
-  after_first p NoFirst r = r
-  after_first p (First i) r = after_item p i r
+  pub after_first : TranslationUnit → List Kept → ForFirst → RegisterTable → RegisterTable
+  after_first p plan NoFirst r = r
+  after_first p plan (First i) r = after_item p plan i r
 
-  pub after_item : TranslationUnit → BlockItem → RegisterTable → RegisterTable
-  after_item p (Declare ds) r = with_kinds (declaration_temporaries p ds) r
-  after_item p (Specify at t) r = r
-  after_item p (Run a) r = after_statement p a r
-  after_item p (Asserts annots) r = record r { kinds = behind_assertions p r.bound r.kinds annots }
+  pub after_item : TranslationUnit → List Kept → BlockItem → RegisterTable → RegisterTable
+  after_item p plan (Declare ds) r = with_kinds (declaration_temporaries p ds) r
+  after_item p plan (Specify at t) r = r
+  after_item p plan (Run a) r = after_statement p plan a r
+  after_item p plan (Asserts annots) r = record r { kinds = behind_assertions p r.bound plan [] r.kinds annots }
 
-  pub after_items : TranslationUnit → BlockItems → RegisterTable → RegisterTable
-  after_items p NoItem r = r
-  after_items p (source_statement.Then i rest) r = after_items p rest (after_item p i r)
+  pub after_items : TranslationUnit → List Kept → BlockItems → RegisterTable → RegisterTable
+  after_items p plan NoItem r = r
+  after_items p plan (source_statement.Then i rest) r = after_items p plan rest (after_item p plan i r)
 
 -- ---- the blocks of variables
 
@@ -143,17 +153,18 @@ for_turns p loops r after e behind body =
 
 -- Where a statement stands: how many loops and switches stand around it, the number of the innermost loop among these, and the blocks of variables that
 -- live, by the registers that point to them, the youngest first: those born inside what a `break` leaves, from there to the body of the innermost loop,
--- and the others of the function.
+-- and the others that a `return` leaves. What is returned goes into the register of the result where a contract is checked behind the body.
 pub record Spot : Type 0 where
   pub levels : ℕ
   pub innermost : ℕ
   pub inside : List ℕ
   pub between : List ℕ
   pub outside : List ℕ
+  pub result : Option ℕ
 
 -- outside all loops, where these live
-abbrev pub outermost : List ℕ → Spot
-outermost live = record { levels = 0; innermost = 0; inside = live; between = []; outside = [] }
+abbrev pub outermost : Option ℕ → List ℕ → Spot
+outermost result live = record { levels = 0; innermost = 0; inside = live; between = []; outside = []; result = result }
 
 -- all that live
 abbrev pub all_live : Spot → List ℕ
@@ -161,11 +172,11 @@ all_live spot = spot.inside ++ (spot.between ++ spot.outside)
 
 -- the body of a loop
 abbrev pub in_loop : Spot → Spot
-in_loop spot = record { levels = spot.levels + 1; innermost = spot.levels + 1; inside = []; between = []; outside = all_live spot }
+in_loop spot = record spot { levels = spot.levels + 1; innermost = spot.levels + 1; inside = []; between = []; outside = all_live spot }
 
 -- the items of a `switch`
 abbrev pub in_switch : Spot → Spot
-in_switch spot = record { levels = spot.levels + 1; innermost = spot.innermost; inside = []; between = spot.inside ++ spot.between; outside = spot.outside }
+in_switch spot = record spot { levels = spot.levels + 1; inside = []; between = spot.inside ++ spot.between }
 
 -- after the births of these variables, to which the registers from p on point
 abbrev pub with_variables : ℕ → List Declaration → Spot → Spot
@@ -201,15 +212,32 @@ where_reached j i a = If (Binary Le U64 (Register j) (Constant U64 (pos i))) a N
 abbrev pub others_in_block : ℕ
 others_in_block = 15
 
+-- ---- `return`
+
+-- the way out: a `return`, or, where a contract is checked behind the body, to its end
+abbrev pub way_out : Option ℕ → Option MonExpression → MonStatement
+way_out None e = Return e
+way_out (Some r) e = Goto leave_label
+
+-- before that the blocks die to which these registers point
+abbrev pub leaving : Option ℕ → List ℕ → Option MonExpression → MonStatements
+leaving result live e = before (deaths live) (one (way_out result e))
+
+-- where what is returned goes: into a register of its own, or into that of the result
+abbrev pub given_register : Option ℕ → ℕ → ℕ
+given_register None own = own
+given_register (Some r) own = r
+
+abbrev pub giving : Option ℕ → List ℕ → ℕ → MonExpression → MonStatements
+giving result live own e = before (set (given_register result own) e) (leaving result live (Some (Register (given_register result own))))
+
 -- ---- a function of the program
 
-module _ (p : TranslationUnit) where
-  -- all blocks of the function die before the `return`
+module _ (p : TranslationUnit) (plan : List Kept) where
   abbrev pub returned : Spot → RegisterTable → Option Expression → MonStatements
-  returned spot r None = before (deaths (all_live spot)) (one (Return None))
+  returned spot r None = leaving spot.result (all_live spot) None
   returned spot r (Some e) =
-      before (prepare p r.bound r.kinds e) (before (set (length (r.kinds ++ takes p e)) (result p r.bound r.kinds e))
-      (before (deaths (all_live spot)) (one (Return (Some (Register (length (r.kinds ++ takes p e))))))))
+      before (prepare p r.bound r.kinds e) (giving spot.result (all_live spot) (length (r.kinds ++ takes p e)) (result p r.bound r.kinds e))
 
   abbrev mutual
     pub statement : Spot → RegisterTable → Statement → MonStatements
@@ -221,23 +249,24 @@ module _ (p : TranslationUnit) where
     statement spot r (source_statement.If at e a b) =
         before (prepare p r.bound r.kinds e) (one (If (condition_result p r.bound r.kinds e)
         (statement spot (with_kinds (takes p e) r) a)
-        (else_part spot (after_statement p a (with_kinds (takes p e) r)) b)))
+        (else_part spot (after_statement p plan a (with_kinds (takes p e) r)) b)))
     statement spot r (source_statement.While at annots e a) =
         one (loop (spot.levels + 1) (test p r.bound r.kinds (spot.levels + 1) e) (statement (in_loop spot) (with_kinds (takes p e) r) a) NoStatement)
     statement spot r (source_statement.Do at a e) =
         one (loop (spot.levels + 1) NoStatement (statement (in_loop spot) r a)
-        (test p (after_statement p a r).bound (after_statement p a r).kinds (spot.levels + 1) e))
+        (test p (after_statement p plan a r).bound (after_statement p plan a r).kinds (spot.levels + 1) e))
     statement spot r (source_statement.For at annots first e behind a) =
         alive p (next_register r) (declared_first first)
         (before (first_part (with_variables (next_register r) (declared_first first) spot) (entered (declared_first first) r) first)
-        (for_turns p (spot.levels + 1) (after_first p first (entered (declared_first first) r))
-        (after_statement p a (with_kinds (any_temporaries (takes p) e) (after_first p first (entered (declared_first first) r)))) e behind
+        (for_turns p (spot.levels + 1) (after_first p plan first (entered (declared_first first) r))
+        (after_statement p plan a (with_kinds (any_temporaries (takes p) e) (after_first p plan first (entered (declared_first first) r)))) e behind
         (statement (in_loop (with_variables (next_register r) (declared_first first) spot))
-        (with_kinds (any_temporaries (takes p) e) (after_first p first (entered (declared_first first) r))) a)))
+        (with_kinds (any_temporaries (takes p) e) (after_first p plan first (entered (declared_first first) r))) a)))
     statement spot r (source_statement.Break at) = before (deaths spot.inside) (one (Goto (end_label spot.levels)))
     statement spot r (source_statement.Continue at) = before (deaths (spot.inside ++ spot.between)) (one (Goto (next_label spot.innermost)))
     statement spot r (source_statement.Return at e) = returned spot r e
-    statement spot r (source_statement.Labelled at l a) = NoStatement
+    statement spot r (source_statement.Labelled at l a) =
+        before (snapshot p r.bound (Some l) r.kinds plan) (statement spot (passed_label p plan (Some l) r) a)
     statement spot r (source_statement.Switch at e cases) =
         before (prepare p r.bound r.kinds e) (before (set (length (r.kinds ++ takes p e)) (result p r.bound r.kinds e))
         (before (search (spot.levels + 1) (value_type (type_of e)) (length (r.kinds ++ takes p e)) (length (r.kinds ++ returned_temporaries p e)) cases)
@@ -249,16 +278,16 @@ module _ (p : TranslationUnit) where
     next_cases spot r j i k NoCase = NoStatement
     next_cases spot r j i zero (AnotherCase at v body rest) = NoStatement
     next_cases spot r j i (suc k) (AnotherCase at v body rest) =
-        Then (where_reached j i (items spot r body)) (next_cases spot (after_items p body r) j (suc i) k rest)
+        Then (where_reached j i (items spot r body)) (next_cases spot (after_items p plan body r) j (suc i) k rest)
 
     -- those of all cases but the next k, in blocks
     pub blocks_of_cases : Spot → RegisterTable → ℕ → ℕ → ℕ → Cases → MonStatements
     blocks_of_cases spot r j i k NoCase = NoStatement
     blocks_of_cases spot r j i zero (AnotherCase at v body rest) =
         Then (where_reached j (i + others_in_block)
-        (Then (where_reached j i (items spot r body)) (next_cases spot (after_items p body r) j (suc i) others_in_block rest)))
-        (blocks_of_cases spot (after_items p body r) j (suc i) others_in_block rest)
-    blocks_of_cases spot r j i (suc k) (AnotherCase at v body rest) = blocks_of_cases spot (after_items p body r) j (suc i) k rest
+        (Then (where_reached j i (items spot r body)) (next_cases spot (after_items p plan body r) j (suc i) others_in_block rest)))
+        (blocks_of_cases spot (after_items p plan body r) j (suc i) others_in_block rest)
+    blocks_of_cases spot r j i (suc k) (AnotherCase at v body rest) = blocks_of_cases spot (after_items p plan body r) j (suc i) k rest
 
     pub else_part : Spot → RegisterTable → ElsePart → MonStatements
     else_part spot r NoElse = NoStatement
@@ -272,22 +301,22 @@ module _ (p : TranslationUnit) where
     item spot r (Declare ds) = initialise_all p r.bound r.kinds ds
     item spot r (Specify at t) = NoStatement
     item spot r (Run a) = statement spot r a
-    item spot r (Asserts annots) = assertions p r.bound r.kinds annots
+    item spot r (Asserts annots) = assertions p r.bound plan [] r.kinds annots
 
     pub items : Spot → RegisterTable → BlockItems → MonStatements
     items spot r NoItem = NoStatement
-    items spot r (source_statement.Then i rest) = before (item spot r i) (items spot (after_item p i r) rest)
+    items spot r (source_statement.Then i rest) = before (item spot r i) (items spot (after_item p plan i r) rest)
 
-  -- the body of a function, outside all loops, where its parameters live, to whose blocks these registers point
-  abbrev pub body_part : List ℕ → RegisterTable → Option Statement → MonStatements
-  body_part inside r None = NoStatement
-  body_part inside r (Some a) = statement (outermost inside) r a
+  -- the body of a function, outside all loops, where parameters live, to whose blocks these registers point
+  abbrev pub body_part : Option ℕ → List ℕ → RegisterTable → Option Statement → MonStatements
+  body_part result inside r None = NoStatement
+  body_part result inside r (Some a) = statement (outermost result inside) r a
 
-  -- parameters are born in order, each with its argument: pointers stand in the registers from r on, and arguments from v on
-  abbrev pub parameters : ℕ → ℕ → List Declaration → MonStatements
-  parameters r v [] = NoStatement
-  parameters r v (d ∷ ds) =
-      Then (birth p.structs r d) (Then (Store r (value_type d.ctype) (Register v)) (parameters (suc r) (suc v) ds))
+-- parameters are born in order, each with its argument: pointers stand in the registers from r on, and arguments from v on
+abbrev pub parameters : TranslationUnit → ℕ → ℕ → List Declaration → MonStatements
+parameters p r v [] = NoStatement
+parameters p r v (d ∷ ds) =
+    Then (birth p.structs r d) (Then (Store r (value_type d.ctype) (Register v)) (parameters p (suc r) (suc v) ds))
 
 -- ---- registers of a function
 
@@ -299,10 +328,10 @@ value_types ds = map (λ (d : Declaration). value_type d.ctype) ds
 abbrev pub registers_of_body : List MonType → Function → RegisterTable
 registers_of_body front f = entered f.params (with_kinds front (with_kinds (value_types f.params) no_registers))
 
--- all registers of a function
-abbrev pub after_body : TranslationUnit → Option Statement → RegisterTable → RegisterTable
-after_body p None r = r
-after_body p (Some a) r = after_statement p a r
+-- those after it
+abbrev pub after_body : TranslationUnit → List Kept → Option Statement → RegisterTable → RegisterTable
+after_body p plan None r = r
+after_body p plan (Some a) r = after_statement p plan a r
 
 -- the name of a declaration, where it has one
 abbrev pub own_name : List (List ℕ) → Declaration → List ℕ
@@ -323,10 +352,6 @@ name_of_register k _ = temporary_name k
 abbrev pub registers_from : ℕ → List MonType → List MonRegister
 registers_from k [] = []
 registers_from k (t ∷ ts) = record { kind = t; name = name_of_register k t } ∷ registers_from (suc k) ts
-
--- the registers that are no arguments
-abbrev pub registers_of : TranslationUnit → List MonType → Function → List MonRegister
-registers_of p front f = registers_from (length f.params) (drop (length f.params) (after_body p f.body (registers_of_body front f)).kinds)
 
 -- ---- globals and string literals (C99 6.4.5, 6.9.2)
 
@@ -385,19 +410,104 @@ result_of (Int k) = Some (register_type k)
 result_of (source_type.Ptr t) = Some Ptr
 result_of _ = None
 
--- the code of a function after its globals: its parameters live as long as its body is done
-abbrev pub code_of : TranslationUnit → List MonType → Function → MonStatements
-code_of p front f =
-    before (parameters p (length (value_types f.params ++ front)) 0 f.params)
-    (before (body_part p (with_born (length (value_types f.params ++ front)) f.params []) (registers_of_body front f) f.body)
-    (deaths (with_born (length (value_types f.params ++ front)) f.params [])))
+-- ---- what a function keeps beside its variables, in registers behind the arguments
+
+-- with a contract what it gives, and a flag for each behavior
+abbrev pub contract_types : PlainType → Option FunctionContract → List MonType
+contract_types t None = []
+contract_types t (Some c) = value_type t ∷ map (λ (b : NamedBehavior). I32) c.behaviors
+
+-- the terms that are kept at labels, and these
+abbrev pub own_types : Function → List MonType
+own_types f = kept_types (planned f) ++ contract_types f.result f.contract
+
+-- the first of them, and the first behind them
+abbrev pub first_own : Function → ℕ
+first_own f = length (value_types f.params)
+
+abbrev pub behind_own : Function → ℕ
+behind_own f = length (value_types f.params ++ own_types f)
+
+abbrev pub plan_of : Function → List Kept
+plan_of f = kept_from (first_own f) (planned f)
+
+-- what it gives stands behind those of the plan, and then the flags of behaviors
+abbrev pub result_register : Function → ℕ
+result_register f = first_own f + length (kept_types (planned f))
+
+abbrev pub first_flag : Function → ℕ
+first_flag f = suc (result_register f)
+
+-- `\result` where a function gives something, in this register
+abbrev pub result_held : ℕ → Option MonType → List Held
+result_held r None = []
+result_held r (Some t) = record { number = result_number; register = r; kind = t } ∷ []
+
+abbrev pub held_of : Function → List Held
+held_of f = result_held (result_register f) (result_of f.result)
+
+-- the one `return` of a function that gives something
+abbrev pub last_return : ℕ → Option MonType → MonStatements
+last_return r None = NoStatement
+last_return r (Some t) = one (Return (Some (Register r)))
 
 -- `main` initialises the globals first
 abbrev pub front_temporaries : TranslationUnit → Bool → List MonType
 front_temporaries p is_main = if is_main then all_global_temporaries p p.globals else []
 
-abbrev pub front : TranslationUnit → Bool → List Declaration → MonStatements
-front p is_main params = if is_main then initialise_globals p (value_types params) p.globals else NoStatement
+abbrev pub front : TranslationUnit → Bool → Function → MonStatements
+front p is_main f = if is_main then initialise_globals p (value_types f.params ++ own_types f) p.globals else NoStatement
+
+-- a function, in which registers of these types stand between its own and those that point to parameters' blocks
+module _ (p : TranslationUnit) (front_types : List MonType) (f : Function) where
+  -- the first that points to a parameter's block
+  abbrev pub first_pointer : ℕ
+  first_pointer = length (value_types f.params ++ (own_types f ++ front_types))
+
+  abbrev pub pointers : List ℕ
+  pointers = with_born first_pointer f.params []
+
+  -- where the parameters live, and where the label `Pre` was passed
+  abbrev pub at_start : RegisterTable
+  at_start = registers_of_body (own_types f ++ front_types) f
+
+  abbrev pub behind_pre : RegisterTable
+  behind_pre = passed_label p (plan_of f) None at_start
+
+  -- where a body begins that a contract stands in front of, and where it ends
+  abbrev pub at_body : FunctionContract → RegisterTable
+  at_body c = record behind_pre { kinds = behind_entry p behind_pre.bound (first_flag f) behind_pre.kinds c }
+
+  abbrev pub at_leave : FunctionContract → List MonType
+  at_leave c = (after_body p (plan_of f) f.body (at_body c)).kinds
+
+  -- `main` gives 0 at its closing brace (C99 5.1.2.2.3)
+  abbrev pub at_brace : Bool → MonStatements
+  at_brace is_main = if is_main then set (result_register f) (Constant I32 (pos 0)) else NoStatement
+
+  -- A body, and the deaths of the parameters. With a contract: what it asks where the body begins, the body, of which each `return` comes to its end, what
+  -- the contract asks there, the deaths, and one `return`.
+  abbrev pub body_code : Bool → Option FunctionContract → MonStatements
+  body_code is_main None = before (body_part p (plan_of f) None pointers behind_pre f.body) (deaths pointers)
+  body_code is_main (Some c) =
+      before (entry_code p behind_pre.bound (first_flag f) behind_pre.kinds c)
+      (Then (Labelled (before (body_part p (plan_of f) (Some (result_register f)) [] (at_body c) f.body) (at_brace is_main)) leave_label)
+      (before (leave_code p behind_pre.bound (plan_of f) (held_of f) (first_flag f) (at_leave c) c)
+      (before (deaths pointers) (last_return (result_register f) (result_of f.result)))))
+
+  -- parameters are born, the label `Pre` is passed, and the body is done
+  abbrev pub code_of : Bool → MonStatements
+  code_of is_main =
+      before (parameters p first_pointer 0 f.params) (before (snapshot p at_start.bound None at_start.kinds (plan_of f)) (body_code is_main f.contract))
+
+  -- the types of all its registers
+  abbrev pub all_kinds : Option FunctionContract → List MonType
+  all_kinds None = (after_body p (plan_of f) f.body behind_pre).kinds
+  all_kinds (Some c) = behind_leave p behind_pre.bound (plan_of f) (held_of f) (first_flag f) (at_leave c) c
+
+  -- those that are no arguments
+  abbrev pub registers_of : List MonRegister
+  registers_of = registers_from (length f.params) (drop (length f.params) (all_kinds f.contract))
 
 -- the definition with the index k, where `main` has this index
 abbrev pub function_of : TranslationUnit → ℕ → ℕ → Function → MonFunction
@@ -406,7 +516,7 @@ function_of p main k f = record {
   name = if nat_eq k main then codes "main" else function_name k (name_at p.names f.name);
   parameters = arguments_from p.names 0 f.params;
   registers = registers_of p (front_temporaries p (nat_eq k main)) f;
-  body = before (front p (nat_eq k main) f.params) (code_of p (front_temporaries p (nat_eq k main)) f);
+  body = before (front p (nat_eq k main) f) (code_of p (front_temporaries p (nat_eq k main)) f (nat_eq k main));
 }
 
 -- the definitions, from the index k on

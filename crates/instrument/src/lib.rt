@@ -5,7 +5,11 @@
 #![tactic(auto)]
 
 mod block;
+mod contract;
+mod function;
 mod global;
+mod jump;
+mod keeping;
 mod name;
 mod parameter;
 mod program;

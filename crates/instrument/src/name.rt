@@ -3,7 +3,7 @@
 ghost use Rattle.std.specs.Prelude.{◌≡◌, ◌++◌, IfOk, codes, take};
 ghost use Rattle.std.specs.Fmt.{decimal};
 ghost use Rattle.instrument.specs.Translation.{case_label, function_name, global_name, pointer_name, register_name, temporary_name, text_name};
-ghost use Rattle.c_simulation.specs.Labels.{end_label, next_label};
+ghost use Rattle.c_simulation.specs.Labels.{end_label, leave_label, next_label};
 
 use c_syntax::Name;
 use std::alloc::{AllocError, Global};
@@ -99,4 +99,11 @@ pub fn case_label(alloc: Global, levels: u32) -> Result<Name, AllocError>
     ensures { IfOk result (λ bytes. bytes ≡ case_label levels) }
 {
     short(alloc, b"case_", levels as usize)
+}
+
+/// `leave`: the label of the end of a body, where what a contract asks there begins.
+pub fn leave_label(alloc: Global) -> Result<Name, AllocError>
+    ensures { IfOk result (λ bytes. bytes ≡ leave_label) }
+{
+    Ok(Name::new(Vec::from_slice(alloc, b"leave")?))
 }

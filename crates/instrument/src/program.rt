@@ -22,16 +22,14 @@ ghost use Rattle.instrument.specs.Options.{behind_body, body_by, globals_initial
 ghost use Rattle.instrument.specs.Translation.{after_body, front_temporaries, function_name, function_of, functions_from, index_of_main, name_of_register};
 ghost use Rattle.instrument.specs.Translation.{registers_from, registers_of_body, result_of, translated};
 
-use crate::block::leave;
-use crate::global::{initialise_globals, monitored_globals};
+use crate::contract::result_of;
+use crate::function::code_of;
+use crate::global::monitored_globals;
 use crate::name::{function_name, pointer_name, temporary_name};
-use crate::parameter::{arguments, enter_parameters, make_arguments};
-use crate::spot::Spot;
-use crate::statement::statement;
-use c_effects::conversion::register_type;
+use crate::parameter::arguments;
 use c_scopes::sight::name_at;
-use c_syntax::{CType, Func, Name, Program, Stmt};
-use mon_syntax::{MonFunc, MonProgram, MonStmt, MonType, Register, Registers};
+use c_syntax::{Func, Name, Program};
+use mon_syntax::{MonFunc, MonProgram, MonType, Register, Registers};
 use std::alloc::{AllocError, Global};
 
 // The name of a register that is no argument: pointers are told apart.
@@ -57,17 +55,6 @@ fn registers(alloc: Global, kinds: &[MonType], first: usize) -> Result<Vec<Regis
         all.push(Register { kind, name })?;
     }
     Ok(all)
-}
-
-// What a function gives.
-fn result_of(t: &CType) -> Option<MonType>
-    ensures { result ≡ result_of (plain_type t.now) }
-{
-    match t {
-        CType::Int(k) => Some(register_type(*k)),
-        CType::Ptr(_) => Some(MonType::Ptr),
-        _ => None,
-    }
 }
 
 // The index, among the definitions, of the first one of `main`.
@@ -101,74 +88,6 @@ fn name_of(
     } else {
         function_name(alloc, index, name_at(texts, f.name))
     }
-}
-
-// The statement that is the body of a function, where it has one.
-fn statement_of(
-    alloc: Global,
-    spot: &Spot<'_>,
-    body: &Option<Stmt>,
-    names: &mut Registers<'_>,
-    to: &mut Vec<MonStmt>,
-) -> Result<(), AllocError>
-    ensures code { OnOk result (plain_stmts to.new.items ≡ before (plain_stmts to.old.items)
-        (body_by names.old (plain_spot spot.now) (option_map plain_stmt body.now))) }
-    ensures names { OnOk result (names.new ≡ behind_body (option_map plain_stmt body.now) names.old) }
-    ensures numbers { OnOk result (BodyHasNumbers (option_map plain_stmt body.now)) }
-{
-    match body {
-        Some(body) => statement(alloc, spot, body, names, to),
-        None => Ok(()),
-    }
-}
-
-// What stands before the rest of a function: `main` initialises the globals.
-#[tactic(auto, using(c_effects::proofs::Sequences::before_none))]
-fn front(
-    alloc: Global,
-    is_main: bool,
-    names: &mut Registers<'_>,
-    to: &mut Vec<MonStmt>,
-) -> Result<(), AllocError>
-    ensures code { OnOk result (plain_stmts to.new.items ≡ before (plain_stmts to.old.items) (if is_main then globals_initialised names.old
-        (unit_of names.old).globals else NoStatement)) }
-    ensures names { OnOk result (names.new ≡ with_registers (front_temporaries (unit_of names.old) is_main) names.old) }
-    ensures letters { OnOk result (is_main ≡ true → InitialsHaveLetters (unit_of names.old).globals) }
-{
-    if is_main {
-        initialise_globals(alloc, names, to)
-    } else {
-        Ok(())
-    }
-}
-
-// The code of a function, in which its parameters live, over registers of its own.
-fn code_of(
-    alloc: Global,
-    is_main: bool,
-    f: &Func,
-    names: &mut Registers<'_>,
-) -> Result<Vec<MonStmt>, AllocError>
-    ensures code { IfOk result (λ code. plain_stmts code.items ≡ whole_code (unit_of names.old) is_main (plain_func f.now)) }
-    ensures names { OnOk result (names.new ≡ with_table (after_body (unit_of names.old) (plain_func f.now).body
-        (registers_of_body (front_temporaries (unit_of names.old) is_main) (plain_func f.now))) names.old) }
-    ensures numbers { IfOk result (λ _. BodyHasNumbers (plain_func f.now).body) }
-    ensures letters { IfOk result (λ _. is_main ≡ true → InitialsHaveLetters (unit_of names.old).globals) }
-{
-    let mut code = Vec::new(alloc);
-    make_arguments(alloc, &f.params, names)?;
-    front(alloc, is_main, names, &mut code)?;
-    let own = enter_parameters(alloc, &f.params, names, &mut code)?;
-    let spot = Spot {
-        levels: 0,
-        innermost: 0,
-        inside: &own,
-        between: &[],
-        outside: &[],
-    };
-    statement_of(alloc, &spot, &f.body, names, &mut code)?;
-    leave(alloc, &own, &mut code)?;
-    Ok(code)
 }
 
 // Translates the definition with an index, where `main` has this index.

@@ -3,58 +3,63 @@
 ghost use Rattle.std.specs.Prelude.{◌≡◌, ◌+◌, ◌<◌, ◌++◌, [], IfOk, OnOk, drop, length, map, option_map, reverse};
 ghost use Rattle.c_syntax.specs.Logic.{plain_annot};
 ghost use Rattle.c_syntax.specs.Expressions.{plain_expr};
-ghost use Rattle.c_syntax.specs.Statements.{plain_cases, plain_else_part, plain_item, plain_items, plain_stmt};
+ghost use Rattle.c_syntax.specs.Statements.{Asserts, plain_cases, plain_else_part, plain_item, plain_items, plain_stmt};
 ghost use Rattle.c_model.specs.Meaning.{declared_first, declared_in};
 ghost use Rattle.mon_syntax.specs.Registers.{next_register};
-ghost use Rattle.mon_syntax.specs.Trees.{Goto, If, Labelled, Loop, plain_expr as plain_monitored, plain_stmts};
+ghost use Rattle.mon_syntax.specs.Trees.{If, Labelled, Loop, plain_expr as plain_monitored, plain_stmts};
 ghost use Rattle.track_scopes.specs.Blocks.{deaths, with_born};
 ghost use Rattle.annot_code.specs.Numbered.{AreNumbered};
-ghost use Rattle.annot_code.specs.Plain.{assertions_by, names_behind_assertions};
+ghost use Rattle.annot_code.specs.Tables.{plain_plan};
 ghost use Rattle.c_effects.specs.Letters.{ActHasLetters, Any, ValueHasLetters};
-ghost use Rattle.c_effects.specs.Expressions.{before, one, set};
+ghost use Rattle.c_effects.specs.Expressions.{before, one};
 ghost use Rattle.c_effects.specs.Effects.{any_temporaries};
 ghost use Rattle.c_effects.specs.Full.{act_takes, takes};
 ghost use Rattle.c_effects.specs.Named.{unit_of, with_registers};
-ghost use Rattle.c_evaluation.specs.Evaluated.{condition_result_by, prepare_by, result_by};
+ghost use Rattle.c_evaluation.specs.Evaluated.{condition_result_by, prepare_by};
 ghost use Rattle.instrument.specs.Limits.{CasesHaveNumbers, ElseHasNumbers, FirstHasNumbers, HasNumbers, HaveNumbers, ItemHasNumbers};
-ghost use Rattle.instrument.specs.Options.{after, behind_cases, behind_else, behind_first, behind_item, behind_items, births_by, blocks_of_cases_by, chosen_by};
+ghost use Rattle.instrument.specs.Options.{after, asserts_by, behind_cases, behind_else, behind_first};
+ghost use Rattle.instrument.specs.Options.{behind_item, behind_items, births_by, blocks_of_cases_by, chosen_by};
 ghost use Rattle.instrument.specs.Options.{ItemsHaveNumbers, cases_in_block, do_loop, else_part_by, entering, first_cases, items_of_case};
-ghost use Rattle.instrument.specs.Options.{next_cases_by, reached_by, switch_of};
-ghost use Rattle.instrument.specs.Options.{first_part_by, item_by, items_by, plain_first_part, plain_spot, returned_by, statement_by};
+ghost use Rattle.instrument.specs.Options.{labelled_of, next_cases_by, plan_in, reached_by, switch_of};
+ghost use Rattle.instrument.specs.Options.{first_part_by, item_by, items_by, plain_first_part, plain_spot, statement_by};
 ghost use Rattle.instrument.specs.Options.{test_by, test_if_any_by, turns_by, while_loop, with_blocks};
-ghost use Rattle.instrument.specs.Translation.{alive, all_live, in_loop, leave_where_zero, returned_temporaries, switch_temporaries, with_variables};
+ghost use Rattle.instrument.specs.Translation.{alive, in_loop, leave_where_zero, returned_temporaries, switch_temporaries, with_variables};
 ghost use Rattle.c_simulation.specs.Labels.{end_label, next_label};
 
 use crate::block::{enter_block, inside, items_of, leave, one_more};
+use crate::jump::{break_out, give_back, go_on, set_aside};
 use crate::name::{end_label, next_label};
 use crate::spot::Spot;
 use crate::switch::{CASES_IN_BLOCK, Choice, OTHERS_IN_BLOCK, search, where_reached};
-use annot_code::assertion::assertion;
+use annot_code::assertion::assertions;
+use annot_code::kept::Held;
+use annot_code::plan::{Plan, Stored};
+use annot_code::snapshot::snapshot;
 use c_effects::conversion::value_type;
-use c_effects::operator::register;
 use c_effects::part::{alone, then};
 use c_evaluation::act::{act, act_if_any};
-use c_evaluation::evaluation::{condition_of, value};
+use c_evaluation::evaluation::condition_of;
 use c_initialisers::initialiser::initialise_all;
 use c_syntax::{Annot, Case, Expr, Item, Stmt, StmtKind};
 use mon_syntax::{MonExpr, MonStmt, MonStmtKind, MonType, Registers};
 use std::alloc::{AllocError, Global};
 
-// The assertions of a list of annotations.
-fn assertions(
+// The assertions of a list of annotations, in a function that keeps these terms.
+fn asserts(
     alloc: Global,
+    plan: &Plan<'_>,
     annots: &[Annot],
     names: &mut Registers<'_>,
     to: &mut Vec<MonStmt>,
 ) -> Result<(), AllocError>
-    ensures code { OnOk result (plain_stmts to.new.items ≡ before (plain_stmts to.old.items) (assertions_by names.old (map plain_annot annots.now))) }
-    ensures names { OnOk result (names.new ≡ names_behind_assertions (map plain_annot annots.now) names.old) }
+    ensures code { OnOk result (plain_stmts to.new.items ≡ before (plain_stmts to.old.items)
+        (asserts_by (plain_plan plan.now.kept.now) names.old (map plain_annot annots.now))) }
+    ensures names { OnOk result (names.new ≡ behind_item (plain_plan plan.now.kept.now) (Asserts (map plain_annot annots.now)) names.old) }
     ensures numbered { OnOk result (AreNumbered (map plain_annot annots.now)) }
 {
-    'annots: for annot in annots {
-        assertion(alloc, annot, names, to)?;
-    }
-    Ok(())
+    let held: Vec<Held> = Vec::new(alloc);
+    let stored = Stored { plan, held: &held };
+    assertions(alloc, annots, &stored, names, to)
 }
 
 // The way out of a loop, where the condition is 0.
@@ -112,101 +117,6 @@ fn leave_unless_any(
     }
 }
 
-// `break`: the blocks of the variables that are left die before it.
-#[tactic(auto, using(c_effects::proofs::Sequences::before_assoc))]
-fn break_out(alloc: Global, spot: &Spot<'_>, to: &mut Vec<MonStmt>) -> Result<(), AllocError>
-    ensures { OnOk result (plain_stmts to.new.items ≡ before (plain_stmts to.old.items)
-        (before (deaths (reverse spot.now.inside.now)) (one (Goto (end_label spot.now.levels))))) }
-{
-    let label = end_label(alloc, spot.levels)?;
-    leave(alloc, spot.inside, to)?;
-    then(alloc, to, MonStmtKind::Goto(label))
-}
-
-// The deaths of the blocks of these, and then of those.
-#[tactic(auto, using(c_effects::proofs::Sequences::before_assoc, crate::proofs::DeclarationCode::deaths_behind))]
-fn leave_both(
-    alloc: Global,
-    first: &[u32],
-    second: &[u32],
-    to: &mut Vec<MonStmt>,
-) -> Result<(), AllocError>
-    ensures { OnOk result (plain_stmts to.new.items ≡ before (plain_stmts to.old.items) (deaths (reverse first.now ++ reverse second.now))) }
-{
-    leave(alloc, first, to)?;
-    leave(alloc, second, to)
-}
-
-// `continue`: those born in the body of the loop die before it.
-#[tactic(auto, using(c_effects::proofs::Sequences::before_assoc))]
-fn go_on(alloc: Global, spot: &Spot<'_>, to: &mut Vec<MonStmt>) -> Result<(), AllocError>
-    ensures { OnOk result (plain_stmts to.new.items ≡ before (plain_stmts to.old.items)
-        (before (deaths (reverse spot.now.inside.now ++ reverse spot.now.between.now)) (one (Goto (next_label spot.now.innermost))))) }
-{
-    let label = next_label(alloc, spot.innermost)?;
-    leave_both(alloc, spot.inside, spot.between, to)?;
-    then(alloc, to, MonStmtKind::Goto(label))
-}
-
-// The deaths of all blocks of a function.
-#[tactic(auto, using(c_effects::proofs::Sequences::before_assoc, crate::proofs::DeclarationCode::deaths_behind))]
-fn leave_all(alloc: Global, spot: &Spot<'_>, to: &mut Vec<MonStmt>) -> Result<(), AllocError>
-    ensures { OnOk result (plain_stmts to.new.items ≡ before (plain_stmts to.old.items) (deaths (all_live (plain_spot spot.now)))) }
-{
-    leave(alloc, spot.inside, to)?;
-    leave_both(alloc, spot.between, spot.outside, to)
-}
-
-// The value of a `return`, in a further register, since it may be read from blocks that die before it.
-#[tactic(auto, using(c_effects::proofs::Sequences::before_assoc))]
-fn set_aside(
-    alloc: Global,
-    e: &Expr,
-    names: &mut Registers<'_>,
-    to: &mut Vec<MonStmt>,
-) -> Result<u32, AllocError>
-    ensures number { IfOk result (λ r. r ≡ length (names.old.table.kinds ++ takes (unit_of names.old) (plain_expr e.now))) }
-    ensures code { OnOk result (plain_stmts to.new.items ≡ before (plain_stmts to.old.items) (before (prepare_by names.old (plain_expr e.now))
-        (set (length (names.old.table.kinds ++ takes (unit_of names.old) (plain_expr e.now))) (result_by names.old (plain_expr e.now))))) }
-    ensures names { OnOk result (names.new ≡ with_registers (returned_temporaries (unit_of names.old) (plain_expr e.now)) names.old) }
-    ensures letters { OnOk result (ValueHasLetters (plain_expr e.now)) }
-{
-    let found = value(alloc, e, names, to)?;
-    let number = names.fresh(value_type(&e.ctype))?;
-    then(alloc, to, MonStmtKind::Set(number, found))?;
-    Ok(number)
-}
-
-// `return`: all blocks of the function die before it, and the value is in registers.
-#[tactic(auto, using(c_effects::proofs::Sequences::before_assoc))]
-fn give_back(
-    alloc: Global,
-    spot: &Spot<'_>,
-    e: &Option<Expr>,
-    names: &mut Registers<'_>,
-    to: &mut Vec<MonStmt>,
-) -> Result<(), AllocError>
-    ensures code { OnOk result (plain_stmts to.new.items ≡ before (plain_stmts to.old.items)
-        (returned_by names.old (plain_spot spot.now)
-        (option_map plain_expr e.now))) }
-    ensures names { OnOk result (names.new ≡ with_registers
-        (any_temporaries (returned_temporaries (unit_of names.old)) (option_map plain_expr e.now)) names.old) }
-    ensures letters { OnOk result (Any ValueHasLetters (option_map plain_expr e.now)) }
-{
-    match e {
-        Some(e) => {
-            let number = set_aside(alloc, e, names, to)?;
-            leave_all(alloc, spot, to)?;
-            let value = register(alloc, number)?;
-            then(alloc, to, MonStmtKind::Return(Some(value)))
-        }
-        None => {
-            leave_all(alloc, spot, to)?;
-            then(alloc, to, MonStmtKind::Return(None))
-        }
-    }
-}
-
 // Statements at whose end a `break` goes on.
 fn until_end(
     alloc: Global,
@@ -244,9 +154,9 @@ fn round(
     names: &mut Registers<'_>,
 ) -> Result<Vec<MonStmt>, AllocError>
     ensures code { IfOk result (λ code. plain_stmts code.items ≡ one
-        (Labelled (statement_by names.old (in_loop (plain_spot spot.now))
+        (Labelled (statement_by (plan_in spot.now) names.old (in_loop (plain_spot spot.now))
         (plain_stmt s.now)) (next_label (spot.now.levels + 1)))) }
-    ensures names { OnOk result (names.new ≡ after (plain_stmt s.now) names.old) }
+    ensures names { OnOk result (names.new ≡ after (plan_in spot.now) (plain_stmt s.now) names.old) }
     ensures numbers { OnOk result (HasNumbers (plain_stmt s.now)) }
 {
     let loops = one_more(spot.levels)?;
@@ -258,6 +168,8 @@ fn round(
         inside: &[],
         between: &[],
         outside: &outside,
+        result: spot.result,
+        plan: spot.plan,
     };
     let body = apart(alloc, &inner, s, names)?;
     labelled(alloc, loops, body)
@@ -284,8 +196,8 @@ pub fn statement(
     to: &mut Vec<MonStmt>,
 ) -> Result<(), AllocError>
     ensures code { OnOk result (plain_stmts to.new.items ≡ before (plain_stmts to.old.items)
-        (statement_by names.old (plain_spot spot.now) (plain_stmt s.now))) }
-    ensures names { OnOk result (names.new ≡ after (plain_stmt s.now) names.old) }
+        (statement_by (plan_in spot.now) names.old (plain_spot spot.now) (plain_stmt s.now))) }
+    ensures names { OnOk result (names.new ≡ after (plan_in spot.now) (plain_stmt s.now) names.old) }
     ensures numbers { OnOk result (HasNumbers (plain_stmt s.now)) }
 {
     match &*s.kind {
@@ -305,8 +217,29 @@ pub fn statement(
         StmtKind::Break => break_out(alloc, spot, to),
         StmtKind::Continue => go_on(alloc, spot, to),
         StmtKind::Return(e) => give_back(alloc, spot, e, names, to),
+        StmtKind::Labelled(label, a) => pass_label(alloc, spot, *label, a, names, to),
         StmtKind::Switch(e, cases) => switch(alloc, spot, cases, e, names, to),
     }
+}
+
+// A statement with a label: the terms of the label are kept before it.
+#[cycle(statement)]
+#[tactic(auto, using(c_effects::proofs::Sequences::before_assoc))]
+fn pass_label(
+    alloc: Global,
+    spot: &Spot<'_>,
+    label: u32,
+    a: &Stmt,
+    names: &mut Registers<'_>,
+    to: &mut Vec<MonStmt>,
+) -> Result<(), AllocError>
+    ensures code { OnOk result (plain_stmts to.new.items ≡ before (plain_stmts to.old.items)
+        (statement_by (plan_in spot.now) names.old (plain_spot spot.now) (labelled_of label a.now))) }
+    ensures names { OnOk result (names.new ≡ after (plan_in spot.now) (labelled_of label a.now) names.old) }
+    ensures numbers { OnOk result (HasNumbers (labelled_of label a.now)) }
+{
+    snapshot(alloc, Some(label), spot.plan.kept, names, to)?;
+    statement(alloc, spot, a, names, to)
 }
 
 // What stands before the cases of a `switch`: the value of its expression, and the search for a case with it. Gives the
@@ -328,7 +261,7 @@ fn choose_case(
 {
     let choice = Choice {
         kind: value_type(&e.ctype),
-        value: set_aside(alloc, e, names, to)?,
+        value: set_aside(alloc, e, None, names, to)?,
         index: names.fresh(MonType::U64)?,
     };
     search(alloc, levels, choice, cases, to)?;
@@ -346,8 +279,8 @@ fn switch(
     to: &mut Vec<MonStmt>,
 ) -> Result<(), AllocError>
     ensures code { OnOk result (plain_stmts to.new.items ≡ before (plain_stmts to.old.items)
-        (statement_by names.old (plain_spot spot.now) (switch_of e.now cases.now))) }
-    ensures names { OnOk result (names.new ≡ after (switch_of e.now cases.now) names.old) }
+        (statement_by (plan_in spot.now) names.old (plain_spot spot.now) (switch_of e.now cases.now))) }
+    ensures names { OnOk result (names.new ≡ after (plan_in spot.now) (switch_of e.now cases.now) names.old) }
     ensures numbers { OnOk result (HasNumbers (switch_of e.now cases.now)) }
 {
     let levels = one_more(spot.levels)?;
@@ -359,6 +292,8 @@ fn switch(
         inside: &[],
         between: &between,
         outside: spot.outside,
+        result: spot.result,
+        plan: spot.plan,
     };
     let code = blocks_of_cases(alloc, &inner, chosen, cases, names)?;
     until_end(alloc, levels, code, to)
@@ -373,8 +308,9 @@ fn blocks_of_cases(
     cases: &[Case],
     names: &mut Registers<'_>,
 ) -> Result<Vec<MonStmt>, AllocError>
-    ensures code { IfOk result (λ code. plain_stmts code.items ≡ blocks_of_cases_by names.old (plain_spot spot.now) chosen 0 0 (plain_cases cases.now)) }
-    ensures names { OnOk result (names.new ≡ behind_cases (plain_cases cases.now) names.old) }
+    ensures code { IfOk result (λ code. plain_stmts code.items ≡
+        blocks_of_cases_by (plan_in spot.now) names.old (plain_spot spot.now) chosen 0 0 (plain_cases cases.now)) }
+    ensures names { OnOk result (names.new ≡ behind_cases (plan_in spot.now) (plain_cases cases.now) names.old) }
     ensures numbers { OnOk result (CasesHaveNumbers 0 (plain_cases cases.now)) }
 {
     let mut code = Vec::new(alloc);
@@ -399,8 +335,8 @@ fn next_cases(
 ) -> Result<Vec<MonStmt>, AllocError>
     requires { first < length cases.now }
     ensures code { IfOk result (λ code. plain_stmts code.items
-        ≡ next_cases_by names.old (plain_spot spot.now) chosen first cases_in_block (plain_cases (drop first cases.now))) }
-    ensures names { OnOk result (names.new ≡ behind_cases (first_cases cases_in_block (plain_cases (drop first cases.now))) names.old) }
+        ≡ next_cases_by (plan_in spot.now) names.old (plain_spot spot.now) chosen first cases_in_block (plain_cases (drop first cases.now))) }
+    ensures names { OnOk result (names.new ≡ behind_cases (plan_in spot.now) (first_cases cases_in_block (plain_cases (drop first cases.now))) names.old) }
     ensures numbers { OnOk result (ItemsHaveNumbers (first_cases cases_in_block (plain_cases (drop first cases.now)))) }
 {
     let mut code = Vec::new(alloc);
@@ -422,8 +358,8 @@ fn next_case(
     to: &mut Vec<MonStmt>,
 ) -> Result<(), AllocError>
     ensures code { OnOk result (plain_stmts to.new.items ≡ before (plain_stmts to.old.items)
-        (one (reached_by names.old (plain_spot spot.now) reached.0 reached.1 case.now))) }
-    ensures names { OnOk result (names.new ≡ behind_items (items_of_case case.now) names.old) }
+        (one (reached_by (plan_in spot.now) names.old (plain_spot spot.now) reached.0 reached.1 case.now))) }
+    ensures names { OnOk result (names.new ≡ behind_items (plan_in spot.now) (items_of_case case.now) names.old) }
     ensures numbers { OnOk result (HaveNumbers (items_of_case case.now)) }
 {
     let (chosen, index) = reached;
@@ -443,9 +379,9 @@ fn while_loop(
     to: &mut Vec<MonStmt>,
 ) -> Result<(), AllocError>
     ensures code { OnOk result (plain_stmts to.new.items ≡ before (plain_stmts to.old.items)
-        (statement_by names.old (plain_spot spot.now)
+        (statement_by (plan_in spot.now) names.old (plain_spot spot.now)
         (while_loop a.now e.now))) }
-    ensures names { OnOk result (names.new ≡ after (while_loop a.now e.now) names.old) }
+    ensures names { OnOk result (names.new ≡ after (plan_in spot.now) (while_loop a.now e.now) names.old) }
     ensures numbers { OnOk result (HasNumbers (while_loop a.now e.now)) }
 {
     let loops = one_more(spot.levels)?;
@@ -466,8 +402,8 @@ fn do_loop(
     to: &mut Vec<MonStmt>,
 ) -> Result<(), AllocError>
     ensures code { OnOk result (plain_stmts to.new.items ≡ before (plain_stmts to.old.items)
-        (statement_by names.old (plain_spot spot.now) (do_loop a.now e.now))) }
-    ensures names { OnOk result (names.new ≡ after (do_loop a.now e.now) names.old) }
+        (statement_by (plan_in spot.now) names.old (plain_spot spot.now) (do_loop a.now e.now))) }
+    ensures names { OnOk result (names.new ≡ after (plan_in spot.now) (do_loop a.now e.now) names.old) }
     ensures numbers { OnOk result (HasNumbers (do_loop a.now e.now)) }
 {
     let loops = one_more(spot.levels)?;
@@ -488,9 +424,10 @@ fn enter_for(
     ensures own { IfOk result (λ own. reverse own.items ≡ with_born (next_register names.old.table) (declared_first (plain_first_part first.now)) []) }
     ensures code { OnOk result (plain_stmts to.new.items ≡ before (plain_stmts to.old.items)
         (before (births_by names.old (declared_first (plain_first_part first.now)))
-        (first_part_by (entering (declared_first (plain_first_part first.now)) names.old)
+        (first_part_by (plan_in spot.now) (entering (declared_first (plain_first_part first.now)) names.old)
         (with_variables (next_register names.old.table) (declared_first (plain_first_part first.now)) (plain_spot spot.now)) (plain_first_part first.now)))) }
-    ensures names { OnOk result (names.new ≡ behind_first (plain_first_part first.now) (entering (declared_first (plain_first_part first.now)) names.old)) }
+    ensures names { OnOk result
+        (names.new ≡ behind_first (plan_in spot.now) (plain_first_part first.now) (entering (declared_first (plain_first_part first.now)) names.old)) }
     ensures numbers { OnOk result (FirstHasNumbers (plain_first_part first.now)) }
 {
     let own = enter_block(alloc, items_of(first), names, to)?;
@@ -501,6 +438,8 @@ fn enter_for(
         inside: &live,
         between: spot.between,
         outside: spot.outside,
+        result: spot.result,
+        plan: spot.plan,
     };
     first_part(alloc, &around, first, names, to)?;
     Ok(own)
@@ -518,11 +457,12 @@ fn rest_of_for(
     to: &mut Vec<MonStmt>,
 ) -> Result<(), AllocError>
     ensures code { OnOk result (plain_stmts to.new.items ≡ before (plain_stmts to.old.items)
-        (before (turns_by names.old (with_blocks (reverse own.items) (plain_spot spot.now))
+        (before (turns_by (plan_in spot.now) names.old (with_blocks (reverse own.items) (plain_spot spot.now))
         (option_map plain_expr controls.entry.0.now) (option_map plain_expr controls.entry.1.now) (plain_stmt a.now)) (deaths (reverse own.items)))) }
     ensures names { OnOk result (names.new ≡ with_registers
         (any_temporaries (act_takes (unit_of names.old)) (option_map plain_expr controls.entry.1.now))
-        (after (plain_stmt a.now) (with_registers (any_temporaries (takes (unit_of names.old)) (option_map plain_expr controls.entry.0.now)) names.old))) }
+        (after (plan_in spot.now) (plain_stmt a.now)
+        (with_registers (any_temporaries (takes (unit_of names.old)) (option_map plain_expr controls.entry.0.now)) names.old))) }
     ensures numbers { OnOk result (Any ValueHasLetters (option_map plain_expr controls.entry.0.now) × HasNumbers (plain_stmt a.now)
         × Any ActHasLetters (option_map plain_expr controls.entry.1.now)) }
 {
@@ -533,6 +473,8 @@ fn rest_of_for(
         inside: &live,
         between: spot.between,
         outside: spot.outside,
+        result: spot.result,
+        plan: spot.plan,
     };
     turns(alloc, &around, a, controls, names, to)?;
     leave(alloc, &own, to)
@@ -550,9 +492,10 @@ fn tested(
 ) -> Result<(MonExpr, Vec<MonStmt>), AllocError>
     ensures condition { IfOk result (λ r. plain_monitored r.0 ≡ condition_result_by names.old (plain_expr e.now)) }
     ensures first { IfOk result (λ r. plain_stmts r.1.items
-        ≡ statement_by (with_registers (takes (unit_of names.old) (plain_expr e.now)) names.old) (plain_spot spot.now) (plain_stmt a.now)) }
+        ≡ statement_by (plan_in spot.now) (with_registers (takes (unit_of names.old) (plain_expr e.now)) names.old) (plain_spot spot.now) (plain_stmt a.now)) }
     ensures setup { OnOk result (plain_stmts to.new.items ≡ before (plain_stmts to.old.items) (prepare_by names.old (plain_expr e.now))) }
-    ensures names { OnOk result (names.new ≡ after (plain_stmt a.now) (with_registers (takes (unit_of names.old) (plain_expr e.now)) names.old)) }
+    ensures names { OnOk result
+        (names.new ≡ after (plan_in spot.now) (plain_stmt a.now) (with_registers (takes (unit_of names.old) (plain_expr e.now)) names.old)) }
     ensures numbers { OnOk result (ValueHasLetters (plain_expr e.now) × HasNumbers (plain_stmt a.now)) }
 {
     let condition = condition_of(alloc, e, names, to)?;
@@ -571,8 +514,9 @@ fn branches(
     to: &mut Vec<MonStmt>,
 ) -> Result<(), AllocError>
     ensures code { OnOk result (plain_stmts to.new.items ≡ before (plain_stmts to.old.items)
-        (one (If (plain_monitored front.0) (plain_stmts front.1.items) (else_part_by names.old (plain_spot spot.now) (plain_else_part b.now))))) }
-    ensures names { OnOk result (names.new ≡ behind_else (plain_else_part b.now) names.old) }
+        (one (If (plain_monitored front.0) (plain_stmts front.1.items)
+        (else_part_by (plan_in spot.now) names.old (plain_spot spot.now) (plain_else_part b.now))))) }
+    ensures names { OnOk result (names.new ≡ behind_else (plan_in spot.now) (plain_else_part b.now) names.old) }
     ensures numbers { OnOk result (ElseHasNumbers (plain_else_part b.now)) }
 {
     let second = else_part(alloc, spot, b, names)?;
@@ -588,8 +532,8 @@ fn apart(
     s: &Stmt,
     names: &mut Registers<'_>,
 ) -> Result<Vec<MonStmt>, AllocError>
-    ensures code { IfOk result (λ code. plain_stmts code.items ≡ statement_by names.old (plain_spot spot.now) (plain_stmt s.now)) }
-    ensures names { OnOk result (names.new ≡ after (plain_stmt s.now) names.old) }
+    ensures code { IfOk result (λ code. plain_stmts code.items ≡ statement_by (plan_in spot.now) names.old (plain_spot spot.now) (plain_stmt s.now)) }
+    ensures names { OnOk result (names.new ≡ after (plan_in spot.now) (plain_stmt s.now) names.old) }
     ensures numbers { OnOk result (HasNumbers (plain_stmt s.now)) }
 {
     let mut code = Vec::new(alloc);
@@ -605,8 +549,8 @@ fn else_part(
     b: &Option<Stmt>,
     names: &mut Registers<'_>,
 ) -> Result<Vec<MonStmt>, AllocError>
-    ensures code { IfOk result (λ code. plain_stmts code.items ≡ else_part_by names.old (plain_spot spot.now) (plain_else_part b.now)) }
-    ensures names { OnOk result (names.new ≡ behind_else (plain_else_part b.now) names.old) }
+    ensures code { IfOk result (λ code. plain_stmts code.items ≡ else_part_by (plan_in spot.now) names.old (plain_spot spot.now) (plain_else_part b.now)) }
+    ensures names { OnOk result (names.new ≡ behind_else (plan_in spot.now) (plain_else_part b.now) names.old) }
     ensures numbers { OnOk result (ElseHasNumbers (plain_else_part b.now)) }
 {
     match b {
@@ -626,9 +570,9 @@ fn block(
 ) -> Result<(), AllocError>
     ensures code { OnOk result (plain_stmts to.new.items ≡ before (plain_stmts to.old.items)
         (alive (unit_of names.old) (next_register names.old.table) (declared_in (plain_items body.now))
-        (items_by (entering (declared_in (plain_items body.now)) names.old)
+        (items_by (plan_in spot.now) (entering (declared_in (plain_items body.now)) names.old)
         (with_variables (next_register names.old.table) (declared_in (plain_items body.now)) (plain_spot spot.now)) (plain_items body.now)))) }
-    ensures names { OnOk result (names.new ≡ behind_items (plain_items body.now) (entering (declared_in (plain_items body.now)) names.old)) }
+    ensures names { OnOk result (names.new ≡ behind_items (plan_in spot.now) (plain_items body.now) (entering (declared_in (plain_items body.now)) names.old)) }
     ensures numbers { OnOk result (HaveNumbers (plain_items body.now)) }
 {
     let own = enter_block(alloc, body, names, to)?;
@@ -639,6 +583,8 @@ fn block(
         inside: &live,
         between: spot.between,
         outside: spot.outside,
+        result: spot.result,
+        plan: spot.plan,
     };
     items(alloc, &inner, body, names, to)?;
     leave(alloc, &own, to)
@@ -654,9 +600,9 @@ fn first_part(
     to: &mut Vec<MonStmt>,
 ) -> Result<(), AllocError>
     ensures code { OnOk result (plain_stmts to.new.items ≡ before (plain_stmts to.old.items)
-        (first_part_by names.old (plain_spot spot.now)
+        (first_part_by (plan_in spot.now) names.old (plain_spot spot.now)
         (plain_first_part first.now))) }
-    ensures names { OnOk result (names.new ≡ behind_first (plain_first_part first.now) names.old) }
+    ensures names { OnOk result (names.new ≡ behind_first (plan_in spot.now) (plain_first_part first.now) names.old) }
     ensures numbers { OnOk result (FirstHasNumbers (plain_first_part first.now)) }
 {
     match first {
@@ -676,11 +622,12 @@ fn turns(
     to: &mut Vec<MonStmt>,
 ) -> Result<(), AllocError>
     ensures code { OnOk result (plain_stmts to.new.items ≡ before (plain_stmts to.old.items)
-        (turns_by names.old (plain_spot spot.now)
+        (turns_by (plan_in spot.now) names.old (plain_spot spot.now)
         (option_map plain_expr controls.entry.0.now) (option_map plain_expr controls.entry.1.now) (plain_stmt a.now))) }
     ensures names { OnOk result (names.new ≡ with_registers
         (any_temporaries (act_takes (unit_of names.old)) (option_map plain_expr controls.entry.1.now))
-        (after (plain_stmt a.now) (with_registers (any_temporaries (takes (unit_of names.old)) (option_map plain_expr controls.entry.0.now)) names.old))) }
+        (after (plan_in spot.now) (plain_stmt a.now)
+        (with_registers (any_temporaries (takes (unit_of names.old)) (option_map plain_expr controls.entry.0.now)) names.old))) }
     ensures numbers { OnOk result (Any ValueHasLetters (option_map plain_expr controls.entry.0.now) × HasNumbers (plain_stmt a.now)
         × Any ActHasLetters (option_map plain_expr controls.entry.1.now)) }
 {
@@ -704,15 +651,15 @@ fn item(
     to: &mut Vec<MonStmt>,
 ) -> Result<(), AllocError>
     ensures code { OnOk result (plain_stmts to.new.items ≡ before (plain_stmts to.old.items)
-        (item_by names.old (plain_spot spot.now) (plain_item i.now))) }
-    ensures names { OnOk result (names.new ≡ behind_item (plain_item i.now) names.old) }
+        (item_by (plan_in spot.now) names.old (plain_spot spot.now) (plain_item i.now))) }
+    ensures names { OnOk result (names.new ≡ behind_item (plan_in spot.now) (plain_item i.now) names.old) }
     ensures numbers { OnOk result (ItemHasNumbers (plain_item i.now)) }
 {
     match i {
         Item::Declare(decls) => initialise_all(alloc, decls, names, to),
         Item::Specify(..) => Ok(()),
         Item::Run(a) => statement(alloc, spot, a, names, to),
-        Item::Asserts(annots) => assertions(alloc, annots, names, to),
+        Item::Asserts(annots) => asserts(alloc, spot.plan, annots, names, to),
     }
 }
 
@@ -726,8 +673,8 @@ fn items(
     to: &mut Vec<MonStmt>,
 ) -> Result<(), AllocError>
     ensures code { OnOk result (plain_stmts to.new.items ≡ before (plain_stmts to.old.items)
-        (items_by names.old (plain_spot spot.now) (plain_items block.now))) }
-    ensures names { OnOk result (names.new ≡ behind_items (plain_items block.now) names.old) }
+        (items_by (plan_in spot.now) names.old (plain_spot spot.now) (plain_items block.now))) }
+    ensures names { OnOk result (names.new ≡ behind_items (plan_in spot.now) (plain_items block.now) names.old) }
     ensures numbers { OnOk result (HaveNumbers (plain_items block.now)) }
 {
     'items: for i in block {

@@ -12,7 +12,7 @@ use Rattle.c_effects.specs.Expressions.{before}
 use Rattle.c_effects.proofs.Sequences.{left_at, none_left, all_there, more_behind, nothing}
 use Rattle.c_effects.proofs.Trees.{on_ok, on_ok_then}
 use Rattle.instrument.specs.Limits.{HasNumbers, HaveNumbers}
-use Rattle.instrument.specs.Options.{ItemsHaveNumbers, behind_cases, blocks_of_cases_by, cases_in_block, after, behind_first, behind_item, behind_items, else_part_by, entering, first_part_by, item_by, items_by, plain_first_part, plain_spot}
+use Rattle.instrument.specs.Options.{ItemsHaveNumbers, behind_cases, blocks_of_cases_by, cases_in_block, after, behind_first, behind_item, behind_items, else_part_by, entering, first_part_by, item_by, items_by, plain_first_part, plain_spot, plan_in}
 use Rattle.instrument.specs.Options.{statement_by, test_if_any_by}
 use Rattle.instrument.proofs.DeclarationCode.{born_front, inside_is}
 use Rattle.instrument.proofs.StatementTrees.{block_stmt, branches_code, if_stmt, for_stmt, if_code, do_code, do_names, round_code, turns_code, entered_code, rest_code, for_code, alive_code, declared_of_first, for_names}
@@ -21,18 +21,18 @@ use Rattle.instrument.proofs.statement.+statement.Goals as goal
 
 pub else_part-returns-in-None-clause-code : goal.else_part-returns-in-None-clause-code
 else_part-returns-in-None-clause-code t c =
-    ap plain_stmts c.new.ensures.items ∙ sym (ap (λ o. else_part_by c.args.names.now (plain_spot c.args.spot.now) (plain_else_part o)) c.in-None.is)
+    ap plain_stmts c.new.ensures.items ∙ sym (ap (λ o. else_part_by (plan_in c.args.spot.now) c.args.names.now (plain_spot c.args.spot.now) (plain_else_part o)) c.in-None.is)
 
 pub first_part-returns-in-None-clause-code : goal.first_part-returns-in-None-clause-code
 first_part-returns-in-None-clause-code t c =
-    nothing _ _ (ap (λ o. first_part_by c.args.names.now (plain_spot c.args.spot.now) (plain_first_part o)) c.in-None.is)
+    nothing _ _ (ap (λ o. first_part_by (plan_in c.args.spot.now) c.args.names.now (plain_spot c.args.spot.now) (plain_first_part o)) c.in-None.is)
 
 pub items-returns-clause-code : goal.items-returns-clause-code
 items-returns-clause-code t c =
-    all_there (none_left (λ l. items_by c.items.names (plain_spot c.args.spot.now) (plain_items l)) c.args.block.now c.items.i-index c.items-test.false) c.items.invariant.code
+    all_there (none_left (λ l. items_by (plan_in c.args.spot.now) c.items.names (plain_spot c.args.spot.now) (plain_items l)) c.args.block.now c.items.i-index c.items-test.false) c.items.invariant.code
 
 pub items-returns-clause-names : goal.items-returns-clause-names
-items-returns-clause-names t c = sym (none_left (λ l. behind_items (plain_items l) c.items.names) c.args.block.now c.items.i-index c.items-test.false) ∙ c.items.invariant.names
+items-returns-clause-names t c = sym (none_left (λ l. behind_items (plan_in c.args.spot.now) (plain_items l) c.items.names) c.args.block.now c.items.i-index c.items-test.false) ∙ c.items.invariant.names
 
 pub items-returns-clause-numbers : goal.items-returns-clause-numbers
 items-returns-clause-numbers t c = c.items.invariant.numbers (subst HaveNumbers (sym (none_left plain_items c.args.block.now c.items.i-index c.items-test.false)) tt)
@@ -45,8 +45,9 @@ items-items-preserved t c =
     let rest = plain_items (drop (c.items.i-index + 1) c.args.block.now) in
     let left = left_at plain_items c.args.block.now c.items.i-index _ _ c.items-test.true c.i-item.is refl in
     record {
-      code = more_behind (plain_stmts c.items.to.items) (item_by n spot i) (behind_item i n) (λ m. items_by m spot rest) (ap (items_by n spot) left) c.in_ok-item.ensures.code c.in_ok-item.ensures.names c.items.invariant.code;
-      names = ap (behind_items rest) c.in_ok-item.ensures.names ∙ sym (ap (λ l. behind_items l n) left) ∙ c.items.invariant.names;
+      code = more_behind (plain_stmts c.items.to.items) (item_by (plan_in c.args.spot.now) n spot i) (behind_item (plan_in c.args.spot.now) i n) (λ m. items_by (plan_in c.args.spot.now) m spot rest)
+          (ap (items_by (plan_in c.args.spot.now) n spot) left) c.in_ok-item.ensures.code c.in_ok-item.ensures.names c.items.invariant.code;
+      names = ap (behind_items (plan_in c.args.spot.now) rest) c.in_ok-item.ensures.names ∙ sym (ap (λ l. behind_items (plan_in c.args.spot.now) l n) left) ∙ c.items.invariant.names;
       numbers = λ rest. c.items.invariant.numbers (subst HaveNumbers (sym left) (c.in_ok-item.ensures.numbers, rest));
     }
 
@@ -57,7 +58,7 @@ block-returns-clause-code t c =
     let body = plain_items c.args.body.now in
     let ds = declared_in body in
     let around = reverse spot.inside.now in
-    let f : Names → List ℕ → MonStatements = λ m l. items_by m (record (plain_spot spot) { inside = l }) body in
+    let f : Names → List ℕ → MonStatements = λ m l. items_by (plan_in c.args.spot.now) m (record (plain_spot spot) { inside = l }) body in
     let own = c.in_ok-own.ensures.own in
     let live = inside_is spot.inside.now c.deref.result.now c.in_ok-own.own.items _ c.deref-2.result.now c.deref.ensures.value c.in_ok-live.ensures c.deref-2.ensures.value ∙ ap (λ l. l ++ around) own ∙ born_front (next_register n.table) ds around in
     on_ok_then c.leave.result (λ last. alive_code n c.enter_block.new.names around (reverse c.deref-2.result.now) ds f (plain_stmts c.args.to.now.items) (plain_stmts c.enter_block.new.to.items) (plain_stmts c.items.new.to.items)
@@ -71,7 +72,7 @@ turns-returns-clause-code t c =
     let t0 = plain_stmts c.args.to.now.items in
     let e = option_map plain_expr c.args.controls.0.now in
     on_ok_then c.repeat.result
-    (turns_code n c.leave_unless_any.new.names c.round.new.names (plain_spot c.args.spot.now) t0 (plain_stmts c.repeat.new.to.items) e (option_map plain_expr c.args.controls.1.now)
+    (turns_code (plan_in c.args.spot.now) n c.leave_unless_any.new.names c.round.new.names (plain_spot c.args.spot.now) t0 (plain_stmts c.repeat.new.to.items) e (option_map plain_expr c.args.controls.1.now)
     (plain_stmt c.args.a.now) c.in_ok-loops.loops
     (plain_stmts c.leave_unless_any.new.to.items) (plain_stmts c.in_ok-behind.behind.items) (plain_stmts c.act_if_any.new.to.items)
     c.in_ok-loops.ensures
@@ -86,22 +87,23 @@ round-returns-clause-code t c =
     let outside =
     inside_is c.deref.result.now spot.inside.now spot.inside.now c.in_ok-outside.outside.items c.deref-2.result.now refl c.in_ok-outside.ensures c.deref-2.ensures.value
     ∙ ap (λ l. reverse spot.inside.now ++ l) around in
-    round_code c.labelled.result (λ l. statement_by c.args.names.now l (plain_stmt c.args.s.now)) (plain_spot spot) c.in_ok-loops.loops (reverse c.deref-2.result.now) (plain_stmts c.in_ok-body.body.items) c.in_ok-loops.ensures outside
+    round_code c.labelled.result (λ l. statement_by (plan_in c.args.spot.now) c.args.names.now l (plain_stmt c.args.s.now)) (plain_spot spot)
+    c.in_ok-loops.loops (reverse c.deref-2.result.now) (plain_stmts c.in_ok-body.body.items) c.in_ok-loops.ensures outside
     c.in_ok-body.ensures.code c.labelled.ensures
 
 pub statement-returns-in-Empty-clause-code : goal.statement-returns-in-Empty-clause-code
 statement-returns-in-Empty-clause-code t c =
-    nothing _ _ (ap (λ k. statement_by c.args.names.now (plain_spot c.args.spot.now) (plain_stmt_kind c.args.s.now.place k))
+    nothing _ _ (ap (λ k. statement_by (plan_in c.args.spot.now) c.args.names.now (plain_spot c.args.spot.now) (plain_stmt_kind c.args.s.now.place k))
     (sym c.deref.ensures ∙ c.in-Empty.is))
 
 pub statement-returns-in-Block-clause-code : goal.statement-returns-in-Block-clause-code
 statement-returns-in-Block-clause-code t c =
-    subst (λ (x : Statement). OnOk c.block.result (plain_stmts c.block.new.to.items ≡ before (plain_stmts c.args.to.now.items) (statement_by c.args.names.now (plain_spot c.args.spot.now) x)))
+    subst (λ (x : Statement). OnOk c.block.result (plain_stmts c.block.new.to.items ≡ before (plain_stmts c.args.to.now.items) (statement_by (plan_in c.args.spot.now) c.args.names.now (plain_spot c.args.spot.now) x)))
     (block_stmt c.args.s.now c.in-Block.body _ (sym c.deref.ensures ∙ c.in-Block.is) c.deref-in-Block.ensures.value) c.block.ensures.code
 
 pub statement-returns-in-Block-clause-names : goal.statement-returns-in-Block-clause-names
 statement-returns-in-Block-clause-names t c =
-    subst (λ (x : Statement). OnOk c.block.result (c.block.new.names ≡ after x c.args.names.now))
+    subst (λ (x : Statement). OnOk c.block.result (c.block.new.names ≡ after (plan_in c.args.spot.now) x c.args.names.now))
     (block_stmt c.args.s.now c.in-Block.body _ (sym c.deref.ensures ∙ c.in-Block.is) c.deref-in-Block.ensures.value) c.block.ensures.names
 
 pub statement-returns-in-Block-clause-numbers : goal.statement-returns-in-Block-clause-numbers
@@ -114,7 +116,7 @@ do_loop-returns-clause-code t c =
     let n = c.args.names.now in
     let t0 = plain_stmts c.args.to.now.items in
     on_ok_then c.repeat.result
-    (do_code n c.round.new.names n (plain_spot c.args.spot.now) t0 (plain_stmts c.repeat.new.to.items) a.place (plain_expr c.args.e.now)
+    (do_code (plan_in c.args.spot.now) n c.round.new.names n (plain_spot c.args.spot.now) t0 (plain_stmts c.repeat.new.to.items) a.place (plain_expr c.args.e.now)
     (plain_stmt a) c.in_ok-loops.loops
     (plain_stmts c.new.result.items) (plain_stmts c.in_ok-behind.behind.items) (plain_stmts c.leave_unless.new.to.items)
     c.in_ok-loops.ensures c.in_ok-behind.ensures.names (ap plain_stmts c.new.ensures.items) c.in_ok-behind.ensures.code c.in_ok-leave_unless.ensures.code)
@@ -124,7 +126,7 @@ pub do_loop-returns-clause-names : goal.do_loop-returns-clause-names
 do_loop-returns-clause-names t c =
     let a = c.args.a.now in
     on_ok c.repeat.result
-    (do_names c.args.names.now c.round.new.names c.leave_unless.new.names a.place (plain_expr c.args.e.now) (plain_stmt a) c.in_ok-behind.ensures.names c.in_ok-leave_unless.ensures.names)
+    (do_names (plan_in c.args.spot.now) c.args.names.now c.round.new.names c.leave_unless.new.names a.place (plain_expr c.args.e.now) (plain_stmt a) c.in_ok-behind.ensures.names c.in_ok-leave_unless.ensures.names)
 
 pub enter_for-returns-clause-own : goal.enter_for-returns-clause-own
 enter_for-returns-clause-own t c =
@@ -133,7 +135,7 @@ enter_for-returns-clause-own t c =
 pub enter_for-returns-clause-code : goal.enter_for-returns-clause-code
 enter_for-returns-clause-code t c =
     let first = plain_first_part c.args.first.now in
-    entered_code c.args.names.now (plain_spot c.args.spot.now) (plain_stmts c.args.to.now.items)
+    entered_code (plan_in c.args.spot.now) c.args.names.now (plain_spot c.args.spot.now) (plain_stmts c.args.to.now.items)
     (plain_stmts c.enter_block.new.to.items) (plain_stmts c.first_part.new.to.items)
     first c.enter_block.new.names (declared_in (plain_items c.items_of.result.now)) (reverse c.in_ok-own.own.items) (reverse c.deref-2.result.now)
     (ap declared_in c.items_of.ensures ∙ declared_of_first first) c.in_ok-own.ensures.names c.in_ok-own.ensures.born c.in_ok-own.ensures.own
@@ -143,11 +145,11 @@ enter_for-returns-clause-code t c =
 pub enter_for-returns-clause-names : goal.enter_for-returns-clause-names
 enter_for-returns-clause-names t c =
     let first = plain_first_part c.args.first.now in
-    c.in_ok-first_part.ensures.names ∙ ap (behind_first first) (c.in_ok-own.ensures.names ∙ ap (λ ds. entering ds c.args.names.now) (ap declared_in c.items_of.ensures ∙ declared_of_first first))
+    c.in_ok-first_part.ensures.names ∙ ap (behind_first (plan_in c.args.spot.now) first) (c.in_ok-own.ensures.names ∙ ap (λ ds. entering ds c.args.names.now) (ap declared_in c.items_of.ensures ∙ declared_of_first first))
 
 pub rest_of_for-returns-clause-code : goal.rest_of_for-returns-clause-code
 rest_of_for-returns-clause-code t c =
-    on_ok_then c.leave.result (rest_code c.args.names.now (plain_spot c.args.spot.now) (plain_stmts c.args.to.now.items)
+    on_ok_then c.leave.result (rest_code (plan_in c.args.spot.now) c.args.names.now (plain_spot c.args.spot.now) (plain_stmts c.args.to.now.items)
     (plain_stmts c.turns.new.to.items) (plain_stmts c.leave.new.to.items)
     (option_map plain_expr c.args.controls.0.now) (option_map plain_expr c.args.controls.1.now) (plain_stmt c.args.a.now) (reverse c.args.own.items) (reverse c.deref-2.result.now)
     (reverse c.deref-3.result.now)
@@ -165,9 +167,9 @@ pub statement-returns-in_ok-first-in-If-clause-code : goal.statement-returns-in_
 statement-returns-in_ok-first-in-If-clause-code t c =
     let n = c.args.names.now in
     let first = c.in_ok-first-in-If in
-    subst (λ (y : Statement). OnOk c.branches.result (plain_stmts c.branches.new.to.items ≡ before (plain_stmts c.args.to.now.items) (statement_by n (plain_spot c.args.spot.now) y)))
+    subst (λ (y : Statement). OnOk c.branches.result (plain_stmts c.branches.new.to.items ≡ before (plain_stmts c.args.to.now.items) (statement_by (plan_in c.args.spot.now) n (plain_spot c.args.spot.now) y)))
     (if_stmt c.args.s.now c.in-If.e c.in-If.a c.in-If.b c.in-If.a (sym c.deref.ensures ∙ c.in-If.is) refl)
-    (on_ok_then c.branches.result (if_code n c.tested.new.names (plain_spot c.args.spot.now) (plain_stmts c.args.to.now.items) (plain_stmts c.tested.new.to.items)
+    (on_ok_then c.branches.result (if_code (plan_in c.args.spot.now) n c.tested.new.names (plain_spot c.args.spot.now) (plain_stmts c.args.to.now.items) (plain_stmts c.tested.new.to.items)
     (plain_stmts c.branches.new.to.items) c.args.s.now.place
     (plain_expr c.in-If.e) (plain_stmt c.in-If.a) (plain_else_part c.in-If.b) (plain_monitored first.first.0) (plain_stmts first.first.1.items)
     first.ensures.condition first.ensures.first first.ensures.setup first.ensures.names)
@@ -179,10 +181,10 @@ statement-returns-in_ok-own-in-For-clause-code t c =
     let spot = plain_spot c.args.spot.now in
     let first = plain_first_part c.in-For.first in
     let t0 = plain_stmts c.args.to.now.items in
-    subst (λ (y : Statement). OnOk c.rest_of_for.result (plain_stmts c.rest_of_for.new.to.items ≡ before t0 (statement_by n spot y)))
+    subst (λ (y : Statement). OnOk c.rest_of_for.result (plain_stmts c.rest_of_for.new.to.items ≡ before t0 (statement_by (plan_in c.args.spot.now) n spot y)))
     (for_stmt c.args.s.now c.in-For.field-0 c.in-For.first c.in-For.e c.in-For.step c.in-For.a c.in-For.a (sym c.deref.ensures ∙ c.in-For.is) refl)
     (on_ok_then c.rest_of_for.result (λ last.
-    for_code n spot t0 (plain_stmts c.enter_for.new.to.items) (plain_stmts c.rest_of_for.new.to.items) first c.enter_for.new.names c.args.s.now.place
+    for_code (plan_in c.args.spot.now) n spot t0 (plain_stmts c.enter_for.new.to.items) (plain_stmts c.rest_of_for.new.to.items) first c.enter_for.new.names c.args.s.now.place
     (map plain_annot c.in-For.field-0.items) (option_map plain_expr c.in-For.e) (option_map plain_expr c.in-For.step) (plain_stmt c.in-For.a) (reverse c.in_ok-own-in-For.own.items)
     c.in_ok-own-in-For.ensures.own c.in_ok-own-in-For.ensures.code c.in_ok-own-in-For.ensures.names last)
     c.rest_of_for.ensures.code)
@@ -191,9 +193,10 @@ pub statement-returns-in_ok-own-in-For-clause-names : goal.statement-returns-in_
 statement-returns-in_ok-own-in-For-clause-names t c =
     let n = c.args.names.now in
     let a = c.in-For.a in
-    subst (λ (y : Statement). OnOk c.rest_of_for.result (c.rest_of_for.new.names ≡ after y n)) (for_stmt c.args.s.now c.in-For.field-0 c.in-For.first c.in-For.e c.in-For.step a a (sym c.deref.ensures ∙ c.in-For.is) refl)
+    subst (λ (y : Statement). OnOk c.rest_of_for.result (c.rest_of_for.new.names ≡ after (plan_in c.args.spot.now) y n)) (for_stmt c.args.s.now c.in-For.field-0 c.in-For.first c.in-For.e c.in-For.step a a (sym c.deref.ensures ∙ c.in-For.is) refl)
     (on_ok_then c.rest_of_for.result
-    (for_names n c.enter_for.new.names c.rest_of_for.new.names c.args.s.now.place (map plain_annot c.in-For.field-0.items) (plain_first_part c.in-For.first) (option_map plain_expr c.in-For.e) (option_map plain_expr c.in-For.step)
+    (for_names (plan_in c.args.spot.now) n c.enter_for.new.names c.rest_of_for.new.names c.args.s.now.place (map plain_annot c.in-For.field-0.items) (plain_first_part c.in-For.first)
+    (option_map plain_expr c.in-For.e) (option_map plain_expr c.in-For.step)
     (plain_stmt a) c.in_ok-own-in-For.ensures.names)
     c.rest_of_for.ensures.names)
 
@@ -204,12 +207,12 @@ statement-returns-in_ok-own-in-For-clause-numbers t c =
 
 pub statement-returns-in-Switch-clause-code : goal.statement-returns-in-Switch-clause-code
 statement-returns-in-Switch-clause-code t c =
-    subst (λ (x : Statement). OnOk c.switch.result (plain_stmts c.switch.new.to.items ≡ before (plain_stmts c.args.to.now.items) (statement_by c.args.names.now (plain_spot c.args.spot.now) x)))
+    subst (λ (x : Statement). OnOk c.switch.result (plain_stmts c.switch.new.to.items ≡ before (plain_stmts c.args.to.now.items) (statement_by (plan_in c.args.spot.now) c.args.names.now (plain_spot c.args.spot.now) x)))
     (switch_stmt c.args.s.now c.in-Switch.e c.in-Switch.cases _ (sym c.deref.ensures ∙ c.in-Switch.is) c.deref-in-Switch.ensures.value) c.switch.ensures.code
 
 pub statement-returns-in-Switch-clause-names : goal.statement-returns-in-Switch-clause-names
 statement-returns-in-Switch-clause-names t c =
-    subst (λ (x : Statement). OnOk c.switch.result (c.switch.new.names ≡ after x c.args.names.now))
+    subst (λ (x : Statement). OnOk c.switch.result (c.switch.new.names ≡ after (plan_in c.args.spot.now) x c.args.names.now))
     (switch_stmt c.args.s.now c.in-Switch.e c.in-Switch.cases _ (sym c.deref.ensures ∙ c.in-Switch.is) c.deref-in-Switch.ensures.value) c.switch.ensures.names
 
 pub statement-returns-in-Switch-clause-numbers : goal.statement-returns-in-Switch-clause-numbers
@@ -223,7 +226,7 @@ switch-returns-clause-code t c =
     let around = spot.inside.now in
     let between = inside_is spot.between.now around around c.in_ok-between.between.items c.deref.result.now refl c.in_ok-between.ensures c.deref.ensures.value in
     on_ok_then c.until_end.result
-    (switch_code c.args.names.now c.choose_case.new.names (plain_spot spot) (plain_stmts c.args.to.now.items) (plain_stmts c.choose_case.new.to.items) (plain_stmts c.until_end.new.to.items) c.args.e.now.place
+    (switch_code (plan_in c.args.spot.now) c.args.names.now c.choose_case.new.names (plain_spot spot) (plain_stmts c.args.to.now.items) (plain_stmts c.choose_case.new.to.items) (plain_stmts c.until_end.new.to.items) c.args.e.now.place
     (plain_expr c.args.e.now) (plain_cases c.args.cases.now) c.in_ok-levels.levels c.in_ok-chosen.chosen (reverse c.deref.result.now) (plain_stmts c.in_ok-code.code.items) c.in_ok-levels.ensures
     c.in_ok-chosen.ensures.index between c.in_ok-chosen.ensures.names c.in_ok-chosen.ensures.code c.in_ok-code.ensures.code)
     c.until_end.ensures
@@ -245,8 +248,8 @@ next_cases-loop-i-preserved t c =
     let is = c.index-cases-i.is in
     let next = c.in_ok-next_case.ensures in
     record {
-      code = one_more_case n m spot c.args.chosen i k k' l x t0 (plain_stmts c.next_case.new.to.items) lt is count next.code next.names c.loop-i.invariant.code;
-      names = more_names n m i k k' l x lt is count next.names c.loop-i.invariant.names;
+      code = one_more_case (plan_in c.args.spot.now) n m spot c.args.chosen i k k' l x t0 (plain_stmts c.next_case.new.to.items) lt is count next.code next.names c.loop-i.invariant.code;
+      names = more_names (plan_in c.args.spot.now) n m i k k' l x lt is count next.names c.loop-i.invariant.names;
       numbers = more_numbers i k k' l x lt is count next.numbers c.loop-i.invariant.numbers;
     }
 
@@ -254,13 +257,13 @@ pub next_cases-returns-clause-code : goal.next_cases-returns-clause-code
 next_cases-returns-clause-code t c =
     let rest = drop c.loop-i.i c.args.cases.now in
     let none : 0 < length rest → 0 < (c.args.first + cases_in_block - c.loop-i.i) → ⊥ = λ some few. omega (arith, some, few, length-drop c.loop-i.i c.args.cases.now, c.min-end.ensures, c.loop-i-test.false) in
-    all_there (no_more_code c.loop-i.names (plain_spot c.args.spot.now) c.args.chosen c.loop-i.i (c.args.first + cases_in_block - c.loop-i.i) rest none) c.loop-i.invariant.code
+    all_there (no_more_code (plan_in c.args.spot.now) c.loop-i.names (plain_spot c.args.spot.now) c.args.chosen c.loop-i.i (c.args.first + cases_in_block - c.loop-i.i) rest none) c.loop-i.invariant.code
 
 pub next_cases-returns-clause-names : goal.next_cases-returns-clause-names
 next_cases-returns-clause-names t c =
     let rest = drop c.loop-i.i c.args.cases.now in
     let none : 0 < length rest → 0 < (c.args.first + cases_in_block - c.loop-i.i) → ⊥ = λ some few. omega (arith, some, few, length-drop c.loop-i.i c.args.cases.now, c.min-end.ensures, c.loop-i-test.false) in
-    sym (ap (λ a. behind_cases a c.loop-i.names) (no_more_cases (c.args.first + cases_in_block - c.loop-i.i) rest none)) ∙ c.loop-i.invariant.names
+    sym (ap (λ a. behind_cases (plan_in c.args.spot.now) a c.loop-i.names) (no_more_cases (c.args.first + cases_in_block - c.loop-i.i) rest none)) ∙ c.loop-i.invariant.names
 
 pub next_cases-returns-clause-numbers : goal.next_cases-returns-clause-numbers
 next_cases-returns-clause-numbers t c =
@@ -277,15 +280,15 @@ blocks_of_cases-loop-first-preserved t c =
     let lt = c.loop-first-test.true in
     let block = c.in_ok-block.ensures in
     record {
-      code = one_more_block l i lt n m (plain_spot c.args.spot.now) c.args.chosen (plain_stmts c.loop-first.code.items) (plain_stmts c.where_reached.new.to.items) (plain_stmts c.in_ok-block.block.items) block.code
+      code = one_more_block l i lt (plan_in c.args.spot.now) n m (plain_spot c.args.spot.now) c.args.chosen (plain_stmts c.loop-first.code.items) (plain_stmts c.where_reached.new.to.items) (plain_stmts c.in_ok-block.block.items) block.code
           c.in_ok-where_reached.ensures block.names c.loop-first.invariant.code;
-      names = further_names l i lt n m block.names c.loop-first.invariant.names;
+      names = further_names l i lt (plan_in c.args.spot.now) n m block.names c.loop-first.invariant.names;
       numbers = further_numbers l i lt block.numbers c.loop-first.invariant.numbers;
     }
 
 pub blocks_of_cases-returns-clause-code : goal.blocks_of_cases-returns-clause-code
 blocks_of_cases-returns-clause-code t c =
-    all_there (none_left (λ l. blocks_of_cases_by c.loop-first.names (plain_spot c.args.spot.now) c.args.chosen c.loop-first.first 0 (plain_cases l)) c.args.cases.now c.loop-first.first c.loop-first-test.false)
+    all_there (none_left (λ l. blocks_of_cases_by (plan_in c.args.spot.now) c.loop-first.names (plain_spot c.args.spot.now) c.args.chosen c.loop-first.first 0 (plain_cases l)) c.args.cases.now c.loop-first.first c.loop-first-test.false)
     c.loop-first.invariant.code
 
 pub blocks_of_cases-returns-clause-numbers : goal.blocks_of_cases-returns-clause-numbers
