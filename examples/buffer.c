@@ -6,8 +6,8 @@ struct buffer {
   unsigned count;
 };
 
+/*@ requires buffer->count < SIZE; */
 int put(struct buffer *buffer, unsigned char byte) {
-  //@ assert buffer->count < SIZE;
   buffer->bytes[buffer->count++] = byte;
   return buffer->count == SIZE;
 }

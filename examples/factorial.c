@@ -1,8 +1,8 @@
 #include <stdio.h>
 
+/*@ requires 0 <= n <= 12;
+  @ ensures \result >= n; */
 int factorial(int n) {
-  //@ assert n >= 0;
-  //@ assert n <= 12;
   return n == 0 ? 1 : n * factorial(n - 1);
 }
 
