@@ -1,5 +1,5 @@
-/* Strings and bytes (C99 7.21), as plain C that eacsl takes. Of this what a text uses is put on the line of its #include. The assertions say what C99 asks of a call:
-   those at the head of a body what it asks of the arguments alone, those further inside what is seen while the bytes are read. A count of 0 asks for nothing.
+/* Strings and bytes (C99 7.21), as plain C that eacsl takes. Of this what a text uses is put on the line of its #include. Contracts say what C99 asks of the arguments
+   of a call, and assertions inside what is seen only while the bytes are read: that a string ends. A count of 0 asks for nothing.
 
    Bytes are copied and compared as numbers. A byte that nothing was written to is none, and the bytes of a pointer are none either: to copy or compare an object
    that has a pointer, or room between its members, is undefined here, and an assertion says so. Assign the whole struct. */
@@ -7,8 +7,8 @@
 #define EACSL_STRING_H
 
 #ifdef EACSL_USES_strlen
+/*@ requires \valid_read(__string); */
 size_t strlen(const char *__string) {
-  //@ assert \valid_read(__string);
   for (size_t __i = 0;; __i++) {
     //@ assert \valid_read(__string + __i);
     //@ assert \initialized(__string + __i);
@@ -19,9 +19,9 @@ size_t strlen(const char *__string) {
 #endif
 
 #ifdef EACSL_USES_strcmp
+/*@ requires \valid_read(__left);
+  @ requires \valid_read(__right); */
 int strcmp(const char *__left, const char *__right) {
-  //@ assert \valid_read(__left);
-  //@ assert \valid_read(__right);
   for (size_t __i = 0;; __i++) {
     //@ assert \valid_read(__left + __i);
     //@ assert \valid_read(__right + __i);
@@ -34,9 +34,9 @@ int strcmp(const char *__left, const char *__right) {
 #endif
 
 #ifdef EACSL_USES_strncmp
+/*@ requires __most > 0 ==> \valid_read(__left);
+  @ requires __most > 0 ==> \valid_read(__right); */
 int strncmp(const char *__left, const char *__right, size_t __most) {
-  //@ assert __most > 0 ==> \valid_read(__left);
-  //@ assert __most > 0 ==> \valid_read(__right);
   for (size_t __i = 0; __i < __most; __i++) {
     //@ assert \valid_read(__left + __i);
     //@ assert \valid_read(__right + __i);
@@ -50,8 +50,8 @@ int strncmp(const char *__left, const char *__right, size_t __most) {
 #endif
 
 #ifdef EACSL_USES_strcpy
+/*@ requires \valid_read(__from); */
 char *strcpy(char *__to, const char *__from) {
-  //@ assert \valid_read(__from);
   size_t __length = 0;
   for (;; __length++) {
     //@ assert \valid_read(__from + __length);
@@ -68,9 +68,9 @@ char *strcpy(char *__to, const char *__from) {
 #endif
 
 #ifdef EACSL_USES_strncpy
+/*@ requires \valid(__to + (0 .. __count - 1));
+  @ requires __count > 0 ==> \valid_read(__from); */
 char *strncpy(char *__to, const char *__from, size_t __count) {
-  //@ assert \valid(__to + (0 .. __count - 1));
-  //@ assert __count > 0 ==> \valid_read(__from);
   size_t __length = 0;
   for (; __length < __count; __length++) {
     //@ assert \valid_read(__from + __length);
@@ -86,9 +86,9 @@ char *strncpy(char *__to, const char *__from, size_t __count) {
 #endif
 
 #ifdef EACSL_USES_strcat
+/*@ requires \valid(__to);
+  @ requires \valid_read(__from); */
 char *strcat(char *__to, const char *__from) {
-  //@ assert \valid(__to);
-  //@ assert \valid_read(__from);
   size_t __end = 0, __length = 0;
   for (;; __end++) {
     //@ assert \valid_read(__to + __end);
@@ -111,8 +111,8 @@ char *strcat(char *__to, const char *__from) {
 #endif
 
 #ifdef EACSL_USES_strchr
+/*@ requires \valid_read(__string); */
 char *strchr(const char *__string, int __byte) {
-  //@ assert \valid_read(__string);
   for (char __wanted = __byte;; __string++) {
     //@ assert \valid_read(__string);
     //@ assert \initialized(__string);
@@ -125,8 +125,8 @@ char *strchr(const char *__string, int __byte) {
 #endif
 
 #ifdef EACSL_USES_strrchr
+/*@ requires \valid_read(__string); */
 char *strrchr(const char *__string, int __byte) {
-  //@ assert \valid_read(__string);
   const char *__last = NULL;
   for (char __wanted = __byte;; __string++) {
     //@ assert \valid_read(__string);
@@ -140,10 +140,10 @@ char *strrchr(const char *__string, int __byte) {
 #endif
 
 #ifdef EACSL_USES_memcpy
+/*@ requires \valid((char *)__to + (0 .. __count - 1));
+  @ requires \valid_read((char *)__from + (0 .. __count - 1));
+  @ requires \separated((char *)__to + (0 .. __count - 1), (char *)__from + (0 .. __count - 1)); */
 void *memcpy(void *__to, const void *__from, size_t __count) {
-  //@ assert \valid((char *)__to + (0 .. __count - 1));
-  //@ assert \valid_read((char *)__from + (0 .. __count - 1));
-  //@ assert \separated((char *)__to + (0 .. __count - 1), (char *)__from + (0 .. __count - 1));
   unsigned char *__target = __to;
   const unsigned char *__source = __from;
   for (size_t __i = 0; __i < __count; __i++) {
@@ -156,9 +156,9 @@ void *memcpy(void *__to, const void *__from, size_t __count) {
 
 #ifdef EACSL_USES_memmove
 /* Pointers into different blocks have no order, so that the target is looked for among the bytes of the source. */
+/*@ requires \valid((char *)__to + (0 .. __count - 1));
+  @ requires \valid_read((char *)__from + (0 .. __count - 1)); */
 void *memmove(void *__to, const void *__from, size_t __count) {
-  //@ assert \valid((char *)__to + (0 .. __count - 1));
-  //@ assert \valid_read((char *)__from + (0 .. __count - 1));
   unsigned char *__target = __to;
   const unsigned char *__source = __from;
   int __inside = 0;
@@ -174,8 +174,8 @@ void *memmove(void *__to, const void *__from, size_t __count) {
 #endif
 
 #ifdef EACSL_USES_memset
+/*@ requires \valid((char *)__to + (0 .. __count - 1)); */
 void *memset(void *__to, int __byte, size_t __count) {
-  //@ assert \valid((char *)__to + (0 .. __count - 1));
   unsigned char *__target = __to;
   for (size_t __i = 0; __i < __count; __i++)
     __target[__i] = __byte;
@@ -184,9 +184,9 @@ void *memset(void *__to, int __byte, size_t __count) {
 #endif
 
 #ifdef EACSL_USES_memcmp
+/*@ requires \valid_read((char *)__left + (0 .. __count - 1));
+  @ requires \valid_read((char *)__right + (0 .. __count - 1)); */
 int memcmp(const void *__left, const void *__right, size_t __count) {
-  //@ assert \valid_read((char *)__left + (0 .. __count - 1));
-  //@ assert \valid_read((char *)__right + (0 .. __count - 1));
   const unsigned char *__first = __left;
   const unsigned char *__second = __right;
   for (size_t __i = 0; __i < __count; __i++) {
