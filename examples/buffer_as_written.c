@@ -1,5 +1,5 @@
 #include <stdio.h>
-#define SIZE 4
+enum { SIZE = 4 };
 
 struct buffer {
   unsigned char bytes[SIZE];
@@ -13,7 +13,7 @@ int put(struct buffer *buffer, unsigned char byte) {
 }
 
 int main(void) {
-  struct buffer buffer = {{0}, 0};
+  struct buffer buffer = {.count = 0};
   int byte;
   while ((byte = getchar()) != EOF)
     if (put(&buffer, byte))
