@@ -20,9 +20,9 @@ use Rattle.c_model.specs.ExpressionGrammar.{kind, annot_open_kind}
 use Rattle.c_model.specs.ClauseGrammar.{ReadAnnotation, annotations}
 use Rattle.token_reader.specs.Reading.{plain_list, label, Fails}
 use Rattle.token_reader.specs.Answers.{RefusesWith, RefusesFault}
-use Rattle.c_expr_parser.specs.Answers.{NotRead}
+use Rattle.c_expr_parser.specs.Answers.{NotRead, words_of}
 use Rattle.c_expr_parser.proofs.Windows.{map_drop, drop_long}
-use Rattle.acsl_parser.specs.Answers.{annotation_at, words_of, IsReadAt, RefusesAt}
+use Rattle.acsl_parser.specs.Answers.{annotation_at, IsReadAt, RefusesAt}
 use Rattle.acsl_parser.proofs.ExactAnnotations.{annotations_good}
 
 abbrev Numbered : Type 0

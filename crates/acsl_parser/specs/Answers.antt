@@ -1,6 +1,6 @@
 -- Ours, in words of the grammar of ACSL 2.2 to 2.4 that stands in c_model/specs/ClauseGrammar.
 -- What the answers on the tokens of a text mean.
-use Rattle.std.specs.Prelude.{◌≡◌, ◌≤◌, ◌<◌, ℕ, List, [], ◌∷◌, length, drop, slice_set, Option, Result, Ok, Err}
+use Rattle.std.specs.Prelude.{◌≡◌, ◌≤◌, ◌<◌, ℕ, List, length, drop, Option, Result, Ok, Err}
 use Rattle.grammar.specs.Syntax.{ParseFault}
 use Rattle.grammar.specs.Exact.{Found}
 use Rattle.c_syntax.specs.Logic.{Annotation}
@@ -8,19 +8,9 @@ use Rattle.c_syntax.specs.Tokens.{PlainToken, PlainTokens}
 use Rattle.c_syntax.specs.Programs.{FunctionContract, PlainRefusal, plain_refusal}
 use Rattle.c_syntax.specs.declared.refusal.FrontFault.{FrontFault}
 use Rattle.c_syntax.specs.declared.refusal.FrontFault.TheVariants as front
-use Rattle.c_model.specs.Vocabulary.{Vocabulary, declared_word, word_at}
-use Rattle.c_model.specs.Phases.{vocabulary}
 use Rattle.c_model.specs.TokenWords.{syntax_refusal}
 use Rattle.c_model.specs.ClauseGrammar.{ReadAnnotation, annotations}
-use Rattle.c_expr_parser.specs.Answers.{NotRead}
-
--- what words are where typedefs declare these of them (C99 6.7.7)
-abbrev pub with_types : Vocabulary → List ℕ → Vocabulary
-with_types ws [] = ws
-with_types ws (n ∷ ns) = with_types (slice_set ws n (declared_word (word_at ws n))) ns
-
-abbrev pub words_of : PlainTokens → List ℕ → Vocabulary
-words_of ts types = with_types (vocabulary ts) types
+use Rattle.c_expr_parser.specs.Answers.{NotRead, words_of}
 
 -- ---- the annotation at a place of the tokens, whose clauses take the numbers from `first` on
 

@@ -7,7 +7,6 @@
 mod clause_words;
 mod tables;
 mod terminals;
-mod words;
 
 // Forms, inside others, and zones.
 mod atoms;

@@ -10,7 +10,7 @@ ghost use Rattle.c_model.specs.ClauseGrammar.{annotations};
 ghost use Rattle.acsl_parser.specs.Answers.{IsReadAt, RefusesAt};
 
 use crate::annotation::annotations;
-use crate::words::words_of;
+use c_expr_parser::vocabulary::{vocabulary, with_types};
 use c_syntax::{Annot, Contract, FrontFault, Token, Tokens};
 use std::alloc::Global;
 use token_reader::refusal::refuse;
@@ -38,7 +38,8 @@ pub fn read_annot(
         (λ x. IsReadAt (plain_tokens tokens.now) types.now at first (map plain_annot x.0.items) (option_map plain_contract x.1) x.2)
         (λ e. RefusesAt (plain_tokens tokens.now) types.now at first e) }
 {
-    let words = words_of(alloc, tokens.names.as_slice(), types)?;
+    let words = vocabulary(alloc, tokens.names.as_slice())?;
+    let words = with_types(words, types);
     let list = tokens.list.as_slice();
     let (_, rest) = list.split_at(at);
     match annotations(alloc, words.as_slice(), first, rest) {
