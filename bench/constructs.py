@@ -74,6 +74,17 @@ def twice(head, first, between, second, tail):
     return text
 
 
+def contracted(line, head="", first=""):
+    """Clauses of one contract, whose function is called."""
+    return head + "/*@" + first, line, "*/\nint f(int n) { return n; }\nint main(void) { f(1); return 0; }\n"
+
+
+def covered(behavior, cover):
+    """Behaviors of one contract, and as many clauses about them."""
+    head, _, tail = contracted("")
+    return twice(head, behavior, "", cover, tail)
+
+
 def long_expression(operand, operator, tokens=390):
     each = count(operand) + count(operator)
     return (" " + operator + " ").join([operand] * (tokens // each))
@@ -198,6 +209,33 @@ CONSTRUCTS = {
     "asserts of !": inside("/*@ assert " + "!" * 180 + "\\true; */\n"),
     "asserts of ?:": inside("/*@ assert " + "x < 0 ? \\false : " * 60 + "\\true; */\n"),
     "asserts of sizeof": inside("/*@ assert 0 < " + long_expression("sizeof(int)", "+", 380) + "; */\n"),
+    # ---- contracts
+    "contracts": outside("/*@ requires n > 0; ensures \\result == n; */ int f{0}(int n) {{ return n; }}\n"),
+    "contracts, each checked": twice("", "/*@ requires n > 0; ensures \\result == n; */ int f{0}(int n) {{ return n; }}\n", "int main(void) {\n", "f{0}(1);\n", END),
+    "contracts of prototypes": outside("/*@ requires n > 0; */ int f{0}(int n);\n"),
+    "requires": contracted(" requires n > 0;\n"),
+    "ensures": contracted(" ensures \\result > 0;\n"),
+    "parameters in ensures": contracted(" ensures n > 0;\n"),
+    "\\old": contracted(" ensures \\old(g) == 0;\n", head="int g;\n"),
+    "\\old of sums": contracted(" ensures 0 == " + long_expression("\\old(g)", "+", 380) + ";\n", head="int g;\n"),
+    "\\old of a pointer": contracted(" ensures \\old(p) == p;\n", head="int a, *p = &a;\n"),
+    "\\old of a target": contracted(" ensures \\old(*p) == 0;\n", head="int a, *p = &a;\n"),
+    "behaviors": contracted(" behavior b{0}:\n"),
+    "behaviors with assumes": contracted(" behavior b{0}: assumes n > 0;\n"),
+    "behaviors with clauses": contracted(" behavior b{0}: assumes n > 0; requires n < 5; ensures \\result == 1;\n"),
+    "assumes of one behavior": contracted(" assumes n > 0;\n", first=" behavior b:"),
+    "complete behaviors": contracted(" complete behaviors;\n", first=" behavior b:"),
+    "disjoint behaviors": contracted(" disjoint behaviors;\n", first=" behavior b:"),
+    "behaviors, and as many complete": covered(" behavior b{0}:\n", " complete behaviors;\n"),
+    "behaviors, each complete": covered(" behavior b{0}:\n", " complete behaviors b{0};\n"),
+    "behaviors that are named": contracted(" complete behaviors " + ", ".join(["b"] * 190) + ";\n", first=" behavior b:"),
+    # ---- labels
+    "labels": inside("L{0}: ;\n"),
+    "terms at labels": inside("L{0}: ; //@ assert \\at(x, L{0}) == 1;\n"),
+    "terms at one label": (BODY + "L: ;\n", "//@ assert \\at(x, L) == 1;\n", END),
+    "terms at the beginning": inside("//@ assert \\at(g, Pre) == 0;\n", "int g;\n"),
+    "pointers at labels": inside("L{0}: ; //@ assert \\at(p, L{0}) == p;\n"),
+    "labels in loops": inside("while (x) {{ L{0}: x = 0; /*@ assert \\at(x, L{0}) == 1; */ }} x = 1;\n"),
     # ---- what is between tokens, and words
     "comments": outside("/* c */\n"),
     "a comment": listed("/*", "abcdefghijklmnop", "*/\n"),
