@@ -12,12 +12,12 @@ use Rattle.mon_syntax.specs.declared.tree.MonType.{MonType}
 use Rattle.mon_syntax.specs.declared.tree.MonType.TheVariants.{I32}
 use Rattle.mon_syntax.specs.Registers.{Bindings, Names}
 use Rattle.c_effects.specs.Named.{unit_of}
-use Rattle.annot_code.specs.declared.piece.Code as declared
-use Rattle.annot_code.specs.declared.side.Side as declared_side
-use Rattle.annot_code.specs.declared.side.Side.TheVariants as side
-use Rattle.annot_code.specs.Code.{Code, Side, OfNumber, OfPointer, again, branch, chain_code, connected, known_at_right, pred_code, related_code}
-use Rattle.annot_code.specs.Code.{side_code, sure_readings, sure_readings_of_term}
-use Rattle.annot_code.specs.Plain.{Known, chain_by, code_of, known_with, more_links, pred_by, side_by_names, side_of}
+use Rattle.annot_pieces.specs.declared.piece.Code as declared
+use Rattle.annot_pieces.specs.declared.side.Side as declared_side
+use Rattle.annot_pieces.specs.declared.side.Side.TheVariants as side
+use Rattle.annot_simulation.specs.Code.{Code, Side, OfNumber, OfPointer, again, branch, chain_code, connected, known_at_right, pred_code, related_code}
+use Rattle.annot_simulation.specs.Code.{side_code, sure_readings, sure_readings_of_term}
+use Rattle.annot_pieces.specs.Plain.{Known, chain_by, code_of, known_with, more_links, pred_by, side_by_names, side_of}
 use Rattle.annot_code.proofs.Pairs.{connected_first, related_first, then_part, used_is}
 
 -- ---- sides

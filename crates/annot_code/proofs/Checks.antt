@@ -10,10 +10,10 @@ use Rattle.behavior_split.specs.Names.{index_from, index_named}
 use Rattle.c_effects.specs.Expressions.{before, one}
 use Rattle.c_effects.proofs.Sequences.{before_assoc, more}
 use Rattle.annot_code.specs.Checks.{Flags, check_by, checks_by, counted_behind_check, names_behind_check, names_behind_checks}
-use Rattle.annot_code.specs.Code.{Judgement}
-use Rattle.annot_code.specs.ContractCode.{assumption_code, flag_named}
-use Rattle.annot_code.specs.Plain.{Known}
-use Rattle.annot_code.proofs.Rust.{two}
+use Rattle.annot_simulation.specs.Code.{Judgement}
+use Rattle.annot_simulation.specs.ContractCode.{assumption_code, flag_named}
+use Rattle.annot_pieces.specs.Plain.{Known}
+use Rattle.annot_pieces.proofs.Rust.{two}
 
 -- ---- flags of names
 

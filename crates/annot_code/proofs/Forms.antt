@@ -12,11 +12,11 @@ use Rattle.mon_syntax.specs.Registers.{Names}
 use Rattle.mon_syntax.specs.Trees.{plain_expr}
 use Rattle.c_effects.specs.Expressions.{in_type}
 use Rattle.c_effects.specs.Named.{unit_of}
-use Rattle.annot_code.specs.declared.piece.Code as declared
-use Rattle.annot_code.specs.declared.value.OperationTypes.{OperationTypes}
-use Rattle.annot_code.specs.Code.{Code, binary_value, branch, is_total, operated, sure_readings, term_code, type_of, type_of_width, with_value}
-use Rattle.annot_code.specs.Plain.{Known, code_of, known_with, pred_by, term_by, types_of}
-use Rattle.annot_code.proofs.Arms.{next_part, operated_first}
+use Rattle.annot_pieces.specs.declared.piece.Code as declared
+use Rattle.annot_pieces.specs.declared.value.OperationTypes.{OperationTypes}
+use Rattle.annot_simulation.specs.Code.{Code, binary_value, branch, is_total, operated, sure_readings, term_code, type_of, type_of_width, with_value}
+use Rattle.annot_pieces.specs.Plain.{Known, code_of, known_with, pred_by, term_by, types_of}
+use Rattle.annot_pieces.proofs.Arms.{next_part, operated_first}
 
 module _ {E : Type 0} (r : Result declared.Code E) (ks : List MonType) where
   -- the same code, by another name

@@ -8,13 +8,15 @@ use Rattle.mon_syntax.specs.Registers.{Names}
 use Rattle.mon_syntax.specs.Trees.{plain_expr}
 use Rattle.c_effects.specs.Named.{unit_of}
 use Rattle.annot_code.specs.declared.judge.Judged as code
-use Rattle.annot_code.specs.declared.piece.Code as declared
-use Rattle.annot_code.specs.Code.{judged_with, judgement}
-use Rattle.annot_code.specs.Does.{Judges}
-use Rattle.annot_code.specs.Judged.{IsValidIn, JudgesIn}
-use Rattle.annot_code.specs.Plain.{Known, code_of, judgement_by, judgement_of, known_with, pred_by}
-use Rattle.annot_code.proofs.Theorem.{code_judges}
-use Rattle.annot_code.proofs.ValidCode.{code_is_valid}
+use Rattle.annot_pieces.specs.declared.piece.Code as declared
+use Rattle.annot_simulation.specs.Code.{Judgement, judged_with, judgement}
+use Rattle.annot_simulation.specs.Does.{Judges}
+use Rattle.annot_code.specs.Judged.{IsValidIn, JudgesIn, judgement_of}
+use Rattle.annot_pieces.specs.Plain.{Known, code_of, judgement_by, known_with, pred_by}
+use Rattle.annot_simulation.specs.Inside.{AreInside}
+use Rattle.annot_simulation.proofs.Inside.{judgement_inside}
+use Rattle.annot_simulation.proofs.Theorem.{code_judges}
+use Rattle.annot_simulation.proofs.ValidCode.{code_is_valid}
 
 judges_in : (n : Names) (q : Predicate) (k : Known) → JudgesIn n k.plan k.held q (judgement_by n q k)
 judges_in n q k w unit bound plan held stands holds ranged found low few =
@@ -40,3 +42,10 @@ module _ {E : Type 0} (r : Result code.Judged E) (ks : List MonType) (n : Names)
   pub of_valid : IfOk r (λ j. judgement_of j ks ≡ judgement_by n q k) → IfOk r (λ j. IsValidIn n k.plan k.held q (judgement_of j ks))
   of_valid made =
       IfOk-weaker r (λ j. judgement_of j ks ≡ judgement_by n q k) (λ j. IsValidIn n k.plan k.held q (judgement_of j ks)) (λ j h. subst (IsValidIn n k.plan k.held q) (sym h) (valid_in n q k)) made
+
+pub of_inside :
+    {E : Type 0} (r : Result code.Judged E) (ks : List MonType) (n : Names) (q : Predicate) (k : Known) → IfOk r (λ j. judgement_of j ks ≡ judgement_by n q k)
+    → IfOk r (λ j. AreInside (judgement_of j ks).stmts)
+of_inside r ks n q k made =
+    IfOk-weaker r (λ j. judgement_of j ks ≡ judgement_by n q k) (λ j. AreInside (judgement_of j ks).stmts)
+    (λ j h. subst (λ (z : Judgement). AreInside z.stmts) (sym h) (judgement_inside (unit_of n) n.table.bound k.plan k.held q n.table.kinds)) made

@@ -22,13 +22,13 @@ use Rattle.mon_syntax.specs.declared.tree.MonType.{MonType}
 use Rattle.mon_syntax.specs.declared.tree.MonType.TheVariants.{I32}
 use Rattle.mon_syntax.specs.Registers.{Names}
 use Rattle.mon_syntax.specs.Trees.{Binary, Constant, plain_expr}
-use Rattle.annot_code.specs.declared.piece.Code as declared
-use Rattle.annot_code.specs.declared.pointer.PointerCode as declared_pointer
-use Rattle.annot_code.specs.declared.zone.ZoneCode as declared_zone
-use Rattle.annot_code.specs.declared.zone.ZonesCode as declared_zones
-use Rattle.annot_code.specs.Code.{Code, cast_value, settled, term_type, type_of, type_of_width, unary_value, width_of, wider, with_value}
-use Rattle.annot_code.specs.Pointers.{PointerCode, member_code, number_read, pointer_there, separated_code, told_number, told_pointer}
-use Rattle.annot_code.specs.Plain.{Known, code_of, place_by, plain_zone, pointer_by, pointer_of, pred_by, term_by, zone_by, zone_of, zones_by, zones_of}
+use Rattle.annot_pieces.specs.declared.piece.Code as declared
+use Rattle.annot_pieces.specs.declared.pointer.PointerCode as declared_pointer
+use Rattle.annot_pieces.specs.declared.zone.ZoneCode as declared_zone
+use Rattle.annot_pieces.specs.declared.zone.ZonesCode as declared_zones
+use Rattle.annot_simulation.specs.Code.{Code, cast_value, settled, term_type, type_of, type_of_width, unary_value, width_of, wider, with_value}
+use Rattle.annot_simulation.specs.Pointers.{PointerCode, member_code, number_read, pointer_there, separated_code, told_number, told_pointer}
+use Rattle.annot_pieces.specs.Plain.{Known, code_of, place_by, plain_zone, pointer_by, pointer_of, pred_by, term_by, zone_by, zone_of, zones_by, zones_of}
 
 -- ---- one equation after another
 

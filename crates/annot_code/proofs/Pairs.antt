@@ -10,11 +10,11 @@ use Rattle.mon_syntax.specs.declared.tree.MonType.{MonType}
 use Rattle.mon_syntax.specs.Registers.{Bindings, Names}
 use Rattle.mon_syntax.specs.Trees.{MonExpression, MonStatements}
 use Rattle.c_effects.specs.Named.{unit_of}
-use Rattle.annot_code.specs.declared.side.Side as declared_side
-use Rattle.annot_code.specs.declared.side.Side.TheVariants as side
-use Rattle.annot_code.specs.Code.{Code, Side, OfNumber, OfPointer, both_asked, connected, is_null_term, is_sure, left_first, related_code, used_by}
-use Rattle.annot_code.specs.Pointers.{PointerCode, addresses_code, branch_pointer, null_code}
-use Rattle.annot_code.specs.Plain.{code_of, pointer_of, side_of}
+use Rattle.annot_pieces.specs.declared.side.Side as declared_side
+use Rattle.annot_pieces.specs.declared.side.Side.TheVariants as side
+use Rattle.annot_simulation.specs.Code.{Code, Side, OfNumber, OfPointer, both_asked, connected, is_null_term, is_sure, left_first, related_code, used_by}
+use Rattle.annot_simulation.specs.Pointers.{PointerCode, addresses_code, branch_pointer, null_code}
+use Rattle.annot_pieces.specs.Plain.{code_of, pointer_of, side_of}
 
 -- what is made of a part, after the same program's and the same bindings
 pub then_part :

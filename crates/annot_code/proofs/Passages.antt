@@ -7,8 +7,8 @@ use Rattle.c_effects.specs.Expressions.{before}
 use Rattle.c_simulation.specs.Keeping.{Kept}
 use Rattle.c_effects.specs.Named.{unit_of}
 use Rattle.annot_code.specs.Passages.{kept_by, names_behind_passed, names_behind_snapshot, names_behind_term, passed_by, snapshot_by}
-use Rattle.annot_code.specs.Plain.{names_with}
-use Rattle.annot_code.specs.Snapshots.{behind_keep, behind_snapshot, entry_side}
+use Rattle.annot_pieces.specs.Plain.{names_with}
+use Rattle.annot_simulation.specs.Snapshots.{behind_keep, behind_snapshot, entry_side}
 
 module _ (n : Names) (l : Option ℕ) (k : Kept) (rest : List Kept) where
   code_where : (b : Bool) → cond b (before (kept_by n k) (snapshot_by (names_behind_term k n) l rest)) (snapshot_by n l rest)

@@ -16,14 +16,14 @@ use Rattle.c_model.specs.Ranges.{width_of_range}
 use Rattle.mon_syntax.specs.declared.tree.MonType.{MonType}
 use Rattle.mon_syntax.specs.Registers.{Names}
 use Rattle.c_effects.specs.Named.{unit_of}
-use Rattle.annot_code.specs.declared.piece.Code as declared
-use Rattle.annot_code.specs.declared.pointer.PointerCode as declared_pointer
-use Rattle.annot_code.specs.declared.zone.ZoneCode as declared_zone
-use Rattle.annot_code.specs.declared.zone.ZonesCode as declared_zones
-use Rattle.annot_code.specs.Code.{pointer_code, sure_readings, term_code, type_of, type_of_width, zones_code}
-use Rattle.annot_code.specs.Pointers.{PointerCode, ZoneCode, ZonesCode, another_zone, branch_pointer, difference_code, elements_code, moved_code, object_code}
-use Rattle.annot_code.specs.Pointers.{zone_asked}
-use Rattle.annot_code.specs.Plain.{Known, asks_of, code_of, known_with, plain_zone, pointer_by, pointer_of, pred_by, term_by, zone_by, zone_of, zones_by, zones_of}
+use Rattle.annot_pieces.specs.declared.piece.Code as declared
+use Rattle.annot_pieces.specs.declared.pointer.PointerCode as declared_pointer
+use Rattle.annot_pieces.specs.declared.zone.ZoneCode as declared_zone
+use Rattle.annot_pieces.specs.declared.zone.ZonesCode as declared_zones
+use Rattle.annot_simulation.specs.Code.{pointer_code, sure_readings, term_code, type_of, type_of_width, zones_code}
+use Rattle.annot_simulation.specs.Pointers.{PointerCode, ZoneCode, ZonesCode, another_zone, branch_pointer, difference_code, elements_code, moved_code, object_code}
+use Rattle.annot_simulation.specs.Pointers.{zone_asked}
+use Rattle.annot_pieces.specs.Plain.{Known, asks_of, code_of, known_with, plain_zone, pointer_by, pointer_of, pred_by, term_by, zone_by, zone_of, zones_by, zones_of}
 use Rattle.annot_code.proofs.Pairs.{branch_first, then_part}
 
 module _ {E : Type 0} (r : Result declared_pointer.PointerCode E) (ks : List MonType) where

@@ -9,9 +9,10 @@ use Rattle.mon_syntax.specs.Registers.{Names}
 use Rattle.mon_syntax.specs.Trees.{MonStatements}
 use Rattle.c_effects.specs.Named.{unit_of}
 use Rattle.annot_code.specs.declared.flags.Flags as declared_flags
-use Rattle.annot_code.specs.ContractCode.{assumption_code, behind_check, behind_checks, behind_cover, behind_demand, behind_entry, behind_leave, check_code}
-use Rattle.annot_code.specs.ContractCode.{checks_code, counted_by, counted_by_cover, counted_by_demand, cover_code, demand_code, entry_code, leave_code}
-use Rattle.annot_code.specs.Plain.{Known, clause_by, names_behind_assertion, names_with}
+use Rattle.annot_simulation.specs.ContractCode.{assumption_code, behind_check, behind_checks, behind_cover, behind_demand, behind_entry, behind_leave}
+use Rattle.annot_simulation.specs.ContractCode.{check_code}
+use Rattle.annot_simulation.specs.ContractCode.{checks_code, counted_by, counted_by_cover, counted_by_demand, cover_code, demand_code, entry_code, leave_code}
+use Rattle.annot_pieces.specs.Plain.{Known, clause_by, names_behind_assertion, names_with}
 
 -- behaviors, and the register of the first one's flag
 pub record Flags : Type 0 where

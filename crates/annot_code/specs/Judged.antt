@@ -6,13 +6,19 @@ use Rattle.c_model.specs.Predicates.{pred}
 use Rattle.c_model.specs.TermRanges.{Seen, PredicateRanged}
 use Rattle.mon_syntax.specs.declared.tree.MonType.{MonType}
 use Rattle.mon_syntax.specs.Registers.{Names}
+use Rattle.mon_syntax.specs.Trees.{plain_stmts}
 use Rattle.mon_syntax.specs.Valid.{Types, Labels, Signature}
 use Rattle.c_effects.specs.Named.{unit_of}
 use Rattle.c_simulation.specs.Keeping.{Kept}
-use Rattle.annot_code.specs.Code.{Judgement}
-use Rattle.annot_code.specs.Held.{Held, sorts_held}
-use Rattle.annot_code.specs.Does.{Setting, Stands, RangesHold, PredicateFound, Judges}
-use Rattle.annot_code.specs.Validity.{PredicateWritable, Begins, IsValidCode}
+use Rattle.annot_code.specs.declared.judge.Judged.{Judged}
+use Rattle.annot_simulation.specs.Code.{Judgement}
+use Rattle.annot_simulation.specs.Held.{Held, sorts_held}
+use Rattle.annot_simulation.specs.Does.{Setting, Stands, RangesHold, PredicateFound, Judges}
+use Rattle.annot_simulation.specs.Validity.{PredicateWritable, Begins, IsValidCode}
+
+-- a judgement after which registers of these types are taken
+abbrev pub judgement_of : Judged → List MonType → Judgement
+judgement_of j rs = record { stmts = plain_stmts j.stmts.items; flag = j.flag; truth = j.truth; used = rs }
 
 -- it judges each predicate that keeps its ranges and whose variables are in sight, where there are registers enough
 abbrev pub JudgesIn : Names → List Kept → List Held → Predicate → Judgement → Type 0

@@ -6,8 +6,8 @@ use Rattle.mon_syntax.specs.Registers.{Names}
 use Rattle.mon_syntax.specs.Trees.{MonStatements, NoStatement}
 use Rattle.c_effects.specs.Named.{unit_of}
 use Rattle.c_simulation.specs.Keeping.{Kept}
-use Rattle.annot_code.specs.Plain.{names_with}
-use Rattle.annot_code.specs.Snapshots.{behind_keep, behind_snapshot, entry_side, keep, snapshot}
+use Rattle.annot_pieces.specs.Plain.{names_with}
+use Rattle.annot_simulation.specs.Snapshots.{behind_keep, behind_snapshot, entry_side, keep, snapshot}
 
 -- a term is kept
 abbrev pub kept_by : Names → Kept → MonStatements

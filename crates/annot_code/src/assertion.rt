@@ -4,12 +4,13 @@ ghost use Rattle.std.specs.Prelude.{◌≡◌, ◌≤◌, [], OnOk, map};
 ghost use Rattle.c_syntax.specs.Logic.{plain_annot};
 ghost use Rattle.mon_syntax.specs.Trees.{Assert, plain_expr, plain_stmt_kind, plain_stmts};
 ghost use Rattle.c_effects.specs.Expressions.{before};
-ghost use Rattle.annot_code.specs.Code.{asserted};
-ghost use Rattle.annot_code.specs.Numbered.{AreNumbered, IsNumbered};
-ghost use Rattle.annot_code.specs.Plain.{assertion_by, assertions_by, judgement_of, names_behind_assertion, names_behind_assertions, plain_stored};
+ghost use Rattle.annot_simulation.specs.Code.{asserted};
+ghost use Rattle.annot_simulation.specs.Numbered.{AreNumbered, IsNumbered};
+ghost use Rattle.annot_pieces.specs.Plain.{assertion_by, assertions_by, names_behind_assertion, names_behind_assertions, plain_stored};
+ghost use Rattle.annot_code.specs.Judged.{judgement_of};
 
 use crate::judge::{Judged, judge_clause};
-use crate::plan::Stored;
+use annot_pieces::plan::Stored;
 use c_effects::operator::register;
 use c_effects::part::{then, then_all};
 use c_syntax::{Annot, Kind};

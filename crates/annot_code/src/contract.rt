@@ -14,15 +14,16 @@ ghost use Rattle.annot_code.specs.Checks.{annotations_of, behavior_by, check_by,
 ghost use Rattle.annot_code.specs.Checks.{counted_behind_cover, counted_behind_demand, cover_by, demand_by, entry_by, leave_by, names_behind_behavior};
 ghost use Rattle.annot_code.specs.Checks.{names_behind_check, names_behind_checks, names_behind_cover, names_behind_demand, names_behind_entry};
 ghost use Rattle.annot_code.specs.Checks.{names_behind_leave, plain_flags};
-ghost use Rattle.annot_code.specs.ContractCode.{assumption_code, count, cover_asked, cover_truth};
-ghost use Rattle.annot_code.specs.Numbered.{AreNumbered, IsNumbered};
-ghost use Rattle.annot_code.specs.Plain.{clause_by, judgement_of, names_behind_assertion, names_with, plain_stored};
+ghost use Rattle.annot_simulation.specs.ContractCode.{assumption_code, count, cover_asked, cover_truth};
+ghost use Rattle.annot_simulation.specs.Numbered.{AreNumbered, IsNumbered};
+ghost use Rattle.annot_pieces.specs.Plain.{clause_by, names_behind_assertion, names_with, plain_stored};
+ghost use Rattle.annot_code.specs.Judged.{judgement_of};
 
 use crate::assertion::{assert_of, assertion};
 use crate::flags::{Flags, count, flag_at, raise_all, where_flagged};
 use crate::judge::{Judged, judge_clause};
-use crate::kept::{Held, Kept};
-use crate::plan::{Plan, Stored};
+use annot_pieces::kept::{Held, Kept};
+use annot_pieces::plan::{Plan, Stored};
 use behavior_split::{Clause, clauses};
 use c_effects::operator::{constant, operation, register};
 use c_effects::part::{then, then_all};

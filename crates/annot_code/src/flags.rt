@@ -6,10 +6,10 @@ ghost use Rattle.c_syntax.specs.declared.place.Place.{Place};
 ghost use Rattle.c_syntax.specs.Programs.{plain_behavior};
 ghost use Rattle.mon_syntax.specs.Trees.{plain_stmts};
 ghost use Rattle.c_effects.specs.Expressions.{before};
-ghost use Rattle.annot_code.specs.ContractCode.{all_flagged, count, flag_named, flags_from, summed, where_flagged};
-ghost use Rattle.annot_code.specs.Tables.{AreIndices};
+ghost use Rattle.annot_simulation.specs.ContractCode.{all_flagged, count, flag_named, flags_from, summed, where_flagged};
+ghost use Rattle.annot_pieces.specs.Tables.{AreIndices};
 
-use crate::piece::next;
+use annot_pieces::piece::next;
 use behavior_split::indices_by_name;
 use c_effects::operator::{constant, operation, register};
 use c_effects::part::then;

@@ -3,15 +3,15 @@
 ghost use Rattle.std.specs.Prelude.{◌≡◌, IfOk, None, OnOk, Some, option_map};
 ghost use Rattle.c_syntax.specs.Logic.{plain_body, plain_pred};
 ghost use Rattle.mon_syntax.specs.Trees.{plain_expr, plain_stmts};
-ghost use Rattle.annot_code.specs.Code.{judged_anew, judged_by, judged_with, nothing_said};
-ghost use Rattle.annot_code.specs.Plain.{clause_by, code_of, judgement_by, judgement_of, number_of, plain_stored, written};
-ghost use Rattle.annot_code.specs.Inside.{AreInside};
-ghost use Rattle.annot_code.specs.Judged.{IsValidIn, JudgesIn};
+ghost use Rattle.annot_simulation.specs.Code.{judged_anew, judged_by, judged_with, nothing_said};
+ghost use Rattle.annot_pieces.specs.Plain.{clause_by, code_of, judgement_by, number_of, plain_stored, written};
+ghost use Rattle.annot_simulation.specs.Inside.{AreInside};
+ghost use Rattle.annot_code.specs.Judged.{IsValidIn, JudgesIn, judgement_of};
 
-use crate::piece::{Code, take_none};
-use crate::plan::Stored;
 use crate::predicate::pred_code;
-use crate::reading::{Known, Reading};
+use annot_pieces::piece::{Code, take_none};
+use annot_pieces::plan::Stored;
+use annot_pieces::reading::{Known, Reading};
 use c_effects::operator::{constant, register};
 use c_effects::part::{alone, then};
 use c_syntax::logic::{Body, Pred};
@@ -83,7 +83,7 @@ fn number_of(e: &MonExpr) -> Option<u32>
 }
 
 // A flag that is a register already stays there.
-#[tactic(auto, using(crate::proofs::Arms::judged_is))]
+#[tactic(auto, using(annot_pieces::proofs::Arms::judged_is))]
 fn judged_where(
     alloc: Global,
     flag: MonExpr,

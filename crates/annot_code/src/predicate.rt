@@ -5,31 +5,31 @@ ghost use Rattle.c_syntax.specs.Ctypes.{plain_type};
 ghost use Rattle.c_syntax.specs.Formulas.{plain_cast_type};
 ghost use Rattle.c_syntax.specs.Logic.{plain_links, plain_pred, plain_term, plain_zones};
 ghost use Rattle.c_effects.specs.Named.{unit_of};
-ghost use Rattle.annot_code.specs.Code.{settled, type_of};
-ghost use Rattle.annot_code.specs.Pointers.{member_code, pointer_there, told_pointer};
-ghost use Rattle.annot_code.specs.Plain.{asks_of, binary_of, branch_of, cast_of, chain_by, chain_of, choice_of, code_of, connected_of, denied_of};
-ghost use Rattle.annot_code.specs.Plain.{deref_of, difference_of, elements_form, link_of, member_of, more_links, more_zones_of, moved_of, nonzero_of};
-ghost use Rattle.annot_code.specs.Plain.{place_by, plain_known, plain_zone, pointer_by, pointer_choice_of, pointer_of, pred_by};
-ghost use Rattle.annot_code.specs.Plain.{separated_of, side_by_names, side_of, term_by, told_of, unary_of, zone_by, zone_of, zones_by, zones_of};
+ghost use Rattle.annot_simulation.specs.Code.{settled, type_of};
+ghost use Rattle.annot_simulation.specs.Pointers.{member_code, pointer_there, told_pointer};
+ghost use Rattle.annot_pieces.specs.Plain.{asks_of, binary_of, branch_of, cast_of, chain_by, chain_of, choice_of, code_of, connected_of, denied_of};
+ghost use Rattle.annot_pieces.specs.Plain.{deref_of, difference_of, elements_form, link_of, member_of, more_links, more_zones_of, moved_of, nonzero_of};
+ghost use Rattle.annot_pieces.specs.Plain.{place_by, plain_known, plain_zone, pointer_by, pointer_choice_of, pointer_of, pred_by};
+ghost use Rattle.annot_pieces.specs.Plain.{separated_of, side_by_names, side_of, term_by, told_of, unary_of, zone_by, zone_of, zones_by, zones_of};
 
-use crate::compare::difference_code;
-use crate::join::{branched, chosen, connected, operated, settled};
-use crate::leaf::{kept_number, kept_pointer, named, pointer_named, pointer_variable};
-use crate::piece::Code;
-use crate::pointer::{
+use annot_pieces::compare::difference_code;
+use annot_pieces::join::{branched, chosen, connected, operated, settled};
+use annot_pieces::leaf::{kept_number, kept_pointer, named, pointer_named, pointer_variable};
+use annot_pieces::piece::Code;
+use annot_pieces::pointer::{
     PointerCode, branch_pointer, member_code, moved_code, no_pointer, null_pointer, number_read,
     pointer_there, start_pointer, told_number, told_pointer,
 };
-use crate::reading::{
+use annot_pieces::reading::{
     Known, Reading, known_after, known_after_relation, known_at_right, term_type,
 };
-use crate::side::{Side, ended, is_pointer_term, related_again, related_code};
-use crate::term::{
+use annot_pieces::side::{Side, ended, is_pointer_term, related_again, related_code};
+use annot_pieces::term::{
     cast_code, denied_code, no_code, nonzero_code, number_code, truth_code, unary_code,
     variable_code,
 };
-use crate::width::{range_of, type_of, type_of_range, types_of, width_of};
-use crate::zone::{
+use annot_pieces::width::{range_of, type_of, type_of_range, types_of, width_of};
+use annot_pieces::zone::{
     ZoneCode, ZonesCode, another_zone, elements_code, no_zones, object_code, separated_code,
     zone_asked,
 };

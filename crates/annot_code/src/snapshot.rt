@@ -6,18 +6,18 @@ ghost use Rattle.c_model.specs.State.{same_label};
 ghost use Rattle.mon_syntax.specs.declared.tree.MonType.TheVariants.{I32, I128};
 ghost use Rattle.mon_syntax.specs.Trees.{Constant, Register, Set, Then, plain_expr, plain_stmts};
 ghost use Rattle.c_effects.specs.Expressions.{before, set};
-ghost use Rattle.annot_code.specs.Plain.{code_of, nothing_known, pointer_of, side_by_names, side_of};
-ghost use Rattle.annot_code.specs.Tables.{plain_kept, plain_plan};
+ghost use Rattle.annot_pieces.specs.Plain.{code_of, nothing_known, pointer_of, side_by_names, side_of};
+ghost use Rattle.annot_pieces.specs.Tables.{plain_kept, plain_plan};
 ghost use Rattle.annot_code.specs.Passages.{kept_by, names_behind_snapshot, names_behind_term, passed_by, names_behind_passed, snapshot_by};
-ghost use Rattle.annot_code.specs.Snapshots.{behind_keep, keep, keep_number, keep_pointer};
+ghost use Rattle.annot_simulation.specs.Snapshots.{behind_keep, keep, keep_number, keep_pointer};
 
-use crate::kept::{Held, Kept};
-use crate::piece::{Code, guarded, next, take_none};
-use crate::plan::{Plan, Stored};
-use crate::pointer::PointerCode;
 use crate::predicate::side_code;
-use crate::reading::{Known, Reading};
-use crate::side::Side;
+use annot_pieces::kept::{Held, Kept};
+use annot_pieces::piece::{Code, guarded, next, take_none};
+use annot_pieces::plan::{Plan, Stored};
+use annot_pieces::pointer::PointerCode;
+use annot_pieces::reading::{Known, Reading};
+use annot_pieces::side::Side;
 use c_effects::operator::{constant, register};
 use c_effects::part::{alone, then, then_all};
 use c_syntax::logic::Term;
@@ -27,7 +27,7 @@ use std::alloc::{AllocError, Global};
 // ---- a value that is kept
 
 // The value of a number, and then the flag.
-#[tactic(auto, using(crate::proofs::Rust::next_is))]
+#[tactic(auto, using(annot_pieces::proofs::Rust::next_is))]
 fn number_kept(alloc: Global, value: MonExpr, number: u32) -> Result<Vec<MonStmt>, AllocError>
     ensures { IfOk result (λ v. plain_stmts v.items ≡ Then (Set (suc number) (plain_expr value)) (set number (Constant I32 (pos 1)))) }
 {
@@ -50,7 +50,7 @@ fn keep_number(alloc: Global, c: Code, number: u32, to: &mut Vec<MonStmt>) -> Re
 }
 
 // The offset in a register of its own, the base and the offset of a pointer, and then the flag.
-#[tactic(auto, using(crate::proofs::Rust::next_is))]
+#[tactic(auto, using(annot_pieces::proofs::Rust::next_is))]
 fn pointer_kept(
     alloc: Global,
     base: MonExpr,

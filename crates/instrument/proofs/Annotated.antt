@@ -10,7 +10,7 @@ use Rattle.c_model.specs.KeptTerms.{StandApart}
 use Rattle.c_model.specs.TypedAnnotations.{ContractNoted}
 use Rattle.c_model.specs.UnrangedPrograms.{ContractRanged, FunctionsRanged}
 use Rattle.c_model.proofs.PlacedFunctions.{entries_are_one}
-use Rattle.annot_code.specs.Plan.{Entry, IsIn, offset_of, planned}
+use Rattle.annot_simulation.specs.Plan.{Entry, IsIn, offset_of, planned}
 
 -- no two of these terms stand at one place
 abbrev pub AreApart : List Entry → Type 0

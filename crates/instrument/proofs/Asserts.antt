@@ -22,14 +22,14 @@ use Rattle.mon_syntax.specs.Meaning as monitored
 use Rattle.mon_syntax.specs.BlockMemory.{integer_of, is_some, over_blocks}
 use Rattle.mon_syntax.specs.Trees.{MonExpression, Register, Assert}
 use Rattle.c_effects.specs.Expressions.{one}
-use Rattle.annot_code.specs.Code.{Judgement, judgement, clause_judgement, asserted, assertion, behind_assertion, assertions, behind_assertions}
-use Rattle.annot_code.specs.Does as code
-use Rattle.annot_code.specs.Does.{Finishes, IsJudged, Judges, is_true}
-use Rattle.annot_code.specs.Beside.{AreHeld, judging}
+use Rattle.annot_simulation.specs.Code.{Judgement, judgement, clause_judgement, asserted, assertion, behind_assertion, assertions, behind_assertions}
+use Rattle.annot_simulation.specs.Does as code
+use Rattle.annot_simulation.specs.Does.{Finishes, IsJudged, Judges, is_true}
+use Rattle.annot_simulation.specs.Beside.{AreHeld, judging}
 use Rattle.c_simulation.specs.SameRegisters.{Same}
-use Rattle.annot_code.proofs.Asserted.{assertion_grows, behind_grows}
-use Rattle.annot_code.proofs.Beside.{stands_anchored, ranges_hold}
-use Rattle.annot_code.proofs.Theorem.{code_judges}
+use Rattle.annot_simulation.proofs.Asserted.{assertion_grows, behind_grows}
+use Rattle.annot_simulation.proofs.Beside.{stands_anchored, ranges_hold}
+use Rattle.annot_simulation.proofs.Theorem.{code_judges}
 use Rattle.instrument.proofs.Passages.{ClauseFound, AnnotationsFound}
 use Rattle.instrument.proofs.RangedTrees.{AreRangedAsserts}
 use Rattle.c_simulation.proofs.Results.{one_is, before_is, writes_none}

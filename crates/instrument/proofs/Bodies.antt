@@ -36,9 +36,9 @@ use Rattle.instrument.specs.Translation.{all_kinds, at_leave, at_start, behind_o
 use Rattle.instrument.specs.Translation.{own_types, plan_of, pointers, result_register, with_variables, value_types, after_body, after_items, arguments_from, registers_from, items}
 use Rattle.instrument.specs.Translation as target
 use Rattle.c_simulation.specs.Keeping.{Kept, registers_of}
-use Rattle.annot_code.specs.Plan.{kept_types, planned}
-use Rattle.annot_code.specs.Snapshots.{Ascend}
-use Rattle.annot_code.proofs.Plans.{plans_ascend}
+use Rattle.annot_simulation.specs.Plan.{kept_types, planned}
+use Rattle.annot_simulation.specs.Snapshots.{Ascend}
+use Rattle.annot_simulation.proofs.Plans.{plans_ascend}
 use Rattle.c_model.specs.AnnotationTyping.{in_body}
 use Rattle.instrument.proofs.Blocks.{Meets}
 use Rattle.instrument.proofs.Passages.{ItemsKept, snapshot_grows, entry_grows, leave_grows}

@@ -16,8 +16,8 @@ use Rattle.c_effects.specs.Expressions.{before}
 use Rattle.c_effects.proofs.Sequences.{before_none}
 use Rattle.track_scopes.specs.Blocks.{deaths}
 use Rattle.track_scopes.proofs.Deaths.{deaths_end}
-use Rattle.annot_code.specs.ContractCode.{entry_code, leave_code}
-use Rattle.annot_code.specs.Plan.{planned, kept_types}
+use Rattle.annot_simulation.specs.ContractCode.{entry_code, leave_code}
+use Rattle.annot_simulation.specs.Plan.{planned, kept_types}
 use Rattle.instrument.specs.Translation.{at_leave, behind_own, behind_pre, body_code, body_part, contract_types, first_flag, first_own, held_of, own_types, plan_of, pointers, at_start, result_register, value_types}
 use Rattle.instrument.specs.Translation as target
 use Rattle.c_simulation.specs.Keeping.{StandBelow}
@@ -30,7 +30,7 @@ use Rattle.instrument.proofs.Births.{with_numbers}
 use Rattle.instrument.proofs.CallEnds.{zero_of}
 use Rattle.instrument.proofs.ContractCalls.{Flagged, ChecksDo, Answers, body_answers, contract_follows}
 use Rattle.instrument.proofs.Functions.{function, own, first, count, in_front, names_around, setting, BodyFollows, MeetsBody, PreFollows, GivesSame, gives, plain_gives, spot_of_body}
-use Rattle.annot_code.specs.Validity.{Begins}
+use Rattle.annot_simulation.specs.Validity.{Begins}
 use Rattle.mon_syntax.specs.Valid.{types_of}
 use Rattle.instrument.proofs.KeptPlans.{plan_stands}
 

@@ -14,12 +14,12 @@ use Rattle.mon_syntax.specs.Registers.{next_register}
 use Rattle.mon_syntax.specs.Valid.{types_of}
 use Rattle.mon_syntax.specs.Meaning as monitored
 use Rattle.mon_syntax.specs.BlockMemory.{over_blocks}
-use Rattle.annot_code.specs.Beside.{judging}
-use Rattle.annot_code.specs.ContractDoes.{AreGood}
-use Rattle.annot_code.specs.Does as code
-use Rattle.annot_code.specs.Plan.{kept_types, planned}
-use Rattle.annot_code.specs.Validity.{Begins}
-use Rattle.annot_code.proofs.Plans.{plans_ascend}
+use Rattle.annot_simulation.specs.Beside.{judging}
+use Rattle.annot_simulation.specs.ContractDoes.{AreGood}
+use Rattle.annot_simulation.specs.Does as code
+use Rattle.annot_simulation.specs.Plan.{kept_types, planned}
+use Rattle.annot_simulation.specs.Validity.{Begins}
+use Rattle.annot_simulation.proofs.Plans.{plans_ascend}
 use Rattle.interval_infer.specs.Judged.{seen_in}
 use Rattle.c_simulation.specs.Calls.{value_of}
 use Rattle.c_simulation.specs.Standing.{Setting}

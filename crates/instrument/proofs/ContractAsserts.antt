@@ -40,17 +40,17 @@ use Rattle.c_simulation.proofs.Anchors.{pointer_has}
 use Rattle.c_simulation.proofs.Following.{anchored_stays}
 use Rattle.c_simulation.proofs.Registers.{get-set_same, same_all}
 use Rattle.c_simulation.proofs.Results.{before_is, writes_none}
-use Rattle.annot_code.specs.Beside.{judging}
-use Rattle.annot_code.specs.ContractCode.{all_flagged, checks_code, behind_checks, entry_code, behind_entry, leave_code, behind_leave}
-use Rattle.annot_code.specs.ContractDoes.{Flagged, Checked, Goes, Breaks, IsHeldApart, StandsFor, AreGood, left_with}
-use Rattle.annot_code.specs.ContractDoes as checks
-use Rattle.annot_code.specs.Does as code
-use Rattle.annot_code.specs.Does.{HasKept, IsSorted, RangesHold}
-use Rattle.annot_code.specs.Held.{Held, Sorted, held_by, kept_at, sorts_held}
-use Rattle.annot_code.specs.Snapshots.{StandsApart}
-use Rattle.annot_code.proofs.Beside.{kept_found, ranges_hold, results_keep_ranges, state_fits}
-use Rattle.annot_code.proofs.ContractChecked.{checks_follow_all}
-use Rattle.annot_code.proofs.SoundStores.{bounded_sound}
+use Rattle.annot_simulation.specs.Beside.{judging}
+use Rattle.annot_simulation.specs.ContractCode.{all_flagged, checks_code, behind_checks, entry_code, behind_entry, leave_code, behind_leave}
+use Rattle.annot_simulation.specs.ContractDoes.{Flagged, Checked, Goes, Breaks, IsHeldApart, StandsFor, AreGood, left_with}
+use Rattle.annot_simulation.specs.ContractDoes as checks
+use Rattle.annot_simulation.specs.Does as code
+use Rattle.annot_simulation.specs.Does.{HasKept, IsSorted, RangesHold}
+use Rattle.annot_simulation.specs.Held.{Held, Sorted, held_by, kept_at, sorts_held}
+use Rattle.annot_simulation.specs.Snapshots.{StandsApart}
+use Rattle.annot_simulation.proofs.Beside.{kept_found, ranges_hold, results_keep_ranges, state_fits}
+use Rattle.annot_simulation.proofs.ContractChecked.{checks_follow_all}
+use Rattle.annot_simulation.proofs.SoundStores.{bounded_sound}
 use Rattle.instrument.proofs.ContractCalls.{ChecksDo, ChecksPass, ChecksStop}
 use Rattle.instrument.proofs.Passages.{entry_grows}
 

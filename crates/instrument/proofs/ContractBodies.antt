@@ -16,7 +16,7 @@ use Rattle.c_effects.proofs.Sequences.{before_assoc}
 use Rattle.c_simulation.specs.Keeping.{Kept}
 use Rattle.c_simulation.specs.Labels.{leave_label}
 use Rattle.annot_code.specs.Checks.{entry_by, names_behind_entry, names_behind_leave}
-use Rattle.annot_code.specs.ContractCode.{flag_named, flags_from, named_flags}
+use Rattle.annot_simulation.specs.ContractCode.{flag_named, flags_from, named_flags}
 use Rattle.annot_code.specs.Passages.{names_behind_snapshot, snapshot_by}
 use Rattle.instrument.specs.Options.{behind_body, behind_checked, behind_contracted, behind_inner, behind_whole, bound_from, checked_by, contracted_by, end_by, entering, inner_by, known_at_end, own_code, passed, with_these_alone}
 use Rattle.instrument.specs.Translation.{parameters}

@@ -26,7 +26,7 @@ use Rattle.c_effects.specs.Expressions.{before, one}
 use Rattle.track_scopes.specs.Blocks.{deaths}
 use Rattle.track_scopes.specs.Lives as lives
 use Rattle.track_scopes.specs.Lives.{AreFrom, AreBefore, with_store}
-pub use Rattle.annot_code.specs.ContractDoes.{Flagged}
+pub use Rattle.annot_simulation.specs.ContractDoes.{Flagged}
 use Rattle.instrument.specs.Translation.{Spot, outermost, result_of, last_return}
 use Rattle.c_simulation.specs.Keeping.{Kept, registers_of, StandBelow, StandsBehind}
 use Rattle.c_simulation.specs.Labels.{leave_label}

@@ -17,16 +17,16 @@ use Rattle.c_model.specs.TypedAnnotations.{ClausesTyped, BehaviorsTyped, AreAmon
 use Rattle.c_model.specs.TypedPredicates.{ClauseTyped, PredicateTyped}
 use Rattle.c_model.specs.Unranged.{ClauseRanged, AnnotationsRanged}
 use Rattle.c_model.specs.UnrangedPrograms.{BehaviorsRanged}
-use Rattle.annot_code.specs.Beside.{ResultSorted}
-use Rattle.annot_code.specs.ContractCode.{named_flags}
-use Rattle.annot_code.specs.ContractDoes.{AreGood}
-use Rattle.annot_code.specs.ContractDoes as checks
-use Rattle.annot_code.specs.Does as code
-use Rattle.annot_code.specs.Does.{Planned, PredicateFound}
-use Rattle.annot_code.specs.Held.{sorts_held}
-use Rattle.annot_code.specs.Plan.{Entry, IsIn, in_annotations, in_behaviors, in_clause, in_contract, in_predicate}
-use Rattle.annot_code.proofs.Found.{typed_found}
-use Rattle.annot_code.proofs.TypedEntries.{sight_of, predicate_stands, predicate_alone}
+use Rattle.annot_simulation.specs.Beside.{ResultSorted}
+use Rattle.annot_simulation.specs.ContractCode.{named_flags}
+use Rattle.annot_simulation.specs.ContractDoes.{AreGood}
+use Rattle.annot_simulation.specs.ContractDoes as checks
+use Rattle.annot_simulation.specs.Does as code
+use Rattle.annot_simulation.specs.Does.{Planned, PredicateFound}
+use Rattle.annot_simulation.specs.Held.{sorts_held}
+use Rattle.annot_simulation.specs.Plan.{Entry, IsIn, in_annotations, in_behaviors, in_clause, in_contract, in_predicate}
+use Rattle.annot_simulation.proofs.Found.{typed_found}
+use Rattle.annot_simulation.proofs.TypedEntries.{sight_of, predicate_stands, predicate_alone}
 use Rattle.interval_infer.specs.Judged.{seen_in}
 use Rattle.instrument.specs.Limits.{CoversFew}
 use Rattle.instrument.specs.Translation.{first_flag, held_of, plan_of}

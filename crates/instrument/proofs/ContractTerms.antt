@@ -21,9 +21,9 @@ use Rattle.c_model.specs.TypedPredicates.{ClauseTyped}
 use Rattle.c_model.specs.TypedTrees.{Denotes}
 use Rattle.c_model.specs.Unranged.{ClauseRanged, AnnotationsRanged}
 use Rattle.c_model.specs.UnrangedPrograms.{BehaviorsRanged}
-use Rattle.annot_code.specs.Plan.{Entry, IsIn, in_annotations, in_behaviors, in_clause, in_contract}
-use Rattle.annot_code.proofs.Found.{under_found}
-use Rattle.annot_code.proofs.TypedEntries.{EntryStands, sight_of, predicate_stands, term_alone}
+use Rattle.annot_simulation.specs.Plan.{Entry, IsIn, in_annotations, in_behaviors, in_clause, in_contract}
+use Rattle.annot_simulation.proofs.Found.{under_found}
+use Rattle.annot_simulation.proofs.TypedEntries.{EntryStands, sight_of, predicate_stands, term_alone}
 use Rattle.instrument.proofs.Births.{names_of, with_numbers}
 use Rattle.instrument.proofs.CheckedFunctions.{AtBeginning}
 use Rattle.instrument.proofs.KeptFunctions.{IsSeen, in_either}

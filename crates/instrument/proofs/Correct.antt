@@ -55,9 +55,9 @@ use Rattle.instrument.proofs.ContractCalls.{inside, here_inside}
 use Rattle.instrument.proofs.Functions.{setting, of_function, how_many, MeetsBody, registers_full}
 use Rattle.instrument.proofs.KeptPlans.{plan_stands, registers_keep}
 use Rattle.instrument.proofs.Passages.{IsPassed, ItemsKept}
-use Rattle.annot_code.specs.Plan.{planned}
-use Rattle.annot_code.specs.Snapshots.{snapshot}
-use Rattle.annot_code.specs.ContractCode.{entry_code, leave_code}
+use Rattle.annot_simulation.specs.Plan.{planned}
+use Rattle.annot_simulation.specs.Snapshots.{snapshot}
+use Rattle.annot_simulation.specs.ContractCode.{entry_code, leave_code}
 use Rattle.instrument.proofs.Programs.{Parts, picked, index_by, IsPicked, is_picked, has_bytes, main_index_is, index_below, no_parameters}
 use Rattle.instrument.proofs.Bodies.{LiteralsStand, HasBody, has_body, has_room, body_follows, inside_follows, plan_fits}
 use Rattle.instrument.proofs.MainCalls.{ran_output, brace, BodyAnswers, MainAnswers, main_answers, main_follows}

@@ -10,7 +10,7 @@ use Rattle.c_model.specs.Meaning.{declared_in, declared_first}
 use Rattle.c_model.specs.Formed.{number_of, declared_within, declared_in_cases, declared_in_else, declared_in_first, declared_in_item, declared_in_items}
 use Rattle.mon_syntax.specs.declared.tree.MonType.{MonType}
 use Rattle.mon_syntax.specs.Registers.{Bindings, RegisterTable, register_of, with_kinds, next_register}
-use Rattle.annot_code.proofs.Asserted.{behind_grows}
+use Rattle.annot_simulation.proofs.Asserted.{behind_grows}
 use Rattle.c_simulation.specs.Keeping.{Kept}
 use Rattle.instrument.proofs.Passages.{snapshot_grows}
 use Rattle.c_initialisers.specs.Translation.{declaration_temporaries}

@@ -19,9 +19,9 @@ use Rattle.c_effects.proofs.Sequences.{before_assoc, left_at}
 use Rattle.c_simulation.specs.Keeping.{Kept}
 use Rattle.c_simulation.specs.Labels.{leave_label}
 use Rattle.annot_code.specs.Checks.{names_behind_entry}
-use Rattle.annot_code.specs.ContractCode.{entry_code, behind_leave, leave_code}
-use Rattle.annot_code.specs.Plan.{kept_from, kept_types, planned}
-use Rattle.annot_code.specs.Snapshots.{snapshot}
+use Rattle.annot_simulation.specs.ContractCode.{entry_code, behind_leave, leave_code}
+use Rattle.annot_simulation.specs.Plan.{kept_from, kept_types, planned}
+use Rattle.annot_simulation.specs.Snapshots.{snapshot}
 use Rattle.instrument.specs.Limits.{ContractHasNumbers}
 use Rattle.instrument.specs.Options.{behind_contracted, behind_whole, body_by, bound_from, contracted_by, entering, globals_initialised, own_code, passed, whole_code}
 use Rattle.instrument.specs.Translation.{outermost, all_kinds, at_brace, at_leave, at_start, behind_pre, body_code, body_part, code_of, first_flag, first_pointer, front, front_temporaries, function_of, functions_from, held_of, last_return}

@@ -29,10 +29,10 @@ use Rattle.instrument.specs.Translation.{case_label, test_case, tests_of_cases, 
 use Rattle.c_simulation.specs.Keeping.{Kept}
 use Rattle.c_simulation.specs.Labels.{end_label, next_label, leave_label}
 use Rattle.instrument.proofs.FullDepths.{no_step_before, no_step_act, no_step_prepare, deep_act, deep_behind, deep_one, deep_prepare, deep_set}
-use Rattle.annot_code.specs.Snapshots.{snapshot}
-use Rattle.annot_code.proofs.Asserted.{assertions_deep}
-use Rattle.annot_code.proofs.Depths.{deep_before}
-use Rattle.annot_code.proofs.SnapshotDepths.{AreShort, snapshot_deep}
+use Rattle.annot_simulation.specs.Snapshots.{snapshot}
+use Rattle.annot_simulation.proofs.Asserted.{assertions_deep}
+use Rattle.annot_simulation.proofs.Depths.{deep_before}
+use Rattle.annot_simulation.proofs.SnapshotDepths.{AreShort, snapshot_deep}
 use Rattle.instrument.proofs.ValidInitialisers.{deep_initialise}
 use Rattle.instrument.proofs.ValidBlocks.{deep_deaths, deep_alive}
 

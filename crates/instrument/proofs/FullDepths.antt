@@ -22,7 +22,7 @@ use Rattle.c_model.specs.Formats.{Piece, Bytes, Number, Character, String}
 use Rattle.c_effects.specs.Printing.{behind_first, format_pieces, print_call, prints}
 use Rattle.c_effects.specs.Effects.{call, copies_at, copy_size, first_of, index_of, library_call}
 use Rattle.c_effects.specs.Full.{act, prepare}
-use Rattle.annot_code.proofs.Depths.{deep_before, deep_if}
+use Rattle.annot_simulation.proofs.Depths.{deep_before, deep_if}
 use Rattle.instrument.proofs.FullShapes.{act_in, prepare_in}
 
 -- what holds of the statements of each function of the library holds of those of whichever has a name

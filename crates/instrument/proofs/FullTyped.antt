@@ -28,7 +28,7 @@ use Rattle.c_effects.specs.Letters.{ValueHasLetters}
 use Rattle.c_simulation.proofs.ExpressionTypes.{place_has_object, struct_no_scalar}
 use Rattle.c_simulation.proofs.Expressions.{letter_fits}
 use Rattle.c_simulation.proofs.Registers.{get-below}
-use Rattle.annot_code.specs.Validity.{Begins}
+use Rattle.annot_simulation.specs.Validity.{Begins}
 use Rattle.instrument.proofs.Objects.{literal_is}
 use Rattle.instrument.proofs.Parts.{near, member_inside, struct_small}
 use Rattle.instrument.proofs.Typed.{Aim, Knows, Reaches, begins_left, begins_right, cast_typed, count_of_globals, farther_typed, index_scalar, indexed_typed, is_global, known_small, loaded_typed, name_placed, name_typed, negated_typed, not_true}

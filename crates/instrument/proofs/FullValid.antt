@@ -31,8 +31,8 @@ use Rattle.c_effects.specs.Full.{kept_setup, kept_takes, kept_types, kept_value,
 use Rattle.c_effects.specs.Full.{object_type, old_setup, origin, part_of, prepare, prepare_all, reached, result, stored, takes, truth_result}
 use Rattle.c_effects.specs.Letters.{ActHasLetters, ValueHasLetters, ValuesHaveLetters, Where}
 use Rattle.c_simulation.proofs.ExpressionTypes.{place_has_object, struct_no_scalar, bump_types}
-use Rattle.annot_code.specs.Validity.{Begins}
-use Rattle.annot_code.proofs.ValidParts.{before_valid, set_valid}
+use Rattle.annot_simulation.specs.Validity.{Begins}
+use Rattle.annot_simulation.proofs.ValidParts.{before_valid, set_valid}
 use Rattle.instrument.specs.Translation.{result_of}
 use Rattle.instrument.proofs.Parentheses.{parens_compared, parens_compound_of, parens_condition, some_weight}
 use Rattle.instrument.proofs.Typed.{Knows, begins_left, begins_right, bytes_constant, compound_scalar, compound_typed, condition_typed, count_of_globals}

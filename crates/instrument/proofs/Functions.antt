@@ -30,9 +30,9 @@ use Rattle.track_scopes.specs.Lives as lives
 use Rattle.track_scopes.specs.Lives.{AreFrom, with_store}
 use Rattle.instrument.specs.Translation.{Spot, at_start, behind_pre, body_code, body_part, code_of, contract_types, behind_own, first_own, first_pointer}
 use Rattle.instrument.specs.Translation.{outermost, own_types, plan_of, pointers, front, front_temporaries, function_of, value_types, result_of}
-use Rattle.annot_code.specs.Plan.{planned, kept_types}
-use Rattle.annot_code.specs.Snapshots.{snapshot}
-use Rattle.annot_code.specs.Validity.{Begins}
+use Rattle.annot_simulation.specs.Plan.{planned, kept_types}
+use Rattle.annot_simulation.specs.Snapshots.{snapshot}
+use Rattle.annot_simulation.specs.Validity.{Begins}
 use Rattle.c_simulation.specs.Keeping.{GiveTerms, StandBelow}
 use Rattle.instrument.proofs.KeptPlans.{plan_stands, registers_keep}
 use Rattle.instrument.proofs.Passages.{IsPassed}

@@ -4,9 +4,9 @@ use Rattle.c_syntax.specs.Programs.{FunctionContract, Function, TranslationUnit}
 use Rattle.c_model.specs.Checked.{Good}
 use Rattle.c_model.specs.StatementTyping.{typed_labels}
 use Rattle.interval_infer.specs.Judged.{seen_in}
-use Rattle.annot_code.specs.Does.{Planned}
-use Rattle.annot_code.specs.Plan.{Entry, IsIn, in_contract, planned}
-use Rattle.annot_code.specs.Plan as plan
+use Rattle.annot_simulation.specs.Does.{Planned}
+use Rattle.annot_simulation.specs.Plan.{Entry, IsIn, in_contract, planned}
+use Rattle.annot_simulation.specs.Plan as plan
 use Rattle.instrument.specs.Translation.{first_own, plan_of}
 use Rattle.instrument.proofs.Annotated.{AreApart}
 use Rattle.instrument.proofs.Bodies.{HasBody}

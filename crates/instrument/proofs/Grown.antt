@@ -9,9 +9,9 @@ use Rattle.mon_syntax.specs.Valid.{Types}
 use Rattle.c_effects.specs.Named.{unit_of}
 use Rattle.c_simulation.specs.Keeping.{Kept}
 use Rattle.annot_code.specs.Checks.{names_behind_entry}
-use Rattle.annot_code.specs.ContractCode.{behind_entry}
-use Rattle.annot_code.specs.Validity.{Begins}
-use Rattle.annot_code.proofs.CheckPrefixes.{checks_begin}
+use Rattle.annot_simulation.specs.ContractCode.{behind_entry}
+use Rattle.annot_simulation.specs.Validity.{Begins}
+use Rattle.annot_simulation.proofs.CheckPrefixes.{checks_begin}
 use Rattle.instrument.specs.Options.{behind_body, entering, passed}
 use Rattle.instrument.specs.Translation.{after_body}
 use Rattle.instrument.proofs.DeclarationCode.{next-entered}

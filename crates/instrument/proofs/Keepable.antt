@@ -11,10 +11,10 @@ use Rattle.c_model.specs.TermRanges.{TermRanged}
 use Rattle.c_model.specs.TypedAnnotations.{IsOwn}
 use Rattle.c_model.specs.TypedPredicates.{IsIntegerTerm, IsPointerTerm, TermTyped, AnnotationsTyped}
 use Rattle.c_simulation.specs.Keeping.{Kept}
-use Rattle.annot_code.specs.Does.{Planned}
-use Rattle.annot_code.specs.Plan.{Entry, IsIn, in_annotations, in_contract}
-use Rattle.annot_code.proofs.SnapshotDepths.{AreShort}
-use Rattle.annot_code.proofs.TypedEntries.{NoNames}
+use Rattle.annot_simulation.specs.Does.{Planned}
+use Rattle.annot_simulation.specs.Plan.{Entry, IsIn, in_annotations, in_contract}
+use Rattle.annot_simulation.proofs.SnapshotDepths.{AreShort}
+use Rattle.annot_simulation.proofs.TypedEntries.{NoNames}
 use Rattle.instrument.specs.Translation.{plan_of}
 use Rattle.instrument.proofs.Throughout.{ThroughoutItems}
 

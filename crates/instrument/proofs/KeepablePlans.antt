@@ -24,11 +24,11 @@ use Rattle.c_model.specs.Unranged.{AnnotationsRanged, ClauseRanged}
 use Rattle.c_model.specs.UnitTyping.{with_parameters}
 use Rattle.c_model.specs.UnrangedPrograms.{BehaviorsRanged, ContractRanged}
 use Rattle.c_simulation.specs.Keeping.{registers_of}
-use Rattle.annot_code.specs.Plan.{Entry, IsIn, in_annotations, in_behaviors, in_clause, in_contract, in_items, kept_from, planned}
-use Rattle.annot_code.specs.Plan as plan
-use Rattle.annot_code.proofs.ShortEntries.{IsShortEntry, predicate_short}
-use Rattle.annot_code.proofs.SnapshotDepths.{AreShort}
-use Rattle.annot_code.proofs.TypedEntries.{EntryStands, NoNames, predicate_stands, term_alone}
+use Rattle.annot_simulation.specs.Plan.{Entry, IsIn, in_annotations, in_behaviors, in_clause, in_contract, in_items, kept_from, planned}
+use Rattle.annot_simulation.specs.Plan as plan
+use Rattle.annot_simulation.proofs.ShortEntries.{IsShortEntry, predicate_short}
+use Rattle.annot_simulation.proofs.SnapshotDepths.{AreShort}
+use Rattle.annot_simulation.proofs.TypedEntries.{EntryStands, NoNames, predicate_stands, term_alone}
 use Rattle.instrument.specs.Translation.{first_own, plan_of}
 use Rattle.instrument.proofs.Annotated.{IsAnnotated}
 use Rattle.instrument.proofs.ContractTerms.{of_kind}

@@ -10,10 +10,10 @@ use Rattle.c_model.specs.State.{Scope, same_label}
 use Rattle.c_model.specs.TermRanges.{TermRanged}
 use Rattle.c_model.specs.UnitTyping.{with_parameters}
 use Rattle.interval_infer.specs.InSight.{AreFound}
-use Rattle.annot_code.specs.Does.{Planned, SideFound}
-use Rattle.annot_code.specs.Plan.{Entry, IsIn, in_contract, in_items, kept_from, offset_of, planned}
-use Rattle.annot_code.specs.Plan as plan
-use Rattle.annot_code.proofs.Plans.{entries_are_found}
+use Rattle.annot_simulation.specs.Does.{Planned, SideFound}
+use Rattle.annot_simulation.specs.Plan.{Entry, IsIn, in_contract, in_items, kept_from, offset_of, planned}
+use Rattle.annot_simulation.specs.Plan as plan
+use Rattle.annot_simulation.proofs.Plans.{entries_are_found}
 use Rattle.instrument.specs.Translation.{first_own, plan_of}
 use Rattle.instrument.proofs.Bodies.{HasBody}
 use Rattle.instrument.proofs.KeptTerms.{ItemsSites, Where, EntryAt, Known, items_at, items_kept, entry_kept, kept_of}

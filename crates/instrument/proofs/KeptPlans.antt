@@ -8,8 +8,8 @@ use Rattle.mon_syntax.specs.Meaning as monitored
 use Rattle.mon_syntax.specs.BlockMemory.{over_blocks}
 use Rattle.mon_syntax.specs.Trees.{MonRegister}
 use Rattle.mon_syntax.specs.Valid.{types_of}
-use Rattle.annot_code.specs.Plan.{Entry, kept_from, kept_types, value_types}
-use Rattle.annot_code.specs.Validity.{Begins}
+use Rattle.annot_simulation.specs.Plan.{Entry, kept_from, kept_types, value_types}
+use Rattle.annot_simulation.specs.Validity.{Begins}
 use Rattle.c_simulation.specs.Keeping.{is_pointer_term, registers_by, registers_of, GiveTerms, StandBelow}
 
 -- ---- where its registers stand

@@ -9,12 +9,12 @@ use Rattle.mon_syntax.specs.declared.tree.MonType.TheVariants.{I32}
 use Rattle.mon_syntax.specs.Valid.{Types}
 use Rattle.c_effects.specs.Expressions.{value_type}
 use Rattle.c_simulation.specs.Keeping.{Kept, is_pointer_term, registers_by, registers_of}
-use Rattle.annot_code.specs.ContractCode.{flags_from}
-use Rattle.annot_code.specs.ContractValidity.{AreFlags}
-use Rattle.annot_code.specs.Does.{Planned}
-use Rattle.annot_code.specs.Held.{kept_at}
-use Rattle.annot_code.specs.Plan.{Entry, kept_from, kept_types, planned, value_types}
-use Rattle.annot_code.specs.Validity.{Begins, HasRegisters, StandIn}
+use Rattle.annot_simulation.specs.ContractCode.{flags_from}
+use Rattle.annot_simulation.specs.ContractValidity.{AreFlags}
+use Rattle.annot_simulation.specs.Does.{Planned}
+use Rattle.annot_simulation.specs.Held.{kept_at}
+use Rattle.annot_simulation.specs.Plan.{Entry, kept_from, kept_types, planned, value_types}
+use Rattle.annot_simulation.specs.Validity.{Begins, HasRegisters, StandIn}
 use Rattle.instrument.specs.Translation as target
 use Rattle.instrument.specs.Translation.{contract_types, first_flag, own_types, plan_of, result_register}
 use Rattle.instrument.proofs.Typed.{begins_left, begins_right, register_at}

@@ -19,12 +19,12 @@ use Rattle.c_model.specs.TypedPredicates.{IsIntegerTerm, IsPointerTerm, TermType
 use Rattle.c_model.specs.Unranged.{ClauseRanged, AnnotationsRanged}
 use Rattle.c_simulation.specs.Keeping.{Kept, registers_of}
 use Rattle.interval_infer.specs.InSight.{AreFound}
-use Rattle.annot_code.specs.Beside.{ResultSorted}
-use Rattle.annot_code.specs.Does.{Planned, SideFound}
-use Rattle.annot_code.specs.Plan.{Entry, IsIn, kept_from, in_annotations, in_cases, in_clause, in_else, in_first, in_item, in_items, in_statement}
-use Rattle.annot_code.proofs.Beside.{terms_under_labels_are_found, typed_predicates_are_found}
-use Rattle.annot_code.proofs.ShortEntries.{IsShortEntry, predicate_short}
-use Rattle.annot_code.proofs.TypedEntries.{EntryStands, sight_of, predicate_stands}
+use Rattle.annot_simulation.specs.Beside.{ResultSorted}
+use Rattle.annot_simulation.specs.Does.{Planned, SideFound}
+use Rattle.annot_simulation.specs.Plan.{Entry, IsIn, kept_from, in_annotations, in_cases, in_clause, in_else, in_first, in_item, in_items, in_statement}
+use Rattle.annot_simulation.proofs.Beside.{terms_under_labels_are_found, typed_predicates_are_found}
+use Rattle.annot_simulation.proofs.ShortEntries.{IsShortEntry, predicate_short}
+use Rattle.annot_simulation.proofs.TypedEntries.{EntryStands, sight_of, predicate_stands}
 use Rattle.instrument.proofs.Passages.{ClauseFound, AnnotationsFound, AssertsKept, ItemsKept, KeptAt, LabelKept}
 use Rattle.instrument.proofs.Throughout.{Throughout, ThroughoutCases, ThroughoutElse, ThroughoutItem, ThroughoutItems}
 use Rattle.instrument.proofs.RangedTrees.{AreRangedAsserts}

@@ -19,8 +19,8 @@ use Rattle.c_model.specs.PredicateTyping.{sort_of_type}
 use Rattle.c_model.specs.TypedTrees.{IsResult, GivesNothing, GivesScalar}
 use Rattle.c_model.specs.UnrangedPrograms.{ContractRanged}
 use Rattle.c_simulation.specs.Keeping.{is_pointer_sort}
-use Rattle.annot_code.specs.Beside.{ResultSorted}
-use Rattle.annot_code.specs.Held.{sort_held, sorts_held}
+use Rattle.annot_simulation.specs.Beside.{ResultSorted}
+use Rattle.annot_simulation.specs.Held.{sort_held, sorts_held}
 use Rattle.interval_infer.specs.Judged.{seen_in}
 use Rattle.instrument.specs.Limits.{ContractHasNumbers}
 use Rattle.instrument.specs.Translation.{first_flag, held_of, result_held, result_of, result_register}

@@ -6,9 +6,9 @@ use Rattle.mon_syntax.specs.declared.tree.MonType.TheVariants.{I32}
 use Rattle.mon_syntax.specs.Registers.{Names, next_register, with_table}
 use Rattle.c_effects.specs.Named.{with_registers}
 use Rattle.c_simulation.specs.Keeping.{is_pointer_term, registers_of}
-use Rattle.annot_code.specs.declared.kept.Kept.{Kept}
-use Rattle.annot_code.specs.Plan.{Entry, kept_from, kept_types, value_types}
-use Rattle.annot_code.specs.Tables.{plain_plan}
+use Rattle.annot_pieces.specs.declared.kept.Kept.{Kept}
+use Rattle.annot_simulation.specs.Plan.{Entry, kept_from, kept_types, value_types}
+use Rattle.annot_pieces.specs.Tables.{plain_plan}
 use Rattle.instrument.specs.Options.{types_of_kept}
 
 -- registers that are made one after another

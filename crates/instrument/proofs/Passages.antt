@@ -4,8 +4,8 @@ use Rattle.std.proofs.lemmas.List.{append-nil}
 use Rattle.c_syntax.specs.Statements.{Statement, Cases, ElsePart, BlockItems}
 use Rattle.c_syntax.specs.Logic.{ClauseBody, Holds, Annotation}
 use Rattle.c_syntax.specs.Programs.{FunctionContract, TranslationUnit}
-use Rattle.annot_code.specs.ContractCode.{behind_entry, behind_leave}
-use Rattle.annot_code.specs.Held.{Held}
+use Rattle.annot_simulation.specs.ContractCode.{behind_entry, behind_leave}
+use Rattle.annot_simulation.specs.Held.{Held}
 use Rattle.c_model.specs.ExpressionTyping.{Sight}
 use Rattle.c_model.specs.Memory.{Value}
 use Rattle.c_model.specs.State.{State, Scope, same_label, mark}
@@ -17,7 +17,7 @@ use Rattle.c_simulation.specs.Following.{Follows, GoesOn}
 use Rattle.c_simulation.specs.SameRegisters.{Stays}
 use Rattle.c_simulation.specs.Keeping.{Kept}
 use Rattle.c_simulation.specs.Standing.{Target, Did, Setting, runs, Keeps, Here, Standing, Beside}
-use Rattle.annot_code.specs.Does.{PredicateFound, SideFound}
+use Rattle.annot_simulation.specs.Does.{PredicateFound, SideFound}
 use Rattle.c_model.specs.ContractChecks.{entry_checks, leave_checks}
 use Rattle.c_model.specs.Logic.{Environment}
 use Rattle.c_model.specs.MonitoredRuns.{Spent}
@@ -29,15 +29,15 @@ use Rattle.c_simulation.specs.Keeping.{GiveTerms}
 use Rattle.c_simulation.proofs.Anchors.{pointer_has}
 use Rattle.c_simulation.proofs.Following.{anchored_stays}
 use Rattle.c_simulation.proofs.Registers.{same_all}
-use Rattle.annot_code.specs.Beside.{judging}
-use Rattle.annot_code.specs.Does as code
-use Rattle.annot_code.specs.Snapshots.{Ascend, AreKept, Passed, StandsApart, marked}
-use Rattle.annot_code.proofs.Beside.{ranges_hold}
-use Rattle.annot_code.proofs.ContractChecked.{checks_grow}
-use Rattle.annot_code.proofs.Snapshots.{snapshots_keep}
-pub use Rattle.annot_code.proofs.Snapshots.{snapshot_grows}
-use Rattle.annot_code.proofs.SoundStores.{bounded_sound}
-use Rattle.annot_code.specs.Snapshots.{snapshot, behind_snapshot}
+use Rattle.annot_simulation.specs.Beside.{judging}
+use Rattle.annot_simulation.specs.Does as code
+use Rattle.annot_simulation.specs.Snapshots.{Ascend, AreKept, Passed, StandsApart, marked}
+use Rattle.annot_simulation.proofs.Beside.{ranges_hold}
+use Rattle.annot_simulation.proofs.ContractChecked.{checks_grow}
+use Rattle.annot_simulation.proofs.Snapshots.{snapshots_keep}
+pub use Rattle.annot_simulation.proofs.Snapshots.{snapshot_grows}
+use Rattle.annot_simulation.proofs.SoundStores.{bounded_sound}
+use Rattle.annot_simulation.specs.Snapshots.{snapshot, behind_snapshot}
 use Rattle.interval_infer.specs.InSight.{AreFound}
 use Rattle.instrument.proofs.Throughout.{Throughout, ThroughoutCases, ThroughoutElse, ThroughoutItems}
 

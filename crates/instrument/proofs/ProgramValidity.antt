@@ -30,7 +30,7 @@ use Rattle.instrument.specs.Translation.{index_of_main, front_temporaries, trans
 use Rattle.instrument.proofs.Sight.{scope_for}
 use Rattle.interval_infer.specs.InSight.{IsFound}
 use Rattle.interval_infer.proofs.Sights.{found_with}
-use Rattle.annot_code.proofs.Beside.{found_named}
+use Rattle.annot_simulation.proofs.Beside.{found_named}
 use Rattle.instrument.proofs.Own.{AreOwn, between_own, own_parts, items_own}
 use Rattle.instrument.proofs.Sights.{own_scope, IsPlace, FunctionInPlace, function_in_place, GlobalInPlace, globals_in_place}
 use Rattle.instrument.proofs.FileNumbers.{IsNumbered, function_is_numbered, globals_own}

@@ -34,8 +34,8 @@ use Rattle.c_model.specs.EffectPlaces.{FirstPlaced, StatementPlaced, CasesPlaced
 use Rattle.instrument.proofs.RangedTrees.{AreRangedAsserts, nothing_declared}
 use Rattle.instrument.specs.Limits.{HasNumbers, CasesHaveNumbers, ElseHasNumbers, FirstHasNumbers, HaveNumbers}
 use Rattle.c_effects.specs.Expressions.{value_type, before, one, set}
-use Rattle.annot_code.specs.Code.{assertions}
-use Rattle.annot_code.proofs.Asserted.{behind_grows}
+use Rattle.annot_simulation.specs.Code.{assertions}
+use Rattle.annot_simulation.proofs.Asserted.{behind_grows}
 use Rattle.c_initialisers.specs.Translation.{declaration_temporaries}
 use Rattle.c_initialisers.specs.Translation as initialisers
 use Rattle.c_effects.specs.Effects.{any_temporaries}
@@ -46,7 +46,7 @@ use Rattle.instrument.specs.Translation.{Spot, passed_label, returned_temporarie
 use Rattle.instrument.specs.Translation.{test, test_if_any, act_if_any, next_cases, blocks_of_cases, else_part, first_part, items, loop}
 use Rattle.c_simulation.specs.Labels.{end_label, next_label, leave_label}
 use Rattle.instrument.specs.Translation as target
-use Rattle.annot_code.specs.Snapshots.{Ascend, snapshot}
+use Rattle.annot_simulation.specs.Snapshots.{Ascend, snapshot}
 use Rattle.instrument.proofs.Passages.{KeptIn, CasesKept, ElseKept, ItemsKept, snapshot_grows, passage_follows}
 use Rattle.c_simulation.specs.Keeping.{StandsBehind}
 use Rattle.instrument.proofs.DeclarationCode.{next-entered}

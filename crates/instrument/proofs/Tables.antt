@@ -15,14 +15,14 @@ use Rattle.track_scopes.specs.Blocks.{with_pointer, entered, with_born}
 use Rattle.c_initialisers.specs.Translation.{declaration_temporaries}
 use Rattle.c_effects.specs.Effects.{any_temporaries}
 use Rattle.c_effects.specs.Full.{act_takes, takes}
-use Rattle.annot_code.specs.Code.{behind_assertions}
-use Rattle.annot_code.specs.Snapshots.{behind_snapshot}
-use Rattle.annot_code.proofs.Asserted.{behind_begins}
-use Rattle.annot_code.proofs.CheckPrefixes.{snapshot_begins}
+use Rattle.annot_simulation.specs.Code.{behind_assertions}
+use Rattle.annot_simulation.specs.Snapshots.{behind_snapshot}
+use Rattle.annot_simulation.proofs.Asserted.{behind_begins}
+use Rattle.annot_simulation.proofs.CheckPrefixes.{snapshot_begins}
 use Rattle.c_simulation.specs.Keeping.{Kept}
 use Rattle.instrument.specs.Translation.{returned_temporaries, switch_temporaries, after_statement, after_cases, after_else, after_first, after_item, after_items, passed_label}
 use Rattle.mon_syntax.specs.Registers.{register_of}
-use Rattle.annot_code.specs.Validity.{Begins}
+use Rattle.annot_simulation.specs.Validity.{Begins}
 use Rattle.instrument.proofs.Typed.{begins_front, register_at, HasPointer, Aim, has_aim, aim_has}
 use Rattle.c_simulation.proofs.Registers.{register_of-bound_same, register_of-bound_other}
 

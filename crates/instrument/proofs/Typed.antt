@@ -37,7 +37,7 @@ use Rattle.c_model.specs.TypedTrees.{IndexTypes, OnTheLeft, OnTheRight, Compound
 use Rattle.c_effects.specs.Expressions.{register_type, value_type, operand_type, operator_of, in_type, compared, condition, truth, binary, scaled, farther, element, pointer_and_integer, object_of_global}
 use Rattle.c_effects.specs.Expressions.{two_pointers, operated, indexed, converted, compound, global_index, pointer_of, pointer_to, loaded}
 use Rattle.c_effects.specs.Effects.{block_register, block_of}
-use Rattle.annot_code.specs.Validity.{Begins}
+use Rattle.annot_simulation.specs.Validity.{Begins}
 use Rattle.instrument.proofs.Parts.{StructsFit}
 use Rattle.c_simulation.proofs.Integers.{operand_is, is_number, number_result, number_second, number_operator}
 use Rattle.c_simulation.proofs.Registers.{get-end}

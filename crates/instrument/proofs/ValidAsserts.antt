@@ -17,15 +17,15 @@ use Rattle.mon_syntax.specs.Trees.{Register, Assert}
 use Rattle.mon_syntax.specs.Valid.{Types, HasType, IsExpression, AreStatements, Labels, Signature}
 use Rattle.c_effects.specs.Expressions.{one, pointer_to}
 use Rattle.c_simulation.specs.Keeping.{Kept}
-use Rattle.annot_code.specs.Code.{clause_judgement, assertion, assertions, behind_assertion, behind_assertions}
-use Rattle.annot_code.specs.Numbered.{IsNumbered, AreNumbered}
-use Rattle.annot_code.specs.Plan.{in_annotations, in_clause}
-use Rattle.annot_code.specs.Validity.{IsValidCode, Begins}
-use Rattle.annot_code.proofs.Asserted.{behind_begins}
-use Rattle.annot_code.proofs.Found.{EachOf}
-use Rattle.annot_code.proofs.TypedEntries.{NoNames}
-use Rattle.annot_code.proofs.ValidCode.{code_is_valid}
-use Rattle.annot_code.proofs.ValidParts.{before_valid}
+use Rattle.annot_simulation.specs.Code.{clause_judgement, assertion, assertions, behind_assertion, behind_assertions}
+use Rattle.annot_simulation.specs.Numbered.{IsNumbered, AreNumbered}
+use Rattle.annot_simulation.specs.Plan.{in_annotations, in_clause}
+use Rattle.annot_simulation.specs.Validity.{IsValidCode, Begins}
+use Rattle.annot_simulation.proofs.Asserted.{behind_begins}
+use Rattle.annot_simulation.proofs.Found.{EachOf}
+use Rattle.annot_simulation.proofs.TypedEntries.{NoNames}
+use Rattle.annot_simulation.proofs.ValidCode.{code_is_valid}
+use Rattle.annot_simulation.proofs.ValidParts.{before_valid}
 use Rattle.instrument.proofs.RangedTrees.{AreRangedAsserts}
 use Rattle.instrument.proofs.Typed.{Knows, count_of_globals, seen, pointer_typed}
 use Rattle.instrument.proofs.Writable.{CanStand, IsKeptTerm, left, right, predicate_writable}

@@ -16,8 +16,8 @@ use Rattle.mon_syntax.specs.Valid.{Types, Labels, Signature, IsExpression, AreSt
 use Rattle.c_effects.specs.Expressions.{before}
 use Rattle.track_scopes.specs.Blocks.{births, deaths, with_born}
 use Rattle.instrument.specs.Translation.{alive}
-use Rattle.annot_code.proofs.Depths.{deep_before}
-use Rattle.annot_code.proofs.ValidParts.{before_valid}
+use Rattle.annot_simulation.proofs.Depths.{deep_before}
+use Rattle.annot_simulation.proofs.ValidParts.{before_valid}
 use Rattle.instrument.proofs.Typed.{HasPointer, has_aim, Seen, AreSeen, Knows, is_global, Reaches, size_constant}
 use Rattle.instrument.proofs.Tables.{HavePointers, Keeps, PointFrom, AllPoint, point_born}
 use Rattle.instrument.proofs.Own.{AreOwn}

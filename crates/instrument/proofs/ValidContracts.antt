@@ -27,12 +27,12 @@ use Rattle.mon_syntax.specs.Valid.{Types, HasType}
 use Rattle.c_effects.specs.Expressions.{pointer_to}
 use Rattle.c_simulation.specs.Keeping.{Kept, is_pointer_sort}
 use Rattle.annot_code.specs.Checks.{annotations_of}
-use Rattle.annot_code.specs.ContractValidity.{AreCheckable, AreKeepable, ClauseWritable}
-use Rattle.annot_code.specs.Held.{Held}
-use Rattle.annot_code.specs.Numbered.{AreNumbered}
-use Rattle.annot_code.specs.Plan.{Entry, in_annotations, in_behaviors, in_clause, in_contract}
-use Rattle.annot_code.specs.Validity.{HasRegister, PredicateWritable}
-use Rattle.annot_code.proofs.Found.{EachOf, past_label}
+use Rattle.annot_simulation.specs.ContractValidity.{AreCheckable, AreKeepable, ClauseWritable}
+use Rattle.annot_simulation.specs.Held.{Held}
+use Rattle.annot_simulation.specs.Numbered.{AreNumbered}
+use Rattle.annot_simulation.specs.Plan.{Entry, in_annotations, in_behaviors, in_clause, in_contract}
+use Rattle.annot_simulation.specs.Validity.{HasRegister, PredicateWritable}
+use Rattle.annot_simulation.proofs.Found.{EachOf, past_label}
 use Rattle.instrument.specs.Limits.{ContractHasNumbers}
 use Rattle.instrument.proofs.ContractGood.{are_named}
 use Rattle.instrument.proofs.Keepable.{KeepableAt}

@@ -34,9 +34,9 @@ use Rattle.c_effects.specs.Full.{prepare, takes}
 use Rattle.c_effects.specs.Full as full
 use Rattle.c_effects.specs.Effects.{store, stored_at, scalars_in, widest, zeros_at, zeros_from, zero_parts}
 use Rattle.c_effects.proofs.ZeroRuns.{zero_at}
-use Rattle.annot_code.proofs.Depths.{deep_before}
-use Rattle.annot_code.proofs.ValidParts.{before_valid, set_valid}
-use Rattle.annot_code.specs.Validity.{Begins}
+use Rattle.annot_simulation.proofs.Depths.{deep_before}
+use Rattle.annot_simulation.proofs.ValidParts.{before_valid, set_valid}
+use Rattle.annot_simulation.specs.Validity.{Begins}
 use Rattle.instrument.proofs.Typed.{begins_left, begins_right, register_at, Knows, count_of_globals, bytes_constant}
 use Rattle.instrument.proofs.FullDepths.{deep_behind, deep_one, deep_prepare, deep_set}
 use Rattle.instrument.proofs.FullValid.{CallsValid, full_valid, assigned_valid}

@@ -43,21 +43,21 @@ use Rattle.track_scopes.specs.Blocks.{entered, deaths}
 use Rattle.c_effects.specs.Expressions.{value_type, before, pointer_to, set, object_of_global, global_index}
 use Rattle.c_simulation.specs.Keeping.{Kept, is_pointer_term}
 use Rattle.c_simulation.specs.Labels.{leave_label}
-use Rattle.annot_code.specs.ContractCode.{all_flagged, behind_leave, checks_code, entry_code, flags_from, leave_code}
-use Rattle.annot_code.specs.ContractValidity.{AreFlags, AreValid}
-use Rattle.annot_code.specs.Plan.{Entry, IsIn, in_contract}
-use Rattle.annot_code.specs.Plan.{value_types as entry_types}
-use Rattle.annot_code.specs.Snapshots.{snapshot}
+use Rattle.annot_simulation.specs.ContractCode.{all_flagged, behind_leave, checks_code, entry_code, flags_from, leave_code}
+use Rattle.annot_simulation.specs.ContractValidity.{AreFlags, AreValid}
+use Rattle.annot_simulation.specs.Plan.{Entry, IsIn, in_contract}
+use Rattle.annot_simulation.specs.Plan.{value_types as entry_types}
+use Rattle.annot_simulation.specs.Snapshots.{snapshot}
 use Rattle.c_initialisers.specs.Translation.{initial_temporaries, initialise}
 use Rattle.instrument.specs.Translation.{outermost, Spot, value_types, registers_of, after_body, after_items, with_variables, body_code, body_part, parameters, items, code_of, function_name, arguments_from, result_of}
 use Rattle.instrument.specs.Translation.{all_kinds, at_body, at_brace, at_leave, at_start, behind_pre, first_flag, first_pointer, held_of, last_return, own_types, plan_of, pointers, result_register}
 use Rattle.instrument.specs.Translation.{function_of, functions_from, translated}
 use Rattle.instrument.specs.Translation.{monitored_globals, index_of_main, front, front_temporaries, global_temporaries, all_global_temporaries, initialise_global, initialise_globals}
-use Rattle.annot_code.proofs.ContractValid.{checks_are_valid, snapshots_are_valid}
-use Rattle.annot_code.proofs.Depths.{deep_before}
-use Rattle.annot_code.proofs.SnapshotDepths.{snapshot_deep}
-use Rattle.annot_code.proofs.ValidParts.{before_valid, set_valid}
-use Rattle.annot_code.specs.Validity.{Begins, HasRegisters}
+use Rattle.annot_simulation.proofs.ContractValid.{checks_are_valid, snapshots_are_valid}
+use Rattle.annot_simulation.proofs.Depths.{deep_before}
+use Rattle.annot_simulation.proofs.SnapshotDepths.{snapshot_deep}
+use Rattle.annot_simulation.proofs.ValidParts.{before_valid, set_valid}
+use Rattle.annot_simulation.specs.Validity.{Begins, HasRegisters}
 use Rattle.instrument.proofs.Names.{IsNumber, leave_is_free, main_is_free, function_is_free, functions_differ}
 use Rattle.instrument.proofs.Typed.{begins_left, begins_right, register_at, is_global, Knows, count_of_globals, scalar_is}
 use Rattle.instrument.proofs.LaidOut.{structs_fit}

@@ -25,15 +25,15 @@ use Rattle.instrument.specs.Translation.{register_name, name_of_register, own_na
 use Rattle.instrument.specs.Translation.{at_leave, at_start, behind_pre, first_flag, held_of, own_types, plan_of, global_name, text_name, monitored_global, globals_with, literals_with}
 use Rattle.instrument.specs.Translation.{monitored_from, monitored_globals}
 use Rattle.instrument.specs.Translation as target
-use Rattle.annot_code.specs.ContractCode.{behind_entry, behind_leave}
-use Rattle.annot_code.specs.Held.{Held}
-use Rattle.annot_code.proofs.CheckPrefixes.{checks_begin}
+use Rattle.annot_simulation.specs.ContractCode.{behind_entry, behind_leave}
+use Rattle.annot_simulation.specs.Held.{Held}
+use Rattle.annot_simulation.proofs.CheckPrefixes.{checks_begin}
 use Rattle.c_simulation.specs.Keeping.{Kept}
 use Rattle.instrument.proofs.Names.{IsNumber, AllParts, register_is_free, registers_differ, named_free, named_differ, named_no_value, global_is_free}
 use Rattle.instrument.proofs.Names.{globals_differ, text_is_free, texts_differ, text_no_global, global_no_text, register_no_global, register_no_text, named_no_global, named_no_text}
 use Rattle.instrument.proofs.Typed.{begins_front}
 use Rattle.c_model.specs.ReadTree.{TextsAreBytes}
-use Rattle.annot_code.specs.Validity.{Begins}
+use Rattle.annot_simulation.specs.Validity.{Begins}
 use Rattle.instrument.proofs.Tables.{begins_itself, begins_then, entered_begins, label_begins, statement_begins}
 
 -- ---- types of arguments

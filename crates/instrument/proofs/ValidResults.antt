@@ -28,9 +28,9 @@ use Rattle.mon_syntax.specs.Valid.{Types, HasType, IsExpression, AreStatements, 
 use Rattle.c_effects.specs.Expressions.{global_index, pointer_to, register_type, value_type}
 use Rattle.c_simulation.specs.Keeping.{is_pointer_sort}
 use Rattle.track_scopes.specs.Blocks.{entered}
-use Rattle.annot_code.specs.ContractCode.{all_flagged, flags_from}
-use Rattle.annot_code.specs.ContractValidity.{AreFlags}
-use Rattle.annot_code.specs.Validity.{Begins, HasRegister}
+use Rattle.annot_simulation.specs.ContractCode.{all_flagged, flags_from}
+use Rattle.annot_simulation.specs.ContractValidity.{AreFlags}
+use Rattle.annot_simulation.specs.Validity.{Begins, HasRegister}
 use Rattle.instrument.specs.Translation.{index_of_main, last_return, result_held, result_of}
 use Rattle.instrument.proofs.KnownContracts.{result_is}
 use Rattle.instrument.proofs.Tables.{HavePointers, entered_have, entered_keep}

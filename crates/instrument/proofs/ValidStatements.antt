@@ -30,8 +30,8 @@ use Rattle.c_initialisers.specs.Letters.{InitialsHaveLetters}
 use Rattle.c_effects.specs.Letters.{Any, ActHasLetters, ValueHasLetters}
 use Rattle.instrument.specs.Limits.{HasNumbers, CasesHaveNumbers, ElseHasNumbers, FirstHasNumbers, HaveNumbers}
 use Rattle.c_effects.specs.Expressions.{register_type, value_type, before, one, set}
-use Rattle.annot_code.specs.Code.{assertions}
-use Rattle.annot_code.specs.Snapshots.{snapshot}
+use Rattle.annot_simulation.specs.Code.{assertions}
+use Rattle.annot_simulation.specs.Snapshots.{snapshot}
 use Rattle.c_initialisers.specs.Translation.{initial_temporaries, declaration_temporaries, initialise, initialise_all, initialise_local, may_be_born}
 use Rattle.c_effects.specs.Effects.{block_of, any_temporaries}
 use Rattle.c_effects.specs.Full.{act, act_takes, condition_result, prepare, takes}
@@ -56,9 +56,9 @@ use Rattle.instrument.proofs.Throughout.{Throughout, ThroughoutCases, Throughout
 use Rattle.instrument.proofs.FullValid.{CallsValid, HasValue, act_valid, condition_valid, full_valid, prepare_valid, result_scalar}
 use Rattle.instrument.proofs.Parts.{StructsFit}
 use Rattle.c_model.specs.ReadTree.{TextsAreBytes}
-use Rattle.annot_code.proofs.ContractValid.{snapshots_are_valid}
-use Rattle.annot_code.proofs.ValidParts.{before_valid}
-use Rattle.annot_code.specs.Validity.{Begins}
+use Rattle.annot_simulation.proofs.ContractValid.{snapshots_are_valid}
+use Rattle.annot_simulation.proofs.ValidParts.{before_valid}
+use Rattle.annot_simulation.specs.Validity.{Begins}
 use Rattle.instrument.proofs.ValidInitialisers.{initialise_valid, initial_letters}
 use Rattle.instrument.proofs.ValidBlocks.{Sees, AreSmall, sees_inner, sees_one, sees_behind, sees_later, deaths_valid, alive_valid}
 use Rattle.instrument.proofs.Depths.{no_step_test, no_step_test_if_any, no_step_act_if_any}

@@ -21,11 +21,11 @@ use Rattle.mon_syntax.specs.Registers.{Bindings}
 use Rattle.mon_syntax.specs.Valid.{Types, HasType}
 use Rattle.c_effects.specs.Expressions.{pointer_to}
 use Rattle.c_simulation.specs.Keeping.{Kept, is_pointer_sort, is_pointer_term}
-use Rattle.annot_code.specs.Does.{found_by}
-use Rattle.annot_code.specs.Held.{Held}
-use Rattle.annot_code.specs.Plan.{Entry, IsIn, in_links, in_predicate, in_term, in_zone, in_zones, value_types}
-use Rattle.annot_code.specs.Validity.{HasRegister, HasRegisters, TermWritable, PointerWritable, PlaceWritable, ZoneWritable, ZonesWritable, LinksWritable, PredicateWritable}
-use Rattle.annot_code.proofs.Found.{EachOf, given_integer, integer_false, no_integer, no_pointer, past_label, pointer_true, told_number, of_sort, related_sides, cast_integer, cast_pointer, choice_integer, choice_pointer}
+use Rattle.annot_simulation.specs.Does.{found_by}
+use Rattle.annot_simulation.specs.Held.{Held}
+use Rattle.annot_simulation.specs.Plan.{Entry, IsIn, in_links, in_predicate, in_term, in_zone, in_zones, value_types}
+use Rattle.annot_simulation.specs.Validity.{HasRegister, HasRegisters, TermWritable, PointerWritable, PlaceWritable, ZoneWritable, ZonesWritable, LinksWritable, PredicateWritable}
+use Rattle.annot_simulation.proofs.Found.{EachOf, given_integer, integer_false, no_integer, no_pointer, past_label, pointer_true, told_number, of_sort, related_sides, cast_integer, cast_pointer, choice_integer, choice_pointer}
 
 number_writable : (z : ℤ) → IsLogicNumber z → int_eq z least_i128 ≡ false
 number_writable (pos n) h = refl

@@ -13,8 +13,8 @@ use Rattle.c_model.specs.Meaning.{is_definition}
 use Rattle.c_initialisers.specs.Letters.{InitialsHaveLetters}
 use Rattle.c_effects.specs.Letters.{Any, ValueHasLetters, ActHasLetters}
 use Rattle.annot_code.specs.Checks.{annotations_of}
-use Rattle.annot_code.specs.ContractCode.{named_flags}
-use Rattle.annot_code.specs.Numbered.{AreNumbered}
+use Rattle.annot_simulation.specs.ContractCode.{named_flags}
+use Rattle.annot_simulation.specs.Numbered.{AreNumbered}
 use Rattle.mon_syntax.specs.declared.tree.MonType.{MonType}
 use Rattle.instrument.specs.Translation.{all_kinds, first_flag, front_temporaries}
 

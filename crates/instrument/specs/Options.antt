@@ -31,11 +31,11 @@ use Rattle.c_evaluation.specs.Evaluated.{prepare_by, result_by}
 use Rattle.c_simulation.specs.Keeping.{Kept, is_pointer_term}
 use Rattle.c_simulation.specs.Labels.{leave_label}
 use Rattle.annot_code.specs.Checks.{entry_by, leave_by, names_behind_entry, names_behind_leave}
-use Rattle.annot_code.specs.Code.{assertions}
+use Rattle.annot_simulation.specs.Code.{assertions}
 use Rattle.annot_code.specs.Passages.{snapshot_by}
-use Rattle.annot_code.specs.Plain.{Known}
-use Rattle.annot_code.specs.Plan.{value_types as value_types_of}
-use Rattle.annot_code.specs.Tables.{plain_plan}
+use Rattle.annot_pieces.specs.Plain.{Known}
+use Rattle.annot_simulation.specs.Plan.{value_types as value_types_of}
+use Rattle.annot_pieces.specs.Tables.{plain_plan}
 use Rattle.instrument.specs.declared.contract.Frame as declared
 use Rattle.instrument.specs.declared.spot.Spot as code
 use Rattle.instrument.specs.Limits.{HaveNumbers}

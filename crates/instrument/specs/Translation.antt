@@ -32,11 +32,11 @@ use Rattle.c_effects.specs.Full.{act, act_takes, condition_result, prepare, resu
 use Rattle.c_effects.specs.Expressions.{object_of_global, register_type, value_type, before, one, set}
 use Rattle.c_simulation.specs.Keeping.{Kept}
 use Rattle.c_simulation.specs.Labels.{end_label, next_label, leave_label}
-use Rattle.annot_code.specs.Code.{assertions, behind_assertions}
-use Rattle.annot_code.specs.ContractCode.{entry_code, behind_entry, leave_code, behind_leave}
-use Rattle.annot_code.specs.Held.{Held}
-use Rattle.annot_code.specs.Plan.{planned, kept_from, kept_types}
-use Rattle.annot_code.specs.Snapshots.{snapshot, behind_snapshot}
+use Rattle.annot_simulation.specs.Code.{assertions, behind_assertions}
+use Rattle.annot_simulation.specs.ContractCode.{entry_code, behind_entry, leave_code, behind_leave}
+use Rattle.annot_simulation.specs.Held.{Held}
+use Rattle.annot_simulation.specs.Plan.{planned, kept_from, kept_types}
+use Rattle.annot_simulation.specs.Snapshots.{snapshot, behind_snapshot}
 use Rattle.track_scopes.specs.Blocks.{entered, birth, births, deaths, with_born}
 
 -- ---- names

@@ -7,13 +7,13 @@ ghost use Rattle.c_syntax.specs.Programs.{plain_behavior, plain_func};
 ghost use Rattle.c_simulation.specs.Keeping.{is_pointer_term};
 ghost use Rattle.mon_syntax.specs.Registers.{next_register};
 ghost use Rattle.c_effects.specs.Named.{with_registers};
-ghost use Rattle.annot_code.specs.Plan.{kept_from, kept_types, planned, value_types};
-ghost use Rattle.annot_code.specs.Tables.{plain_kept, plain_plan};
+ghost use Rattle.annot_simulation.specs.Plan.{kept_from, kept_types, planned, value_types};
+ghost use Rattle.annot_pieces.specs.Tables.{plain_kept, plain_plan};
 ghost use Rattle.instrument.specs.Options.{flag_types, types_of_kept, types_of_term};
 ghost use Rattle.instrument.specs.Translation.{contract_types, own_types};
 
-use annot_code::kept::Kept;
-use annot_code::width::type_of;
+use annot_pieces::kept::Kept;
+use annot_pieces::width::type_of;
 use c_effects::conversion::value_type;
 use c_syntax::logic::Term;
 use c_syntax::{Behavior, Func};

@@ -1,6 +1,6 @@
 //! Where a statement stands.
 
-use annot_code::plan::Plan;
+use annot_pieces::plan::Plan;
 
 /// How many loops and switches stand around a statement, the number of the innermost loop among these, and the blocks of
 /// variables that live, by the registers that point to them, in order of birth: those born inside what a `break` leaves, from

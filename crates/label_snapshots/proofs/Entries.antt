@@ -11,7 +11,7 @@ use Rattle.c_syntax.specs.declared.statement.StmtKind.{StmtKind}
 use Rattle.c_syntax.specs.declared.statement.StmtKind as code
 use Rattle.c_syntax.specs.Statements.{plain_cases, plain_items, plain_stmt_kind}
 use Rattle.c_syntax.proofs.Rows.{block_is, switch_is}
-use Rattle.annot_code.specs.Plan.{Entry, in_cases, in_items, in_statement}
+use Rattle.annot_simulation.specs.Plan.{Entry, in_cases, in_items, in_statement}
 
 -- one part more, and all parts
 pub one_added : (now next part left rest total : List Entry) → left ≡ part ++ rest → next ≡ now ++ part → now ++ left ≡ total → next ++ rest ≡ total

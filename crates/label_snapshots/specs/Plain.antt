@@ -3,10 +3,10 @@ use Rattle.std.specs.Prelude.{List, map, Option, Some, None}
 use Rattle.c_syntax.specs.declared.statement.Item.{Item}
 use Rattle.c_syntax.specs.Logic.{plain_term}
 use Rattle.c_syntax.specs.Statements.{ForFirst, NoFirst, First, plain_item}
-use Rattle.annot_code.specs.Plan as plan
-pub use Rattle.annot_code.specs.Tables.{plain_kept, plain_plan}
+use Rattle.annot_simulation.specs.Plan as plan
+pub use Rattle.annot_pieces.specs.Tables.{plain_kept, plain_plan}
 use Rattle.label_snapshots.specs.declared.entry.Entry.{Entry}
-pub use Rattle.annot_code.specs.Tables.{plain_kept, plain_plan}
+pub use Rattle.annot_pieces.specs.Tables.{plain_kept, plain_plan}
 
 abbrev pub plain_entry : Entry → plan.Entry
 plain_entry x = (x.label, plain_term x.term.now)

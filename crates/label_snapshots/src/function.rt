@@ -2,7 +2,7 @@
 
 ghost use Rattle.std.specs.Prelude.{◌≡◌, ◌++◌, IfOk, OnOk, map, option_map};
 ghost use Rattle.c_syntax.specs.Programs.{plain_behavior, plain_contract, plain_func};
-ghost use Rattle.annot_code.specs.Plan.{in_behaviors, in_contract, planned};
+ghost use Rattle.annot_simulation.specs.Plan.{in_behaviors, in_contract, planned};
 ghost use Rattle.label_snapshots.specs.Plain.{plain_entries};
 
 use crate::entry::Entry;

@@ -3,7 +3,7 @@
 ghost use Rattle.std.specs.Prelude.{◌≡◌, ◌++◌, OnOk, option_map};
 ghost use Rattle.c_syntax.specs.declared.place.Place.{Place};
 ghost use Rattle.c_syntax.specs.Statements.{plain_cases, plain_else_part, plain_item, plain_items, plain_stmt, plain_stmt_kind};
-ghost use Rattle.annot_code.specs.Plan.{in_body, in_cases, in_else, in_first, in_item, in_items, in_statement};
+ghost use Rattle.annot_simulation.specs.Plan.{in_body, in_cases, in_else, in_first, in_item, in_items, in_statement};
 ghost use Rattle.label_snapshots.specs.Plain.{plain_entries, plain_first_part};
 
 use crate::entry::Entry;

@@ -4,18 +4,18 @@ ghost use Rattle.std.specs.Prelude.{◌≡◌, IfOk};
 ghost use Rattle.c_syntax.specs.Logic.{plain_term};
 ghost use Rattle.c_syntax.specs.Programs.{plain_func};
 ghost use Rattle.c_simulation.specs.Keeping.{is_pointer_term, registers_of};
-ghost use Rattle.annot_code.specs.Plan.{kept_from, planned};
+ghost use Rattle.annot_simulation.specs.Plan.{kept_from, planned};
 ghost use Rattle.label_snapshots.specs.Plain.{plain_entries, plain_plan};
 
 use crate::entry::Entry;
 use crate::function::planned;
-use annot_code::kept::Kept;
+use annot_pieces::kept::Kept;
 use c_syntax::logic::Term;
 use c_syntax::{CType, Func};
 use std::alloc::{AllocError, Global};
 
 /// Whether a term is a pointer, or an array, which is one to its first element.
-#[tactic(auto, using(annot_code::proofs::Arms::is_pointer_is))]
+#[tactic(auto, using(annot_pieces::proofs::Arms::is_pointer_is))]
 pub fn is_pointer(t: &Term) -> bool
     ensures { result ≡ is_pointer_term (plain_term t.now) }
 {

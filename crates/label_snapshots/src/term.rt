@@ -2,7 +2,7 @@
 
 ghost use Rattle.std.specs.Prelude.{◌≡◌, ◌++◌, [], ◌∷◌, OnOk, map};
 ghost use Rattle.c_syntax.specs.Logic.{plain_annot, plain_body, plain_links, plain_pred, plain_term, plain_zone_kind, plain_zones};
-ghost use Rattle.annot_code.specs.Plan.{in_annotations, in_clause, in_links, in_predicate, in_term, in_zone, in_zones};
+ghost use Rattle.annot_simulation.specs.Plan.{in_annotations, in_clause, in_links, in_predicate, in_term, in_zone, in_zones};
 ghost use Rattle.label_snapshots.specs.Plain.{plain_entries};
 
 use crate::entry::Entry;

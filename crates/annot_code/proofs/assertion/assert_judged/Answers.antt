@@ -2,8 +2,8 @@ use Rattle.std.proofs.Common.{[]}
 use Rattle.c_syntax.specs.Logic.{plain_annot}
 use Rattle.mon_syntax.specs.Trees.{plain_expr, plain_stmt_kind, plain_stmts}
 use Rattle.c_effects.proofs.Trees.{on_ok_then}
-use Rattle.annot_code.specs.Plain.{judgement_of}
-use Rattle.annot_code.proofs.Rust.{asserted_is}
+use Rattle.annot_code.specs.Judged.{judgement_of}
+use Rattle.annot_pieces.proofs.Rust.{asserted_is}
 use Rattle.annot_code.proofs.assertion.assert_judged.Goals as goal
 
 pub returns-clause-code : goal.returns-clause-code

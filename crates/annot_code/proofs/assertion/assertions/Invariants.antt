@@ -1,8 +1,8 @@
 use Rattle.std.proofs.Common.{◌≡◌, drop, map}
 use Rattle.c_syntax.specs.Logic.{plain_annot}
 use Rattle.mon_syntax.specs.Trees.{plain_stmts}
-use Rattle.annot_code.specs.Numbered.{AreNumbered}
-use Rattle.annot_code.specs.Plain.{assertions_by, names_behind_assertions, plain_stored}
+use Rattle.annot_simulation.specs.Numbered.{AreNumbered}
+use Rattle.annot_pieces.specs.Plain.{assertions_by, names_behind_assertions, plain_stored}
 use Rattle.c_effects.specs.Expressions.{before}
 use Rattle.annot_code.proofs.assertion.assertions.Given as goal
 

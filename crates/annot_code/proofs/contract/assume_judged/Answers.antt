@@ -2,7 +2,7 @@ use Rattle.std.proofs.Common.{[]}
 use Rattle.c_syntax.specs.Logic.{plain_annot}
 use Rattle.mon_syntax.specs.Trees.{plain_expr, plain_stmt_kind, plain_stmts}
 use Rattle.c_effects.proofs.Trees.{on_ok_then}
-use Rattle.annot_code.specs.Plain.{judgement_of}
+use Rattle.annot_code.specs.Judged.{judgement_of}
 use Rattle.annot_code.proofs.Checks.{assumed_is}
 use Rattle.annot_code.proofs.contract.assume_judged.Goals as goal
 

@@ -3,8 +3,8 @@ use Rattle.mon_syntax.specs.Trees.{plain_stmts}
 use Rattle.behavior_split.specs.Checks.{plain_clause}
 use Rattle.c_effects.proofs.Sequences.{left_at, none_left, all_there}
 use Rattle.annot_code.specs.Checks.{annotations_of, checks_by, names_behind_checks, plain_flags}
-use Rattle.annot_code.specs.Numbered.{AreNumbered}
-use Rattle.annot_code.specs.Plain.{plain_stored}
+use Rattle.annot_simulation.specs.Numbered.{AreNumbered}
+use Rattle.annot_pieces.specs.Plain.{plain_stored}
 use Rattle.annot_code.proofs.Checks.{behind_next, more_checked}
 use Rattle.annot_code.proofs.contract.checks.Goals as goal
 

@@ -4,8 +4,8 @@ use Rattle.mon_syntax.specs.declared.tree.MonType.TheVariants.{I32}
 use Rattle.mon_syntax.specs.Trees.{Constant, Set, plain_stmts}
 use Rattle.c_effects.specs.Expressions.{before, one}
 use Rattle.c_effects.proofs.Sequences.{all_there, left_at, more, none_left}
-use Rattle.annot_code.specs.ContractCode.{all_flagged}
-use Rattle.annot_code.proofs.Rust.{next_is}
+use Rattle.annot_simulation.specs.ContractCode.{all_flagged}
+use Rattle.annot_pieces.proofs.Rust.{next_is}
 use Rattle.annot_code.proofs.flags.raise_all.Goals as goal
 
 pub returns : goal.returns

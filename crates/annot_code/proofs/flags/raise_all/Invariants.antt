@@ -2,7 +2,7 @@ use Rattle.std.proofs.Common.{◌≡◌, drop, map}
 use Rattle.c_syntax.specs.Programs.{plain_behavior}
 use Rattle.mon_syntax.specs.Trees.{plain_stmts}
 use Rattle.c_effects.specs.Expressions.{before}
-use Rattle.annot_code.specs.ContractCode.{all_flagged}
+use Rattle.annot_simulation.specs.ContractCode.{all_flagged}
 use Rattle.annot_code.proofs.flags.raise_all.Given as goal
 
 -- with those that are left all are raised

@@ -2,7 +2,7 @@ use Rattle.std.proofs.Common.{◌≡◌, suc, ◌+◌, ◌∷◌, [], drop, get_
 use Rattle.std.proofs.Math.Seq.{drop-cons}
 use Rattle.mon_syntax.specs.Trees.{plain_stmts}
 use Rattle.c_effects.proofs.Sequences.{all_there, more, none_left}
-use Rattle.annot_code.specs.ContractCode.{summed}
+use Rattle.annot_simulation.specs.ContractCode.{summed}
 use Rattle.annot_code.proofs.flags.summed.Goals as goal
 
 pub returns : goal.returns

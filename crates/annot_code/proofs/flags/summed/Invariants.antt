@@ -1,7 +1,7 @@
 use Rattle.std.proofs.Common.{◌≡◌, drop}
 use Rattle.mon_syntax.specs.Trees.{plain_stmts}
 use Rattle.c_effects.specs.Expressions.{before}
-use Rattle.annot_code.specs.ContractCode.{summed}
+use Rattle.annot_simulation.specs.ContractCode.{summed}
 use Rattle.annot_code.proofs.flags.summed.Given as goal
 
 -- with those that are left all are added

@@ -1,8 +1,7 @@
 use Rattle.std.proofs.Common.{ap, ◌∙◌}
 use Rattle.c_syntax.specs.Logic.{plain_pred}
-use Rattle.annot_code.specs.Plain.{plain_readings, plain_stored, stored_with}
-use Rattle.annot_code.proofs.Inside.{of_inside}
-use Rattle.annot_code.proofs.Judged.{of_judgement, of_judges, of_valid}
+use Rattle.annot_pieces.specs.Plain.{plain_readings, plain_stored, stored_with}
+use Rattle.annot_code.proofs.Judged.{of_inside, of_judgement, of_judges, of_valid}
 use Rattle.annot_code.proofs.judge.judge.Goals as goal
 
 pub returns-clause-judges : goal.returns-clause-judges

@@ -4,7 +4,7 @@ use Rattle.c_syntax.specs.Formulas.{plain_cast_type}
 use Rattle.c_syntax.specs.Logic.{Linked, NoLink, plain_links, plain_pred, plain_term, plain_zones}
 use Rattle.c_model.specs.Places.{first_place}
 use Rattle.c_effects.proofs.Trees.{on_ok}
-use Rattle.annot_code.specs.Plain.{plain_known, plain_readings, plain_zone, side_of, stored_with}
+use Rattle.annot_pieces.specs.Plain.{plain_known, plain_readings, plain_zone, side_of, stored_with}
 use Rattle.annot_code.proofs.ChainForms.{of_chain, of_last, of_linked, of_more_links, of_next, of_one, of_sides}
 use Rattle.annot_code.proofs.Forms.{of_binary, of_choice}
 use Rattle.annot_code.proofs.OneForms.{of_cast, of_denied, of_deref, of_here, of_nonzero, of_pointer_there, of_separated, of_start, of_told, of_unary, place_at, pointer_at, pred_at, term_at, then_is, zone_at}

@@ -1,8 +1,8 @@
 use Rattle.std.proofs.Common.{◌≡◌, ap, ◌∙◌}
 use Rattle.std.proofs.lemmas.Result.{IfOk-weaker}
 use Rattle.c_syntax.specs.Logic.{plain_term}
-use Rattle.annot_code.specs.Plain.{Known, nothing_known, plain_readings, side_by_names, side_of}
-use Rattle.annot_code.specs.Tables.{plain_helds, plain_plan}
+use Rattle.annot_pieces.specs.Plain.{Known, nothing_known, plain_readings, side_by_names, side_of}
+use Rattle.annot_pieces.specs.Tables.{plain_helds, plain_plan}
 use Rattle.annot_code.proofs.snapshot.entry_side.Goals as goal
 
 pub returns-clause-code : goal.returns-clause-code

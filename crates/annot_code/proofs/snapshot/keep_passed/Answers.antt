@@ -3,7 +3,7 @@ use Rattle.mon_syntax.specs.Trees.{NoStatement, plain_stmts}
 use Rattle.c_effects.specs.Expressions.{before}
 use Rattle.c_effects.proofs.Sequences.{before_none}
 use Rattle.annot_code.specs.Passages.{kept_by}
-use Rattle.annot_code.specs.Tables.{plain_kept}
+use Rattle.annot_pieces.specs.Tables.{plain_kept}
 use Rattle.annot_code.proofs.snapshot.keep_passed.Goals as goal
 
 pub returns-else-same_label-clause-code : goal.returns-else-same_label-clause-code

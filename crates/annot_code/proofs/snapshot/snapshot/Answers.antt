@@ -2,7 +2,7 @@ use Rattle.std.proofs.Common.{◌+◌, drop, sym, refl, ap, ◌∙◌}
 use Rattle.mon_syntax.specs.Trees.{plain_stmts}
 use Rattle.c_effects.proofs.Sequences.{left_at, none_left, all_there, more_behind}
 use Rattle.annot_code.specs.Passages.{names_behind_passed, names_behind_snapshot, passed_by, snapshot_by}
-use Rattle.annot_code.specs.Tables.{plain_kept, plain_plan}
+use Rattle.annot_pieces.specs.Tables.{plain_kept, plain_plan}
 use Rattle.annot_code.proofs.Passages.{behind_passed, code_passed}
 use Rattle.annot_code.proofs.snapshot.snapshot.Goals as goal
 

@@ -2,7 +2,7 @@ use Rattle.std.proofs.Common.{◌≡◌, drop}
 use Rattle.mon_syntax.specs.Trees.{plain_stmts}
 use Rattle.c_effects.specs.Expressions.{before}
 use Rattle.annot_code.specs.Passages.{names_behind_snapshot, snapshot_by}
-use Rattle.annot_code.specs.Tables.{plain_plan}
+use Rattle.annot_pieces.specs.Tables.{plain_plan}
 use Rattle.annot_code.proofs.snapshot.snapshot.Given as goal
 
 abbrev pub invariant-terms : goal.invariant-terms

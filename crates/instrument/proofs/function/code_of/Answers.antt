@@ -4,7 +4,7 @@ use Rattle.c_syntax.specs.Programs.{plain_func}
 use Rattle.c_syntax.specs.Statements.{plain_decl}
 use Rattle.mon_syntax.specs.Registers.{Names, no_registers, with_kinds, with_table}
 use Rattle.mon_syntax.specs.Trees.{plain_stmts}
-use Rattle.annot_code.specs.Tables.{plain_plan}
+use Rattle.annot_pieces.specs.Tables.{plain_plan}
 use Rattle.instrument.specs.Translation.{value_types}
 use Rattle.instrument.proofs.Definitions.{code_is, code_kinds}
 use Rattle.instrument.proofs.function.code_of.Goals as goal

@@ -8,7 +8,7 @@ use Rattle.track_scopes.specs.Blocks.{with_born}
 use Rattle.c_effects.specs.Expressions.{before}
 use Rattle.c_effects.specs.Named.{unit_of}
 use Rattle.c_effects.proofs.Trees.{on_ok_then}
-use Rattle.annot_code.specs.Tables.{plain_plan}
+use Rattle.annot_pieces.specs.Tables.{plain_plan}
 use Rattle.instrument.specs.Options.{entering}
 use Rattle.instrument.specs.Translation.{parameters}
 use Rattle.instrument.proofs.ContractBodies.{born_room, own_code_is}

@@ -1,7 +1,7 @@
 use Rattle.std.proofs.Common.{◌+◌, length, ap, ◌∙◌}
 use Rattle.mon_syntax.specs.Registers.{Names, next_register}
 use Rattle.c_syntax.specs.Programs.{plain_func}
-use Rattle.annot_code.specs.Plan.{kept_types, planned}
+use Rattle.annot_simulation.specs.Plan.{kept_types, planned}
 use Rattle.c_effects.specs.Named.{with_registers}
 use Rattle.instrument.specs.Translation.{contract_types}
 use Rattle.instrument.proofs.OwnRegisters.{made_two, next_behind, types_kept}

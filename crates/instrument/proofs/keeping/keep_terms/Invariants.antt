@@ -1,6 +1,6 @@
 use Rattle.std.proofs.Common.{◌≡◌, drop}
 use Rattle.c_effects.specs.Named.{with_registers}
-use Rattle.annot_code.specs.Tables.{plain_plan}
+use Rattle.annot_pieces.specs.Tables.{plain_plan}
 use Rattle.instrument.specs.Options.{types_of_kept}
 use Rattle.instrument.proofs.keeping.keep_terms.Given as goal
 

@@ -1,6 +1,6 @@
 use Rattle.std.proofs.Common.{◌≡◌, ◌++◌, drop, map}
 use Rattle.c_syntax.specs.Programs.{plain_behavior}
-use Rattle.annot_code.specs.Plan.{in_behaviors}
+use Rattle.annot_simulation.specs.Plan.{in_behaviors}
 use Rattle.label_snapshots.specs.Plain.{plain_entries}
 use Rattle.label_snapshots.proofs.function.add_behaviors.Given as goal
 

@@ -1,7 +1,7 @@
 use Rattle.std.proofs.Common.{◌++◌, ◌∙◌, ap, refl}
 use Rattle.c_syntax.specs.Statements.{plain_cases, plain_items}
 use Rattle.mon_syntax.proofs.Indices.{left_at, none_left}
-use Rattle.annot_code.specs.Plan.{in_cases, in_items}
+use Rattle.annot_simulation.specs.Plan.{in_cases, in_items}
 use Rattle.label_snapshots.specs.Plain.{plain_entries}
 use Rattle.label_snapshots.proofs.Entries.{all_added, block_added, one_added, switch_added}
 use Rattle.label_snapshots.proofs.statement.+entries.Goals as goal

@@ -1,6 +1,6 @@
 use Rattle.std.proofs.Common.{◌≡◌, ◌++◌, drop}
 use Rattle.c_syntax.specs.Statements.{plain_cases, plain_items}
-use Rattle.annot_code.specs.Plan.{in_cases, in_items}
+use Rattle.annot_simulation.specs.Plan.{in_cases, in_items}
 use Rattle.label_snapshots.specs.Plain.{plain_entries}
 use Rattle.label_snapshots.proofs.statement.+entries.Given as goal
 

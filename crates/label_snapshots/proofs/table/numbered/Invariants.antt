@@ -1,5 +1,5 @@
 use Rattle.std.proofs.Common.{◌≡◌, ◌++◌, drop}
-use Rattle.annot_code.specs.Plan.{kept_from}
+use Rattle.annot_simulation.specs.Plan.{kept_from}
 use Rattle.label_snapshots.specs.Plain.{plain_entries, plain_plan}
 use Rattle.label_snapshots.proofs.table.numbered.Given as goal
 

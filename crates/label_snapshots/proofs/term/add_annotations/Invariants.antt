@@ -1,6 +1,6 @@
 use Rattle.std.proofs.Common.{◌≡◌, ◌++◌, drop, map}
 use Rattle.c_syntax.specs.Logic.{plain_annot}
-use Rattle.annot_code.specs.Plan.{in_annotations}
+use Rattle.annot_simulation.specs.Plan.{in_annotations}
 use Rattle.label_snapshots.specs.Plain.{plain_entries}
 use Rattle.label_snapshots.proofs.term.add_annotations.Given as goal
 

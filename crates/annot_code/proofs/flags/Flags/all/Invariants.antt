@@ -1,6 +1,6 @@
 use Rattle.std.proofs.Common.{◌≡◌, ◌++◌, drop, map}
 use Rattle.c_syntax.specs.Programs.{plain_behavior}
-use Rattle.annot_code.specs.ContractCode.{flags_from}
+use Rattle.annot_simulation.specs.ContractCode.{flags_from}
 use Rattle.annot_code.proofs.flags.Flags.all.Given as goal
 
 -- with those that are left they are all flags

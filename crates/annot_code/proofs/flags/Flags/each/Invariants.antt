@@ -1,7 +1,7 @@
 use Rattle.std.proofs.Common.{◌≡◌, ℕ, ◌++◌, drop, map}
 use Rattle.c_syntax.specs.declared.place.Place.{Place}
 use Rattle.c_syntax.specs.Programs.{plain_behavior}
-use Rattle.annot_code.specs.ContractCode.{flag_named}
+use Rattle.annot_simulation.specs.ContractCode.{flag_named}
 use Rattle.annot_code.proofs.flags.Flags.each.Given as goal
 
 -- with those that are left they are the flags of all names

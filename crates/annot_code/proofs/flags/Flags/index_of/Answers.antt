@@ -3,7 +3,7 @@ use Rattle.std.proofs.lemmas.List.{length-map}
 use Rattle.std.proofs.lemmas.Result.{IfOk-weaker}
 use Rattle.indexmap.specs.IndexMap.{get}
 use Rattle.c_syntax.specs.Programs.{plain_behavior}
-use Rattle.annot_code.specs.ContractCode.{flag_named}
+use Rattle.annot_simulation.specs.ContractCode.{flag_named}
 use Rattle.annot_code.proofs.Checks.{flag_is, index_or}
 use Rattle.annot_code.proofs.flags.Flags.index_of.Goals as goal
 

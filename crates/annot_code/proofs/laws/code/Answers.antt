@@ -1,6 +1,0 @@
-use Rattle.annot_code.proofs.Quiet.{takes_no_step}
-use Rattle.annot_code.proofs.Theorem.{code_judges}
-use Rattle.annot_code.proofs.laws.code.Goals as goal
-
-pub returns : goal.returns
-returns c = record { judges = code_judges; still = takes_no_step }

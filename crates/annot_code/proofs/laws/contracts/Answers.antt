@@ -1,6 +1,0 @@
-use Rattle.annot_code.proofs.ContractChecked.{checks_follow_all}
-use Rattle.annot_code.proofs.Snapshots.{snapshots_keep}
-use Rattle.annot_code.proofs.laws.contracts.Goals as goal
-
-pub returns : goal.returns
-returns c = record { keeps = snapshots_keep; follows = checks_follow_all }

@@ -1,6 +1,0 @@
-use Rattle.annot_code.proofs.ContractValid.{checks_are_valid, snapshots_are_valid}
-use Rattle.annot_code.proofs.ValidCode.{code_is_valid}
-use Rattle.annot_code.proofs.laws.validity.Goals as goal
-
-pub returns : goal.returns
-returns c = record { valid = code_is_valid; snapshots = snapshots_are_valid; checks = checks_are_valid }

@@ -1,5 +1,0 @@
-use Rattle.std.proofs.Common.{length}
-use Rattle.annot_code.proofs.zone.+apart_from_each.Given as goal
-
-abbrev pub decreases-apart_from_each : goal.decreases-apart_from_each
-decreases-apart_from_each l = length l.others.now

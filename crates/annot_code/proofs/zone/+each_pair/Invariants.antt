@@ -1,5 +1,0 @@
-use Rattle.std.proofs.Common.{length}
-use Rattle.annot_code.proofs.zone.+each_pair.Given as goal
-
-abbrev pub decreases-each_pair : goal.decreases-each_pair
-decreases-each_pair l = length l.zones.now

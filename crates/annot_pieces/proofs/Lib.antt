@@ -1,0 +1,4 @@
+pub mod Rust
+pub mod Arms
+pub mod Stored
+pub mod ZonePairs

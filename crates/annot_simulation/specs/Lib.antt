@@ -1,0 +1,14 @@
+pub mod Pieces
+pub mod Pointers
+pub mod Held
+pub mod Code
+pub mod Does
+pub mod Inside
+pub mod Validity
+pub mod Numbered
+pub mod Beside
+pub mod Snapshots
+pub mod Plan
+pub mod ContractCode
+pub mod ContractDoes
+pub mod ContractValidity
