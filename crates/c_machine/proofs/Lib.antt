@@ -33,3 +33,4 @@ pub mod Asserting
 pub mod Checking
 pub mod Through
 pub mod Indexed
+pub mod KeptTerms

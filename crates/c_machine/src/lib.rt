@@ -25,6 +25,7 @@ mod checked_elements;
 mod elements;
 mod forms;
 mod frames;
+mod kept_terms;
 mod kept_values;
 mod leaps;
 mod lone_forms;
