@@ -231,10 +231,10 @@ CONSTRUCTS = {
     "behaviors that are named": contracted(" complete behaviors " + ", ".join(["b"] * 190) + ";\n", first=" behavior b:"),
     # ---- labels
     "labels": inside("L{0}: ;\n"),
-    "terms at labels": inside("L{0}: ; //@ assert \\at(x, L{0}) == 1;\n"),
-    "terms at one label": (BODY + "L: ;\n", "//@ assert \\at(x, L) == 1;\n", END),
-    "terms at the beginning": inside("//@ assert \\at(g, Pre) == 0;\n", "int g;\n"),
-    "pointers at labels": inside("L{0}: ; //@ assert \\at(p, L{0}) == p;\n"),
+    "terms at labels": inside("L{0}: ; /*@ assert \\at(x, L{0}) == 1; */\n"),
+    "terms at one label": (BODY + "L: ;\n", "/*@ assert \\at(x, L) == 1; */\n", END),
+    "terms at the beginning": inside("/*@ assert \\at(g, Pre) == 0; */\n", "int g;\n"),
+    "pointers at labels": inside("L{0}: ; /*@ assert \\at(p, L{0}) == p; */\n"),
     "labels in loops": inside("while (x) {{ L{0}: x = 0; /*@ assert \\at(x, L{0}) == 1; */ }} x = 1;\n"),
     # ---- what is between tokens, and words
     "comments": outside("/* c */\n"),

@@ -55,11 +55,11 @@ figure() {
   name=$1 awk -v z="$2" 'BEGIN { printf "%-64s %10.1f\n", ENVIRON["name"], z }'
 }
 
-# the least milliseconds of user time of some runs of a text, which must end with this status
+# the least milliseconds of user time of some runs of a text, which must end with the status 0
 measured() {
-  local expected=$1 status user
-  read -r _ _ status user _ < <(python3 "$top/bench/measure.py" 7 /dev/null "$program" run "$2")
-  [[ $status == "$expected" ]] || { echo "status $status: $2" >&2; return 1; }
+  local status user
+  read -r _ _ status user _ < <(python3 "$top/bench/measure.py" 7 /dev/null "$program" run "$1")
+  [[ $status == 0 ]] || { echo "status $status: $1" >&2; return 1; }
   echo "$user"
 }
 
@@ -76,10 +76,10 @@ figure 'with ensures n == \old(n); alone' "$(unit_takes kept 10 20 21714)"
 
 printf '\n%-64s %10s\n' milliseconds ''
 contract_of 27 >"$scratch/a.c"
-figure 'fib(27) with the contract, 635,621 calls' "$(measured 18 "$scratch/a.c")"
+figure 'fib(27) with the contract, 635,621 calls' "$(measured "$scratch/a.c")"
 bare_of 27 >"$scratch/a.c"
-figure 'the same without' "$(measured 18 "$scratch/a.c")"
+figure 'the same without' "$(measured "$scratch/a.c")"
 for n in 1000 2000 4000; do
   functions_of "$n" >"$scratch/a.c"
-  figure "$n functions with a contract of five clauses each" "$(measured 0 "$scratch/a.c")"
+  figure "$n functions with a contract of five clauses each" "$(measured "$scratch/a.c")"
 done
