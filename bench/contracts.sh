@@ -9,35 +9,24 @@ top=$(cd -- "$(dirname -- "${BASH_SOURCE[0]}")/.." && pwd)
 scratch=$(mktemp -d)
 trap 'rm -rf "$scratch"' EXIT
 
+# shellcheck source=bench/workloads
+. "$top/bench/workloads"
 # shellcheck source=bench/counting
 . "$top/bench/counting"
 
 # the Fibonacci number of this index, by a function with this contract
-fib_of() {
-  cat <<C
-$2
-int fib(int n) {
-  int a, b;
-  if (n < 2)
-    return n;
-  a = fib(n - 1);
-  b = fib(n - 2);
-  return a + b;
-}
-int main(void) {
-  int f = fib($1);
-  return f % 100;
-}
-C
+contracted() {
+  printf '%s\n' "$2"
+  fib_of "$1"
 }
 
 whole='/*@ requires n >= 0; ensures \result >= 0; ensures n == \old(n); */'
 
-contract_of() { fib_of "$1" "$whole"; }
-bare_of() { fib_of "$1" ''; }
-requires_of() { fib_of "$1" '/*@ requires n >= 0; */'; }
-result_of() { fib_of "$1" '/*@ ensures \result >= 0; */'; }
-kept_of() { fib_of "$1" '/*@ ensures n == \old(n); */'; }
+contract_of() { contracted "$1" "$whole"; }
+bare_of() { contracted "$1" ''; }
+requires_of() { contracted "$1" '/*@ requires n >= 0; */'; }
+result_of() { contracted "$1" '/*@ ensures \result >= 0; */'; }
+kept_of() { contracted "$1" '/*@ ensures n == \old(n); */'; }
 
 # so many functions with a contract of five clauses each
 functions_of() {
@@ -48,19 +37,6 @@ functions_of() {
     }
     print "int main(void) {\n  int r = f0(1, 2);\n  return r - 3;\n}"
   }'
-}
-
-# the name keeps its backslash, which a variable of awk's command line would lose
-figure() {
-  name=$1 awk -v z="$2" 'BEGIN { printf "%-64s %10.1f\n", ENVIRON["name"], z }'
-}
-
-# the least milliseconds of user time of some runs of a text, which must end with the status 0
-measured() {
-  local status user
-  read -r _ _ status user _ < <(python3 "$top/bench/measure.py" 7 /dev/null "$program" run "$1")
-  [[ $status == 0 ]] || { echo "status $status: $1" >&2; return 1; }
-  echo "$user"
 }
 
 # builds the proved program where that is due, so that no figure is of an unproved one
@@ -76,10 +52,10 @@ figure 'with ensures n == \old(n); alone' "$(unit_takes kept 10 20 21714)"
 
 printf '\n%-64s %10s\n' milliseconds ''
 contract_of 27 >"$scratch/a.c"
-figure 'fib(27) with the contract, 635,621 calls' "$(measured "$scratch/a.c")"
+figure 'fib(27) with the contract, 635,621 calls' "$(user_time 7 "$program" run "$scratch/a.c")"
 bare_of 27 >"$scratch/a.c"
-figure 'the same without' "$(measured "$scratch/a.c")"
+figure 'the same without' "$(user_time 7 "$program" run "$scratch/a.c")"
 for n in 1000 2000 4000; do
   functions_of "$n" >"$scratch/a.c"
-  figure "$n functions with a contract of five clauses each" "$(measured "$scratch/a.c")"
+  figure "$n functions with a contract of five clauses each" "$(user_time 7 "$program" run "$scratch/a.c")"
 done

@@ -135,15 +135,11 @@ byte_takes() {
   awk -v a="$few" -v b="$many" 'BEGIN { print (b - a) / 100000 }'
 }
 
-figure() {
-  awk -v name="$1" -v z="$2" 'BEGIN { printf "%-56s %10.1f\n", name, z }'
-}
-
 # builds the proved program where that is due, so that no figure is of an unproved one
 "$top/eacsl" --build >&2
 program=$top/crates/eacsl/out/eacsl
 
-printf '%-56s %10s\n' "the processor's instructions" ''
+printf '%-64s %10s\n' "the processor's instructions" ''
 figure 'a call of fib, as one sum' "$(unit_takes fib_sum 10 20 21714)"
 figure 'a call of fib, with two variables' "$(unit_takes fib 10 20 21714)"
 figure 'an element by s += a[i++] in the step' "$(unit_takes in_step 10 110 100000)"

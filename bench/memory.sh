@@ -76,19 +76,6 @@ zones_of() {
   echo 'return 0; }'
 }
 
-# the name keeps its backslash, which a variable of awk's command line would lose
-figure() {
-  name=$1 awk -v z="$2" 'BEGIN { printf "%-64s %10.1f\n", ENVIRON["name"], z }'
-}
-
-# the least milliseconds of user time of some runs of a command, which must end with the status 0
-measured() {
-  local status user
-  read -r _ _ status user _ < <(python3 "$top/bench/measure.py" 5 /dev/null "$@")
-  [[ $status == 0 ]] || { echo "status $status: $*" >&2; return 1; }
-  echo "$user"
-}
-
 # builds the proved program where that is due, so that no figure is of an unproved one
 "$top/eacsl" --build >&2
 program=$top/crates/eacsl/out/eacsl
@@ -101,11 +88,11 @@ figure 'a turn of the loop alone' "$(unit_takes bare 10 110 100000)"
 
 printf '\n%-64s %10s\n' milliseconds ''
 three_of 2000000 >"$scratch/a.c"
-figure '2,000,000 turns of three \valid' "$(measured "$program" run "$scratch/a.c")"
+figure '2,000,000 turns of three \valid' "$(user_time 5 "$program" run "$scratch/a.c")"
 block_of ';' >"$scratch/a.c"
 block_of '//@ assert \initialized(p + (0 .. 1048575));' >"$scratch/b.c"
-figure '\initialized of 1 MiB' "$(awk -v a="$(measured "$program" run "$scratch/a.c")" -v b="$(measured "$program" run "$scratch/b.c")" 'BEGIN { print b - a }')"
+figure '\initialized of 1 MiB' "$(awk -v a="$(user_time 5 "$program" run "$scratch/a.c")" -v b="$(user_time 5 "$program" run "$scratch/b.c")" 'BEGIN { print b - a }')"
 zones_of 64 >"$scratch/a.c"
 "$program" instrument "$scratch/a.c" >"$scratch/a.mon"
-figure '64 zones in one \separated, translated' "$(measured "$program" instrument "$scratch/a.c")"
-figure 'the same, read again and run' "$(measured "$program" exec "$scratch/a.mon")"
+figure '64 zones in one \separated, translated' "$(user_time 5 "$program" instrument "$scratch/a.c")"
+figure 'the same, read again and run' "$(user_time 5 "$program" exec "$scratch/a.mon")"
