@@ -5,7 +5,7 @@ use Rattle.c_syntax.specs.Programs.{TranslationUnit}
 use Rattle.c_model.specs.Checked.{Good}
 use Rattle.c_model.specs.UnitTyping.{typed_unit, room_fault, main_fault}
 use Rattle.c_model.specs.AnnotationTyping.{noted_unit}
-use Rattle.c_model.specs.Formed.{AreReadAsserts, number_of, Ascend, AreNamed}
+use Rattle.c_model.specs.Formed.{AreReadLoopClauses, AreReadAsserts, number_of, Ascend, AreNamed}
 use Rattle.c_model.specs.FullExpressions.{EachDeclared, EachInFunctions, EachExpression}
 use Rattle.c_model.specs.LetterValues.{LettersFit}
 use Rattle.c_model.specs.Sizes.{IsSmall}
@@ -35,7 +35,7 @@ module _ (p q : TranslationUnit) (t : ReadTree p) (is : typed_unit p ≡ Good q)
     order : TypedInOrder q
     order = typed_in_order p q t.order is
 
-    forms : FunctionsRead AreReadAsserts q.funcs
+    forms : FunctionsRead AreReadAsserts AreReadLoopClauses q.funcs
     forms = forms_kept p q t is
 
     letters : EachExpression LettersFit q

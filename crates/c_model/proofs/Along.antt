@@ -140,8 +140,8 @@ steps_chain (Linked at r t rest) a s e n =
 
 pub steps_guarded : (q : Quantifier) (gs : Guards) (p : Environment → ℕ → Answer) (s : State) → ((e : Environment) (n : ℕ) → steps_of (p e n) ≤ n) → (e : Environment) (n : ℕ) → steps_of (guarded q gs p s e n) ≤ n
 steps_guarded q NoGuard p s w e n = w e n
-steps_guarded q (Guarded a bs below b rest) p s w e n =
-    steps_between (term a s e) (term b s e) _ (λ l h n. steps_over q l bs (lowered below h) (guarded q rest p s) (steps_guarded q rest p s w) e n) n
+steps_guarded q (Guarded a y ys below b rest) p s w e n =
+    steps_between (term a s e) (term b s e) _ (λ l h n. steps_over q l (y ∷ ys) (lowered below h) (guarded q rest p s) (steps_guarded q rest p s w) e n) n
 
 pub steps_pred : (p : Predicate) (s : State) (e : Environment) (n : ℕ) → steps_of (pred p s e n) ≤ n
 steps_pred (Truth at b) s e n = omega arith

@@ -46,6 +46,33 @@ abbrev pub AllBelow : ℕ → List PlainToken → Type 0
 AllBelow n [] = Unit {0}
 AllBelow n (t ∷ ts) = (t.place.offset < n) × AllBelow n ts
 
+-- a word begins below the number
+abbrev pub WordBelow : ℕ → PlainTokenKind → ℕ → Type 0
+WordBelow n (token.Word w) offset = offset < n
+WordBelow n _ offset = Unit {0}
+
+abbrev pub WordsBelow : ℕ → List PlainToken → Type 0
+WordsBelow n [] = Unit {0}
+WordsBelow n (t ∷ ts) = WordBelow n t.kind t.place.offset × WordsBelow n ts
+
+word_below : (n offset : ℕ) (k : PlainTokenKind) → offset < n → WordBelow n k offset
+word_below n offset (token.Word w) h = h
+word_below n offset (token.Number z c) h = tt
+word_below n offset (token.Letter z) h = tt
+word_below n offset (token.Chars bytes) h = tt
+word_below n offset (token.Mark m) h = tt
+word_below n offset token.AnnotOpen h = tt
+word_below n offset token.AnnotClose h = tt
+word_below n offset (token.Head k m) h = tt
+
+words_of : (n : ℕ) (ts : List PlainToken) → AllBelow n ts → WordsBelow n ts
+words_of n [] below = tt
+words_of n (t ∷ ts) below = (word_below n t.place.offset t.kind below.0, words_of n ts below.1)
+
+words_push : (n : ℕ) (ts : List PlainToken) (t : PlainToken) → WordsBelow n ts → WordBelow n t.kind t.place.offset → WordsBelow n (ts ++ t ∷ [])
+words_push n [] t below h = (h, tt)
+words_push n (u ∷ ts) t below h = (below.0, words_push n ts t below.1 h)
+
 below_more : (n k : ℕ) (ts : List PlainToken) → n ≤ k → AllBelow n ts → AllBelow k ts
 below_more n k [] h below = tt
 below_more n k (t ∷ ts) h below = (omega (arith, below.0), below_more n k ts h below.1)
@@ -163,12 +190,18 @@ closed_in_order n r at Code h e = order_more n (suc n) r.list (omega arith) h
 closed_in_order n r at Block h e = order_more n (suc n) r.list (omega arith) h
 closed_in_order n r at Line h e = put_in_order n (suc n) r.list at token.AnnotClose h e (omega arith) refl
 
+closed_words : (n : ℕ) (r : Read) (at : Place) (m : Mode) → AllBelow n r.list → WordsBelow n (closed r at m).list
+closed_words n r at Code h = words_of n r.list h
+closed_words n r at Block h = words_of n r.list h
+closed_words n r at Line h = words_push n r.list (monitored.token at token.AnnotClose) (words_of n r.list h) tt
+
 same_tokens : (x y : PlainTokens) → (let r : Result PlainTokens PlainRefusal = Ok x in r) ≡ Ok y → x ≡ y
 same_tokens x y e = cc
 
 -- what holds of the tokens of pieces after these bytes
 record Listed (before : List ℕ) (ps : Pieces) (tokens : PlainTokens) : Type 0 where
   below : AllBelow (suc (length (before ++ bytes_of ps))) tokens.list
+  words : WordsBelow (length (before ++ bytes_of ps)) tokens.list
   ascend : Ascend tokens.list
   apart : StringsApart tokens.list
   few : length tokens.list ≤ most_tokens
@@ -184,6 +217,8 @@ listed before r (Ended at m) tokens placed some order e = elim (chosen (ltb most
       record {
         below = subst (λ (t : PlainTokens). AllBelow (suc (length (before ++ []))) t.list) same
             (subst (λ (bs : List ℕ). AllBelow (suc (length bs)) (closed r at m).list) (sym (append-nil before)) c.below);
+        words = subst (λ (t : PlainTokens). WordsBelow (length (before ++ [])) t.list) same
+            (subst (λ (bs : List ℕ). WordsBelow (length bs) (closed r at m).list) (sym (append-nil before)) (closed_words (length before) r at m order.below));
         ascend = subst (λ (t : PlainTokens). Ascend t.list) same c.ascend;
         apart = subst (λ (t : PlainTokens). StringsApart t.list) same c.apart;
         few = subst (λ (t : PlainTokens). length t.list ≤ most_tokens) same (ltb-false _ _ h.0);
@@ -198,6 +233,7 @@ listed before r (Cut at p bytes more) tokens placed some order e = elim (chosen 
       let rest = listed (before ++ bytes) (add r at p bytes) more tokens placed.1 some.1 next h.1 in
       record {
         below = subst (λ (bs : List ℕ). AllBelow (suc (length bs)) tokens.list) (append_assoc before bytes (bytes_of more)) rest.below;
+        words = subst (λ (bs : List ℕ). WordsBelow (length bs) tokens.list) (append_assoc before bytes (bytes_of more)) rest.words;
         ascend = rest.ascend;
         apart = rest.apart;
         few = rest.few;
@@ -224,3 +260,7 @@ tokens_few text tokens e = (list_of text tokens e).few
 
 pub end_behind : (text : List ℕ) (tokens : PlainTokens) → tokens_of text ≡ Ok tokens → tokens.end ≡ place_of text
 end_behind text tokens e = (list_of text tokens e).end ∙ ap place_of (pieces_joined text)
+
+-- each word begins in the text
+pub words_below : (text : List ℕ) (tokens : PlainTokens) → tokens_of text ≡ Ok tokens → WordsBelow (length text) tokens.list
+words_below text tokens e = subst (λ (bs : List ℕ). WordsBelow (length bs) tokens.list) (pieces_joined text) (list_of text tokens e).words

@@ -3,7 +3,6 @@
 use Rattle.std.proofs.Common.{◌≡◌, ℕ, zero, suc, ℤ, pos, ◌+ℤ◌, ◌⊎◌, inl, inr, refl, sym, ap, ◌∙◌, subst, arith, List, [], ◌∷◌, ◌++◌, map, append_assoc, Option, Some, None, Bool, true, false, not, ◌&&◌, cond, nat_eq, slice_get}
 use Rattle.std.specs.List.{AllByRecursion}
 use Rattle.std.proofs.lemmas.Bool.Decides.{nat_tests}
-use Rattle.c_syntax.specs.Ctypes.{PlainType}
 use Rattle.c_syntax.specs.Statements.{Declaration, Statement}
 use Rattle.c_syntax.specs.Logic.{ClauseBody, Raw, Holds, Value, Behaviors, Annotation}
 use Rattle.c_syntax.specs.declared.annotation.Kind.{Kind}
@@ -13,14 +12,14 @@ use Rattle.c_model.specs.Meaning.{is_definition}
 use Rattle.c_model.specs.Checked.{Good, one_part}
 use Rattle.c_model.specs.ExpressionTyping.{Object, Entity, AnObject, AnEnumerator, Sight, or_else, entity_named, with_object, inner}
 use Rattle.c_model.specs.DeclarationTyping.{with_enumerator}
-use Rattle.c_model.specs.UnitTyping.{FileItem, StructHead, Member, AnEnum, ATypedef, AGlobal, AFunction, items_of_file, definition_of, with_function, with_parameter, with_parameters, same_signature, is_compatible, is_compatible_with_all, types_of}
+use Rattle.c_model.specs.UnitTyping.{FileItem, StructHead, Member, AnEnum, ATypedef, AGlobal, AFunction, definition_of, with_function, with_parameter, with_parameters, same_signature, is_compatible, is_compatible_with_all, types_of}
 use Rattle.c_model.specs.UnitTyping.{value_typed, with_enumerators, behind_item}
 use Rattle.c_model.specs.ContractTyping.{sight_of_clause, typed_contract}
 use Rattle.c_model.specs.AnnotationTyping.{known_at, numbered_as, defined_parameters, numbers_of_parameters, contract_sight, noted_contract, noted_in, noted_function}
 use Rattle.c_model.specs.AnnotationTyping.{noted_functions, contract_named, contract_moved, with_contract, with_contracts}
 use Rattle.c_model.specs.TextOrder.{globals_among, functions_among}
 use Rattle.c_model.specs.Formed.{IsShortReading}
-use Rattle.c_model.specs.FormedContracts.{AreClausesOf, BehaviorsFormed, ContractFormed, MaybeFormed, ContractsFormed}
+use Rattle.c_model.specs.FormedContracts.{AreClausesOf, BehaviorsFormed, MaybeFormed, ContractsFormed}
 use Rattle.c_model.specs.TypedPredicates.{IsRead, AreRead}
 use Rattle.c_model.specs.TypedAnnotations.{ContractTyped, BehaviorsRead, IsOwn, OfFunction, OfFile, ContractStands, ContractNoted, ContractsNoted}
 use Rattle.c_model.proofs.TypedParts.{Gives, gives_one, and_true}
@@ -28,7 +27,7 @@ use Rattle.c_model.proofs.TypedDeclarations.{anything, after_one}
 use Rattle.c_model.proofs.TypedContracts.{contract_well}
 use Rattle.c_model.proofs.CompatibleFunctions.{AreCompatible}
 use Rattle.c_model.proofs.SignaturesInSight.{SameTypes, first_declared, first_behind}
-use Rattle.c_model.proofs.NotedFiles.{HasOtherBody, HaveOtherBodies, same_name, same_definition}
+use Rattle.c_model.proofs.NotedFiles.{HaveOtherBodies, same_name, same_definition}
 
 -- ---- rows
 
@@ -103,7 +102,7 @@ own_globals q = each_at (λ (d : Declaration). IsGlobal q (object_of d)) q.globa
 -- ---- contracts as they are read
 
 clause_read : (b : ClauseBody) → IsShortReading b → IsRead b
-clause_read (Raw f) h = tt
+clause_read (Raw f) h = h.numbered
 clause_read (Holds p) h = absurd h
 clause_read (Value t) h = absurd h
 clause_read (Behaviors names) h = absurd h

@@ -16,7 +16,7 @@ use Rattle.c_model.specs.AcceptedPrograms.{IsProgram}
 use Rattle.c_model.specs.ContractChecks.{entry, ending}
 use Rattle.c_model.specs.Conversions.{promoted}
 use Rattle.c_model.specs.ExpressionTyping.{Sight, Signature, of_library, inner, name_at, or_else, function_called, library_function}
-use Rattle.c_model.specs.Formed.{AreAsserts, declared_within, declared_in_cases, declared_in_else, declared_in_first, declared_in_item, declared_in_items, declared_in_body}
+use Rattle.c_model.specs.Formed.{AreLoopClauses, AreAsserts, declared_within, declared_in_cases, declared_in_else, declared_in_first, declared_in_item, declared_in_items, declared_in_body}
 use Rattle.c_model.specs.FullExpressions.{EachIn, EachInCases, EachInElse, EachInFirst, EachInItem, EachInItems, EachInBody, EachInFunctions}
 use Rattle.c_model.specs.Integers.{fits, byte_of}
 use Rattle.c_model.specs.Logic.{TermValue, Mathematical, Addressed, Answer, Says, SaysNothing, OutOfSteps, judged}
@@ -261,7 +261,7 @@ module _ (p : TranslationUnit) where
           rets_then Any r.result (item_with T i call n) (items_with T rest call n) (rets_item sight see r i w.0 l.0 d.0 left n) (keeps_item call c octets i d.0 left n)
           (rets_items (behind sight i) (sees_behind p i sight see) r rest w.1 l.1 d.1 (declares_right p (declared_in_item i) (declared_in_items rest) q) n)
 
-    rets_body : (sight : Sight) → Sees p sight → (t : PlainType) (body : Option Statement) → BodyRead AreAsserts body → BodyTyped sight t body → EachInBody LettersFit body → WhereAny (EachIn AreDirect) body
+    rets_body : (sight : Sight) → Sees p sight → (t : PlainType) (body : Option Statement) → BodyRead AreAsserts AreLoopClauses body → BodyTyped sight t body → EachInBody LettersFit body → WhereAny (EachIn AreDirect) body
         → Declares p (declared_in_body body) → (n : ℕ) → Rets t (body_with T body call n)
     rets_body sight see t None read w l d q n = λ s st. tt
     rets_body sight see t (Some (Block at items)) read w l d q n = λ s st.
@@ -417,9 +417,9 @@ between [] i f e = absurd cc
 between (g ∷ fs) zero f e = let same : g ≡ f = cc in record { before = []; after = fs; is = ap (λ h. h ∷ fs) (sym same) }
 between (g ∷ fs) (suc i) f e = let b = between fs i f e in record { before = g ∷ b.before; after = b.after; is = ap (λ l. g ∷ l) b.is }
 
-read_at : (fs : List Function) (i : ℕ) (f : Function) → FunctionsRead AreAsserts fs → slice_get fs i ≡ Some f → FunctionRead AreAsserts f
+read_at : (fs : List Function) (i : ℕ) (f : Function) → FunctionsRead AreAsserts AreLoopClauses fs → slice_get fs i ≡ Some f → FunctionRead AreAsserts AreLoopClauses f
 read_at [] i f h e = absurd cc
-read_at (g ∷ fs) zero f h e = let same : g ≡ f = cc in subst (FunctionRead AreAsserts) same h.0
+read_at (g ∷ fs) zero f h e = let same : g ≡ f = cc in subst (FunctionRead AreAsserts AreLoopClauses) same h.0
 read_at (g ∷ fs) (suc i) f h e = read_at fs i f h.1 e
 
 letters_at : (fs : List Function) (i : ℕ) (f : Function) → EachInFunctions LettersFit fs → slice_get fs i ≡ Some f → EachInBody LettersFit f.body

@@ -7,7 +7,7 @@ use Rattle.c_model.specs.DeclarationTyping.{typed_global, typed_typedef, typed_m
 use Rattle.c_model.specs.UnitTyping.{FileItem, StructHead, Member, AnEnum, ATypedef, AGlobal, AFunction, items_of_file, with_type, with_tag, with_function, typed_function, Progress, new_tag, typed_enum}
 use Rattle.c_model.specs.UnitTyping.{typed_item_of_file, typed_items_of_file, at_start, with_progress, typed_unit}
 use Rattle.c_model.specs.TextOrder.{functions_among}
-use Rattle.c_model.specs.Formed.{AreReadAsserts}
+use Rattle.c_model.specs.Formed.{AreReadLoopClauses, AreReadAsserts}
 use Rattle.c_model.specs.ReadTree.{FunctionRead, FunctionsRead, ReadTree}
 use Rattle.c_model.proofs.TypedParts.{Gives, gives_of, gives_one}
 use Rattle.c_model.proofs.TypedDeclarations.{anything}
@@ -15,9 +15,9 @@ use Rattle.c_model.proofs.KeptStatements.{function_kept}
 
 -- what is typed so far
 abbrev SoFar : Progress → Type 0
-SoFar r = FunctionsRead AreReadAsserts r.funcs
+SoFar r = FunctionsRead AreReadAsserts AreReadLoopClauses r.funcs
 
-one_more : (fs : List Function) (f : Function) → FunctionsRead AreReadAsserts fs → FunctionRead AreReadAsserts f → FunctionsRead AreReadAsserts (fs ++ f ∷ [])
+one_more : (fs : List Function) (f : Function) → FunctionsRead AreReadAsserts AreReadLoopClauses fs → FunctionRead AreReadAsserts AreReadLoopClauses f → FunctionsRead AreReadAsserts AreReadLoopClauses (fs ++ f ∷ [])
 one_more [] f h k = (k, tt)
 one_more (g ∷ gs) f h k = (h.0, one_more gs f h.1 k)
 
@@ -43,7 +43,7 @@ enum_kept r e h =
 
 -- items, of which the functions are read
 abbrev AreReadItems : List FileItem → Type 0
-AreReadItems is = FunctionsRead AreReadAsserts (functions_among is)
+AreReadItems is = FunctionsRead AreReadAsserts AreReadLoopClauses (functions_among is)
 
 items_kept : (p : TranslationUnit) (r : Progress) (is : List FileItem) → AreReadItems is → SoFar r → Gives SoFar (typed_items_of_file p r is)
 items_kept p r [] q h = h
@@ -61,10 +61,10 @@ items_kept p r (AGlobal d ∷ is) q h =
     (gives_one (λ d. Unit {0}) SoFar (typed_global r.sight d) (λ d. Good (record r { sight = with_object r.sight d; globals = r.globals ++ d ∷ [] })) (anything (typed_global r.sight d)) (λ d u. h)) (λ x k. items_kept p x is q k)
 items_kept p r (AFunction f ∷ is) q h =
     gives_one SoFar SoFar (typed_item_of_file p r (AFunction f)) (λ r. typed_items_of_file p r is)
-    (gives_one (FunctionRead AreReadAsserts) SoFar (typed_function p r.sight r.funcs f) (λ f. Good (record r { sight = with_function p r.sight f; funcs = r.funcs ++ f ∷ [] })) (function_kept p r.sight r.funcs f q.0) (λ f k.
+    (gives_one (FunctionRead AreReadAsserts AreReadLoopClauses) SoFar (typed_function p r.sight r.funcs f) (λ f. Good (record r { sight = with_function p r.sight f; funcs = r.funcs ++ f ∷ [] })) (function_kept p r.sight r.funcs f q.0) (λ f k.
     one_more r.funcs f h k)) (λ x k. items_kept p x is q.1 k)
 
-pub forms_kept : (p q : TranslationUnit) → ReadTree p → typed_unit p ≡ Good q → FunctionsRead AreReadAsserts q.funcs
-forms_kept p q t is = gives_of (λ (q : TranslationUnit). FunctionsRead AreReadAsserts q.funcs) (typed_unit p) q
-    (gives_one SoFar (λ (q : TranslationUnit). FunctionsRead AreReadAsserts q.funcs) (typed_items_of_file p (at_start p) (items_of_file p)) (λ r. Good (with_progress p r))
-    (items_kept p (at_start p) (items_of_file p) (subst (FunctionsRead AreReadAsserts) (sym t.order.functions) t.functions) tt) (λ r h. h)) is
+pub forms_kept : (p q : TranslationUnit) → ReadTree p → typed_unit p ≡ Good q → FunctionsRead AreReadAsserts AreReadLoopClauses q.funcs
+forms_kept p q t is = gives_of (λ (q : TranslationUnit). FunctionsRead AreReadAsserts AreReadLoopClauses q.funcs) (typed_unit p) q
+    (gives_one SoFar (λ (q : TranslationUnit). FunctionsRead AreReadAsserts AreReadLoopClauses q.funcs) (typed_items_of_file p (at_start p) (items_of_file p)) (λ r. Good (with_progress p r))
+    (items_kept p (at_start p) (items_of_file p) (subst (FunctionsRead AreReadAsserts AreReadLoopClauses) (sym t.order.functions) t.functions) tt) (λ r h. h)) is

@@ -16,7 +16,7 @@ use Rattle.c_model.specs.StatementTyping.{Around, in_loop, in_switch, behind, be
 use Rattle.c_model.specs.StatementTyping.{case_number, case_value, controlling, typed_cases}
 use Rattle.c_model.specs.UnitTyping.{with_function, with_parameters, function_name, typed_parameters, typed_heading, typed_body, typed_parts, typed_function}
 use Rattle.c_model.specs.TypedTrees.{IsResult}
-use Rattle.c_model.specs.Formed.{AreReadAsserts, depth, depth_of_cases, depth_of_else, depth_of_item, depth_of_items}
+use Rattle.c_model.specs.Formed.{AreReadLoopClauses, AreReadAsserts, depth, depth_of_cases, depth_of_else, depth_of_item, depth_of_items}
 use Rattle.c_model.specs.EffectPlaces.{IsNoDeclaration, DeclareNothing, FirstPlaced, StatementPlaced, CasesPlaced, ElsePlaced, ItemPlaced, ItemsPlaced}
 use Rattle.c_model.specs.ReadTree.{BodyRead, FunctionRead}
 use Rattle.c_model.proofs.LabelledFunctions.{gives_function}
@@ -29,30 +29,30 @@ use Rattle.c_model.proofs.TypedFunctions.{result_is}
 
 -- b has the form of a
 record IsKept (a b : Statement) : Type 0 where
-  placed : StatementPlaced AreReadAsserts b
+  placed : StatementPlaced AreReadAsserts AreReadLoopClauses b
   deep : depth b ≡ depth a
 
 record AreCasesKept (a b : Cases) : Type 0 where
-  placed : CasesPlaced AreReadAsserts b
+  placed : CasesPlaced AreReadAsserts AreReadLoopClauses b
   deep : depth_of_cases b ≡ depth_of_cases a
 
 record IsElseKept (a b : ElsePart) : Type 0 where
-  placed : ElsePlaced AreReadAsserts b
+  placed : ElsePlaced AreReadAsserts AreReadLoopClauses b
   deep : depth_of_else b ≡ depth_of_else a
 
 record IsItemKept (a b : BlockItem) : Type 0 where
-  placed : ItemPlaced AreReadAsserts b
+  placed : ItemPlaced AreReadAsserts AreReadLoopClauses b
   deep : depth_of_item b ≡ depth_of_item a
   none : IsNoDeclaration a → IsNoDeclaration b
 
 record AreKept (a b : BlockItems) : Type 0 where
-  placed : ItemsPlaced AreReadAsserts b
+  placed : ItemsPlaced AreReadAsserts AreReadLoopClauses b
   deep : depth_of_items b ≡ depth_of_items a
   none : DeclareNothing a → DeclareNothing b
 
-returned_kept : (s : Sight) (at : Place) (t : PlainType) (o : Option Expression) → Gives (λ a. StatementPlaced AreReadAsserts a × (depth a ≡ 1)) (returned s at t o)
-returned_kept s at t None = gives_where (λ a. StatementPlaced AreReadAsserts a × (depth a ≡ 1)) (is_void t) _ _ (λ e. (tt, refl))
-returned_kept s at t (Some e) = gives_where (λ a. StatementPlaced AreReadAsserts a × (depth a ≡ 1)) (not (is_void t) && is_assigned s e t) _ _ (λ c. (tt, refl))
+returned_kept : (s : Sight) (at : Place) (t : PlainType) (o : Option Expression) → Gives (λ a. StatementPlaced AreReadAsserts AreReadLoopClauses a × (depth a ≡ 1)) (returned s at t o)
+returned_kept s at t None = gives_where (λ a. StatementPlaced AreReadAsserts AreReadLoopClauses a × (depth a ≡ 1)) (is_void t) _ _ (λ e. (tt, refl))
+returned_kept s at t (Some e) = gives_where (λ a. StatementPlaced AreReadAsserts AreReadLoopClauses a × (depth a ≡ 1)) (not (is_void t) && is_assigned s e t) _ _ (λ c. (tt, refl))
 
 first_kept : (s : Sight) (r : Around) (first : ForFirst) → FirstPlaced first → Gives FirstPlaced (typed_first s r first)
 first_kept s r NoFirst p = tt
@@ -69,7 +69,7 @@ first_kept s r (First (Specify at t)) p =
 first_kept s r _ p = absurd p
 
 mutual
-  statement_kept : (s : Sight) (r : Around) (a : Statement) → StatementPlaced AreReadAsserts a → Gives (IsKept a) (typed_statement s r a)
+  statement_kept : (s : Sight) (r : Around) (a : Statement) → StatementPlaced AreReadAsserts AreReadLoopClauses a → Gives (IsKept a) (typed_statement s r a)
   statement_kept s r (Empty at) p = record { placed = tt; deep = refl }
   statement_kept s r (Eval at e) p = gives_one (λ x. Unit {0}) (IsKept (Eval at e)) (typed s e) (λ e. Good (Eval at e)) (anything (typed s e)) (λ x u. record { placed = tt; deep = refl })
   statement_kept s r (Block at items) p =
@@ -111,11 +111,11 @@ mutual
       gives_one (λ x. Unit {0}) (IsKept (Return at e)) (typed_maybe (λ e. decayed_of (typed s e)) e) (returned s at r.result)
       (anything (typed_maybe (λ e. decayed_of (typed s e)) e)) (λ o f. by (returned s at r.result o) (returned_kept s at r.result o))
     where
-      by : (c : Checked Statement) → Gives (λ a. StatementPlaced AreReadAsserts a × (depth a ≡ 1)) c → Gives (IsKept (Return at e)) c
+      by : (c : Checked Statement) → Gives (λ a. StatementPlaced AreReadAsserts AreReadLoopClauses a × (depth a ≡ 1)) c → Gives (IsKept (Return at e)) c
       by (Good a) k = record { placed = k.0; deep = k.1 }
       by (Bad f fs) k = tt
 
-  cases_kept : (s : Sight) (r : Around) (k : CInt) (used : List ℤ) (has_default : Bool) (cases : Cases) → CasesPlaced AreReadAsserts cases → Gives (AreCasesKept cases) (typed_cases s r k used has_default cases)
+  cases_kept : (s : Sight) (r : Around) (k : CInt) (used : List ℤ) (has_default : Bool) (cases : Cases) → CasesPlaced AreReadAsserts AreReadLoopClauses cases → Gives (AreCasesKept cases) (typed_cases s r k used has_default cases)
   cases_kept s r k used has_default NoCase p = record { placed = tt; deep = refl }
   cases_kept s r k used has_default (AnotherCase at None items rest) p =
       gives_where (AreCasesKept (AnotherCase at None items rest)) (not has_default) _ _ (λ h.
@@ -131,17 +131,17 @@ mutual
       (cases_kept s r k (z ∷ used) has_default rest p.2) (λ y g.
       record { placed = (f.none p.0, f.placed, g.placed); deep = λ i. max (f.deep i) (g.deep i) })))
 
-  else_kept : (s : Sight) (r : Around) (b : ElsePart) → ElsePlaced AreReadAsserts b → Gives (IsElseKept b) (typed_else s r b)
+  else_kept : (s : Sight) (r : Around) (b : ElsePart) → ElsePlaced AreReadAsserts AreReadLoopClauses b → Gives (IsElseKept b) (typed_else s r b)
   else_kept s r NoElse p = record { placed = tt; deep = refl }
   else_kept s r (Else a) p = gives_one (IsKept a) (IsElseKept (Else a)) (typed_statement s r a) (λ a. Good (Else a)) (statement_kept s r a p) (λ x k. record { placed = k.placed; deep = k.deep })
 
-  item_kept : (s : Sight) (r : Around) (i : BlockItem) → ItemPlaced AreReadAsserts i → Gives (IsItemKept i) (typed_item s r i)
+  item_kept : (s : Sight) (r : Around) (i : BlockItem) → ItemPlaced AreReadAsserts AreReadLoopClauses i → Gives (IsItemKept i) (typed_item s r i)
   item_kept s r (Declare ds) p = gives_one (λ xs. Unit {0}) (IsItemKept (Declare ds)) (typed_declarations s ds) (λ ds. Good (Declare ds)) (anything (typed_declarations s ds)) (λ xs u. record { placed = tt; deep = refl; none = λ h. h })
   item_kept s r (Specify at t) p = gives_one (λ u. Unit {0}) (IsItemKept (Specify at t)) (typed_type s at t) (λ u. Good (Specify at u)) (anything (typed_type s at t)) (λ u v. record { placed = tt; deep = refl; none = λ h. h })
   item_kept s r (Run a) p = gives_one (IsKept a) (IsItemKept (Run a)) (typed_statement s r a) (λ a. Good (Run a)) (statement_kept s r a p) (λ x k. record { placed = k.placed; deep = k.deep; none = λ h. h })
   item_kept s r (Asserts annots) p = record { placed = p; deep = refl; none = λ h. h }
 
-  items_kept : (s : Sight) (r : Around) (is : BlockItems) → ItemsPlaced AreReadAsserts is → Gives (AreKept is) (typed_items s r is)
+  items_kept : (s : Sight) (r : Around) (is : BlockItems) → ItemsPlaced AreReadAsserts AreReadLoopClauses is → Gives (AreKept is) (typed_items s r is)
   items_kept s r NoItem p = record { placed = tt; deep = refl; none = λ h. h }
   items_kept s r (Then i rest) p =
       gives_one (IsItemKept i) (AreKept (Then i rest)) (typed_item s r i) (λ i. one_part (typed_items (behind s i) r rest) (λ rest. Good (Then i rest))) (item_kept s r i p.0) (λ x f.
@@ -150,10 +150,10 @@ mutual
 
 -- ---- functions
 
-body_kept : (s : Sight) (t : PlainType) (b : Option Statement) → BodyRead AreReadAsserts b → Gives (BodyRead AreReadAsserts) (typed_body s t b)
+body_kept : (s : Sight) (t : PlainType) (b : Option Statement) → BodyRead AreReadAsserts AreReadLoopClauses b → Gives (BodyRead AreReadAsserts AreReadLoopClauses) (typed_body s t b)
 body_kept s t None p = tt
 body_kept s t (Some (Block at items)) p =
-    gives_one (AreKept items) (BodyRead AreReadAsserts) (typed_items s (record { result = t; breaks = false; loops = false }) items) (λ items. Good (Some (Block at items)))
+    gives_one (AreKept items) (BodyRead AreReadAsserts AreReadLoopClauses) (typed_items s (record { result = t; breaks = false; loops = false }) items) (λ items. Good (Some (Block at items)))
     (items_kept s (record { result = t; breaks = false; loops = false }) items p.0)
     (λ x k. (k.placed, subst (λ n. 1 + n ≤ suc most_nested) (sym k.deep) p.1))
 body_kept s t (Some _) p = absurd p
@@ -167,14 +167,14 @@ heading_kept s before f =
     gives_heading (λ n. Unit {0}) IsResult (λ ds. Unit {0}) (IsHeading f) s before f (anything (function_name s f)) (result_is s (is_definition f) f.place f.result)
     (anything (typed_parameters (inner s) (is_definition f) f.params)) (λ n t ds u i v. record { result = i; body = refl })
 
-parts_kept : (p : TranslationUnit) (s : Sight) (before : List Function) (f : Function) → FunctionRead AreReadAsserts f → Gives (FunctionRead AreReadAsserts) (typed_parts p s before f)
+parts_kept : (p : TranslationUnit) (s : Sight) (before : List Function) (f : Function) → FunctionRead AreReadAsserts AreReadLoopClauses f → Gives (FunctionRead AreReadAsserts AreReadLoopClauses) (typed_parts p s before f)
 parts_kept p s before f q =
-    gives_one (IsHeading f) (FunctionRead AreReadAsserts) (typed_heading s before f)
+    gives_one (IsHeading f) (FunctionRead AreReadAsserts AreReadLoopClauses) (typed_heading s before f)
     (λ f. one_part (typed_body (with_parameters (inner (with_function p s f)) f.params) f.result f.body) (λ b. Good (record f { body = b }))) (heading_kept s before f) (λ g k.
     let inside = with_parameters (inner (with_function p s g)) g.params in
-    gives_one (BodyRead AreReadAsserts) (FunctionRead AreReadAsserts) (typed_body inside g.result g.body) (λ b. Good (record g { body = b }))
-    (body_kept inside g.result g.body (subst (BodyRead AreReadAsserts) (sym k.body) q.body))
+    gives_one (BodyRead AreReadAsserts AreReadLoopClauses) (FunctionRead AreReadAsserts AreReadLoopClauses) (typed_body inside g.result g.body) (λ b. Good (record g { body = b }))
+    (body_kept inside g.result g.body (subst (BodyRead AreReadAsserts AreReadLoopClauses) (sym k.body) q.body))
     (λ b r. record { body = r }))
 
-pub function_kept : (p : TranslationUnit) (s : Sight) (before : List Function) (f : Function) → FunctionRead AreReadAsserts f → Gives (FunctionRead AreReadAsserts) (typed_function p s before f)
-function_kept p s before f q = gives_function (FunctionRead AreReadAsserts) p s before f (parts_kept p s before f q)
+pub function_kept : (p : TranslationUnit) (s : Sight) (before : List Function) (f : Function) → FunctionRead AreReadAsserts AreReadLoopClauses f → Gives (FunctionRead AreReadAsserts AreReadLoopClauses) (typed_function p s before f)
+function_kept p s before f q = gives_function (FunctionRead AreReadAsserts AreReadLoopClauses) p s before f (parts_kept p s before f q)

@@ -46,6 +46,7 @@ pub mod TypedLabels
 pub mod TypedFunctions
 pub mod NotedWider
 pub mod NotedTrees
+pub mod SortedTrees
 pub mod PredicateTrees
 pub mod ReadStatements
 pub mod TypedUnits
@@ -59,6 +60,7 @@ pub mod ResolvedCalls
 pub mod NotedFiles
 pub mod OperandParentheses
 pub mod LabelledFunctions
+pub mod NotedSorts
 pub mod NotedTerms
 pub mod NotedContracts
 pub mod ContractsStand
@@ -73,6 +75,7 @@ pub mod KeptForms
 pub mod StableConstants
 pub mod StableTrees
 pub mod StableStatements
+pub mod GuardTrees
 pub mod GrownStructs
 pub mod RangedTrees
 pub mod UnrangedTerms
@@ -134,6 +137,7 @@ pub mod COnlyPieces
 pub mod CRefusalLaws
 pub mod CNameLaws
 pub mod CListLaws
+pub mod PlacedSorts
 pub mod PlacedTerms
 pub mod PlacedFunctions
 pub mod UnrangedPlaces

@@ -15,7 +15,7 @@ use Rattle.c_model.specs.Meaning.{global_scope, call_of, has_name, function_name
 use Rattle.c_model.specs.ExpressionTyping.{Sight, Signature, name_at, or_else, function_called, library_function, same_type, inner}
 use Rattle.c_model.specs.UnitTyping.{with_parameters, main_fault, no_main, has_no_parameters}
 use Rattle.c_model.specs.TypedTrees.{Calls, around_body}
-use Rattle.c_model.specs.Formed.{AreAsserts}
+use Rattle.c_model.specs.Formed.{AreLoopClauses, AreAsserts}
 use Rattle.c_model.specs.ReadTree.{FunctionRead, FunctionsRead}
 use Rattle.c_model.specs.AcceptedPrograms.{IsProgram}
 use Rattle.c_model.specs.Laws.{EndsProperly, NeverStuck}
@@ -63,7 +63,7 @@ record IsPlaced (p : TranslationUnit) (f : Function) : Type 0 where
   before : List Function
   after : List Function
   is : before ++ (f ∷ after) ≡ p.funcs
-  read : FunctionRead AreAsserts f
+  read : FunctionRead AreAsserts AreLoopClauses f
   definition : is_definition f ≡ true
 
 -- the first definition of which something is true
@@ -72,7 +72,7 @@ first_where test [] = None
 first_where test (f ∷ fs) = if is_definition f && test f then Some f else first_where test fs
 
 module _ (p : TranslationUnit) where
-  placed_behind : (test : Function → Bool) (before fs : List Function) → before ++ fs ≡ p.funcs → FunctionsRead AreAsserts fs → (f : Function) → first_where test fs ≡ Some f → IsPlaced p f
+  placed_behind : (test : Function → Bool) (before fs : List Function) → before ++ fs ≡ p.funcs → FunctionsRead AreAsserts AreLoopClauses fs → (f : Function) → first_where test fs ≡ Some f → IsPlaced p f
   placed_behind test before [] is read f e = absurd cc
   placed_behind test before (g ∷ fs) is read f e =
       by (λ h. placed_behind test (before ++ g ∷ []) fs (append_assoc before (g ∷ []) fs ∙ is) read.1 f h) (is_definition g && test g) refl e

@@ -17,7 +17,7 @@ use Rattle.c_model.specs.ExpressionTyping.{Sight, inner, with_object, with_objec
 use Rattle.c_model.specs.StatementTyping.{Around, in_loop, in_switch, behind, behind_first}
 use Rattle.c_model.specs.UnitTyping.{with_parameter, with_parameters}
 use Rattle.c_model.specs.TypedTrees.{AreParameters, StatementTyped, ElseTyped, FirstTyped, ItemTyped, ItemsTyped, CasesTyped, around_body, BodyTyped}
-use Rattle.c_model.specs.Formed.{AreAsserts}
+use Rattle.c_model.specs.Formed.{AreLoopClauses, AreAsserts}
 use Rattle.c_model.specs.ReadTree.{BodyRead}
 use Rattle.c_model.proofs.NeverStuckRuns.{Anything, NoJump, IsValueOf, EndsWell, Gives, gives_bind, gives_then, gives_give, gives_over, gives_jump, gives_birth, gives_births}
 use Rattle.c_model.specs.Predicates.{variant}
@@ -112,7 +112,7 @@ module _ (p : TranslationUnit) (T : Tables) (structs : T.structs ≡ p.structs) 
     gives_items s see r (Then i rest) n w = gives_then _ _ (gives_item s see r i n w.0) (gives_items (behind s i) (sees_behind p i s see) r rest n w.1)
 
   -- the body of a definition
-  pub gives_body : (s : Sight) → Sees p s → (t : PlainType) (body : Option Statement) (n : ℕ) → BodyRead AreAsserts body → BodyTyped s t body → is_there body ≡ true → Gives Anything (Allowed (around_body t)) (body_with T body call n)
+  pub gives_body : (s : Sight) → Sees p s → (t : PlainType) (body : Option Statement) (n : ℕ) → BodyRead AreAsserts AreLoopClauses body → BodyTyped s t body → is_there body ≡ true → Gives Anything (Allowed (around_body t)) (body_with T body call n)
   gives_body s see t None n formed typed there = absurd cc
   gives_body s see t (Some (Block at items)) n formed typed there =
       gives_within _ (gives_then _ _ (gives_births T.structs (declared_in items)) (gives_items s see (around_body t) items n typed))

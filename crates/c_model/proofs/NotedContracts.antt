@@ -43,7 +43,8 @@ module _ (seen : Kind → AnnotationSight) (sees : (k : Kind) → SeesAll (seen 
   clauses_formed : (IsKind : Kind → Type 0) (xs : List Annotation) → AreClausesOf IsKind IsShortReading xs → Gives (AreClausesOf IsKind IsShortClause) (typed_clauses seen xs)
   clauses_formed IsKind [] h = tt
   clauses_formed IsKind (a ∷ rest) h =
-      gives_one IsShortClause (AreClausesOf IsKind IsShortClause) (typed_clause (seen a.kind) a.body) (λ b. one_part (typed_clauses seen rest) (λ rest. Good (record a { body = b } ∷ rest))) (clause_kept (seen a.kind) (sees a.kind) a.body h.0.body)
+      gives_one IsShortClause (AreClausesOf IsKind IsShortClause) (typed_clause (seen a.kind) a.kind a.body) (λ b. one_part (typed_clauses seen rest) (λ rest. Good (record a { body = b } ∷ rest)))
+      (clause_kept (seen a.kind) (sees a.kind) a.kind a.body h.0.body)
       (λ b v.
       gives_one (AreClausesOf IsKind IsShortClause) (AreClausesOf IsKind IsShortClause) (typed_clauses seen rest) (λ rest. Good (record a { body = b } ∷ rest)) (clauses_formed IsKind rest h.1) (λ more w.
       (record { kind = h.0.kind; body = v }, w)))

@@ -3,7 +3,7 @@ use Rattle.c_model.specs.AnnotationTyping.{noted_cases}
 use Rattle.c_model.specs.AnnotationSights.{AnnotationSight, marked}
 use Rattle.c_model.specs.AnnotationTyping.{inside_block, inside_for, with_label, behind_labels, labels_behind, behind_noted, behind_case, in_body}
 use Rattle.c_model.specs.FullExpressions.{EachInCases}
-use Rattle.c_model.specs.Formed.{depth_of_cases, declared_in_cases}
+use Rattle.c_model.specs.Formed.{AreLoopClauses, AreReadLoopClauses, depth_of_cases, declared_in_cases}
 use Rattle.std.proofs.Common.{◌≡◌, ℕ, suc, ◌+◌, ◌≤◌, max, Bool, true, false, cond, nat_eq, List, [], ◌∷◌, ◌++◌, Option, Some, None, refl, sym, ap, subst}
 use Rattle.c_syntax.specs.Expressions.{Expression}
 use Rattle.c_syntax.specs.Statements.{Declaration, Statement, Empty, Eval, Block, If, While, Do, For, Break, Continue, Return, Labelled, ElsePart, NoElse}
@@ -117,33 +117,33 @@ module _ (P : Expression → Type 0) where
     deep : depth b ≡ depth a
     declares : declared_within b ≡ declared_within a
     each : EachIn P a → EachIn P b
-    placed : SeesAll s → StatementPlaced AreReadAsserts a → StatementPlaced AreAsserts b
+    placed : SeesAll s → StatementPlaced AreReadAsserts AreReadLoopClauses a → StatementPlaced AreAsserts AreLoopClauses b
 
   record IsElseKept (s : AnnotationSight) (a b : ElsePart) : Type 0 where
     deep : depth_of_else b ≡ depth_of_else a
     declares : declared_in_else b ≡ declared_in_else a
     each : EachInElse P a → EachInElse P b
-    placed : SeesAll s → ElsePlaced AreReadAsserts a → ElsePlaced AreAsserts b
+    placed : SeesAll s → ElsePlaced AreReadAsserts AreReadLoopClauses a → ElsePlaced AreAsserts AreLoopClauses b
 
   record IsItemKept (s : AnnotationSight) (a b : BlockItem) : Type 0 where
     deep : depth_of_item b ≡ depth_of_item a
     declares : declared_in_item b ≡ declared_in_item a
     each : EachInItem P a → EachInItem P b
-    placed : SeesAll s → ItemPlaced AreReadAsserts a → ItemPlaced AreAsserts b
+    placed : SeesAll s → ItemPlaced AreReadAsserts AreReadLoopClauses a → ItemPlaced AreAsserts AreLoopClauses b
     none : IsNoDeclaration a → IsNoDeclaration b
 
   record AreKept (s : AnnotationSight) (a b : BlockItems) : Type 0 where
     deep : depth_of_items b ≡ depth_of_items a
     declares : declared_in_items b ≡ declared_in_items a
     each : EachInItems P a → EachInItems P b
-    placed : SeesAll s → ItemsPlaced AreReadAsserts a → ItemsPlaced AreAsserts b
+    placed : SeesAll s → ItemsPlaced AreReadAsserts AreReadLoopClauses a → ItemsPlaced AreAsserts AreLoopClauses b
     none : DeclareNothing a → DeclareNothing b
 
   record AreCasesKept (s : AnnotationSight) (a b : Cases) : Type 0 where
     deep : depth_of_cases b ≡ depth_of_cases a
     declares : declared_in_cases b ≡ declared_in_cases a
     each : EachInCases P a → EachInCases P b
-    placed : SeesAll s → CasesPlaced AreReadAsserts a → CasesPlaced AreAsserts b
+    placed : SeesAll s → CasesPlaced AreReadAsserts AreReadLoopClauses a → CasesPlaced AreAsserts AreLoopClauses b
 
   mutual
     statement_kept : (s : AnnotationSight) (a : Statement) → Gives (IsKept s a) (noted_statement s a)
@@ -165,19 +165,19 @@ module _ (P : Expression → Type 0) where
           deep = ap (λ k. 1 + k) p.deep;
           declares = p.declares;
           each = λ h. (h.0, p.each h.1);
-          placed = λ k h. (n.none h.0, p.placed k h.1);
+          placed = λ k h. (n.loops k h.0, p.placed k h.1);
         }))
     statement_kept s (Do at a e) = gives_one (IsKept s a) (IsKept s (Do at a e)) (noted_statement s a) (λ x. Good (Do at x e)) (statement_kept s a)
         (λ x p. record { deep = ap (λ n. 1 + n) p.deep; declares = p.declares; each = λ h. (p.each h.0, h.1); placed = p.placed })
     statement_kept s (For at annots first e step a) =
-        gives_one (AreSameNotes s annots) (IsKept s (For at annots first e step a)) (typed_annotations s annots)
-        (λ xs. one_part (noted_statement (inside_for s first) a) (λ x. Good (For at xs first e step x))) (annotations_kept s annots) (λ xs n.
+        gives_one (AreSameNotes (inside_for s first) annots) (IsKept s (For at annots first e step a)) (typed_annotations (inside_for s first) annots)
+        (λ xs. one_part (noted_statement (inside_for s first) a) (λ x. Good (For at xs first e step x))) (annotations_kept (inside_for s first) annots) (λ xs n.
         gives_one (IsKept (inside_for s first) a) (IsKept s (For at annots first e step a)) (noted_statement (inside_for s first) a) (λ x. Good (For at xs first e step x))
         (statement_kept (inside_for s first) a) (λ x p. record {
           deep = ap (λ k. 1 + k) p.deep;
           declares = ap (λ ds. declared_in_first first ++ ds) p.declares;
           each = λ h. (h.0, h.1, h.2, p.each h.3);
-          placed = λ k h. (n.none h.0, h.1, p.placed (values_inside_for s first k) h.2);
+          placed = λ k h. (n.loops (values_inside_for s first k) h.0, h.1, p.placed (values_inside_for s first k) h.2);
         }))
     statement_kept s (Break at) = record { deep = refl; declares = refl; each = λ h. h; placed = λ k h. h }
     statement_kept s (Continue at) = record { deep = refl; declares = refl; each = λ h. h; placed = λ k h. h }
@@ -228,7 +228,7 @@ module _ (P : Expression → Type 0) where
   pub record IsBodyKept (s : AnnotationSight) (a b : Option Statement) : Type 0 where
     pub declares : declared_in_body b ≡ declared_in_body a
     pub each : EachInBody P a → EachInBody P b
-    pub read : SeesAll s → BodyRead AreReadAsserts a → BodyRead AreAsserts b
+    pub read : SeesAll s → BodyRead AreReadAsserts AreReadLoopClauses a → BodyRead AreAsserts AreLoopClauses b
 
   pub body_kept : (s : AnnotationSight) (b : Option Statement) → Gives (IsBodyKept s b) (noted_body s b)
   body_kept s None = record { declares = refl; each = λ h. h; read = λ k h. h }

@@ -18,7 +18,7 @@ use Rattle.c_model.specs.TypedTrees.{FunctionTyped}
 use Rattle.c_model.specs.TypedPrograms.{ItemsTyped, ProgramTyped}
 use Rattle.c_model.specs.TypedAnnotations.{FunctionNoted, ContractsNoted}
 use Rattle.c_model.specs.FormedContracts.{ContractsFormed}
-use Rattle.c_model.specs.Formed.{IsShortReading, IsShortClause, AreAsserts, AreReadAsserts, IsName, number_of, numbers_of, declared_in_body, AreNamed, AreNamedParameters, FunctionNamed, FunctionsNamed}
+use Rattle.c_model.specs.Formed.{AreLoopClauses, AreReadLoopClauses, IsShortReading, IsShortClause, AreAsserts, AreReadAsserts, IsName, number_of, numbers_of, declared_in_body, AreNamed, AreNamedParameters, FunctionNamed, FunctionsNamed}
 use Rattle.c_model.specs.FullExpressions.{EachInFunctions}
 use Rattle.c_model.specs.TextOrder.{Between, numbers_of_item, numbers_of_items, globals_among, functions_among}
 use Rattle.c_model.specs.ReadTree.{FunctionRead, FunctionsRead}
@@ -141,7 +141,7 @@ module _ (P : Expression → Type 0) where
     same_behind : (s : Sight) (f g : Function) → HasOtherBody f g → with_function noted s g ≡ with_function q s f
     same_behind s f g h = ap (λ x. record s { functions = s.functions ++ x ∷ [] }) (same_signature_of q.funcs fs f g a h)
 
-    asserts_typed : (s : Sight) (is : List FileItem) (gs : List Function) → AreKept q s is gs → FunctionsRead AreReadAsserts (functions_among is) → FileNoted noted s (with_functions is gs)
+    asserts_typed : (s : Sight) (is : List FileItem) (gs : List Function) → AreKept q s is gs → FunctionsRead AreReadAsserts AreReadLoopClauses (functions_among is) → FileNoted noted s (with_functions is gs)
     asserts_typed s [] gs h r = tt
     asserts_typed s (AFunction f ∷ is) [] h r = absurd h
     asserts_typed s (AFunction f ∷ is) (g ∷ gs) h r =
@@ -191,18 +191,19 @@ module _ (P : Expression → Type 0) where
     body = subst (AreNamed names) (sym h.body.declares) n.body;
   }
 
-  function_read : (p : TranslationUnit) (s : Sight) (f g : Function) → SeesValues s → IsFunctionKept (with_function p s f) f g → FunctionRead AreReadAsserts f → FunctionRead AreAsserts g
+  function_read : (p : TranslationUnit) (s : Sight) (f g : Function) → SeesValues s → IsFunctionKept (with_function p s f) f g → FunctionRead AreReadAsserts AreReadLoopClauses f → FunctionRead AreAsserts AreLoopClauses g
   function_read p s f g k h r = record {
     body = h.body.read (values_in_body (with_parameters (inner (known_at f.place (with_function p s f))) f.params) (after_parameters (inner (known_at f.place (with_function p s f))) f.params k)) r.body;
   }
 
   -- of functions that are named, read, their annotations being so, and of which each full expression is P
-  record AreForms (AreSo : List Annotation → Type 0) (names : List (List ℕ)) (fs : List Function) : Type 0 where
+  record AreForms (AreSo AreLoops : List Annotation → Type 0) (names : List (List ℕ)) (fs : List Function) : Type 0 where
     named : FunctionsNamed names fs
-    read : FunctionsRead AreSo fs
+    read : FunctionsRead AreSo AreLoops fs
     each : EachInFunctions P fs
 
-  forms_kept : (names : List (List ℕ)) (p : TranslationUnit) (s : Sight) (is : List FileItem) (gs : List Function) → AreKept p s is gs → FileSeesValues p s is → AreForms AreReadAsserts names (functions_among is) → AreForms AreAsserts names gs
+  forms_kept : (names : List (List ℕ)) (p : TranslationUnit) (s : Sight) (is : List FileItem) (gs : List Function) → AreKept p s is gs → FileSeesValues p s is → AreForms AreReadAsserts AreReadLoopClauses names (functions_among is)
+      → AreForms AreAsserts AreLoopClauses names gs
   forms_kept names p s [] [] h k r = record { named = tt; read = tt; each = tt }
   forms_kept names p s [] (g ∷ gs) h k r = absurd h
   forms_kept names p s (AFunction f ∷ is) [] h k r = absurd h
@@ -280,7 +281,7 @@ pub record IsTypedFile (P : Expression → Type 0) (q : TranslationUnit) : Type 
   pub functions : functions_among (items_of_file q) ≡ q.funcs
   pub numbered : Between 0 (numbers_of_items (items_of_file q)) 4294967295
   pub named : FunctionsNamed q.names q.funcs
-  pub effects : FunctionsRead AreReadAsserts q.funcs
+  pub effects : FunctionsRead AreReadAsserts AreReadLoopClauses q.funcs
   pub contracts : ContractsFormed IsShortReading q.funcs
   pub each : EachInFunctions P q.funcs
   pub few : length q.funcs < 2 ^ 32
@@ -296,7 +297,7 @@ pub record IsNotedFile (P : Expression → Type 0) (q r : TranslationUnit) : Typ
   pub functions : functions_among (items_of_file r) ≡ r.funcs
   pub numbered : Between 0 (numbers_of_items (items_of_file r)) 4294967295
   pub named : FunctionsNamed r.names r.funcs
-  pub effects : FunctionsRead AreAsserts r.funcs
+  pub effects : FunctionsRead AreAsserts AreLoopClauses r.funcs
   pub contracts : ContractsFormed IsShortClause r.funcs
   pub each : EachInFunctions P r.funcs
   pub few : length r.funcs < 2 ^ 32
@@ -308,7 +309,7 @@ module _ (P : Expression → Type 0) (q : TranslationUnit) (t : IsTypedFile P q)
     is = refl;
     typed = whole;
     contracts_noted = stand;
-    noted = subst (FileNoted r sight) (sym items) (asserts_typed P q fs bodies sight (items_of_file q) fs h (subst (FunctionsRead AreReadAsserts) (sym t.functions) t.effects));
+    noted = subst (FileNoted r sight) (sym items) (asserts_typed P q fs bodies sight (items_of_file q) fs h (subst (FunctionsRead AreReadAsserts AreReadLoopClauses) (sym t.functions) t.effects));
     resolved = file_resolved r whole (same_compatible [] [] q.funcs fs tt bodies t.compatible) numbers among;
     functions = among;
     numbered = numbers;
@@ -344,8 +345,8 @@ module _ (P : Expression → Type 0) (q : TranslationUnit) (t : IsTypedFile P q)
       numbers : Between 0 (numbers_of_items (items_of_file r)) 4294967295
       numbers = subst (λ ns. Between 0 ns 4294967295) (sym (ap numbers_of_items items ∙ items_numbers P q sight (items_of_file q) fs h)) t.numbered
 
-      forms : AreForms P AreAsserts q.names fs
-      forms = forms_kept P q.names q sight (items_of_file q) fs h t.values (subst (AreForms P AreReadAsserts q.names) (sym t.functions) (record { named = t.named; read = t.effects; each = t.each }))
+      forms : AreForms P AreAsserts AreLoopClauses q.names fs
+      forms = forms_kept P q.names q sight (items_of_file q) fs h t.values (subst (AreForms P AreReadAsserts AreReadLoopClauses q.names) (sym t.functions) (record { named = t.named; read = t.effects; each = t.each }))
 
 -- a typed file stays one when its annotations are typed
 pub noted_file : (P : Expression → Type 0) (q r : TranslationUnit) → noted_unit q ≡ Good r → IsTypedFile P q → IsNotedFile P q r

@@ -1,442 +1,43 @@
 -- What typing makes of annotations has no more tokens than they, and no number in them is below the least value of 64 bits.
-use Rattle.std.proofs.Common.{◌≡◌, ℕ, suc, ◌+◌, ◌-◌, ◌^◌, ◌≤◌, ◌<◌, ℤ, pos, negsuc, ◌≤ℤ◌, Bool, true, false, cond, not, if◌then◌else◌, leb, List, [], ◌∷◌, Option, Some, None, refl, subst, sym, arith}
-use Rattle.std.proofs.lemmas.Bool.{leb-true}
-use Rattle.std.proofs.lemmas.Bool.Decides.{nat_tests}
-use Rattle.std.proofs.lemmas.Int.{ints}
-use Rattle.std.specs.Prelude.{bytes_eq, nat_le, option_map}
-use Rattle.std.specs.List.{AllByRecursion}
+use Rattle.std.proofs.Common.{◌≡◌, ℕ, suc, ◌+◌, ◌≤◌, List, [], ◌∷◌, Option, Some, None, refl, subst, sym, arith, ◌++◌, length, ◌⊎◌, inl, inr}
+use Rattle.std.specs.Prelude.{option_map, ◌*◌}
+use Rattle.c_syntax.specs.declared.annotation.Kind.{Kind}
+use Rattle.c_syntax.specs.declared.annotation.Kind.TheVariants.{Assert, Requires, Assumes, Ensures, Complete, Disjoint, Invariant, Variant, Rte}
+use Rattle.c_syntax.specs.declared.annotation.Relation.{Relation}
 use Rattle.c_syntax.specs.declared.place.Place.{Place}
-use Rattle.c_syntax.specs.declared.types.CInt.{CInt}
-use Rattle.c_syntax.specs.declared.types.CInt.TheVariants.{I32}
-use Rattle.c_syntax.specs.declared.expression.UnOp.{UnOp}
-use Rattle.c_syntax.specs.declared.expression.UnOp.TheVariants as unary
 use Rattle.c_syntax.specs.declared.expression.BinOp.{BinOp}
-use Rattle.c_syntax.specs.declared.expression.BinOp.TheVariants as operator
 use Rattle.c_syntax.specs.declared.logic.Connective.{Connective}
+use Rattle.c_syntax.specs.declared.logic.Connective.TheVariants.{And, Xor, Or, Implies, Iff}
+use Rattle.c_syntax.specs.declared.logic.Quantifier.{Quantifier}
+use Rattle.c_syntax.specs.declared.logic.Quantifier.TheVariants.{ForAll, Exists}
 use Rattle.c_syntax.specs.declared.logic.Label.{Label}
 use Rattle.c_syntax.specs.declared.logic.Label.TheVariants as label
 use Rattle.c_syntax.specs.declared.logic.MemoryQuestion.{MemoryQuestion}
-use Rattle.c_syntax.specs.declared.logic.MemoryQuestion.TheVariants.{Valid, ValidRead, Initialized}
-use Rattle.c_syntax.specs.Ctypes.{PlainType}
+use Rattle.c_syntax.specs.declared.logic.MemoryQuestion.TheVariants.{ValidRead}
 use Rattle.c_syntax.specs.Formulas as read
 use Rattle.c_syntax.specs.Formulas.{CastType, Integers, OfC, Form, FormLinks, FormZone, FormZones}
-use Rattle.c_syntax.specs.Layouts.{member_among, members_of}
-use Rattle.c_syntax.specs.Logic.{LogicTerm, Deref, Links, NoLink, Linked, Predicate, Zone, Zones, Another, ClauseBody, Raw, Holds, Value, Annotation, Behaviors}
-use Rattle.c_model.specs.Integers.{fits, integer_type}
-use Rattle.c_model.specs.Checked.{Checked, Good, Bad, faulty, given, one_part, pair_of}
-use Rattle.c_model.specs.Library.{Constants, constants, constant_in, library_constant}
-use Rattle.c_model.specs.ExpressionTyping as c
-use Rattle.c_model.specs.ExpressionTyping.{no_name, no_type, is_among, Entity, AnObject, AnEnumerator, Sight, name_at, entity_named, is_null_word, is_void, is_struct, is_scalar, most_bytes, too_large, typed_type, known_type}
-use Rattle.c_model.specs.PredicateTyping.{range_to_infer, place_of_term, Sorted, ATerm, APredicate, APlace, ValueSort, AnInteger, APointer, NoValue, type_of_term, sort_of_term, is_integer, pointee, as_value, value_in, as_term, as_integer, as_pointer}
-use Rattle.c_model.specs.PredicateTyping.{integer_holds, as_predicate, variable, formal_value, object_place, result_in, no_label, has_past, has_old, at_label, labelled, number, null, library_term, term_named, on_integer, on_integers, deref, address}
-use Rattle.c_model.specs.PredicateTyping.{address_at, member_at, member_of, dot, arrow, are_known, with_terms}
-use Rattle.c_model.specs.PredicateTyping.{sum_of, difference_of, element_of, index, unary_on, binary_on, cast_integer, cast_pointer, cast, size_in, connected, choice_target, pointer_choice, choice_of_terms, branch, choice_between}
-use Rattle.c_model.specs.PredicateTyping.{where_measured}
-use Rattle.c_model.specs.PredicateTyping.{chosen, Side, side_of, are_related, right_side, related, told, where_asked, object_zone, elements_zone, typed_form, typed_links, typed_zone, typed_zones, clause_holds, typed_clause, typed_annotations}
-use Rattle.c_model.specs.Formed.{tokens_of_term, tokens_of_links, tokens_of_predicate, tokens_of_zone, tokens_of_zones, IsLogicNumber, TermNumbered, LinksNumbered, PredicateNumbered, ZoneNumbered, ZonesNumbered, IsShortClause, AreAsserts}
-use Rattle.c_model.specs.Formed.{level_of, parentheses_around, operator_of_term, operator_of_form, tokens_of_form, tokens_of_form_links, tokens_of_form_zone, tokens_of_form_zones, FormNumbered, FormLinksNumbered, FormZoneNumbered, FormZonesNumbered}
+use Rattle.c_syntax.specs.Logic.{Quantified, LogicTerm, Linked, Predicate, Another, ClauseBody, Raw, Holds, Value, Annotation, Behaviors}
+use Rattle.c_model.specs.Checked.{Checked, Good, Bad, one_part, pair_of}
+use Rattle.c_model.specs.ExpressionTyping.{no_type, Sight, typed_type, known_type}
+use Rattle.c_model.specs.PredicateTyping.{place_of_term, Sorted, ATerm, APredicate, APlace, sort_of_term, is_integer, value_in, as_integer, as_pointer}
+use Rattle.c_model.specs.PredicateTyping.{as_predicate, no_label, has_old}
+use Rattle.c_model.specs.PredicateTyping.{dot, arrow}
+use Rattle.c_model.specs.PredicateTyping.{index, unary_on, binary_on, cast_integer, cast, size_in, connected}
+use Rattle.c_model.specs.PredicateTyping.{chosen, Side, side_of, right_side, related, told, object_zone, elements_zone, typed_form, typed_links, typed_zone, typed_zones, clause_holds, typed_clause, typed_annotations}
+use Rattle.c_model.specs.Formed.{tokens_of_guards, GuardsNumbered, IsShortPredicate, IsLoopKind, IsLoopClause, AreLoopClauses, AreReadLoopClauses, tokens_of_term, TermNumbered, IsShortClause, AreAsserts}
+use Rattle.c_model.specs.Formed.{operator_of_form, tokens_of_form, tokens_of_form_links, tokens_of_form_zone, tokens_of_form_zones, FormNumbered, FormLinksNumbered, FormZoneNumbered, FormZonesNumbered}
 use Rattle.c_model.specs.Formed.{IsShortReading, AreReadAsserts}
-use Rattle.c_model.specs.AnnotationSights.{ClauseSight, InBody, AtEntry, AtEnd, UnderLabel, AnnotationSight, formals_in, under_label, marked, beginning, sight_at, label_named, is_past}
+use Rattle.c_model.specs.AnnotationSights.{ClauseSight, InBody, AtEntry, AtEnd, UnderLabel, AnnotationSight, under_label, marked, beginning, sight_at, label_named}
 use Rattle.c_model.specs.FileItems.{SeesValues}
-use Rattle.c_model.proofs.TypedParts.{Gives, gives_one, gives_both, gives_given, gives_where, gives_sized, gives_if}
-use Rattle.c_model.proofs.PredicateTrees.{gives_measured, gives_pair, gives_limited, Any, anything}
-
--- ---- numbers that asserts may have
-
-natural : (n : ℕ) → IsLogicNumber (pos n)
-natural n = record { low = omega (arith, ints) }
-
-negatives_in_order : (n b : ℕ) → leb n b ≡ true → negsuc b ≤ℤ negsuc n
-negatives_in_order n b h = omega (arith, ints, leb-true n b h)
-
-negative : (n : ℕ) → leb n (2 ^ 63 - 1) ≡ true → IsLogicNumber (negsuc n)
-negative n h = record { low = negatives_in_order n (2 ^ 63 - 1) h }
-
--- a value of `int`
-value_is : (z : ℤ) → fits I32 z ≡ true → IsLogicNumber z
-value_is (pos n) e = natural n
-value_is (negsuc n) e = let h : n < 2 ^ 31 = grind (arith, nat_tests) in record { low = omega (arith, ints, h) }
-
--- the constants of the library
-constants_are : AllByRecursion (λ (x : List ℕ × (CInt × ℤ)). IsLogicNumber x.1.1) constants
-constants_are = (
-  negative 0 refl,
-  (
-    natural 0,
-    (
-      natural 1,
-      (
-        natural 8,
-        (
-          negative 127 refl,
-          (
-            natural 127,
-            (
-              negative 127 refl,
-              (
-                natural 127,
-                (
-                  natural 255,
-                  (
-                    negative 32767 refl,
-                    (
-                      natural 32767,
-                      (
-                        natural 65535,
-                        (
-                          negative 2147483647 refl,
-                          (
-                            natural 2147483647,
-                            (
-                              natural 4294967295,
-                              (
-                                negative 9223372036854775807 refl,
-                                (
-                                  natural 9223372036854775807,
-                                  (
-                                    natural 18446744073709551615,
-                                    (negative 9223372036854775807 refl, (natural 9223372036854775807, (natural 18446744073709551615, tt))),
-                                  ),
-                                ),
-                              ),
-                            ),
-                          ),
-                        ),
-                      ),
-                    ),
-                  ),
-                ),
-              ),
-            ),
-          ),
-        ),
-      ),
-    ),
-  ),
-)
-
-constant_is : (xs : Constants) (w : List ℕ) (c : CInt × ℤ) → AllByRecursion (λ (x : List ℕ × (CInt × ℤ)). IsLogicNumber x.1.1) xs → constant_in xs w ≡ Some c → IsLogicNumber c.1
-constant_is [] w c all e = absurd cc
-constant_is (x ∷ xs) w c all e = by (bytes_eq x.0 w) e (constant_is xs w c all.1)
-  where
-    by : (b : Bool) → (if b then Some x.1 else constant_in xs w) ≡ Some c → (constant_in xs w ≡ Some c → IsLogicNumber c.1) → IsLogicNumber c.1
-    by true e rest = let same : x.1 ≡ c = cc in subst (λ (y : CInt × ℤ). IsLogicNumber y.1) same all.0
-    by false e rest = rest e
-
-library_constant_is : (w : List ℕ) (c : CInt × ℤ) → library_constant w ≡ Some c → IsLogicNumber c.1
-unfolding library_constant
-library_constant_is w c e = constant_is constants w c constants_are e
-
--- ---- terms and predicates of at most so many tokens, with numbers that they may have, and with operators that want no more parentheses
-
-abbrev Looser : Option BinOp → Option BinOp → Type 0
-Looser o p = (l : ℕ) → parentheses_around l p ≤ parentheses_around l o
-
-bare : (o : Option BinOp) → Looser o None
-bare o l = omega arith
-
-alike : (o : Option BinOp) → Looser o o
-alike o l = omega arith
-
-abbrev TermKept : ℕ → Option BinOp → LogicTerm → Type 0
-TermKept n o t = TermNumbered t × (tokens_of_term t ≤ n) × Looser o (operator_of_term t)
-
-abbrev PointerKept : ℕ → Option BinOp → PlainType × LogicTerm → Type 0
-PointerKept n o p = TermKept n o p.1
-
-abbrev LinksKept : ℕ → Links → Type 0
-LinksKept n l = LinksNumbered l × (tokens_of_links l ≤ n)
-
-abbrev PredicateKept : ℕ → Predicate → Type 0
-PredicateKept n p = PredicateNumbered p × (tokens_of_predicate p ≤ n)
-
-abbrev ZoneKept : ℕ → Zone → Type 0
-ZoneKept n z = ZoneNumbered z × (tokens_of_zone z ≤ n)
-
-abbrev ZonesKept : ℕ → Zones → Type 0
-ZonesKept n zs = ZonesNumbered zs × (tokens_of_zones zs ≤ n)
-
-abbrev SortedKept : ℕ → Option BinOp → Sorted → Type 0
-SortedKept n o (ATerm t) = TermKept n o t
-SortedKept n o (APredicate p) = PredicateKept n p
-SortedKept n o (APlace t) = TermKept n o t
-
--- ---- what forms demand of their parts
-
-value_kept : (n : ℕ) (o : Option BinOp) (a : Sorted) → SortedKept n o a → Gives (SortedKept n o) (as_value a)
-value_kept n o (ATerm t) w = w
-value_kept n o (APredicate p) w = w
-value_kept n o (APlace t) w = by (sort_of_term t)
-  where
-    by : (k : ValueSort) → Gives (SortedKept n o) (elim k [ AnInteger ↦ Good (ATerm t) | APointer u ↦ Good (ATerm t) | NoValue ↦ faulty (no_type (place_of_term t)) ])
-    by AnInteger = w
-    by (APointer u) = w
-    by NoValue = tt
-
-term_kept : (at : Place) (n : ℕ) (o : Option BinOp) (a : Sorted) → SortedKept n o a → Gives (TermKept n o) (as_term at a)
-term_kept at n o (ATerm t) w = w
-term_kept at n o (APredicate p) w = tt
-term_kept at n o (APlace t) w = w
-
-integer_kept : (at : Place) (n : ℕ) (o : Option BinOp) (a : Sorted) → SortedKept n o a → Gives (TermKept n o) (as_integer at a)
-integer_kept at n o a w = gives_one (TermKept n o) (TermKept n o) (as_term at a) _ (term_kept at n o a w) (λ t v. gives_where (TermKept n o) (is_integer (sort_of_term t)) (no_type at) (Good t) (λ e. v))
-
-pointer_kept : (at : Place) (n : ℕ) (o : Option BinOp) (a : Sorted) → SortedKept n o a → Gives (PointerKept n o) (as_pointer at a)
-pointer_kept at n o a w =
-    gives_one (TermKept n o) (PointerKept n o) (as_term at a) _ (term_kept at n o a w) (λ t v. gives_given (PointerKept n o) (pointee (sort_of_term t)) (no_type at) (λ u. Good (u, t)) (λ u e. v))
-
-holds_kept : (at : Place) (n : ℕ) (o : Option BinOp) (t : LogicTerm) → TermKept n o t → Gives (PredicateKept n) (integer_holds at t)
-holds_kept at n o t w = gives_where (PredicateKept n) (is_integer (sort_of_term t)) (no_type at) _ (λ e. (w.0, w.1))
-
-predicate_kept : (at : Place) (n : ℕ) (o : Option BinOp) (a : Sorted) → SortedKept n o a → Gives (PredicateKept n) (as_predicate at a)
-predicate_kept at n o (ATerm t) w = holds_kept at n o t w
-predicate_kept at n o (APredicate p) w = w
-predicate_kept at n o (APlace t) w = holds_kept at n o t w
-
--- ---- names
-
-null_kept : (at : Place) (b : Bool) → Gives (SortedKept 1 None) (cond b (Good (null at)) (faulty (no_name at)))
-null_kept at true = (tt, omega arith, bare None)
-null_kept at false = tt
-
-library_kept : (s : Sight) (at : Place) (x : ℕ) → Gives (SortedKept 1 None) (library_term s at x)
-library_kept s at x = by (library_constant (name_at s.names x)) refl
-  where
-    by : (o : Option (CInt × ℤ)) → library_constant (name_at s.names x) ≡ o
-        → Gives (SortedKept 1 None) (elim o [ Some k ↦ Good (number at k.1) | None ↦ cond (is_null_word s x) (Good (null at)) (faulty (no_name at)) ])
-    by (Some k) e = (library_constant_is (name_at s.names x) k e, omega arith, bare None)
-    by None e = null_kept at (is_null_word s x)
-
--- a parameter in an `ensures` has no more tokens than its name
-formal_kept : (k : ClauseSight) (at : Place) (x : ℕ) (b : c.Object) → TermKept 1 None (formal_value k (variable at x b))
-formal_kept (InBody v) at x b = (tt, omega arith, bare None)
-formal_kept AtEntry at x b = (tt, omega arith, bare None)
-formal_kept (AtEnd formals t) at x b = (tt, omega arith, bare None)
-formal_kept (UnderLabel formals) at x b = (tt, omega arith, bare None)
-
-entity_kept : (k : ClauseSight) (at : Place) (x : ℕ) (b : c.Object) → SortedKept 1 None (object_place k at x b)
-entity_kept k at x b = by (is_among b.decl (formals_in k))
-  where
-    by : (f : Bool) → SortedKept 1 None (cond f (ATerm (formal_value k (variable at x b))) (APlace (variable at x b)))
-    by true = formal_kept k at x b
-    by false = (tt, omega arith, bare None)
-
-name_kept : (s : AnnotationSight) → SeesValues s.here → (at : Place) (x : ℕ) → Gives (SortedKept 1 None) (term_named s at x)
-name_kept s k at x = by (entity_named x s.here.entities) refl
-  where
-    by : (o : Option Entity) → entity_named x s.here.entities ≡ o → Gives (SortedKept 1 None) (elim o [
-      | Some e ↦ elim e [ AnObject b ↦ Good (object_place s.clause at x b) | AnEnumerator j ↦ Good (number at j.value) ]
-      | None ↦ library_term s.here at x
-    ])
-    by (Some (AnObject b)) e = entity_kept s.clause at x b
-    by (Some (AnEnumerator j)) e = (value_is j.value (k x j e), omega arith, bare None)
-    by None e = library_kept s.here at x
-
--- ---- results, and terms at labels
-
-result_kept : (k : ClauseSight) (at : Place) → Gives (SortedKept 1 None) (result_in k at)
-result_kept (InBody v) at = tt
-result_kept AtEntry at = tt
-result_kept (AtEnd formals t) at = gives_where (SortedKept 1 None) (not (is_void t)) (no_type at) _ (λ e. (tt, omega arith, bare None))
-result_kept (UnderLabel formals) at = tt
-
-values_of : (n : ℕ) (o : Option BinOp) (k : Checked Sorted) → Gives (SortedKept n o) k → Gives (SortedKept n o) (value_in k)
-values_of n o k w = gives_one (SortedKept n o) (SortedKept n o) k as_value w (value_kept n o)
-
-labelled_kept : (s : AnnotationSight) (at place : Place) (n : ℕ) (o : Option BinOp) (refused : Bool → Bool) (k : AnnotationSight → Checked Sorted)
-    → ((l : Label) (u : AnnotationSight) → sight_at s l ≡ Some u → Gives (SortedKept n o) (k u)) → (l : Option Label) → Gives (SortedKept (suc n) None) (labelled s at place l refused k)
-labelled_kept s at place n o refused k h None =
-    gives_where (SortedKept (suc n) None) (not (refused true)) (no_label at) _ (λ e. gives_one (SortedKept n o) (SortedKept (suc n) None) (value_in (k s)) _ (values_of n o (k s) (h label.Here s refl)) (λ a v. tt))
-labelled_kept s at place n o refused k h (Some l) =
-    gives_where (SortedKept (suc n) None) (not (refused (is_past l))) (no_label at) _ (λ e. gives_given (SortedKept (suc n) None) (sight_at s l) (no_label at) _ (λ u f.
-    gives_one (SortedKept n o) (SortedKept (suc n) None) (value_in (k u)) (at_label at l) (values_of n o (k u) (h l u f)) (λ a v.
-    gives_one (TermKept n o) (SortedKept (suc n) None) (as_term at a) _ (term_kept at n o a v) (λ t x. (x.0, omega (arith, x.1), bare None)))))
-
--- ---- operators
-
-on_integer_kept : (at : Place) (op : UnOp) (n : ℕ) (o : Option BinOp) (a : Sorted) → SortedKept n o a → Gives (SortedKept (suc n) None) (on_integer at op a)
-on_integer_kept at op n o a w = gives_one (TermKept n o) (SortedKept (suc n) None) (as_integer at a) _ (integer_kept at n o a w) (λ t v. (v.0, omega (arith, v.1), bare None))
-
-abbrev Operated : BinOp → ℕ → ℕ → Option BinOp → Sorted → Type 0
-Operated op m n p = SortedKept (suc (m + n + parentheses_around (level_of op) p)) (Some op)
-
-on_integers_kept : (at : Place) (op : BinOp) (m n : ℕ) (o p : Option BinOp) (a b : Sorted) → SortedKept m o a → SortedKept n p b → Gives (Operated op m n p) (on_integers at op a b)
-on_integers_kept at op m n o p a b v w =
-    gives_one (TermKept m o) (Operated op m n p) (as_integer at a) _ (integer_kept at m o a v) (λ t x.
-    gives_one (TermKept n p) (Operated op m n p) (as_integer at b) _ (integer_kept at n p b w) (λ u y. let q = y.2 (level_of op) in ((x.0, y.0), omega (arith, x.1, y.1, q), alike (Some op))))
-
-deref_kept : (at : Place) (n : ℕ) (o : Option BinOp) (a : Sorted) → SortedKept n o a → Gives (SortedKept (suc n) None) (deref at a)
-deref_kept at n o a w =
-    gives_one (PointerKept n o) (SortedKept (suc n) None) (as_pointer at a) _ (pointer_kept at n o a w) (λ p v. gives_where (SortedKept (suc n) None) (not (is_void p.0)) (no_type at) _ (λ e. (v.0, omega (arith, v.1), bare None)))
-
-address_kept : (at : Place) (n : ℕ) (o : Option BinOp) (a : Sorted) → SortedKept n o a → Gives (SortedKept (suc n) None) (address at a)
-address_kept at n o (ATerm t) w = tt
-address_kept at n o (APredicate p) w = tt
-address_kept at n o (APlace t) w = gives_given (SortedKept (suc n) None) (type_of_term t) (no_type at) (address_at at t) (λ u e. (w.0, omega (arith, w.1), bare None))
-
-member_kept : (s : Sight) (at : Place) (m : ℕ) (n : ℕ) (o : Option BinOp) (t : LogicTerm) (u : PlainType) → TermKept n o t → Gives (SortedKept (suc n) None) (member_of s at m t u)
-member_kept s at m n o t u w =
-    gives_where (SortedKept (suc n) None) (is_struct u) (no_type at) _ (λ h.
-    gives_sized (SortedKept (suc n) None) s at u _ (λ k.
-    gives_given (SortedKept (suc n) None) (member_among m (members_of s.structs u)) (no_name at) (member_at at t) (λ f g.
-    gives_where (SortedKept (suc n) None) (nat_le f.offset most_bytes) (too_large at) _ (λ j. (w.0, omega (arith, w.1), bare None)))))
-
-dot_kept : (s : Sight) (at : Place) (m n : ℕ) (o : Option BinOp) (a : Sorted) → SortedKept n o a → Gives (SortedKept (suc n) None) (dot s at m a)
-dot_kept s at m n o (ATerm t) w = tt
-dot_kept s at m n o (APredicate p) w = tt
-dot_kept s at m n o (APlace t) w = gives_given (SortedKept (suc n) None) (type_of_term t) (no_type at) (member_of s at m t) (λ u e. member_kept s at m n o t u w)
-
-arrow_kept : (s : Sight) (at : Place) (m n : ℕ) (o : Option BinOp) (a : Sorted) → SortedKept n o a → Gives (SortedKept (suc (suc n)) None) (arrow s at m a)
-arrow_kept s at m n o a w =
-    gives_one (PointerKept n o) (SortedKept (suc (suc n)) None) (as_pointer at a) _ (pointer_kept at n o a w) (λ p v. member_kept s at m (suc n) None (Deref at (Some p.0) range_to_infer p.1) p.0 (v.0, omega (arith, v.1), bare None))
-
--- ---- pointers and integers
-
-known_kept : (P : Sorted → Type 0) (s : Sight) (at : Place) (m n : ℕ) (o p : Option BinOp) (a b : Sorted) (k : LogicTerm → LogicTerm → Checked Sorted) → SortedKept m o a → SortedKept n p b
-    → ((t u : LogicTerm) → TermKept m o t → TermKept n p u → Gives P (k t u)) → Gives P (with_terms s at a b k)
-known_kept P s at m n o p a b k v w h =
-    gives_where P (are_known s a b) (no_name at) (one_part (as_term at a) (λ t. one_part (as_term at b) (k t))) (λ e.
-    gives_one (TermKept m o) P (as_term at a) (λ t. one_part (as_term at b) (k t)) (term_kept at m o a v) (λ t x.
-    gives_one (TermKept n p) P (as_term at b) (k t) (term_kept at n p b w) (λ u y. h t u x y)))
-
-module _ (s : Sight) (at : Place) (m n : ℕ) (o p : Option BinOp) (t u : LogicTerm) (x : TermKept m o t) (y : TermKept n p u) where
-  sum_by : (k l : ValueSort) → Gives (Operated operator.Add m n p) (sum_of s at t u k l)
-  sum_by AnInteger AnInteger = let q = y.2 (level_of operator.Add) in ((x.0, y.0), omega (arith, x.1, y.1, q), alike (Some operator.Add))
-  sum_by (APointer v) AnInteger = gives_measured (Operated operator.Add m n p) s at v _ (λ h. ((x.0, y.0), omega (arith, x.1, y.1), bare (Some operator.Add)))
-  sum_by AnInteger (APointer v) = gives_measured (Operated operator.Add m n p) s at v _ (λ h. ((y.0, x.0), omega (arith, x.1, y.1), bare (Some operator.Add)))
-  sum_by (APointer v) (APointer w) = tt
-  sum_by NoValue l = tt
-  sum_by AnInteger NoValue = tt
-  sum_by (APointer v) NoValue = tt
-
-  difference_by : (k l : ValueSort) → Gives (Operated operator.Sub m n p) (difference_of s at t u k l)
-  difference_by AnInteger AnInteger = let q = y.2 (level_of operator.Sub) in ((x.0, y.0), omega (arith, x.1, y.1, q), alike (Some operator.Sub))
-  difference_by (APointer v) AnInteger = gives_measured (Operated operator.Sub m n p) s at v _ (λ h. ((x.0, y.0), omega (arith, x.1, y.1), bare (Some operator.Sub)))
-  difference_by (APointer v) (APointer w) =
-      gives_where (Operated operator.Sub m n p) (c.same_type v w) (no_type at) _ (λ g. gives_measured (Operated operator.Sub m n p) s at v _ (λ h. ((x.0, y.0), omega (arith, x.1, y.1), bare (Some operator.Sub))))
-  difference_by AnInteger (APointer v) = tt
-  difference_by NoValue l = tt
-  difference_by AnInteger NoValue = tt
-  difference_by (APointer v) NoValue = tt
-
-  element_by : (k l : ValueSort) → Gives (SortedKept (suc (suc (m + n))) None) (element_of s at t u k l)
-  element_by AnInteger AnInteger = tt
-  element_by (APointer v) AnInteger = gives_measured (SortedKept (suc (suc (m + n))) None) s at v _ (λ h. ((x.0, y.0), omega (arith, x.1, y.1), bare None))
-  element_by AnInteger (APointer v) = gives_measured (SortedKept (suc (suc (m + n))) None) s at v _ (λ h. ((y.0, x.0), omega (arith, x.1, y.1), bare None))
-  element_by (APointer v) (APointer w) = tt
-  element_by NoValue l = tt
-  element_by AnInteger NoValue = tt
-  element_by (APointer v) NoValue = tt
-
-  choice_by : (j : ℕ) (q : Predicate) → PredicateKept j q → (k l : ValueSort) → Gives (SortedKept (suc (j + m + n)) None) (choice_of_terms at q t u k l)
-  choice_by j q z AnInteger AnInteger = ((z.0, x.0, y.0), omega (arith, z.1, x.1, y.1), bare None)
-  choice_by j q z (APointer v) (APointer w) =
-      gives_given (SortedKept (suc (j + m + n)) None) (choice_target v w) (no_type at) (λ a. Good (pointer_choice at q t u a)) (λ a g. ((z.0, x.0, y.0), omega (arith, z.1, x.1, y.1), bare None))
-  choice_by j q z AnInteger (APointer v) = tt
-  choice_by j q z (APointer v) AnInteger = tt
-  choice_by j q z NoValue l = tt
-  choice_by j q z AnInteger NoValue = tt
-  choice_by j q z (APointer v) NoValue = tt
-
-binary_kept : (s : Sight) (at : Place) (op : BinOp) (m n : ℕ) (o p : Option BinOp) (a b : Sorted) → SortedKept m o a → SortedKept n p b → Gives (Operated op m n p) (binary_on s at op a b)
-binary_kept s at operator.Add m n o p a b v w =
-    known_kept (Operated operator.Add m n p) s at m n o p a b _ v w (λ t u x y. sum_by s at m n o p t u x y (sort_of_term t) (sort_of_term u))
-binary_kept s at operator.Sub m n o p a b v w =
-    known_kept (Operated operator.Sub m n p) s at m n o p a b _ v w (λ t u x y. difference_by s at m n o p t u x y (sort_of_term t) (sort_of_term u))
-binary_kept s at operator.Mul m n o p a b v w = on_integers_kept at operator.Mul m n o p a b v w
-binary_kept s at operator.Div m n o p a b v w = on_integers_kept at operator.Div m n o p a b v w
-binary_kept s at operator.Rem m n o p a b v w = on_integers_kept at operator.Rem m n o p a b v w
-binary_kept s at operator.Shl m n o p a b v w = on_integers_kept at operator.Shl m n o p a b v w
-binary_kept s at operator.Shr m n o p a b v w = on_integers_kept at operator.Shr m n o p a b v w
-binary_kept s at operator.BitAnd m n o p a b v w = on_integers_kept at operator.BitAnd m n o p a b v w
-binary_kept s at operator.BitOr m n o p a b v w = on_integers_kept at operator.BitOr m n o p a b v w
-binary_kept s at operator.BitXor m n o p a b v w = on_integers_kept at operator.BitXor m n o p a b v w
-binary_kept s at operator.Eq m n o p a b v w = on_integers_kept at operator.Eq m n o p a b v w
-binary_kept s at operator.Ne m n o p a b v w = on_integers_kept at operator.Ne m n o p a b v w
-binary_kept s at operator.Lt m n o p a b v w = on_integers_kept at operator.Lt m n o p a b v w
-binary_kept s at operator.Le m n o p a b v w = on_integers_kept at operator.Le m n o p a b v w
-binary_kept s at operator.Gt m n o p a b v w = on_integers_kept at operator.Gt m n o p a b v w
-binary_kept s at operator.Ge m n o p a b v w = on_integers_kept at operator.Ge m n o p a b v w
-
-index_kept : (s : Sight) (at : Place) (m n : ℕ) (o p : Option BinOp) (a b : Sorted) → SortedKept m o a → SortedKept n p b → Gives (SortedKept (suc (suc (m + n))) None) (index s at a b)
-index_kept s at m n o p a b v w =
-    known_kept (SortedKept (suc (suc (m + n))) None) s at m n o p a b _ v w (λ t u x y. element_by s at m n o p t u x y (sort_of_term t) (sort_of_term u))
-
-not_kept : (at : Place) (n : ℕ) (o : Option BinOp) (a : Sorted) → SortedKept n o a → Gives (SortedKept (suc n) None) (unary_on at unary.Not a)
-not_kept at n o a w =
-    gives_one (SortedKept n o) (SortedKept (suc n) None) (as_value a) _ (value_kept n o a w) (λ b v. gives_one (PredicateKept n) (SortedKept (suc n) None) (as_predicate at b) _ (predicate_kept at n o b v) (λ p x. (x.0, omega (arith, x.1))))
-
-unary_kept : (at : Place) (op : UnOp) (n : ℕ) (o : Option BinOp) (a : Sorted) → SortedKept n o a → Gives (SortedKept (suc n) None) (unary_on at op a)
-unary_kept at unary.Plus n o a w = gives_one (SortedKept n o) (SortedKept (suc n) None) (as_value a) _ (value_kept n o a w) (on_integer_kept at unary.Plus n o)
-unary_kept at unary.Minus n o a w = gives_one (SortedKept n o) (SortedKept (suc n) None) (as_value a) _ (value_kept n o a w) (on_integer_kept at unary.Minus n o)
-unary_kept at unary.Flip n o a w = gives_one (SortedKept n o) (SortedKept (suc n) None) (as_value a) _ (value_kept n o a w) (on_integer_kept at unary.Flip n o)
-unary_kept at unary.Not n o a w = not_kept at n o a w
-unary_kept at unary.Deref n o a w = gives_one (SortedKept n o) (SortedKept (suc n) None) (as_value a) _ (value_kept n o a w) (deref_kept at n o)
-unary_kept at unary.Address n o a w = address_kept at n o a w
-
--- ---- casts
-
-cast_integer_kept : (at : Place) (to : CastType) (n : ℕ) (o : Option BinOp) (a : Sorted) → SortedKept n o a → Gives (SortedKept (suc n) None) (cast_integer at to a)
-cast_integer_kept at to n o a w = gives_one (TermKept n o) (SortedKept (suc n) None) (as_integer at a) _ (integer_kept at n o a w) (λ t v. (v.0, omega (arith, v.1), bare None))
-
-cast_pointer_kept : (at : Place) (u : PlainType) (n : ℕ) (o : Option BinOp) (a : Sorted) → SortedKept n o a → Gives (SortedKept (suc n) None) (cast_pointer at u a)
-cast_pointer_kept at u n o a w = gives_one (PointerKept n o) (SortedKept (suc n) None) (as_pointer at a) _ (pointer_kept at n o a w) (λ p v. (v.0, omega (arith, v.1), bare None))
-
-cast_kept : (at : Place) (to : PlainType) (n : ℕ) (o : Option BinOp) (a : Sorted) → SortedKept n o a → Gives (SortedKept (suc n) None) (cast at to a)
-cast_kept at to n o a w = by (integer_type to)
-  where
-    by : (k : Option CInt) → Gives (SortedKept (suc n) None) (elim k [ Some k ↦ cast_integer at (OfC to) a | None ↦ given (c.pointed to) (no_type at) (λ u. cast_pointer at u a) ])
-    by (Some k) = cast_integer_kept at (OfC to) n o a w
-    by None = gives_given (SortedKept (suc n) None) (c.pointed to) (no_type at) (λ u. cast_pointer at u a) (λ u g. cast_pointer_kept at u n o a w)
-
--- ---- predicates and choices
-
-connected_kept : (at : Place) (k : Connective) (m n : ℕ) (o p : Option BinOp) (a b : Sorted) → SortedKept m o a → SortedKept n p b → Gives (SortedKept (suc (m + n)) None) (connected at k a b)
-connected_kept at k m n o p a b v w =
-    gives_one (PredicateKept m) (SortedKept (suc (m + n)) None) (as_predicate at a) _ (predicate_kept at m o a v) (λ q x.
-    gives_one (PredicateKept n) (SortedKept (suc (m + n)) None) (as_predicate at b) _ (predicate_kept at n p b w) (λ r y. ((x.0, y.0), omega (arith, x.1, y.1))))
-
-branch_kept : (at : Place) (j m n : ℕ) (o p : Option BinOp) (q : Predicate) (a b : Sorted) → PredicateKept j q → SortedKept m o a → SortedKept n p b → Gives (SortedKept (suc (j + m + n)) None) (branch at q a b)
-branch_kept at j m n o p q a b z v w =
-    gives_one (PredicateKept m) (SortedKept (suc (j + m + n)) None) (as_predicate at a) _ (predicate_kept at m o a v) (λ e x.
-    gives_one (PredicateKept n) (SortedKept (suc (j + m + n)) None) (as_predicate at b) _ (predicate_kept at n p b w) (λ f y. ((z.0, x.0, y.0), omega (arith, z.1, x.1, y.1))))
-
-between_kept : (s : Sight) (at : Place) (j m n : ℕ) (o p : Option BinOp) (q : Predicate) (a b : Sorted) → PredicateKept j q → SortedKept m o a → SortedKept n p b → Gives (SortedKept (suc (j + m + n)) None) (choice_between at q a b)
-between_kept s at j m n o p q (ATerm t) (ATerm u) z v w = choice_by s at m n o p t u v w j q z (sort_of_term t) (sort_of_term u)
-between_kept s at j m n o p q (ATerm t) (APredicate r) z v w = branch_kept at j m n o p q (ATerm t) (APredicate r) z v w
-between_kept s at j m n o p q (ATerm t) (APlace u) z v w = branch_kept at j m n o p q (ATerm t) (APlace u) z v w
-between_kept s at j m n o p q (APredicate r) b z v w = branch_kept at j m n o p q (APredicate r) b z v w
-between_kept s at j m n o p q (APlace t) b z v w = branch_kept at j m n o p q (APlace t) b z v w
-
-chosen_kept : (s : Sight) (at : Place) (j m n : ℕ) (l o p : Option BinOp) (k a b : Sorted) → SortedKept j l k → SortedKept m o a → SortedKept n p b → Gives (SortedKept (suc (j + m + n)) None) (chosen at k a b)
-chosen_kept s at j m n l o p k a b u v w =
-    gives_one (PredicateKept j) (SortedKept (suc (j + m + n)) None) (as_predicate at k) _ (predicate_kept at j l k u) (λ q z. between_kept s at j m n o p q a b z v w)
-
--- ---- relations and zones
-
-right_kept : (at : Place) (left right : Side) (n : ℕ) (o : Option BinOp) (a : Sorted) → SortedKept n o a → Gives (TermKept n o) (right_side at left right a)
-right_kept at left right n o a w = gives_where (TermKept n o) (are_related left right) (no_type at) (as_term at a) (λ e. term_kept at n o a w)
-
-chain_kept : (at : Place) (m n : ℕ) (o : Option BinOp) (a : Sorted) (links : Links) → SortedKept m o a → LinksKept n links → Gives (SortedKept (m + n) None) (related at a links)
-chain_kept at m n o a NoLink v w = tt
-chain_kept at m n o a (Linked place r b rest) v w =
-    gives_one (TermKept m o) (SortedKept (m + n) None) (as_term at a) _ (term_kept at m o a v) (λ t x. ((x.0, w.0), omega (arith, x.1, w.1)))
-
-asked_kept : {A : Type 0} (P : A → Type 0) (s : Sight) (at : Place) (q : MemoryQuestion) (u : PlainType) (k : Checked A) → Gives P k → Gives P (where_asked s at q u k)
-asked_kept P s at Valid u k w = gives_measured P s at u k (λ e. w)
-asked_kept P s at ValidRead u k w = gives_measured P s at u k (λ e. w)
-asked_kept P s at Initialized u k w = gives_where P (is_scalar u) (no_type at) (where_measured s at u k) (λ e. gives_measured P s at u k (λ g. w))
-
-object_kept : (s : Sight) (q : MemoryQuestion) (at : Place) (n : ℕ) (o : Option BinOp) (a : Sorted) → SortedKept n o a → Gives (ZoneKept n) (object_zone s q at a)
-object_kept s q at n o a w = gives_one (PointerKept n o) (ZoneKept n) (as_pointer at a) _ (pointer_kept at n o a w) (λ p v. asked_kept (ZoneKept n) s at q p.0 _ (v.0, v.1))
-
-elements_kept : (s : Sight) (q : MemoryQuestion) (at : Place) (l m n : ℕ) (i j k : Option BinOp) (a lo hi : Sorted) → SortedKept l i a → SortedKept m j lo → SortedKept n k hi
-    → Gives (ZoneKept (suc (l + m + n))) (elements_zone s q at a lo hi)
-elements_kept s q at l m n i j k a lo hi u v w =
-    gives_one (PointerKept l i) (ZoneKept (suc (l + m + n))) (as_pointer at a) _ (pointer_kept at l i a u) (λ p x. asked_kept (ZoneKept (suc (l + m + n))) s at q p.0 _ (
-    gives_one (TermKept m j) (ZoneKept (suc (l + m + n))) (as_integer at lo) _ (integer_kept at m j lo v) (λ e y.
-    gives_one (TermKept n k) (ZoneKept (suc (l + m + n))) (as_integer at hi) _ (integer_kept at n k hi w) (λ f z.
-    ((x.0, y.0, z.0), omega (arith, x.1, y.1, z.1))))))
+use Rattle.c_model.proofs.TypedParts.{Gives, gives_one, gives_more, gives_both, gives_given, gives_where, gives_sized, gives_if}
+use Rattle.c_model.specs.AnnotationSights.{with_binders}
+use Rattle.c_model.specs.QuantifierGuards.{is_guarded, left_behind, guarded_by}
+use Rattle.c_model.specs.QuantifierTyping.{no_guard, binder_type, binders_in, GuardChain, guards_of, Conjuncts, both_of, joined, conjunction, another_conjunct, other_conjunct, bound_at, chain_over, chain_conjunct, implied, universal, existential}
+use Rattle.c_model.specs.QuantifierTyping.{quantified}
+use Rattle.c_model.specs.PredicateTyping.{is_refused, typed_quantified, typed_conjuncts, typed_upper, variant_value, said}
+use Rattle.c_model.proofs.SortedTrees.{gives_pair, gives_limited, Any, anything}
+use Rattle.c_model.proofs.NotedSorts.{natural, bare, TermKept, PointerKept, LinksKept, PredicateKept, ZoneKept, ZonesKept, SortedKept, integer_kept, pointer_kept, holds_kept, predicate_kept, name_kept, result_kept, values_of, labelled_kept, dot_kept}
+use Rattle.c_model.proofs.NotedSorts.{arrow_kept, binary_kept, index_kept, unary_kept, cast_integer_kept, cast_kept, connected_kept, chosen_kept, right_kept, chain_kept, object_kept, elements_kept}
 
 -- ---- forms
 
@@ -487,6 +88,165 @@ pair_kept : (s : AnnotationSight) (a b : Form) → Gives (FormKept a) (typed_for
 pair_kept s a b v w =
     gives_both (FormKept a) (FormKept b) (λ (p : Sorted × Sorted). FormKept a p.0 × FormKept b p.1) (value_in (typed_form s a)) (value_in (typed_form s b)) (λ a b. Good (a, b)) (values_kept a (typed_form s a) v)
     (values_kept b (typed_form s b) w) (λ a b v w. (v, w))
+
+-- ---- quantifiers
+
+-- a form is read where more binders are in sight
+sees_binders : (s : AnnotationSight) (bs : List (Place × ℕ)) → SeesAll s → SeesAll (with_binders s bs)
+sees_binders s bs k = record { here = k.here; clause = k.clause; labels = k.labels }
+
+-- chains and what else stands among conjuncts, of no more tokens
+abbrev OthersKept : ℕ → Option Predicate → Type 0
+OthersKept n None = Unit {0}
+OthersKept n (Some p) = PredicateKept n p
+
+abbrev GuardsKept : ℕ → List GuardChain → Type 0
+GuardsKept n cs = GuardsNumbered (guards_of cs) × (tokens_of_guards (guards_of cs) ≤ n)
+
+record ConjunctsKept (n : ℕ) (c : Conjuncts) : Type 0 where
+  m : ℕ
+  l : ℕ
+  chains : GuardsKept m c.chains
+  others : OthersKept l c.others
+  all : m + l ≤ n
+
+numbered_all : (cs ds : List GuardChain) → GuardsNumbered (guards_of cs) → GuardsNumbered (guards_of ds) → GuardsNumbered (guards_of (cs ++ ds))
+numbered_all [] ds v w = w
+numbered_all (c ∷ cs) ds v w = (v.0, v.1, numbered_all cs ds v.2 w)
+
+tokens_all : (cs ds : List GuardChain) → tokens_of_guards (guards_of (cs ++ ds)) ≡ tokens_of_guards (guards_of cs) + tokens_of_guards (guards_of ds)
+tokens_all [] ds = omega arith
+tokens_all (c ∷ cs) ds = let e = tokens_all cs ds in omega (arith, e)
+
+guards_all : (m n : ℕ) (cs ds : List GuardChain) → GuardsKept m cs → GuardsKept n ds → GuardsKept (m + n) (cs ++ ds)
+guards_all m n cs ds v w = let e = tokens_all cs ds in (numbered_all cs ds v.0 w.0, omega (arith, e, v.1, w.1))
+
+others_more : (m n : ℕ) (p : Option Predicate) → m ≤ n → OthersKept m p → OthersKept n p
+others_more m n None h v = tt
+others_more m n (Some p) h v = (v.0, omega (arith, h, v.1))
+
+others_all : (at : Place) (m n : ℕ) (p q : Option Predicate) → OthersKept m p → OthersKept n q → OthersKept (suc (m + n)) (both_of at p q)
+others_all at m n None q v w = others_more n (suc (m + n)) q (omega arith) w
+others_all at m n (Some p) None v w = (v.0, omega (arith, v.1))
+others_all at m n (Some p) (Some q) v w = ((v.0, w.0), omega (arith, v.1, w.1))
+
+conjunction_kept : (at : Place) (m n : ℕ) (a b : Checked Conjuncts) → Gives (ConjunctsKept m) a → Gives (ConjunctsKept n) b → Gives (ConjunctsKept (suc (m + n))) (conjunction at a b)
+conjunction_kept at m n a b v w =
+    gives_pair (ConjunctsKept m) (ConjunctsKept n) (ConjunctsKept (suc (m + n))) a b (λ p. Good (joined at p.0 p.1)) v w (λ c d x y. record {
+      m = x.m + y.m;
+      l = suc (x.l + y.l);
+      chains = guards_all x.m y.m c.chains d.chains x.chains y.chains;
+      others = others_all at x.l y.l c.others d.others x.others y.others;
+      all = (let i = x.all in let j = y.all in omega (arith, i, j));
+    })
+
+another_kept : (at : Place) (n : ℕ) (o : Option BinOp) (a : Checked Sorted) → Gives (SortedKept n o) a → Gives (ConjunctsKept n) (another_conjunct at a)
+another_kept at n o a w =
+    gives_one (SortedKept n o) (ConjunctsKept n) (value_in a) _ (values_of n o a w) (λ v x.
+    gives_one (PredicateKept n) (ConjunctsKept n) (as_predicate at v) _ (predicate_kept at n o v x) (λ p y. record { m = 0; l = n; chains = (tt, omega arith); others = y; all = omega arith }))
+
+other_kept : (at place : Place) (bs : List (Place × ℕ)) (n : ℕ) (o : Option BinOp) (a : Checked Sorted) → Gives (SortedKept n o) a → Gives (ConjunctsKept n) (other_conjunct at bs place a)
+other_kept at place [] n o a w = another_kept place n o a w
+other_kept at place (b ∷ bs) n o a w = tt
+
+bound_kept : (at : Place) (n : ℕ) (o : Option BinOp) (a : Checked Sorted) → Gives (SortedKept n o) a → Gives (TermKept n o) (bound_at at a)
+bound_kept at n o a w = gives_one (SortedKept n o) (TermKept n o) (value_in a) (as_integer at) (values_of n o a w) (integer_kept at n o)
+
+-- a form has a token
+has_token : (f : Form) → 1 ≤ tokens_of_form f
+has_token (read.Number at n) = omega arith
+has_token (read.Letter at n) = omega arith
+has_token (read.Truth at b) = omega arith
+has_token (read.Name at x) = omega arith
+has_token (read.Unary at op a) = omega arith
+has_token (read.Binary at op a b) = omega arith
+has_token (read.Cast at to a) = omega arith
+has_token (read.SizeOf at t) = omega arith
+has_token (read.Chain at a links) = let e = has_token a in omega (arith, e)
+has_token (read.Connected at c a b) = omega arith
+has_token (read.Choice at c a b) = omega arith
+has_token (read.Null at) = omega arith
+has_token (read.Index at a b) = omega arith
+has_token (read.Dot at a m) = omega arith
+has_token (read.Arrow at a m) = omega arith
+has_token (read.Told at f a) = omega arith
+has_token (read.Asks at q z) = omega arith
+has_token (read.Separated at zs) = omega arith
+has_token (read.Result at) = omega arith
+has_token (read.Old at a) = omega arith
+has_token (read.At at a place l) = omega arith
+has_token (read.Quantified at q to names a) = omega arith
+
+-- the last form of a chain, and the binders before it, of which each has a relation
+abbrev UpperKept : FormLinks → LogicTerm → Type 0
+UpperKept links t = TermNumbered t × ((k : CastType) (bs : List (Place × ℕ)) → 2 * length (binders_in k bs links) + suc (tokens_of_term t) ≤ tokens_of_form_links links)
+
+upper_last : (at : Place) (r : Relation) (a : Form) (o : Option BinOp) (t : LogicTerm) → TermKept (tokens_of_form a) o t → UpperKept (read.Linked at r a read.NoLink) t
+upper_last at r a o t w = (w.0, all)
+  where
+    all : (k : CastType) (bs : List (Place × ℕ)) → 2 * length (binders_in k bs (read.Linked at r a read.NoLink)) + suc (tokens_of_term t) ≤ suc (tokens_of_form a + 0)
+    all k [] = omega (arith, w.1)
+    all k (b ∷ bs) = omega (arith, w.1)
+
+upper_more : (at : Place) (r : Relation) (a : Form) (place : Place) (u : Relation) (c : Form) (rest : FormLinks) (t : LogicTerm) → UpperKept (read.Linked place u c rest) t → UpperKept (read.Linked at r a (read.Linked place u c rest)) t
+upper_more at r a place u c rest t w = (w.0, all)
+  where
+    all : (k : CastType) (bs : List (Place × ℕ)) → 2 * length (binders_in k bs (read.Linked at r a (read.Linked place u c rest))) + suc (tokens_of_term t) ≤ suc (tokens_of_form a + tokens_of_form_links (read.Linked place u c rest))
+    all k [] = let e = w.1 k [] in omega (arith, e)
+    all k (b ∷ bs) = let e = w.1 k bs in let f = has_token a in omega (arith, e, f)
+
+chain_tokens : (k : CastType) (b : Place × ℕ) (bs : List (Place × ℕ)) (m : ℕ) (l : Place) (r : Relation) (c : Form) (p : Place) (s : Relation) (d : Form) (rest : FormLinks) (t u : LogicTerm) → tokens_of_term t ≤ m
+    → UpperKept (read.Linked l r c (read.Linked p s d rest)) u
+    → tokens_of_guards (guards_of (chain_over k b bs r (read.Linked p s d rest) t u).chains) ≤ m + tokens_of_form_links (read.Linked l r c (read.Linked p s d rest))
+chain_tokens k b bs m l r c p s d rest t u v w = let e = w.1 k (b ∷ bs) in omega (arith, e, v)
+
+chain_over_kept : (k : CastType) (b : Place × ℕ) (bs : List (Place × ℕ)) (m : ℕ) (o : Option BinOp) (l : Place) (r : Relation) (c : Form) (p : Place) (s : Relation) (d : Form) (rest : FormLinks) (t u : LogicTerm) → TermKept m o t
+    → UpperKept (read.Linked l r c (read.Linked p s d rest)) u
+    → ConjunctsKept (m + tokens_of_form_links (read.Linked l r c (read.Linked p s d rest))) (chain_over k b bs r (read.Linked p s d rest) t u)
+chain_over_kept k b bs m o l r c p s d rest t u v w = record {
+  m = m + tokens_of_form_links (read.Linked l r c (read.Linked p s d rest));
+  l = 0;
+  chains = ((v.0, w.0, tt), chain_tokens k b bs m l r c p s d rest t u v.1 w);
+  others = tt;
+  all = omega arith;
+}
+
+chain_conjunct_kept : (at : Place) (k : CastType) (bs : List (Place × ℕ)) (place : Place) (links : FormLinks) (m : ℕ) (o p : Option BinOp) (lower upper : Checked LogicTerm) (a : Checked Sorted) → Gives (TermKept m o) lower
+    → Gives (UpperKept links) upper → Gives (SortedKept (m + tokens_of_form_links links) p) a → Gives (ConjunctsKept (m + tokens_of_form_links links)) (chain_conjunct at k bs place links lower upper a)
+chain_conjunct_kept at k [] place links m o p lower upper a v w z = another_kept place (m + tokens_of_form_links links) p a z
+chain_conjunct_kept at k (b ∷ bs) place read.NoLink m o p lower upper a v w z = tt
+chain_conjunct_kept at k (b ∷ bs) place (read.Linked l r c read.NoLink) m o p lower upper a v w z = tt
+chain_conjunct_kept at k (b ∷ bs) place (read.Linked l r c (read.Linked x s d rest)) m o p lower upper a v w z =
+    let links = read.Linked l r c (read.Linked x s d rest) in
+    let n = m + tokens_of_form_links links in
+    gives_pair (TermKept m o) (UpperKept links) (ConjunctsKept n) lower upper (λ p. Good (chain_over k b bs r (read.Linked x s d rest) p.0 p.1)) v w (chain_over_kept k b bs m o l r c x s d rest)
+
+exists_kept : (at : Place) (n : ℕ) (c : Conjuncts) → ConjunctsKept n c → Gives (SortedKept (suc n) None) (existential at c)
+exists_kept at n c v = gives_given (SortedKept (suc n) None) c.others (no_guard at) _ (λ p e. (let w = subst (OthersKept v.l) e v.others in let i = v.all in ((v.chains.0, w.0), omega (arith, v.chains.1, w.1, i))))
+
+for_all_by : (at place : Place) (m n : ℕ) (c : Conjuncts) (v : ConjunctsKept m c) (p : Predicate) → PredicateKept n p → (h : Option Predicate) → OthersKept v.l h
+    → PredicateKept (suc (suc (m + n))) (Quantified at ForAll (guards_of c.chains) (implied place h p))
+for_all_by at place m n c v p x None y = let i = v.all in ((v.chains.0, x.0), omega (arith, v.chains.1, x.1, i))
+for_all_by at place m n c v p x (Some h) y = let i = v.all in ((v.chains.0, (y.0, x.0)), omega (arith, v.chains.1, x.1, y.1, i))
+
+for_all_kept : (at place : Place) (m n : ℕ) (o : Option BinOp) (c : Conjuncts) (a : Sorted) → ConjunctsKept m c → SortedKept n o a → Gives (SortedKept (suc (suc (m + n))) None) (universal at place c a)
+for_all_kept at place m n o c a v w =
+    gives_one (PredicateKept n) (SortedKept (suc (suc (m + n))) None) (as_predicate place a) _ (predicate_kept place n o a w) (λ p x. for_all_by at place m n c v p x c.others v.others)
+
+quantified_kept : (at place : Place) (q : Quantifier) (j : Connective) (m n : ℕ) (o : Option BinOp) (a b : Checked Conjuncts) (x : Checked Sorted) → Gives (ConjunctsKept m) a → Gives (ConjunctsKept n) b → Gives (SortedKept n o) x
+    → Gives (SortedKept (suc (suc (m + n))) None) (quantified at place q j a b x)
+quantified_kept at place ForAll Implies m n o a b x v w z =
+    gives_pair (ConjunctsKept m) (SortedKept n o) (SortedKept (suc (suc (m + n))) None) a x (λ p. universal at place p.0 p.1) v z (for_all_kept at place m n o)
+quantified_kept at place Exists And m n o a b x v w z =
+    gives_one (ConjunctsKept (suc (m + n))) (SortedKept (suc (suc (m + n))) None) (conjunction place a b) (existential at) (conjunction_kept place m n a b v w) (exists_kept at (suc (m + n)))
+quantified_kept at place ForAll And m n o a b x v w z = tt
+quantified_kept at place ForAll Xor m n o a b x v w z = tt
+quantified_kept at place ForAll Or m n o a b x v w z = tt
+quantified_kept at place ForAll Iff m n o a b x v w z = tt
+quantified_kept at place Exists Xor m n o a b x v w z = tt
+quantified_kept at place Exists Or m n o a b x v w z = tt
+quantified_kept at place Exists Implies m n o a b x v w z = tt
+quantified_kept at place Exists Iff m n o a b x v w z = tt
 
 mutual
   form_kept : (s : AnnotationSight) → SeesAll s → (f : Form) → FormNumbered f → Gives (FormKept f) (typed_form s f)
@@ -540,9 +300,87 @@ mutual
   form_kept s k (read.Result at) h = result_kept s.clause at
   form_kept s k (read.Old at a) h =
       gives_where (SortedKept (suc (tokens_of_form a)) None) (has_old s.clause) (no_label at) _ (λ e.
-      labelled_kept s at at (tokens_of_form a) (operator_of_form a) (λ b. has_past b a) (λ u. typed_form u a) (λ l u g. form_kept u (sees_at s k l u g) a h) (Some label.Pre))
+      labelled_kept s at at (tokens_of_form a) (operator_of_form a) (is_refused s a) (λ u. typed_form u a) (λ l u g. form_kept u (sees_at s k l u g) a h) (Some label.Pre))
   form_kept s k (read.At at a place l) h =
-      labelled_kept s at place (tokens_of_form a) (operator_of_form a) (λ b. has_past b a) (λ u. typed_form u a) (λ j u g. form_kept u (sees_at s k j u g) a h) (label_named s l)
+      labelled_kept s at place (tokens_of_form a) (operator_of_form a) (is_refused s a) (λ u. typed_form u a) (λ j u g. form_kept u (sees_at s k j u g) a h) (label_named s l)
+  form_kept s k (read.Quantified at q to names a) h =
+      gives_where (FormKept (read.Quantified at q to names a)) (is_guarded q names a) (no_guard at) _ (λ e.
+      gives_one (λ (c : CastType). Unit {0}) (FormKept (read.Quantified at q to names a)) (binder_type s.here at to) (λ j. typed_quantified s at q j names a) (anything (binder_type s.here at to)) (λ j u. quantifier_kept s k at q j names a h.1))
+
+  quantifier_kept : (s : AnnotationSight) → SeesAll s → (at : Place) (q : Quantifier) (j : CastType) (bs : List (Place × ℕ)) (f : Form) → FormNumbered f → Gives (SortedKept (suc (tokens_of_form f)) None) (typed_quantified s at q j bs f)
+  quantifier_kept s k at q j bs (read.Connected place i a b) h =
+      let u = with_binders s (guarded_by bs a) in
+      let v = sees_binders s (guarded_by bs a) k in
+      quantified_kept at place q i (tokens_of_form a) (tokens_of_form b) (operator_of_form b) (typed_conjuncts s at j bs place a (typed_form s a)) (typed_conjuncts u at j (left_behind bs a) place b (typed_form u b))
+      (value_in (typed_form (with_binders s bs) b))
+      (conjuncts_kept s k at j bs place a h.0 (form_kept s k a h.0)) (conjuncts_kept u v at j (left_behind bs a) place b h.1 (form_kept u v b h.1))
+      (values_kept b (typed_form (with_binders s bs) b) (form_kept (with_binders s bs) (sees_binders s bs k) b h.1))
+  quantifier_kept s k here q i bs (read.Number at n) h = tt
+  quantifier_kept s k here q i bs (read.Letter at n) h = tt
+  quantifier_kept s k here q i bs (read.Truth at v) h = tt
+  quantifier_kept s k here q i bs (read.Name at x) h = tt
+  quantifier_kept s k here q i bs (read.Unary at op a) h = tt
+  quantifier_kept s k here q i bs (read.Binary at op a b) h = tt
+  quantifier_kept s k here q i bs (read.Cast at to a) h = tt
+  quantifier_kept s k here q i bs (read.SizeOf at u) h = tt
+  quantifier_kept s k here q i bs (read.Choice at j a b) h = tt
+  quantifier_kept s k here q i bs (read.Null at) h = tt
+  quantifier_kept s k here q i bs (read.Index at a b) h = tt
+  quantifier_kept s k here q i bs (read.Dot at a m) h = tt
+  quantifier_kept s k here q i bs (read.Arrow at a m) h = tt
+  quantifier_kept s k here q i bs (read.Told at f a) h = tt
+  quantifier_kept s k here q i bs (read.Asks at p z) h = tt
+  quantifier_kept s k here q i bs (read.Separated at zs) h = tt
+  quantifier_kept s k here q i bs (read.Result at) h = tt
+  quantifier_kept s k here q i bs (read.Old at a) h = tt
+  quantifier_kept s k here q i bs (read.At at a place l) h = tt
+  quantifier_kept s k here q i bs (read.Quantified at p to names a) h = tt
+  quantifier_kept s k here q i bs (read.Chain at a links) h = tt
+
+  conjuncts_kept : (s : AnnotationSight) → SeesAll s → (at : Place) (j : CastType) (bs : List (Place × ℕ)) (place : Place) (f : Form) → FormNumbered f → Gives (FormKept f) (typed_form s f)
+      → Gives (ConjunctsKept (tokens_of_form f)) (typed_conjuncts s at j bs place f (typed_form s f))
+  conjuncts_kept s k at j bs place (read.Connected here And a b) h w =
+      let u = with_binders s (guarded_by bs a) in
+      let v = sees_binders s (guarded_by bs a) k in
+      conjunction_kept here (tokens_of_form a) (tokens_of_form b) (typed_conjuncts s at j bs here a (typed_form s a)) (typed_conjuncts u at j (left_behind bs a) here b (typed_form u b))
+      (conjuncts_kept s k at j bs here a h.0 (form_kept s k a h.0)) (conjuncts_kept u v at j (left_behind bs a) here b h.1 (form_kept u v b h.1))
+  conjuncts_kept s k at j bs place (read.Chain here a links) h w =
+      chain_conjunct_kept at j bs place links (tokens_of_form a) (operator_of_form a) None (bound_at here (typed_form s a)) (typed_upper s at links) (typed_form s (read.Chain here a links))
+      (bound_kept here (tokens_of_form a) (operator_of_form a) (typed_form s a) (form_kept s k a h.0)) (upper_kept s k at links h.1) w
+  conjuncts_kept s k here i bs there (read.Number at n) h w = other_kept here there bs (tokens_of_form (read.Number at n)) (operator_of_form (read.Number at n)) (typed_form s (read.Number at n)) w
+  conjuncts_kept s k here i bs there (read.Letter at n) h w = other_kept here there bs (tokens_of_form (read.Letter at n)) (operator_of_form (read.Letter at n)) (typed_form s (read.Letter at n)) w
+  conjuncts_kept s k here i bs there (read.Truth at v) h w = other_kept here there bs (tokens_of_form (read.Truth at v)) (operator_of_form (read.Truth at v)) (typed_form s (read.Truth at v)) w
+  conjuncts_kept s k here i bs there (read.Name at x) h w = other_kept here there bs (tokens_of_form (read.Name at x)) (operator_of_form (read.Name at x)) (typed_form s (read.Name at x)) w
+  conjuncts_kept s k here i bs there (read.Unary at op a) h w = other_kept here there bs (tokens_of_form (read.Unary at op a)) (operator_of_form (read.Unary at op a)) (typed_form s (read.Unary at op a)) w
+  conjuncts_kept s k here i bs there (read.Binary at op a b) h w = other_kept here there bs (tokens_of_form (read.Binary at op a b)) (operator_of_form (read.Binary at op a b)) (typed_form s (read.Binary at op a b)) w
+  conjuncts_kept s k here i bs there (read.Cast at to a) h w = other_kept here there bs (tokens_of_form (read.Cast at to a)) (operator_of_form (read.Cast at to a)) (typed_form s (read.Cast at to a)) w
+  conjuncts_kept s k here i bs there (read.SizeOf at u) h w = other_kept here there bs (tokens_of_form (read.SizeOf at u)) (operator_of_form (read.SizeOf at u)) (typed_form s (read.SizeOf at u)) w
+  conjuncts_kept s k here i bs there (read.Choice at j a b) h w = other_kept here there bs (tokens_of_form (read.Choice at j a b)) (operator_of_form (read.Choice at j a b)) (typed_form s (read.Choice at j a b)) w
+  conjuncts_kept s k here i bs there (read.Null at) h w = other_kept here there bs (tokens_of_form (read.Null at)) (operator_of_form (read.Null at)) (typed_form s (read.Null at)) w
+  conjuncts_kept s k here i bs there (read.Index at a b) h w = other_kept here there bs (tokens_of_form (read.Index at a b)) (operator_of_form (read.Index at a b)) (typed_form s (read.Index at a b)) w
+  conjuncts_kept s k here i bs there (read.Dot at a m) h w = other_kept here there bs (tokens_of_form (read.Dot at a m)) (operator_of_form (read.Dot at a m)) (typed_form s (read.Dot at a m)) w
+  conjuncts_kept s k here i bs there (read.Arrow at a m) h w = other_kept here there bs (tokens_of_form (read.Arrow at a m)) (operator_of_form (read.Arrow at a m)) (typed_form s (read.Arrow at a m)) w
+  conjuncts_kept s k here i bs there (read.Told at f a) h w = other_kept here there bs (tokens_of_form (read.Told at f a)) (operator_of_form (read.Told at f a)) (typed_form s (read.Told at f a)) w
+  conjuncts_kept s k here i bs there (read.Asks at p z) h w = other_kept here there bs (tokens_of_form (read.Asks at p z)) (operator_of_form (read.Asks at p z)) (typed_form s (read.Asks at p z)) w
+  conjuncts_kept s k here i bs there (read.Separated at zs) h w = other_kept here there bs (tokens_of_form (read.Separated at zs)) (operator_of_form (read.Separated at zs)) (typed_form s (read.Separated at zs)) w
+  conjuncts_kept s k here i bs there (read.Result at) h w = other_kept here there bs (tokens_of_form (read.Result at)) (operator_of_form (read.Result at)) (typed_form s (read.Result at)) w
+  conjuncts_kept s k here i bs there (read.Old at a) h w = other_kept here there bs (tokens_of_form (read.Old at a)) (operator_of_form (read.Old at a)) (typed_form s (read.Old at a)) w
+  conjuncts_kept s k here i bs there (read.At at a place l) h w = other_kept here there bs (tokens_of_form (read.At at a place l)) (operator_of_form (read.At at a place l)) (typed_form s (read.At at a place l)) w
+  conjuncts_kept s k here i bs there (read.Quantified at p to names a) h w = other_kept here there bs (tokens_of_form (read.Quantified at p to names a)) (operator_of_form (read.Quantified at p to names a))
+      (typed_form s (read.Quantified at p to names a)) w
+  conjuncts_kept s k here i bs there (read.Connected at Xor a b) h w = other_kept here there bs (tokens_of_form (read.Connected at Xor a b)) (operator_of_form (read.Connected at Xor a b)) (typed_form s (read.Connected at Xor a b)) w
+  conjuncts_kept s k here i bs there (read.Connected at Or a b) h w = other_kept here there bs (tokens_of_form (read.Connected at Or a b)) (operator_of_form (read.Connected at Or a b)) (typed_form s (read.Connected at Or a b)) w
+  conjuncts_kept s k here i bs there (read.Connected at Implies a b) h w = other_kept here there bs (tokens_of_form (read.Connected at Implies a b)) (operator_of_form (read.Connected at Implies a b)) (typed_form s (read.Connected at Implies a b)) w
+  conjuncts_kept s k here i bs there (read.Connected at Iff a b) h w = other_kept here there bs (tokens_of_form (read.Connected at Iff a b)) (operator_of_form (read.Connected at Iff a b)) (typed_form s (read.Connected at Iff a b)) w
+
+  upper_kept : (s : AnnotationSight) → SeesAll s → (at : Place) (links : FormLinks) → FormLinksNumbered links → Gives (UpperKept links) (typed_upper s at links)
+  upper_kept s k at read.NoLink h = tt
+  upper_kept s k at (read.Linked place r a read.NoLink) h =
+      gives_more (TermKept (tokens_of_form a) (operator_of_form a)) (UpperKept (read.Linked place r a read.NoLink)) (bound_at place (typed_form s a)) (bound_kept place (tokens_of_form a) (operator_of_form a) (typed_form s a) (form_kept s k a h.0))
+      (upper_last place r a (operator_of_form a))
+  upper_kept s k at (read.Linked place r a (read.Linked l u c rest)) h =
+      gives_more (UpperKept (read.Linked l u c rest)) (UpperKept (read.Linked place r a (read.Linked l u c rest))) (typed_upper s at (read.Linked l u c rest)) (upper_kept s k at (read.Linked l u c rest) h.1)
+      (upper_more place r a l u c rest)
 
   links_kept : (s : AnnotationSight) → SeesAll s → (left : Side) (links : FormLinks) → FormLinksNumbered links → Gives (LinksKept (tokens_of_form_links links)) (typed_links s left links)
   links_kept s k left read.NoLink h = (tt, omega arith)
@@ -579,32 +417,82 @@ clause_holds_kept n o (ATerm t) w = holds_kept (place_of_term t) n o t w
 clause_holds_kept n o (APredicate p) w = w
 clause_holds_kept n o (APlace t) w = holds_kept (place_of_term t) n o t w
 
-pub clause_kept : (s : AnnotationSight) → SeesAll s → (b : ClauseBody) → IsShortReading b → Gives IsShortClause (typed_clause s b)
-clause_kept s k (Raw f) h = gives_one (FormKept f) IsShortClause (value_in (typed_form s f)) _ (values_kept f (typed_form s f) (form_kept s k f h.numbered)) (λ a v.
-    gives_one (PredicateKept (tokens_of_form f)) IsShortClause (clause_holds a) (λ p. Good (Holds p)) (clause_holds_kept (tokens_of_form f) (operator_of_form f) a v) (λ p w. record { numbered = w.0; short = omega (arith, w.1, h.short) }))
-clause_kept s k (Holds p) h = absurd h
-clause_kept s k (Value t) h = absurd h
-clause_kept s k (Behaviors names) h = absurd h
+variant_kept : (n : ℕ) (o : Option BinOp) (a : Sorted) → SortedKept n o a → Gives (TermKept n o) (variant_value a)
+variant_kept n o (ATerm t) w = gives_where (TermKept n o) (is_integer (sort_of_term t)) (no_type (place_of_term t)) (Good t) (λ e. w)
+variant_kept n o (APredicate p) w = tt
+variant_kept n o (APlace t) w = gives_where (TermKept n o) (is_integer (sort_of_term t)) (no_type (place_of_term t)) (Good t) (λ e. w)
+
+-- what a clause of a kind says
+abbrev IsSaid : Kind → ClauseBody → Type 0
+IsSaid Variant b = IsLoopKind b Variant × IsShortClause b
+IsSaid Invariant b = IsLoopKind b Invariant × IsShortClause b
+IsSaid k b = IsShortClause b
+
+short_predicate : (n : ℕ) → n ≤ 400 → (o : Option BinOp) (a : Sorted) → SortedKept n o a → Gives (λ p. IsShortPredicate p) (clause_holds a)
+short_predicate n h o a v =
+    gives_more (PredicateKept n) (λ p. IsShortPredicate p) (clause_holds a) (clause_holds_kept n o a v) (λ p w. record { numbered = w.0; short = omega (arith, w.1, h) })
+
+predicate_said : (n : ℕ) → n ≤ 400 → (o : Option BinOp) (a : Sorted) → SortedKept n o a → Gives IsShortClause (one_part (clause_holds a) (λ p. Good (Holds p)))
+predicate_said n h o a v = gives_one (λ p. IsShortPredicate p) IsShortClause (clause_holds a) (λ p. Good (Holds p)) (short_predicate n h o a v) (λ p w. w)
+
+said_kept : (n : ℕ) → n ≤ 400 → (o : Option BinOp) (k : Kind) (a : Sorted) → SortedKept n o a → Gives (IsSaid k) (said k a)
+said_kept n h o Variant a v = gives_one (TermKept n o) (IsSaid Variant) (variant_value a) (λ t. Good (Value t)) (variant_kept n o a v) (λ t w. (refl, (w.0, omega (arith, w.1, h))))
+said_kept n h o Invariant a v = gives_one (λ p. IsShortPredicate p) (IsSaid Invariant) (clause_holds a) (λ p. Good (Holds p)) (short_predicate n h o a v) (λ p w. (refl, w))
+said_kept n h o Assert a v = predicate_said n h o a v
+said_kept n h o Requires a v = predicate_said n h o a v
+said_kept n h o Assumes a v = predicate_said n h o a v
+said_kept n h o Ensures a v = predicate_said n h o a v
+said_kept n h o Complete a v = predicate_said n h o a v
+said_kept n h o Disjoint a v = predicate_said n h o a v
+said_kept n h o Rte a v = predicate_said n h o a v
+
+said_clause : (s : AnnotationSight) → SeesAll s → (k : Kind) (b : ClauseBody) → IsShortReading b → Gives (IsSaid k) (typed_clause s k b)
+said_clause s k j (Raw f) h =
+    gives_one (FormKept f) (IsSaid j) (value_in (typed_form s f)) (said j) (values_kept f (typed_form s f) (form_kept s k f h.numbered)) (said_kept (tokens_of_form f) h.short (operator_of_form f) j)
+said_clause s k j (Holds p) h = absurd h
+said_clause s k j (Value t) h = absurd h
+said_clause s k j (Behaviors names) h = absurd h
+
+short_said : (k : Kind) (b : ClauseBody) → IsSaid k b → IsShortClause b
+short_said Variant b h = h.1
+short_said Invariant b h = h.1
+short_said Assert b h = h
+short_said Requires b h = h
+short_said Assumes b h = h
+short_said Ensures b h = h
+short_said Complete b h = h
+short_said Disjoint b h = h
+short_said Rte b h = h
+
+pub clause_kept : (s : AnnotationSight) → SeesAll s → (k : Kind) (b : ClauseBody) → IsShortReading b → Gives IsShortClause (typed_clause s k b)
+clause_kept s k j b h = gives_more (IsSaid j) IsShortClause (typed_clause s j b) (said_clause s k j b h) (short_said j)
 
 asserts_kept : (s : AnnotationSight) → SeesAll s → (annots : List Annotation) → AreReadAsserts annots → Gives AreAsserts (typed_annotations s annots)
 asserts_kept s k [] h = tt
 asserts_kept s k (a ∷ rest) h =
-    gives_one IsShortClause AreAsserts (typed_clause s a.body) (λ b. one_part (typed_annotations s rest) (λ rest. Good (record a { body = b } ∷ rest))) (clause_kept s k a.body h.0.body) (λ b v.
+    gives_one IsShortClause AreAsserts (typed_clause s a.kind a.body) (λ b. one_part (typed_annotations s rest) (λ rest. Good (record a { body = b } ∷ rest))) (clause_kept s k a.kind a.body h.0.body) (λ b v.
     gives_one AreAsserts AreAsserts (typed_annotations s rest) (λ rest. Good (record a { body = b } ∷ rest)) (asserts_kept s k rest h.1) (λ rest w. (record { kind = h.0.kind; body = v }, w)))
 
-none_kept : (s : AnnotationSight) (annots : List Annotation) → annots ≡ [] → Gives (λ b. b ≡ []) (typed_annotations s annots)
-none_kept s annots e = subst (λ a. Gives (λ b. b ≡ []) (typed_annotations s a)) (sym e) refl
+loop_said : (a : Annotation) (b : ClauseBody) → (a.kind ≡ Invariant) ⊎ (a.kind ≡ Variant) → IsSaid a.kind b → IsLoopClause (record a { body = b })
+loop_said a b (inl e) h = let w = subst (λ k. IsSaid k b) e h in record { kind = subst (IsLoopKind b) (sym e) w.0; body = w.1 }
+loop_said a b (inr e) h = let w = subst (λ k. IsSaid k b) e h in record { kind = subst (IsLoopKind b) (sym e) w.0; body = w.1 }
+
+loops_kept : (s : AnnotationSight) → SeesAll s → (annots : List Annotation) → AreReadLoopClauses annots → Gives AreLoopClauses (typed_annotations s annots)
+loops_kept s k [] h = tt
+loops_kept s k (a ∷ rest) h =
+    gives_one (IsSaid a.kind) AreLoopClauses (typed_clause s a.kind a.body) (λ b. one_part (typed_annotations s rest) (λ rest. Good (record a { body = b } ∷ rest))) (said_clause s k a.kind a.body h.0.body) (λ b v.
+    gives_one AreLoopClauses AreLoopClauses (typed_annotations s rest) (λ rest. Good (record a { body = b } ∷ rest)) (loops_kept s k rest h.1) (λ rest w. (loop_said a b h.0.kind v, w)))
 
 -- what is kept of annotations
 pub record AreSameNotes (s : AnnotationSight) (a b : List Annotation) : Type 0 where
   pub asserts : SeesAll s → AreReadAsserts a → AreAsserts b
-  pub none : a ≡ [] → b ≡ []
+  pub loops : SeesAll s → AreReadLoopClauses a → AreLoopClauses b
 
 pub annotations_kept : (s : AnnotationSight) (annots : List Annotation) → Gives (AreSameNotes s annots) (typed_annotations s annots)
 annotations_kept s annots =
     by (typed_annotations s annots) (gives_if (SeesAll s × AreReadAsserts annots) AreAsserts (typed_annotations s annots) (λ h. asserts_kept s h.0 annots h.1))
-    (gives_if (annots ≡ []) (λ b. b ≡ []) (typed_annotations s annots) (none_kept s annots))
+    (gives_if (SeesAll s × AreReadLoopClauses annots) AreLoopClauses (typed_annotations s annots) (λ h. loops_kept s h.0 annots h.1))
   where
-    by : (c : Checked (List Annotation)) → Gives (λ b. SeesAll s × AreReadAsserts annots → AreAsserts b) c → Gives (λ b. annots ≡ [] → b ≡ []) c → Gives (AreSameNotes s annots) c
-    by (Good b) f g = record { asserts = λ k h. f (k, h); none = g }
+    by : (c : Checked (List Annotation)) → Gives (λ b. SeesAll s × AreReadAsserts annots → AreAsserts b) c → Gives (λ b. SeesAll s × AreReadLoopClauses annots → AreLoopClauses b) c → Gives (AreSameNotes s annots) c
+    by (Good b) f g = record { asserts = λ k h. f (k, h); loops = λ k h. g (k, h) }
     by (Bad x xs) f g = tt

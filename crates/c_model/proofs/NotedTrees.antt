@@ -22,17 +22,18 @@ use Rattle.c_model.specs.AnnotationTyping.{inside_block, inside_for, with_label,
 use Rattle.c_model.specs.TypedTrees.{StatementTyped, ElseTyped, ItemTyped, ItemsTyped, around_body, BodyTyped, FunctionTyped}
 use Rattle.c_model.specs.TypedPredicates.{AnnotationsTyped, IsRead, AreRead}
 use Rattle.c_model.specs.TypedAnnotations.{StatementNoted, CasesNoted, ElseNoted, ItemNoted, ItemsNoted, BodyNoted, FunctionNoted, FunctionsNoted}
-use Rattle.c_model.specs.Formed.{IsShortReading, AreReadAsserts}
+use Rattle.c_model.specs.Formed.{AreReadLoopClauses, IsShortReading, AreReadAsserts}
 use Rattle.c_model.specs.EffectPlaces.{StatementPlaced, CasesPlaced, ElsePlaced, ItemPlaced, ItemsPlaced}
 use Rattle.c_model.specs.ReadTree.{BodyRead, FunctionRead, FunctionsRead, functions_among}
 use Rattle.c_model.proofs.TypedParts.{Gives, gives_of, gives_one, gives_if}
-use Rattle.c_model.proofs.PredicateTrees.{annotations_well, anything}
+use Rattle.c_model.proofs.SortedTrees.{anything}
+use Rattle.c_model.proofs.PredicateTrees.{annotations_well}
 use Rattle.c_model.proofs.NotedWider.{function_wider}
 
 -- ---- annotations
 
 pub is_read : (b : ClauseBody) → IsShortReading b → IsRead b
-is_read (Raw f) h = tt
+is_read (Raw f) h = h.numbered
 is_read (Holds p) h = absurd h
 is_read (Value t) h = absurd h
 is_read (Behaviors names) h = absurd h
@@ -41,8 +42,9 @@ pub are_read : (annots : List Annotation) → AreReadAsserts annots → AreRead 
 are_read [] h = tt
 are_read (a ∷ rest) h = (is_read a.body h.0.body, are_read rest h.1)
 
-pub none_read : (annots : List Annotation) → annots ≡ [] → AreRead annots
-none_read annots e = subst AreRead (sym e) tt
+pub loops_read : (annots : List Annotation) → AreReadLoopClauses annots → AreRead annots
+loops_read [] h = tt
+loops_read (a ∷ rest) h = (is_read a.body h.0.body, loops_read rest h.1)
 
 -- those that were read are well typed
 abbrev WellNoted : AnnotationSight → List Annotation → List Annotation → Type 0
@@ -55,28 +57,28 @@ annotations_noted s annots = gives_if (AreRead annots) (AnnotationsTyped s) (typ
 
 -- b is a with typed annotations
 record IsNoted (s : AnnotationSight) (a b : Statement) : Type 0 where
-  noted : StatementPlaced AreReadAsserts a → StatementNoted s b
+  noted : StatementPlaced AreReadAsserts AreReadLoopClauses a → StatementNoted s b
   kept : (u : Sight) (r : Around) → StatementTyped u r a → StatementTyped u r b
   labels : labels_within b ≡ labels_within a
 
 record IsElseNoted (s : AnnotationSight) (a b : ElsePart) : Type 0 where
-  noted : ElsePlaced AreReadAsserts a → ElseNoted s b
+  noted : ElsePlaced AreReadAsserts AreReadLoopClauses a → ElseNoted s b
   kept : (u : Sight) (r : Around) → ElseTyped u r a → ElseTyped u r b
   labels : labels_in_else b ≡ labels_in_else a
 
 record IsItemNoted (s : AnnotationSight) (a b : BlockItem) : Type 0 where
-  noted : ItemPlaced AreReadAsserts a → ItemNoted s b
+  noted : ItemPlaced AreReadAsserts AreReadLoopClauses a → ItemNoted s b
   kept : (u : Sight) (r : Around) → ItemTyped u r a → ItemTyped u r b
   labels : labels_in_item b ≡ labels_in_item a
   sight : (u : Sight) → behind u b ≡ behind u a
 
 record AreNoted (s : AnnotationSight) (a b : BlockItems) : Type 0 where
-  noted : ItemsPlaced AreReadAsserts a → ItemsNoted s b
+  noted : ItemsPlaced AreReadAsserts AreReadLoopClauses a → ItemsNoted s b
   kept : (u : Sight) (r : Around) → ItemsTyped u r a → ItemsTyped u r b
   labels : labels_in_items b ≡ labels_in_items a
 
 record AreCasesNoted (s : AnnotationSight) (a b : Cases) : Type 0 where
-  noted : CasesPlaced AreReadAsserts a → CasesNoted s b
+  noted : CasesPlaced AreReadAsserts AreReadLoopClauses a → CasesNoted s b
   kept : (u : Sight) (r : Around) (k : CInt) → CasesTyped u r k a → CasesTyped u r k b
   labels : labels_in_cases b ≡ labels_in_cases a
 
@@ -94,15 +96,15 @@ mutual
   statement_noted s (While at annots e a) =
       gives_one (WellNoted s annots) (IsNoted s (While at annots e a)) (typed_annotations s annots) (λ annots. one_part (noted_statement s a) (λ a. Good (While at annots e a))) (annotations_noted s annots) (λ n v.
       gives_one (IsNoted s a) (IsNoted s (While at annots e a)) (noted_statement s a) (λ a. Good (While at n e a)) (statement_noted s a) (λ c w.
-      record { noted = λ p. (v (none_read annots p.0), w.noted p.1); kept = λ u r h. (h.0, w.kept u (in_loop r) h.1); labels = w.labels }))
+      record { noted = λ p. (v (loops_read annots p.0), w.noted p.1); kept = λ u r h. (h.0, w.kept u (in_loop r) h.1); labels = w.labels }))
   statement_noted s (Do at a e) =
       gives_one (IsNoted s a) (IsNoted s (Do at a e)) (noted_statement s a) (λ a. Good (Do at a e)) (statement_noted s a) (λ c w.
       record { noted = w.noted; kept = λ u r h. (w.kept u (in_loop r) h.0, h.1); labels = w.labels })
   statement_noted s (For at annots first e step a) =
-      gives_one (WellNoted s annots) (IsNoted s (For at annots first e step a)) (typed_annotations s annots)
-      (λ annots. one_part (noted_statement (inside_for s first) a) (λ a. Good (For at annots first e step a))) (annotations_noted s annots) (λ n v.
+      gives_one (WellNoted (inside_for s first) annots) (IsNoted s (For at annots first e step a)) (typed_annotations (inside_for s first) annots)
+      (λ annots. one_part (noted_statement (inside_for s first) a) (λ a. Good (For at annots first e step a))) (annotations_noted (inside_for s first) annots) (λ n v.
       gives_one (IsNoted (inside_for s first) a) (IsNoted s (For at annots first e step a)) (noted_statement (inside_for s first) a) (λ a. Good (For at n first e step a)) (statement_noted (inside_for s first) a) (λ c w.
-      record { noted = λ p. (v (none_read annots p.0), w.noted p.2); kept = λ u r h. (h.0, h.1, h.2, w.kept (behind_first (inner u) first) (in_loop r) h.3); labels = w.labels }))
+      record { noted = λ p. (v (loops_read annots p.0), w.noted p.2); kept = λ u r h. (h.0, h.1, h.2, w.kept (behind_first (inner u) first) (in_loop r) h.3); labels = w.labels }))
   statement_noted s (Break at) = record { noted = λ p. tt; kept = λ u r w. w; labels = refl }
   statement_noted s (Continue at) = record { noted = λ p. tt; kept = λ u r w. w; labels = refl }
   statement_noted s (Return at e) = record { noted = λ p. tt; kept = λ u r w. w; labels = refl }
@@ -142,7 +144,7 @@ mutual
 -- ---- functions
 
 record IsBodyNoted (s : AnnotationSight) (t : PlainType) (a b : Option Statement) : Type 0 where
-  noted : BodyRead AreReadAsserts a → BodyNoted s b
+  noted : BodyRead AreReadAsserts AreReadLoopClauses a → BodyNoted s b
   kept : (u : Sight) → BodyTyped u t a → BodyTyped u t b
   labels : typed_labels b ≡ typed_labels a
 
@@ -155,7 +157,7 @@ body_noted s t (Some _) = record { noted = λ p. tt; kept = λ u h. h; labels = 
 
 -- a function whose asserts are typed
 pub record IsFunctionNoted (s : Sight) (f g : Function) : Type 0 where
-  pub noted : FunctionRead AreReadAsserts f → FunctionNoted s g
+  pub noted : FunctionRead AreReadAsserts AreReadLoopClauses f → FunctionNoted s g
   pub kept : FunctionTyped s f → FunctionTyped s g
 
 pub function_noted : (all : List Function) (s : Sight) (f : Function) → Gives (IsFunctionNoted s f) (noted_function all s f)
@@ -170,7 +172,7 @@ function_noted all s f =
     seen : AnnotationSight
     seen = in_body (with_parameters (inner (known_at f.place s)) f.params)
 
-functions_noted : (p : TranslationUnit) (s : Sight) (is : List FileItem) → FunctionsRead AreReadAsserts (functions_among is) → Gives (FunctionsNoted p s is) (noted_functions p s is)
+functions_noted : (p : TranslationUnit) (s : Sight) (is : List FileItem) → FunctionsRead AreReadAsserts AreReadLoopClauses (functions_among is) → Gives (FunctionsNoted p s is) (noted_functions p s is)
 functions_noted p s [] r = refl
 functions_noted p s (AFunction f ∷ is) r =
     gives_one (IsFunctionNoted (with_function p s f) f) (FunctionsNoted p s (AFunction f ∷ is)) (noted_function p.funcs (with_function p s f) f)
@@ -195,7 +197,7 @@ moved_noted all p s (ATypedef d ∷ is) gs h = moved_noted all p (behind_item p 
 moved_noted all p s (AGlobal d ∷ is) gs h = moved_noted all p (behind_item p s (AGlobal d)) is gs h
 
 -- the functions of a text whose annotations are typed
-pub unit_noted : (p q : TranslationUnit) → FunctionsRead AreReadAsserts (functions_among (items_of_file p)) → noted_unit p ≡ Good q
+pub unit_noted : (p q : TranslationUnit) → FunctionsRead AreReadAsserts AreReadLoopClauses (functions_among (items_of_file p)) → noted_unit p ≡ Good q
     → FunctionsNoted p (sight_with p p.structs) (items_of_file p) q.funcs
 unit_noted p q r is = gives_of (λ (q : TranslationUnit). FunctionsNoted p (sight_with p p.structs) (items_of_file p) q.funcs) (noted_unit p) q
     (gives_one (FunctionsNoted p (sight_with p p.structs) (items_of_file p)) (λ (q : TranslationUnit). FunctionsNoted p (sight_with p p.structs) (items_of_file p) q.funcs)

@@ -1,13 +1,13 @@
 -- Annotations that are typed where the sizes of fewer structs are known are so where those of more are.
 use Rattle.c_model.specs.TypedAnnotations.{CasesNoted}
-use Rattle.std.proofs.Common.{◌≡◌, ℕ, Bool, true, false, cond, nat_eq, refl, sym, ap, ◌∙◌, subst, List, [], ◌∷◌, Option, Some, None}
+use Rattle.std.proofs.Common.{◌≡◌, ℕ, Bool, true, false, cond, nat_eq, refl, sym, ap, ◌∙◌, subst, List, [], ◌∷◌, Option, Some, None, inl, inr}
 use Rattle.std.specs.Prelude.{option_map}
 use Rattle.c_syntax.specs.declared.expression.Use.{Use}
 use Rattle.c_syntax.specs.declared.logic.Label.{Label}
 use Rattle.c_syntax.specs.declared.logic.Label.TheVariants as label
 use Rattle.c_syntax.specs.Ctypes.{PlainType}
 use Rattle.c_syntax.specs.Logic.{LogicTerm, Number, Letter, Variable, Unary, Binary, Cast, Choice, Named, Links, NoLink, Linked, Predicate, Truth, NonZero}
-use Rattle.c_syntax.specs.Logic.{Chain, Not, Connected, Branch, Quantified, ClauseBody, Raw, Holds, Value, Annotation, At, Behaviors, Null, Deref, Member}
+use Rattle.c_syntax.specs.Logic.{Guards, NoGuard, Guarded, Chain, Not, Connected, Branch, Quantified, ClauseBody, Raw, Holds, Value, Annotation, At, Behaviors, Null, Deref, Member}
 use Rattle.c_syntax.specs.Logic.{Address, Moved, Difference, Told, Asks, Separated, Zone, Object, Elements, Zones, NoZone, Another}
 use Rattle.c_syntax.specs.Statements.{Statement, Empty, Eval, Block, If, While, Do, For, Break, Continue, Return, ElsePart, NoElse, Else, BlockItem, Declare, Specify}
 use Rattle.c_syntax.specs.Statements.{ForFirst, Run, Asserts, BlockItems, NoItem, Then, Labelled, Switch, Cases, NoCase, AnotherCase}
@@ -16,7 +16,8 @@ use Rattle.c_model.specs.ExpressionTyping.{Sight, inner}
 use Rattle.c_model.specs.UnitTyping.{with_parameters}
 use Rattle.c_model.specs.AnnotationSights.{ClauseSight, InBody, AtEntry, AtEnd, UnderLabel, AnnotationSight, formals_in, under_label, marked, beginning, sight_at}
 use Rattle.c_model.specs.AnnotationTyping.{inside_block, inside_for, with_label, behind_labels, labels_behind, behind_noted, behind_case, in_body}
-use Rattle.c_model.specs.TypedPredicates.{TermDenotes, IsResult, TermTyped, LinksTyped, ZoneTyped, ZonesTyped, PredicateTyped, ClauseTyped, AnnotationsTyped}
+use Rattle.c_model.specs.AnnotationSights.{with_binders}
+use Rattle.c_model.specs.TypedPredicates.{GuardsTyped, TermDenotes, IsResult, TermTyped, LinksTyped, ZoneTyped, ZonesTyped, PredicateTyped, ClauseTyped, AnnotationsTyped}
 use Rattle.c_model.specs.TypedAnnotations.{StatementNoted, ElseNoted, ItemNoted, ItemsNoted, BodyNoted, FunctionNoted}
 use Rattle.c_model.proofs.StableStatements.{at_last, behind_last, first_last, parameters_last}
 
@@ -36,7 +37,7 @@ module _ (structs : List StructType) (levels tags enums : List ℕ)
     narrow_clause (UnderLabel formals) = UnderLabel formals
 
     abbrev narrowed : AnnotationSight → AnnotationSight
-    narrowed s = record { here = narrow s.here; labels = narrow_labels s.labels; clause = narrow_clause s.clause }
+    narrowed s = record { here = narrow s.here; labels = narrow_labels s.labels; clause = narrow_clause s.clause; binders = s.binders }
 
     -- ---- labels
 
@@ -47,7 +48,7 @@ module _ (structs : List StructType) (levels tags enums : List ℕ)
     formals_same (UnderLabel formals) = refl
 
     under_same : (s : AnnotationSight) (v : Sight) → under_label (narrowed s) (narrow v) ≡ narrowed (under_label s v)
-    under_same s v = λ i. record { here = narrow v; labels = []; clause = UnderLabel (formals_same s.clause i) }
+    under_same s v = λ i. record { here = narrow v; labels = []; clause = UnderLabel (formals_same s.clause i); binders = [] }
 
     under_all : (s : AnnotationSight) (o : Option Sight) → option_map (under_label (narrowed s)) (option_map narrow o) ≡ option_map narrowed (option_map (under_label s) o)
     under_all s None = refl
@@ -95,8 +96,9 @@ module _ (structs : List StructType) (levels tags enums : List ℕ)
       term_wider s (Unary at t r op a) h = (h.0, h.1, h.2, term_wider s a h.3)
       term_wider s (Binary at t r op a b) h = (h.0, h.1, h.2, term_wider s a h.3, term_wider s b h.4)
       term_wider s (Cast at t r to a) h = (h.0, term_wider s a h.1)
-      term_wider s (Choice at t r c a b) h = (h.0, predicate_wider s c h.1, term_wider s a h.2, term_wider s b h.3)
-      term_wider s (Named at t r x) h = result_wider s.clause t x h
+      term_wider s (Choice at t r c a b) h = (h.0, h.1, predicate_wider s c h.2, term_wider s a h.3, term_wider s b h.4)
+      term_wider s (Named at t r x) (inl h) = inl (result_wider s.clause t x h)
+      term_wider s (Named at t r x) (inr h) = inr h
       term_wider s (At at t r l a) h = by (λ u v. term_wider u a v) (sight_at s l) refl (sym (at_same s l) ∙ h.1)
         where
           by : ((u : AnnotationSight) → TermTyped (narrowed u) a → TermTyped u a) → (o : Option AnnotationSight) → sight_at s l ≡ o → option_map narrowed o ≡ Some h.0 → TermTyped s (At at t r l a)
@@ -129,14 +131,19 @@ module _ (structs : List StructType) (levels tags enums : List ℕ)
       predicate_wider s (Not at p) h = predicate_wider s p h
       predicate_wider s (Connected at c p q) h = (predicate_wider s p h.0, predicate_wider s q h.1)
       predicate_wider s (Branch at c p q) h = (predicate_wider s c h.0, predicate_wider s p h.1, predicate_wider s q h.2)
-      predicate_wider s (Quantified at q gs p) h = absurd h
+      predicate_wider s (Quantified at q gs p) h = guards_wider s gs p (λ u. predicate_wider u p) h
       predicate_wider s (Asks at f z) h = zone_wider s z h
       predicate_wider s (Separated at zs) h = zones_wider s zs h
+
+      guards_wider : (s : AnnotationSight) (gs : Guards) (p : Predicate) → ((u : AnnotationSight) → PredicateTyped (narrowed u) p → PredicateTyped u p) → GuardsTyped (narrowed s) gs (λ u. PredicateTyped u p)
+          → GuardsTyped s gs (λ u. PredicateTyped u p)
+      guards_wider s NoGuard p wider h = wider s h
+      guards_wider s (Guarded a y ys below b rest) p wider h = (h.0, h.1, term_wider s a h.2, term_wider s b h.3, h.4, h.5, guards_wider (with_binders s h.4) rest p wider h.6)
 
     clause_wider : (s : AnnotationSight) (b : ClauseBody) → ClauseTyped (narrowed s) b → ClauseTyped s b
     clause_wider s (Raw f) h = absurd h
     clause_wider s (Holds p) h = predicate_wider s p h
-    clause_wider s (Value t) h = absurd h
+    clause_wider s (Value t) h = (h.0, term_wider s t h.1)
     clause_wider s (Behaviors names) h = absurd h
 
     annotations_wider : (s : AnnotationSight) (annots : List Annotation) → AnnotationsTyped (narrowed s) annots → AnnotationsTyped s annots
@@ -146,7 +153,7 @@ module _ (structs : List StructType) (levels tags enums : List ℕ)
     -- ---- what is known where statements stand
 
     for_same : (s : AnnotationSight) (first : ForFirst) → inside_for (narrowed s) first ≡ narrowed (inside_for s first)
-    for_same s first = λ i. record { here = first_last structs levels tags enums (inner s.here) first i; labels = narrow_labels s.labels; clause = narrow_clause s.clause }
+    for_same s first = λ i. record { here = first_last structs levels tags enums (inner s.here) first i; labels = narrow_labels s.labels; clause = narrow_clause s.clause; binders = s.binders }
 
     statement_same : (s : AnnotationSight) (a : Statement) → behind_labels (narrowed s) a ≡ narrowed (behind_labels s a)
     statement_same s (Empty at) = refl
@@ -186,7 +193,7 @@ module _ (structs : List StructType) (levels tags enums : List ℕ)
       statement_wider s (While at annots e a) h = (annotations_wider s annots h.0, statement_wider s a h.1)
       statement_wider s (Do at a e) h = statement_wider s a h
       statement_wider s (For at annots first e step a) h = (
-        annotations_wider s annots h.0,
+        annotations_wider (inside_for s first) annots (subst (λ t. AnnotationsTyped t annots) (for_same s first) h.0),
         statement_wider (inside_for s first) a (subst (λ t. StatementNoted t a) (for_same s first) h.1),
       )
       statement_wider s (Break at) h = tt

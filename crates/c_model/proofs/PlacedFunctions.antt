@@ -1,15 +1,15 @@
 -- The terms that functions keep at labels stand apart in a file whose annotations are typed, since what was read of annotations stands apart.
-use Rattle.std.proofs.Common.{◌≡◌, ◌∙◌, ℕ, ◌+◌, ◌≤◌, ◌⊎◌, inl, inr, Bool, true, false, not, cond, nat_eq, List, [], ◌∷◌, ◌++◌, map, Option, Some, None, refl, sym, ap, subst, arith}
+use Rattle.std.proofs.Common.{◌≡◌, ◌∙◌, ℕ, ◌+◌, ◌≤◌, inl, inr, Bool, true, false, not, cond, nat_eq, List, [], ◌∷◌, ◌++◌, map, Option, Some, None, refl, sym, ap, subst, arith}
 use Rattle.std.proofs.lemmas.Bool.Decides.{nat_tests}
 use Rattle.std.specs.List.{AllByRecursion}
 use Rattle.c_syntax.specs.declared.annotation.Kind.{Kind}
-use Rattle.c_syntax.specs.Logic.{ClauseBody, Raw, Holds, Value, Behaviors, Annotation}
+use Rattle.c_syntax.specs.Logic.{Annotation}
 use Rattle.c_syntax.specs.Statements.{Statement, Empty, Eval, Block, If, While, Do, For, Break, Continue, Return, Labelled, Switch, Cases, NoCase, AnotherCase}
 use Rattle.c_syntax.specs.Statements.{ElsePart, NoElse, Else, ForFirst, NoFirst, First, BlockItem, Declare, Specify, Run, Asserts, BlockItems, NoItem, Then}
 use Rattle.c_syntax.specs.Programs.{NamedBehavior, FunctionContract, Function, TranslationUnit}
 use Rattle.c_model.specs.Library.{is_there}
 use Rattle.c_model.specs.Meaning.{is_definition}
-use Rattle.c_model.specs.Checked.{Checked, Good, Bad, one_part}
+use Rattle.c_model.specs.Checked.{Good, one_part}
 use Rattle.c_model.specs.ExpressionTyping.{no_name, Sight, inner, is_among, or_else}
 use Rattle.c_model.specs.AnnotationSights.{AnnotationSight}
 use Rattle.c_model.specs.PredicateTyping.{typed_clause, typed_annotations}
@@ -17,18 +17,18 @@ use Rattle.c_model.specs.ContractTyping.{typed_clauses, typed_behaviors, names_o
 use Rattle.c_model.specs.AnnotationTyping.{inside_block, inside_for, with_label, behind_noted, behind_case, in_body, noted_statement, noted_cases, noted_else, noted_item, noted_items, noted_body}
 use Rattle.c_model.specs.AnnotationTyping.{known_at, contract_sight, noted_contract, noted_in, noted_function, noted_functions, contract_named, contract_moved, with_contract, with_contracts, noted_unit}
 use Rattle.c_model.specs.UnitTyping.{FileItem, StructHead, Member, AnEnum, ATypedef, AGlobal, AFunction, definition_of, items_of_file, sight_with, with_function, with_parameters, behind_item}
-use Rattle.c_model.specs.Formed.{IsShortReading, AreReadAsserts}
+use Rattle.c_model.specs.Formed.{AreReadLoopClauses, IsShortReading, AreReadAsserts}
 use Rattle.c_model.specs.FormedContracts.{AreClausesOf, BehaviorsFormed, ContractFormed, MaybeFormed, ContractsFormed, IsOwnKind, IsBehaviorKind}
 use Rattle.c_model.specs.EffectPlaces.{StatementPlaced, CasesPlaced, ElsePlaced, FirstPlaced, ItemPlaced, ItemsPlaced}
 use Rattle.c_model.specs.ReadTree.{BodyRead, FunctionRead, FunctionsRead, functions_among}
-use Rattle.c_model.specs.TypedPredicates.{AreRead, IsRead}
 use Rattle.c_model.specs.KeptTerms as kept
 use Rattle.c_model.specs.KeptTerms.{Entry, IsIn, entries_at, offset_of, planned, StandApart, in_clause, in_annotations, in_behaviors, in_contract, in_statement, in_cases, in_else, in_first, in_item, in_items}
 use Rattle.c_model.specs.PlacedForms.{clause_at, annotations_at, behaviors_at, contract_at, statement_at, cases_at, else_at, first_at, item_at, items_at, body_at, functions_at, AnnotationsApart}
 use Rattle.c_model.proofs.TypedParts.{Gives, gives_of, gives_one, gives_where}
-use Rattle.c_model.proofs.PredicateTrees.{anything}
-use Rattle.c_model.proofs.NotedTrees.{is_read, are_read, none_read}
-use Rattle.c_model.proofs.PlacedTerms.{Count, Most, most_both, joined, ClausePlaced, clause_placed, AnnotationsPlaced, annotations_placed}
+use Rattle.c_model.proofs.SortedTrees.{anything}
+use Rattle.c_model.proofs.NotedTrees.{is_read, are_read, loops_read}
+use Rattle.c_model.proofs.PlacedSorts.{Count, Most, most_both, joined}
+use Rattle.c_model.proofs.PlacedTerms.{ClausePlaced, clause_placed, AnnotationsPlaced, annotations_placed}
 
 -- ---- statements
 
@@ -63,7 +63,7 @@ first_kept (First (Run _)) h = absurd h
 first_kept (First (Asserts annots)) h = absurd h
 
 mutual
-  statement_kept : (s : AnnotationSight) (a : Statement) → StatementPlaced AreReadAsserts a → Gives (StatementKept a) (noted_statement s a)
+  statement_kept : (s : AnnotationSight) (a : Statement) → StatementPlaced AreReadAsserts AreReadLoopClauses a → Gives (StatementKept a) (noted_statement s a)
   statement_kept s (Empty at) h = nothing (λ o. 0)
   statement_kept s (Eval at e) h = nothing (λ o. 0)
   statement_kept s (Block at items) h = gives_one (ItemsKept items) (StatementKept (Block at items)) (noted_items (inside_block s) items) (λ x. Good (Block at x)) (items_kept (inside_block s) items h) (λ x v. v)
@@ -72,13 +72,13 @@ mutual
       gives_one (ElseKept b) (StatementKept (If at e a b)) (noted_else s b) (λ y. Good (If at e x y)) (else_kept s b h.1)
       (λ y w. two (λ o. statement_at o a) (λ o. else_at o b) (in_statement x) (in_else y) v w))
   statement_kept s (While at annots e a) h =
-      gives_one (AnnotationsPlaced annots) (StatementKept (While at annots e a)) (typed_annotations s annots) (λ xs. one_part (noted_statement s a) (λ x. Good (While at xs e x))) (annotations_placed s annots (none_read annots h.0)) (λ xs u.
+      gives_one (AnnotationsPlaced annots) (StatementKept (While at annots e a)) (typed_annotations s annots) (λ xs. one_part (noted_statement s a) (λ x. Good (While at xs e x))) (annotations_placed s annots (loops_read annots h.0)) (λ xs u.
       gives_one (StatementKept a) (StatementKept (While at annots e a)) (noted_statement s a) (λ x. Good (While at xs e x)) (statement_kept s a h.1)
       (λ x v. two (λ o. annotations_at o annots) (λ o. statement_at o a) (in_annotations xs) (in_statement x) u v))
   statement_kept s (Do at a e) h = gives_one (StatementKept a) (StatementKept (Do at a e)) (noted_statement s a) (λ x. Good (Do at x e)) (statement_kept s a h) (λ x v. v)
   statement_kept s (For at annots first e step a) h =
-      gives_one (AnnotationsPlaced annots) (StatementKept (For at annots first e step a)) (typed_annotations s annots)
-      (λ xs. one_part (noted_statement (inside_for s first) a) (λ x. Good (For at xs first e step x))) (annotations_placed s annots (none_read annots h.0)) (λ xs u.
+      gives_one (AnnotationsPlaced annots) (StatementKept (For at annots first e step a)) (typed_annotations (inside_for s first) annots)
+      (λ xs. one_part (noted_statement (inside_for s first) a) (λ x. Good (For at xs first e step x))) (annotations_placed (inside_for s first) annots (loops_read annots h.0)) (λ xs u.
       gives_one (StatementKept a) (StatementKept (For at annots first e step a)) (noted_statement (inside_for s first) a) (λ x. Good (For at xs first e step x)) (statement_kept (inside_for s first) a h.2)
       (λ x v. two (λ o. annotations_at o annots) (λ o. first_at o first + statement_at o a) (in_annotations xs) (in_first first ++ in_statement x) u
       (two (λ o. first_at o first) (λ o. statement_at o a) (in_first first) (in_statement x) (first_kept first h.1) v)))
@@ -89,24 +89,24 @@ mutual
       gives_one (StatementKept a) (StatementKept (Labelled at l a)) (noted_statement (with_label s l) a) (λ x. Good (Labelled at l x)) (statement_kept (with_label s l) a h) (λ x v. v)
   statement_kept s (Switch at e cases) h = gives_one (CasesKept cases) (StatementKept (Switch at e cases)) (noted_cases s cases) (λ x. Good (Switch at e x)) (cases_kept s cases h) (λ x v. v)
 
-  cases_kept : (s : AnnotationSight) (cases : Cases) → CasesPlaced AreReadAsserts cases → Gives (CasesKept cases) (noted_cases s cases)
+  cases_kept : (s : AnnotationSight) (cases : Cases) → CasesPlaced AreReadAsserts AreReadLoopClauses cases → Gives (CasesKept cases) (noted_cases s cases)
   cases_kept s NoCase h = nothing (λ o. 0)
   cases_kept s (AnotherCase at v items rest) h =
       gives_one (ItemsKept items) (CasesKept (AnotherCase at v items rest)) (noted_items s items) (λ x. one_part (noted_cases (behind_case s x) rest) (λ y. Good (AnotherCase at v x y))) (items_kept s items h.1) (λ x u.
       gives_one (CasesKept rest) (CasesKept (AnotherCase at v items rest)) (noted_cases (behind_case s x) rest) (λ y. Good (AnotherCase at v x y)) (cases_kept (behind_case s x) rest h.2)
       (λ y w. two (λ o. items_at o items) (λ o. cases_at o rest) (in_items x) (in_cases y) u w))
 
-  else_kept : (s : AnnotationSight) (b : ElsePart) → ElsePlaced AreReadAsserts b → Gives (ElseKept b) (noted_else s b)
+  else_kept : (s : AnnotationSight) (b : ElsePart) → ElsePlaced AreReadAsserts AreReadLoopClauses b → Gives (ElseKept b) (noted_else s b)
   else_kept s NoElse h = nothing (λ o. 0)
   else_kept s (Else a) h = gives_one (StatementKept a) (ElseKept (Else a)) (noted_statement s a) (λ x. Good (Else x)) (statement_kept s a h) (λ x v. v)
 
-  item_kept : (s : AnnotationSight) (i : BlockItem) → ItemPlaced AreReadAsserts i → Gives (ItemKept i) (noted_item s i)
+  item_kept : (s : AnnotationSight) (i : BlockItem) → ItemPlaced AreReadAsserts AreReadLoopClauses i → Gives (ItemKept i) (noted_item s i)
   item_kept s (Declare ds) h = nothing (λ o. 0)
   item_kept s (Specify at t) h = nothing (λ o. 0)
   item_kept s (Run a) h = gives_one (StatementKept a) (ItemKept (Run a)) (noted_statement s a) (λ x. Good (Run x)) (statement_kept s a h) (λ x v. v)
   item_kept s (Asserts annots) h = gives_one (AnnotationsPlaced annots) (ItemKept (Asserts annots)) (typed_annotations s annots) (λ x. Good (Asserts x)) (annotations_placed s annots (are_read annots h)) (λ x v. v)
 
-  items_kept : (s : AnnotationSight) (is : BlockItems) → ItemsPlaced AreReadAsserts is → Gives (ItemsKept is) (noted_items s is)
+  items_kept : (s : AnnotationSight) (is : BlockItems) → ItemsPlaced AreReadAsserts AreReadLoopClauses is → Gives (ItemsKept is) (noted_items s is)
   items_kept s NoItem h = nothing (λ o. 0)
   items_kept s (Then i rest) h =
       gives_one (ItemKept i) (ItemsKept (Then i rest)) (noted_item s i) (λ x. one_part (noted_items (behind_noted s x) rest) (λ xs. Good (Then x xs))) (item_kept s i h.0) (λ x v.
@@ -116,7 +116,7 @@ mutual
 abbrev BodyKept : Option Statement → Option Statement → Type 0
 BodyKept a b = Most (λ o. body_at o a) (kept.in_body b)
 
-body_kept : (s : AnnotationSight) (b : Option Statement) → BodyRead AreReadAsserts b → Gives (BodyKept b) (noted_body s b)
+body_kept : (s : AnnotationSight) (b : Option Statement) → BodyRead AreReadAsserts AreReadLoopClauses b → Gives (BodyKept b) (noted_body s b)
 body_kept s None h = nothing (λ o. 0)
 body_kept s (Some (Block at items)) h = gives_one (ItemsKept items) (BodyKept (Some (Block at items))) (noted_items s items) (λ x. Good (Some (Block at x))) (items_kept s items h.0) (λ x v. v)
 body_kept s (Some _) h = absurd h
@@ -127,8 +127,8 @@ module _ (seen : Kind → AnnotationSight) where
   clauses_kept : (IsKind : Kind → Type 0) (xs : List Annotation) → AreClausesOf IsKind IsShortReading xs → Gives (AnnotationsPlaced xs) (typed_clauses seen xs)
   clauses_kept IsKind [] h = nothing (λ o. 0)
   clauses_kept IsKind (a ∷ rest) h =
-      gives_one (ClausePlaced a.body) (AnnotationsPlaced (a ∷ rest)) (typed_clause (seen a.kind) a.body) (λ b. one_part (typed_clauses seen rest) (λ rest. Good (record a { body = b } ∷ rest)))
-      (clause_placed (seen a.kind) a.body (is_read a.body h.0.body)) (λ b v.
+      gives_one (ClausePlaced a.body) (AnnotationsPlaced (a ∷ rest)) (typed_clause (seen a.kind) a.kind a.body) (λ b. one_part (typed_clauses seen rest) (λ rest. Good (record a { body = b } ∷ rest)))
+      (clause_placed (seen a.kind) a.kind a.body (is_read a.body h.0.body)) (λ b v.
       gives_one (AnnotationsPlaced rest) (AnnotationsPlaced (a ∷ rest)) (typed_clauses seen rest) (λ rest. Good (record a { body = b } ∷ rest)) (clauses_kept IsKind rest h.1)
       (λ more w. two (λ o. clause_at o a.body) (λ o. annotations_at o rest) (in_clause b) (in_annotations more) v w))
 
@@ -169,7 +169,7 @@ record FunctionKept (f g : Function) : Type 0 where
   contract : OwnKept f.contract g.contract
   body : BodyKept f.body g.body
 
-function_kept : (all : List Function) (s : Sight) (f : Function) → MaybeFormed IsShortReading f.contract → FunctionRead AreReadAsserts f → Gives (FunctionKept f) (noted_function all s f)
+function_kept : (all : List Function) (s : Sight) (f : Function) → MaybeFormed IsShortReading f.contract → FunctionRead AreReadAsserts AreReadLoopClauses f → Gives (FunctionKept f) (noted_function all s f)
 function_kept all s f h r =
     gives_one (OwnKept f.contract) (FunctionKept f) (noted_contract all s f f.contract) (λ c. one_part (noted_in (known_at f.place s) f) (λ b. Good (record f { contract = c; body = b }))) (own_kept all s f f.contract h) (λ c v.
     gives_one (BodyKept f.body) (FunctionKept f) (noted_in (known_at f.place s) f) (λ b. Good (record f { contract = c; body = b }))
@@ -187,7 +187,7 @@ of_bodies o (f ∷ fs) = entries_at o (kept.in_body f.body) + of_bodies o fs
 abbrev pub FewKept : List Function → List Function → Type 0
 FewKept fs gs = (o : ℕ) → of_contracts o gs + of_bodies o gs ≤ functions_at o fs
 
-pub functions_kept : (p : TranslationUnit) (s : Sight) (is : List FileItem) → ContractsFormed IsShortReading (functions_among is) → FunctionsRead AreReadAsserts (functions_among is)
+pub functions_kept : (p : TranslationUnit) (s : Sight) (is : List FileItem) → ContractsFormed IsShortReading (functions_among is) → FunctionsRead AreReadAsserts AreReadLoopClauses (functions_among is)
     → Gives (FewKept (functions_among is)) (noted_functions p s is)
 functions_kept p s [] h r = λ o. omega arith
 functions_kept p s (AFunction f ∷ is) h r =
@@ -246,11 +246,11 @@ kept_apart ps fs apart few = all_moved fs (λ o. (let x = apart o in let y = few
 
 -- ---- files
 
-pub unit_apart : (q r : TranslationUnit) → noted_unit q ≡ Good r → functions_among (items_of_file q) ≡ q.funcs → ContractsFormed IsShortReading q.funcs → FunctionsRead AreReadAsserts q.funcs → AnnotationsApart q.funcs
+pub unit_apart : (q r : TranslationUnit) → noted_unit q ≡ Good r → functions_among (items_of_file q) ≡ q.funcs → ContractsFormed IsShortReading q.funcs → FunctionsRead AreReadAsserts AreReadLoopClauses q.funcs → AnnotationsApart q.funcs
     → AllByRecursion (λ (f : Function). StandApart (planned f)) r.funcs
 unit_apart q r is among formed read apart = gives_of (λ (r : TranslationUnit). AllByRecursion (λ (f : Function). StandApart (planned f)) r.funcs) (noted_unit q) r
     (gives_one (FewKept (functions_among items)) (λ (r : TranslationUnit). AllByRecursion (λ (f : Function). StandApart (planned f)) r.funcs) (noted_functions q sight items) (λ fs. Good (record q { funcs = with_contracts fs }))
-    (functions_kept q sight items (subst (ContractsFormed IsShortReading) (sym among) formed) (subst (FunctionsRead AreReadAsserts) (sym among) read))
+    (functions_kept q sight items (subst (ContractsFormed IsShortReading) (sym among) formed) (subst (FunctionsRead AreReadAsserts AreReadLoopClauses) (sym among) read))
     (λ fs w. kept_apart (functions_among items) fs (subst AnnotationsApart (sym among) apart) w)) is
   where
     items : List FileItem

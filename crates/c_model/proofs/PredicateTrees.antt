@@ -1,615 +1,251 @@
 -- Annotations that are typed are well typed.
-use Rattle.std.proofs.Common.{◌≡◌, ℕ, ◌⊎◌, ◌&&◌, ◌||◌, ℤ, pos, refl, sym, ap, subst, arith, inl, inr, List, [], ◌∷◌, Option, Some, None, Bool, true, false, cond, not}
-use Rattle.std.specs.Prelude.{option_map}
-use Rattle.std.proofs.lemmas.Bool.{leb-true}
-use Rattle.std.proofs.lemmas.Bool.Decides.{Decides-int_eq, nat_tests}
-use Rattle.std.specs.Ordering.{int_eq}
-use Rattle.std.specs.Prelude.{nat_le, nat_eq}
+use Rattle.std.proofs.Common.{◌≡◌, ℕ, refl, sym, ap, subst, List, [], ◌∷◌, Option, Some, None, true}
+use Rattle.c_syntax.specs.declared.annotation.Kind.{Kind}
+use Rattle.c_syntax.specs.declared.annotation.Kind.TheVariants.{Assert, Requires, Assumes, Ensures, Complete, Disjoint, Invariant, Variant, Rte}
+use Rattle.c_syntax.specs.declared.annotation.Relation.{Relation}
 use Rattle.c_syntax.specs.declared.place.Place.{Place}
 use Rattle.c_syntax.specs.declared.types.CInt.{CInt}
-use Rattle.c_syntax.specs.declared.expression.UnOp.{UnOp}
-use Rattle.c_syntax.specs.declared.expression.UnOp.TheVariants as unary
-use Rattle.c_syntax.specs.declared.expression.BinOp.{BinOp}
-use Rattle.c_syntax.specs.declared.expression.BinOp.TheVariants as operator
 use Rattle.c_syntax.specs.declared.logic.Connective.{Connective}
-use Rattle.c_syntax.specs.declared.logic.Label.{Label}
+use Rattle.c_syntax.specs.declared.logic.Connective.TheVariants.{And, Xor, Or, Implies, Iff}
+use Rattle.c_syntax.specs.declared.logic.Quantifier.{Quantifier}
+use Rattle.c_syntax.specs.declared.logic.Quantifier.TheVariants.{ForAll, Exists}
 use Rattle.c_syntax.specs.declared.logic.Label.TheVariants as label
 use Rattle.c_syntax.specs.declared.logic.MemoryQuestion.{MemoryQuestion}
-use Rattle.c_syntax.specs.declared.logic.MemoryQuestion.TheVariants.{Valid, ValidRead, Initialized}
-use Rattle.c_syntax.specs.Ctypes.{PlainType, Void, Int, Ptr, Array, Struct, StructTag, EnumTag}
-use Rattle.c_syntax.specs.Ctypes as ctype
+use Rattle.c_syntax.specs.declared.logic.MemoryQuestion.TheVariants.{ValidRead}
+use Rattle.c_syntax.specs.Ctypes.{PlainType}
 use Rattle.c_syntax.specs.Formulas as read
 use Rattle.c_syntax.specs.Formulas.{CastType, Integers, OfC, Form, FormLinks, FormZone, FormZones}
-use Rattle.c_syntax.specs.Logic.{LogicTerm, Number, Chain, Deref, Links, NoLink, Linked, Predicate, Another, ClauseBody, Raw, Holds, Value, Annotation, Behaviors}
-use Rattle.c_syntax.specs.Layouts.{size_of, align_of, member_among, members_of}
+use Rattle.c_syntax.specs.Logic.{LogicTerm, Linked, Another, ClauseBody, Raw, Holds, Value, Annotation, Behaviors, Predicate}
 use Rattle.c_model.specs.Integers.{integer_type}
-use Rattle.c_model.specs.Library.{library_constant, is_there}
-use Rattle.c_model.specs.Checked.{Fault, Checked, Good, Bad, faulty, given, where_so, one_part, pair_of}
-use Rattle.c_model.specs.ExpressionTyping as c
-use Rattle.c_model.specs.ExpressionTyping.{no_name, no_type, use_as, is_among, Entity, AnObject, AnEnumerator, Sight, name_at, entity_named, is_null_word, is_void, is_struct, is_scalar, besides, is_within_limits, most_bytes, too_large, limited}
+use Rattle.c_model.specs.Library.{is_there}
+use Rattle.c_model.specs.Checked.{Checked, Good, faulty, one_part, pair_of}
+use Rattle.c_model.specs.ExpressionTyping.{no_type, Sight}
 use Rattle.c_model.specs.ExpressionTyping.{typed_type, known_type}
-use Rattle.c_model.specs.PredicateTyping.{range_to_infer, place_of_term, Sorted, ATerm, APredicate, APlace, ValueSort, AnInteger, APointer, NoValue, type_of_term, sort_of_term, is_integer, pointee, as_value, value_in, as_term, as_integer, as_pointer}
-use Rattle.c_model.specs.PredicateTyping.{integer_holds, as_predicate, variable, formal_value, object_place, result_use, result_in, no_label, has_past, has_old, at_label, labelled, number, null, library_term, term_named, on_integer, on_integers}
-use Rattle.c_model.specs.PredicateTyping.{deref, address, address_at, member_at, member_of, dot, arrow, are_known, with_terms}
-use Rattle.c_model.specs.PredicateTyping.{sum_of, difference_of, element_of, sum, difference, index, unary_on, binary_on, cast_integer, cast_pointer, cast, size_in, connected, choice_target, pointer_choice, choice_of_terms, branch, choice_between}
-use Rattle.c_model.specs.PredicateTyping.{chosen, Side, AnySide, IntegerSide, ZeroSide, PointerSide, OtherSide, side_of_sort, side_of_sorted, side_of, are_related, right_side, related, told, where_asked, object_zone, elements_zone}
-use Rattle.c_model.specs.PredicateTyping.{is_alignment, is_measured, where_measured, typed_form, typed_links, typed_zone, typed_zones, clause_holds, typed_clause, typed_annotations}
-use Rattle.c_model.specs.TypedPredicates.{IsIntegerTerm, IsPointerTerm, PointsTo, IsPlace, IsZeroTerm, AreRelated, IsOnInteger, IsCastType, OfInteger, OfPointer, BetweenIntegers, BetweenPointers, TermTyped, LinksTyped, ZoneTyped, ZonesTyped}
-use Rattle.c_model.specs.AnnotationSights.{ClauseSight, InBody, AtEntry, AtEnd, UnderLabel, AnnotationSight, formals_in, under_label, beginning, sight_at, label_named, is_past}
-use Rattle.c_model.specs.TypedPredicates.{TermDenotes, IsResult, IsSize, IsAlignment, PredicateTyped, ClauseTyped, AnnotationsTyped, IsRead, AreRead, TypedAnnotationsAreKnown}
-use Rattle.c_model.proofs.TypedParts.{Gives, gives_of, gives_one, gives_both, gives_given, gives_where, gives_sized, and_true, there_is}
+use Rattle.c_model.specs.PredicateTyping.{place_of_term, Sorted, ATerm, APredicate, APlace, sort_of_term, is_integer, value_in, as_integer, as_pointer}
+use Rattle.c_model.specs.PredicateTyping.{as_predicate, no_label, has_old}
+use Rattle.c_model.specs.PredicateTyping.{dot, arrow}
+use Rattle.c_model.specs.PredicateTyping.{index, unary_on, binary_on, cast_integer, cast, size_in, connected}
+use Rattle.c_model.specs.PredicateTyping.{chosen, Side, side_of, right_side, related, told, object_zone, elements_zone}
+use Rattle.c_model.specs.PredicateTyping.{typed_form, typed_links, typed_zone, typed_zones, clause_holds, typed_clause, typed_annotations}
+use Rattle.c_model.specs.TypedPredicates.{IsCastType, ZoneTyped, ZonesTyped}
+use Rattle.c_model.specs.AnnotationSights.{AnnotationSight, label_named}
+use Rattle.c_model.specs.TypedPredicates.{PredicateTyped, ClauseTyped, AnnotationsTyped, IsRead, AreRead, TypedAnnotationsAreKnown}
+use Rattle.c_model.specs.QuantifierGuards.{is_guarded, is_done, goes_on, unguarded, behind_chain, behind_conjunct, left_behind, guarded_by}
+use Rattle.c_model.specs.QuantifierTyping.{no_guard, integer_binders, binder_type, Conjuncts, joined, conjunction, another_conjunct, other_conjunct, bound_at, chain_over, chain_conjunct, universal, existential, quantified}
+use Rattle.c_model.specs.AnnotationSights.{with_binders}
+use Rattle.c_model.specs.PredicateTyping.{is_refused, typed_quantified, typed_conjuncts, typed_upper, variant_value, said}
+use Rattle.c_model.specs.Formed.{AreApart, FormNumbered, FormLinksNumbered, FormZoneNumbered, FormZonesNumbered}
+use Rattle.c_model.specs.TypedAnnotations.{IsSaidBy}
+use Rattle.c_model.proofs.GuardTrees.{apart_left, Names, append_none, left_is, done_is, chain_binds, ConjunctsTyped, joined_typed, other_typed, universal_typed, existential_typed}
+use Rattle.c_model.proofs.TypedParts.{Gives, gives_of, gives_one, gives_given, gives_where, gives_sized, and_true, there_is}
+use Rattle.c_model.proofs.SortedTrees.{SortedTyped, IntegerTyped, PointerTyped, integer_is, values_well, integer_well, pointer_well, holds_well, predicate_well, named_well, result_well, labelled_well, dot_well, arrow_well, index_well, binary_well}
+use Rattle.c_model.proofs.SortedTrees.{unary_well, cast_integer_well, cast_well, connected_well, chosen_well, related_well, known, gives_pair, gives_limited, anything, Any, made, RightTyped, right_well, LinksFit, chain_well, object_well}
+use Rattle.c_model.proofs.SortedTrees.{elements_well, value_of_form, one_well, two_well, pair_well}
 
--- what is known of a form by its sort
-abbrev SortedTyped : AnnotationSight → Sorted → Type 0
-SortedTyped s (ATerm t) = TermTyped s t
-SortedTyped s (APredicate p) = PredicateTyped s p
-SortedTyped s (APlace t) = IsPlace t × TermTyped s t
+-- ---- quantifiers
 
-abbrev IntegerTyped : AnnotationSight → LogicTerm → Type 0
-IntegerTyped s t = IsIntegerTerm t × TermTyped s t
+bound_well : (s : AnnotationSight) (at : Place) (f : Form) → Gives (SortedTyped s) (typed_form s f) → Gives (IntegerTyped s) (bound_at at (typed_form s f))
+bound_well s at f w = gives_one (SortedTyped s) (IntegerTyped s) (value_in (typed_form s f)) (as_integer at) (value_of_form s f w) (integer_well s at)
 
-abbrev PointerTyped : AnnotationSight → PlainType × LogicTerm → Type 0
-PointerTyped s p = PointsTo p.0 p.1 × TermTyped s p.1
+another_well : (s : AnnotationSight) (at : Place) (a : Checked Sorted) → Gives (SortedTyped s) a → Gives (ConjunctsTyped s [] []) (another_conjunct at a)
+another_well s at a w =
+    gives_one (SortedTyped s) (ConjunctsTyped s [] []) (value_in a) _ (values_well s a w) (λ v x.
+    gives_one (PredicateTyped s) (ConjunctsTyped s [] []) (as_predicate at v) _ (predicate_well s at v x) (λ p y. other_typed s p y))
 
--- ---- tests of sorts
+other_well : (s : AnnotationSight) (at place : Place) (bs rest : Names) (a : Checked Sorted) → Gives (SortedTyped s) a → behind_conjunct bs None ≡ Some rest → Gives (ConjunctsTyped s bs rest) (other_conjunct at bs place a)
+other_well s at place [] rest a w e = let same : [] ≡ rest = cc in subst (λ us. Gives (ConjunctsTyped s [] us) (another_conjunct place a)) same (another_well s place a w)
+other_well s at place (b ∷ bs) rest a w e = tt
 
-integer_is : (k : ValueSort) → is_integer k ≡ true → k ≡ AnInteger
-integer_is AnInteger e = refl
-integer_is (APointer t) e = absurd cc
-integer_is NoValue e = absurd cc
+over_typed : (s : AnnotationSight) (k : CastType) → IsCastType k → (b : Place × ℕ) (bs rest : Names) (a : Form) (at : Place) (r : Relation) (f : Form) (links : FormLinks) → AreApart (b ∷ bs)
+    → behind_chain (b ∷ bs) a (read.Linked at r f links) ≡ Some rest → (t u : LogicTerm) → IntegerTyped s t → IntegerTyped s u → ConjunctsTyped s (b ∷ bs) rest (chain_over k b bs r links t u)
+over_typed s k h b bs rest a at r f links apart e t u v w =
+    let binds = chain_binds k h b bs rest a at r f links apart e in
+    record {
+      own = binds.own;
+      split = binds.split;
+      chains = (v.0, w.0, v.1, w.1, binds.own, [], sym (append_none binds.own), binds.binders, refl);
+      others = tt;
+    }
 
-pointee_is : (k : ValueSort) (u : PlainType) → pointee k ≡ Some u → k ≡ APointer u
-pointee_is AnInteger u e = absurd cc
-pointee_is (APointer t) u e = let f : t ≡ u = cc in ap APointer f
-pointee_is NoValue u e = absurd cc
+chain_well_over : (s : AnnotationSight) (at : Place) (k : CastType) → IsCastType k → (bs rest : Names) (place : Place) (a : Form) (links : FormLinks) (lower upper : Checked LogicTerm) (x : Checked Sorted) → AreApart bs
+    → Gives (IntegerTyped s) lower → Gives (IntegerTyped s) upper → Gives (SortedTyped s) x → behind_conjunct bs (behind_chain bs a links) ≡ Some rest → Gives (ConjunctsTyped s bs rest) (chain_conjunct at k bs place links lower upper x)
+chain_well_over s at k h [] rest place a links lower upper x apart v w z e = let same : [] ≡ rest = cc in subst (λ us. Gives (ConjunctsTyped s [] us) (another_conjunct place x)) same (another_well s place x z)
+chain_well_over s at k h (b ∷ bs) rest place a read.NoLink lower upper x apart v w z e = tt
+chain_well_over s at k h (b ∷ bs) rest place a (read.Linked l r c read.NoLink) lower upper x apart v w z e = tt
+chain_well_over s at k h (b ∷ bs) rest place a (read.Linked l r c (read.Linked m q d more)) lower upper x apart v w z e =
+    gives_pair (IntegerTyped s) (IntegerTyped s) (ConjunctsTyped s (b ∷ bs) rest) lower upper (λ p. Good (chain_over k b bs r (read.Linked m q d more) p.0 p.1)) v w
+    (λ t u. over_typed s k h b bs rest a l r c (read.Linked m q d more) apart e t u)
 
-struct_is : (u : PlainType) → is_struct u ≡ true → (n : ℕ) × (u ≡ Struct n)
-struct_is (Struct n) e = (n, refl)
-struct_is Void e = absurd cc
-struct_is (Int k) e = absurd cc
-struct_is (Ptr t) e = absurd cc
-struct_is (Array t n) e = absurd cc
-struct_is (ctype.Named x) e = absurd cc
-struct_is (StructTag x tag) e = absurd cc
-struct_is (EnumTag x at) e = absurd cc
+conjunction_well : (s : AnnotationSight) (at : Place) (f : Form) (bs mid rest : Names) (a b : Checked Conjuncts) → unguarded bs f ≡ Some mid → Gives (ConjunctsTyped s bs mid) a
+    → Gives (ConjunctsTyped (with_binders s (guarded_by bs f)) mid rest) b → Gives (ConjunctsTyped s bs rest) (conjunction at a b)
+conjunction_well s at f bs mid rest a b e v w =
+    gives_pair (ConjunctsTyped s bs mid) (ConjunctsTyped (with_binders s (guarded_by bs f)) mid rest) (ConjunctsTyped s bs rest) a b (λ p. Good (joined at p.0 p.1)) v w (λ c d x y. joined_typed s at f bs mid rest c d e x y)
 
--- ---- what forms demand of their parts
+exists_well : (s : AnnotationSight) (at : Place) (bs : Names) (c : Conjuncts) → ConjunctsTyped s bs [] c → Gives (SortedTyped s) (existential at c)
+exists_well s at bs c v = gives_given (SortedTyped s) c.others (no_guard at) _ (λ p e. existential_typed s at bs c p e v)
 
-value_well : (s : AnnotationSight) (a : Sorted) → SortedTyped s a → Gives (SortedTyped s) (as_value a)
-value_well s (ATerm t) w = w
-value_well s (APredicate p) w = w
-value_well s (APlace t) w = by (sort_of_term t)
+for_all_well : (s : AnnotationSight) (at place : Place) (bs : Names) (c : Conjuncts) (a : Sorted) → ConjunctsTyped s bs [] c → SortedTyped (with_binders s bs) a → Gives (SortedTyped s) (universal at place c a)
+for_all_well s at place bs c a v w =
+    gives_one (PredicateTyped (with_binders s bs)) (SortedTyped s) (as_predicate place a) _ (predicate_well (with_binders s bs) place a w) (λ p x. universal_typed s at place bs c p v x)
+
+quantified_well : (s : AnnotationSight) (at place : Place) (q : Quantifier) (j : Connective) (bs : Names) (f g : Form) (a b : Checked Conjuncts) (x : Checked Sorted) → is_guarded q bs (read.Connected place j f g) ≡ true
+    → ((rest : Names) → unguarded bs f ≡ Some rest → Gives (ConjunctsTyped s bs rest) a)
+    → ((rest : Names) → unguarded (left_behind bs f) g ≡ Some rest → Gives (ConjunctsTyped (with_binders s (guarded_by bs f)) (left_behind bs f) rest) b)
+    → Gives (SortedTyped (with_binders s bs)) x → Gives (SortedTyped s) (quantified at place q j a b x)
+quantified_well s at place ForAll Implies bs f g a b x e v w z =
+    gives_pair (ConjunctsTyped s bs []) (SortedTyped (with_binders s bs)) (SortedTyped s) a x (λ p. universal at place p.0 p.1) (v [] (done_is (unguarded bs f) e)) z (for_all_well s at place bs)
+quantified_well s at place Exists And bs f g a b x e v w z =
+    let done = done_is (unguarded bs (read.Connected place And f g)) (and_true (is_done (unguarded bs (read.Connected place And f g))) (goes_on bs (read.Connected place And f g)) e).0 in
+    let parts = left_is (unguarded bs f) (λ rest. unguarded rest g) [] done in
+    gives_one (ConjunctsTyped s bs []) (SortedTyped s) (conjunction place a b) (existential at)
+    (conjunction_well s place f bs (left_behind bs f) [] a b parts.0 (v (left_behind bs f) parts.0) (w [] parts.1)) (exists_well s at bs)
+quantified_well s at place ForAll And bs f g a b x e v w z = tt
+quantified_well s at place ForAll Xor bs f g a b x e v w z = tt
+quantified_well s at place ForAll Or bs f g a b x e v w z = tt
+quantified_well s at place ForAll Iff bs f g a b x e v w z = tt
+quantified_well s at place Exists Xor bs f g a b x e v w z = tt
+quantified_well s at place Exists Or bs f g a b x e v w z = tt
+quantified_well s at place Exists Implies bs f g a b x e v w z = tt
+quantified_well s at place Exists Iff bs f g a b x e v w z = tt
+
+integer_binders_are : (at : Place) (t : PlainType) → Gives IsCastType (integer_binders at t)
+integer_binders_are at t = by (integer_type t) refl
   where
-    by : (k : ValueSort) → Gives (SortedTyped s) (elim k [ AnInteger ↦ Good (ATerm t) | APointer u ↦ Good (ATerm t) | NoValue ↦ faulty (no_type (place_of_term t)) ])
-    by AnInteger = w.1
-    by (APointer u) = w.1
-    by NoValue = tt
-
-values_well : (s : AnnotationSight) (k : Checked Sorted) → Gives (SortedTyped s) k → Gives (SortedTyped s) (value_in k)
-values_well s k w = gives_one (SortedTyped s) (SortedTyped s) k as_value w (value_well s)
-
-term_well : (s : AnnotationSight) (at : Place) (a : Sorted) → SortedTyped s a → Gives (TermTyped s) (as_term at a)
-term_well s at (ATerm t) w = w
-term_well s at (APredicate p) w = tt
-term_well s at (APlace t) w = w.1
-
-integer_well : (s : AnnotationSight) (at : Place) (a : Sorted) → SortedTyped s a → Gives (IntegerTyped s) (as_integer at a)
-integer_well s at a w =
-    gives_one (TermTyped s) (IntegerTyped s) (as_term at a) _ (term_well s at a w) (λ t v. gives_where (IntegerTyped s) (is_integer (sort_of_term t)) (no_type at) (Good t) (λ e. (integer_is (sort_of_term t) e, v)))
-
-pointer_well : (s : AnnotationSight) (at : Place) (a : Sorted) → SortedTyped s a → Gives (PointerTyped s) (as_pointer at a)
-pointer_well s at a w =
-    gives_one (TermTyped s) (PointerTyped s) (as_term at a) _ (term_well s at a w) (λ t v. gives_given (PointerTyped s) (pointee (sort_of_term t)) (no_type at) (λ u. Good (u, t)) (λ u e. (pointee_is (sort_of_term t) u e, v)))
-
-holds_well : (s : AnnotationSight) (at : Place) (t : LogicTerm) → TermTyped s t → Gives (PredicateTyped s) (integer_holds at t)
-holds_well s at t w = gives_where (PredicateTyped s) (is_integer (sort_of_term t)) (no_type at) _ (λ e. (integer_is (sort_of_term t) e, w))
-
-predicate_well : (s : AnnotationSight) (at : Place) (a : Sorted) → SortedTyped s a → Gives (PredicateTyped s) (as_predicate at a)
-predicate_well s at (ATerm t) w = holds_well s at t w
-predicate_well s at (APredicate p) w = w
-predicate_well s at (APlace t) w = holds_well s at t w.1
-
--- ---- sizes that trees keep
-
-either_true : (a b : Bool) → (a || b) ≡ true → (a ≡ true) ⊎ (b ≡ true)
-either_true true b e = inl refl
-either_true false b e = inr e
-
-equal_is : (n m : ℕ) → nat_eq n m ≡ true → n ≡ m
-equal_is n m e = grind (arith, nat_tests)
-
-alignment_is : (n : ℕ) → is_alignment n ≡ true → IsAlignment n
-alignment_is n e = elim (either_true (nat_eq n 1 || nat_eq n 2 || nat_eq n 4) (nat_eq n 8) e) [
-  | inr d ↦ inr (inr (inr (equal_is n 8 d)))
-  | inl d ↦ elim (either_true (nat_eq n 1 || nat_eq n 2) (nat_eq n 4) d) [
-    | inr c ↦ inr (inr (inl (equal_is n 4 c)))
-    | inl c ↦ elim (either_true (nat_eq n 1) (nat_eq n 2) c) [ inr b ↦ inr (inl (equal_is n 2 b)) | inl b ↦ inl (equal_is n 1 b) ]
-  ]
-]
-
-abbrev pub Measured : Sight → PlainType → Type 0
-Measured s u = IsSize (size_of s.structs u) × IsAlignment (align_of s.structs u)
-
-measured_is : (n m : ℕ) → (nat_le 1 n && nat_le n most_bytes && is_alignment m) ≡ true → IsSize n × IsAlignment m
-measured_is n m e =
-    let both = and_true (nat_le 1 n && nat_le n most_bytes) (is_alignment m) e in
-    let size = and_true (nat_le 1 n) (nat_le n most_bytes) both.0 in
-    ((leb-true 1 n size.0, leb-true n most_bytes size.1), alignment_is m both.1)
-
-pub gives_measured : {B : Type 0} (R : B → Type 0) (s : Sight) (at : Place) (u : PlainType) (c : Checked B) → (Measured s u → Gives R c) → Gives R (where_measured s at u c)
-gives_measured R s at u c h =
-    gives_sized R s at u (where_so (is_measured s u) (too_large at) c) (λ e.
-    gives_where R (is_measured s u) (too_large at) c (λ m. h (measured_is (size_of s.structs u) (align_of s.structs u) m)))
-
--- ---- names
-
-null_well : (s : AnnotationSight) (at : Place) (b : Bool) → Gives (SortedTyped s) (cond b (Good (null at)) (faulty (no_name at)))
-null_well s at true = refl
-null_well s at false = tt
-
-library_well : (s : AnnotationSight) (at : Place) (x : ℕ) → Gives (SortedTyped s) (library_term s.here at x)
-library_well s at x = by (library_constant (name_at s.here.names x))
-  where
-    by : (o : Option (CInt × ℤ)) → Gives (SortedTyped s) (elim o [ Some k ↦ Good (number at k.1) | None ↦ cond (is_null_word s.here x) (Good (null at)) (faulty (no_name at)) ])
-    by (Some k) = refl
-    by None = null_well s at (is_null_word s.here x)
-
--- a parameter in an `ensures` is read where the call begins
-formal_well : (s : AnnotationSight) (k : ClauseSight) → s.clause ≡ k → (at : Place) (x : ℕ) (b : c.Object) → entity_named x s.here.entities ≡ Some (AnObject b) → TermTyped s (formal_value k (variable at x b))
-formal_well s k is at x b e = by k is
-  where
-    denoted : TermDenotes s.here (Some b.ctype) (use_as x b.decl)
-    denoted = record { ctype = b.ctype; is = refl; denotes = record { object = b; found = e; decl = refl; ctype = refl } }
-
-    by : (k : ClauseSight) → s.clause ≡ k → TermTyped s (formal_value k (variable at x b))
-    by (InBody v) is = denoted
-    by AtEntry is = denoted
-    by (AtEnd formals t) is = (under_label s s.here, ap (λ j. option_map (under_label s) (beginning s.here j)) is, refl, denoted)
-    by (UnderLabel formals) is = denoted
-
-entity_well : (s : AnnotationSight) (at : Place) (x : ℕ) (b : c.Object) → entity_named x s.here.entities ≡ Some (AnObject b) → SortedTyped s (object_place s.clause at x b)
-entity_well s at x b e = by (is_among b.decl (formals_in s.clause))
-  where
-    by : (f : Bool) → SortedTyped s (cond f (ATerm (formal_value s.clause (variable at x b))) (APlace (variable at x b)))
-    by true = formal_well s s.clause refl at x b e
-    by false = (tt, record { ctype = b.ctype; is = refl; denotes = record { object = b; found = e; decl = refl; ctype = refl } })
-
-named_well : (s : AnnotationSight) (at : Place) (x : ℕ) → Gives (SortedTyped s) (term_named s at x)
-named_well s at x = by (entity_named x s.here.entities) refl
-  where
-    by : (o : Option Entity) → entity_named x s.here.entities ≡ o → Gives (SortedTyped s) (elim o [
-      | Some e ↦ elim e [ AnObject b ↦ Good (object_place s.clause at x b) | AnEnumerator k ↦ Good (number at k.value) ]
-      | None ↦ library_term s.here at x
-    ])
-    by (Some (AnObject b)) e = entity_well s at x b e
-    by (Some (AnEnumerator k)) e = refl
-    by None e = library_well s at x
-
--- ---- results, and terms at labels
-
-not_true : (b : Bool) → not b ≡ true → b ≡ false
-not_true true e = absurd cc
-not_true false e = refl
-
-result_well : (s : AnnotationSight) (k : ClauseSight) → s.clause ≡ k → (at : Place) → Gives (SortedTyped s) (result_in k at)
-result_well s (InBody v) is at = tt
-result_well s AtEntry is at = tt
-result_well s (AtEnd formals t) is at =
-    gives_where (SortedTyped s) (not (is_void t)) (no_type at) _ (λ e. subst (λ (k : ClauseSight). IsResult k (Some t) result_use) (sym is) (refl, refl, not_true (is_void t) e))
-result_well s (UnderLabel formals) is at = tt
-
-labelled_well : (s : AnnotationSight) (at place : Place) (refused : Bool → Bool) (k : AnnotationSight → Checked Sorted) → ((l : Label) (u : AnnotationSight) → sight_at s l ≡ Some u → Gives (SortedTyped u) (k u)) → (l : Option Label)
-    → Gives (SortedTyped s) (labelled s at place l refused k)
-labelled_well s at place refused k h None =
-    gives_where (SortedTyped s) (not (refused true)) (no_label at) _ (λ e. gives_one (SortedTyped s) (SortedTyped s) (value_in (k s)) _ (values_well s (k s) (h label.Here s refl)) (λ a v. tt))
-labelled_well s at place refused k h (Some l) =
-    gives_where (SortedTyped s) (not (refused (is_past l))) (no_label at) _ (λ e. gives_given (SortedTyped s) (sight_at s l) (no_label at) _ (λ u f.
-    gives_one (SortedTyped u) (SortedTyped s) (value_in (k u)) (at_label at l) (values_well u (k u) (h l u f)) (λ a v.
-    gives_one (TermTyped u) (SortedTyped s) (as_term at a) _ (term_well u at a v) (λ t x. (u, f, refl, x)))))
-
--- ---- operators
-
-on_integer_well : (s : AnnotationSight) (at : Place) (op : UnOp) → IsOnInteger op → (a : Sorted) → SortedTyped s a → Gives (SortedTyped s) (on_integer at op a)
-on_integer_well s at op is a w = gives_one (IntegerTyped s) (SortedTyped s) (as_integer at a) _ (integer_well s at a w) (λ t v. (refl, is, v.0, v.1))
-
-on_integers_well : (s : AnnotationSight) (at : Place) (op : BinOp) (a b : Sorted) → SortedTyped s a → SortedTyped s b → Gives (SortedTyped s) (on_integers at op a b)
-on_integers_well s at op a b v w =
-    gives_one (IntegerTyped s) (SortedTyped s) (as_integer at a) _ (integer_well s at a v) (λ t x.
-    gives_one (IntegerTyped s) (SortedTyped s) (as_integer at b) _ (integer_well s at b w) (λ u y. (refl, x.0, y.0, x.1, y.1)))
-
-deref_well : (s : AnnotationSight) (at : Place) (a : Sorted) → SortedTyped s a → Gives (SortedTyped s) (deref at a)
-deref_well s at a w =
-    gives_one (PointerTyped s) (SortedTyped s) (as_pointer at a) _ (pointer_well s at a w) (λ p v. gives_where (SortedTyped s) (not (is_void p.0)) (no_type at) _ (λ e. (tt, (p.0, refl, v.0, v.1))))
-
-address_well : (s : AnnotationSight) (at : Place) (a : Sorted) → SortedTyped s a → Gives (SortedTyped s) (address at a)
-address_well s at (ATerm t) w = tt
-address_well s at (APredicate p) w = tt
-address_well s at (APlace t) w = gives_given (SortedTyped s) (type_of_term t) (no_type at) (address_at at t) (λ u e. (u, refl, e, w.0, w.1))
-
-member_well : (s : AnnotationSight) (at : Place) (m : ℕ) (t : LogicTerm) (u : PlainType) → type_of_term t ≡ Some u → IsPlace t → TermTyped s t → Gives (SortedTyped s) (member_of s.here at m t u)
-member_well s at m t u e p w =
-    gives_where (SortedTyped s) (is_struct u) (no_type at) _ (λ h.
-    gives_sized (SortedTyped s) s.here at u _ (λ k.
-    gives_given (SortedTyped s) (member_among m (members_of s.here.structs u)) (no_name at) (member_at at t) (λ f g.
-    gives_where (SortedTyped s) (nat_le f.offset most_bytes) (too_large at) _ (λ j.
-    let is = struct_is u h in
-    (tt, (f.ctype, refl, is.0, subst (λ (v : PlainType). type_of_term t ≡ Some v) is.1 e, p, w, leb-true f.offset most_bytes j))))))
-
-dot_well : (s : AnnotationSight) (at : Place) (m : ℕ) (a : Sorted) → SortedTyped s a → Gives (SortedTyped s) (dot s.here at m a)
-dot_well s at m (ATerm t) w = tt
-dot_well s at m (APredicate p) w = tt
-dot_well s at m (APlace t) w = gives_given (SortedTyped s) (type_of_term t) (no_type at) (member_of s.here at m t) (λ u e. member_well s at m t u e w.0 w.1)
-
-arrow_well : (s : AnnotationSight) (at : Place) (m : ℕ) (a : Sorted) → SortedTyped s a → Gives (SortedTyped s) (arrow s.here at m a)
-arrow_well s at m a w =
-    gives_one (PointerTyped s) (SortedTyped s) (as_pointer at a) _ (pointer_well s at a w) (λ p v. member_well s at m (Deref at (Some p.0) range_to_infer p.1) p.0 refl tt (p.0, refl, v.0, v.1))
-
--- ---- pointers and integers
-
--- goes on with two terms where what they point to is known
-known_well : (s : AnnotationSight) (at : Place) (a b : Sorted) (k : LogicTerm → LogicTerm → Checked Sorted) → SortedTyped s a → SortedTyped s b
-    → ((t u : LogicTerm) → TermTyped s t → TermTyped s u → Gives (SortedTyped s) (k t u))
-    → Gives (SortedTyped s) (with_terms s.here at a b k)
-known_well s at a b k v w h =
-    gives_where (SortedTyped s) (are_known s.here a b) (no_name at) (one_part (as_term at a) (λ t. one_part (as_term at b) (k t))) (λ e.
-    gives_one (TermTyped s) (SortedTyped s) (as_term at a) (λ t. one_part (as_term at b) (k t)) (term_well s at a v) (λ t x.
-    gives_one (TermTyped s) (SortedTyped s) (as_term at b) (k t) (term_well s at b w) (λ u y. h t u x y)))
-
-module _ (s : AnnotationSight) (at : Place) (t u : LogicTerm) (v : TermTyped s t) (w : TermTyped s u) where
-  sum_by : (k l : ValueSort) → sort_of_term t ≡ k → sort_of_term u ≡ l → Gives (SortedTyped s) (sum_of s.here at t u k l)
-  sum_by AnInteger AnInteger e f = (refl, e, f, v, w)
-  sum_by (APointer x) AnInteger e f = gives_measured (SortedTyped s) s.here at x _ (λ h. (x, refl, e, f, v, w, h.0))
-  sum_by AnInteger (APointer x) e f = gives_measured (SortedTyped s) s.here at x _ (λ h. (x, refl, f, e, w, v, h.0))
-  sum_by (APointer x) (APointer y) e f = tt
-  sum_by NoValue l e f = tt
-  sum_by AnInteger NoValue e f = tt
-  sum_by (APointer x) NoValue e f = tt
-
-  difference_by : (k l : ValueSort) → sort_of_term t ≡ k → sort_of_term u ≡ l → Gives (SortedTyped s) (difference_of s.here at t u k l)
-  difference_by AnInteger AnInteger e f = (refl, e, f, v, w)
-  difference_by (APointer x) AnInteger e f = gives_measured (SortedTyped s) s.here at x _ (λ h. (x, refl, e, f, v, w, h.0))
-  difference_by (APointer x) (APointer y) e f = gives_where (SortedTyped s) (c.same_type x y) (no_type at) _ (λ g. gives_measured (SortedTyped s) s.here at x _ (λ h. (refl, (x, e), (y, f), v, w, h.0)))
-  difference_by AnInteger (APointer x) e f = tt
-  difference_by NoValue l e f = tt
-  difference_by AnInteger NoValue e f = tt
-  difference_by (APointer x) NoValue e f = tt
-
-  element_by : (k l : ValueSort) → sort_of_term t ≡ k → sort_of_term u ≡ l → Gives (SortedTyped s) (element_of s.here at t u k l)
-  element_by AnInteger AnInteger e f = tt
-  element_by (APointer x) AnInteger e f = gives_measured (SortedTyped s) s.here at x _ (λ h. (tt, (x, refl, refl, (x, refl, e, f, v, w, h.0))))
-  element_by AnInteger (APointer x) e f = gives_measured (SortedTyped s) s.here at x _ (λ h. (tt, (x, refl, refl, (x, refl, f, e, w, v, h.0))))
-  element_by (APointer x) (APointer y) e f = tt
-  element_by NoValue l e f = tt
-  element_by AnInteger NoValue e f = tt
-  element_by (APointer x) NoValue e f = tt
-
-  choice_by : (p : Predicate) → PredicateTyped s p → (k l : ValueSort) → sort_of_term t ≡ k → sort_of_term u ≡ l → Gives (SortedTyped s) (choice_of_terms at p t u k l)
-  choice_by p z AnInteger AnInteger e f = (BetweenIntegers refl e f, z, v, w)
-  choice_by p z (APointer x) (APointer y) e f = gives_given (SortedTyped s) (choice_target x y) (no_type at) (λ a. Good (pointer_choice at p t u a)) (λ a g. (BetweenPointers a x y refl e f, z, v, w))
-  choice_by p z AnInteger (APointer x) e f = tt
-  choice_by p z (APointer x) AnInteger e f = tt
-  choice_by p z NoValue l e f = tt
-  choice_by p z AnInteger NoValue e f = tt
-  choice_by p z (APointer x) NoValue e f = tt
-
-sum_well : (s : AnnotationSight) (at : Place) (a b : Sorted) → SortedTyped s a → SortedTyped s b → Gives (SortedTyped s) (sum s.here at a b)
-sum_well s at a b v w = known_well s at a b _ v w (λ t u x y. sum_by s at t u x y (sort_of_term t) (sort_of_term u) refl refl)
-
-difference_well : (s : AnnotationSight) (at : Place) (a b : Sorted) → SortedTyped s a → SortedTyped s b → Gives (SortedTyped s) (difference s.here at a b)
-difference_well s at a b v w = known_well s at a b _ v w (λ t u x y. difference_by s at t u x y (sort_of_term t) (sort_of_term u) refl refl)
-
-index_well : (s : AnnotationSight) (at : Place) (a b : Sorted) → SortedTyped s a → SortedTyped s b → Gives (SortedTyped s) (index s.here at a b)
-index_well s at a b v w = known_well s at a b _ v w (λ t u x y. element_by s at t u x y (sort_of_term t) (sort_of_term u) refl refl)
-
-binary_well : (s : AnnotationSight) (at : Place) (op : BinOp) (a b : Sorted) → SortedTyped s a → SortedTyped s b → Gives (SortedTyped s) (binary_on s.here at op a b)
-binary_well s at operator.Add a b v w = sum_well s at a b v w
-binary_well s at operator.Sub a b v w = difference_well s at a b v w
-binary_well s at operator.Mul a b v w = on_integers_well s at operator.Mul a b v w
-binary_well s at operator.Div a b v w = on_integers_well s at operator.Div a b v w
-binary_well s at operator.Rem a b v w = on_integers_well s at operator.Rem a b v w
-binary_well s at operator.Shl a b v w = on_integers_well s at operator.Shl a b v w
-binary_well s at operator.Shr a b v w = on_integers_well s at operator.Shr a b v w
-binary_well s at operator.BitAnd a b v w = on_integers_well s at operator.BitAnd a b v w
-binary_well s at operator.BitOr a b v w = on_integers_well s at operator.BitOr a b v w
-binary_well s at operator.BitXor a b v w = on_integers_well s at operator.BitXor a b v w
-binary_well s at operator.Eq a b v w = on_integers_well s at operator.Eq a b v w
-binary_well s at operator.Ne a b v w = on_integers_well s at operator.Ne a b v w
-binary_well s at operator.Lt a b v w = on_integers_well s at operator.Lt a b v w
-binary_well s at operator.Le a b v w = on_integers_well s at operator.Le a b v w
-binary_well s at operator.Gt a b v w = on_integers_well s at operator.Gt a b v w
-binary_well s at operator.Ge a b v w = on_integers_well s at operator.Ge a b v w
-
-not_well : (s : AnnotationSight) (at : Place) (a : Sorted) → SortedTyped s a → Gives (SortedTyped s) (unary_on at unary.Not a)
-not_well s at a w =
-    gives_one (SortedTyped s) (SortedTyped s) (as_value a) _ (value_well s a w) (λ b v. gives_one (PredicateTyped s) (SortedTyped s) (as_predicate at b) _ (predicate_well s at b v) (λ p x. x))
-
-unary_well : (s : AnnotationSight) (at : Place) (op : UnOp) (a : Sorted) → SortedTyped s a → Gives (SortedTyped s) (unary_on at op a)
-unary_well s at unary.Plus a w = gives_one (SortedTyped s) (SortedTyped s) (as_value a) _ (value_well s a w) (on_integer_well s at unary.Plus tt)
-unary_well s at unary.Minus a w = gives_one (SortedTyped s) (SortedTyped s) (as_value a) _ (value_well s a w) (on_integer_well s at unary.Minus tt)
-unary_well s at unary.Flip a w = gives_one (SortedTyped s) (SortedTyped s) (as_value a) _ (value_well s a w) (on_integer_well s at unary.Flip tt)
-unary_well s at unary.Not a w = not_well s at a w
-unary_well s at unary.Deref a w = gives_one (SortedTyped s) (SortedTyped s) (as_value a) _ (value_well s a w) (deref_well s at)
-unary_well s at unary.Address a w = address_well s at a w
-
--- ---- casts
-
-cast_integer_well : (s : AnnotationSight) (at : Place) (to : CastType) → IsCastType to → (a : Sorted) → SortedTyped s a → Gives (SortedTyped s) (cast_integer at to a)
-cast_integer_well s at to is a w = gives_one (IntegerTyped s) (SortedTyped s) (as_integer at a) _ (integer_well s at a w) (λ t v. (OfInteger refl is v.0, v.1))
-
-cast_pointer_well : (s : AnnotationSight) (at : Place) (u : PlainType) (a : Sorted) → SortedTyped s a → Gives (SortedTyped s) (cast_pointer at u a)
-cast_pointer_well s at u a w = gives_one (PointerTyped s) (SortedTyped s) (as_pointer at a) _ (pointer_well s at a w) (λ p v. (OfPointer u p.0 refl refl v.0, v.1))
-
-cast_well : (s : AnnotationSight) (at : Place) (to : PlainType) (a : Sorted) → SortedTyped s a → Gives (SortedTyped s) (cast at to a)
-cast_well s at to a w = by (integer_type to) refl
-  where
-    by : (o : Option CInt) → integer_type to ≡ o → Gives (SortedTyped s) (elim o [ Some k ↦ cast_integer at (OfC to) a | None ↦ given (c.pointed to) (no_type at) (λ u. cast_pointer at u a) ])
-    by (Some k) e = cast_integer_well s at (OfC to) (there_is to (ap is_there e)) a w
-    by None e = gives_given (SortedTyped s) (c.pointed to) (no_type at) (λ u. cast_pointer at u a) (λ u g. cast_pointer_well s at u a w)
-
--- ---- predicates and choices
-
-connected_well : (s : AnnotationSight) (at : Place) (k : Connective) (a b : Sorted) → SortedTyped s a → SortedTyped s b → Gives (SortedTyped s) (connected at k a b)
-connected_well s at k a b v w =
-    gives_one (PredicateTyped s) (SortedTyped s) (as_predicate at a) _ (predicate_well s at a v) (λ p x.
-    gives_one (PredicateTyped s) (SortedTyped s) (as_predicate at b) _ (predicate_well s at b w) (λ q y. (x, y)))
-
-branch_well : (s : AnnotationSight) (at : Place) (p : Predicate) (a b : Sorted) → PredicateTyped s p → SortedTyped s a → SortedTyped s b → Gives (SortedTyped s) (branch at p a b)
-branch_well s at p a b z v w =
-    gives_one (PredicateTyped s) (SortedTyped s) (as_predicate at a) _ (predicate_well s at a v) (λ q x.
-    gives_one (PredicateTyped s) (SortedTyped s) (as_predicate at b) _ (predicate_well s at b w) (λ r y. (z, x, y)))
-
-between_well : (s : AnnotationSight) (at : Place) (p : Predicate) (a b : Sorted) → PredicateTyped s p → SortedTyped s a → SortedTyped s b → Gives (SortedTyped s) (choice_between at p a b)
-between_well s at p (ATerm t) (ATerm u) z v w = choice_by s at t u v w p z (sort_of_term t) (sort_of_term u) refl refl
-between_well s at p (ATerm t) (APredicate q) z v w = branch_well s at p (ATerm t) (APredicate q) z v w
-between_well s at p (ATerm t) (APlace u) z v w = branch_well s at p (ATerm t) (APlace u) z v w
-between_well s at p (APredicate q) b z v w = branch_well s at p (APredicate q) b z v w
-between_well s at p (APlace t) b z v w = branch_well s at p (APlace t) b z v w
-
-chosen_well : (s : AnnotationSight) (at : Place) (k a b : Sorted) → SortedTyped s k → SortedTyped s a → SortedTyped s b → Gives (SortedTyped s) (chosen at k a b)
-chosen_well s at k a b u v w = gives_one (PredicateTyped s) (SortedTyped s) (as_predicate at k) _ (predicate_well s at k u) (λ p z. between_well s at p a b z v w)
-
--- ---- sides of relations
-
-abbrev SideSays : Side → LogicTerm → Type 0
-SideSays AnySide t = ⊥
-SideSays IntegerSide t = IsIntegerTerm t
-SideSays ZeroSide t = IsZeroTerm t × IsIntegerTerm t
-SideSays PointerSide t = IsPointerTerm t
-SideSays OtherSide t = Unit {0}
-
-related_well : (l r : Side) (a b : LogicTerm) → SideSays l a → SideSays r b → are_related l r ≡ true → AreRelated a b
-related_well AnySide r a b h k e = absurd h
-related_well OtherSide r a b h k e = absurd cc
-related_well IntegerSide AnySide a b h k e = absurd k
-related_well IntegerSide IntegerSide a b h k e = inl (h, k)
-related_well IntegerSide ZeroSide a b h k e = inl (h, k.1)
-related_well IntegerSide PointerSide a b h k e = absurd cc
-related_well IntegerSide OtherSide a b h k e = absurd cc
-related_well ZeroSide AnySide a b h k e = absurd k
-related_well ZeroSide IntegerSide a b h k e = inl (h.1, k)
-related_well ZeroSide ZeroSide a b h k e = inl (h.1, k.1)
-related_well ZeroSide PointerSide a b h k e = inr (inr (inr (h.0, k)))
-related_well ZeroSide OtherSide a b h k e = absurd cc
-related_well PointerSide AnySide a b h k e = absurd k
-related_well PointerSide IntegerSide a b h k e = absurd cc
-related_well PointerSide ZeroSide a b h k e = inr (inr (inl (h, k.0)))
-related_well PointerSide PointerSide a b h k e = inr (inl (h, k))
-related_well PointerSide OtherSide a b h k e = absurd cc
-
-sort_says : (t : LogicTerm) (k : ValueSort) → sort_of_term t ≡ k → SideSays (side_of_sort k) t
-sort_says t AnInteger e = e
-sort_says t (APointer u) e = (u, e)
-sort_says t NoValue e = tt
-
-sorted_says : (at : Place) (a : Sorted) (t : LogicTerm) → as_term at a ≡ Good t → SideSays (side_of_sorted a) t
-sorted_says at (ATerm u) t e = let f : u ≡ t = cc in subst (λ (x : LogicTerm). SideSays (side_of_sort (sort_of_term u)) x) f (sort_says u (sort_of_term u) refl)
-sorted_says at (APredicate p) t e = absurd cc
-sorted_says at (APlace u) t e = let f : u ≡ t = cc in subst (λ (x : LogicTerm). SideSays (side_of_sort (sort_of_term u)) x) f (sort_says u (sort_of_term u) refl)
-
-zero_is : (z : ℤ) → int_eq z (pos 0) ≡ true → z ≡ pos 0
-zero_is z e = (Decides-int_eq z (pos 0)).0 e
-
-zero_says : (at : Place) (n : ℤ) (b : Bool) → int_eq n (pos 0) ≡ b → SideSays (cond b ZeroSide IntegerSide) (Number at None range_to_infer n)
-zero_says at n true e = (zero_is n e, refl)
-zero_says at n false e = refl
-
--- what typing makes of a form that is a number
-abbrev MadeOf : Form → Sorted → Type 0
-MadeOf (read.Number at n) a = a ≡ number at n
-MadeOf _ a = Unit {0}
-
-side_says : (f : Form) (at : Place) (a : Sorted) (t : LogicTerm) → MadeOf f a → as_term at a ≡ Good t → SideSays (side_of f (Good a)) t
-side_says (read.Number place n) at a t m e =
-    let f : as_term at (number place n) ≡ Good t = subst (λ (x : Sorted). as_term at x ≡ Good t) m e in
-    let g : Number place None range_to_infer n ≡ t = cc in
-    subst (λ (x : LogicTerm). SideSays (side_of (read.Number place n) (Good a)) x) g (subst (λ (x : Sorted). SideSays (side_of (read.Number place n) (Good x)) (Number place None range_to_infer n)) (sym m) (zero_says place n (int_eq n (pos 0)) refl))
-side_says (read.Letter place n) at a t m e = sorted_says at a t e
-side_says (read.Truth place b) at a t m e = sorted_says at a t e
-side_says (read.Name place x) at a t m e = sorted_says at a t e
-side_says (read.Unary place op x) at a t m e = sorted_says at a t e
-side_says (read.Binary place op x y) at a t m e = sorted_says at a t e
-side_says (read.Cast place to x) at a t m e = sorted_says at a t e
-side_says (read.SizeOf place u) at a t m e = sorted_says at a t e
-side_says (read.Chain place x links) at a t m e = sorted_says at a t e
-side_says (read.Connected place k x y) at a t m e = sorted_says at a t e
-side_says (read.Choice place k x y) at a t m e = sorted_says at a t e
-side_says (read.Null place) at a t m e = sorted_says at a t e
-side_says (read.Index place x y) at a t m e = sorted_says at a t e
-side_says (read.Dot place x j) at a t m e = sorted_says at a t e
-side_says (read.Arrow place x j) at a t m e = sorted_says at a t e
-side_says (read.Told place f x) at a t m e = sorted_says at a t e
-side_says (read.Asks place q z) at a t m e = sorted_says at a t e
-side_says (read.Separated place zs) at a t m e = sorted_says at a t e
-side_says (read.Result place) at a t m e = sorted_says at a t e
-side_says (read.Old place x) at a t m e = sorted_says at a t e
-side_says (read.At place x other l) at a t m e = sorted_says at a t e
-
--- a checked value, and that it is this one
-known : {A : Type 0} (P : A → Type 0) (k : Checked A) → Gives P k → Gives (λ a. P a × (k ≡ Good a)) k
-known P (Good a) w = (w, refl)
-known P (Bad f fs) w = tt
-
--- ---- parts
-
-pub gives_pair : {A B C : Type 0} (P : A → Type 0) (Q : B → Type 0) (R : C → Type 0) (m : Checked A) (n : Checked B) (k : (A × B) → Checked C)
-    → Gives P m → Gives Q n → ((a : A) (b : B) → P a → Q b → Gives R (k (a, b))) → Gives R (one_part (pair_of m n) k)
-gives_pair P Q R (Good a) (Good b) k p q h = h a b p q
-gives_pair P Q R (Good a) (Bad g gs) k p q h = tt
-gives_pair P Q R (Bad f fs) (Good b) k p q h = tt
-gives_pair P Q R (Bad f fs) (Bad g gs) k p q h = tt
-
-pub gives_besides : {A : Type 0} (P : A → Type 0) (t : Bool) (f : Fault) (c : Checked A) → Gives P c → Gives P (besides t f c)
-gives_besides P true f c w = w
-gives_besides P false f (Good a) w = tt
-gives_besides P false f (Bad g gs) w = tt
-
-pub gives_limited : {A : Type 0} (P : A → Type 0) (s : Sight) (at : Place) (t : PlainType) (c : Checked A) → Gives P c → Gives P (limited s at t c)
-gives_limited P s at t c w = gives_besides P (is_within_limits s t) (too_large at) c w
-
-pub anything : {A : Type 0} (c : Checked A) → Gives (λ (a : A). Unit {0}) c
-anything (Good a) = tt
-anything (Bad f fs) = tt
-
-abbrev pub Any : PlainType → Type 0
-Any t = Unit {0}
-
-made : (s : AnnotationSight) (f : Form) → Gives (MadeOf f) (value_in (typed_form s f))
-made s (read.Number at n) = refl
-made s (read.Letter at n) = anything (value_in (typed_form s (read.Letter at n)))
-made s (read.Truth at b) = anything (value_in (typed_form s (read.Truth at b)))
-made s (read.Name at x) = anything (value_in (typed_form s (read.Name at x)))
-made s (read.Unary at op x) = anything (value_in (typed_form s (read.Unary at op x)))
-made s (read.Binary at op x y) = anything (value_in (typed_form s (read.Binary at op x y)))
-made s (read.Cast at to x) = anything (value_in (typed_form s (read.Cast at to x)))
-made s (read.SizeOf at u) = anything (value_in (typed_form s (read.SizeOf at u)))
-made s (read.Chain at x links) = anything (value_in (typed_form s (read.Chain at x links)))
-made s (read.Connected at k x y) = anything (value_in (typed_form s (read.Connected at k x y)))
-made s (read.Choice at k x y) = anything (value_in (typed_form s (read.Choice at k x y)))
-made s (read.Null at) = anything (value_in (typed_form s (read.Null at)))
-made s (read.Index at x y) = anything (value_in (typed_form s (read.Index at x y)))
-made s (read.Dot at x m) = anything (value_in (typed_form s (read.Dot at x m)))
-made s (read.Arrow at x m) = anything (value_in (typed_form s (read.Arrow at x m)))
-made s (read.Told at f x) = anything (value_in (typed_form s (read.Told at f x)))
-made s (read.Asks at q z) = anything (value_in (typed_form s (read.Asks at q z)))
-made s (read.Separated at zs) = anything (value_in (typed_form s (read.Separated at zs)))
-made s (read.Result at) = anything (value_in (typed_form s (read.Result at)))
-made s (read.Old at x) = anything (value_in (typed_form s (read.Old at x)))
-made s (read.At at x place l) = anything (value_in (typed_form s (read.At at x place l)))
-
--- the right side of a relation
-abbrev RightTyped : AnnotationSight → Side → Side → LogicTerm → Type 0
-RightTyped s left right t = (are_related left right ≡ true) × SideSays right t × TermTyped s t
-
-right_well : (s : AnnotationSight) (at : Place) (left : Side) (f : Form) (k : Checked Sorted) → Gives (MadeOf f) k → Gives (SortedTyped s) k → Gives (RightTyped s left (side_of f k)) (one_part k (right_side at left (side_of f k)))
-right_well s at left f (Bad x xs) m w = tt
-right_well s at left f (Good a) m w =
-    gives_where (RightTyped s left (side_of f (Good a))) (are_related left (side_of f (Good a))) (no_type at) (as_term at a) (λ e. by (as_term at a) refl (term_well s at a w) e)
-  where
-    by : (o : Checked LogicTerm) → as_term at a ≡ o → Gives (TermTyped s) o → are_related left (side_of f (Good a)) ≡ true → Gives (RightTyped s left (side_of f (Good a))) o
-    by (Good t) h v e = (e, side_says f at a t m h, v)
-    by (Bad x xs) h v e = tt
-
--- what is known of links behind a side
-abbrev LinksFit : AnnotationSight → Side → Links → Type 0
-LinksFit s left links = (a : LogicTerm) → SideSays left a → LinksTyped s a links
-
-chain_well : (s : AnnotationSight) (at : Place) (f : Form) (k : Checked Sorted) (a : Sorted) (links : Links) → Gives (MadeOf f) k → k ≡ Good a → SortedTyped s a → LinksFit s (side_of f k) links → Gives (SortedTyped s) (related at a links)
-chain_well s at f k a NoLink m e v w = tt
-chain_well s at f k a (Linked place r b rest) m e v w = by (as_term at a) refl (term_well s at a v)
-  where
-    by : (o : Checked LogicTerm) → as_term at a ≡ o → Gives (TermTyped s) o → Gives (SortedTyped s) (one_part o (λ t. Good (APredicate (Chain at t (Linked place r b rest)))))
-    by (Good t) h x = (x, w t (subst (λ (j : Checked Sorted). SideSays (side_of f j) t) (sym e) (side_says f at a t (gives_of (MadeOf f) k a m e) h)), tt)
-    by (Bad x xs) h y = tt
-
--- ---- zones
-
-asked_well : {A : Type 0} (P : A → Type 0) (s : Sight) (at : Place) (q : MemoryQuestion) (u : PlainType) (k : Checked A) → (Measured s u → Gives P k) → Gives P (where_asked s at q u k)
-asked_well P s at Valid u k w = gives_measured P s at u k w
-asked_well P s at ValidRead u k w = gives_measured P s at u k w
-asked_well P s at Initialized u k w = gives_where P (is_scalar u) (no_type at) (where_measured s at u k) (λ e. gives_measured P s at u k w)
-
-object_well : (s : AnnotationSight) (q : MemoryQuestion) (at : Place) (a : Sorted) → SortedTyped s a → Gives (ZoneTyped s) (object_zone s.here q at a)
-object_well s q at a w = gives_one (PointerTyped s) (ZoneTyped s) (as_pointer at a) _ (pointer_well s at a w) (λ p v. asked_well (ZoneTyped s) s.here at q p.0 _ (λ g. ((p.0, v.0), v.1, g.0, g.1)))
-
-elements_well : (s : AnnotationSight) (q : MemoryQuestion) (at : Place) (a lo hi : Sorted) → SortedTyped s a → SortedTyped s lo → SortedTyped s hi → Gives (ZoneTyped s) (elements_zone s.here q at a lo hi)
-elements_well s q at a lo hi u v w =
-    gives_one (PointerTyped s) (ZoneTyped s) (as_pointer at a) _ (pointer_well s at a u) (λ p x. asked_well (ZoneTyped s) s.here at q p.0 _ (λ g.
-    gives_one (IntegerTyped s) (ZoneTyped s) (as_integer at lo) _ (integer_well s at lo v) (λ l y.
-    gives_one (IntegerTyped s) (ZoneTyped s) (as_integer at hi) _ (integer_well s at hi w) (λ h z. ((p.0, x.0), y.0, z.0, x.1, y.1, z.1, g.0, g.1)))))
-
--- parts that are values, from what is known of the parts
-value_of_form : (s : AnnotationSight) (f : Form) → Gives (SortedTyped s) (typed_form s f) → Gives (SortedTyped s) (value_in (typed_form s f))
-value_of_form s f w = values_well s (typed_form s f) w
-
-one_well : (s : AnnotationSight) (a : Form) (k : Sorted → Checked Sorted) → Gives (SortedTyped s) (typed_form s a) → ((x : Sorted) → SortedTyped s x → Gives (SortedTyped s) (k x)) → Gives (SortedTyped s) (one_part (value_in (typed_form s a)) k)
-one_well s a k v h = gives_one (SortedTyped s) (SortedTyped s) (value_in (typed_form s a)) k (value_of_form s a v) h
-
-two_well : (s : AnnotationSight) (a b : Form) (k : Sorted × Sorted → Checked Sorted) → Gives (SortedTyped s) (typed_form s a) → Gives (SortedTyped s) (typed_form s b)
-    → ((x y : Sorted) → SortedTyped s x → SortedTyped s y → Gives (SortedTyped s) (k (x, y)))
-    → Gives (SortedTyped s) (one_part (pair_of (value_in (typed_form s a)) (value_in (typed_form s b))) k)
-two_well s a b k v w h = gives_pair (SortedTyped s) (SortedTyped s) (SortedTyped s) (value_in (typed_form s a)) (value_in (typed_form s b)) k (value_of_form s a v) (value_of_form s b w) h
-
-pair_well : (s : AnnotationSight) (a b : Form) → Gives (SortedTyped s) (typed_form s a) → Gives (SortedTyped s) (typed_form s b)
-    → Gives (λ (p : Sorted × Sorted). SortedTyped s p.0 × SortedTyped s p.1) (pair_of (value_in (typed_form s a)) (value_in (typed_form s b)))
-pair_well s a b v w =
-    gives_both (SortedTyped s) (SortedTyped s) (λ (p : Sorted × Sorted). SortedTyped s p.0 × SortedTyped s p.1) (value_in (typed_form s a)) (value_in (typed_form s b)) (λ a b. Good (a, b)) (value_of_form s a v) (value_of_form s b w)
-    (λ a b v w. (v, w))
+    by : (o : Option CInt) → integer_type t ≡ o → Gives IsCastType (elim o [ None ↦ faulty (no_type at) | Some k ↦ Good (OfC t) ])
+    by None e = tt
+    by (Some k) e = there_is t (ap is_there e)
+
+binder_type_is : (s : Sight) (at : Place) (to : CastType) → Gives IsCastType (binder_type s at to)
+binder_type_is s at Integers = tt
+binder_type_is s at (OfC t) = gives_one Any IsCastType (typed_type s at t) (integer_binders at) (anything (typed_type s at t)) (λ u v. integer_binders_are at u)
 
 -- ---- forms
 
 mutual
-  form_well : (s : AnnotationSight) (f : Form) → Gives (SortedTyped s) (typed_form s f)
-  form_well s (read.Number at n) = refl
-  form_well s (read.Letter at n) = refl
-  form_well s (read.Truth at b) = tt
-  form_well s (read.Name at x) = named_well s at x.name
-  form_well s (read.Unary at op a) = gives_one (SortedTyped s) (SortedTyped s) (typed_form s a) (unary_on at op) (form_well s a) (unary_well s at op)
-  form_well s (read.Binary at op a b) = two_well s a b (λ p. binary_on s.here at op p.0 p.1) (form_well s a) (form_well s b) (binary_well s at op)
-  form_well s (read.Cast at Integers a) = one_well s a (cast_integer at Integers) (form_well s a) (cast_integer_well s at Integers tt)
-  form_well s (read.Cast at (OfC to) a) =
+  form_well : (s : AnnotationSight) (f : Form) → FormNumbered f → Gives (SortedTyped s) (typed_form s f)
+  form_well s (read.Number at n) num = refl
+  form_well s (read.Letter at n) num = refl
+  form_well s (read.Truth at b) num = tt
+  form_well s (read.Name at x) num = named_well s at x.name
+  form_well s (read.Unary at op a) num = gives_one (SortedTyped s) (SortedTyped s) (typed_form s a) (unary_on at op) (form_well s a num) (unary_well s at op)
+  form_well s (read.Binary at op a b) num = two_well s a b (λ p. binary_on s.here at op p.0 p.1) (form_well s a num.0) (form_well s b num.1) (binary_well s at op)
+  form_well s (read.Cast at Integers a) num = one_well s a (cast_integer at Integers) (form_well s a num) (cast_integer_well s at Integers tt)
+  form_well s (read.Cast at (OfC to) a) num =
       gives_limited (SortedTyped s) s.here at (known_type s.here to) _ (gives_pair Any (SortedTyped s) (SortedTyped s) (typed_type s.here at to) (value_in (typed_form s a)) (λ p. cast at p.0 p.1) (anything (typed_type s.here at to))
-      (value_of_form s a (form_well s a))
+      (value_of_form s a (form_well s a num))
       (λ t x v w. cast_well s at t x w))
-  form_well s (read.SizeOf at u) =
+  form_well s (read.SizeOf at u) num =
       gives_limited (SortedTyped s) s.here at (known_type s.here u) _ (gives_one Any (SortedTyped s) (typed_type s.here at u) (size_in s.here at) (anything (typed_type s.here at u)) (λ t v. gives_sized (SortedTyped s) s.here at t _ (λ e. refl)))
-  form_well s (read.Chain at a links) =
+  form_well s (read.Chain at a links) num =
       let side = side_of a (value_in (typed_form s a)) in
       gives_pair (λ x. SortedTyped s x × (value_in (typed_form s a) ≡ Good x)) (LinksFit s side) (SortedTyped s) (value_in (typed_form s a)) (typed_links s side links) (λ p. related at p.0 p.1)
-      (known (SortedTyped s) (value_in (typed_form s a)) (value_of_form s a (form_well s a))) (links_well s side links) (λ x ls v w. chain_well s at a (value_in (typed_form s a)) x ls (made s a) v.1 v.0 w)
-  form_well s (read.Connected at k a b) = two_well s a b (λ p. connected at k p.0 p.1) (form_well s a) (form_well s b) (connected_well s at k)
-  form_well s (read.Choice at k a b) =
+      (known (SortedTyped s) (value_in (typed_form s a)) (value_of_form s a (form_well s a num.0))) (links_well s side links num.1) (λ x ls v w. chain_well s at a (value_in (typed_form s a)) x ls (made s a) v.1 v.0 w)
+  form_well s (read.Connected at k a b) num = two_well s a b (λ p. connected at k p.0 p.1) (form_well s a num.0) (form_well s b num.1) (connected_well s at k)
+  form_well s (read.Choice at k a b) num =
       gives_pair (SortedTyped s) (λ (p : Sorted × Sorted). SortedTyped s p.0 × SortedTyped s p.1) (SortedTyped s) (value_in (typed_form s k)) (pair_of (value_in (typed_form s a)) (value_in (typed_form s b))) (λ p. chosen at p.0 (p.1).0 (p.1).1)
-      (value_of_form s k (form_well s k)) (pair_well s a b (form_well s a) (form_well s b)) (λ x p u w. chosen_well s at x p.0 p.1 u w.0 w.1)
-  form_well s (read.Null at) = refl
-  form_well s (read.Index at a b) = two_well s a b (λ p. index s.here at p.0 p.1) (form_well s a) (form_well s b) (index_well s at)
-  form_well s (read.Dot at a m) = gives_one (SortedTyped s) (SortedTyped s) (typed_form s a) (dot s.here at m) (form_well s a) (dot_well s at m)
-  form_well s (read.Arrow at a m) = one_well s a (arrow s.here at m) (form_well s a) (arrow_well s at m)
-  form_well s (read.Told at f a) =
-      one_well s a (told at f) (form_well s a) (λ b w. gives_one (PointerTyped s) (SortedTyped s) (as_pointer at b) _ (pointer_well s at b w) (λ p v. (refl, (p.0, v.0), v.1)))
-  form_well s (read.Asks at q z) = gives_one (ZoneTyped s) (SortedTyped s) (typed_zone s q at z) _ (zone_well s q at z) (λ z w. w)
-  form_well s (read.Separated at zs) = gives_one (ZonesTyped s) (SortedTyped s) (typed_zones s at zs) _ (zones_well s at zs) (λ zs w. w)
-  form_well s (read.Result at) = result_well s s.clause refl at
-  form_well s (read.Old at a) =
-      gives_where (SortedTyped s) (has_old s.clause) (no_label at) _ (λ e. labelled_well s at at (λ b. has_past b a) (λ u. typed_form u a) (λ l u f. form_well u a) (Some label.Pre))
-  form_well s (read.At at a place l) = labelled_well s at place (λ b. has_past b a) (λ u. typed_form u a) (λ k u f. form_well u a) (label_named s l)
+      (value_of_form s k (form_well s k num.0)) (pair_well s a b (form_well s a num.1) (form_well s b num.2)) (λ x p u w. chosen_well s at x p.0 p.1 u w.0 w.1)
+  form_well s (read.Null at) num = refl
+  form_well s (read.Index at a b) num = two_well s a b (λ p. index s.here at p.0 p.1) (form_well s a num.0) (form_well s b num.1) (index_well s at)
+  form_well s (read.Dot at a m) num = gives_one (SortedTyped s) (SortedTyped s) (typed_form s a) (dot s.here at m) (form_well s a num) (dot_well s at m)
+  form_well s (read.Arrow at a m) num = one_well s a (arrow s.here at m) (form_well s a num) (arrow_well s at m)
+  form_well s (read.Told at f a) num =
+      one_well s a (told at f) (form_well s a num) (λ b w. gives_one (PointerTyped s) (SortedTyped s) (as_pointer at b) _ (pointer_well s at b w) (λ p v. (refl, (p.0, v.0), v.1)))
+  form_well s (read.Asks at q z) num = gives_one (ZoneTyped s) (SortedTyped s) (typed_zone s q at z) _ (zone_well s q at z num) (λ z w. w)
+  form_well s (read.Separated at zs) num = gives_one (ZonesTyped s) (SortedTyped s) (typed_zones s at zs) _ (zones_well s at zs num) (λ zs w. w)
+  form_well s (read.Result at) num = result_well s s.clause refl at
+  form_well s (read.Old at a) num =
+      gives_where (SortedTyped s) (has_old s.clause) (no_label at) _ (λ e. labelled_well s at at (is_refused s a) (λ u. typed_form u a) (λ l u f. form_well u a num) (Some label.Pre))
+  form_well s (read.At at a place l) num = labelled_well s at place (is_refused s a) (λ u. typed_form u a) (λ k u f. form_well u a num) (label_named s l)
+  form_well s (read.Quantified at q to names a) num =
+      gives_where (SortedTyped s) (is_guarded q names a) (no_guard at) _ (λ e.
+      gives_one IsCastType (SortedTyped s) (binder_type s.here at to) (λ k. typed_quantified s at q k names a) (binder_type_is s.here at to) (λ k h. quantifier_well s at q k h names a num.0 num.1 e))
 
-  links_well : (s : AnnotationSight) (left : Side) (links : FormLinks) → Gives (LinksFit s left) (typed_links s left links)
-  links_well s left read.NoLink = λ a h. tt
-  links_well s left (read.Linked at r b rest) =
+  quantifier_well : (s : AnnotationSight) (at : Place) (q : Quantifier) (k : CastType) → IsCastType k → (bs : Names) (f : Form) → AreApart bs → FormNumbered f → is_guarded q bs f ≡ true → Gives (SortedTyped s) (typed_quantified s at q k bs f)
+  quantifier_well s at q k h bs (read.Connected place j a b) apart num e =
+      let u = with_binders s (guarded_by bs a) in
+      quantified_well s at place q j bs a b (typed_conjuncts s at k bs place a (typed_form s a)) (typed_conjuncts u at k (left_behind bs a) place b (typed_form u b)) (value_in (typed_form (with_binders s bs) b)) e
+      (conjuncts_well s at k h bs place a apart num.0 (form_well s a num.0)) (conjuncts_well u at k h (left_behind bs a) place b (apart_left bs a apart) num.1 (form_well u b num.1))
+      (value_of_form (with_binders s bs) b (form_well (with_binders s bs) b num.1))
+  quantifier_well s here q k h bs (read.Number at n) apart num e = tt
+  quantifier_well s here q k h bs (read.Letter at n) apart num e = tt
+  quantifier_well s here q k h bs (read.Truth at v) apart num e = tt
+  quantifier_well s here q k h bs (read.Name at x) apart num e = tt
+  quantifier_well s here q k h bs (read.Unary at op a) apart num e = tt
+  quantifier_well s here q k h bs (read.Binary at op a b) apart num e = tt
+  quantifier_well s here q k h bs (read.Cast at to a) apart num e = tt
+  quantifier_well s here q k h bs (read.SizeOf at u) apart num e = tt
+  quantifier_well s here q k h bs (read.Choice at j a b) apart num e = tt
+  quantifier_well s here q k h bs (read.Null at) apart num e = tt
+  quantifier_well s here q k h bs (read.Index at a b) apart num e = tt
+  quantifier_well s here q k h bs (read.Dot at a m) apart num e = tt
+  quantifier_well s here q k h bs (read.Arrow at a m) apart num e = tt
+  quantifier_well s here q k h bs (read.Told at f a) apart num e = tt
+  quantifier_well s here q k h bs (read.Asks at p z) apart num e = tt
+  quantifier_well s here q k h bs (read.Separated at zs) apart num e = tt
+  quantifier_well s here q k h bs (read.Result at) apart num e = tt
+  quantifier_well s here q k h bs (read.Old at a) apart num e = tt
+  quantifier_well s here q k h bs (read.At at a place l) apart num e = tt
+  quantifier_well s here q k h bs (read.Quantified at p to names a) apart num e = tt
+  quantifier_well s here q k h bs (read.Chain at a links) apart num e = tt
+
+  conjuncts_well : (s : AnnotationSight) (at : Place) (k : CastType) → IsCastType k → (bs : Names) (place : Place) (f : Form) → AreApart bs → FormNumbered f → Gives (SortedTyped s) (typed_form s f)
+      → (rest : Names) → unguarded bs f ≡ Some rest → Gives (ConjunctsTyped s bs rest) (typed_conjuncts s at k bs place f (typed_form s f))
+  conjuncts_well s at k h bs place (read.Connected here And a b) apart num w rest e =
+      let u = with_binders s (guarded_by bs a) in
+      let parts = left_is (unguarded bs a) (λ more. unguarded more b) rest e in
+      conjunction_well s here a bs (left_behind bs a) rest (typed_conjuncts s at k bs here a (typed_form s a)) (typed_conjuncts u at k (left_behind bs a) here b (typed_form u b)) parts.0
+      (conjuncts_well s at k h bs here a apart num.0 (form_well s a num.0) (left_behind bs a) parts.0)
+      (conjuncts_well u at k h (left_behind bs a) here b (apart_left bs a apart) num.1 (form_well u b num.1) rest parts.1)
+  conjuncts_well s at k h bs place (read.Chain here a links) apart num w rest e =
+      chain_well_over s at k h bs rest place a links (bound_at here (typed_form s a)) (typed_upper s at links) (typed_form s (read.Chain here a links)) apart
+      (bound_well s here a (form_well s a num.0)) (upper_well s at links num.1) w e
+  conjuncts_well s here k h bs there (read.Number at n) apart num w rest e = other_well s here there bs rest (typed_form s (read.Number at n)) w e
+  conjuncts_well s here k h bs there (read.Letter at n) apart num w rest e = other_well s here there bs rest (typed_form s (read.Letter at n)) w e
+  conjuncts_well s here k h bs there (read.Truth at v) apart num w rest e = other_well s here there bs rest (typed_form s (read.Truth at v)) w e
+  conjuncts_well s here k h bs there (read.Name at x) apart num w rest e = other_well s here there bs rest (typed_form s (read.Name at x)) w e
+  conjuncts_well s here k h bs there (read.Unary at op a) apart num w rest e = other_well s here there bs rest (typed_form s (read.Unary at op a)) w e
+  conjuncts_well s here k h bs there (read.Binary at op a b) apart num w rest e = other_well s here there bs rest (typed_form s (read.Binary at op a b)) w e
+  conjuncts_well s here k h bs there (read.Cast at to a) apart num w rest e = other_well s here there bs rest (typed_form s (read.Cast at to a)) w e
+  conjuncts_well s here k h bs there (read.SizeOf at u) apart num w rest e = other_well s here there bs rest (typed_form s (read.SizeOf at u)) w e
+  conjuncts_well s here k h bs there (read.Choice at j a b) apart num w rest e = other_well s here there bs rest (typed_form s (read.Choice at j a b)) w e
+  conjuncts_well s here k h bs there (read.Null at) apart num w rest e = other_well s here there bs rest (typed_form s (read.Null at)) w e
+  conjuncts_well s here k h bs there (read.Index at a b) apart num w rest e = other_well s here there bs rest (typed_form s (read.Index at a b)) w e
+  conjuncts_well s here k h bs there (read.Dot at a m) apart num w rest e = other_well s here there bs rest (typed_form s (read.Dot at a m)) w e
+  conjuncts_well s here k h bs there (read.Arrow at a m) apart num w rest e = other_well s here there bs rest (typed_form s (read.Arrow at a m)) w e
+  conjuncts_well s here k h bs there (read.Told at f a) apart num w rest e = other_well s here there bs rest (typed_form s (read.Told at f a)) w e
+  conjuncts_well s here k h bs there (read.Asks at p z) apart num w rest e = other_well s here there bs rest (typed_form s (read.Asks at p z)) w e
+  conjuncts_well s here k h bs there (read.Separated at zs) apart num w rest e = other_well s here there bs rest (typed_form s (read.Separated at zs)) w e
+  conjuncts_well s here k h bs there (read.Result at) apart num w rest e = other_well s here there bs rest (typed_form s (read.Result at)) w e
+  conjuncts_well s here k h bs there (read.Old at a) apart num w rest e = other_well s here there bs rest (typed_form s (read.Old at a)) w e
+  conjuncts_well s here k h bs there (read.At at a place l) apart num w rest e = other_well s here there bs rest (typed_form s (read.At at a place l)) w e
+  conjuncts_well s here k h bs there (read.Quantified at p to names a) apart num w rest e = other_well s here there bs rest (typed_form s (read.Quantified at p to names a)) w e
+  conjuncts_well s here k h bs there (read.Connected at Xor a b) apart num w rest e = other_well s here there bs rest (typed_form s (read.Connected at Xor a b)) w e
+  conjuncts_well s here k h bs there (read.Connected at Or a b) apart num w rest e = other_well s here there bs rest (typed_form s (read.Connected at Or a b)) w e
+  conjuncts_well s here k h bs there (read.Connected at Implies a b) apart num w rest e = other_well s here there bs rest (typed_form s (read.Connected at Implies a b)) w e
+  conjuncts_well s here k h bs there (read.Connected at Iff a b) apart num w rest e = other_well s here there bs rest (typed_form s (read.Connected at Iff a b)) w e
+
+  upper_well : (s : AnnotationSight) (at : Place) (links : FormLinks) → FormLinksNumbered links → Gives (IntegerTyped s) (typed_upper s at links)
+  upper_well s at read.NoLink num = tt
+  upper_well s at (read.Linked place r a read.NoLink) num = bound_well s place a (form_well s a num.0)
+  upper_well s at (read.Linked place r a (read.Linked l t c rest)) num = upper_well s at (read.Linked l t c rest) num.1
+
+  links_well : (s : AnnotationSight) (left : Side) (links : FormLinks) → FormLinksNumbered links → Gives (LinksFit s left) (typed_links s left links)
+  links_well s left read.NoLink num = λ a h. tt
+  links_well s left (read.Linked at r b rest) num =
       let side = side_of b (value_in (typed_form s b)) in
       gives_pair (RightTyped s left side) (LinksFit s side) (LinksFit s left) (one_part (value_in (typed_form s b)) (right_side at left side)) (typed_links s side rest) (λ p. Good (Linked at r p.0 p.1))
-      (right_well s at left b (value_in (typed_form s b)) (made s b) (value_of_form s b (form_well s b))) (links_well s side rest) (λ t ls v w a h. (related_well left side a t h v.1 v.0, v.2, w t v.1))
+      (right_well s at left b (value_in (typed_form s b)) (made s b) (value_of_form s b (form_well s b num.0))) (links_well s side rest num.1) (λ t ls v w a h. (related_well left side a t h v.1 v.0, v.2, w t v.1))
 
-  zone_well : (s : AnnotationSight) (q : MemoryQuestion) (at : Place) (z : FormZone) → Gives (ZoneTyped s) (typed_zone s q at z)
-  zone_well s q at (read.Object a) = gives_one (SortedTyped s) (ZoneTyped s) (value_in (typed_form s a)) (object_zone s.here q at) (value_of_form s a (form_well s a)) (object_well s q at)
-  zone_well s q at (read.Elements plus a lo hi) =
+  zone_well : (s : AnnotationSight) (q : MemoryQuestion) (at : Place) (z : FormZone) → FormZoneNumbered z → Gives (ZoneTyped s) (typed_zone s q at z)
+  zone_well s q at (read.Object a) num = gives_one (SortedTyped s) (ZoneTyped s) (value_in (typed_form s a)) (object_zone s.here q at) (value_of_form s a (form_well s a num)) (object_well s q at)
+  zone_well s q at (read.Elements plus a lo hi) num =
       gives_pair (SortedTyped s) (λ (p : Sorted × Sorted). SortedTyped s p.0 × SortedTyped s p.1) (ZoneTyped s) (value_in (typed_form s a)) (pair_of (value_in (typed_form s lo)) (value_in (typed_form s hi)))
-      (λ p. elements_zone s.here q plus p.0 (p.1).0 (p.1).1) (value_of_form s a (form_well s a)) (pair_well s lo hi (form_well s lo) (form_well s hi)) (λ x p u w. elements_well s q plus x p.0 p.1 u w.0 w.1)
+      (λ p. elements_zone s.here q plus p.0 (p.1).0 (p.1).1) (value_of_form s a (form_well s a num.0)) (pair_well s lo hi (form_well s lo num.1) (form_well s hi num.2)) (λ x p u w. elements_well s q plus x p.0 p.1 u w.0 w.1)
 
-  zones_well : (s : AnnotationSight) (at : Place) (zs : FormZones) → Gives (ZonesTyped s) (typed_zones s at zs)
-  zones_well s at read.NoZone = tt
-  zones_well s at (read.Another z rest) =
-      gives_pair (ZoneTyped s) (ZonesTyped s) (ZonesTyped s) (typed_zone s ValidRead at z) (typed_zones s at rest) (λ p. Good (Another p.0 p.1)) (zone_well s ValidRead at z) (zones_well s at rest) (λ z zs v w. (v, w))
+  zones_well : (s : AnnotationSight) (at : Place) (zs : FormZones) → FormZonesNumbered zs → Gives (ZonesTyped s) (typed_zones s at zs)
+  zones_well s at read.NoZone num = tt
+  zones_well s at (read.Another z rest) num =
+      gives_pair (ZoneTyped s) (ZonesTyped s) (ZonesTyped s) (typed_zone s ValidRead at z) (typed_zones s at rest) (λ p. Good (Another p.0 p.1)) (zone_well s ValidRead at z num.0) (zones_well s at rest num.1) (λ z zs v w. (v, w))
 
 -- ---- clauses
 
@@ -618,17 +254,56 @@ clause_holds_well s (ATerm t) w = holds_well s (place_of_term t) t w
 clause_holds_well s (APredicate p) w = w
 clause_holds_well s (APlace t) w = holds_well s (place_of_term t) t w.1
 
-pub clause_well : (s : AnnotationSight) (b : ClauseBody) → IsRead b → Gives (ClauseTyped s) (typed_clause s b)
-clause_well s (Raw f) r =
-    gives_one (SortedTyped s) (ClauseTyped s) (value_in (typed_form s f)) _ (value_of_form s f (form_well s f)) (λ a v. gives_one (PredicateTyped s) (ClauseTyped s) (clause_holds a) (λ p. Good (Holds p)) (clause_holds_well s a v) (λ p w. w))
-clause_well s (Holds p) r = absurd r
-clause_well s (Value t) r = absurd r
-clause_well s (Behaviors names) r = absurd r
+variant_well : (s : AnnotationSight) (a : Sorted) → SortedTyped s a → Gives (IntegerTyped s) (variant_value a)
+variant_well s (ATerm t) w = gives_where (IntegerTyped s) (is_integer (sort_of_term t)) (no_type (place_of_term t)) (Good t) (λ e. (integer_is (sort_of_term t) e, w))
+variant_well s (APredicate p) w = tt
+variant_well s (APlace t) w = gives_where (IntegerTyped s) (is_integer (sort_of_term t)) (no_type (place_of_term t)) (Good t) (λ e. (integer_is (sort_of_term t) e, w.1))
+
+predicate_said : (s : AnnotationSight) (a : Sorted) → SortedTyped s a → Gives (ClauseTyped s) (one_part (clause_holds a) (λ p. Good (Holds p)))
+predicate_said s a w = gives_one (PredicateTyped s) (ClauseTyped s) (clause_holds a) (λ p. Good (Holds p)) (clause_holds_well s a w) (λ p v. v)
+
+said_well : (s : AnnotationSight) (k : Kind) (a : Sorted) → SortedTyped s a → Gives (ClauseTyped s) (said k a)
+said_well s Variant a w = gives_one (IntegerTyped s) (ClauseTyped s) (variant_value a) (λ t. Good (Value t)) (variant_well s a w) (λ t v. v)
+said_well s Assert a w = predicate_said s a w
+said_well s Requires a w = predicate_said s a w
+said_well s Assumes a w = predicate_said s a w
+said_well s Ensures a w = predicate_said s a w
+said_well s Complete a w = predicate_said s a w
+said_well s Disjoint a w = predicate_said s a w
+said_well s Invariant a w = predicate_said s a w
+said_well s Rte a w = predicate_said s a w
+
+pub clause_well : (s : AnnotationSight) (k : Kind) (b : ClauseBody) → IsRead b → Gives (ClauseTyped s) (typed_clause s k b)
+clause_well s k (Raw f) r = gives_one (SortedTyped s) (ClauseTyped s) (value_in (typed_form s f)) (said k) (value_of_form s f (form_well s f r)) (said_well s k)
+clause_well s k (Holds p) r = absurd r
+clause_well s k (Value t) r = absurd r
+clause_well s k (Behaviors names) r = absurd r
+
+-- by its kind
+by_predicate : (k : Kind) → ((p : Predicate) → IsSaidBy k (Holds p)) → (a : Sorted) → Gives (IsSaidBy k) (one_part (clause_holds a) (λ p. Good (Holds p)))
+by_predicate k h a = gives_one (λ (p : Predicate). Unit {0}) (IsSaidBy k) (clause_holds a) (λ p. Good (Holds p)) (anything (clause_holds a)) (λ p u. h p)
+
+kind_said : (k : Kind) (a : Sorted) → Gives (IsSaidBy k) (said k a)
+kind_said Variant a = gives_one (λ (t : LogicTerm). Unit {0}) (IsSaidBy Variant) (variant_value a) (λ t. Good (Value t)) (anything (variant_value a)) (λ t u. tt)
+kind_said Assert a = by_predicate Assert (λ p. tt) a
+kind_said Requires a = by_predicate Requires (λ p. tt) a
+kind_said Assumes a = by_predicate Assumes (λ p. tt) a
+kind_said Ensures a = by_predicate Ensures (λ p. tt) a
+kind_said Complete a = by_predicate Complete (λ p. tt) a
+kind_said Disjoint a = by_predicate Disjoint (λ p. tt) a
+kind_said Invariant a = by_predicate Invariant (λ p. tt) a
+kind_said Rte a = by_predicate Rte (λ p. tt) a
+
+pub clause_said : (s : AnnotationSight) (k : Kind) (b : ClauseBody) → IsRead b → Gives (IsSaidBy k) (typed_clause s k b)
+clause_said s k (Raw f) r = gives_one (λ (a : Sorted). Unit {0}) (IsSaidBy k) (value_in (typed_form s f)) (said k) (anything (value_in (typed_form s f))) (λ a u. kind_said k a)
+clause_said s k (Holds p) r = absurd r
+clause_said s k (Value t) r = absurd r
+clause_said s k (Behaviors names) r = absurd r
 
 pub annotations_well : (s : AnnotationSight) (annots : List Annotation) → AreRead annots → Gives (AnnotationsTyped s) (typed_annotations s annots)
 annotations_well s [] r = tt
 annotations_well s (a ∷ rest) r =
-    gives_one (ClauseTyped s) (AnnotationsTyped s) (typed_clause s a.body) (λ b. one_part (typed_annotations s rest) (λ rest. Good (record a { body = b } ∷ rest))) (clause_well s a.body r.0) (λ b v.
+    gives_one (ClauseTyped s) (AnnotationsTyped s) (typed_clause s a.kind a.body) (λ b. one_part (typed_annotations s rest) (λ rest. Good (record a { body = b } ∷ rest))) (clause_well s a.kind a.body r.0) (λ b v.
     gives_one (AnnotationsTyped s) (AnnotationsTyped s) (typed_annotations s rest) (λ rest. Good (record a { body = b } ∷ rest)) (annotations_well s rest r.1) (λ rest w. (v, w)))
 
 pub typed_annotations_are_known : TypedAnnotationsAreKnown

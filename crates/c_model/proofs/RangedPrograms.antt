@@ -10,7 +10,7 @@ use Rattle.c_model.specs.Sizes.{IsSmall}
 use Rattle.c_model.specs.SmallTypes.{TypesSmall}
 use Rattle.c_model.specs.FormedContracts.{ContractsFormed}
 use Rattle.c_model.specs.KeptTerms.{planned, StandApart}
-use Rattle.c_model.specs.Formed.{IsShortClause, AreAsserts, number_of, Ascend, AreNamed, FunctionsNamed}
+use Rattle.c_model.specs.Formed.{AreLoopClauses, IsShortClause, AreAsserts, number_of, Ascend, AreNamed, FunctionsNamed}
 use Rattle.c_model.specs.ReadTree.{Between, numbers_of_items, FunctionsRead, TextsAreBytes}
 use Rattle.c_model.specs.FileItems.{FileNoted, FileResolved}
 use Rattle.c_model.specs.AcceptedPrograms.{AreConstant, IsProgram}
@@ -69,7 +69,7 @@ module _ (p q : TranslationUnit) (e : unranged_unit q ≡ unranged_unit p) (h : 
     noted = over NotedUnit unit_noted h.noted;
     contracts_noted = over ContractsNoted all_contracts_noted h.contracts_noted;
     resolved = over ResolvedUnit unit_resolved h.resolved;
-    effects = over (λ (p : TranslationUnit). FunctionsRead AreAsserts p.funcs) (λ (p : TranslationUnit). functions_read p.funcs) h.effects;
+    effects = over (λ (p : TranslationUnit). FunctionsRead AreAsserts AreLoopClauses p.funcs) (λ (p : TranslationUnit). functions_read p.funcs) h.effects;
     contracts = over (λ (p : TranslationUnit). ContractsFormed IsShortClause p.funcs) (λ (p : TranslationUnit). contracts_formed p.funcs) h.contracts;
     kept_apart = over (λ (p : TranslationUnit). AllByRecursion (λ (f : Function). StandApart (planned f)) p.funcs) (λ (p : TranslationUnit). functions_apart p.funcs) h.kept_apart;
     constant = over (λ (p : TranslationUnit). AreConstant p.globals) (λ (p : TranslationUnit). itself) h.constant;

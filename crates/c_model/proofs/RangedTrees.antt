@@ -198,16 +198,16 @@ mutual
   guards_ranged : (seen : Seen) (at : Place) (gs : Guards) (p : Predicate) → ((m : Seen) → Gives (IsRangedPredicate m p) (ranged_pred m p)) → Gives (AreRangedGuards seen gs p) (ranged_guards seen at gs (λ m. ranged_pred m p))
   guards_ranged seen at NoGuard p w =
       gives_one (IsRangedPredicate seen p) (AreRangedGuards seen NoGuard p) (ranged_pred seen p) (λ q. Good (NoGuard, q)) (w seen) (λ q h. record { ranged = h.ranged; guards = refl; same = h.same })
-  guards_ranged seen at (Guarded a bs below c rest) p w =
-      gives_both (IsRangedTerm seen a) (IsRangedTerm seen c) (AreRangedGuards seen (Guarded a bs below c rest) p) (ranged_term seen a) (ranged_term seen c)
-      (λ b d. where_so (are_bounded (range_of b).lo bs (lowered below (range_of d).hi)) (no_range at)
-      (one_part (ranged_guards (seen_binders (range_of b).lo bs (lowered below (range_of d).hi) seen) at rest (λ m. ranged_pred m p)) (λ gp. Good (Guarded b bs below d gp.0, gp.1)))) (term_ranged seen a) (term_ranged seen c) (λ b d h k.
-      let more = seen_binders (range_of b).lo bs (lowered below (range_of d).hi) seen in
-      gives_where (AreRangedGuards seen (Guarded a bs below c rest) p) (are_bounded (range_of b).lo bs (lowered below (range_of d).hi)) (no_range at) _ (λ e.
-      gives_one (AreRangedGuards more rest p) (AreRangedGuards seen (Guarded a bs below c rest) p) (ranged_guards more at rest (λ m. ranged_pred m p)) (λ gp. Good (Guarded b bs below d gp.0, gp.1)) (guards_ranged more at rest p w) (λ gp g.
+  guards_ranged seen at (Guarded a y ys below c rest) p w =
+      gives_both (IsRangedTerm seen a) (IsRangedTerm seen c) (AreRangedGuards seen (Guarded a y ys below c rest) p) (ranged_term seen a) (ranged_term seen c)
+      (λ b d. where_so (are_bounded (range_of b).lo (y ∷ ys) (lowered below (range_of d).hi)) (no_range at)
+      (one_part (ranged_guards (seen_binders (range_of b).lo (y ∷ ys) (lowered below (range_of d).hi) seen) at rest (λ m. ranged_pred m p)) (λ gp. Good (Guarded b y ys below d gp.0, gp.1)))) (term_ranged seen a) (term_ranged seen c) (λ b d h k.
+      let more = seen_binders (range_of b).lo (y ∷ ys) (lowered below (range_of d).hi) seen in
+      gives_where (AreRangedGuards seen (Guarded a y ys below c rest) p) (are_bounded (range_of b).lo (y ∷ ys) (lowered below (range_of d).hi)) (no_range at) _ (λ e.
+      gives_one (AreRangedGuards more rest p) (AreRangedGuards seen (Guarded a y ys below c rest) p) (ranged_guards more at rest (λ m. ranged_pred m p)) (λ gp. Good (Guarded b y ys below d gp.0, gp.1)) (guards_ranged more at rest p w) (λ gp g.
       record {
         ranged = (h.ranged, k.ranged, e, g.ranged);
-        guards = ap (λ x. Guarded x bs below (unranged_term d) (unranged_guards gp.0)) h.same ∙ ap (λ x. Guarded (unranged_term a) bs below x (unranged_guards gp.0)) k.same ∙ ap (Guarded (unranged_term a) bs below (unranged_term c)) g.guards;
+        guards = ap (λ x. Guarded x y ys below (unranged_term d) (unranged_guards gp.0)) h.same ∙ ap (λ x. Guarded (unranged_term a) y ys below x (unranged_guards gp.0)) k.same ∙ ap (Guarded (unranged_term a) y ys below (unranged_term c)) g.guards;
         same = g.same;
       })))
 
@@ -312,8 +312,8 @@ mutual
 
   guards_kept : (q : Quantifier) (gs : Guards) (p : Environment → ℕ → Answer) (s : State) (e : Environment) (n : ℕ) → guarded q (unranged_guards gs) p s e n ≡ guarded q gs p s e n
   guards_kept q NoGuard p s e n = refl
-  guards_kept q (Guarded a bs below b rest) p s e n = λ i.
-      between (value_kept a s e i) (value_kept b s e i) (λ l h. over q l bs (lowered below h) (fun_ext (λ m. fun_ext (guards_kept q rest p s m)) i) e) n
+  guards_kept q (Guarded a y ys below b rest) p s e n = λ i.
+      between (value_kept a s e i) (value_kept b s e i) (λ l h. over q l (y ∷ ys) (lowered below h) (fun_ext (λ m. fun_ext (guards_kept q rest p s m)) i) e) n
 
 pub ranges_keep_values : RangesKeepValues
 ranges_keep_values = value_kept

@@ -19,7 +19,7 @@ use Rattle.c_model.specs.UnitTyping.{with_parameters}
 use Rattle.c_model.specs.TypedTrees.{WhereAny, Assigns, ToScalar, ToStruct, CompoundTypes, ToInteger, ToPointer, WellTyped, AreWellTyped, IsCondition, InitialisedBy, ByText, ByValue, Initialises, PartsInitialised, IsDeclared, AreDeclared}
 use Rattle.c_model.specs.TypedTrees.{StatementTyped, CasesTyped, ElseTyped, FirstTyped, ItemTyped, ItemsTyped, around_body, BodyTyped}
 use Rattle.c_model.specs.FullExpressions.{EachInitial, EachPart, EachInDeclaration, EachDeclared, EachIn, EachInCases, EachInElse, EachInFirst, EachInItem, EachInItems}
-use Rattle.c_model.specs.Formed.{AreAsserts}
+use Rattle.c_model.specs.Formed.{AreLoopClauses, AreAsserts}
 use Rattle.c_model.specs.ReadTree.{BodyRead, FunctionsRead, AreBytes, TextsAreBytes}
 use Rattle.c_model.specs.AcceptedPrograms.{IsProgram}
 use Rattle.c_model.specs.SoundStates.{is_direct, AreDirect, AllDirect, BodiesDirect, ProgramsAreDirect, ExpressionsKeepSound, BirthsKeepSound, StatementsKeepSound, ItemsKeepSound, BodiesKeepSound, ProgramCallsKeepSound, RunsKeepSound, RunsAreSound}
@@ -217,7 +217,7 @@ mutual
   direct_items s r NoItem w = tt
   direct_items s r (Then i rest) w = (direct_item s r i w.0, direct_items (behind s i) r rest w.1)
 
-direct_body : (s : Sight) (t : PlainType) (body : Option Statement) → BodyRead AreAsserts body → BodyTyped s t body → WhereAny (EachIn AreDirect) body
+direct_body : (s : Sight) (t : PlainType) (body : Option Statement) → BodyRead AreAsserts AreLoopClauses body → BodyTyped s t body → WhereAny (EachIn AreDirect) body
 direct_body s t None read w = tt
 direct_body s t (Some (Block at items)) read w = direct_items s (around_body t) items w
 direct_body s t (Some _) read w = absurd read
@@ -225,7 +225,7 @@ direct_body s t (Some _) read w = absurd read
 -- ---- programs
 
 module _ (p : TranslationUnit) (q : IsProgram p) where
-  bodies_direct : (front fs : List Function) → front ++ fs ≡ p.funcs → FunctionsRead AreAsserts fs → BodiesDirect fs
+  bodies_direct : (front fs : List Function) → front ++ fs ≡ p.funcs → FunctionsRead AreAsserts AreLoopClauses fs → BodiesDirect fs
   bodies_direct front [] is read = tt
   bodies_direct front (f ∷ fs) is read =
       let here = function_in_sight p q.typed q.resolved front fs f is in

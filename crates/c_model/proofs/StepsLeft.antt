@@ -115,9 +115,9 @@ module _ (s : State) (i j : ℕ) where
 
     guards_same : (q : Quantifier) (gs : Guards) (p r : Environment → ℕ → Answer) → ((e : Environment) → IsStill e → (n : ℕ) → p e n ≡ r e n) → (e : Environment) → IsStill e → (n : ℕ) → guarded q gs p before e n ≡ guarded q gs r after e n
     guards_same q NoGuard p r same e h n = same e h n
-    guards_same q (Guarded a bs below b rest) p r same e h n = λ i.
+    guards_same q (Guarded a y ys below b rest) p r same e h n = λ i.
         between (value_same a e h i) (value_same b e h i)
-        (fun_ext (λ l. fun_ext (λ m. fun_ext (over_same q bs l (lowered below m) (guarded q rest p before) (guarded q rest r after) (guards_same q rest p r same) e h))) i) n
+        (fun_ext (λ l. fun_ext (λ m. fun_ext (over_same q (y ∷ ys) l (lowered below m) (guarded q rest p before) (guarded q rest r after) (guards_same q rest p r same) e h))) i) n
 
 -- ---- what is said with other steps left
 
@@ -237,8 +237,8 @@ between_agree (Some (Mathematical l)) (Some (Mathematical h)) f k m n = k l h m 
 
 guards_agree : (q : Quantifier) (gs : Guards) (p : Environment → ℕ → Answer) → ((e : Environment) → Agrees (p e)) → (s : State) (e : Environment) → Agrees (guarded q gs p s e)
 guards_agree q NoGuard p k s e = k e
-guards_agree q (Guarded a bs below b rest) p k s e =
-    between_agree (term a s e) (term b s e) (λ l h. over q l bs (lowered below h) (guarded q rest p s) e) (λ l h. over_agree q bs l (lowered below h) (guarded q rest p s) (guards_agree q rest p k s) e)
+guards_agree q (Guarded a y ys below b rest) p k s e =
+    between_agree (term a s e) (term b s e) (λ l h. over q l (y ∷ ys) (lowered below h) (guarded q rest p s) e) (λ l h. over_agree q (y ∷ ys) l (lowered below h) (guarded q rest p s) (guards_agree q rest p k s) e)
 
 -- ---- predicates
 

@@ -10,9 +10,9 @@ use Rattle.c_model.specs.AnnotationSights.{AnnotationSight}
 use Rattle.c_model.specs.PredicateTyping.{typed_clause}
 use Rattle.c_model.specs.ContractTyping.{typed_clauses, typed_behaviors, names_of_behaviors, named_behaviors, known_behaviors, typed_covers, typed_contract}
 use Rattle.c_model.specs.TypedPredicates.{ClauseTyped, AreRead}
-use Rattle.c_model.specs.TypedAnnotations.{ClausesTyped, BehaviorsTyped, AreAmong, CoversTyped, ContractTyped, BehaviorsRead, TypedContractsAreKnown}
-use Rattle.c_model.proofs.TypedParts.{Gives, gives_of, gives_one, gives_where}
-use Rattle.c_model.proofs.PredicateTrees.{clause_well}
+use Rattle.c_model.specs.TypedAnnotations.{IsSaidBy, ClausesTyped, BehaviorsTyped, AreAmong, CoversTyped, ContractTyped, BehaviorsRead, TypedContractsAreKnown}
+use Rattle.c_model.proofs.TypedParts.{gives_and, Gives, gives_of, gives_one, gives_where}
+use Rattle.c_model.proofs.PredicateTrees.{clause_well, clause_said}
 
 -- ---- names of behaviors
 
@@ -38,8 +38,10 @@ module _ (seen : Kind → AnnotationSight) where
   clauses_well : (xs : List Annotation) → AreRead xs → Gives (ClausesTyped seen) (typed_clauses seen xs)
   clauses_well [] r = tt
   clauses_well (a ∷ rest) r =
-      gives_one (ClauseTyped (seen a.kind)) (ClausesTyped seen) (typed_clause (seen a.kind) a.body) (λ b. one_part (typed_clauses seen rest) (λ rest. Good (record a { body = b } ∷ rest))) (clause_well (seen a.kind) a.body r.0) (λ b v.
-      gives_one (ClausesTyped seen) (ClausesTyped seen) (typed_clauses seen rest) (λ rest. Good (record a { body = b } ∷ rest)) (clauses_well rest r.1) (λ more w. (v, w)))
+      let u = seen a.kind in
+      gives_one (λ b. ClauseTyped u b × IsSaidBy a.kind b) (ClausesTyped seen) (typed_clause u a.kind a.body) (λ b. one_part (typed_clauses seen rest) (λ rest. Good (record a { body = b } ∷ rest)))
+      (gives_and (ClauseTyped u) (IsSaidBy a.kind) (typed_clause u a.kind a.body) (clause_well u a.kind a.body r.0) (clause_said u a.kind a.body r.0)) (λ b v.
+      gives_one (ClausesTyped seen) (ClausesTyped seen) (typed_clauses seen rest) (λ rest. Good (record a { body = b } ∷ rest)) (clauses_well rest r.1) (λ more w. (v.0, v.1, w)))
 
   -- ---- behaviors, which keep their names
 

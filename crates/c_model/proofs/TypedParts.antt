@@ -30,6 +30,11 @@ pub gives_one : {A B : Type 0} (P : A → Type 0) (R : B → Type 0) (m : Checke
 gives_one P R (Good a) k p h = h a p
 gives_one P R (Bad f fs) k p h = tt
 
+-- what follows of the value
+pub gives_more : {A : Type 0} (P R : A → Type 0) (c : Checked A) → Gives P c → ((a : A) → P a → R a) → Gives R c
+gives_more P R (Good a) p h = h a p
+gives_more P R (Bad f fs) p h = tt
+
 pub gives_both : {A B C : Type 0} (P : A → Type 0) (Q : B → Type 0) (R : C → Type 0) (m : Checked A) (n : Checked B) (k : A → B → Checked C) → Gives P m → Gives Q n
     → ((a : A) (b : B) → P a → Q b → Gives R (k a b)) → Gives R (both_parts m n k)
 gives_both P Q R (Good a) (Good b) k p q h = h a b p q

@@ -4,6 +4,7 @@ use mathlib.Core.Path.{fun_ext}
 use Rattle.std.specs.List.{AllByRecursion}
 use Rattle.c_syntax.specs.declared.place.Place.{Place}
 use Rattle.c_syntax.specs.declared.annotation.Kind.{Kind}
+use Rattle.c_syntax.specs.declared.annotation.Kind.TheVariants as kind
 use Rattle.c_syntax.specs.Logic as logic
 use Rattle.c_syntax.specs.Logic.{ClauseBody, Raw, Holds, Behaviors, Annotation}
 use Rattle.c_syntax.specs.Programs.{NamedBehavior, FunctionContract, Function, TranslationUnit}
@@ -21,7 +22,7 @@ use Rattle.c_model.specs.ExpressionTyping.{Object, Sight}
 use Rattle.c_model.specs.AnnotationSights.{AnnotationSight}
 use Rattle.c_model.specs.AnnotationTyping.{numbers_of_parameters}
 use Rattle.c_model.specs.ContractTyping.{sight_of_clause, names_of_behaviors, named_behaviors}
-use Rattle.c_model.specs.TypedAnnotations.{ClausesTyped, BehaviorsTyped, AreAmong, CoversTyped, ContractTyped, IsOwn, OfFunction, OfFile, ContractStands, ContractNoted, ContractsNoted}
+use Rattle.c_model.specs.TypedAnnotations.{IsSaidBy, ClausesTyped, BehaviorsTyped, AreAmong, CoversTyped, ContractTyped, IsOwn, OfFunction, OfFile, ContractStands, ContractNoted, ContractsNoted}
 use Rattle.c_model.specs.UnrangedPrograms.{unranged_behavior, unranged_contract, unranged_function, unranged_unit}
 use Rattle.c_model.proofs.UnrangedTerms.{Alike, itself, beside, clause_short, clause_typed, same_judged, same_clause, same_check}
 
@@ -184,9 +185,47 @@ contracts_formed (f ∷ fs) = beside (maybe_formed f.contract) (contracts_formed
 
 -- ---- typing
 
+said_kept : (k : Kind) (b : ClauseBody) → IsSaidBy k (unranged_clause b) ≡ IsSaidBy k b
+said_kept kind.Assert (Raw f) = refl
+said_kept kind.Assert (Holds p) = refl
+said_kept kind.Assert (logic.Value t) = refl
+said_kept kind.Assert (Behaviors names) = refl
+said_kept kind.Requires (Raw f) = refl
+said_kept kind.Requires (Holds p) = refl
+said_kept kind.Requires (logic.Value t) = refl
+said_kept kind.Requires (Behaviors names) = refl
+said_kept kind.Assumes (Raw f) = refl
+said_kept kind.Assumes (Holds p) = refl
+said_kept kind.Assumes (logic.Value t) = refl
+said_kept kind.Assumes (Behaviors names) = refl
+said_kept kind.Ensures (Raw f) = refl
+said_kept kind.Ensures (Holds p) = refl
+said_kept kind.Ensures (logic.Value t) = refl
+said_kept kind.Ensures (Behaviors names) = refl
+said_kept kind.Complete (Raw f) = refl
+said_kept kind.Complete (Holds p) = refl
+said_kept kind.Complete (logic.Value t) = refl
+said_kept kind.Complete (Behaviors names) = refl
+said_kept kind.Disjoint (Raw f) = refl
+said_kept kind.Disjoint (Holds p) = refl
+said_kept kind.Disjoint (logic.Value t) = refl
+said_kept kind.Disjoint (Behaviors names) = refl
+said_kept kind.Invariant (Raw f) = refl
+said_kept kind.Invariant (Holds p) = refl
+said_kept kind.Invariant (logic.Value t) = refl
+said_kept kind.Invariant (Behaviors names) = refl
+said_kept kind.Variant (Raw f) = refl
+said_kept kind.Variant (Holds p) = refl
+said_kept kind.Variant (logic.Value t) = refl
+said_kept kind.Variant (Behaviors names) = refl
+said_kept kind.Rte (Raw f) = refl
+said_kept kind.Rte (Holds p) = refl
+said_kept kind.Rte (logic.Value t) = refl
+said_kept kind.Rte (Behaviors names) = refl
+
 clauses_typed : (seen : Kind → AnnotationSight) (xs : List Annotation) → ClausesTyped seen (unranged_annotations xs) ≡ ClausesTyped seen xs
 clauses_typed seen [] = refl
-clauses_typed seen (a ∷ rest) = λ i. clause_typed (seen a.kind) a.body i × clauses_typed seen rest i
+clauses_typed seen (a ∷ rest) = λ i. clause_typed (seen a.kind) a.body i × said_kept a.kind a.body i × clauses_typed seen rest i
 
 behaviors_typed : (seen : Kind → AnnotationSight) (bs : List NamedBehavior) → BehaviorsTyped seen (map unranged_behavior bs) ≡ BehaviorsTyped seen bs
 behaviors_typed seen [] = refl

@@ -13,7 +13,7 @@ use Rattle.c_model.specs.TypedTrees.{around_body, BodyTyped, FunctionTyped}
 use Rattle.c_model.specs.AnnotationSights.{AnnotationSight}
 use Rattle.c_model.specs.AnnotationTyping.{in_body}
 use Rattle.c_model.specs.TypedAnnotations.{BodyNoted, FunctionNoted}
-use Rattle.c_model.specs.Formed.{AreAsserts, number_of, numbers_of, declared_in_body, AreNamed, FunctionNamed, FunctionsNamed}
+use Rattle.c_model.specs.Formed.{AreLoopClauses, AreAsserts, number_of, numbers_of, declared_in_body, AreNamed, FunctionNamed, FunctionsNamed}
 use Rattle.c_model.specs.FullExpressions.{EachInBody, EachInFunctions}
 use Rattle.c_model.specs.ExpressionGrammar.{most_nested}
 use Rattle.c_model.specs.ReadTree.{BodyRead, FunctionRead, FunctionsRead}
@@ -39,7 +39,7 @@ body_each P None = refl
 body_each P (Some (Block at items)) = each_in_items P items
 body_each P (Some _) = refl
 
-body_read : (b : Option Statement) → Alike (BodyRead AreAsserts (option_map unranged_statement b)) (BodyRead AreAsserts b)
+body_read : (b : Option Statement) → Alike (BodyRead AreAsserts AreLoopClauses (option_map unranged_statement b)) (BodyRead AreAsserts AreLoopClauses b)
 body_read None = itself
 body_read (Some (Block at items)) = beside (items_placed items) (alike (ap (λ n. n ≤ suc most_nested) (same_depth (Block at items))))
 body_read (Some _) = itself
@@ -66,7 +66,7 @@ function_typed s f =
 pub function_noted : (s : Sight) (f : Function) → FunctionNoted s (unranged_function f) ≡ FunctionNoted s f
 function_noted s f = body_noted (in_body (with_parameters (inner s) f.params)) f.body
 
-function_read : (f : Function) → Alike (FunctionRead AreAsserts (unranged_function f)) (FunctionRead AreAsserts f)
+function_read : (f : Function) → Alike (FunctionRead AreAsserts AreLoopClauses (unranged_function f)) (FunctionRead AreAsserts AreLoopClauses f)
 function_read f = record {
   to = λ h. record { body = (body_read f.body).to h.body };
   from = λ h. record { body = (body_read f.body).from h.body };
@@ -88,7 +88,7 @@ same_definition f = body_there f.body
 
 -- ---- the functions of a file
 
-pub functions_read : (fs : List Function) → Alike (FunctionsRead AreAsserts (map unranged_function fs)) (FunctionsRead AreAsserts fs)
+pub functions_read : (fs : List Function) → Alike (FunctionsRead AreAsserts AreLoopClauses (map unranged_function fs)) (FunctionsRead AreAsserts AreLoopClauses fs)
 functions_read [] = itself
 functions_read (f ∷ fs) = beside (function_read f) (functions_read fs)
 

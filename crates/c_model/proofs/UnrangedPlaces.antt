@@ -15,7 +15,7 @@ use Rattle.c_model.specs.KeptTerms.{in_statement, in_cases, in_else, in_first, i
 use Rattle.c_model.specs.Unranged.{unranged_term, unranged_links, unranged_zone, unranged_zones, unranged_pred, unranged_guards, unranged_clause, unranged_annotations}
 use Rattle.c_model.specs.UnrangedPrograms.{unranged_statement, unranged_cases, unranged_else, unranged_item, unranged_items, unranged_behavior, unranged_contract, unranged_function}
 use Rattle.c_model.proofs.UnrangedTerms.{Alike, itself, beside}
-use Rattle.c_model.proofs.PlacedTerms.{joined}
+use Rattle.c_model.proofs.PlacedSorts.{joined}
 
 abbrev without : Entry → Entry
 without x = (x.0, unranged_term x.1)
@@ -96,7 +96,7 @@ mutual
 
   guards_kept : (gs : Guards) → in_guards (unranged_guards gs) ≡ map without (in_guards gs)
   guards_kept NoGuard = refl
-  guards_kept (Guarded a bs below b rest) = two _ _ (in_term a) (in_term b ++ in_guards rest) (term_kept a) (two _ _ (in_term b) (in_guards rest) (term_kept b) (guards_kept rest))
+  guards_kept (Guarded a y ys below b rest) = two _ _ (in_term a) (in_term b ++ in_guards rest) (term_kept a) (two _ _ (in_term b) (in_guards rest) (term_kept b) (guards_kept rest))
 
 clause_kept : (b : ClauseBody) → in_clause (unranged_clause b) ≡ map without (in_clause b)
 clause_kept (Raw f) = refl

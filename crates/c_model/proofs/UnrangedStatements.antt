@@ -10,7 +10,7 @@ use Rattle.c_model.specs.Conversions.{promoted}
 use Rattle.c_model.specs.TypedTrees.{CasesTyped, IsCaseValue}
 use Rattle.c_model.specs.TypedAnnotations.{CasesNoted}
 use Rattle.c_model.specs.FullExpressions.{EachInCases}
-use Rattle.c_model.specs.Formed.{depth_of_cases, declared_in_cases}
+use Rattle.c_model.specs.Formed.{AreLoopClauses, depth_of_cases, declared_in_cases}
 use Rattle.c_model.specs.UnrangedPrograms.{unranged_cases}
 use Rattle.c_model.specs.Meaning.{case_of, is_case_of, default_of, chosen_case, after_switch, cases_with, eval_with}
 use Rattle.c_model.specs.Memory.{Integer, Points, NoValue, Value}
@@ -30,7 +30,7 @@ use Rattle.c_model.specs.Formed.{AreAsserts, depth, depth_of_else, depth_of_item
 use Rattle.c_model.specs.FullExpressions.{EachIn, EachInElse, EachInFirst, EachInItem, EachInItems}
 use Rattle.c_model.specs.EffectPlaces.{DeclareNothing, StatementPlaced, CasesPlaced, ElsePlaced, ItemPlaced, ItemsPlaced}
 use Rattle.c_model.specs.UnrangedPrograms.{unranged_statement, unranged_else, unranged_item, unranged_items}
-use Rattle.c_model.proofs.UnrangedTerms.{Alike, itself, beside, annotations_typed, are_asserts, are_none, same_checks, same_invariants, same_turn}
+use Rattle.c_model.proofs.UnrangedTerms.{Alike, itself, beside, annotations_typed, are_asserts, are_loops, same_checks, same_invariants, same_turn}
 
 -- ---- typing
 
@@ -112,7 +112,7 @@ mutual
   statement_noted s (If at e a b) = λ i. statement_noted s a i × else_noted s b i
   statement_noted s (While at annots e a) = λ i. annotations_typed s annots i × statement_noted s a i
   statement_noted s (Do at a e) = statement_noted s a
-  statement_noted s (For at annots first e step a) = λ i. annotations_typed s annots i × statement_noted (inside_for s first) a i
+  statement_noted s (For at annots first e step a) = λ i. annotations_typed (inside_for s first) annots i × statement_noted (inside_for s first) a i
   statement_noted s (Break at) = refl
   statement_noted s (Continue at) = refl
   statement_noted s (Return at e) = refl
@@ -249,19 +249,19 @@ no_declaration (Then (Run a) rest) = beside itself (no_declaration rest)
 no_declaration (Then (Asserts annots) rest) = beside itself (no_declaration rest)
 
 mutual
-  statement_placed : (a : Statement) → Alike (StatementPlaced AreAsserts (unranged_statement a)) (StatementPlaced AreAsserts a)
+  statement_placed : (a : Statement) → Alike (StatementPlaced AreAsserts AreLoopClauses (unranged_statement a)) (StatementPlaced AreAsserts AreLoopClauses a)
   statement_placed (Empty at) = itself
   statement_placed (Eval at e) = itself
   statement_placed (Block at items) = items_placed items
   statement_placed (If at e a b) = beside (statement_placed a) (else_placed b)
   statement_placed (While at annots e a) = record {
-    to = λ h. ((are_none annots).to h.0, (statement_placed a).to h.1);
-    from = λ h. ((are_none annots).from h.0, (statement_placed a).from h.1);
+    to = λ h. ((are_loops annots).to h.0, (statement_placed a).to h.1);
+    from = λ h. ((are_loops annots).from h.0, (statement_placed a).from h.1);
   }
   statement_placed (Do at a e) = statement_placed a
   statement_placed (For at annots first e step a) = record {
-    to = λ h. ((are_none annots).to h.0, h.1, (statement_placed a).to h.2);
-    from = λ h. ((are_none annots).from h.0, h.1, (statement_placed a).from h.2);
+    to = λ h. ((are_loops annots).to h.0, h.1, (statement_placed a).to h.2);
+    from = λ h. ((are_loops annots).from h.0, h.1, (statement_placed a).from h.2);
   }
   statement_placed (Break at) = itself
   statement_placed (Continue at) = itself
@@ -269,24 +269,24 @@ mutual
   statement_placed (Labelled at l a) = statement_placed a
   statement_placed (Switch at e cases) = cases_placed cases
 
-  cases_placed : (cs : Cases) → Alike (CasesPlaced AreAsserts (unranged_cases cs)) (CasesPlaced AreAsserts cs)
+  cases_placed : (cs : Cases) → Alike (CasesPlaced AreAsserts AreLoopClauses (unranged_cases cs)) (CasesPlaced AreAsserts AreLoopClauses cs)
   cases_placed NoCase = itself
   cases_placed (AnotherCase at v items rest) = record {
     to = λ h. ((no_declaration items).to h.0, (items_placed items).to h.1, (cases_placed rest).to h.2);
     from = λ h. ((no_declaration items).from h.0, (items_placed items).from h.1, (cases_placed rest).from h.2);
   }
 
-  else_placed : (b : ElsePart) → Alike (ElsePlaced AreAsserts (unranged_else b)) (ElsePlaced AreAsserts b)
+  else_placed : (b : ElsePart) → Alike (ElsePlaced AreAsserts AreLoopClauses (unranged_else b)) (ElsePlaced AreAsserts AreLoopClauses b)
   else_placed NoElse = itself
   else_placed (Else a) = statement_placed a
 
-  item_placed : (x : BlockItem) → Alike (ItemPlaced AreAsserts (unranged_item x)) (ItemPlaced AreAsserts x)
+  item_placed : (x : BlockItem) → Alike (ItemPlaced AreAsserts AreLoopClauses (unranged_item x)) (ItemPlaced AreAsserts AreLoopClauses x)
   item_placed (Declare ds) = itself
   item_placed (Specify at t) = itself
   item_placed (Run a) = statement_placed a
   item_placed (Asserts annots) = are_asserts annots
 
-  pub items_placed : (xs : BlockItems) → Alike (ItemsPlaced AreAsserts (unranged_items xs)) (ItemsPlaced AreAsserts xs)
+  pub items_placed : (xs : BlockItems) → Alike (ItemsPlaced AreAsserts AreLoopClauses (unranged_items xs)) (ItemsPlaced AreAsserts AreLoopClauses xs)
   items_placed NoItem = itself
   items_placed (Then x rest) = beside (item_placed x) (items_placed rest)
 

@@ -1,6 +1,6 @@
 -- What is known of annotations doesn't look at their ranges: it is the same without them.
 use Rattle.std.proofs.Common.{◌≡◌, ℕ, suc, ◌+◌, ◌≤◌, ℤ, List, [], ◌∷◌, length, Option, Some, None, refl, ap, ◌∙◌, ◌⊎◌, sym, subst}
-use Rattle.std.specs.Prelude.{true, false}
+use Rattle.std.specs.Prelude.{true, false, ◌*◌}
 use mathlib.Core.Path.{fun_ext}
 use Rattle.c_syntax.specs.Ctypes.{PlainType, Ptr, Struct}
 use Rattle.c_syntax.specs.Logic.{LogicTerm, Number, Letter, Variable, Unary, Binary, Cast, Choice, Named, Links, NoLink, Linked, Predicate, Truth, NonZero}
@@ -19,6 +19,12 @@ use Rattle.c_model.specs.TypedPredicates.{ZoneTyped, ZonesTyped, PredicateTyped,
 use Rattle.c_model.specs.Formed.{level_of, parentheses_around, operator_of_term, tokens_of_term, tokens_of_links, tokens_of_predicate, tokens_of_guards, TermNumbered, LinksNumbered, PredicateNumbered}
 use Rattle.c_model.specs.Formed.{GuardsNumbered, IsShortPredicate, IsShortClause, IsAssert, AreAsserts, tokens_of_zone, tokens_of_zones, ZoneNumbered}
 use Rattle.c_model.specs.Formed.{ZonesNumbered}
+use Rattle.c_syntax.specs.declared.place.Place.{Place}
+use Rattle.c_syntax.specs.declared.annotation.Kind.{Kind}
+use Rattle.c_model.specs.QuietPredicates.{IsQuiet}
+use Rattle.c_model.specs.AnnotationSights.{with_binders}
+use Rattle.c_model.specs.TypedPredicates.{AreBinders, GuardsTyped}
+use Rattle.c_model.specs.Formed.{IsLoopKind, IsLoopClause, AreLoopClauses}
 use Rattle.c_model.specs.Unranged.{unranged_term, unranged_links, unranged_pred, unranged_guards, unranged_clause, unranged_annotations, unranged_zone}
 use Rattle.c_model.specs.Unranged.{unranged_zones}
 use Rattle.c_model.proofs.RangedTrees.{value_kept, answer_kept}
@@ -108,6 +114,17 @@ related_kept : (a b : LogicTerm) → AreRelated (unranged_term a) (unranged_term
 related_kept a b i =
     (integer_kept a i × integer_kept b i) ⊎ (pointer_kept a i × pointer_kept b i) ⊎ (pointer_kept a i × zero_kept b i) ⊎ (zero_kept a i × pointer_kept b i)
 
+quiet_kept : (p : Predicate) → IsQuiet (unranged_pred p) ≡ IsQuiet p
+quiet_kept (Truth at b) = refl
+quiet_kept (NonZero at t) = refl
+quiet_kept (Chain at t links) = refl
+quiet_kept (Not at p) = quiet_kept p
+quiet_kept (Connected at c p q) = λ i. quiet_kept p i × quiet_kept q i
+quiet_kept (Branch at c p q) = λ i. quiet_kept c i × quiet_kept p i × quiet_kept q i
+quiet_kept (Quantified at q gs p) = refl
+quiet_kept (Asks at f z) = refl
+quiet_kept (Separated at zs) = refl
+
 mutual
   term_typed : (s : AnnotationSight) (t : LogicTerm) → TermTyped s (unranged_term t) ≡ TermTyped s t
   term_typed s (Number at c r n) = refl
@@ -116,7 +133,7 @@ mutual
   term_typed s (Unary at c r op a) = λ i. (c ≡ None) × IsOnInteger op × integer_kept a i × term_typed s a i
   term_typed s (Binary at c r op a b) = λ i. (c ≡ None) × integer_kept a i × integer_kept b i × term_typed s a i × term_typed s b i
   term_typed s (Cast at c r to a) = λ i. IsCast c to (sort_of (type_kept a i)) × term_typed s a i
-  term_typed s (Choice at c r p a b) = λ i. IsChoice c (sort_of (type_kept a i)) (sort_of (type_kept b i)) × predicate_typed s p i × term_typed s a i × term_typed s b i
+  term_typed s (Choice at c r p a b) = λ i. IsChoice c (sort_of (type_kept a i)) (sort_of (type_kept b i)) × quiet_kept p i × predicate_typed s p i × term_typed s a i × term_typed s b i
   term_typed s (Named at c r x) = refl
   term_typed s (At at c r l a) = λ i. (u : AnnotationSight) × (sight_at s l ≡ Some u) × (c ≡ type_kept a i) × term_typed u a i
   term_typed s (Null at c r) = refl
@@ -146,14 +163,20 @@ mutual
   predicate_typed s (Not at p) = predicate_typed s p
   predicate_typed s (Connected at c p q) = λ i. predicate_typed s p i × predicate_typed s q i
   predicate_typed s (Branch at c p q) = λ i. predicate_typed s c i × predicate_typed s p i × predicate_typed s q i
-  predicate_typed s (Quantified at q gs p) = refl
+  predicate_typed s (Quantified at q gs p) = guards_typed s gs (λ u. PredicateTyped u (unranged_pred p)) (λ u. PredicateTyped u p) (λ u. predicate_typed u p)
   predicate_typed s (Asks at f z) = zone_typed s z
   predicate_typed s (Separated at zs) = zones_typed s zs
+
+  guards_typed : (s : AnnotationSight) (gs : Guards) (P Q : AnnotationSight → Type 0) → ((u : AnnotationSight) → P u ≡ Q u) → GuardsTyped s (unranged_guards gs) P ≡ GuardsTyped s gs Q
+  guards_typed s NoGuard P Q same = same s
+  guards_typed s (Guarded a y ys below b rest) P Q same = λ i.
+      integer_kept a i × integer_kept b i × term_typed s a i × term_typed s b i
+      × (bs : List (Place × ℕ)) × AreBinders (y ∷ ys) bs × guards_typed (with_binders s bs) rest P Q same i
 
 pub clause_typed : (s : AnnotationSight) (b : ClauseBody) → ClauseTyped s (unranged_clause b) ≡ ClauseTyped s b
 clause_typed s (Raw f) = refl
 clause_typed s (Holds p) = predicate_typed s p
-clause_typed s (Value t) = refl
+clause_typed s (Value t) = λ i. integer_kept t i × term_typed s t i
 clause_typed s (Behaviors names) = refl
 
 pub annotations_typed : (s : AnnotationSight) (xs : List Annotation) → AnnotationsTyped s (unranged_annotations xs) ≡ AnnotationsTyped s xs
@@ -224,7 +247,7 @@ mutual
 
   guards_tokens : (gs : Guards) → tokens_of_guards (unranged_guards gs) ≡ tokens_of_guards gs
   guards_tokens NoGuard = refl
-  guards_tokens (Guarded a bs below b rest) = λ i. length bs + term_tokens a i + term_tokens b i + guards_tokens rest i
+  guards_tokens (Guarded a y ys below b rest) = λ i. 2 * length (y ∷ ys) + term_tokens a i + term_tokens b i + guards_tokens rest i
 
 mutual
   term_numbered : (t : LogicTerm) → TermNumbered (unranged_term t) ≡ TermNumbered t
@@ -270,7 +293,7 @@ mutual
 
   guards_numbered : (gs : Guards) → GuardsNumbered (unranged_guards gs) ≡ GuardsNumbered gs
   guards_numbered NoGuard = refl
-  guards_numbered (Guarded a bs below b rest) = λ i. term_numbered a i × term_numbered b i × guards_numbered rest i
+  guards_numbered (Guarded a y ys below b rest) = λ i. term_numbered a i × term_numbered b i × guards_numbered rest i
 
 predicate_short : (p : Predicate) → Alike (IsShortPredicate (unranged_pred p)) (IsShortPredicate p)
 predicate_short p = record {
@@ -297,9 +320,21 @@ pub are_asserts : (xs : List Annotation) → Alike (AreAsserts (unranged_annotat
 are_asserts [] = itself
 are_asserts (a ∷ rest) = beside (is_assert a) (are_asserts rest)
 
-pub are_none : (xs : List Annotation) → Alike (unranged_annotations xs ≡ []) (xs ≡ [])
-are_none [] = itself
-are_none (a ∷ rest) = record { to = λ e. cc; from = λ e. cc }
+loop_kind : (b : ClauseBody) (k : Kind) → Alike (IsLoopKind (unranged_clause b) k) (IsLoopKind b k)
+loop_kind (Raw f) k = itself
+loop_kind (Holds p) k = itself
+loop_kind (Value t) k = itself
+loop_kind (Behaviors names) k = itself
+
+is_loop : (a : Annotation) → Alike (IsLoopClause (record a { body = unranged_clause a.body })) (IsLoopClause a)
+is_loop a = record {
+  to = λ h. record { kind = (loop_kind a.body a.kind).to h.kind; body = (clause_short a.body).to h.body };
+  from = λ h. record { kind = (loop_kind a.body a.kind).from h.kind; body = (clause_short a.body).from h.body };
+}
+
+pub are_loops : (xs : List Annotation) → Alike (AreLoopClauses (unranged_annotations xs)) (AreLoopClauses xs)
+are_loops [] = itself
+are_loops (a ∷ rest) = beside (is_loop a) (are_loops rest)
 
 -- ---- meaning
 

@@ -17,7 +17,7 @@ use Rattle.c_model.specs.FullExpressions.{EachExpression}
 use Rattle.c_model.specs.LetterValues.{LettersFit}
 use Rattle.c_model.specs.FormedContracts.{ContractsFormed}
 use Rattle.c_model.specs.KeptTerms.{planned, StandApart}
-use Rattle.c_model.specs.Formed.{IsShortClause, AreAsserts, number_of, Ascend, AreNamed, FunctionsNamed}
+use Rattle.c_model.specs.Formed.{IsShortClause, AreAsserts, AreLoopClauses, number_of, Ascend, AreNamed, FunctionsNamed}
 pub use Rattle.c_model.specs.FileItems.{ItemNoted, FileNoted, AreScalar, IsDefined, AreDefined, ItemResolved, FileResolved}
 
 -- ---- forms and sizes
@@ -37,7 +37,7 @@ pub record IsProgram (p : TranslationUnit) : Type 0 where
   pub contracts_noted : ContractsNoted p
   pub resolved : FileResolved p (sight_with p p.structs) (items_of_file p)
   -- annotations and declarations stand where the grammar puts them, and expressions and their types are small
-  pub effects : FunctionsRead AreAsserts p.funcs
+  pub effects : FunctionsRead AreAsserts AreLoopClauses p.funcs
   pub contracts : ContractsFormed IsShortClause p.funcs
   -- no two terms that a function keeps at its labels stand at one place
   pub kept_apart : AllByRecursion (λ (f : Function). StandApart (planned f)) p.funcs

@@ -13,7 +13,9 @@
 --   shift       = sum { ( "<<" | ">>" ) sum }
 --   sum         = product { ( "+" | "-" ) product }
 --   product     = prefix { ( "*" | "/" | "%" ) prefix }
---   prefix      = ( "+" | "-" | "!" | "~" | "*" | "&" ) prefix | "(" ( type | "integer" ) ")" prefix | "sizeof" "(" type ")" | postfix
+--   prefix      = ( "+" | "-" | "!" | "~" | "*" | "&" ) prefix | "(" ( type | "integer" ) ")" prefix | "sizeof" "(" type ")" | quantified | postfix
+--   quantified  = ( "\forall" | "\exists" ) values NAME { "," NAME } ";" form
+--   values      = "integer" | integer words in any order | "enum" ANYNAME | TYPENAME
 --   postfix     = primary { "[" form "]" | "." ANYNAME | "->" ANYNAME }
 --   primary     = NAME | NUMBER | CHAR | "\true" | "\false" | "\null" | "\result" | "(" form ")"
 --               | "\old" "(" form ")" | "\at" "(" form "," NAME ")"
@@ -26,7 +28,9 @@
 --
 -- Only behind a form in parentheses is it seen whether a `+` before it adds, or begins the range of a zone, whose form is then the whole one before
 -- the `+`. So a form is read in one of two modes. In that of a zone a sum goes on with a range too, and nothing goes on behind one; it is handed on
--- to what may stand last in a form: the right operand of each level, and the last part of a choice.
+-- to what may stand last in a form: the right operand of each level, the last part of a choice, and the form of a quantifier.
+--
+-- A quantifier reaches as far to the right as it can: nothing goes on behind a form that one ends. A form inside parentheses ends at these.
 use Rattle.std.specs.Prelude.{ℕ, List, [], ◌∷◌, ◌++◌, Option, Some, None, Bool, cond, eqb}
 use Rattle.grammar.specs.Syntax.{Syntax, none, gives, one, ◌then◌, choice, many, knot}
 use Rattle.c_syntax.specs.declared.place.Place.{Place}
@@ -38,9 +42,10 @@ use Rattle.c_syntax.specs.declared.annotation.Relation.TheVariants as relation
 use Rattle.c_syntax.specs.declared.logic.BlockFact.{BlockFact}
 use Rattle.c_syntax.specs.declared.logic.Connective.TheVariants as connective
 use Rattle.c_syntax.specs.declared.logic.MemoryQuestion.{MemoryQuestion}
+use Rattle.c_syntax.specs.declared.logic.Quantifier.{Quantifier}
 use Rattle.c_syntax.specs.Formulas.{CastType, Integers, OfC, Form, Number, Letter, Truth, Name, Unary, Binary, Cast, SizeOf, Chain, Connected, Choice}
 use Rattle.c_syntax.specs.Formulas.{FormLinks, NoLink, Linked, Null, Index, Dot, Arrow, Told, Asks, Separated, FormZone, Object, Elements, FormZones, NoZone}
-use Rattle.c_syntax.specs.Formulas.{Another, Result, Old, At}
+use Rattle.c_syntax.specs.Formulas.{Another, Result, Old, At, Quantified}
 use Rattle.c_syntax.specs.Tokens as token
 use Rattle.c_syntax.specs.Tokens.{PlainTokenKind, PlainToken}
 use Rattle.c_model.specs.declared.formulas.FormulaOperator.{FormulaOperator}
@@ -55,13 +60,13 @@ use Rattle.c_model.specs.declared.vocabulary.Word.{Word}
 use Rattle.c_model.specs.declared.vocabulary.Word.TheVariants as word
 use Rattle.c_model.specs.Vocabulary.{Vocabulary, word_at}
 use Rattle.c_model.specs.Punctuators.{shift_left, shift_right, less_equal, greater_equal, equal, not_equal, and_and, or_or, plus, minus, times, divide}
-use Rattle.c_model.specs.Punctuators.{percent, less, greater, exclamation, tilde, ampersand, bar, caret, question, colon, left_paren}
+use Rattle.c_model.specs.Punctuators.{percent, less, greater, exclamation, tilde, ampersand, bar, caret, question, colon, semicolon, left_paren}
 use Rattle.c_model.specs.Punctuators.{right_paren, equivalent, implies, caret_caret, comma, dot, arrow, left_bracket, right_bracket, dots}
 use Rattle.c_model.specs.Terminals.{placed, mark_entry}
 use Rattle.c_model.specs.ExpressionGrammar.{name_kind, number_kind, letter_kind, keyword_kind, mark_kind}
 use Rattle.c_model.specs.ExpressionGrammar.{word_kind, token_kind, letter_of, number_of, kinds_of, first_type, use_of, any_name}
 use Rattle.c_model.specs.ExpressionGrammar.{null_kind, fact_kind, question_kind, separated_kind, fixed, mark, reserved, closed, type_name, expression}
-use Rattle.c_model.specs.ExpressionGrammar.{result_kind, old_kind, at_kind}
+use Rattle.c_model.specs.ExpressionGrammar.{result_kind, old_kind, at_kind, quantifier_kind, type_name_kind, integer_words, typedef_name, enum_tag}
 
 -- ---- kinds of tokens in annotations: those of C, but that `integer` has a kind of its own
 
@@ -92,6 +97,10 @@ fact_word _ = None
 abbrev pub question_word : Word → Option MemoryQuestion
 question_word (word.Logic (logic.Asks q)) = Some q
 question_word _ = None
+
+abbrev pub quantifier_word : Word → Option Quantifier
+quantifier_word (word.Logic (logic.Quantifier q)) = Some q
+quantifier_word _ = None
 
 -- what a postfix form goes on with; it serves `parse` alone
 abbrev pub first_behind : List ℕ
@@ -164,18 +173,19 @@ direction_behind d relation.Ne = Ended
 
 -- ---- forms
 
--- a range `+ (lo .. hi)`, at its `+`
-pub record FormRange : Type 0 where
-  pub place : Place
-  pub lo : Form
-  pub hi : Form
+-- what ends a form, so that nothing goes on behind it: a range `+ (lo .. hi)`, at its `+`, which stands in a zone alone; or a quantifier
+pub data FormEnd : Type 0 where
+  ByRange : Place → Form → Form → FormEnd
+  ByQuantifier : FormEnd
 
-abbrev pub range_at : Place → Form → Form → FormRange
-range_at at lo hi = record { place = at; lo = lo; hi = hi }
-
--- what is read, and the range that ends it, which stands in a zone alone
+-- what is read, and what ends it
 abbrev pub Spanned : Type 0 → Type 0
-Spanned A = A × Option FormRange
+Spanned A = A × Option FormEnd
+
+-- what ends a quantifier, by what ends its form
+abbrev pub quantifier_end : Option FormEnd → FormEnd
+quantifier_end None = ByQuantifier
+quantifier_end (Some e) = e
 
 -- two forms and what joins them
 abbrev pub joined_forms : FormulaOperator × Place → Form → Form → Form
@@ -187,28 +197,40 @@ abbrev pub chained : Form → FormLinks → Form
 chained a NoLink = a
 chained a (Linked at r b links) = Chain at a (Linked at r b links)
 
+abbrev pub zone_ended : Form → FormEnd → FormZone
+zone_ended a (ByRange at lo hi) = Elements at a lo hi
+zone_ended a ByQuantifier = Object a
+
 -- the zone of a form: the elements of its range, or what the form points to
 abbrev pub zone_of : Spanned Form → FormZone
-zone_of x = elim x.1 [ None ↦ Object x.0 | Some r ↦ Elements r.place x.0 r.lo r.hi ]
+zone_of x = elim x.1 [ None ↦ Object x.0 | Some e ↦ zone_ended x.0 e ]
 
 abbrev pub zones_of : List FormZone → FormZones
 zones_of [] = NoZone
 zones_of (z ∷ zs) = Another z (zones_of zs)
 
--- the kinds with which something goes on that no range ends
+-- the kinds with which something goes on that nothing ends
 abbrev pub unended_kinds : {A : Type 0} → List ℕ → Spanned A → List ℕ
-unended_kinds ks x = elim x.1 [ None ↦ ks | Some r ↦ [] ]
+unended_kinds ks x = elim x.1 [ None ↦ ks | Some e ↦ [] ]
 
--- goes on behind a form that no range ends
+-- goes on behind a form that nothing ends
 abbrev pub unended : {A B : Type 0} → (A → Syntax PlainToken (Spanned B)) → (A → B) → Spanned A → Syntax PlainToken (Spanned B)
-unended G f x = elim x.1 [ None ↦ G x.0 | Some r ↦ gives (f x.0, Some r) ]
+unended G f x = elim x.1 [ None ↦ G x.0 | Some e ↦ gives (f x.0, Some e) ]
 
 -- the same, where there is nothing else
 abbrev pub unended_only : (Form → Syntax PlainToken (Spanned Form)) → Spanned Form → Syntax PlainToken (Spanned Form)
-unended_only G x = elim x.1 [ None ↦ G x.0 | Some r ↦ none ]
+unended_only G x = elim x.1 [ None ↦ G x.0 | Some e ↦ none ]
+
+-- a form that nothing ends
+abbrev pub endless : Syntax PlainToken Form → Syntax PlainToken (Spanned Form)
+endless G = G then λ x. gives (x, None)
 
 abbrev pub as_it_is : {A : Type 0} → A → A
 as_it_is a = a
+
+-- a level of operators in each mode, by what stands in it: a form inside another, a zone, and a form that may stand last
+abbrev pub Levelled : Type 1
+Levelled = Syntax PlainToken Form → Syntax PlainToken FormZone → Syntax PlainToken (Spanned Form) → FormulaMode → Syntax PlainToken (Spanned Form)
 
 module _ (ws : Vocabulary) where
   -- ---- single tokens
@@ -231,6 +253,11 @@ module _ (ws : Vocabulary) where
   abbrev pub question_of : PlainTokenKind → Option MemoryQuestion
   question_of (token.Word n) = question_word (word_at ws n)
   question_of _ = None
+
+  -- `\forall` and `\exists`
+  abbrev pub quantifier_of : PlainTokenKind → Option Quantifier
+  quantifier_of (token.Word n) = quantifier_word (word_at ws n)
+  quantifier_of _ = None
 
   -- the word `integer`, by its place
   abbrev pub integer_word : Syntax PlainToken Place
@@ -345,18 +372,49 @@ module _ (ws : Vocabulary) where
   unfoldable pub worded_postfix : Syntax PlainToken Form → Syntax PlainToken FormZone → Syntax PlainToken Form
   worded_postfix E Z = worded E Z then λ x. postfixes E x
 
+  -- ---- names, each at its place
+
+  unfoldable pub placed_name : Syntax PlainToken (Place × ℕ)
+  placed_name = one (placed formula_name_of) then λ x. gives (x.1, x.0)
+
+  -- "," NAME, behind others
+  unfoldable pub next_name : List (Place × ℕ) → Syntax PlainToken (List (Place × ℕ))
+  next_name names = mark ws comma then λ _. placed_name then λ x. gives (names ++ x ∷ [])
+
+  -- NAME { "," NAME }
+  unfoldable pub some_names : Syntax PlainToken (List (Place × ℕ))
+  some_names = placed_name then λ x. many (formula_kind ws) (λ _. mark_kind comma ∷ []) next_name (x ∷ [])
+
+  -- ---- quantifiers
+
+  -- the type of the values that binders take
+  unfoldable pub binder_type : Syntax PlainToken CastType
+  binder_type =
+      choice (formula_kind ws) (integer_kind ∷ []) (integer_word then λ _. gives Integers)
+      (choice (formula_kind ws) (keyword_kind keyword.Enum ∷ []) (enum_tag ws then λ t. gives (OfC t))
+      (choice (formula_kind ws) (type_name_kind ∷ []) (typedef_name ws then λ t. gives (OfC t)) (integer_words ws then λ t. gives (OfC t))))
+
+  -- values NAME { "," NAME } ";"
+  unfoldable pub binders : Syntax PlainToken (CastType × List (Place × ℕ))
+  binders = binder_type then λ t. some_names then λ names. mark ws semicolon then λ _. gives (t, names)
+
+  -- ( "\forall" | "\exists" ) values NAME { "," NAME } ";" form; L stands for a form that may stand last in another
+  unfoldable pub quantified : Syntax PlainToken (Spanned Form) → Syntax PlainToken (Spanned Form)
+  quantified L =
+      one (placed quantifier_of) then λ q. binders then λ b. L then λ x. gives (Quantified q.1 q.0 b.0 b.1 x.0, Some (quantifier_end x.1))
+
   -- ---- prefix forms; P stands for what follows a prefix
 
   -- ")" prefix, after "(" and the type
-  unfoldable pub cast_behind : Syntax PlainToken Form → Place → CastType → Syntax PlainToken Form
-  cast_behind P at t = mark ws right_paren then λ _. P then λ x. gives (Cast at t x)
+  unfoldable pub cast_behind : Syntax PlainToken (Spanned Form) → Place → CastType → Syntax PlainToken (Spanned Form)
+  cast_behind P at t = mark ws right_paren then λ _. P then λ x. gives (Cast at t x.0, x.1)
 
   -- type ")" prefix, after "("
-  unfoldable pub cast_to_type : Syntax PlainToken Form → Place → Syntax PlainToken Form
+  unfoldable pub cast_to_type : Syntax PlainToken (Spanned Form) → Place → Syntax PlainToken (Spanned Form)
   cast_to_type P at = type_name ws (expression ws) then λ t. cast_behind P at (OfC t)
 
   -- "integer" ")" prefix, after "("
-  unfoldable pub cast_to_integer : Syntax PlainToken Form → Place → Syntax PlainToken Form
+  unfoldable pub cast_to_integer : Syntax PlainToken (Spanned Form) → Place → Syntax PlainToken (Spanned Form)
   cast_to_integer P at = integer_word then λ _. cast_behind P at Integers
 
   -- ")" and what may stand behind a form in parentheses
@@ -364,31 +422,34 @@ module _ (ws : Vocabulary) where
   closed_postfix E x = mark ws right_paren then λ _. postfixes E x
 
   -- form ")" and what may stand behind it, after "("
-  unfoldable pub parenthesised : Syntax PlainToken Form → Syntax PlainToken Form
-  parenthesised E = E then λ x. closed_postfix E x
+  unfoldable pub parenthesised : Syntax PlainToken Form → Syntax PlainToken (Spanned Form)
+  parenthesised E = E then λ x. endless (closed_postfix E x)
 
   -- what stands after "("
-  unfoldable pub behind_parenthesis : Syntax PlainToken Form → Syntax PlainToken Form → Place → Syntax PlainToken Form
+  unfoldable pub behind_parenthesis : Syntax PlainToken Form → Syntax PlainToken (Spanned Form) → Place → Syntax PlainToken (Spanned Form)
   behind_parenthesis E P at =
       choice (formula_kind ws) first_type (cast_to_type P at)
       (choice (formula_kind ws) (integer_kind ∷ []) (cast_to_integer P at) (parenthesised E))
 
   -- ( "+" | "-" | "!" | "~" | "*" | "&" ) prefix
-  unfoldable pub prefixed : Syntax PlainToken Form → Syntax PlainToken Form
-  prefixed P = one (placed (mark_entry prefix_operators)) then λ o. P then λ x. gives (Unary o.1 o.0 x)
+  unfoldable pub prefixed : Syntax PlainToken (Spanned Form) → Syntax PlainToken (Spanned Form)
+  prefixed P = one (placed (mark_entry prefix_operators)) then λ o. P then λ x. gives (Unary o.1 o.0 x.0, x.1)
 
   -- one that begins with no parenthesis
-  unfoldable pub bare_prefix : Syntax PlainToken Form → Syntax PlainToken FormZone → Syntax PlainToken Form → Syntax PlainToken Form
-  bare_prefix E Z P =
+  unfoldable pub bare_prefix : Syntax PlainToken Form → Syntax PlainToken FormZone → Syntax PlainToken (Spanned Form) → Syntax PlainToken (Spanned Form)
+      → Syntax PlainToken (Spanned Form)
+  bare_prefix E Z L P =
       choice (formula_kind ws) (kinds_of prefix_operators) (prefixed P)
-      (choice (formula_kind ws) (keyword_kind keyword.Sizeof ∷ []) sized_form (worded_postfix E Z))
+      (choice (formula_kind ws) (keyword_kind keyword.Sizeof ∷ []) (endless sized_form)
+      (choice (formula_kind ws) (quantifier_kind ∷ []) (quantified L) (endless (worded_postfix E Z))))
 
-  unfoldable pub prefix_of : Syntax PlainToken Form → Syntax PlainToken FormZone → Syntax PlainToken Form → Syntax PlainToken Form
-  prefix_of E Z P =
-      choice (formula_kind ws) (mark_kind left_paren ∷ []) (mark ws left_paren then λ at. behind_parenthesis E P at) (bare_prefix E Z P)
+  unfoldable pub prefix_of : Syntax PlainToken Form → Syntax PlainToken FormZone → Syntax PlainToken (Spanned Form) → Syntax PlainToken (Spanned Form)
+      → Syntax PlainToken (Spanned Form)
+  prefix_of E Z L P =
+      choice (formula_kind ws) (mark_kind left_paren ∷ []) (mark ws left_paren then λ at. behind_parenthesis E P at) (bare_prefix E Z L P)
 
-  unfoldable pub prefix : Syntax PlainToken Form → Syntax PlainToken FormZone → Syntax PlainToken Form
-  prefix E Z = knot {S = Unit {0}} (λ P u. prefix_of E Z (P u)) tt
+  unfoldable pub prefix : Syntax PlainToken Form → Syntax PlainToken FormZone → Syntax PlainToken (Spanned Form) → Syntax PlainToken (Spanned Form)
+  prefix E Z L = knot {S = Unit {0}} (λ P u. prefix_of E Z L (P u)) tt
 
   -- ---- operators, from the one that binds closest; R stands for their operands
 
@@ -404,51 +465,52 @@ module _ (ws : Vocabulary) where
   unfoldable pub joined : List (ℕ × FormulaOperator) → Syntax PlainToken (Spanned Form) → Syntax PlainToken (Spanned Form)
   joined table R = R then λ left. joined_more table R left
 
-  -- a prefix form, which no range ends
-  unfoldable pub factor : Syntax PlainToken Form → Syntax PlainToken FormZone → Syntax PlainToken (Spanned Form)
-  factor E Z = prefix E Z then λ x. gives (x, None)
-
-  abbrev pub product : Syntax PlainToken Form → Syntax PlainToken FormZone → Syntax PlainToken (Spanned Form)
-  product E Z = joined product_operators (factor E Z)
+  abbrev pub product : Syntax PlainToken Form → Syntax PlainToken FormZone → Syntax PlainToken (Spanned Form) → Syntax PlainToken (Spanned Form)
+  product E Z L = joined product_operators (prefix E Z L)
 
   -- ---- sums in the mode of a zone
 
   -- the rest of a right operand of the `+` at this place that begins with this form
-  unfoldable pub added_rest : Syntax PlainToken Form → Syntax PlainToken FormZone → Form → Place → Form → Syntax PlainToken (Spanned Form)
-  added_rest E Z left at x = joined_more product_operators (factor E Z) (x, None) then λ y. gives (Binary at Add left y.0, y.1)
+  unfoldable pub added_rest : Syntax PlainToken Form → Syntax PlainToken FormZone → Syntax PlainToken (Spanned Form) → Form → Place → Spanned Form
+      → Syntax PlainToken (Spanned Form)
+  added_rest E Z L left at x = joined_more product_operators (prefix E Z L) x then λ y. gives (Binary at Add left y.0, y.1)
 
   -- ".." form ")", after the form that begins a range
   unfoldable pub ranged : Syntax PlainToken Form → Form → Place → Form → Syntax PlainToken (Spanned Form)
-  ranged E left at lo = mark ws dots then λ _. E then λ hi. closed ws (left, Some (range_at at lo hi))
+  ranged E left at lo = mark ws dots then λ _. E then λ hi. closed ws (left, Some (ByRange at lo hi))
 
   -- what stands behind the form after "+" "(": a range, or the rest of an operand
-  unfoldable pub behind_first : Syntax PlainToken Form → Syntax PlainToken FormZone → Form → Place → Form → Syntax PlainToken (Spanned Form)
-  behind_first E Z left at x =
-      choice (formula_kind ws) (mark_kind dots ∷ []) (ranged E left at x) (closed_postfix E x then λ y. added_rest E Z left at y)
+  unfoldable pub behind_first : Syntax PlainToken Form → Syntax PlainToken FormZone → Syntax PlainToken (Spanned Form) → Form → Place → Form
+      → Syntax PlainToken (Spanned Form)
+  behind_first E Z L left at x =
+      choice (formula_kind ws) (mark_kind dots ∷ []) (ranged E left at x) (closed_postfix E x then λ y. added_rest E Z L left at (y, None))
 
   -- what stands after "+" "(", where the `(` stands at the second place
-  unfoldable pub added_parenthesis : Syntax PlainToken Form → Syntax PlainToken FormZone → Form → Place → Place → Syntax PlainToken (Spanned Form)
-  added_parenthesis E Z left at paren =
-      choice (formula_kind ws) first_type (cast_to_type (prefix E Z) paren then λ x. added_rest E Z left at x)
-      (choice (formula_kind ws) (integer_kind ∷ []) (cast_to_integer (prefix E Z) paren then λ x. added_rest E Z left at x)
-      (E then λ x. behind_first E Z left at x))
+  unfoldable pub added_parenthesis : Syntax PlainToken Form → Syntax PlainToken FormZone → Syntax PlainToken (Spanned Form) → Form → Place → Place
+      → Syntax PlainToken (Spanned Form)
+  added_parenthesis E Z L left at paren =
+      choice (formula_kind ws) first_type (cast_to_type (prefix E Z L) paren then λ x. added_rest E Z L left at x)
+      (choice (formula_kind ws) (integer_kind ∷ []) (cast_to_integer (prefix E Z L) paren then λ x. added_rest E Z L left at x)
+      (E then λ x. behind_first E Z L left at x))
 
   -- what stands after "+"
-  unfoldable pub added : Syntax PlainToken Form → Syntax PlainToken FormZone → Form → Place → Syntax PlainToken (Spanned Form)
-  added E Z left at =
-      choice (formula_kind ws) (mark_kind left_paren ∷ []) (mark ws left_paren then λ paren. added_parenthesis E Z left at paren)
-      (bare_prefix E Z (prefix E Z) then λ x. added_rest E Z left at x)
+  unfoldable pub added : Syntax PlainToken Form → Syntax PlainToken FormZone → Syntax PlainToken (Spanned Form) → Form → Place
+      → Syntax PlainToken (Spanned Form)
+  added E Z L left at =
+      choice (formula_kind ws) (mark_kind left_paren ∷ []) (mark ws left_paren then λ paren. added_parenthesis E Z L left at paren)
+      (bare_prefix E Z L (prefix E Z L) then λ x. added_rest E Z L left at x)
 
   -- "+" or "-" with its right operand, or a range, after the left operand
-  unfoldable pub sum_once : Syntax PlainToken Form → Syntax PlainToken FormZone → Form → Syntax PlainToken (Spanned Form)
-  sum_once E Z left =
-      choice (formula_kind ws) (mark_kind plus ∷ []) (mark ws plus then λ at. added E Z left at) (joined_once difference_operators (product E Z) left)
+  unfoldable pub sum_once : Syntax PlainToken Form → Syntax PlainToken FormZone → Syntax PlainToken (Spanned Form) → Form → Syntax PlainToken (Spanned Form)
+  sum_once E Z L left =
+      choice (formula_kind ws) (mark_kind plus ∷ []) (mark ws plus then λ at. added E Z L left at) (joined_once difference_operators (product E Z L) left)
 
-  unfoldable pub sum_more : Syntax PlainToken Form → Syntax PlainToken FormZone → Spanned Form → Syntax PlainToken (Spanned Form)
-  sum_more E Z left = many (formula_kind ws) (unended_kinds (kinds_of sum_operators)) (unended_only (sum_once E Z)) left
+  unfoldable pub sum_more : Syntax PlainToken Form → Syntax PlainToken FormZone → Syntax PlainToken (Spanned Form) → Spanned Form
+      → Syntax PlainToken (Spanned Form)
+  sum_more E Z L left = many (formula_kind ws) (unended_kinds (kinds_of sum_operators)) (unended_only (sum_once E Z L)) left
 
-  unfoldable pub zone_sum : Syntax PlainToken Form → Syntax PlainToken FormZone → Syntax PlainToken (Spanned Form)
-  zone_sum E Z = product E Z then λ left. sum_more E Z left
+  unfoldable pub zone_sum : Syntax PlainToken Form → Syntax PlainToken FormZone → Syntax PlainToken (Spanned Form) → Syntax PlainToken (Spanned Form)
+  zone_sum E Z L = product E Z L then λ left. sum_more E Z L left
 
   -- ---- chains
 
@@ -496,42 +558,42 @@ module _ (ws : Vocabulary) where
 
   -- ---- forms, level by level, in each mode
 
-  abbrev pub sum : Syntax PlainToken Form → Syntax PlainToken FormZone → FormulaMode → Syntax PlainToken (Spanned Form)
-  sum E Z Alone = joined sum_operators (product E Z)
-  sum E Z Zone = zone_sum E Z
+  abbrev pub sum : Levelled
+  sum E Z L Alone = joined sum_operators (product E Z L)
+  sum E Z L Zone = zone_sum E Z L
 
-  abbrev pub shift : Syntax PlainToken Form → Syntax PlainToken FormZone → FormulaMode → Syntax PlainToken (Spanned Form)
-  shift E Z m = joined shift_operators (sum E Z m)
+  abbrev pub shift : Levelled
+  shift E Z L m = joined shift_operators (sum E Z L m)
 
-  abbrev pub chain : Syntax PlainToken Form → Syntax PlainToken FormZone → FormulaMode → Syntax PlainToken (Spanned Form)
-  chain E Z m = chain_of (shift E Z m)
+  abbrev pub chain : Levelled
+  chain E Z L m = chain_of (shift E Z L m)
 
-  abbrev pub bit_and : Syntax PlainToken Form → Syntax PlainToken FormZone → FormulaMode → Syntax PlainToken (Spanned Form)
-  bit_and E Z m = joined bit_and_operators (chain E Z m)
+  abbrev pub bit_and : Levelled
+  bit_and E Z L m = joined bit_and_operators (chain E Z L m)
 
-  abbrev pub bit_xor : Syntax PlainToken Form → Syntax PlainToken FormZone → FormulaMode → Syntax PlainToken (Spanned Form)
-  bit_xor E Z m = joined bit_xor_operators (bit_and E Z m)
+  abbrev pub bit_xor : Levelled
+  bit_xor E Z L m = joined bit_xor_operators (bit_and E Z L m)
 
-  abbrev pub bit_or : Syntax PlainToken Form → Syntax PlainToken FormZone → FormulaMode → Syntax PlainToken (Spanned Form)
-  bit_or E Z m = joined bit_or_operators (bit_xor E Z m)
+  abbrev pub bit_or : Levelled
+  bit_or E Z L m = joined bit_or_operators (bit_xor E Z L m)
 
-  abbrev pub conjunction : Syntax PlainToken Form → Syntax PlainToken FormZone → FormulaMode → Syntax PlainToken (Spanned Form)
-  conjunction E Z m = joined conjunction_operators (bit_or E Z m)
+  abbrev pub conjunction : Levelled
+  conjunction E Z L m = joined conjunction_operators (bit_or E Z L m)
 
-  abbrev pub exclusion : Syntax PlainToken Form → Syntax PlainToken FormZone → FormulaMode → Syntax PlainToken (Spanned Form)
-  exclusion E Z m = joined exclusion_operators (conjunction E Z m)
+  abbrev pub exclusion : Levelled
+  exclusion E Z L m = joined exclusion_operators (conjunction E Z L m)
 
-  abbrev pub disjunction : Syntax PlainToken Form → Syntax PlainToken FormZone → FormulaMode → Syntax PlainToken (Spanned Form)
-  disjunction E Z m = joined disjunction_operators (exclusion E Z m)
+  abbrev pub disjunction : Levelled
+  disjunction E Z L m = joined disjunction_operators (exclusion E Z L m)
 
-  unfoldable pub implication : Syntax PlainToken Form → Syntax PlainToken FormZone → FormulaMode → Syntax PlainToken (Spanned Form)
-  implication E Z m = knot {S = Unit {0}} (λ I u. implication_of (disjunction E Z m) (I u)) tt
+  unfoldable pub implication : Levelled
+  implication E Z L m = knot {S = Unit {0}} (λ I u. implication_of (disjunction E Z L m) (I u)) tt
 
-  abbrev pub equivalence : Syntax PlainToken Form → Syntax PlainToken FormZone → FormulaMode → Syntax PlainToken (Spanned Form)
-  equivalence E Z m = joined equivalence_operators (implication E Z m)
+  abbrev pub equivalence : Levelled
+  equivalence E Z L m = joined equivalence_operators (implication E Z L m)
 
   unfoldable pub form_of : (FormulaMode → Syntax PlainToken (Spanned Form)) → FormulaMode → Syntax PlainToken (Spanned Form)
-  form_of F m = equivalence (whole F) (zone F) m then λ c. unended (choice_behind (whole F) (F m)) as_it_is c
+  form_of F m = equivalence (whole F) (zone F) (F m) m then λ c. unended (choice_behind (whole F) (F m)) as_it_is c
 
   unfoldable pub forms : FormulaMode → Syntax PlainToken (Spanned Form)
   forms = knot form_of

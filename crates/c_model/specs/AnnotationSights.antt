@@ -1,9 +1,10 @@
 -- What the clauses of annotations may name where they stand (ACSL 2.3.1, 2.4.3): objects and enumerators, labels, parameters and the result of a function.
-use Rattle.std.specs.Prelude.{ℕ, List, [], ◌∷◌, Option, Some, None, option_map, Bool, true, false, ◌||◌, cond, nat_eq, codes, bytes_eq}
+use Rattle.std.specs.Prelude.{ℕ, List, [], ◌∷◌, ◌++◌, Option, Some, None, option_map, Bool, true, false, ◌||◌, cond, nat_eq, codes, bytes_eq}
+use Rattle.c_syntax.specs.declared.place.Place.{Place}
 use Rattle.c_syntax.specs.declared.logic.Label.{Label}
 use Rattle.c_syntax.specs.declared.logic.Label.TheVariants.{Here, Pre, Marked}
 use Rattle.c_syntax.specs.Ctypes.{PlainType}
-use Rattle.c_model.specs.ExpressionTyping.{Sight, name_at}
+use Rattle.c_model.specs.ExpressionTyping.{Sight, name_at, or_else}
 
 pub data ClauseSight : Type 0 where
   -- an assert or a clause of a loop, with what is in sight where the function's body begins
@@ -20,6 +21,8 @@ pub record AnnotationSight : Type 0 where
   -- the labels of C that are known, the newest first, each with what is in sight where it stands
   pub labels : List (ℕ × Sight)
   pub clause : ClauseSight
+  -- the binders of quantifiers, the innermost last, each with the place of its declaration and its name
+  pub binders : List (Place × ℕ)
 
 -- ---- parameters in `ensures`
 
@@ -29,9 +32,20 @@ formals_in AtEntry = []
 formals_in (AtEnd formals t) = formals
 formals_in (UnderLabel formals) = formals
 
--- what is in sight under a label
+-- what is in sight under a label, where binders have no values
 abbrev pub under_label : AnnotationSight → Sight → AnnotationSight
-under_label s v = record { here = v; labels = []; clause = UnderLabel (formals_in s.clause) }
+under_label s v = record { here = v; labels = []; clause = UnderLabel (formals_in s.clause); binders = [] }
+
+-- ---- binders (ACSL 2.2)
+
+-- what is in sight where these binders are too
+abbrev pub with_binders : AnnotationSight → List (Place × ℕ) → AnnotationSight
+with_binders s bs = record s { binders = s.binders ++ bs }
+
+-- the place of the innermost binder of a name
+abbrev pub binder_named : ℕ → List (Place × ℕ) → Option Place
+binder_named x [] = None
+binder_named x (b ∷ bs) = or_else (binder_named x bs) (cond (nat_eq x b.1) (Some b.0) None)
 
 -- ---- labels
 

@@ -63,7 +63,7 @@ abbrev mutual
       one_part (typed_annotations s annots) (λ annots. one_part (noted_statement s a) (λ a. Good (While at annots e a)))
   noted_statement s (Do at a e) = one_part (noted_statement s a) (λ a. Good (Do at a e))
   noted_statement s (For at annots first e step a) =
-      one_part (typed_annotations s annots) (λ annots.
+      one_part (typed_annotations (inside_for s first) annots) (λ annots.
       one_part (noted_statement (inside_for s first) a) (λ a. Good (For at annots first e step a)))
   noted_statement s (Break at) = Good (Break at)
   noted_statement s (Continue at) = Good (Continue at)
@@ -94,7 +94,7 @@ abbrev mutual
 
 -- where a body begins
 abbrev pub in_body : Sight → AnnotationSight
-in_body s = record { here = s; labels = []; clause = InBody s }
+in_body s = record { here = s; labels = []; clause = InBody s; binders = [] }
 
 -- a body is a block, whose scope is that of the parameters
 abbrev pub noted_body : AnnotationSight → Option Statement → Checked (Option Statement)

@@ -14,14 +14,14 @@ use Rattle.c_model.specs.PredicateTyping.{typed_clause}
 
 -- where a clause of a contract stands, by its kind: with this in sight, parameters of these numbers, and a result of this type
 abbrev pub sight_of_clause : Sight → List ℕ → PlainType → Kind → AnnotationSight
-sight_of_clause s formals t Ensures = record { here = s; labels = []; clause = AtEnd formals t }
-sight_of_clause s formals t _ = record { here = s; labels = []; clause = AtEntry }
+sight_of_clause s formals t Ensures = record { here = s; labels = []; clause = AtEnd formals t; binders = [] }
+sight_of_clause s formals t _ = record { here = s; labels = []; clause = AtEntry; binders = [] }
 
 -- clauses, each with what is in sight of its kind
 abbrev pub typed_clauses : (Kind → AnnotationSight) → List Annotation → Checked (List Annotation)
 typed_clauses seen [] = Good []
 typed_clauses seen (a ∷ rest) =
-    one_part (typed_clause (seen a.kind) a.body) (λ b. one_part (typed_clauses seen rest) (λ rest. Good (record a { body = b } ∷ rest)))
+    one_part (typed_clause (seen a.kind) a.kind a.body) (λ b. one_part (typed_clauses seen rest) (λ rest. Good (record a { body = b } ∷ rest)))
 
 -- behaviors behind those of these names
 abbrev pub typed_behaviors : (Kind → AnnotationSight) → List ℕ → List NamedBehavior → Checked (List NamedBehavior)

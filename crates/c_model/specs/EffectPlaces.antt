@@ -1,6 +1,6 @@
--- Where annotations and declarations stand in a program: annotations are items of blocks and of cases, and declarations are items of blocks or stand first
--- in a `for`. Effects stand anywhere in an expression.
-use Rattle.std.specs.Prelude.{◌≡◌, List, []}
+-- Where annotations and declarations stand in a program: annotations are items of blocks and of cases, or stand before loops, and declarations are items
+-- of blocks or stand first in a `for`. Effects stand anywhere in an expression.
+use Rattle.std.specs.Prelude.{List}
 use Rattle.c_syntax.specs.Logic.{Annotation}
 use Rattle.c_syntax.specs.Statements.{Statement, Empty, Eval, Block, If, While, Do, For, Break, Continue, Return, Labelled, ElsePart, NoElse}
 use Rattle.c_syntax.specs.Statements.{Else, Switch, Cases, NoCase, AnotherCase}
@@ -23,17 +23,17 @@ abbrev pub DeclareNothing : BlockItems → Type 0
 DeclareNothing NoItem = Unit {0}
 DeclareNothing (Then i rest) = IsNoDeclaration i × DeclareNothing rest
 
--- the annotations of a tree being so, those that are read or those that are typed
-module _ (AreSo : List Annotation → Type 0) where
+-- the asserts and the annotations of loops of a tree being so, those that are read or those that are typed
+module _ (AreSo AreLoops : List Annotation → Type 0) where
   abbrev mutual
     pub StatementPlaced : Statement → Type 0
     StatementPlaced (Empty at) = Unit {0}
     StatementPlaced (Eval at e) = Unit {0}
     StatementPlaced (Block at items) = ItemsPlaced items
     StatementPlaced (If at e a b) = StatementPlaced a × ElsePlaced b
-    StatementPlaced (While at annots e a) = (annots ≡ []) × StatementPlaced a
+    StatementPlaced (While at annots e a) = AreLoops annots × StatementPlaced a
     StatementPlaced (Do at a e) = StatementPlaced a
-    StatementPlaced (For at annots first e step a) = (annots ≡ []) × FirstPlaced first × StatementPlaced a
+    StatementPlaced (For at annots first e step a) = AreLoops annots × FirstPlaced first × StatementPlaced a
     StatementPlaced (Break at) = Unit {0}
     StatementPlaced (Continue at) = Unit {0}
     StatementPlaced (Return at e) = Unit {0}

@@ -149,6 +149,9 @@ old_kind = 40
 abbrev pub at_kind : ℕ
 at_kind = 41
 
+abbrev pub quantifier_kind : ℕ
+quantifier_kind = 42
+
 abbrev pub logic_word_kind : LogicWord → ℕ
 logic_word_kind (logic.Truth b) = logic_kind
 logic_word_kind logic.Null = null_kind
@@ -158,6 +161,7 @@ logic_word_kind logic.Separated = separated_kind
 logic_word_kind logic.Result = result_kind
 logic_word_kind logic.Old = old_kind
 logic_word_kind logic.At = at_kind
+logic_word_kind (logic.Quantifier q) = quantifier_kind
 logic_word_kind logic.Kept = logic_kind
 
 abbrev pub mark_kind : ℕ → ℕ

@@ -1,9 +1,12 @@
 -- Parts of programs: names, the depth of statements, how many forms expressions and how many tokens annotations have, the asserts that are built,
 -- what a function declares, and the numbers of declarations.
 use Rattle.std.specs.List.{AllByRecursion}
-use Rattle.std.specs.Prelude.{◌≡◌, true, ℕ, suc, max, ◌<◌, nat_lt, length, ◌+◌, ◌++◌, ◌^◌, ◌-◌, ◌≤◌, ℤ, negsuc, ◌≤ℤ◌, List, [], ◌∷◌, map, Option, Some, None}
+use Rattle.std.specs.Prelude.{◌≡◌, true, false, nat_eq, ℕ, suc, max, ◌<◌, nat_lt, length, ◌+◌, ◌++◌, ◌^◌, ◌-◌, ◌≤◌, ℤ, negsuc, ◌≤ℤ◌, List, [], ◌∷◌, map}
+use Rattle.std.specs.Prelude.{Option, Some, None, ◌⊎◌, ◌*◌}
 use Rattle.std.specs.Prelude.{if◌then◌else◌}
-use Rattle.c_syntax.specs.declared.annotation.Kind.TheVariants.{Assert}
+use Rattle.c_syntax.specs.declared.place.Place.{Place}
+use Rattle.c_syntax.specs.declared.annotation.Kind.{Kind}
+use Rattle.c_syntax.specs.declared.annotation.Kind.TheVariants.{Assert, Invariant, Variant}
 use Rattle.c_syntax.specs.declared.expression.BinOp.{BinOp}
 use Rattle.c_syntax.specs.declared.expression.BinOp.TheVariants as operator
 use Rattle.c_syntax.specs.Expressions.{Expression, Node, Number, Letter, Variable, Unary, Binary, Both, Either, Choice, Assign, Bump, Call, Cast, SizeOfType}
@@ -18,6 +21,7 @@ use Rattle.c_syntax.specs.Statements.{Cases, NoCase, AnotherCase}
 use Rattle.c_syntax.specs.Statements.{NoElse, Else, ForFirst, NoFirst, First, BlockItem, Declare, Specify, Run, Asserts, BlockItems, NoItem, Then}
 use Rattle.c_syntax.specs.Programs.{Function}
 use Rattle.c_model.specs.Characters.{is_part}
+use Rattle.c_model.specs.ContractChecks.{result_number}
 use Rattle.c_model.specs.ExpressionTyping.{name_at}
 
 -- ---- names and depth
@@ -167,10 +171,10 @@ abbrev mutual
   tokens_of_predicate (logic.Asks at f z) = suc (tokens_of_zone z)
   tokens_of_predicate (logic.Separated at zs) = suc (tokens_of_zones zs)
 
-  -- each binder is one
+  -- a binder and the sign before it are two
   pub tokens_of_guards : Guards → ℕ
   tokens_of_guards NoGuard = 0
-  tokens_of_guards (Guarded a bs below b rest) = length bs + tokens_of_term a + tokens_of_term b + tokens_of_guards rest
+  tokens_of_guards (Guarded a y ys below b rest) = 2 * length (y ∷ ys) + tokens_of_term a + tokens_of_term b + tokens_of_guards rest
 
 -- a literal, an enumerator or a constant of the library: not below the least value of 64 bits
 pub record IsLogicNumber (z : ℤ) : Type 0 where
@@ -220,7 +224,7 @@ abbrev mutual
 
   pub GuardsNumbered : Guards → Type 0
   GuardsNumbered NoGuard = Unit {0}
-  GuardsNumbered (Guarded a bs below b rest) = TermNumbered a × TermNumbered b × GuardsNumbered rest
+  GuardsNumbered (Guarded a y ys below b rest) = TermNumbered a × TermNumbered b × GuardsNumbered rest
 
 -- a predicate that a clause of at most 400 tokens says
 pub record IsShortPredicate (p : Predicate) : Type 0 where
@@ -240,6 +244,21 @@ pub record IsAssert (a : Annotation) : Type 0 where
 abbrev pub AreAsserts : List Annotation → Type 0
 AreAsserts [] = Unit {0}
 AreAsserts (a ∷ rest) = IsAssert a × AreAsserts rest
+
+-- the kind of a clause of a loop (ACSL 2.4.2): an invariant is a predicate, and a variant is a term
+abbrev pub IsLoopKind : ClauseBody → Kind → Type 0
+IsLoopKind (Raw f) k = ⊥
+IsLoopKind (Holds p) k = k ≡ Invariant
+IsLoopKind (logic.Value t) k = k ≡ Variant
+IsLoopKind (Behaviors names) k = ⊥
+
+pub record IsLoopClause (a : Annotation) : Type 0 where
+  pub kind : IsLoopKind a.body a.kind
+  pub body : IsShortClause a.body
+
+abbrev pub AreLoopClauses : List Annotation → Type 0
+AreLoopClauses [] = Unit {0}
+AreLoopClauses (a ∷ rest) = IsLoopClause a × AreLoopClauses rest
 
 -- ---- annotations as they are read, before they are typed
 
@@ -273,6 +292,7 @@ abbrev mutual
   tokens_of_form (formula.Result at) = 1
   tokens_of_form (formula.Old at a) = suc (tokens_of_form a)
   tokens_of_form (formula.At at a place l) = suc (tokens_of_form a)
+  tokens_of_form (formula.Quantified at q to names a) = suc (tokens_of_form a)
 
   pub tokens_of_form_links : FormLinks → ℕ
   tokens_of_form_links formula.NoLink = 0
@@ -285,6 +305,14 @@ abbrev mutual
   pub tokens_of_form_zones : FormZones → ℕ
   tokens_of_form_zones formula.NoZone = 0
   tokens_of_form_zones (formula.Another z rest) = suc (tokens_of_form_zone z + tokens_of_form_zones rest)
+
+-- a binder, whose number is an offset in the text, has not that of `\result`
+abbrev pub IsApart : Place → Type 0
+IsApart at = nat_eq at.offset result_number ≡ false
+
+abbrev pub AreApart : List (Place × ℕ) → Type 0
+AreApart [] = Unit {0}
+AreApart (b ∷ bs) = IsApart b.0 × AreApart bs
 
 abbrev mutual
   pub FormNumbered : Form → Type 0
@@ -309,6 +337,7 @@ abbrev mutual
   FormNumbered (formula.Result at) = Unit {0}
   FormNumbered (formula.Old at a) = FormNumbered a
   FormNumbered (formula.At at a place l) = FormNumbered a
+  FormNumbered (formula.Quantified at q to names a) = AreApart names × FormNumbered a
 
   pub FormLinksNumbered : FormLinks → Type 0
   FormLinksNumbered formula.NoLink = Unit {0}
@@ -340,6 +369,15 @@ pub record IsReadAssert (a : Annotation) : Type 0 where
 abbrev pub AreReadAsserts : List Annotation → Type 0
 AreReadAsserts [] = Unit {0}
 AreReadAsserts (a ∷ rest) = IsReadAssert a × AreReadAsserts rest
+
+-- a clause of a loop as it is read
+pub record IsReadLoopClause (a : Annotation) : Type 0 where
+  pub kind : (a.kind ≡ Invariant) ⊎ (a.kind ≡ Variant)
+  pub body : IsShortReading a.body
+
+abbrev pub AreReadLoopClauses : List Annotation → Type 0
+AreReadLoopClauses [] = Unit {0}
+AreReadLoopClauses (a ∷ rest) = IsReadLoopClause a × AreReadLoopClauses rest
 
 -- ---- sizes and names
 

@@ -60,7 +60,7 @@ abbrev mutual
 
   pub in_guards : Guards → List Entry
   in_guards NoGuard = []
-  in_guards (Guarded a bs below b rest) = in_term a ++ (in_term b ++ in_guards rest)
+  in_guards (Guarded a y ys below b rest) = in_term a ++ (in_term b ++ in_guards rest)
 
 abbrev pub in_clause : ClauseBody → List Entry
 in_clause (Raw f) = []

@@ -42,6 +42,8 @@ pub mod Checked
 pub mod Library
 pub mod ExpressionTyping
 pub mod AnnotationSights
+pub mod QuantifierGuards
+pub mod UnguardedPrograms
 pub mod DeclarationTyping
 pub mod StatementTyping
 pub mod UnitTyping
@@ -82,7 +84,10 @@ pub mod Phases
 pub mod Ranges
 pub mod TermRanges
 pub mod AnnotationRanges
+pub mod FormSorts
+pub mod QuantifierTyping
 pub mod PredicateTyping
+pub mod QuietPredicates
 pub mod ContractTyping
 pub mod TypedPredicates
 pub mod Unranged

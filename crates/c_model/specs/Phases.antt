@@ -1,18 +1,19 @@
 -- The order of the phases is ours: C99 5.1.1.2 has no refusals and no annotations.
--- Which texts are accepted, with which program, and which are refused, why: by tokens, by grammar, by the places of annotations, by names
+-- Which texts are accepted, with which program, and which are refused, why: by tokens, by grammar, by places of annotations and guards of quantifiers, by names
 -- and types, for want of room for globals and literals, for want of `main`, by the names and types of annotations, and for want of a range
 -- of a term, in this order.
-use Rattle.std.specs.Prelude.{◌≡◌, ℕ, ◌<◌, List, length, map, Option, Some, None, Ok, Err, codes, if◌then◌else◌, nat_eq}
+use Rattle.std.specs.Prelude.{◌≡◌, ℕ, ◌<◌, List, length, map, Option, Some, None, option_map, Ok, Err, codes, if◌then◌else◌, nat_eq}
 use Rattle.grammar.specs.Syntax as grammar
 use Rattle.grammar.specs.Exact.{Accepts, Refused}
-use Rattle.c_syntax.specs.RefusalCodes.{limit_code, misplaced_code}
+use Rattle.c_syntax.specs.RefusalCodes.{limit_code, misplaced_code, guard_code}
 use Rattle.c_syntax.specs.declared.place.Place.{Place}
 use Rattle.c_syntax.specs.Tokens.{PlainTokens}
 use Rattle.c_syntax.specs.Programs.{TranslationUnit, PlainRefusal}
 use Rattle.c_model.specs.CTokens.{tokens_of}
 use Rattle.c_model.specs.Vocabulary.{Vocabulary, word_of}
 use Rattle.c_model.specs.ProgramGrammar.{texts_of, unit}
-use Rattle.c_model.specs.Checked.{Fault, Good, refusing}
+use Rattle.c_model.specs.Checked.{Fault, lesser, Good, refusing}
+use Rattle.c_model.specs.UnguardedPrograms.{unguarded_in_unit}
 use Rattle.c_model.specs.UnitTyping.{typed_unit, room_fault, main_fault}
 use Rattle.c_model.specs.AnnotationRanges.{ranged_unit}
 use Rattle.c_model.specs.AnnotationTyping.{noted_unit}
@@ -22,13 +23,32 @@ use Rattle.c_model.specs.TokenWords.{refused_at_place, syntax_refusal}
 abbrev pub vocabulary : PlainTokens → Vocabulary
 vocabulary ts = map word_of ts.names
 
--- the tokens are read as this tree, and each annotation stands where one of its kind may
-abbrev pub IsRead : PlainTokens → TranslationUnit → Type 0
-IsRead ts p = Accepts (unit (vocabulary ts) ts.names (texts_of ts.list)) ts.list (p, None)
+-- E7, and E8
+abbrev pub misplaced_fault : Place → Fault
+misplaced_fault at = record { code = misplaced_code; place = at }
 
--- the tokens are read as this tree, and the first annotation that stands where none of its kind may has its first word at this place
-abbrev pub IsMisplaced : PlainTokens → TranslationUnit → Place → Type 0
-IsMisplaced ts p at = Accepts (unit (vocabulary ts) ts.names (texts_of ts.list)) ts.list (p, Some at)
+abbrev pub unguarded_fault : Place → Fault
+unguarded_fault at = record { code = guard_code; place = at }
+
+abbrev pub first_of : Option Fault → Option Fault → Option Fault
+first_of None g = g
+first_of (Some f) None = Some f
+first_of (Some f) (Some g) = Some (lesser f g)
+
+-- what is read of annotations where it may not stand, or without the guard that it needs: the first in the text
+abbrev pub place_fault : TranslationUnit × Option Place → Option Fault
+place_fault x = first_of (option_map misplaced_fault x.1) (option_map unguarded_fault (unguarded_in_unit x.0))
+
+-- the tokens are read as this tree, all of its annotations stand where they may, and each of its quantifiers has a guard
+pub record IsRead (ts : PlainTokens) (p : TranslationUnit) : Type 0 where
+  pub reading : Accepts (unit (vocabulary ts) ts.names (texts_of ts.list)) ts.list (p, None)
+  pub guarded : unguarded_in_unit p ≡ None
+
+-- the tokens are read as this tree, and this is the first fault of its annotations' places and its quantifiers' guards
+pub record IsMisplaced (ts : PlainTokens) (p : TranslationUnit) (f : Fault) : Type 0 where
+  pub at : Option Place
+  pub reading : Accepts (unit (vocabulary ts) ts.names (texts_of ts.list)) ts.list (p, at)
+  pub is : place_fault (p, at) ≡ Some f
 
 -- The tokens are no program: the fault's token can't follow those before it, or it is the first that passes a limit.
 pub record IsSyntaxFault (ts : PlainTokens) (f : grammar.ParseFault) : Type 0 where
@@ -71,8 +91,8 @@ pub record AcceptedText (text : List ℕ) (p : TranslationUnit) : Type 0 where
 pub data RefusedText (text : List ℕ) (r : PlainRefusal) : Type 0 where
   ByTokens : tokens_of text ≡ Err r → RefusedText text r
   ByGrammar : (ts : PlainTokens) (f : grammar.ParseFault) → tokens_of text ≡ Ok ts → IsSyntaxFault ts f → r ≡ syntax_refusal ts f → RefusedText text r
-  ByPlaces : (ts : PlainTokens) (tree : TranslationUnit) (at : Place) → tokens_of text ≡ Ok ts → IsMisplaced ts tree at
-      → r ≡ refused_at_place ts misplaced_code at → RefusedText text r
+  ByPlaces : (ts : PlainTokens) (tree : TranslationUnit) (f : Fault) → tokens_of text ≡ Ok ts → IsMisplaced ts tree f
+      → r ≡ refused_at_place ts f.code f.place → RefusedText text r
   ByNamesAndTypes : (ts : PlainTokens) (tree : TranslationUnit) (f : Fault) → tokens_of text ≡ Ok ts → IsRead ts tree → refusing (typed_unit tree) ≡ Some f
       → r ≡ checked_refusal ts f → RefusedText text r
   ForRoom : (ts : PlainTokens) (tree typed : TranslationUnit) (f : Fault) → IsTyped text ts tree typed → room_fault typed ≡ Some f

@@ -3,7 +3,7 @@ use Rattle.std.specs.Prelude.{ℕ, ◌+◌, ◌≤◌, cond, nat_eq, List, [], �
 use Rattle.c_syntax.specs.declared.place.Place.{Place}
 use Rattle.c_syntax.specs.Formulas.{Form, Number, Letter, Truth, Name, Unary, Binary, Cast, SizeOf, Chain, Connected, Choice, Null}
 use Rattle.c_syntax.specs.Formulas.{Index, Dot, Arrow, Told, Asks}
-use Rattle.c_syntax.specs.Formulas.{Separated, Result, Old, At, FormLinks, NoLink, Linked, FormZone, Object, Elements, FormZones, NoZone, Another}
+use Rattle.c_syntax.specs.Formulas.{Separated, Result, Old, At, Quantified, FormLinks, NoLink, Linked, FormZone, Object, Elements, FormZones, NoZone, Another}
 use Rattle.c_syntax.specs.Logic.{ClauseBody, Raw, Holds, Value, Behaviors, Annotation}
 use Rattle.c_syntax.specs.Statements as statement
 use Rattle.c_syntax.specs.Statements.{Statement, Cases, ElsePart, ForFirst, BlockItem, BlockItems}
@@ -13,7 +13,12 @@ use Rattle.c_syntax.specs.Programs.{NamedBehavior, FunctionContract, Function}
 abbrev pub stands_at : ℕ → Place → ℕ
 stands_at o at = cond (nat_eq at.offset o) 1 0
 
--- ---- forms; a chain stands at its first relation
+-- names, each with its place
+abbrev pub names_at : ℕ → List (Place × ℕ) → ℕ
+names_at o [] = 0
+names_at o (x ∷ xs) = stands_at o x.0 + names_at o xs
+
+-- ---- forms; a chain stands at its first relation, and the binders of a quantifier stand at their names
 
 abbrev mutual
   pub nodes_at : ℕ → Form → ℕ
@@ -38,6 +43,7 @@ abbrev mutual
   nodes_at o (Result at) = stands_at o at
   nodes_at o (Old at a) = stands_at o at + nodes_at o a
   nodes_at o (At at a place l) = stands_at o at + nodes_at o a
+  nodes_at o (Quantified at q to names a) = stands_at o at + (names_at o names + nodes_at o a)
 
   pub links_at : ℕ → FormLinks → ℕ
   links_at o NoLink = 0

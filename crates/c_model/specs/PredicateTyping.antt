@@ -5,14 +5,16 @@
 -- constant is its value. Where C99 has a form too, the demands are those of its expressions (6.5.2.1, 6.5.2.3, 6.5.3.2, 6.5.6), with one aside: any two
 -- pointers are compared, and a literal of value 0 is a null pointer beside one.
 -- A term at a label is typed with what is in sight there. A parameter in an `ensures` has its value at the beginning of the call, and is no place.
--- Faults are of code 5 for a name and for a struct whose members aren't known, of code 6 for a sort or a type, of code 9 for a label or for what may not
--- stand under one, of code 11 for a type that passes a limit: also where a size, an alignment or an offset is kept, whose types are within limits by
--- their declarations.
+-- A binder is an integer. The bounds in a guard see the binders of the chains before, what stands behind the guard sees all of them.
+-- Faults are of code 5 for a name and for a struct whose members aren't known, of code 6 for a sort or a type, of code 8 for a quantifier without a guard,
+-- of code 9 for a label or for what may not stand under one, of code 11 for a type that passes a limit: also where a size, an alignment or an offset is
+-- kept, whose types are within limits by their declarations.
 use Rattle.std.specs.Prelude.{ℕ, ℤ, pos, List, [], ◌∷◌, Option, Some, None, Bool, true, false, not, ◌||◌, ◌&&◌, cond, nat_le, nat_eq}
 use Rattle.std.specs.Ordering.{int_eq}
 use Rattle.c_syntax.specs.declared.place.Place.{Place}
 use Rattle.c_syntax.specs.declared.types.CInt.TheVariants.{I8}
-use Rattle.c_syntax.specs.declared.annotation.Range.{Range}
+use Rattle.c_syntax.specs.declared.annotation.Kind.{Kind}
+use Rattle.c_syntax.specs.declared.annotation.Kind.TheVariants.{Variant}
 use Rattle.c_syntax.specs.declared.expression.BinOp.{BinOp}
 use Rattle.c_syntax.specs.declared.expression.BinOp.TheVariants as operator
 use Rattle.c_syntax.specs.declared.expression.UnOp.{UnOp}
@@ -22,159 +24,37 @@ use Rattle.c_syntax.specs.declared.logic.BlockFact.TheVariants.{BaseAddr, BlockL
 use Rattle.c_syntax.specs.RefusalCodes.{label_code}
 use Rattle.c_syntax.specs.declared.expression.Use.{Use}
 use Rattle.c_syntax.specs.declared.logic.Connective.{Connective}
+use Rattle.c_syntax.specs.declared.logic.Connective.TheVariants.{And}
 use Rattle.c_syntax.specs.declared.logic.Label.{Label}
 use Rattle.c_syntax.specs.declared.logic.Label.TheVariants.{Pre}
 use Rattle.c_syntax.specs.declared.logic.MemoryQuestion.{MemoryQuestion}
 use Rattle.c_syntax.specs.declared.logic.MemoryQuestion.TheVariants.{Valid, ValidRead, Initialized}
+use Rattle.c_syntax.specs.declared.logic.Quantifier.{Quantifier}
 use Rattle.c_syntax.specs.declared.logic.PointerOp.{PointerOp}
 use Rattle.c_syntax.specs.declared.logic.PointerOp.TheVariants.{Plus, Minus}
-use Rattle.c_syntax.specs.Ctypes.{PlainType, Void, Int, Ptr, Array, Struct, StructTag, EnumTag}
-use Rattle.c_syntax.specs.Ctypes as ctype
+use Rattle.c_syntax.specs.Ctypes.{PlainType, Void, Int, Ptr}
 use Rattle.c_syntax.specs.Programs.{StructMember}
 use Rattle.c_syntax.specs.Formulas as read
 use Rattle.c_syntax.specs.Formulas.{CastType, Integers, OfC, Form, FormLinks, FormZone, FormZones}
 use Rattle.c_syntax.specs.Logic.{LogicTerm, Number, Letter, Variable, Unary, Binary, Cast, Choice, Named, Links, NoLink, Linked, Predicate, Truth, NonZero}
 use Rattle.c_syntax.specs.Logic.{Chain, Not, Connected, Branch, ClauseBody, Raw, Holds, Value, Annotation, At, Behaviors, Null, Deref, Member, Address, Moved}
-use Rattle.c_syntax.specs.Logic.{Difference, Told, Asks, Separated, Zone, Object, Elements, Zones, NoZone, Another}
+use Rattle.c_syntax.specs.Logic.{Difference, Told, Asks, Separated, Zone, Object, Elements, Zones, NoZone, Another, Quantified}
 use Rattle.c_syntax.specs.Layouts.{size_of, align_of, member_among, members_of}
 use Rattle.c_model.specs.Integers.{integer_type}
 use Rattle.c_model.specs.Library.{library_constant}
-use Rattle.c_model.specs.Ranges.{from_to}
 use Rattle.c_model.specs.Checked.{Fault, Checked, Good, Bad, faulty, given, where_so, one_part, pair_of}
 use Rattle.c_model.specs.ContractChecks.{result_number}
 use Rattle.c_model.specs.AnnotationSights.{ClauseSight, InBody, AtEntry, AtEnd, UnderLabel, AnnotationSight, formals_in, sight_at, label_named, is_past}
+use Rattle.c_model.specs.AnnotationSights.{with_binders, binder_named}
+use Rattle.c_model.specs.QuantifierGuards.{mentions_any, is_guarded, left_behind, guarded_by}
+use Rattle.c_model.specs.QuantifierTyping.{Conjuncts, no_guard, binder_type, conjunction, other_conjunct, bound_at, chain_conjunct, quantified}
+pub use Rattle.c_model.specs.FormSorts.{Sorted, ATerm, APredicate, APlace, range_to_infer, place_of_term, place_of_predicate, type_of_term, ValueSort}
+pub use Rattle.c_model.specs.FormSorts.{AnInteger, APointer, NoValue, sort_of_type, sort_of, sort_of_term, sort_of_sorted, is_integer, pointee}
+pub use Rattle.c_model.specs.FormSorts.{as_value, value_in, as_term, as_integer, as_pointer, integer_holds, as_predicate}
 use Rattle.c_model.specs.ExpressionTyping as c
 use Rattle.c_model.specs.ExpressionTyping.{no_name, no_type, AnObject, AnEnumerator, Sight, name_at, entity_named, use_as, same_type, is_void, is_unknown}
 use Rattle.c_model.specs.ExpressionTyping.{limited, known_type, typed_type, sized, where_sized, most_bytes, too_large, is_struct, is_scalar, is_null_word}
 use Rattle.c_model.specs.ExpressionTyping.{is_among}
-
--- what a form is by its sort
-pub data Sorted : Type 0 where
-  ATerm : LogicTerm → Sorted
-  APredicate : Predicate → Sorted
-  -- a place of any type, which a term reads
-  APlace : LogicTerm → Sorted
-
--- the range of a term, until ranges are inferred
-abbrev pub range_to_infer : Range
-range_to_infer = from_to (pos 0) (pos 0)
-
-abbrev pub place_of_term : LogicTerm → Place
-place_of_term (Number at t r n) = at
-place_of_term (Letter at t r n) = at
-place_of_term (Variable at t r x) = at
-place_of_term (Unary at t r op a) = at
-place_of_term (Binary at t r op a b) = at
-place_of_term (Cast at t r to a) = at
-place_of_term (Choice at t r c a b) = at
-place_of_term (Named at t r x) = at
-place_of_term (At at t r l a) = at
-place_of_term (Null at t r) = at
-place_of_term (Deref at t r a) = at
-place_of_term (Member at t r d a) = at
-place_of_term (Address at t r a) = at
-place_of_term (Moved at t r op n a b) = at
-place_of_term (Difference at t r n a b) = at
-place_of_term (Told at t r f a) = at
-
--- the type that a term keeps: of what it reads, or of the pointer that it is
-abbrev pub type_of_term : LogicTerm → Option PlainType
-type_of_term (Number at t r n) = t
-type_of_term (Letter at t r n) = t
-type_of_term (Variable at t r x) = t
-type_of_term (Unary at t r op a) = t
-type_of_term (Binary at t r op a b) = t
-type_of_term (Cast at t r to a) = t
-type_of_term (Choice at t r c a b) = t
-type_of_term (Named at t r x) = t
-type_of_term (At at t r l a) = t
-type_of_term (Null at t r) = t
-type_of_term (Deref at t r a) = t
-type_of_term (Member at t r d a) = t
-type_of_term (Address at t r a) = t
-type_of_term (Moved at t r op n a b) = t
-type_of_term (Difference at t r n a b) = t
-type_of_term (Told at t r f a) = t
-
--- ---- sorts of values
-
--- what a value is; a struct is none
-pub data ValueSort : Type 0 where
-  AnInteger : ValueSort
-  APointer : PlainType → ValueSort
-  NoValue : ValueSort
-
--- an array is the pointer to its first element (C99 6.3.2.1 p3)
-abbrev pub sort_of_type : PlainType → ValueSort
-sort_of_type (Int k) = AnInteger
-sort_of_type (Ptr t) = APointer t
-sort_of_type (Array t n) = APointer t
-sort_of_type (Struct n) = NoValue
-sort_of_type Void = NoValue
-sort_of_type (ctype.Named x) = NoValue
-sort_of_type (StructTag x tag) = NoValue
-sort_of_type (EnumTag x at) = NoValue
-
-abbrev pub sort_of : Option PlainType → ValueSort
-sort_of None = AnInteger
-sort_of (Some t) = sort_of_type t
-
-abbrev pub sort_of_term : LogicTerm → ValueSort
-sort_of_term t = sort_of (type_of_term t)
-
--- a predicate is no value
-abbrev pub sort_of_sorted : Sorted → ValueSort
-sort_of_sorted (ATerm t) = sort_of_term t
-sort_of_sorted (APredicate p) = NoValue
-sort_of_sorted (APlace t) = sort_of_term t
-
-abbrev pub is_integer : ValueSort → Bool
-is_integer AnInteger = true
-is_integer (APointer t) = false
-is_integer NoValue = false
-
-abbrev pub pointee : ValueSort → Option PlainType
-pointee AnInteger = None
-pointee (APointer t) = Some t
-pointee NoValue = None
-
--- ---- what a form demands of its parts, which have no fault
-
--- a value: no struct, which is a fault at the struct's own place
-abbrev pub as_value : Sorted → Checked Sorted
-as_value (ATerm t) = Good (ATerm t)
-as_value (APredicate p) = Good (APredicate p)
-as_value (APlace t) = elim (sort_of_term t) [
-  | AnInteger ↦ Good (ATerm t)
-  | APointer u ↦ Good (ATerm t)
-  | NoValue ↦ faulty (no_type (place_of_term t))
-]
-
-abbrev pub value_in : Checked Sorted → Checked Sorted
-value_in c = one_part c as_value
-
--- a term, which this place wants
-abbrev pub as_term : Place → Sorted → Checked LogicTerm
-as_term at (ATerm t) = Good t
-as_term at (APredicate p) = faulty (no_type at)
-as_term at (APlace t) = Good t
-
--- an integer
-abbrev pub as_integer : Place → Sorted → Checked LogicTerm
-as_integer at a = one_part (as_term at a) (λ t. where_so (is_integer (sort_of_term t)) (no_type at) (Good t))
-
--- a pointer, with the type of what it points to
-abbrev pub as_pointer : Place → Sorted → Checked (PlainType × LogicTerm)
-as_pointer at a = one_part (as_term at a) (λ t. given (pointee (sort_of_term t)) (no_type at) (λ u. Good (u, t)))
-
--- a predicate, which this place wants; an integer is one where it isn't 0 (ACSL 2.2)
-abbrev pub integer_holds : Place → LogicTerm → Checked Predicate
-integer_holds at t = where_so (is_integer (sort_of_term t)) (no_type at) (Good (NonZero (place_of_term t) t))
-
-abbrev pub as_predicate : Place → Sorted → Checked Predicate
-as_predicate at (ATerm t) = integer_holds at t
-as_predicate at (APredicate p) = Good p
-as_predicate at (APlace t) = integer_holds at t
 
 -- ---- names
 
@@ -204,12 +84,20 @@ library_term s at x = elim (library_constant (name_at s.names x)) [
   | None ↦ cond (is_null_word s x) (Good (null at)) (faulty (no_name at))
 ]
 
--- a name; that of a function has no meaning in annotations
-abbrev pub term_named : AnnotationSight → Place → ℕ → Checked Sorted
-term_named s at x = elim (entity_named x s.here.entities) [
+-- a name of C; that of a function has no meaning in annotations
+abbrev pub named_in_c : AnnotationSight → Place → ℕ → Checked Sorted
+named_in_c s at x = elim (entity_named x s.here.entities) [
   | Some e ↦ elim e [ AnObject b ↦ Good (object_place s.clause at x b) | AnEnumerator k ↦ Good (number at k.value) ]
   | None ↦ library_term s.here at x
 ]
+
+-- a binder, by its number, which is the offset of its declaration
+abbrev pub bound : Place → ℕ → Place → Sorted
+bound at x place = ATerm (Named at None range_to_infer (use_as x place.offset))
+
+-- a name; a binder hides what has its name
+abbrev pub term_named : AnnotationSight → Place → ℕ → Checked Sorted
+term_named s at x = elim (binder_named x s.binders) [ Some place ↦ Good (bound at x place) | None ↦ named_in_c s at x ]
 
 -- ---- the result of a function (ACSL 2.3.1)
 
@@ -256,6 +144,7 @@ abbrev mutual
   has_past b (read.Result at) = b
   has_past b (read.Old at a) = true
   has_past b (read.At at a place l) = true
+  has_past b (read.Quantified at q to names a) = has_past b a
 
   pub links_have_past : Bool → FormLinks → Bool
   links_have_past b read.NoLink = false
@@ -268,6 +157,10 @@ abbrev mutual
   pub zones_have_past : Bool → FormZones → Bool
   zones_have_past b read.NoZone = false
   zones_have_past b (read.Another z rest) = zone_has_past b z || zones_have_past b rest
+
+-- what may not stand under a label where `\result` may not either, or may: one of those, or a binder
+abbrev pub is_refused : AnnotationSight → Form → Bool → Bool
+is_refused s f b = has_past b f || mentions_any s.binders f
 
 -- a term where `\old` or `\at` stands at this place
 abbrev pub at_label : Place → Label → Sorted → Checked Sorted
@@ -472,9 +365,25 @@ choice_of_terms at p t u (APointer v) NoValue = faulty (no_type at)
 abbrev pub branch : Place → Predicate → Sorted → Sorted → Checked Sorted
 branch at p a b = one_part (as_predicate at a) (λ q. one_part (as_predicate at b) (λ r. Good (APredicate (Branch at p q r))))
 
--- a choice is a term where both parts are terms, which are values here
+-- the first quantifier of a predicate; a term has none
+abbrev pub quantifier_in : Predicate → Option Place
+quantifier_in (Truth at b) = None
+quantifier_in (NonZero at t) = None
+quantifier_in (Chain at t links) = None
+quantifier_in (Not at p) = quantifier_in p
+quantifier_in (Connected at k p q) = c.or_else (quantifier_in p) (quantifier_in q)
+quantifier_in (Branch at k p q) = c.or_else (quantifier_in k) (c.or_else (quantifier_in p) (quantifier_in q))
+quantifier_in (Quantified at q gs p) = Some at
+quantifier_in (Asks at f z) = None
+quantifier_in (Separated at zs) = None
+
+-- goes on with a condition that takes no steps
+abbrev pub where_quiet : {A : Type 0} → Predicate → Checked A → Checked A
+where_quiet p k = elim (quantifier_in p) [ None ↦ k | Some at ↦ faulty (no_type at) ]
+
+-- a choice is a term where both parts are terms, which are values here; the condition of one has no quantifier
 abbrev pub choice_between : Place → Predicate → Sorted → Sorted → Checked Sorted
-choice_between at p (ATerm t) (ATerm u) = choice_of_terms at p t u (sort_of_term t) (sort_of_term u)
+choice_between at p (ATerm t) (ATerm u) = where_quiet p (choice_of_terms at p t u (sort_of_term t) (sort_of_term u))
 choice_between at p a b = branch at p a b
 
 abbrev pub chosen : Place → Sorted → Sorted → Sorted → Checked Sorted
@@ -584,8 +493,34 @@ abbrev mutual
   typed_form s (read.Separated at zs) = one_part (typed_zones s at zs) (λ zs. Good (APredicate (Separated at zs)))
   typed_form s (read.Result at) = result_in s.clause at
   typed_form s (read.Old at a) =
-      where_so (has_old s.clause) (no_label at) (labelled s at at (Some Pre) (λ b. has_past b a) (λ u. typed_form u a))
-  typed_form s (read.At at a place l) = labelled s at place (label_named s l) (λ b. has_past b a) (λ u. typed_form u a)
+      where_so (has_old s.clause) (no_label at) (labelled s at at (Some Pre) (is_refused s a) (λ u. typed_form u a))
+  typed_form s (read.At at a place l) = labelled s at place (label_named s l) (is_refused s a) (λ u. typed_form u a)
+  typed_form s (read.Quantified at q to names a) =
+      where_so (is_guarded q names a) (no_guard at) (one_part (binder_type s.here at to) (λ k. typed_quantified s at q k names a))
+
+  -- what a quantifier at this place says of binders of this type
+  pub typed_quantified : AnnotationSight → Place → Quantifier → CastType → List (Place × ℕ) → Form → Checked Sorted
+  typed_quantified s at q k bs (read.Connected place j a b) =
+      quantified at place q j (typed_conjuncts s at k bs place a (typed_form s a))
+      (let u = with_binders s (guarded_by bs a) in typed_conjuncts u at k (left_behind bs a) place b (typed_form u b))
+      (value_in (typed_form (with_binders s bs) b))
+  typed_quantified s at q k bs f = faulty (no_guard at)
+
+  -- a part of the conjuncts of the quantifier at the first place, with these of its binders left: an operand of what stands at the second place, of which
+  -- typing as a form makes this
+  pub typed_conjuncts : AnnotationSight → Place → CastType → List (Place × ℕ) → Place → Form → Checked Sorted → Checked Conjuncts
+  typed_conjuncts s at k bs place (read.Connected here And a b) typed =
+      conjunction here (typed_conjuncts s at k bs here a (typed_form s a))
+      (let u = with_binders s (guarded_by bs a) in typed_conjuncts u at k (left_behind bs a) here b (typed_form u b))
+  typed_conjuncts s at k bs place (read.Chain here a links) typed =
+      chain_conjunct at k bs place links (bound_at here (typed_form s a)) (typed_upper s at links) typed
+  typed_conjuncts s at k bs place f typed = other_conjunct at bs place typed
+
+  -- the last form of a chain in the guard of the quantifier at this place
+  pub typed_upper : AnnotationSight → Place → FormLinks → Checked LogicTerm
+  typed_upper s at read.NoLink = faulty (no_guard at)
+  typed_upper s at (read.Linked place r a read.NoLink) = bound_at place (typed_form s a)
+  typed_upper s at (read.Linked place r a rest) = typed_upper s at rest
 
   -- the relations of a chain behind a side; each wants sides that go together, where its right one has no fault, and all faults of its left side
   -- come before it
@@ -606,7 +541,7 @@ abbrev mutual
   typed_zones s at read.NoZone = Good NoZone
   typed_zones s at (read.Another z rest) = one_part (pair_of (typed_zone s ValidRead at z) (typed_zones s at rest)) (λ p. Good (Another p.0 p.1))
 
--- ---- clauses, which are predicates
+-- ---- clauses
 
 -- a pointer is a fault at its own place
 abbrev pub clause_holds : Sorted → Checked Predicate
@@ -614,13 +549,27 @@ clause_holds (ATerm t) = integer_holds (place_of_term t) t
 clause_holds (APredicate p) = Good p
 clause_holds (APlace t) = integer_holds (place_of_term t) t
 
-abbrev pub typed_clause : AnnotationSight → ClauseBody → Checked ClauseBody
-typed_clause s (Raw f) = one_part (value_in (typed_form s f)) (λ a. one_part (clause_holds a) (λ p. Good (Holds p)))
-typed_clause s (Holds p) = Good (Holds p)
-typed_clause s (Value t) = Good (Value t)
-typed_clause s (Behaviors names) = Good (Behaviors names)
+-- a variant is an integer; what isn't one is a fault at its own place
+abbrev pub integer_value : LogicTerm → Checked LogicTerm
+integer_value t = where_so (is_integer (sort_of_term t)) (no_type (place_of_term t)) (Good t)
+
+abbrev pub variant_value : Sorted → Checked LogicTerm
+variant_value (ATerm t) = integer_value t
+variant_value (APredicate p) = faulty (no_type (place_of_predicate p))
+variant_value (APlace t) = integer_value t
+
+-- what a clause of this kind says: a variant is a term, and all others are predicates
+abbrev pub said : Kind → Sorted → Checked ClauseBody
+said Variant a = one_part (variant_value a) (λ t. Good (Value t))
+said k a = one_part (clause_holds a) (λ p. Good (Holds p))
+
+abbrev pub typed_clause : AnnotationSight → Kind → ClauseBody → Checked ClauseBody
+typed_clause s k (Raw f) = one_part (value_in (typed_form s f)) (said k)
+typed_clause s k (Holds p) = Good (Holds p)
+typed_clause s k (Value t) = Good (Value t)
+typed_clause s k (Behaviors names) = Good (Behaviors names)
 
 abbrev pub typed_annotations : AnnotationSight → List Annotation → Checked (List Annotation)
 typed_annotations s [] = Good []
 typed_annotations s (a ∷ rest) =
-    one_part (typed_clause s a.body) (λ b. one_part (typed_annotations s rest) (λ rest. Good (record a { body = b } ∷ rest)))
+    one_part (typed_clause s a.kind a.body) (λ b. one_part (typed_annotations s rest) (λ rest. Good (record a { body = b } ∷ rest)))

@@ -156,8 +156,8 @@ abbrev mutual
   -- what is said within guards; the bounds of a chain are evaluated when its turn comes, once
   pub guarded : Quantifier → Guards → (Environment → ℕ → Answer) → State → Environment → ℕ → Answer
   guarded q NoGuard p s e n = p e n
-  guarded q (Guarded a bs below b rest) p s e n =
-      between (term a s e) (term b s e) (λ l h. over q l bs (lowered below h) (guarded q rest p s) e) n
+  guarded q (Guarded a y ys below b rest) p s e n =
+      between (term a s e) (term b s e) (λ l h. over q l (y ∷ ys) (lowered below h) (guarded q rest p s) e) n
 
 -- ---- clauses
 

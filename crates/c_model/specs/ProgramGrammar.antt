@@ -4,19 +4,22 @@
 --   unit       = { { annotation } external }
 --   external   = spec [ declared { "," declared } ] ";" | spec dtor { "," dtor } ";" | spec { "*" } NAME "(" params ")" ( ";" | body )
 --   body       = "{" { item } "}"
---   item       = asserts | contract branch | decl | stmt
+--   item       = asserts | annotation inside | decl | stmt
+--   branch     = annotation inside | stmt
+--   inside     = loop, behind loops | branch
 --   stmt       = "{" { item } "}" | ";" | comma ";" | NAME ":" branch
 --              | "if" "(" comma ")" branch [ "else" branch ]
---              | "while" "(" comma ")" branch | "do" branch "while" "(" comma ")" ";"
---              | "for" "(" ( decl | [ comma ] ";" ) [ comma ] ";" [ comma ] ")" branch
+--              | loop | "do" branch "while" "(" comma ")" ";"
 --              | "switch" "(" comma ")" "{" { case } "}"
 --              | "break" ";" | "continue" ";" | "return" [ comma ] ";"
---   case       = ( "case" cond | "default" ) ":" { asserts | contract branch | stmt }
---   annotation : see ClauseGrammar; asserts and contract are those with asserts, and those with a contract
+--   loop       = "while" "(" comma ")" branch | "for" "(" ( decl | [ comma ] ";" ) [ comma ] ";" [ comma ] ")" branch
+--   case       = ( "case" cond | "default" ) ":" { asserts | annotation inside | stmt }
+--   annotation : see ClauseGrammar; asserts and loops are those with asserts, and those with clauses of a loop
 --
--- Asserts are items, and a contract stands directly before a function, which has at most one among all its declarations (ACSL 2.3). Any other annotation
--- stands where none of its kind may: it is passed over, and the place of the first word of the first of these is kept. A branch or a statement with an
--- annotation is a statement inside which the branch after it stands.
+-- Asserts are items, a contract stands directly before a function, which has at most one among all its declarations (ACSL 2.3), and clauses of a loop
+-- stand directly before it, with at most one variant among them (ACSL 2.4.2). Any other annotation stands where none of its kind may: it is passed over.
+-- The first place where such a thing stands is kept: the first word of the annotation, or of a variant behind another one. A branch or a statement
+-- with an annotation is a statement inside which what stands behind the annotation stands.
 --
 -- A spec has "typedef" among the words before its type, as it may have "static", and then it stands in the second form, and else in the
 -- others. A name that a typedef declares is the name of a type from the end of its declarator on. The stars before the name of a function,
@@ -47,7 +50,7 @@ use Rattle.c_model.specs.ExpressionGrammar.{most_nested, mark, reserved, closed}
 use Rattle.c_model.specs.ExpressionGrammar.{full_expression, full_placed_expression, full_nameless_expression, full_expression_behind, full_expression_at}
 use Rattle.c_model.specs.DeclarationGrammar.{Declarator, Definitions, names_function, declared_by, nameless, ended, full_dtor, initialised, more_declared}
 use Rattle.c_model.specs.DeclarationGrammar.{declaration, parameters, file_spec}
-use Rattle.c_model.specs.ClauseGrammar.{ReadAnnotation, annotations}
+use Rattle.c_model.specs.ClauseGrammar.{LoopClauses, ReadAnnotation, Assertions, Contracted, Looped, annotations}
 use Rattle.c_model.specs.Library.{is_there}
 
 -- ---- what begins what: these sets serve `parse` alone
@@ -56,6 +59,9 @@ abbrev pub first_statement : List ℕ
 first_statement =
     mark_kind left_brace ∷ mark_kind semicolon ∷ keyword_kind keyword.If ∷ keyword_kind keyword.While ∷ keyword_kind keyword.Do ∷ keyword_kind keyword.For
     ∷ keyword_kind keyword.Switch ∷ keyword_kind keyword.Break ∷ keyword_kind keyword.Continue ∷ keyword_kind keyword.Return ∷ first_expression
+
+abbrev pub first_loop : List ℕ
+first_loop = keyword_kind keyword.While ∷ keyword_kind keyword.For ∷ []
 
 -- what begins a statement inside another
 abbrev pub first_branch : List ℕ
@@ -107,11 +113,25 @@ abbrev mutual
 abbrev pub Numbered : Type 1
 Numbered = AnnotationState → Syntax PlainToken (Statement × AnnotationState)
 
--- the place of the first word of asserts, or of a contract
-abbrev pub first_word : List Annotation → Option FunctionContract → Option Place
-first_word asserts (Some c) = Some c.place
-first_word [] None = None
-first_word (a ∷ asserts) None = Some a.place
+-- how what stands inside a statement behind an annotation is read, with what that was read as and the number after it
+abbrev pub Annotated : Type 1
+Annotated = ReadAnnotation × ℕ → Numbered
+
+-- how a loop is read that these annotations stand before
+abbrev pub Looping : Type 1
+Looping = List Annotation → Numbered
+
+-- the place of the first word of an annotation
+abbrev pub first_word : ReadAnnotation → Option Place
+first_word (Assertions []) = None
+first_word (Assertions (a ∷ asserts)) = Some a.place
+first_word (Contracted c) = Some c.place
+first_word (Looped l) = Some l.place
+
+-- that of a contract, where there is one
+abbrev pub contract_place : Option FunctionContract → Option Place
+contract_place None = None
+contract_place (Some c) = Some c.place
 
 -- the first of the places of misplaced annotations, with that of an annotation that follows
 abbrev pub first_misplaced : Option Place → Option Place → Option Place
@@ -124,11 +144,15 @@ after_placed s n = record { number = n; misplaced = s.misplaced }
 
 -- after annotations that don't
 abbrev pub after_misplaced : AnnotationState → ReadAnnotation × ℕ → AnnotationState
-after_misplaced s x = record { number = x.1; misplaced = first_misplaced s.misplaced (first_word x.0.0 x.0.1) }
+after_misplaced s x = record { number = x.1; misplaced = first_misplaced s.misplaced (first_word x.0) }
+
+-- after the clauses of a loop that follows
+abbrev pub after_loop : AnnotationState → LoopClauses → ℕ → AnnotationState
+after_loop s l n = record { number = n; misplaced = first_misplaced s.misplaced l.again }
 
 -- after a contract that no function takes
 abbrev pub without : AnnotationState → Option FunctionContract → AnnotationState
-without s c = record s { misplaced = first_misplaced s.misplaced (first_word [] c) }
+without s c = record s { misplaced = first_misplaced s.misplaced (contract_place c) }
 
 abbrev pub function_with : PlainType → ℕ × Place → List Declaration → Option FunctionContract → Option Statement → Place → Function
 function_with t f params contract body close = record {
@@ -224,13 +248,7 @@ unit_with names texts x = record {
 }
 
 module _ (ws : Vocabulary) where
-  -- ---- annotations, whose asserts take the next numbers
-
-  -- an annotation where none may stand
-  unfoldable pub misplaced : AnnotationState → Syntax PlainToken AnnotationState
-  misplaced s = annotations ws s.number then λ x. gives (after_misplaced s x)
-
-  -- ---- statements; T stands for a statement in a block, B for one behind an annotation there, and S for one inside another
+  -- ---- statements; T stands for a statement in a block, B for what stands behind an annotation there, and S for a statement inside another
 
   -- "(" comma ")"
   unfoldable pub condition : Syntax PlainToken Expression
@@ -248,8 +266,8 @@ module _ (ws : Vocabulary) where
   unfoldable pub selection : Numbered → Numbered
   selection S n = reserved ws keyword.If then λ at. condition then λ e. S n then λ x. else_part S at e x
 
-  unfoldable pub while_loop : Numbered → Numbered
-  while_loop S n = reserved ws keyword.While then λ at. condition then λ e. S n then λ x. gives (statement.While at [] e x.0, x.1)
+  unfoldable pub while_loop : Numbered → Looping
+  while_loop S annots n = reserved ws keyword.While then λ at. condition then λ e. S n then λ x. gives (statement.While at annots e x.0, x.1)
 
   unfoldable pub do_loop : Numbered → Numbered
   do_loop S n =
@@ -271,10 +289,14 @@ module _ (ws : Vocabulary) where
   unfoldable pub for_behind : Syntax PlainToken (Option Expression)
   for_behind = choice (kind ws) first_expression (full_expression ws then λ e. closed ws (Some e)) (closed ws None)
 
-  unfoldable pub for_loop : Numbered → Numbered
-  for_loop S n =
+  unfoldable pub for_loop : Numbered → Looping
+  for_loop S annots n =
       reserved ws keyword.For then λ at. mark ws left_paren then λ _. for_first n then λ first. maybe_ended then λ e. for_behind then λ behind.
-      S first.1 then λ x. gives (statement.For at [] first.0 e behind x.0, x.1)
+      S first.1 then λ x. gives (statement.For at annots first.0 e behind x.0, x.1)
+
+  -- a loop to which annotations belong
+  unfoldable pub loop_of : Numbered → Looping
+  loop_of S annots n = choice (kind ws) (keyword_kind keyword.While ∷ []) (while_loop S annots n) (for_loop S annots n)
 
   unfoldable pub jump : Numbered
   jump n =
@@ -292,29 +314,30 @@ module _ (ws : Vocabulary) where
   unfoldable pub run_item : Numbered → AnnotationState → Syntax PlainToken (BlockItem × AnnotationState)
   run_item T n = T n then λ x. gives (statement.Run x.0, x.1)
 
-  -- what stands behind an annotation in a block: nothing behind asserts, which are an item, and a branch behind a contract
-  unfoldable pub behind_annotation : Numbered → AnnotationState → ReadAnnotation × ℕ → Syntax PlainToken (BlockItem × AnnotationState)
-  behind_annotation B n x = elim x.0.1 [
-    | None ↦ gives (statement.Asserts x.0.0, after_placed n x.1)
-    | Some c ↦ run_item B (after_misplaced n x)
+  -- what stands behind an annotation in a block: nothing behind asserts, which are an item, and else the rest of a statement
+  unfoldable pub behind_annotation : Annotated → AnnotationState → ReadAnnotation × ℕ → Syntax PlainToken (BlockItem × AnnotationState)
+  behind_annotation B n x = elim x.0 [
+    | Assertions asserts ↦ gives (statement.Asserts asserts, after_placed n x.1)
+    | Contracted c ↦ run_item (B x) n
+    | Looped l ↦ run_item (B x) n
   ]
 
-  unfoldable pub annotated_item : Numbered → AnnotationState → Syntax PlainToken (BlockItem × AnnotationState)
+  unfoldable pub annotated_item : Annotated → AnnotationState → Syntax PlainToken (BlockItem × AnnotationState)
   annotated_item B n = annotations ws n.number then λ x. behind_annotation B n x
 
-  unfoldable pub item : Numbered → Numbered → AnnotationState → Syntax PlainToken (BlockItem × AnnotationState)
+  unfoldable pub item : Numbered → Annotated → AnnotationState → Syntax PlainToken (BlockItem × AnnotationState)
   item T B n =
       choice (kind ws) (annot_open_kind ∷ []) (annotated_item B n)
       (choice (kind ws) first_type (declaration ws then λ i. gives (i, n)) (run_item T n))
 
-  unfoldable pub items_once : Numbered → Numbered → List BlockItem × AnnotationState → Syntax PlainToken (List BlockItem × AnnotationState)
+  unfoldable pub items_once : Numbered → Annotated → List BlockItem × AnnotationState → Syntax PlainToken (List BlockItem × AnnotationState)
   items_once T B x = item T B x.1 then λ i. gives (x.0 ++ i.0 ∷ [], i.1)
 
   -- { item }, after the items x
-  unfoldable pub items : Numbered → Numbered → List BlockItem × AnnotationState → Syntax PlainToken (List BlockItem × AnnotationState)
+  unfoldable pub items : Numbered → Annotated → List BlockItem × AnnotationState → Syntax PlainToken (List BlockItem × AnnotationState)
   items T B x = many (kind ws) (λ _. first_item) (items_once T B) x
 
-  unfoldable pub block : Numbered → Numbered → Numbered
+  unfoldable pub block : Numbered → Annotated → Numbered
   block T B n = mark ws left_brace then λ at. items T B ([], n) then λ x. mark ws right_brace then λ _. gives (statement.Block at (block_items x.0), x.1)
 
   unfoldable pub empty_statement : Numbered
@@ -333,26 +356,26 @@ module _ (ws : Vocabulary) where
   unfoldable pub case_label : Syntax PlainToken (Place × Option Expression)
   case_label = choice (kind ws) (keyword_kind keyword.Case ∷ []) valued_case default_case
 
-  -- asserts | contract branch | stmt
-  unfoldable pub case_item : Numbered → Numbered → AnnotationState → Syntax PlainToken (BlockItem × AnnotationState)
+  -- asserts | annotation inside | stmt
+  unfoldable pub case_item : Numbered → Annotated → AnnotationState → Syntax PlainToken (BlockItem × AnnotationState)
   case_item T B n = choice (kind ws) (annot_open_kind ∷ []) (annotated_item B n) (run_item T n)
 
-  unfoldable pub case_items_once : Numbered → Numbered → List BlockItem × AnnotationState → Syntax PlainToken (List BlockItem × AnnotationState)
+  unfoldable pub case_items_once : Numbered → Annotated → List BlockItem × AnnotationState → Syntax PlainToken (List BlockItem × AnnotationState)
   case_items_once T B x = case_item T B x.1 then λ i. gives (x.0 ++ i.0 ∷ [], i.1)
 
-  -- { asserts | contract branch | stmt }, after the items x
-  unfoldable pub case_items : Numbered → Numbered → List BlockItem × AnnotationState → Syntax PlainToken (List BlockItem × AnnotationState)
+  -- { asserts | annotation inside | stmt }, after the items x
+  unfoldable pub case_items : Numbered → Annotated → List BlockItem × AnnotationState → Syntax PlainToken (List BlockItem × AnnotationState)
   case_items T B x = many (kind ws) (λ _. first_branch) (case_items_once T B) x
 
   -- case, after others
-  unfoldable pub next_case : Numbered → Numbered → List ReadCase × AnnotationState → Syntax PlainToken (List ReadCase × AnnotationState)
+  unfoldable pub next_case : Numbered → Annotated → List ReadCase × AnnotationState → Syntax PlainToken (List ReadCase × AnnotationState)
   next_case T B x = case_label then λ l. case_items T B ([], x.1) then λ y. gives (x.0 ++ record { place = l.0; value = l.1; items = y.0 } ∷ [], y.1)
 
   -- { case }, after the cases x
-  unfoldable pub cases : Numbered → Numbered → List ReadCase × AnnotationState → Syntax PlainToken (List ReadCase × AnnotationState)
+  unfoldable pub cases : Numbered → Annotated → List ReadCase × AnnotationState → Syntax PlainToken (List ReadCase × AnnotationState)
   cases T B x = many (kind ws) (λ _. first_case) (next_case T B) x
 
-  unfoldable pub switch_statement : Numbered → Numbered → Numbered
+  unfoldable pub switch_statement : Numbered → Annotated → Numbered
   switch_statement T B n =
       reserved ws keyword.Switch then λ at. condition then λ e. mark ws left_brace then λ _. cases T B ([], n) then λ x.
       mark ws right_brace then λ _. gives (statement.Switch at e (cases_of x.0), x.1)
@@ -373,38 +396,64 @@ module _ (ws : Vocabulary) where
   unfoldable pub named_statement : Numbered → Numbered
   named_statement S n = name ws then λ x. choice (kind ws) (mark_kind colon ∷ []) (labelled_statement S x n) (effect_behind x n)
 
-  unfoldable pub statement_of : Numbered → Numbered → Numbered → Numbered
-  statement_of T B S n =
+  -- any statement but a loop to which annotations may belong
+  unfoldable pub unlooped_of : Numbered → Annotated → Numbered → Numbered
+  unlooped_of T B S n =
       choice (kind ws) (mark_kind left_brace ∷ []) (block T B n)
       (choice (kind ws) (mark_kind semicolon ∷ []) (empty_statement n)
       (choice (kind ws) (keyword_kind keyword.If ∷ []) (selection S n)
-      (choice (kind ws) (keyword_kind keyword.While ∷ []) (while_loop S n)
       (choice (kind ws) (keyword_kind keyword.Do ∷ []) (do_loop S n)
-      (choice (kind ws) (keyword_kind keyword.For ∷ []) (for_loop S n)
       (choice (kind ws) (keyword_kind keyword.Switch ∷ []) (switch_statement T B n)
       (choice (kind ws) (keyword_kind keyword.Return ∷ []) (return_statement n)
       (choice (kind ws) (keyword_kind keyword.Break ∷ keyword_kind keyword.Continue ∷ []) (jump n)
-      (choice (kind ws) (name_kind ∷ []) (named_statement S n) (effect_statement n))))))))))
+      (choice (kind ws) (name_kind ∷ []) (named_statement S n) (effect_statement n))))))))
 
-  -- a statement inside another, with or without annotations before it
-  unfoldable pub branch_of : Numbered → Numbered → Numbered
-  branch_of T S n = choice (kind ws) (annot_open_kind ∷ []) (misplaced n then S) (T n)
+  unfoldable pub statement_of : Numbered → Annotated → Numbered → Numbered
+  statement_of T B S n = choice (kind ws) first_loop (loop_of S [] n) (unlooped_of T B S n)
+
+  -- a statement inside another, with or without annotations before it; A stands for what stands behind one
+  unfoldable pub branch_of : Numbered → Annotated → Numbered
+  branch_of T A n = choice (kind ws) (annot_open_kind ∷ []) (annotations ws n.number then λ x. A x n) (T n)
+
+  -- what stands inside a statement behind an annotation: the loop W right behind its clauses, or a branch, before which the annotation is misplaced;
+  -- T and U stand for a statement in it, and for one that is no loop
+  unfoldable pub inside_of : Looping → Numbered → Numbered → Annotated → Annotated
+  inside_of W T U A x n = elim x.0 [
+    | Assertions asserts ↦ branch_of T A (after_misplaced n x)
+    | Contracted c ↦ branch_of T A (after_misplaced n x)
+    | Looped l ↦ choice (kind ws) first_loop (W l.clauses (after_loop n l x.1)) (branch_of U A (after_misplaced n x))
+  ]
+
+  -- no statement
+  abbrev pub nothing : Numbered
+  nothing n = none
+
+  -- a statement inside another, where it is one too deep
+  unfoldable pub too_deep : Numbered
+  too_deep n = deep nesting_limit (kind ws) first_branch (branch_of (statement_of nothing (λ x. nothing) nothing) (λ x. nothing) n)
 
   unfoldable mutual
     -- a statement in which statements stand at most d deep, itself included; one deeper passes the limit
     pub statement_in : ℕ → Numbered
-    statement_in zero n = deep nesting_limit (kind ws) first_statement (statement_of (λ m. none) (λ m. none) (λ m. none) n)
+    statement_in zero n = deep nesting_limit (kind ws) first_statement (statement_of nothing (λ x. nothing) nothing n)
     statement_in (suc d) n = statement_of (statement_in d) (inside_in d) (branch_in d) n
 
     -- the same inside another
     pub branch_in : ℕ → Numbered
-    branch_in zero n = deep nesting_limit (kind ws) first_branch (branch_of (statement_of (λ m. none) (λ m. none) (λ m. none)) (λ m. none) n)
-    branch_in (suc d) n = branch_of (statement_of (statement_in d) (inside_in d) (branch_in d)) (branch_in d) n
+    branch_in zero n = too_deep n
+    branch_in (suc d) n = branch_of (statement_of (statement_in d) (inside_in d) (branch_in d)) (behind_in d) n
 
-    -- what stands inside a statement of that depth that begins with an annotation; that one passes the limit where it is one deeper
-    pub inside_in : ℕ → Numbered
-    inside_in zero n = deep nesting_limit (kind ws) first_branch (branch_of (statement_of (λ m. none) (λ m. none) (λ m. none)) (λ m. none) n)
-    inside_in (suc d) n = branch_in d n
+    -- what stands behind an annotation, where statements stand at most d deep
+    pub behind_in : ℕ → Annotated
+    behind_in zero x n = too_deep (after_misplaced n x)
+    behind_in (suc d) x n =
+        inside_of (loop_of (branch_in d)) (statement_of (statement_in d) (inside_in d) (branch_in d)) (unlooped_of (statement_in d) (inside_in d) (branch_in d))
+        (behind_in d) x n
+
+    -- what stands inside a statement of that depth that begins with an annotation; it passes the limit where it is one deeper
+    pub inside_in : ℕ → Annotated
+    inside_in zero x n = too_deep (after_misplaced n x)
+    inside_in (suc d) x n = behind_in d x n
 
   -- ---- functions (C99 6.9.1)
 
@@ -463,9 +512,10 @@ behind_spec storage.Nothing t x = declared_at_file x.words t x
 
 -- an annotation before a declaration; a contract before it is not directly before the declaration
 unfoldable pub next_stray : Vocabulary → AnnotationState × Option FunctionContract → Syntax PlainToken (AnnotationState × Option FunctionContract)
-next_stray ws x = annotations ws x.0.number then λ y. gives (elim y.0.1 [
-  | None ↦ (after_misplaced (without x.0 x.1) y, None)
-  | Some c ↦ (after_placed (without x.0 x.1) y.1, Some c)
+next_stray ws x = annotations ws x.0.number then λ y. gives (elim y.0 [
+  | Assertions asserts ↦ (after_misplaced (without x.0 x.1) y, None)
+  | Contracted c ↦ (after_placed (without x.0 x.1) y.1, Some c)
+  | Looped l ↦ (after_misplaced (without x.0 x.1) y, None)
 ])
 
 -- { annotation }, with the contract that is the last of them

@@ -7,7 +7,7 @@ use Rattle.c_syntax.specs.Logic.{Annotation}
 use Rattle.c_syntax.specs.Statements.{Statement, Block}
 use Rattle.c_syntax.specs.Programs.{StringLiteral, Function, TranslationUnit}
 use Rattle.c_model.specs.ExpressionGrammar.{most_nested}
-use Rattle.c_model.specs.Formed.{nodes_of, most_read, depth, IsShortReading, AreReadAsserts, AreNamed, FunctionsNamed}
+use Rattle.c_model.specs.Formed.{nodes_of, most_read, depth, IsShortReading, AreReadAsserts, AreReadLoopClauses, AreNamed, FunctionsNamed}
 use Rattle.c_model.specs.FormedContracts.{ContractsFormed}
 use Rattle.c_model.specs.FullExpressions.{EachDeclared, EachInFunctions, EachExpression}
 use Rattle.c_model.specs.LetterValues.{LettersFit}
@@ -22,12 +22,12 @@ pub use Rattle.c_model.specs.TextOrder.{enums_among, typedefs_among, globals_amo
 abbrev pub IsShort : Expression → Type 0
 IsShort e = nodes_of e ≤ most_read
 
--- in functions whose annotations are so
-module _ (AreSo : List Annotation → Type 0) where
+-- in functions whose asserts and whose annotations of loops are so
+module _ (AreSo AreLoops : List Annotation → Type 0) where
   -- a body is a block, which is 1 deep; the limit is that of the grammar, and one more that this bound allows does no harm
   abbrev pub BodyRead : Option Statement → Type 0
   BodyRead None = Unit {0}
-  BodyRead (Some (Block at items)) = ItemsPlaced AreSo items × (depth (Block at items) ≤ suc most_nested)
+  BodyRead (Some (Block at items)) = ItemsPlaced AreSo AreLoops items × (depth (Block at items) ≤ suc most_nested)
   BodyRead (Some _) = ⊥
 
   pub record FunctionRead (f : Function) : Type 0 where
@@ -49,7 +49,7 @@ TextsAreBytes ts = AllByRecursion (λ (t : StringLiteral). AreBytes t.bytes) ts
 -- the tree of a text of bytes, which are fewer than 4294967295
 pub record ReadTree (p : TranslationUnit) : Type 0 where
   pub order : InTextOrder p
-  pub functions : FunctionsRead AreReadAsserts p.funcs
+  pub functions : FunctionsRead AreReadAsserts AreReadLoopClauses p.funcs
   pub contracts : ContractsFormed IsShortReading p.funcs
   -- no two parts of its annotations stand at one place
   pub annotations_apart : AnnotationsApart p.funcs

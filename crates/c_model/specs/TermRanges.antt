@@ -254,11 +254,11 @@ abbrev mutual
   -- the guards of a quantifier at this place, and what stands behind them, where their binders are in sight
   pub ranged_guards : Seen → Place → Guards → (Seen → Checked Predicate) → Checked (Guards × Predicate)
   ranged_guards seen at NoGuard p = one_part (p seen) (λ p. Good (NoGuard, p))
-  ranged_guards seen at (Guarded a bs below b rest) p =
+  ranged_guards seen at (Guarded a y ys below b rest) p =
       both_parts (ranged_term seen a) (ranged_term seen b) (λ a b.
-      where_so (are_bounded (range_of a).lo bs (lowered below (range_of b).hi)) (no_range at)
-      (one_part (ranged_guards (seen_binders (range_of a).lo bs (lowered below (range_of b).hi) seen) at rest p) (λ gp.
-      Good (Guarded a bs below b gp.0, gp.1))))
+      where_so (are_bounded (range_of a).lo (y ∷ ys) (lowered below (range_of b).hi)) (no_range at)
+      (one_part (ranged_guards (seen_binders (range_of a).lo (y ∷ ys) (lowered below (range_of b).hi) seen) at rest p) (λ gp.
+      Good (Guarded a y ys below b gp.0, gp.1))))
 
 -- a clause that is typed is a predicate, or the value of a variant; these names are in sight
 abbrev pub ranged_clause : Seen → ClauseBody → Checked ClauseBody
@@ -320,6 +320,6 @@ abbrev mutual
   -- the guards, and what stands behind them
   pub GuardsRanged : Seen → Guards → (Seen → Type 0) → Type 0
   GuardsRanged seen NoGuard p = p seen
-  GuardsRanged seen (Guarded a bs below b rest) p =
-      TermRanged seen a × TermRanged seen b × (are_bounded (range_of a).lo bs (lowered below (range_of b).hi) ≡ true)
-      × GuardsRanged (seen_binders (range_of a).lo bs (lowered below (range_of b).hi) seen) rest p
+  GuardsRanged seen (Guarded a y ys below b rest) p =
+      TermRanged seen a × TermRanged seen b × (are_bounded (range_of a).lo (y ∷ ys) (lowered below (range_of b).hi) ≡ true)
+      × GuardsRanged (seen_binders (range_of a).lo (y ∷ ys) (lowered below (range_of b).hi) seen) rest p

@@ -15,7 +15,7 @@ use Rattle.c_model.specs.TypedReadings.{DeclarationTypedAs, StatementTypedAs, Fu
 use Rattle.c_model.specs.TypedAnnotations.{FunctionsNoted}
 use Rattle.c_model.specs.PlacedTrees.{IsOffset, StatementAtOffsets, FunctionAtOffsets, FileAtOffsets}
 use Rattle.c_model.specs.TypedFiles.{UnitStands}
-use Rattle.c_model.specs.Formed.{AreReadAsserts}
+use Rattle.c_model.specs.Formed.{AreReadAsserts, AreReadLoopClauses}
 use Rattle.c_model.specs.ReadTree.{FunctionsRead, functions_among}
 
 -- a type that has a size where its structs have one
@@ -49,5 +49,5 @@ pub record TextTypingLaws : Type 0 where
   pub function_is_read : (p : TranslationUnit) (s : Sight) (before : List Function) (f g : Function) → typed_function p s before f ≡ Good g
       → FunctionTypedAs f g
   pub file_is_known : (p q : TranslationUnit) → FileAtOffsets (items_of_file p) → typed_unit p ≡ Good q → UnitStands p q
-  pub asserts_are_known : (p q : TranslationUnit) → FunctionsRead AreReadAsserts (functions_among (items_of_file p)) → noted_unit p ≡ Good q
+  pub asserts_are_known : (p q : TranslationUnit) → FunctionsRead AreReadAsserts AreReadLoopClauses (functions_among (items_of_file p)) → noted_unit p ≡ Good q
       → FunctionsNoted p (sight_with p p.structs) (items_of_file p) q.funcs

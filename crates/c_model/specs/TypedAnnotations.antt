@@ -3,11 +3,12 @@ use Rattle.std.specs.Prelude.{◌≡◌, ℕ, true, List, [], ◌∷◌, Option,
 use Rattle.std.specs.List.{AllByRecursion}
 use Rattle.c_syntax.specs.declared.place.Place.{Place}
 use Rattle.c_syntax.specs.declared.annotation.Kind.{Kind}
+use Rattle.c_syntax.specs.declared.annotation.Kind.TheVariants.{Variant}
 use Rattle.c_syntax.specs.Statements.{Statement, Empty, Eval, Block, If, While, Do, For, Break, Continue, Return, Labelled, ElsePart, NoElse, Else, Switch}
 use Rattle.c_syntax.specs.Statements.{Cases, NoCase, AnotherCase}
 use Rattle.c_syntax.specs.Statements.{BlockItem, Declare, Specify, Run, Asserts, BlockItems, NoItem, Then}
 use Rattle.c_syntax.specs.Statements.{Declaration}
-use Rattle.c_syntax.specs.Logic.{Annotation}
+use Rattle.c_syntax.specs.Logic.{ClauseBody, Holds, Value, Annotation}
 use Rattle.c_syntax.specs.Programs.{NamedBehavior, FunctionContract, Function, TranslationUnit}
 use Rattle.c_model.specs.Checked.{Good}
 use Rattle.c_model.specs.ExpressionTyping.{Object, AnObject, Sight, entity_named, inner, is_among}
@@ -27,7 +28,7 @@ abbrev mutual
   StatementNoted s (If at e a b) = StatementNoted s a × ElseNoted s b
   StatementNoted s (While at annots e a) = AnnotationsTyped s annots × StatementNoted s a
   StatementNoted s (Do at a e) = StatementNoted s a
-  StatementNoted s (For at annots first e step a) = AnnotationsTyped s annots × StatementNoted (inside_for s first) a
+  StatementNoted s (For at annots first e step a) = AnnotationsTyped (inside_for s first) annots × StatementNoted (inside_for s first) a
   StatementNoted s (Break at) = Unit {0}
   StatementNoted s (Continue at) = Unit {0}
   StatementNoted s (Return at e) = Unit {0}
@@ -58,10 +59,17 @@ BodyNoted s _ = Unit {0}
 
 -- ---- contracts
 
+-- what a clause of a kind is: a variant is a term, and all others are predicates
+abbrev pub IsSaidBy : Kind → ClauseBody → Type 0
+IsSaidBy Variant (Value t) = Unit {0}
+IsSaidBy Variant _ = ⊥
+IsSaidBy k (Holds p) = Unit {0}
+IsSaidBy k _ = ⊥
+
 -- clauses that are typed, each with what its kind may name
 abbrev pub ClausesTyped : (Kind → AnnotationSight) → List Annotation → Type 0
 ClausesTyped seen [] = Unit {0}
-ClausesTyped seen (a ∷ rest) = ClauseTyped (seen a.kind) a.body × ClausesTyped seen rest
+ClausesTyped seen (a ∷ rest) = ClauseTyped (seen a.kind) a.body × IsSaidBy a.kind a.body × ClausesTyped seen rest
 
 abbrev pub BehaviorsTyped : (Kind → AnnotationSight) → List NamedBehavior → Type 0
 BehaviorsTyped seen [] = Unit {0}

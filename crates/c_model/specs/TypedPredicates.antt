@@ -8,13 +8,16 @@ use Rattle.c_syntax.specs.declared.expression.UnOp.TheVariants as unary
 use Rattle.c_syntax.specs.Ctypes.{PlainType, Void, Ptr, Struct}
 use Rattle.c_syntax.specs.Formulas.{CastType, Integers, OfC}
 use Rattle.c_syntax.specs.Logic.{LogicTerm, Number, Letter, Variable, Unary, Binary, Cast, Choice, Named, Links, NoLink, Linked, Predicate, Truth, NonZero}
-use Rattle.c_syntax.specs.Logic.{Chain, Not, Connected, Branch, Quantified, ClauseBody, Raw, Holds, Value, Annotation, At}
+use Rattle.c_syntax.specs.Logic.{Binder, Guards, NoGuard, Guarded, Chain, Not, Connected, Branch, Quantified, ClauseBody, Raw, Holds, Value, Annotation, At}
 use Rattle.c_syntax.specs.Logic.{Behaviors, Null, Deref, Member, Address, Moved, Difference, Told, Asks, Separated, Zone, Object, Elements, Zones, NoZone}
 use Rattle.c_syntax.specs.Logic.{Another}
 use Rattle.c_model.specs.Checked.{Good}
 use Rattle.c_model.specs.ContractChecks.{result_number}
 use Rattle.c_model.specs.ExpressionTyping.{Sight, most_bytes, is_void}
-use Rattle.c_model.specs.AnnotationSights.{ClauseSight, AtEnd, AnnotationSight, sight_at}
+use Rattle.c_syntax.specs.declared.place.Place.{Place}
+use Rattle.c_model.specs.AnnotationSights.{ClauseSight, AtEnd, AnnotationSight, sight_at, with_binders}
+use Rattle.c_model.specs.QuietPredicates.{IsQuiet}
+use Rattle.c_model.specs.Formed.{IsApart, FormNumbered}
 use Rattle.c_model.specs.PredicateTyping.{ValueSort, AnInteger, APointer, sort_of_term, type_of_term, told_type, typed_annotations}
 use Rattle.c_model.specs.TypedTrees.{IsInteger, Denotes}
 
@@ -98,6 +101,26 @@ abbrev pub IsResult : ClauseSight → Option PlainType → Use → Type 0
 IsResult (AtEnd formals u) t x = (x.decl ≡ result_number) × (t ≡ Some u) × (is_void u ≡ false)
 IsResult _ t x = ⊥
 
+-- ---- binders (ACSL 2.2)
+
+-- one of these has the number
+abbrev pub IsBound : List (Place × ℕ) → ℕ → Type 0
+IsBound [] n = ⊥
+IsBound (b ∷ bs) n = (n ≡ b.0.offset) ⊎ IsBound bs n
+
+-- a binder in sight, which is an integer
+abbrev pub IsBinder : List (Place × ℕ) → Option PlainType → Use → Type 0
+IsBinder bs t x = (t ≡ None) × IsBound bs x.decl
+
+-- binders of the chain of a guard, as they are in sight: at the same places, none with the number of `\result`, with types of integers
+abbrev pub AreBinders : List Binder → List (Place × ℕ) → Type 0
+AreBinders [] [] = Unit {0}
+AreBinders [] (b ∷ bs) = ⊥
+AreBinders (y ∷ ys) [] = ⊥
+AreBinders (y ∷ ys) (b ∷ bs) = (y.place ≡ b.0) × IsApart y.place × IsCastType y.kind × AreBinders ys bs
+
+-- ---- terms and predicates
+
 abbrev mutual
   pub TermTyped : AnnotationSight → LogicTerm → Type 0
   TermTyped s (Number at t r n) = t ≡ None
@@ -106,8 +129,8 @@ abbrev mutual
   TermTyped s (Unary at t r op a) = (t ≡ None) × IsOnInteger op × IsIntegerTerm a × TermTyped s a
   TermTyped s (Binary at t r op a b) = (t ≡ None) × IsIntegerTerm a × IsIntegerTerm b × TermTyped s a × TermTyped s b
   TermTyped s (Cast at t r to a) = IsCast t to (sort_of_term a) × TermTyped s a
-  TermTyped s (Choice at t r c a b) = IsChoice t (sort_of_term a) (sort_of_term b) × PredicateTyped s c × TermTyped s a × TermTyped s b
-  TermTyped s (Named at t r x) = IsResult s.clause t x
+  TermTyped s (Choice at t r c a b) = IsChoice t (sort_of_term a) (sort_of_term b) × IsQuiet c × PredicateTyped s c × TermTyped s a × TermTyped s b
+  TermTyped s (Named at t r x) = IsResult s.clause t x ⊎ IsBinder s.binders t x
   TermTyped s (At at t r l a) = (u : AnnotationSight) × (sight_at s l ≡ Some u) × (t ≡ type_of_term a) × TermTyped u a
   TermTyped s (Null at t r) = t ≡ Some (Ptr Void)
   TermTyped s (Deref at t r a) = (u : PlainType) × (t ≡ Some u) × PointsTo u a × TermTyped s a
@@ -138,15 +161,22 @@ abbrev mutual
   PredicateTyped s (Not at p) = PredicateTyped s p
   PredicateTyped s (Connected at c p q) = PredicateTyped s p × PredicateTyped s q
   PredicateTyped s (Branch at c p q) = PredicateTyped s c × PredicateTyped s p × PredicateTyped s q
-  PredicateTyped s (Quantified at q gs p) = ⊥
+  PredicateTyped s (Quantified at q gs p) = GuardsTyped s gs (λ u. PredicateTyped u p)
   PredicateTyped s (Asks at f z) = ZoneTyped s z
   PredicateTyped s (Separated at zs) = ZonesTyped s zs
+
+  -- the bounds of a chain see the binders of the chains before it, and what stands behind the guard sees all of them
+  pub GuardsTyped : AnnotationSight → Guards → (AnnotationSight → Type 0) → Type 0
+  GuardsTyped s NoGuard P = P s
+  GuardsTyped s (Guarded a y ys below b rest) P =
+      IsIntegerTerm a × IsIntegerTerm b × TermTyped s a × TermTyped s b
+      × (bs : List (Place × ℕ)) × AreBinders (y ∷ ys) bs × GuardsTyped (with_binders s bs) rest P
 
 -- a clause that is read isn't typed yet
 abbrev pub ClauseTyped : AnnotationSight → ClauseBody → Type 0
 ClauseTyped s (Raw f) = ⊥
 ClauseTyped s (Holds p) = PredicateTyped s p
-ClauseTyped s (Value t) = ⊥
+ClauseTyped s (Value t) = IsIntegerTerm t × TermTyped s t
 ClauseTyped s (Behaviors names) = ⊥
 
 abbrev pub AnnotationsTyped : AnnotationSight → List Annotation → Type 0
@@ -157,7 +187,7 @@ AnnotationsTyped s (a ∷ rest) = ClauseTyped s a.body × AnnotationsTyped s res
 
 -- clauses as they are read
 abbrev pub IsRead : ClauseBody → Type 0
-IsRead (Raw f) = Unit {0}
+IsRead (Raw f) = FormNumbered f
 IsRead (Holds p) = ⊥
 IsRead (Value t) = ⊥
 IsRead (Behaviors names) = ⊥

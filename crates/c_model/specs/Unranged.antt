@@ -61,7 +61,7 @@ abbrev mutual
 
   pub unranged_guards : Guards → Guards
   unranged_guards NoGuard = NoGuard
-  unranged_guards (Guarded a bs below b rest) = Guarded (unranged_term a) bs below (unranged_term b) (unranged_guards rest)
+  unranged_guards (Guarded a y ys below b rest) = Guarded (unranged_term a) y ys below (unranged_term b) (unranged_guards rest)
 
 abbrev pub unranged_clause : ClauseBody → ClauseBody
 unranged_clause (Raw f) = Raw f

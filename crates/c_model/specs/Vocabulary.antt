@@ -4,6 +4,7 @@ use Rattle.c_syntax.specs.declared.types.CInt.{CInt}
 use Rattle.c_syntax.specs.declared.types.CInt.TheVariants.{I8, U8, I16, U16, I32, U32, I64, U64}
 use Rattle.c_syntax.specs.declared.logic.BlockFact.TheVariants.{BaseAddr, BlockLength, Offset}
 use Rattle.c_syntax.specs.declared.logic.MemoryQuestion.TheVariants.{Valid, ValidRead, Initialized}
+use Rattle.c_syntax.specs.declared.logic.Quantifier.TheVariants.{ForAll, Exists}
 use Rattle.c_model.specs.declared.vocabulary.Keyword.{Keyword}
 use Rattle.c_model.specs.declared.vocabulary.Keyword.TheVariants.{Char, Short, Int, Long, Signed, Unsigned, Void, Const, Static, If, Else, While, Do, For}
 use Rattle.c_model.specs.declared.vocabulary.Keyword.TheVariants.{Break, Continue, Return, Sizeof, Struct, Enum, Typedef, Switch, Case, Default, Kept}
@@ -49,7 +50,8 @@ other_words =
     ∷ (codes "integer", word.Integer) ∷ (codes "requires", word.Clause clause.Requires) ∷ (codes "assumes", word.Clause clause.Assumes)
     ∷ (codes "ensures", word.Clause clause.Ensures) ∷ (codes "behavior", word.Clause clause.Behavior)
     ∷ (codes "complete", word.Clause clause.Complete) ∷ (codes "disjoint", word.Clause clause.Disjoint)
-    ∷ (codes "behaviors", word.Clause clause.Behaviors) ∷ []
+    ∷ (codes "behaviors", word.Clause clause.Behaviors) ∷ (codes "assigns", word.Clause clause.Assigns) ∷ (codes "loop", word.Clause clause.Loop)
+    ∷ (codes "invariant", word.Clause clause.Invariant) ∷ (codes "variant", word.Clause clause.Variant) ∷ []
 
 -- the words that begin with `\`, by what stands after it (ACSL 2.2)
 abbrev pub logic_words : List (List ℕ × LogicWord)
@@ -57,7 +59,8 @@ logic_words =
     (codes "true", logic.Truth true) ∷ (codes "false", logic.Truth false) ∷ (codes "null", logic.Null) ∷ (codes "base_addr", logic.Told BaseAddr)
     ∷ (codes "block_length", logic.Told BlockLength) ∷ (codes "offset", logic.Told Offset) ∷ (codes "valid", logic.Asks Valid)
     ∷ (codes "valid_read", logic.Asks ValidRead) ∷ (codes "initialized", logic.Asks Initialized) ∷ (codes "separated", logic.Separated)
-    ∷ (codes "result", logic.Result) ∷ (codes "old", logic.Old) ∷ (codes "at", logic.At) ∷ []
+    ∷ (codes "result", logic.Result) ∷ (codes "old", logic.Old) ∷ (codes "at", logic.At) ∷ (codes "forall", logic.Quantifier ForAll)
+    ∷ (codes "exists", logic.Quantifier Exists) ∷ []
 
 -- a word that begins with `\` stands in annotations alone
 abbrev pub name_or_logic : List ℕ → Word

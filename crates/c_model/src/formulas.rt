@@ -45,4 +45,6 @@ pub enum ClauseGroup {
     Contract,
     /// In a behavior.
     Behavior,
+    /// Behind `loop`, in an annotation of a loop.
+    Loop,
 }

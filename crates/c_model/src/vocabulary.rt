@@ -1,7 +1,7 @@
 //! The words of C (C99 6.4.1), and those that name an integer type (C99 6.7.2).
 
 use c_syntax::CInt;
-use c_syntax::logic::{BlockFact, MemoryQuestion};
+use c_syntax::logic::{BlockFact, MemoryQuestion, Quantifier};
 
 /// A keyword (C99 6.4.1).
 #[derive(Clone, Copy, PartialEq, Eq, Debug)]
@@ -58,6 +58,12 @@ pub enum ClauseWord {
     Disjoint,
     /// `behaviors`, behind `complete` and `disjoint`.
     Behaviors,
+    /// `assigns`, before what is passed over.
+    Assigns,
+    /// `loop`, before the word of a clause of a loop.
+    Loop,
+    Invariant,
+    Variant,
 }
 
 /// A word that begins with `\` (ACSL 2.2).
@@ -79,6 +85,8 @@ pub enum LogicWord {
     Old,
     /// `\at`
     At,
+    /// `\forall` or `\exists`.
+    Quantifier(Quantifier),
     /// A word that no production has.
     Kept,
 }

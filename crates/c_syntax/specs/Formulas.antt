@@ -1,5 +1,5 @@
 -- The plain form of what is read of annotations (ACSL 2.2, 2.3, 2.4.3), before typing tells terms from predicates: without boxes.
-use Rattle.std.specs.Prelude.{ℕ, ℤ, Bool}
+use Rattle.std.specs.Prelude.{ℕ, ℤ, Bool, List}
 use Rattle.c_syntax.specs.declared.place.Place.{Place}
 use Rattle.c_syntax.specs.declared.expression.Use.{Use}
 use Rattle.c_syntax.specs.declared.expression.BinOp.{BinOp}
@@ -19,6 +19,7 @@ use Rattle.c_syntax.specs.declared.logic.FormulaZones as zones
 use Rattle.c_syntax.specs.declared.logic.LogicType.{LogicType}
 use Rattle.c_syntax.specs.declared.logic.LogicType.TheVariants as logic_type
 use Rattle.c_syntax.specs.declared.logic.MemoryQuestion.{MemoryQuestion}
+use Rattle.c_syntax.specs.declared.logic.Quantifier.{Quantifier}
 use Rattle.c_syntax.specs.Ctypes.{PlainType, plain_type}
 
 -- the type that a cast names
@@ -55,6 +56,8 @@ mutual
     Old : Place → Form → Form
     -- a form at a label, with the place and the number of its name
     At : Place → Form → Place → ℕ → Form
+    -- the type and the names of the binders, each with its place and its name's number, and what is said of them
+    Quantified : Place → Quantifier → CastType → List (Place × ℕ) → Form → Form
 
   -- the relations of a chain, each with its place and the form after it
   pub data FormLinks : Type 0 where
@@ -93,6 +96,7 @@ abbrev mutual
   plain_form_kind at code.Result = Result at
   plain_form_kind at (code.Old' pa p a) = Old at (plain_form_kind pa a)
   plain_form_kind at (code.At' pa p a pl l) = At at (plain_form_kind pa a) pl l
+  plain_form_kind at (code.Quantified' q to names pa p a) = Quantified at q (plain_cast_type to) names.items (plain_form_kind pa a)
 
   pub plain_form_links : FormulaLinks → FormLinks
   plain_form_links links.End = NoLink

@@ -1,5 +1,5 @@
 -- The plain form of annotations (ACSL 2.2, 2.3): their variants, numbers, places and parts, without boxes.
-use Rattle.std.specs.Prelude.{ℕ, ℤ, Bool, Option, option_map, List}
+use Rattle.std.specs.Prelude.{ℕ, ℤ, Bool, Option, option_map, List, map}
 use Rattle.c_syntax.specs.declared.place.Place.{Place}
 use Rattle.c_syntax.specs.declared.expression.Use.{Use}
 use Rattle.c_syntax.specs.declared.expression.BinOp.{BinOp}
@@ -12,6 +12,8 @@ use Rattle.c_syntax.specs.declared.logic.Body.{Body}
 use Rattle.c_syntax.specs.declared.logic.Body.TheVariants as body
 use Rattle.c_syntax.specs.declared.logic.Connective.{Connective}
 use Rattle.c_syntax.specs.declared.logic.BlockFact.{BlockFact}
+use Rattle.c_syntax.specs.declared.logic.Binder.{Binder as CodeBinder}
+use Rattle.c_syntax.specs.declared.logic.Guards as code_guards
 use Rattle.c_syntax.specs.declared.logic.Label.{Label}
 use Rattle.c_syntax.specs.declared.logic.Links as code_links
 use Rattle.c_syntax.specs.declared.logic.Quantifier.{Quantifier}
@@ -29,7 +31,7 @@ use Rattle.c_syntax.specs.declared.logic.TermKind as term
 use Rattle.c_syntax.specs.Ctypes.{PlainType, plain_type}
 use Rattle.c_syntax.specs.Formulas.{CastType, plain_cast_type, Form, plain_form}
 
--- a binder with its place, whose offset is its number, the type whose values it tries, and whether it stands behind a `<`
+-- a binder with its place, whose offset is its number, the type whose values it tries, and whether it stands after a `<`
 pub record Binder : Type 0 where
   pub place : Place
   pub kind : CastType
@@ -75,10 +77,10 @@ mutual
     Asks : Place → MemoryQuestion → Zone → Predicate
     Separated : Place → Zones → Predicate
 
-  -- the chains of a guard: a lower bound, binders, whether `<` stands before the upper bound, and that
+  -- the chains of a guard: a lower bound, its first binder and the others, whether `<` stands before the upper bound, and that
   pub data Guards : Type 0 where
     NoGuard : Guards
-    Guarded : LogicTerm → List Binder → Bool → LogicTerm → Guards → Guards
+    Guarded : LogicTerm → Binder → List Binder → Bool → LogicTerm → Guards → Guards
 
   -- bytes, each with its place, and with the size and the alignment of what its pointer points to
   pub data Zone : Type 0 where
@@ -122,6 +124,9 @@ range_of (Moved at t r op n a b) = r
 range_of (Difference at t r n a b) = r
 range_of (Told at t r f a) = r
 
+abbrev pub plain_binder : CodeBinder → Binder
+plain_binder x = record { place = x.place; kind = plain_cast_type x.kind; above = x.above }
+
 abbrev mutual
   pub plain_term_kind : Place → TermKind → Option PlainType → Range → LogicTerm
   plain_term_kind at (term.Number n) t r = Number at t r n
@@ -156,8 +161,14 @@ abbrev mutual
   plain_pred_kind at (pred.Not' pa p a) = Not at (plain_pred_kind pa a)
   plain_pred_kind at (pred.Connected' c pa p a pb q b) = Connected at c (plain_pred_kind pa a) (plain_pred_kind pb b)
   plain_pred_kind at (pred.Choice' pc o c pa p a pb q b) = Branch at (plain_pred_kind pc c) (plain_pred_kind pa a) (plain_pred_kind pb b)
+  plain_pred_kind at (pred.Quantified' q gs pa p a) = Quantified at q (plain_guards gs) (plain_pred_kind pa a)
   plain_pred_kind at (pred.Asks' f pz n m p z) = Asks at f (plain_zone_kind pz n m z)
   plain_pred_kind at (pred.Separated zs) = Separated at (plain_zones zs)
+
+  pub plain_guards : code_guards.Guards → Guards
+  plain_guards code_guards.End = NoGuard
+  plain_guards (code_guards.More' pa p a ta ra x xs below pb q b tb rb r rest) = Guarded (plain_term_kind pa a (option_map plain_type ta) ra)
+      (plain_binder x) (map plain_binder xs.items) below (plain_term_kind pb b (option_map plain_type tb) rb) (plain_guards rest)
 
   pub plain_zone_kind : Place → ℕ → ℕ → ZoneKind → Zone
   plain_zone_kind at n m (zone.Object' pa p a ta ra) = Object at n m (plain_term_kind pa a (option_map plain_type ta) ra)
@@ -177,6 +188,7 @@ plain_pred p = plain_pred_kind p.place p.kind.value
 abbrev pub plain_body : Body → ClauseBody
 plain_body (body.Raw f) = Raw (plain_form f)
 plain_body (body.Truth p) = Holds (plain_pred p)
+plain_body (body.Value t) = Value (plain_term t)
 plain_body (body.Names names) = Behaviors names.items
 
 abbrev pub plain_annot : Annot → Annotation

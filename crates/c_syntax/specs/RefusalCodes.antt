@@ -29,6 +29,10 @@ type_code = 6
 abbrev pub misplaced_code : ℕ
 misplaced_code = 7
 
+-- a quantifier without a guard
+abbrev pub guard_code : ℕ
+guard_code = 8
+
 -- a label that isn't known, or what may not stand under one
 abbrev pub label_code : ℕ
 label_code = 9

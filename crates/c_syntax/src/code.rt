@@ -21,6 +21,9 @@ pub const TYPE: u8 = 6;
 /// An annotation where none of its kind may stand.
 pub const MISPLACED: u8 = 7;
 
+/// A quantifier without a guard.
+pub const GUARD: u8 = 8;
+
 /// A label that isn't known, or what may not stand under one.
 pub const LABEL: u8 = 9;
 

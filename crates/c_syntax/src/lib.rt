@@ -22,9 +22,9 @@ pub use annotation::{Kind, Range, Relation};
 pub use expression::{BinOp, BumpOp, Expr, ExprKind, UnOp, Use};
 pub use fault::{Limit, ReadFault};
 pub use logic::{
-    Annot, BlockFact, Body, Connective, Formula, FormulaKind, FormulaLinks, FormulaZone,
-    FormulaZones, Label, Links, LogicType, MemoryQuestion, PointerOp, Pred, PredKind, Quantifier,
-    Term, TermKind, Zone, ZoneKind, Zones,
+    Annot, Binder, BlockFact, Body, Connective, Formula, FormulaKind, FormulaLinks, FormulaZone,
+    FormulaZones, Guard, Guards, Label, Links, LogicType, MemoryQuestion, PointerOp, Pred,
+    PredKind, Quantifier, Term, TermKind, Zone, ZoneKind, Zones,
 };
 pub use name::Name;
 pub use place::Place;

@@ -131,6 +131,8 @@ pub enum FormulaKind {
     Old(Formula),
     /// `\at (form, label)`, with the place and the number of the label's name.
     At(Formula, Place, u32),
+    /// A quantifier, with the type and the names of its binders, each with its place and its name's number.
+    Quantified(Quantifier, LogicType, Vec<(Place, u32)>, Formula),
 }
 
 /// Bytes that a predicate is about, as they are read.
@@ -234,10 +236,42 @@ pub enum PredKind {
     Connected(Connective, Pred, Pred),
     /// `condition ? first : second`
     Choice(Pred, Pred, Pred),
+    /// A quantifier, with the chains of its guard and what stands within them.
+    Quantified(Quantifier, Guards, Pred),
     /// `\valid`, `\valid_read` or `\initialized`.
     Asks(MemoryQuestion, Zone),
     /// `\separated`, of zones of which no two share a byte.
     Separated(Zones),
+}
+
+/// A binder of a quantifier, at its name. Its number is the offset of its place.
+#[derive(Drop)]
+pub struct Binder {
+    pub place: Place,
+    /// The type whose values it tries.
+    pub kind: LogicType,
+    /// Whether it stands after a `<`, and not after a `<=`.
+    pub above: bool,
+}
+
+/// A chain of a guard: `lower <= first <= other <= upper`, with one binder or more between its bounds.
+#[derive(Drop)]
+#[cycle(logic)]
+pub struct Guard {
+    pub lower: Term,
+    pub first: Binder,
+    pub others: Vec<Binder>,
+    /// Whether `<` stands before its upper bound, and not `<=`.
+    pub below: bool,
+    pub upper: Term,
+}
+
+/// The chains of a guard in their order.
+#[derive(Drop)]
+#[cycle(logic)]
+pub enum Guards {
+    End,
+    More(Guard, Box<Guards>),
 }
 
 /// Bytes that a predicate is about. Its place is that of its pointer, or of the `+` before a range.
@@ -275,6 +309,8 @@ pub enum Body {
     Raw(Formula),
     /// A predicate, by typing.
     Truth(Pred),
+    /// The value of a variant, by typing.
+    Value(Term),
     /// The behaviors that `complete` and `disjoint` name, each at its place; none are all of them.
     Names(Vec<(Place, u32)>),
 }

@@ -227,17 +227,30 @@ module _ {T : Type 0} {K : T → ℕ} where
         empty = λ t u. absurd cc;
       }) g h
 
+  -- the same after a token
+  pub after_to : {A B : Type 0} {n : ℕ} {G G' : Syntax T A} {H H' : A → Syntax T B} {f1 m1 f2 : List ℕ} {more : B → List ℕ} → IsGood K (suc n) G G' false f1 (λ _. m1) → ((x : A) → IsGood K n (H x) (H' x) false f2 more) → apart f2 m1 ≡ true
+      → IsGood K (suc n) (G then H) (G' then H') false f1 more
+  after_to {A} {B} {n} {G} {G'} {H} {H'} {f1} {m1} {f2} {more} g h e =
+      after_good K n G G' H H' f1 (λ _. m1) false (λ _. f2) (λ _ y. more y) f1 more (λ _ _. Unit {0}) (λ _ _ _. tt) (λ _ _ _. tt) (record {
+        clash = λ x. e;
+        late = λ x y. within_self (more y);
+        over = λ x y t _. absurd cc;
+        begin = within_self f1;
+        next = λ x t. absurd cc;
+        empty = λ t u. absurd cc;
+      }) g h
+
   -- a value made of what was read
-  pub made : {A B : Type 0} {n : ℕ} {G G' : Syntax T A} {f1 : List ℕ} {m1 : A → List ℕ} {more : B → List ℕ} (f : A → B) → IsGood K n G G' false f1 m1 → ((x : A) → within (m1 x) (more (f x)) ≡ true)
-      → IsGood K n (G then λ x. gives (f x)) (G' then λ x. gives (f x)) false f1 more
-  made {A} {B} {n} {G} {G'} {f1} {m1} {more} f g e =
-      then_good K n G G' (λ x. gives (f x)) (λ x. gives (f x)) false f1 m1 true (λ _. []) (λ _ _. []) false f1 more (λ x y. f x ≡ y) (λ x y r. r.1) (λ x y r. r.1) (record {
+  pub made : {A B : Type 0} {n : ℕ} {G G' : Syntax T A} {null : Bool} {f1 : List ℕ} {m1 : A → List ℕ} {more : B → List ℕ} (f : A → B) → IsGood K n G G' null f1 m1 → ((x : A) → within (m1 x) (more (f x)) ≡ true)
+      → IsGood K n (G then λ x. gives (f x)) (G' then λ x. gives (f x)) null f1 more
+  made {A} {B} {n} {G} {G'} {null} {f1} {m1} {more} f g e =
+      then_good K n G G' (λ x. gives (f x)) (λ x. gives (f x)) null f1 m1 true (λ _. []) (λ _ _. []) null f1 more (λ x y. f x ≡ y) (λ x y r. r.1) (λ x y r. r.1) (record {
         clash = λ x. refl;
         late = λ x y. refl;
         over = λ x y t same. rw (← same) (e x);
         begin = within_self f1;
         next = λ x t. refl;
-        empty = λ t u. absurd cc;
+        empty = λ t u. t;
       }) g (λ x. same_good K n (gives (f x)) true [] (λ _. []) (gives_exact K (f x)))
 
   -- alternatives of which none is empty
@@ -276,6 +289,19 @@ module _ {T : Type 0} {K : T → ℕ} where
         empty = λ t. refl;
       }) g (same_good K n (gives x) true [] (λ _. []) (gives_exact K x))
 
+  -- what follows may be empty, and then goes on with what the value before it can go on with
+  pub tail_so : {A B : Type 0} {n : ℕ} {G G' : Syntax T A} {H H' : A → Syntax T B} {f1 : List ℕ} {m1 : A → List ℕ} {f2 : A → List ℕ} {more : B → List ℕ} → IsGood K n G G' false f1 m1 → ((x : A) → IsGood K n (H x) (H' x) true (f2 x) more)
+      → ((x : A) (y : B) → (H x).reads [] y → within (m1 x) (more y) ≡ true) → ((x : A) (y : B) → (H' x).reads [] y → within (m1 x) (more y) ≡ true) → ((x : A) → apart (f2 x) (m1 x) ≡ true) → IsGood K n (G then H) (G' then H') false f1 more
+  tail_so {A} {B} {n} {G} {G'} {H} {H'} {f1} {m1} {f2} {more} g h ends ends' c =
+      then_good K n G G' H H' false f1 m1 true f2 (λ _. more) false f1 more (λ x y. within (m1 x) (more y) ≡ true) ends ends' (record {
+        clash = c;
+        late = λ x y. within_self (more y);
+        over = λ x y t so. so;
+        begin = within_self f1;
+        next = λ x t. absurd cc;
+        empty = λ t u. absurd cc;
+      }) g h
+
   -- what follows may be empty, and then gives f of the value before it
   pub tail_to : {A B : Type 0} {n : ℕ} {G G' : Syntax T A} {H H' : A → Syntax T B} {f1 : List ℕ} {m1 : A → List ℕ} {f2 : A → List ℕ} {more : B → List ℕ} (f : A → B) → IsGood K n G G' false f1 m1 → ((x : A) → IsGood K n (H x) (H' x) true (f2 x) more)
       → ((x : A) (y : B) → (H x).reads [] y → f x ≡ y) → ((x : A) (y : B) → (H' x).reads [] y → f x ≡ y) → ((x : A) → apart (f2 x) (m1 x) ≡ true) → ((x : A) → within (m1 x) (more (f x)) ≡ true) → IsGood K n (G then H) (G' then H') false f1 more
@@ -302,12 +328,13 @@ module _ {T : Type 0} {K : T → ℕ} where
         empty = λ t u. absurd cc;
       }) g h
 
-  -- a larger set of what can follow does no harm
-  pub widened : {A : Type 0} {n : ℕ} {G H : Syntax T A} {null : Bool} {first : List ℕ} {m more : A → List ℕ} → IsGood K n G H null first m → ((x : A) → within (m x) (more x) ≡ true) → IsGood K n G H null first more
-  widened {A} {n} {G} {H} {null} {first} {m} {more} g e =
+  -- larger sets do no harm, where what can follow depends on the value
+  pub enlarged_to : {A : Type 0} {n : ℕ} {G H : Syntax T A} {null : Bool} {f : List ℕ} {m : A → List ℕ} (first : List ℕ) (more : A → List ℕ) → IsGood K n G H null f m → within f first ≡ true → ((x : A) → within (m x) (more x) ≡ true)
+      → IsGood K n G H null first more
+  enlarged_to {A} {n} {G} {H} {null} {f} {m} first more g w e =
       record {
-        here = widen K G null first m null first more g.here (λ h. h) (within_self first) e;
-        there = widen K H null first m null first more g.there (λ h. h) (within_self first) e;
+        here = widen K G null f m null first more g.here (λ h. h) w e;
+        there = widen K H null f m null first more g.there (λ h. h) w e;
         reads = g.reads;
         begun = g.begun;
         late = g.late;
@@ -316,6 +343,9 @@ module _ {T : Type 0} {K : T → ℕ} where
         begun_back = g.begun_back;
         late_back = g.late_back;
       }
+
+  pub widened : {A : Type 0} {n : ℕ} {G H : Syntax T A} {null : Bool} {first : List ℕ} {m more : A → List ℕ} → IsGood K n G H null first m → ((x : A) → within (m x) (more x) ≡ true) → IsGood K n G H null first more
+  widened {A} {n} {G} {H} {null} {first} {m} {more} g e = enlarged_to first more g (within_self first) e
 
 -- What is exact for one kind of tokens is so for another that has the kinds of its sets.
 pub recast : {T A : Type 0} {K J : T → ℕ} {G : Syntax T A} {null : Bool} {first : List ℕ} {more : A → List ℕ} (first' : List ℕ) (more' : A → List ℕ) → ((t : T) → among (K t) first ≡ true → among (J t) first' ≡ true)

@@ -8,6 +8,7 @@ pub mod WorkedClauses
 -- the grammar
 mod WorkedAnnotationGrammar
 mod WorkedZoneForms
+mod WorkedLoopForms
 -- typing
 mod WorkedSight
 mod WorkedLiterals
@@ -32,6 +33,7 @@ mod WorkedAnnotationTyping
 mod WorkedAnnotationTypes
 mod WorkedPredicateTyping
 mod WorkedFormSorts
+mod WorkedGuards
 mod WorkedPointerTyping
 -- the meaning
 mod WorkedOperators
@@ -42,6 +44,7 @@ mod WorkedQuestions
 mod WorkedPlaces
 mod WorkedZones
 mod WorkedQuantifiers
+mod WorkedQuantifierTyping
 mod WorkedTermRanges
 mod WorkedOperatorRanges
 mod WorkedHeap

@@ -1,5 +1,5 @@
 -- Forms and asserts with what is read of them, by computation (ACSL 2.2, 2.4.1).
-use Rattle.std.proofs.Common.{◌≡◌, ℕ, suc, ◌+◌, true, List, [], ◌∷◌, ◌++◌, length, Ok, Err, None, refl}
+use Rattle.std.proofs.Common.{◌≡◌, ℕ, suc, ◌+◌, true, List, [], ◌∷◌, ◌++◌, length, Ok, Err, refl}
 use Rattle.grammar.specs.Syntax.{At}
 use Rattle.c_syntax.specs.declared.place.Place.{Place}
 use Rattle.c_syntax.specs.declared.types.CInt.TheVariants.{I32}
@@ -22,12 +22,12 @@ use Rattle.c_model.specs.Punctuators.{shift_left, less_equal, equal, not_equal, 
 use Rattle.c_model.specs.Punctuators.{bar, question, colon, semicolon, left_paren, right_paren, equivalent, implies, caret_caret}
 use Rattle.c_model.specs.ExpressionGrammar.{use_of, integer_words, integer_word, untagged_base, base, consts, type_words, star_words, brackets, type_name, closed}
 use Rattle.c_model.specs.AnnotationGrammar.{whole, zone, named_form, literal_form, sized_form, null_form, told_form, asked_form, next_zone, some_zones, separated_form, atom, worded, indexed, dotted, pointed, postfix_once, postfixes, worded_postfix}
-use Rattle.c_model.specs.AnnotationGrammar.{cast_behind, cast_to_type, cast_to_integer, closed_postfix, parenthesised, behind_parenthesis, prefixed, bare_prefix, prefix_of, prefix, joined_once, joined_more, joined, factor, added_rest}
+use Rattle.c_model.specs.AnnotationGrammar.{cast_behind, cast_to_type, cast_to_integer, closed_postfix, parenthesised, behind_parenthesis, prefixed, bare_prefix, prefix_of, prefix, joined_once, joined_more, joined, added_rest}
 use Rattle.c_model.specs.AnnotationGrammar.{ranged, behind_first}
 use Rattle.c_model.specs.AnnotationGrammar.{added_parenthesis, added, sum_once, sum_more, zone_sum, linked, links_of, links, chain_behind, chain_of, implied, implication_behind, implication_of, chosen_behind, choice_behind, implication}
 use Rattle.c_model.specs.AnnotationGrammar.{form_of, forms, form}
 use Rattle.c_model.specs.AnnotationGrammar.{result_form, old_form, labelled_form}
-use Rattle.c_model.specs.ClauseGrammar.{clause_with, form_clause, full_clause, next_clause, more_clauses, asserts, clauses, annotations}
+use Rattle.c_model.specs.ClauseGrammar.{Assertions, clause_with, form_clause, full_clause, next_clause, more_clauses, asserts, clauses, annotations}
 
 -- a place in a text of one line in which each token has one column
 abbrev at : ℕ → Place
@@ -109,7 +109,7 @@ operators_bind : AreRead (
     ∷ [])
 unfolding whole zone named_form literal_form sized_form null_form result_form old_form labelled_form told_form asked_form next_zone some_zones separated_form atom worded indexed dotted pointed postfix_once postfixes worded_postfix cast_behind
     cast_to_type cast_to_integer
-    closed_postfix parenthesised behind_parenthesis prefixed bare_prefix prefix_of prefix joined_once joined_more joined factor added_rest ranged behind_first added_parenthesis added sum_once sum_more zone_sum linked links_of links
+    closed_postfix parenthesised behind_parenthesis prefixed bare_prefix prefix_of prefix joined_once joined_more joined added_rest ranged behind_first added_parenthesis added sum_once sum_more zone_sum linked links_of links
     chain_behind chain_of implied implication_behind implication_of chosen_behind choice_behind implication form_of forms
 operators_bind = (refl, (refl, (refl, (refl, (refl, (refl, (refl, (refl, tt))))))))
 
@@ -124,7 +124,7 @@ connectives_bind : AreRead (
     ∷ [])
 unfolding whole zone named_form literal_form sized_form null_form result_form old_form labelled_form told_form asked_form next_zone some_zones separated_form atom worded indexed dotted pointed postfix_once postfixes worded_postfix cast_behind
     cast_to_type cast_to_integer
-    closed_postfix parenthesised behind_parenthesis prefixed bare_prefix prefix_of prefix joined_once joined_more joined factor added_rest ranged behind_first added_parenthesis added sum_once sum_more zone_sum linked links_of links
+    closed_postfix parenthesised behind_parenthesis prefixed bare_prefix prefix_of prefix joined_once joined_more joined added_rest ranged behind_first added_parenthesis added sum_once sum_more zone_sum linked links_of links
     chain_behind chain_of implied implication_behind implication_of chosen_behind choice_behind implication form_of forms
 connectives_bind = (refl, (refl, (refl, (refl, (refl, (refl, tt))))))
 
@@ -135,7 +135,7 @@ choices_bind : AreRead (
     ∷ [])
 unfolding whole zone named_form literal_form sized_form null_form result_form old_form labelled_form told_form asked_form next_zone some_zones separated_form atom worded indexed dotted pointed postfix_once postfixes worded_postfix cast_behind
     cast_to_type cast_to_integer
-    closed_postfix parenthesised behind_parenthesis prefixed bare_prefix prefix_of prefix joined_once joined_more joined factor added_rest ranged behind_first added_parenthesis added sum_once sum_more zone_sum linked links_of links
+    closed_postfix parenthesised behind_parenthesis prefixed bare_prefix prefix_of prefix joined_once joined_more joined added_rest ranged behind_first added_parenthesis added sum_once sum_more zone_sum linked links_of links
     chain_behind chain_of implied implication_behind implication_of chosen_behind choice_behind implication form_of forms
 choices_bind = (refl, (refl, tt))
 
@@ -150,7 +150,7 @@ chains_are_read : AreRead (
     ∷ [])
 unfolding whole zone named_form literal_form sized_form null_form result_form old_form labelled_form told_form asked_form next_zone some_zones separated_form atom worded indexed dotted pointed postfix_once postfixes worded_postfix cast_behind
     cast_to_type cast_to_integer
-    closed_postfix parenthesised behind_parenthesis prefixed bare_prefix prefix_of prefix joined_once joined_more joined factor added_rest ranged behind_first added_parenthesis added sum_once sum_more zone_sum linked links_of links
+    closed_postfix parenthesised behind_parenthesis prefixed bare_prefix prefix_of prefix joined_once joined_more joined added_rest ranged behind_first added_parenthesis added sum_once sum_more zone_sum linked links_of links
     chain_behind chain_of implied implication_behind implication_of chosen_behind choice_behind implication form_of forms closed
 chains_are_read = (refl, (refl, (refl, (refl, tt))))
 
@@ -163,7 +163,7 @@ chains_go_one_way : AreRefused (
     ∷ [])
 unfolding whole zone named_form literal_form sized_form null_form result_form old_form labelled_form told_form asked_form next_zone some_zones separated_form atom worded indexed dotted pointed postfix_once postfixes worded_postfix cast_behind
     cast_to_type cast_to_integer
-    closed_postfix parenthesised behind_parenthesis prefixed bare_prefix prefix_of prefix joined_once joined_more joined factor added_rest ranged behind_first added_parenthesis added sum_once sum_more zone_sum linked links_of links
+    closed_postfix parenthesised behind_parenthesis prefixed bare_prefix prefix_of prefix joined_once joined_more joined added_rest ranged behind_first added_parenthesis added sum_once sum_more zone_sum linked links_of links
     chain_behind chain_of implied implication_behind implication_of chosen_behind choice_behind implication form_of forms form_clause full_clause next_clause more_clauses asserts clauses annotations
 chains_go_one_way = (refl, (refl, (refl, (refl, tt))))
 
@@ -178,7 +178,7 @@ casts_and_words : AreRead (
     ∷ [])
 unfolding whole zone named_form literal_form sized_form null_form result_form old_form labelled_form told_form asked_form next_zone some_zones separated_form atom worded indexed dotted pointed postfix_once postfixes worded_postfix cast_behind
     cast_to_type cast_to_integer
-    closed_postfix parenthesised behind_parenthesis prefixed bare_prefix prefix_of prefix joined_once joined_more joined factor added_rest ranged behind_first added_parenthesis added sum_once sum_more zone_sum linked links_of links
+    closed_postfix parenthesised behind_parenthesis prefixed bare_prefix prefix_of prefix joined_once joined_more joined added_rest ranged behind_first added_parenthesis added sum_once sum_more zone_sum linked links_of links
     chain_behind chain_of implied implication_behind implication_of chosen_behind choice_behind implication form_of forms closed type_name type_words consts base untagged_base integer_words integer_word star_words brackets
 casts_and_words = (refl, (refl, (refl, (refl, tt))))
 
@@ -192,7 +192,7 @@ words_are_refused : AreRefused (
     ∷ [])
 unfolding whole zone named_form literal_form sized_form null_form result_form old_form labelled_form told_form asked_form next_zone some_zones separated_form atom worded indexed dotted pointed postfix_once postfixes worded_postfix cast_behind
     cast_to_type cast_to_integer
-    closed_postfix parenthesised behind_parenthesis prefixed bare_prefix prefix_of prefix joined_once joined_more joined factor added_rest ranged behind_first added_parenthesis added sum_once sum_more zone_sum linked links_of links
+    closed_postfix parenthesised behind_parenthesis prefixed bare_prefix prefix_of prefix joined_once joined_more joined added_rest ranged behind_first added_parenthesis added sum_once sum_more zone_sum linked links_of links
     chain_behind chain_of implied implication_behind implication_of chosen_behind choice_behind implication form_of forms closed form_clause full_clause next_clause more_clauses asserts clauses annotations
 words_are_refused = (refl, (refl, (refl, (refl, (refl, tt)))))
 
@@ -200,9 +200,9 @@ words_are_refused = (refl, (refl, (refl, (refl, (refl, tt)))))
 
 -- the asserts of an annotation take numbers one after another: assert a; assert b;
 two_asserts : (annotations words 3).parse (tokens_from 0 (token.AnnotOpen ∷ assert ∷ a ∷ token.Mark semicolon ∷ assert ∷ b ∷ token.Mark semicolon ∷ token.AnnotClose ∷ [])) ≡
-    Ok (((assertion 3 (at 1) (name 0 2) ∷ assertion 4 (at 4) (name 1 5) ∷ [], None), 5), [])
+    Ok ((Assertions (assertion 3 (at 1) (name 0 2) ∷ assertion 4 (at 4) (name 1 5) ∷ []), 5), [])
 unfolding whole zone named_form literal_form sized_form null_form result_form old_form labelled_form told_form asked_form next_zone some_zones separated_form atom worded indexed dotted pointed postfix_once postfixes worded_postfix cast_behind
     cast_to_type cast_to_integer
-    closed_postfix parenthesised behind_parenthesis prefixed bare_prefix prefix_of prefix joined_once joined_more joined factor added_rest ranged behind_first added_parenthesis added sum_once sum_more zone_sum linked links_of links
+    closed_postfix parenthesised behind_parenthesis prefixed bare_prefix prefix_of prefix joined_once joined_more joined added_rest ranged behind_first added_parenthesis added sum_once sum_more zone_sum linked links_of links
     chain_behind chain_of implied implication_behind implication_of chosen_behind choice_behind implication form_of forms form_clause full_clause next_clause more_clauses asserts clauses annotations
 two_asserts = refl

@@ -237,7 +237,7 @@ the_inner_call_ends_first = refl
 
 -- \forall integer i; 0 <= i < 3 ==> i < n
 abbrev up_to_three : Predicate
-up_to_three = Quantified (at 1 1) ForAll (Guarded (number 0) (record { place = at 1 500; kind = Integers; above = false } ∷ []) true (number 3) NoGuard)
+up_to_three = Quantified (at 1 1) ForAll (Guarded (number 0) (record { place = at 1 500; kind = Integers; above = false }) [] true (number 3) NoGuard)
     (is (Named (at 1 1) None no_range (record { name = 0; decl = 500 })) Lt n)
 
 abbrev tries_three : TranslationUnit

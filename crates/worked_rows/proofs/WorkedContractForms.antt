@@ -1,5 +1,5 @@
 -- Contracts, results and terms at labels with what is read of them, by computation (ACSL 2.3, 2.4.3).
-use Rattle.std.proofs.Common.{◌≡◌, ℕ, suc, ◌+◌, List, [], ◌∷◌, ◌++◌, length, Ok, Err, Some, refl}
+use Rattle.std.proofs.Common.{◌≡◌, ℕ, suc, ◌+◌, List, [], ◌∷◌, ◌++◌, length, Ok, Err, refl}
 use Rattle.grammar.specs.Syntax.{At}
 use Rattle.c_syntax.specs.declared.place.Place.{Place}
 use Rattle.c_syntax.specs.declared.annotation.Kind.{Kind}
@@ -21,11 +21,11 @@ use Rattle.c_model.specs.ExpressionGrammar.{use_of, closed}
 use Rattle.c_model.specs.AnnotationGrammar as annotation
 use Rattle.c_model.specs.AnnotationGrammar.{whole, zone, named_form, literal_form, sized_form, null_form, result_form, old_form, labelled_form, told_form, asked_form, next_zone, some_zones, separated_form, atom, worded, indexed, dotted, pointed}
 use Rattle.c_model.specs.AnnotationGrammar.{postfix_once}
-use Rattle.c_model.specs.AnnotationGrammar.{postfixes, worded_postfix, cast_behind, cast_to_type, cast_to_integer, closed_postfix, parenthesised, behind_parenthesis, prefixed, bare_prefix, prefix_of, prefix, joined_once, joined_more, joined, factor}
+use Rattle.c_model.specs.AnnotationGrammar.{postfixes, worded_postfix, cast_behind, cast_to_type, cast_to_integer, closed_postfix, parenthesised, behind_parenthesis, prefixed, bare_prefix, prefix_of, prefix, joined_once, joined_more, joined}
 use Rattle.c_model.specs.AnnotationGrammar.{added_rest, ranged, behind_first, added_parenthesis, added, sum_once, sum_more, zone_sum, linked, links_of, links, chain_behind, chain_of, implied, implication_behind, implication_of, chosen_behind}
 use Rattle.c_model.specs.AnnotationGrammar.{choice_behind}
-use Rattle.c_model.specs.AnnotationGrammar.{implication, form_of, forms}
-use Rattle.c_model.specs.ClauseGrammar.{clause_with, form_clause, full_clause, next_clause, more_clauses, asserts, behavior, next_behavior, more_behaviors, behavior_name, next_name, some_names, behavior_names, cover_clause, full_cover}
+use Rattle.c_model.specs.AnnotationGrammar.{implication, form_of, forms, placed_name, next_name, some_names}
+use Rattle.c_model.specs.ClauseGrammar.{Contracted, clause_with, form_clause, full_clause, next_clause, more_clauses, asserts, next_own, more_owns, placed_own, behavior, next_behavior, more_behaviors, behavior_names, cover_clause, full_cover}
 use Rattle.c_model.specs.ClauseGrammar.{next_cover, more_covers, behaviors_and_covers, own_first, behavior_first, cover_first, contract, clauses, annotations}
 
 -- a place in a text of one line in which each token has one column
@@ -130,7 +130,7 @@ results_and_labels : AreRead (
     ∷ (requires ∷ token.Mark equal ∷ behaviors ∷ [], Chain (at 1) (name 5 0) (Linked (at 1) Eq (name 11 2) NoLink))
     ∷ [])
 unfolding whole zone named_form literal_form sized_form null_form result_form old_form labelled_form told_form asked_form next_zone some_zones separated_form atom worded indexed dotted pointed postfix_once postfixes worded_postfix cast_behind
-    cast_to_type cast_to_integer closed_postfix parenthesised behind_parenthesis prefixed bare_prefix prefix_of prefix joined_once joined_more joined factor added_rest ranged behind_first added_parenthesis added sum_once sum_more zone_sum linked
+    cast_to_type cast_to_integer closed_postfix parenthesised behind_parenthesis prefixed bare_prefix prefix_of prefix joined_once joined_more joined added_rest ranged behind_first added_parenthesis added sum_once sum_more zone_sum linked
     links_of links chain_behind chain_of implied implication_behind implication_of chosen_behind choice_behind implication form_of forms closed
 results_and_labels = (refl, (refl, (refl, (refl, (refl, tt)))))
 
@@ -141,7 +141,7 @@ annotated ks = tokens_from 0 (token.AnnotOpen ∷ ks ++ token.AnnotClose ∷ [])
 
 abbrev AreContracts : List (List PlainTokenKind × FunctionContract × ℕ) → Type 0
 AreContracts [] = Unit {0}
-AreContracts (x ∷ xs) = ((annotations words 1).parse (annotated x.0) ≡ Ok ((([], Some x.1), x.2), [])) × AreContracts xs
+AreContracts (x ∷ xs) = ((annotations words 1).parse (annotated x.0) ≡ Ok ((Contracted x.1, x.2), [])) × AreContracts xs
 
 -- requires a; ensures b;   behavior a: assumes b; requires c; ensures d; complete behaviors a, b; disjoint behaviors;   requires a; behavior assumes: behavior b:
 -- complete behaviors;   and the first word as the name of a type
@@ -162,9 +162,10 @@ contracts_are_read : AreContracts (
     ∷ (requires_type ∷ a ∷ semi ∷ [], contract_of 1 (says 1 Requires 1 (name 0 2) ∷ []) [] [], 2)
     ∷ [])
 unfolding whole zone named_form literal_form sized_form null_form result_form old_form labelled_form told_form asked_form next_zone some_zones separated_form atom worded indexed dotted pointed postfix_once postfixes worded_postfix cast_behind
-    cast_to_type cast_to_integer closed_postfix parenthesised behind_parenthesis prefixed bare_prefix prefix_of prefix joined_once joined_more joined factor added_rest ranged behind_first added_parenthesis added sum_once sum_more zone_sum linked
-    links_of links chain_behind chain_of implied implication_behind implication_of chosen_behind choice_behind implication form_of forms closed form_clause full_clause next_clause more_clauses asserts behavior next_behavior more_behaviors
-    behavior_name next_name some_names behavior_names cover_clause full_cover next_cover more_covers behaviors_and_covers own_first behavior_first cover_first contract clauses annotations
+    cast_to_type cast_to_integer closed_postfix parenthesised behind_parenthesis prefixed bare_prefix prefix_of prefix joined_once joined_more joined added_rest ranged behind_first added_parenthesis added sum_once sum_more zone_sum linked
+    links_of links chain_behind chain_of implied implication_behind implication_of chosen_behind choice_behind implication form_of forms closed form_clause full_clause next_clause more_clauses asserts next_own more_owns placed_own behavior
+    next_behavior more_behaviors
+    placed_name next_name some_names behavior_names cover_clause full_cover next_cover more_covers behaviors_and_covers own_first behavior_first cover_first contract clauses annotations
 contracts_are_read = (refl, (refl, (refl, (refl, (refl, tt)))))
 
 -- so many tokens are left at the first that can't follow
@@ -190,7 +191,8 @@ contracts_are_refused : AreRefused (
     ∷ (ensures ∷ result ∷ left ∷ a ∷ right ∷ semi ∷ [], 5)
     ∷ [])
 unfolding whole zone named_form literal_form sized_form null_form result_form old_form labelled_form told_form asked_form next_zone some_zones separated_form atom worded indexed dotted pointed postfix_once postfixes worded_postfix cast_behind
-    cast_to_type cast_to_integer closed_postfix parenthesised behind_parenthesis prefixed bare_prefix prefix_of prefix joined_once joined_more joined factor added_rest ranged behind_first added_parenthesis added sum_once sum_more zone_sum linked
-    links_of links chain_behind chain_of implied implication_behind implication_of chosen_behind choice_behind implication form_of forms closed form_clause full_clause next_clause more_clauses asserts behavior next_behavior more_behaviors
-    behavior_name next_name some_names behavior_names cover_clause full_cover next_cover more_covers behaviors_and_covers own_first behavior_first cover_first contract clauses annotations
+    cast_to_type cast_to_integer closed_postfix parenthesised behind_parenthesis prefixed bare_prefix prefix_of prefix joined_once joined_more joined added_rest ranged behind_first added_parenthesis added sum_once sum_more zone_sum linked
+    links_of links chain_behind chain_of implied implication_behind implication_of chosen_behind choice_behind implication form_of forms closed form_clause full_clause next_clause more_clauses asserts next_own more_owns placed_own behavior
+    next_behavior more_behaviors
+    placed_name next_name some_names behavior_names cover_clause full_cover next_cover more_covers behaviors_and_covers own_first behavior_first cover_first contract clauses annotations
 contracts_are_refused = (refl, (refl, (refl, (refl, (refl, (refl, (refl, (refl, (refl, (refl, (refl, (refl, (refl, tt)))))))))))))

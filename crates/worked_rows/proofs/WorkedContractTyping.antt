@@ -51,13 +51,13 @@ inside = seeing (entity 0 int_type ∷ entity 1 int_type ∷ entity 2 (Ptr int_t
 
 -- behind the label L, before which x isn't declared
 abbrev in_body : AnnotationSight
-in_body = record { here = inside; labels = (4, at_start) ∷ []; clause = InBody at_start }
+in_body = record { here = inside; labels = (4, at_start) ∷ []; clause = InBody at_start; binders = [] }
 
 abbrev at_entry : AnnotationSight
-at_entry = record { here = at_start; labels = []; clause = AtEntry }
+at_entry = record { here = at_start; labels = []; clause = AtEntry; binders = [] }
 
 abbrev at_end : PlainType → AnnotationSight
-at_end t = record { here = at_start; labels = []; clause = AtEnd (101 ∷ 102 ∷ []) t }
+at_end t = record { here = at_start; labels = []; clause = AtEnd (101 ∷ 102 ∷ []) t; binders = [] }
 
 -- ---- forms, each part at its offset, and trees
 

@@ -1,6 +1,7 @@
 -- What operators of annotations demand and the sorts that they give (ACSL 2.2), by computation: an integer, a predicate, or the code and the place of the
 -- fault. `A op B` stands at 0, 2 and 4.
 use Rattle.std.proofs.Common.{◌≡◌, ℕ, ◌^◌, ◌-◌, ℤ, pos, negsuc, true, false, List, [], ◌∷◌, map, Some, None, refl, replicate}
+use Rattle.c_syntax.specs.declared.annotation.Kind.TheVariants.{Assert}
 use Rattle.c_syntax.specs.declared.annotation.Relation.{Relation}
 use Rattle.c_syntax.specs.declared.annotation.Relation.TheVariants as relation
 use Rattle.c_syntax.specs.declared.expression.BinOp.{BinOp}
@@ -263,8 +264,8 @@ no_size_of_an_unknown_struct = refl
 
 -- ---- clauses are predicates
 
-a_clause_of_a_predicate : typed_clause (in_body sight) (Raw (Truth (at 0) true)) ≡ Good (Holds (logic.Truth (at 0) true))
+a_clause_of_a_predicate : typed_clause (in_body sight) Assert (Raw (Truth (at 0) true)) ≡ Good (Holds (logic.Truth (at 0) true))
 a_clause_of_a_predicate = refl
 
-a_clause_of_an_integer : typed_clause (in_body sight) (Raw (c 0)) ≡ Good (Holds (logic.NonZero (at 0) (c_at 0)))
+a_clause_of_an_integer : typed_clause (in_body sight) Assert (Raw (c 0)) ≡ Good (Holds (logic.NonZero (at 0) (c_at 0)))
 a_clause_of_an_integer = refl

@@ -118,7 +118,7 @@ a_variable_of_the_header = refl
 
 -- loop invariant \forall integer k; 0 <= k < 3 ==> \true; while (i < 2) i = i + 1: three steps at each of three times, and two turns
 abbrev three_each_time : TranslationUnit
-three_each_time = loops 0 (invariant 1 (Quantified (at 1 1) ForAll (Guarded (number 0) (record { place = at 1 500; kind = Integers; above = false } ∷ []) true (number 3) NoGuard) certain) ∷ []) (below 2) (up ∷ [])
+three_each_time = loops 0 (invariant 1 (Quantified (at 1 1) ForAll (Guarded (number 0) (record { place = at 1 500; kind = Integers; above = false }) [] true (number 3) NoGuard) certain) ∷ []) (below 2) (up ∷ [])
 
 eleven_steps : run three_each_time no_input 11 ≡ exits (pos 0) 0
 eleven_steps = refl

@@ -1,5 +1,6 @@
 -- What pointers, places and zones of annotations demand and the trees that they give (ACSL 2.2, 2.7), by computation. What is in sight is that of `WorkedSight`.
 use Rattle.std.proofs.Common.{◌≡◌, ℕ, ◌+◌, pos, true, [], ◌∷◌, map, Option, Some, None, refl}
+use Rattle.c_syntax.specs.declared.annotation.Kind.TheVariants.{Assert}
 use Rattle.c_syntax.specs.declared.annotation.Relation.TheVariants as relation
 use Rattle.c_syntax.specs.declared.expression.BinOp.TheVariants.{Add, Sub, Mul}
 use Rattle.c_syntax.specs.declared.expression.UnOp.TheVariants as unary
@@ -192,7 +193,7 @@ no_choices_of_pointers = refl
 no_predicates : typed (Connected (at 2) And (p 0) (Truth (at 5) true)) ∷ typed (Unary (at 0) unary.Not (p 1)) ∷ [] ≡ fault 6 2 ∷ fault 6 0 ∷ []
 no_predicates = refl
 
-no_clause_of_a_pointer : typed_clause (in_body sight) (Raw (p 0)) ≡ fault 6 0
+no_clause_of_a_pointer : typed_clause (in_body sight) Assert (Raw (p 0)) ≡ fault 6 0
 no_clause_of_a_pointer = refl
 
 -- ---- facts and questions

@@ -1,5 +1,6 @@
 -- What typing makes of forms of annotations, by computation: a term, a predicate, or the fault that refuses.
 use Rattle.std.proofs.Common.{◌≡◌, ℕ, ◌+◌, pos, true, [], ◌∷◌, Option, Some, None, codes, refl}
+use Rattle.c_syntax.specs.declared.annotation.Kind.TheVariants.{Assert}
 use Rattle.c_syntax.specs.declared.place.Place.{Place}
 use Rattle.c_syntax.specs.declared.types.CInt.TheVariants.{I8}
 use Rattle.c_syntax.specs.declared.expression.BinOp.TheVariants as operator
@@ -121,13 +122,13 @@ typed-size_of_an_array : typed_form (in_body sight) (read.SizeOf (at 0) (Array (
 typed-size_of_an_array = refl
 
 -- clauses
-typed_clause-term : typed_clause (in_body sight) (Raw (name 0 0)) ≡ Good (Holds (NonZero (at 0) (n_at 0)))
+typed_clause-term : typed_clause (in_body sight) Assert (Raw (name 0 0)) ≡ Good (Holds (NonZero (at 0) (n_at 0)))
 typed_clause-term = refl
 
 -- ---- refused
 
 -- a pointer that should hold, an unknown name, a function's name
-typed_clause-pointer : refusing (typed_clause (in_body sight) (Raw (name 0 1))) ≡ fault 6 0
+typed_clause-pointer : refusing (typed_clause (in_body sight) Assert (Raw (name 0 1))) ≡ fault 6 0
 typed_clause-pointer = refl
 
 typed-unknown : refusing (typed_form (in_body sight) (name 0 6)) ≡ fault 5 0

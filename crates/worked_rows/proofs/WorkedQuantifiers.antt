@@ -40,10 +40,10 @@ one_by t = operated Div (of 1) t
 
 -- a <= i < b, and a <= i <= b
 abbrev until : LogicTerm → LogicTerm → Guards
-until a b = Guarded a (up_from 500 ∷ []) true b NoGuard
+until a b = Guarded a (up_from 500) [] true b NoGuard
 
 abbrev up_to : LogicTerm → LogicTerm → Guards
-up_to a b = Guarded a (up_from 500 ∷ []) false b NoGuard
+up_to a b = Guarded a (up_from 500) [] false b NoGuard
 
 abbrev each : Guards → Predicate → Predicate
 each gs f = Quantified here ForAll gs f
@@ -104,13 +104,13 @@ the_first_of_very_many = refl
 -- ---- signs
 
 -- \forall integer i; 0 < i <= 3 ==> i > 0
-above_and_up_to : with_steps 3 (each (Guarded (of 0) (above 500 ∷ []) false (of 3) NoGuard) (related_by Gt i (of 0))) ≡ Says true 0
+above_and_up_to : with_steps 3 (each (Guarded (of 0) (above 500) [] false (of 3) NoGuard) (related_by Gt i (of 0))) ≡ Says true 0
 above_and_up_to = refl
 
-above_and_until : with_steps 1 (each (Guarded (of 0) (above 500 ∷ []) true (of 2) NoGuard) (same i (of 1))) ≡ Says true 0
+above_and_until : with_steps 1 (each (Guarded (of 0) (above 500) [] true (of 2) NoGuard) (same i (of 1))) ≡ Says true 0
 above_and_until = refl
 
-nothing_between : with_steps 0 (each (Guarded (of 0) (above 500 ∷ []) true (of 1) NoGuard) wrong) ≡ Says true 0
+nothing_between : with_steps 0 (each (Guarded (of 0) (above 500) [] true (of 1) NoGuard) wrong) ≡ Says true 0
 nothing_between = refl
 
 one_between : with_steps 1 (each (up_to (of 3) (of 3)) (same i (of 3))) ≡ Says true 0
@@ -140,7 +140,7 @@ a_bound_that_is_a_pointer = refl
 
 -- \forall integer i, j; 0 <= i < 0 && 1 / 0 <= j < 5 ==> \false
 abbrev then_nothing : ℕ → Predicate
-then_nothing n = each (Guarded (of 0) (up_from 500 ∷ []) true (of n) (Guarded (one_by (of 0)) (up_from 501 ∷ []) true (of 5) NoGuard)) wrong
+then_nothing n = each (Guarded (of 0) (up_from 500) [] true (of n) (Guarded (one_by (of 0)) (up_from 501) [] true (of 5) NoGuard)) wrong
 
 a_bound_whose_turn_never_comes : with_steps 0 (then_nothing 0) ≡ Says true 0
 a_bound_whose_turn_never_comes = refl
@@ -152,7 +152,7 @@ a_bound_whose_turn_comes = refl
 
 -- \forall integer i, j; 0 <= i <= j < 3 ==> i <= j
 abbrev ordered : Predicate
-ordered = each (Guarded (of 0) (up_from 500 ∷ up_from 501 ∷ []) true (of 3) NoGuard) (related_by Le i j)
+ordered = each (Guarded (of 0) (up_from 500) (up_from 501 ∷ []) true (of 3) NoGuard) (related_by Le i j)
 
 three_and_six : with_steps 9 ordered ≡ Says true 0
 three_and_six = refl
@@ -161,15 +161,15 @@ three_and_six_are_spent : with_steps 8 ordered ≡ OutOfSteps
 three_and_six_are_spent = refl
 
 -- \forall integer i, j; 0 <= i < j <= 3 ==> i < j: the last i has no j
-four_and_six : with_steps 10 (each (Guarded (of 0) (up_from 500 ∷ above 501 ∷ []) false (of 3) NoGuard) (related_by Lt i j)) ≡ Says true 0
+four_and_six : with_steps 10 (each (Guarded (of 0) (up_from 500) (above 501 ∷ []) false (of 3) NoGuard) (related_by Lt i j)) ≡ Says true 0
 four_and_six = refl
 
 -- \forall integer i, j; 0 <= i < 2 && 0 <= j < i ==> j < i
-bounded_by_another : with_steps 3 (each (Guarded (of 0) (up_from 500 ∷ []) true (of 2) (Guarded (of 0) (up_from 501 ∷ []) true i NoGuard)) (related_by Lt j i)) ≡ Says true 0
+bounded_by_another : with_steps 3 (each (Guarded (of 0) (up_from 500) [] true (of 2) (Guarded (of 0) (up_from 501) [] true i NoGuard)) (related_by Lt j i)) ≡ Says true 0
 bounded_by_another = refl
 
 -- \exists integer i, j; 0 <= i < 9 && i < j <= i + 1 && j == 3
-found_at_two_and_three : with_steps 9 (some (Guarded (of 0) (up_from 500 ∷ []) true (of 9) (Guarded i (above 501 ∷ []) false (operated Add i (of 1)) NoGuard)) (same j (of 3))) ≡ Says true 3
+found_at_two_and_three : with_steps 9 (some (Guarded (of 0) (up_from 500) [] true (of 9) (Guarded i (above 501) [] false (operated Add i (of 1)) NoGuard)) (same j (of 3))) ≡ Says true 3
 found_at_two_and_three = refl
 
 -- \forall integer i; -1 <= i < 2 && i != 0 ==> 1 / i != 0
@@ -179,7 +179,7 @@ spared_by_a_hypothesis = refl
 -- ---- binders of types of C try values of the type alone
 
 abbrev between_in : PlainType → LogicTerm → Bool → LogicTerm → Guards
-between_in t a below b = Guarded a (binder_of 500 (OfC t) false ∷ []) below b NoGuard
+between_in t a below b = Guarded a (binder_of 500 (OfC t) false) [] below b NoGuard
 
 none_below_the_type : with_steps 3 (each (between_in (Int U8) (number (negsuc 4)) true (of 3)) (related_by Ge i (of 0))) ≡ Says true 0
 none_below_the_type = refl
@@ -187,7 +187,7 @@ none_below_the_type = refl
 none_above_the_type : with_steps 3 (each (between_in (Int I8) (of 125) false (of 300)) (related_by Le i (of 127))) ≡ Says true 0
 none_above_the_type = refl
 
-the_last_of_its_type : with_steps 1 (each (Guarded (of (2 ^ 31 - 2)) (binder_of 500 (OfC (Int I32)) true ∷ []) false (of (2 ^ 31)) NoGuard) (same i (of (2 ^ 31 - 1)))) ≡ Says true 0
+the_last_of_its_type : with_steps 1 (each (Guarded (of (2 ^ 31 - 2)) (binder_of 500 (OfC (Int I32)) true) [] false (of (2 ^ 31)) NoGuard) (same i (of (2 ^ 31 - 1)))) ≡ Says true 0
 the_last_of_its_type = refl
 
 all_above_its_type : with_steps 0 (some (between_in (Int I32) (of 5000000000) true (of 5000000003)) certain) ≡ Says false 0
@@ -197,17 +197,17 @@ all_below_its_type : with_steps 0 (each (between_in (Int U32) (number (negsuc 2)
 all_below_its_type = refl
 
 -- \forall char i, j; 126 <= i <= j < 129 ==> j <= 127
-both_within_their_type : with_steps 9 (each (Guarded (of 126) (binder_of 500 (OfC (Int I8)) false ∷ binder_of 501 (OfC (Int I8)) false ∷ []) true (of 129) NoGuard) (related_by Le j (of 127))) ≡ Says true 4
+both_within_their_type : with_steps 9 (each (Guarded (of 126) (binder_of 500 (OfC (Int I8)) false) (binder_of 501 (OfC (Int I8)) false ∷ []) true (of 129) NoGuard) (related_by Le j (of 127))) ≡ Says true 4
 both_within_their_type = refl
 
 -- ---- quantifiers inside one another, and names
 
 -- \forall integer i; 0 <= i < 3 ==> \exists integer j; 0 <= j < 3 && j == i
-some_for_each : with_steps 9 (each (until (of 0) (of 3)) (some (Guarded (of 0) (up_from 501 ∷ []) true (of 3) NoGuard) (same j i))) ≡ Says true 0
+some_for_each : with_steps 9 (each (until (of 0) (of 3)) (some (Guarded (of 0) (up_from 501) [] true (of 3) NoGuard) (same j i))) ≡ Says true 0
 some_for_each = refl
 
 -- the inner binder of a name is meant
-the_inner_one : with_steps 4 (each (until (of 0) (of 2)) (some (Guarded (of 5) (up_from 500 ∷ []) true (of 6) NoGuard) (same i (of 5)))) ≡ Says true 0
+the_inner_one : with_steps 4 (each (until (of 0) (of 2)) (some (Guarded (of 5) (up_from 500) [] true (of 6) NoGuard) (same i (of 5)))) ≡ Says true 0
 the_inner_one = refl
 
 and_the_outer_one_again : with_steps 9 (some (until (of 0) (of 3)) (connected_by And (some (until (of 5) (of 6)) (same i (of 5))) (same i (of 1)))) ≡ Says true 5

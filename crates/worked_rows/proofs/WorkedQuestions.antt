@@ -129,7 +129,7 @@ binder = record { place = record { line = 1; column = 1; offset = 500 }; kind = 
 
 -- \forall integer i; 0 <= i < 4 ==> .., or 0 <= i <= 4
 abbrev each : Bool → Predicate → Predicate
-each below f = Quantified here ForAll (Guarded (number (pos 0)) (binder ∷ []) below (number (pos 4)) NoGuard) f
+each below f = Quantified here ForAll (Guarded (number (pos 0)) binder [] below (number (pos 4)) NoGuard) f
 
 -- a[i]
 abbrev each_element : LogicTerm

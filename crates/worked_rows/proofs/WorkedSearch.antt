@@ -55,10 +55,10 @@ element a i = deref int (moved_on 4 a i)
 
 -- of each integer i from 0 up to a number
 abbrev below : Quantifier → LogicTerm → Predicate → Predicate
-below q b f = Quantified here q (Guarded (number 0) (record { place = at 1 500; kind = Integers; above = false } ∷ []) true b NoGuard) f
+below q b f = Quantified here q (Guarded (number 0) (record { place = at 1 500; kind = Integers; above = false }) [] true b NoGuard) f
 
 abbrev sorted : Predicate
-sorted = Quantified here ForAll (Guarded (number 0) (record { place = at 1 500; kind = Integers; above = false } ∷ record { place = at 1 501; kind = Integers; above = false } ∷ []) true n NoGuard)
+sorted = Quantified here ForAll (Guarded (number 0) (record { place = at 1 500; kind = Integers; above = false }) (record { place = at 1 501; kind = Integers; above = false } ∷ []) true n NoGuard)
     (is (element a i) Le (element a j))
 
 abbrev where_it_is : Predicate

@@ -242,51 +242,51 @@ quantified n gs = Quantified (there 9) ForAll gs (NonZero here (bound n))
 abbrev tried : ℕ → Guards → Option Range
 tried n gs = body_range (ranged_pred [] (quantified n gs))
 
-until_an_int : tried 500 (Guarded (of 0) (i ∷ []) true x NoGuard) ≡ between (pos 0) (pos (2 ^ 31 - 2))
+until_an_int : tried 500 (Guarded (of 0) i [] true x NoGuard) ≡ between (pos 0) (pos (2 ^ 31 - 2))
 until_an_int = refl
 
-up_to_an_int_itself : tried 500 (Guarded (of 0) (i ∷ []) false x NoGuard) ≡ between (pos 0) (pos (2 ^ 31 - 1))
+up_to_an_int_itself : tried 500 (Guarded (of 0) i [] false x NoGuard) ≡ between (pos 0) (pos (2 ^ 31 - 1))
 up_to_an_int_itself = refl
 
-from_above_an_int : tried 500 (Guarded x (above_i ∷ []) true x NoGuard) ≡ between (neg_ℤ (pos (2 ^ 31 - 1))) (pos (2 ^ 31 - 2))
+from_above_an_int : tried 500 (Guarded x above_i [] true x NoGuard) ≡ between (neg_ℤ (pos (2 ^ 31 - 1))) (pos (2 ^ 31 - 2))
 from_above_an_int = refl
 
-of_no_values : tried 500 (Guarded (of 9) (i ∷ []) false (of 3) NoGuard) ≡ between (pos 9) (pos 9)
+of_no_values : tried 500 (Guarded (of 9) i [] false (of 3) NoGuard) ≡ between (pos 9) (pos 9)
 of_no_values = refl
 
-of_no_values_between : tried 500 (Guarded (of 3) (above_i ∷ []) true (of 4) NoGuard) ≡ between (pos 4) (pos 4)
+of_no_values_between : tried 500 (Guarded (of 3) above_i [] true (of 4) NoGuard) ≡ between (pos 4) (pos 4)
 of_no_values_between = refl
 
-of_a_type : tried 500 (Guarded (of 0) (binder_of 500 (OfC (Int U8)) false ∷ []) true x NoGuard) ≡ between (pos 0) (pos 255)
+of_a_type : tried 500 (Guarded (of 0) (binder_of 500 (OfC (Int U8)) false) [] true x NoGuard) ≡ between (pos 0) (pos 255)
 of_a_type = refl
 
-the_first_of_a_chain : tried 500 (Guarded (of 0) (i ∷ above_j ∷ []) false (of 9) NoGuard) ≡ between (pos 0) (pos 9)
+the_first_of_a_chain : tried 500 (Guarded (of 0) i (above_j ∷ []) false (of 9) NoGuard) ≡ between (pos 0) (pos 9)
 the_first_of_a_chain = refl
 
-the_second_of_a_chain : tried 501 (Guarded (of 0) (i ∷ above_j ∷ []) false (of 9) NoGuard) ≡ between (pos 1) (pos 9)
+the_second_of_a_chain : tried 501 (Guarded (of 0) i (above_j ∷ []) false (of 9) NoGuard) ≡ between (pos 1) (pos 9)
 the_second_of_a_chain = refl
 
 -- 0 <= i < 9 && i < j <= i + 1
-bounded_by_another : tried 501 (Guarded (of 0) (i ∷ []) true (of 9) (Guarded (bound 500) (above_j ∷ []) false (operated Add (bound 500) (of 1)) NoGuard)) ≡ between (pos 1) (pos 9)
+bounded_by_another : tried 501 (Guarded (of 0) i [] true (of 9) (Guarded (bound 500) above_j [] false (operated Add (bound 500) (of 1)) NoGuard)) ≡ between (pos 1) (pos 9)
 bounded_by_another = refl
 
 -- \forall integer i; 0 <= i < 3 ==> \forall integer i; 5 <= i < 6 ==> i
-the_inner_one_is_named : refused (Quantified here ForAll (Guarded (of 0) (i ∷ []) true (of 3) NoGuard) (quantified 500 (Guarded (of 5) (i ∷ []) true (bound 500) NoGuard))) ≡ None
+the_inner_one_is_named : refused (Quantified here ForAll (Guarded (of 0) i [] true (of 3) NoGuard) (quantified 500 (Guarded (of 5) i [] true (bound 500) NoGuard))) ≡ None
 the_inner_one_is_named = refl
 
-the_greatest_number : tried 500 (Guarded (of (2 ^ 127 - 1)) (i ∷ []) false (of (2 ^ 127 - 1)) NoGuard) ≡ between (pos (2 ^ 127 - 1)) (pos (2 ^ 127 - 1))
+the_greatest_number : tried 500 (Guarded (of (2 ^ 127 - 1)) i [] false (of (2 ^ 127 - 1)) NoGuard) ≡ between (pos (2 ^ 127 - 1)) (pos (2 ^ 127 - 1))
 the_greatest_number = refl
 
-above_the_greatest_number : refused (quantified 500 (Guarded (of (2 ^ 127 - 1)) (above_i ∷ []) true (of 5) NoGuard)) ≡ refused_at 9
+above_the_greatest_number : refused (quantified 500 (Guarded (of (2 ^ 127 - 1)) above_i [] true (of 5) NoGuard)) ≡ refused_at 9
 above_the_greatest_number = refl
 
-a_type_has_its_range_there_too : tried 500 (Guarded (of (2 ^ 127 - 1)) (binder_of 500 (OfC (Int U8)) true ∷ []) true (of 5) NoGuard) ≡ between (pos 0) (pos 255)
+a_type_has_its_range_there_too : tried 500 (Guarded (of (2 ^ 127 - 1)) (binder_of 500 (OfC (Int U8)) true) [] true (of 5) NoGuard) ≡ between (pos 0) (pos 255)
 a_type_has_its_range_there_too = refl
 
-below_the_least_number : tried 500 (Guarded (of 5) (i ∷ []) true (number (neg_ℤ (pos (2 ^ 127)))) NoGuard) ≡ between (pos 5) (pos 5)
+below_the_least_number : tried 500 (Guarded (of 5) i [] true (number (neg_ℤ (pos (2 ^ 127)))) NoGuard) ≡ between (pos 5) (pos 5)
 below_the_least_number = refl
 
-out_of_sight_behind_it : refused (connected_by And (quantified 500 (Guarded (of 0) (i ∷ []) true (of 3) NoGuard)) (NonZero (there 11) (bound 500))) ≡ Some (record { code = 10; place = here })
+out_of_sight_behind_it : refused (connected_by And (quantified 500 (Guarded (of 0) i [] true (of 3) NoGuard)) (NonZero (there 11) (bound 500))) ≡ Some (record { code = 10; place = here })
 out_of_sight_behind_it = refl
 
 -- ---- clauses

@@ -22,7 +22,7 @@ use Rattle.c_model.specs.Vocabulary.{Vocabulary}
 use Rattle.c_model.specs.Punctuators.{shift_left, equal, and_and, plus, minus, times, less, ampersand, question, colon, semicolon, left_paren, right_paren, left_bracket, right_bracket, dot, arrow, comma, dots}
 use Rattle.c_model.specs.ExpressionGrammar.{use_of, integer_words, integer_word, untagged_base, base, consts, type_words, star_words, brackets, type_name, closed}
 use Rattle.c_model.specs.AnnotationGrammar.{whole, zone, named_form, literal_form, sized_form, null_form, told_form, asked_form, next_zone, some_zones, separated_form, atom, worded, indexed, dotted, pointed, postfix_once, postfixes, worded_postfix}
-use Rattle.c_model.specs.AnnotationGrammar.{cast_behind, cast_to_type, cast_to_integer, closed_postfix, parenthesised, behind_parenthesis, prefixed, bare_prefix, prefix_of, prefix, joined_once, joined_more, joined, factor, added_rest}
+use Rattle.c_model.specs.AnnotationGrammar.{cast_behind, cast_to_type, cast_to_integer, closed_postfix, parenthesised, behind_parenthesis, prefixed, bare_prefix, prefix_of, prefix, joined_once, joined_more, joined, added_rest}
 use Rattle.c_model.specs.AnnotationGrammar.{ranged, behind_first}
 use Rattle.c_model.specs.AnnotationGrammar.{added_parenthesis, added, sum_once, sum_more, zone_sum, linked, links_of, links, chain_behind, chain_of, implied, implication_behind, implication_of, chosen_behind, choice_behind, implication}
 use Rattle.c_model.specs.AnnotationGrammar.{form_of, forms, form}
@@ -122,7 +122,7 @@ places_are_read : AreRead (
     ∷ [])
 unfolding whole zone named_form literal_form sized_form null_form result_form old_form labelled_form told_form asked_form next_zone some_zones separated_form atom worded indexed dotted pointed postfix_once postfixes worded_postfix cast_behind
     cast_to_type cast_to_integer
-    closed_postfix parenthesised behind_parenthesis prefixed bare_prefix prefix_of prefix joined_once joined_more joined factor added_rest ranged behind_first added_parenthesis added sum_once sum_more zone_sum linked links_of links
+    closed_postfix parenthesised behind_parenthesis prefixed bare_prefix prefix_of prefix joined_once joined_more joined added_rest ranged behind_first added_parenthesis added sum_once sum_more zone_sum linked links_of links
     chain_behind chain_of implied implication_behind implication_of chosen_behind choice_behind implication form_of forms closed type_name type_words consts base untagged_base integer_words integer_word star_words brackets
 places_are_read = (refl, (refl, (refl, (refl, (refl, (refl, (refl, (refl, (refl, tt)))))))))
 
@@ -135,7 +135,7 @@ prefixes_are_weaker : AreRead (
     ∷ [])
 unfolding whole zone named_form literal_form sized_form null_form result_form old_form labelled_form told_form asked_form next_zone some_zones separated_form atom worded indexed dotted pointed postfix_once postfixes worded_postfix cast_behind
     cast_to_type cast_to_integer
-    closed_postfix parenthesised behind_parenthesis prefixed bare_prefix prefix_of prefix joined_once joined_more joined factor added_rest ranged behind_first added_parenthesis added sum_once sum_more zone_sum linked links_of links
+    closed_postfix parenthesised behind_parenthesis prefixed bare_prefix prefix_of prefix joined_once joined_more joined added_rest ranged behind_first added_parenthesis added sum_once sum_more zone_sum linked links_of links
     chain_behind chain_of implied implication_behind implication_of chosen_behind choice_behind implication form_of forms closed type_name type_words consts base untagged_base integer_words integer_word star_words brackets
 prefixes_are_weaker = (refl, (refl, (refl, (refl, tt))))
 
@@ -146,7 +146,7 @@ members_have_any_name : AreRead (
     ∷ [])
 unfolding whole zone named_form literal_form sized_form null_form result_form old_form labelled_form told_form asked_form next_zone some_zones separated_form atom worded indexed dotted pointed postfix_once postfixes worded_postfix cast_behind
     cast_to_type cast_to_integer
-    closed_postfix parenthesised behind_parenthesis prefixed bare_prefix prefix_of prefix joined_once joined_more joined factor added_rest ranged behind_first added_parenthesis added sum_once sum_more zone_sum linked links_of links
+    closed_postfix parenthesised behind_parenthesis prefixed bare_prefix prefix_of prefix joined_once joined_more joined added_rest ranged behind_first added_parenthesis added sum_once sum_more zone_sum linked links_of links
     chain_behind chain_of implied implication_behind implication_of chosen_behind choice_behind implication form_of forms closed type_name type_words consts base untagged_base integer_words integer_word star_words brackets
 members_have_any_name = (refl, (refl, tt))
 
@@ -159,7 +159,7 @@ facts_are_read : AreRead (
     ∷ [])
 unfolding whole zone named_form literal_form sized_form null_form result_form old_form labelled_form told_form asked_form next_zone some_zones separated_form atom worded indexed dotted pointed postfix_once postfixes worded_postfix cast_behind
     cast_to_type cast_to_integer
-    closed_postfix parenthesised behind_parenthesis prefixed bare_prefix prefix_of prefix joined_once joined_more joined factor added_rest ranged behind_first added_parenthesis added sum_once sum_more zone_sum linked links_of links
+    closed_postfix parenthesised behind_parenthesis prefixed bare_prefix prefix_of prefix joined_once joined_more joined added_rest ranged behind_first added_parenthesis added sum_once sum_more zone_sum linked links_of links
     chain_behind chain_of implied implication_behind implication_of chosen_behind choice_behind implication form_of forms closed type_name type_words consts base untagged_base integer_words integer_word star_words brackets
 facts_are_read = (refl, (refl, (refl, (refl, tt))))
 
@@ -176,7 +176,7 @@ questions_are_read : AreRead (
     ∷ [])
 unfolding whole zone named_form literal_form sized_form null_form result_form old_form labelled_form told_form asked_form next_zone some_zones separated_form atom worded indexed dotted pointed postfix_once postfixes worded_postfix cast_behind
     cast_to_type cast_to_integer
-    closed_postfix parenthesised behind_parenthesis prefixed bare_prefix prefix_of prefix joined_once joined_more joined factor added_rest ranged behind_first added_parenthesis added sum_once sum_more zone_sum linked links_of links
+    closed_postfix parenthesised behind_parenthesis prefixed bare_prefix prefix_of prefix joined_once joined_more joined added_rest ranged behind_first added_parenthesis added sum_once sum_more zone_sum linked links_of links
     chain_behind chain_of implied implication_behind implication_of chosen_behind choice_behind implication form_of forms closed type_name type_words consts base untagged_base integer_words integer_word star_words brackets
 questions_are_read = (refl, (refl, (refl, tt)))
 
@@ -193,7 +193,7 @@ ranges_are_read : AreRead (
     ∷ [])
 unfolding whole zone named_form literal_form sized_form null_form result_form old_form labelled_form told_form asked_form next_zone some_zones separated_form atom worded indexed dotted pointed postfix_once postfixes worded_postfix cast_behind
     cast_to_type cast_to_integer
-    closed_postfix parenthesised behind_parenthesis prefixed bare_prefix prefix_of prefix joined_once joined_more joined factor added_rest ranged behind_first added_parenthesis added sum_once sum_more zone_sum linked links_of links
+    closed_postfix parenthesised behind_parenthesis prefixed bare_prefix prefix_of prefix joined_once joined_more joined added_rest ranged behind_first added_parenthesis added sum_once sum_more zone_sum linked links_of links
     chain_behind chain_of implied implication_behind implication_of chosen_behind choice_behind implication form_of forms closed type_name type_words consts base untagged_base integer_words integer_word star_words brackets
 ranges_are_read = (refl, (refl, (refl, (refl, (refl, tt)))))
 
@@ -217,7 +217,7 @@ the_whole_form_is_before_a_range : AreRead ((
     ∷ [])
 unfolding whole zone named_form literal_form sized_form null_form result_form old_form labelled_form told_form asked_form next_zone some_zones separated_form atom worded indexed dotted pointed postfix_once postfixes worded_postfix cast_behind
     cast_to_type cast_to_integer
-    closed_postfix parenthesised behind_parenthesis prefixed bare_prefix prefix_of prefix joined_once joined_more joined factor added_rest ranged behind_first added_parenthesis added sum_once sum_more zone_sum linked links_of links
+    closed_postfix parenthesised behind_parenthesis prefixed bare_prefix prefix_of prefix joined_once joined_more joined added_rest ranged behind_first added_parenthesis added sum_once sum_more zone_sum linked links_of links
     chain_behind chain_of implied implication_behind implication_of chosen_behind choice_behind implication form_of forms closed type_name type_words consts base untagged_base integer_words integer_word star_words brackets
 the_whole_form_is_before_a_range = (refl, (refl, (refl, (refl, tt))))
 
@@ -244,7 +244,7 @@ a_parenthesis_is_an_operand : AreRead (
     ∷ [])
 unfolding whole zone named_form literal_form sized_form null_form result_form old_form labelled_form told_form asked_form next_zone some_zones separated_form atom worded indexed dotted pointed postfix_once postfixes worded_postfix cast_behind
     cast_to_type cast_to_integer
-    closed_postfix parenthesised behind_parenthesis prefixed bare_prefix prefix_of prefix joined_once joined_more joined factor added_rest ranged behind_first added_parenthesis added sum_once sum_more zone_sum linked links_of links
+    closed_postfix parenthesised behind_parenthesis prefixed bare_prefix prefix_of prefix joined_once joined_more joined added_rest ranged behind_first added_parenthesis added sum_once sum_more zone_sum linked links_of links
     chain_behind chain_of implied implication_behind implication_of chosen_behind choice_behind implication form_of forms closed type_name type_words consts base untagged_base integer_words integer_word star_words brackets
 a_parenthesis_is_an_operand = (refl, (refl, (refl, (refl, (refl, (refl, tt))))))
 
@@ -258,7 +258,7 @@ zones_are_separated : AreRead (
     ∷ [])
 unfolding whole zone named_form literal_form sized_form null_form result_form old_form labelled_form told_form asked_form next_zone some_zones separated_form atom worded indexed dotted pointed postfix_once postfixes worded_postfix cast_behind
     cast_to_type cast_to_integer
-    closed_postfix parenthesised behind_parenthesis prefixed bare_prefix prefix_of prefix joined_once joined_more joined factor added_rest ranged behind_first added_parenthesis added sum_once sum_more zone_sum linked links_of links
+    closed_postfix parenthesised behind_parenthesis prefixed bare_prefix prefix_of prefix joined_once joined_more joined added_rest ranged behind_first added_parenthesis added sum_once sum_more zone_sum linked links_of links
     chain_behind chain_of implied implication_behind implication_of chosen_behind choice_behind implication form_of forms closed type_name type_words consts base untagged_base integer_words integer_word star_words brackets
 zones_are_separated = (refl, (refl, tt))
 
@@ -278,7 +278,7 @@ ranges_end_zones_alone : AreRefused (
     ∷ [])
 unfolding whole zone named_form literal_form sized_form null_form result_form old_form labelled_form told_form asked_form next_zone some_zones separated_form atom worded indexed dotted pointed postfix_once postfixes worded_postfix cast_behind
     cast_to_type cast_to_integer
-    closed_postfix parenthesised behind_parenthesis prefixed bare_prefix prefix_of prefix joined_once joined_more joined factor added_rest ranged behind_first added_parenthesis added sum_once sum_more zone_sum linked links_of links
+    closed_postfix parenthesised behind_parenthesis prefixed bare_prefix prefix_of prefix joined_once joined_more joined added_rest ranged behind_first added_parenthesis added sum_once sum_more zone_sum linked links_of links
     chain_behind chain_of implied implication_behind implication_of chosen_behind choice_behind implication form_of forms closed type_name type_words consts base untagged_base integer_words integer_word star_words brackets form_clause
     full_clause next_clause more_clauses asserts clauses annotations
 ranges_end_zones_alone = (refl, (refl, (refl, (refl, (refl, (refl, (refl, (refl, (refl, tt)))))))))
